@@ -1,9 +1,9 @@
 #!/usr/bin/env bash
-# install.sh PREFIX: copies the programs, under their product names, into PREFIX/bin, and the man page and the
+# install.sh PREFIX: copies the programs, under their product names, into PREFIX/bin, and the man pages and the
 # completions of bash and zsh into PREFIX/share.
 set -euo pipefail
 
-usage="usage: install.sh PREFIX   (builds the programs where that is due; copies them, man page and completions there)"
+usage="usage: install.sh PREFIX   (builds the programs where that is due; copies them, man pages and completions there)"
 if [[ $# -eq 1 && ($1 == --help || $1 == -h) ]]; then
   printf '%s\n' "$usage"
   exit 0
@@ -46,10 +46,11 @@ place() {
 
 check_prefix
 "$top/asnc" --help >/dev/null
+"$top/octcheck" --help >/dev/null
 place asnc_main asnc
-if [[ -d $top/crates/octcheck ]]; then
-  place octcheck octcheck
-fi
-put 644 "$top/man/asnc.1" share/man/man1/asnc.1
-put 644 "$top/completions/asnc.bash" share/bash-completion/completions/asnc
-put 644 "$top/completions/_asnc" share/zsh/site-functions/_asnc
+place octcheck octcheck
+for name in asnc octcheck; do
+  put 644 "$top/man/$name.1" "share/man/man1/$name.1"
+  put 644 "$top/completions/$name.bash" "share/bash-completion/completions/$name"
+  put 644 "$top/completions/_$name" "share/zsh/site-functions/_$name"
+done

@@ -1,5 +1,6 @@
 #!/usr/bin/env bash
-# Runs each command that README.md and docs/TOUR.md show after "$ ./asnc" and compares what it prints with what they show.
+# Runs each command that README.md and docs/TOUR.md show after "$ ./asnc" or "$ ./octcheck", and compares what it prints
+# with what they show.
 set -euo pipefail
 
 usage="usage: tour.sh [PAGE..]   (runs the commands of these pages, README.md and docs/TOUR.md where none is named)"
@@ -46,7 +47,7 @@ run_page() {
   local line
   while IFS= read -r line; do
     line=${line#    }
-    if [[ $line == '$ ./asnc'* ]]; then
+    if [[ $line == '$ ./asnc'* || $line == '$ ./octcheck'* ]]; then
       check
       command=${line#\$ }
     elif [[ -z $line || $line == '```'* || $line == '$ '* ]]; then
@@ -59,6 +60,7 @@ run_page() {
 }
 
 ./asnc --help >/dev/null
+./octcheck --help >/dev/null
 names=
 for page in "${pages[@]}"; do
   run_page "$page"

@@ -6,12 +6,13 @@ _asnc() {
   local before=${COMP_WORDS[COMP_CWORD - 1]}
   COMPREPLY=()
   if [[ $COMP_CWORD -eq 1 ]]; then
-    mapfile -t COMPREPLY < <(compgen -W 'der ber list --help -h --version -V' -- "$current")
+    mapfile -t COMPREPLY < <(compgen -W 'der ber uper account list --help -h --version -V' -- "$current")
     return
   fi
   local words
   case ${COMP_WORDS[1]} in
     der) words='--type --value --raw --context --help -h' ;;
+    uper | account) words='--type --value --context --help -h' ;;
     ber) words='--type --hex --strict --context --help -h' ;;
     list) words='--context --help -h' ;;
     *) return ;;

@@ -24,7 +24,7 @@ use Rattle.account_checker.proofs.Told.{first_is}
 -- these are the order's places and the members of places
 abbrev pub IsPlaced : Order → List ℕ → List ℕ → Type 0
 IsPlaced InOrder p i = ⊥
-IsPlaced (Placed q j) p i = (q.now ≡ p) × (j.now ≡ i)
+IsPlaced (Placed b) p i = (b.now.places.items ≡ p) × (b.now.inverse.items ≡ i)
 
 abbrev FieldsPlaced : List Resolved → Asked → List ℕ → List ℕ → List Component → AbstractValue → ℕ → List ℕ → Rows → Type 0
 FieldsPlaced s q p i cs v n x rs = (vs : Row) × (v ≡ fields vs) × Where q.numbers (n ≡ sum (sizes rs)) × Where q.places (ArePlaces (length (sizes rs)) p i) × MembersFollow s q (λ k. before (by_place (sizes rs) i) (get_or p k 0)) cs vs 0 x rs
@@ -34,19 +34,19 @@ ListPlaced s q p i u v n x rs = (vs : Row) × (v ≡ list vs) × Where q.numbers
 
 fields_placed : {s : List Resolved} {q : Asked} {cs : List Component} {v : AbstractValue} (n : ℕ) {x : List ℕ} {rs : Rows} (o : Order) (p i : List ℕ) → IsPlaced o p i → FieldsFollow s q o cs v n x rs → FieldsPlaced s q p i cs v n x rs
 fields_placed n InOrder p i h d = absurd h
-fields_placed {s} {q} {cs} {v} n {x} {rs} (Placed r j) p i h d = subst (λ w. FieldsPlaced s q w i cs v n x rs) h.0 (subst (λ w. FieldsPlaced s q r.now w cs v n x rs) h.1 d)
+fields_placed {s} {q} {cs} {v} n {x} {rs} (Placed b) p i h d = subst (λ w. FieldsPlaced s q w i cs v n x rs) h.0 (subst (λ w. FieldsPlaced s q b.now.places.items w cs v n x rs) h.1 d)
 
 placed_fields : {s : List Resolved} {q : Asked} {cs : List Component} {v : AbstractValue} (n : ℕ) {x : List ℕ} {rs : Rows} (o : Order) (p i : List ℕ) → IsPlaced o p i → FieldsPlaced s q p i cs v n x rs → FieldsFollow s q o cs v n x rs
 placed_fields n InOrder p i h d = absurd h
-placed_fields {s} {q} {cs} {v} n {x} {rs} (Placed r j) p i h d = subst (λ w. FieldsPlaced s q r.now w cs v n x rs) (sym h.1) (subst (λ w. FieldsPlaced s q w i cs v n x rs) (sym h.0) d)
+placed_fields {s} {q} {cs} {v} n {x} {rs} (Placed b) p i h d = subst (λ w. FieldsPlaced s q b.now.places.items w cs v n x rs) (sym h.1) (subst (λ w. FieldsPlaced s q w i cs v n x rs) (sym h.0) d)
 
 list_placed : {s : List Resolved} {q : Asked} {u : ℕ} {v : AbstractValue} (n : ℕ) {x : List ℕ} {rs : Rows} (o : Order) (p i : List ℕ) → IsPlaced o p i → ListFollows s q o u v n x rs → ListPlaced s q p i u v n x rs
 list_placed n InOrder p i h d = absurd h
-list_placed {s} {q} {u} {v} n {x} {rs} (Placed r j) p i h d = subst (λ w. ListPlaced s q w i u v n x rs) h.0 (subst (λ w. ListPlaced s q r.now w u v n x rs) h.1 d)
+list_placed {s} {q} {u} {v} n {x} {rs} (Placed b) p i h d = subst (λ w. ListPlaced s q w i u v n x rs) h.0 (subst (λ w. ListPlaced s q b.now.places.items w u v n x rs) h.1 d)
 
 placed_list : {s : List Resolved} {q : Asked} {u : ℕ} {v : AbstractValue} (n : ℕ) {x : List ℕ} {rs : Rows} (o : Order) (p i : List ℕ) → IsPlaced o p i → ListPlaced s q p i u v n x rs → ListFollows s q o u v n x rs
 placed_list n InOrder p i h d = absurd h
-placed_list {s} {q} {u} {v} n {x} {rs} (Placed r j) p i h d = subst (λ w. ListPlaced s q r.now w u v n x rs) (sym h.1) (subst (λ w. ListPlaced s q w i u v n x rs) (sym h.0) d)
+placed_list {s} {q} {u} {v} n {x} {rs} (Placed b) p i h d = subst (λ w. ListPlaced s q b.now.places.items w u v n x rs) (sym h.1) (subst (λ w. ListPlaced s q w i u v n x rs) (sym h.0) d)
 
 -- ---- within a header
 

@@ -186,7 +186,7 @@ sizes_end {k = k} h e = h.same ∙ ap (λ r. get_or (sizes r) k 0) (none_left h.
 sum_cons : (n : ℕ) (ns : List ℕ) → sum (n ∷ ns) ≡ n + sum ns
 sum_cons n ns = let e = sum_append (n ∷ []) ns in let f : sum (n ∷ []) ≡ n = omega arith in omega arith
 
-taken_next : (ns q : List ℕ) (j : ℕ) → j < length q → sum (take (j + 1) (by_place ns q)) ≡ sum (take j (by_place ns q)) + get_or ns (get_or q j 0) 0
+pub taken_next : (ns q : List ℕ) (j : ℕ) → j < length q → sum (take (j + 1) (by_place ns q)) ≡ sum (take j (by_place ns q)) + get_or ns (get_or q j 0) 0
 taken_next ns [] j l = absurd (omega arith)
 taken_next ns (x ∷ q) zero l = let e = sum_cons (get_or ns x 0) [] in e ∙ (let f : get_or ns x 0 + sum [] ≡ sum [] + get_or ns x 0 = omega arith in f)
 taken_next ns (x ∷ q) (suc j) l =

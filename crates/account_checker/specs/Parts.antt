@@ -1,5 +1,5 @@
 -- What it takes for rows to follow a type and a value, row by row.
-use Rattle.std.specs.Prelude.{◌≡◌, ℕ, List, [], ◌∷◌, Option, Some, None, slice_get, get_or, length}
+use Rattle.std.specs.Prelude.{◌≡◌, ℕ, suc, ◌+◌, List, [], ◌∷◌, Option, Some, None, slice_get, get_or, length}
 use Rattle.asn_base.specs.declared.tag.Tag.{Tag}
 use Rattle.std.specs.List.{sum}
 use Rattle.asn_base.specs.Abstract.{AbstractValue, Row, fields, list, alternative}
@@ -97,12 +97,32 @@ members_in a_default = 0
 -- the offset of the written member with a number, of some with so many octets each
 abbrev pub place_in : Order → List ℕ → ℕ → ℕ
 place_in InOrder ns k = before ns k
-place_in (Placed p i) ns k = before (by_place ns i.now) (get_or p.now k 0)
+place_in (Placed b) ns k = before (by_place ns b.now.inverse.items) (get_or b.now.places.items k 0)
 
 -- places are those of n members, where it is asked
 abbrev pub AreInOrder : Asked → Order → ℕ → Type 0
 AreInOrder q InOrder n = Unit {0}
-AreInOrder q (Placed p i) n = Where q.places (ArePlaces n p.now i.now)
+AreInOrder q (Placed b) n = Where q.places (ArePlaces n b.now.places.items b.now.inverse.items)
+
+-- how many octets are before a place, where these are the ends of places
+abbrev pub end_before : List ℕ → ℕ → ℕ
+end_before es j = get_or (0 ∷ es) j 0
+
+-- the written member with number k, of so many octets, ends where its place does
+abbrev pub EndsAt : List ℕ → List ℕ → ℕ → Option ℕ → Type 0
+EndsAt p es k None = Unit {0}
+EndsAt p es k (Some n) = end_before es (get_or p k 0) + n ≡ get_or es (get_or p k 0) 0
+
+-- the same for each from number k on
+abbrev pub EndsFrom : List ℕ → List ℕ → ℕ → List ℕ → Type 0
+EndsFrom p es k [] = Unit {0}
+EndsFrom p es k (n ∷ ns) = EndsAt p es k (Some n) × EndsFrom p es (suc k) ns
+
+-- the ends of places are right: they give the offset of each written member
+abbrev pub AreEnds : Order → List ℕ → Type 0
+AreEnds InOrder ns = Unit {0}
+AreEnds (Placed b) ns =
+    (k : ℕ) → place_in (Placed b) ns k ≡ end_before b.now.ends.items (get_or b.now.places.items k 0)
 
 -- the members of a SEQUENCE or SET follow its components, and tell n octets
 abbrev pub FieldsFollow : List Resolved → Asked → Order → List Component → AbstractValue → ℕ → Octets → Rows → Type 0

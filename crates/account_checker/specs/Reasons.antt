@@ -1,4 +1,4 @@
--- What each reason of a verdict denies, and in which order.
+-- What each reason of the checker's verdict denies, and in which order the reasons are sought (own rule); no clause.
 use Rattle.std.specs.Prelude.{◌≡◌, ℕ, ◌<◌, true, false, List, length}
 use Rattle.asn_base.specs.Abstract.{AbstractValue}
 use Rattle.asn_base.specs.Types.{TypeNumber, Resolved}
@@ -11,6 +11,7 @@ use Rattle.account_checker.specs.declared.reason.Reason.TheVariants.{NotOfType, 
 use Rattle.account_checker.specs.declared.reason.Reason.TheVariants.{Header, Contents}
 use Rattle.account_checker.specs.Follows.{Follows, octets_told}
 
+-- the place of a reason in the order in which the reasons are sought, from 0 (own rule)
 abbrev pub rank : Reason → ℕ
 rank NotOfType = 0
 rank Shape = 1
@@ -21,26 +22,31 @@ rank Length = 5
 rank Header = 6
 rank Contents = 7
 
--- shape alone; then one more each
+-- what is asked for the reason `Shape`: the shape of the rows alone
 abbrev pub to_shape : Asked
 to_shape = record { omitted = false; numbers = false; places = false; headers = false; contents = false }
 
+-- what is asked for the reason `Omitted`: the shape, and which components are left out
 abbrev pub to_omitted : Asked
 to_omitted = record { omitted = true; numbers = false; places = false; headers = false; contents = false }
 
+-- what is asked for the reason `Numbers`: all that `to_omitted` asks, and the numbers of headers
 abbrev pub to_numbers : Asked
 to_numbers = record { omitted = true; numbers = true; places = false; headers = false; contents = false }
 
+-- what is asked for the reason `Places`: all that `to_numbers` asks, and the places of members
 abbrev pub to_places : Asked
 to_places = record { omitted = true; numbers = true; places = true; headers = false; contents = false }
 
+-- what is asked for the reason `Header`: all that `to_places` asks, and the headers in the octets
 abbrev pub to_headers : Asked
 to_headers = record { omitted = true; numbers = true; places = true; headers = true; contents = false }
 
+-- what is asked for the reason `Contents`: all that `to_headers` asks, and the contents in the octets
 abbrev pub to_contents : Asked
 to_contents = record { omitted = true; numbers = true; places = true; headers = true; contents = true }
 
--- what a reason denies: of a type, a value, octets and an account
+-- what a reason denies of a value v of type t, octets o and account a: with this reason, it doesn't hold
 abbrev pub Holds : List Resolved → TypeNumber → AbstractValue → Octets → Account → Reason → Type 0
 Holds s t v o a NotOfType = IsValue s t v
 Holds s t v o a Shape = Follows s to_shape t v o a
@@ -51,13 +57,13 @@ Holds s t v o a Length = length o ≡ octets_told a
 Holds s t v o a Header = Follows s to_headers t v o a
 Holds s t v o a Contents = Follows s to_contents t v o a
 
--- the first of them that fails
+-- reason r fails for value v of type t, octets o and account a, and all reasons before it in their order hold
 pub record Fails (s : List Resolved) (t : TypeNumber) (v : AbstractValue) (o : Octets) (a : Account) (r : Reason)
     : Type 0 where
   pub denied : Holds s t v o a r → ⊥
   pub first : (e : Reason) → rank e < rank r → Holds s t v o a e
 
--- the account tells how the octets encode a value of the type
+-- v is a value of type t of schema s, and account a describes how octets o encode it: what the checker's yes means
 pub record IsRight (s : List Resolved) (t : TypeNumber) (v : AbstractValue) (o : Octets) (a : Account) : Type 0 where
   pub value : IsValue s t v
   pub tells : Tells s t v o a

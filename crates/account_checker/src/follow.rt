@@ -1,7 +1,7 @@
 //! Whether the rows of an account follow a type and a value.
 
 ghost use Rattle.account_checker.specs.Follows.{AreContents, ElementsFollow, Follows, HasContents, InsideFollows, MembersFollow, Under, Where, before, is_built, octets_told as octets_in, sizes};
-ghost use Rattle.account_checker.specs.Parts.{ChoiceFollows, ElementAt, FieldsFollow, HasDefault, IsOuterOf, ListFollows, Member, MemberAt, WrittenAt, is_absent, is_default as left_out, place_in, rows_in, size_in, size_or};
+ghost use Rattle.account_checker.specs.Parts.{AreEnds, ChoiceFollows, ElementAt, FieldsFollow, HasDefault, IsOuterOf, ListFollows, Member, MemberAt, WrittenAt, is_absent, is_default as left_out, place_in, rows_in, size_in, size_or};
 ghost use Rattle.asn_base.specs.Abstract.{AbstractValue, Row as Row', abstract, alternative, fields, list, row_of_list, row_of_options};
 ghost use Rattle.asn_base.specs.Decided.{IsChosen, IsComponent};
 ghost use Rattle.asn_base.specs.Seen.{alternative_of, component_of, kind_of};
@@ -21,7 +21,7 @@ ghost use Rattle.std.specs.Prelude.{slice_get, ◌+◌, ◌^◌, ◌≡◌, ◌�
 
 use crate::asked::Asked;
 use crate::header::{behind_header, part};
-use crate::order::{Order, are_in_order, start, written_to};
+use crate::order::{Order, are_in_order, are_known, start, written_to};
 use crate::walk::{
     Counted, Passed, chosen_type, further, has_count, has_octets, innermost, is_constructed,
     is_leaf, is_to_be_written, may_be_absent, may_be_left_out, numbers_in, octets_told,
@@ -270,7 +270,7 @@ fn inside<'r>(
                 z.contents,
                 octets,
                 places.members,
-                Order::Placed(places.places.as_slice(), places.inverse.as_slice()),
+                Order::Placed(&**places),
                 rows,
             ) {
                 Some(behind) => Some(behind),
@@ -288,7 +288,7 @@ fn inside<'r>(
                 z.contents,
                 octets,
                 places.members,
-                Order::Placed(places.places.as_slice(), places.inverse.as_slice()),
+                Order::Placed(&**places),
                 rows,
             ) {
                 Some(behind) => Some(behind),
@@ -423,8 +423,11 @@ fn structure<'r>(
     if values.len() != components.len() {
         return None;
     }
+    let Some(known) = are_known(asked, order, contents, rows, components.len()) else {
+        return None;
+    };
     match members(
-        schema, asked, levels, components, values, order, octets, rows,
+        schema, asked, levels, components, values, order, known, octets, rows,
     ) {
         Some(counted) => {
             if has_count(asked, contents, counted.octets)
@@ -448,6 +451,7 @@ fn members<'r>(
     components: &[Component],
     values: &[Option<Value>],
     order: Order<'r>,
+    known: bool,
     octets: &[u8],
     rows: &'r [Row],
 ) -> Option<Counted<'r>>
@@ -455,6 +459,11 @@ fn members<'r>(
     requires value { AreComponents schema.now levels (map component_of components.now) (row_of_options (map (option_map abstract) values.now)) }
     requires few { levels ≤ 64 }
     requires defaults { AllByRecursion (HasValue schema.now) (map component_of components.now) }
+    requires ends { IsTrue known
+        → (rs : Rows) (rest : List FlatRow)
+        → flat rows.now ≡ member_rows rs ++ rest
+        → count rs ≡ length components.now
+        → AreEnds order (sizes rs) }
     ensures { (rs : Rows) (rest : List FlatRow)
         → flat rows.now ≡ member_rows rs ++ rest
         → count rs ≡ length components.now
@@ -472,7 +481,7 @@ fn members<'r>(
     let mut place: u128 = 0;
     let mut number: usize = 0;
     for i in 0..components.len() {
-        let at = start(asked, order, rows, components.len(), number, place);
+        let at = start(asked, order, known, rows, components.len(), number, place);
         match member(
             schema,
             asked,
@@ -661,7 +670,12 @@ fn series<'r>(
     if told as usize != values.len() {
         return None;
     }
-    match elements(schema, asked, levels, element, values, order, octets, rows) {
+    let Some(known) = are_known(asked, order, contents, rows, values.len()) else {
+        return None;
+    };
+    match elements(
+        schema, asked, levels, element, values, order, known, octets, rows,
+    ) {
         Some(counted) => {
             if has_count(asked, contents, counted.octets)
                 && are_in_order(asked, order, counted.written)
@@ -684,11 +698,17 @@ fn elements<'r>(
     element: TypeId,
     values: &[Value],
     order: Order<'r>,
+    known: bool,
     octets: &[u8],
     rows: &'r [Row],
 ) -> Option<Counted<'r>>
     requires value { AreElements schema.now levels element.index (row_of_list (map abstract values.now)) }
     requires few { levels ≤ 64 }
+    requires ends { IsTrue known
+        → (rs : Rows) (rest : List FlatRow)
+        → flat rows.now ≡ member_rows rs ++ rest
+        → count rs ≡ length values.now
+        → AreEnds order (sizes rs) }
     ensures { (rs : Rows) (rest : List FlatRow)
         → flat rows.now ≡ member_rows rs ++ rest
         → count rs ≡ length values.now
@@ -706,7 +726,7 @@ fn elements<'r>(
     let mut place: u128 = 0;
     let mut number: usize = 0;
     for i in 0..values.len() {
-        let at = start(asked, order, rows, values.len(), number, place);
+        let at = start(asked, order, known, rows, values.len(), number, place);
         match one_element(schema, asked, levels, element, &values[i], at, octets, left) {
             Some(passed) => {
                 left = passed.rows;

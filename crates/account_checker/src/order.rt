@@ -1,24 +1,26 @@
 //! Where members are in contents octets.
 
 ghost use Rattle.account_checker.specs.Follows.{Where, before, by_place, sizes};
-ghost use Rattle.account_checker.specs.Parts.{AreInOrder, count_or, place_in};
+ghost use Rattle.account_checker.specs.Parts.{AreEnds, AreInOrder, EndsAt, EndsFrom, count_or, end_before as octets_in_front, place_in};
 ghost use Rattle.encodings.specs.Account.{Rows};
 ghost use Rattle.octet_account.specs.Flat.{FlatRow, count, member_rows};
 ghost use Rattle.octet_account.specs.Seen.{flat};
-ghost use Rattle.std.specs.Prelude.{◌≡◌, ◌+◌, ◌<◌, ◌≤◌, ◌++◌, ◌↔◌, get_or, IsTrue, List, Some, None, ℕ};
+ghost use Rattle.std.specs.List.{sum};
+ghost use Rattle.std.specs.Prelude.{◌≡◌, ◌+◌, ◌<◌, ◌≤◌, ◌++◌, ◌↔◌, get_or, length, IsTrue, List, MatchOption, Some, None, ℕ};
 
 use crate::asked::Asked;
 use crate::places::are_places;
-use crate::skipped::size_at;
-use octet_account::row::Row;
+use crate::skipped::{after_member, first_size, size_at};
+use crate::walk::{further, has_count};
+use octet_account::row::{Places, Row};
 
 /// The order of members in contents octets.
 #[derive(Clone, Copy)]
 pub(crate) enum Order<'r> {
     /// The order of their rows.
     InOrder,
-    /// The place of each written member, and the number of the member at each place.
-    Placed(&'r [u32], &'r [u32]),
+    /// Each written member at its place.
+    Placed(&'r Places),
 }
 
 /// Whether places are those of so many members, where it is asked.
@@ -27,9 +29,9 @@ pub(crate) fn are_in_order(asked: Asked, order: Order, count: usize) -> bool
 {
     match order {
         Order::InOrder => true,
-        Order::Placed(places, inverse) => {
+        Order::Placed(set) => {
             if asked.places {
-                are_places(count, places, inverse)
+                are_places(count, set.places.as_slice(), set.inverse.as_slice())
             } else {
                 true
             }
@@ -65,16 +67,134 @@ fn octets_before(rows: &[Row], members: usize, inverse: &[u32], place: usize) ->
     octets
 }
 
+/// How many octets are before a place, where these are the ends of places.
+fn end_before(ends: &[u32], place: usize) -> u128
+    ensures is { result ≡ octets_in_front ends.now place }
+    ensures few { result ≤ 18446744073709551615 }
+{
+    if place == 0 {
+        0
+    } else {
+        number_at(ends, place - 1) as u128
+    }
+}
+
+/// Whether the end of a written member's place is as many octets from its start as the member has.
+fn ends_at(set: &Places, number: usize, size: u64) -> bool
+    ensures { IsTrue result ↔ EndsAt set.now.places.items set.now.ends.items number (Some size) }
+{
+    let place = number_at(set.places.as_slice(), number);
+    let ends = set.ends.as_slice();
+    end_before(ends, place) + size as u128 == number_at(ends, place) as u128
+}
+
+/// The same, and `known` before; a member that isn't written ends nowhere.
+fn still_known(known: bool, set: &Places, number: usize, size: Option<u64>) -> bool
+    ensures { IsTrue result ↔ IsTrue known × EndsAt set.now.places.items set.now.ends.items number size }
+{
+    match size {
+        Some(size) => {
+            if known {
+                ends_at(set, number, size)
+            } else {
+                false
+            }
+        }
+        None => known,
+    }
+}
+
+/// How many octets members tell, how many of them are written, and whether the ends of their places are known.
+#[derive(Clone, Copy)]
+struct Measured {
+    octets: u128,
+    written: usize,
+    known: bool,
+}
+
+/// What so many members measure, whose rows begin these.
+fn measure(rows: &[Row], members: usize, set: &Places) -> Measured
+    ensures { (rs : Rows) (rest : List FlatRow)
+        → flat rows.now ≡ member_rows rs ++ rest
+        → count rs ≡ members
+        → (result.octets ≡ sum (sizes rs))
+        × (result.written ≡ length (sizes rs))
+        × (IsTrue result.known → EndsFrom set.now.places.items set.now.ends.items 0 (sizes rs)) }
+{
+    let mut left = rows;
+    let mut octets: u128 = 0;
+    let mut written: usize = 0;
+    let mut known = true;
+    for i in 0..members {
+        let size = first_size(left);
+        known = still_known(known, set, written, size);
+        octets = further(octets, size, i);
+        written = written_to(written, size, members);
+        left = after_member(left);
+    }
+    Measured {
+        octets,
+        written,
+        known,
+    }
+}
+
+/// Whether the ends of places are known to be right, before members at places are looked at. None says that there is no
+/// need to look: where it is asked, they tell another number of octets, or places are not those of so many members.
+pub(crate) fn are_known(
+    asked: Asked,
+    order: Order,
+    contents: u32,
+    rows: &[Row],
+    members: usize,
+) -> Option<bool>
+    ensures { MatchOption result
+        ((rs : Rows) (rest : List FlatRow)
+        → flat rows.now ≡ member_rows rs ++ rest
+        → count rs ≡ members
+        → Where asked.numbers (contents ≡ sum (sizes rs))
+        → AreInOrder asked order.entry (length (sizes rs))
+        → ⊥)
+        (λ known. IsTrue known
+        → (rs : Rows) (rest : List FlatRow)
+        → flat rows.now ≡ member_rows rs ++ rest
+        → count rs ≡ members
+        → AreEnds order.entry (sizes rs)) }
+{
+    match order {
+        Order::InOrder => Some(false),
+        Order::Placed(set) => {
+            if !asked.places {
+                return Some(false);
+            }
+            let measured = measure(rows, members, set);
+            if !has_count(asked, contents, measured.octets) {
+                return None;
+            }
+            if !are_in_order(asked, order, measured.written) {
+                return None;
+            }
+            Some(measured.known)
+        }
+    }
+}
+
 /// The offset of the written member with this number in contents octets, where headers are asked about. In the order of
-/// rows `offset` octets are before it.
+/// rows `offset` octets are before it. Where the ends of places aren't known, it looks at the rows once more.
 pub(crate) fn start(
     asked: Asked,
     order: Order,
+    known: bool,
     rows: &[Row],
     members: usize,
     number: usize,
     offset: u128,
 ) -> u128
+    requires { IsTrue known
+        → (rs : Rows) (rest : List FlatRow)
+        → flat rows.now ≡ member_rows rs ++ rest
+        → count rs ≡ members
+        → AreEnds order (sizes rs) }
     ensures { (rs : Rows) (rest : List FlatRow)
         → flat rows.now ≡ member_rows rs ++ rest
         → count rs ≡ members
@@ -83,11 +203,14 @@ pub(crate) fn start(
 {
     match order {
         Order::InOrder => offset,
-        Order::Placed(places, inverse) => {
-            if asked.headers {
-                octets_before(rows, members, inverse, number_at(places, number))
-            } else {
+        Order::Placed(set) => {
+            let place = number_at(set.places.as_slice(), number);
+            if !asked.headers {
                 0
+            } else if known {
+                end_before(set.ends.as_slice(), place)
+            } else {
+                octets_before(rows, members, set.inverse.as_slice(), place)
             }
         }
     }

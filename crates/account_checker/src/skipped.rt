@@ -24,7 +24,7 @@ fn rows_below(told: &Told) -> u32
 }
 
 /// The rows after those of the first member.
-fn after_member(rows: &[Row]) -> &[Row]
+pub(crate) fn after_member(rows: &[Row]) -> &[Row]
     ensures { (m : Member) (rest : List FlatRow) → flat rows.now ≡ rows_in m ++ rest → flat result.now ≡ rest }
 {
     let mut left: u128 = 1;
@@ -38,7 +38,7 @@ fn after_member(rows: &[Row]) -> &[Row]
 }
 
 /// How many octets the first member has, where it is written.
-fn first_size(rows: &[Row]) -> Option<u64>
+pub(crate) fn first_size(rows: &[Row]) -> Option<u64>
     ensures { (m : Member) (rest : List FlatRow) → flat rows.now ≡ rows_in m ++ rest → result ≡ size_in m }
 {
     let Some((row, _)) = rows.split_first() else {

@@ -1,3 +1,3 @@
--- The text of an account (`Text`). What stands in `proving` serves the proofs of this crate alone.
+-- The text of an account (`Text`). The definitions in `proving` serve the proofs of this crate alone.
 pub mod Text
 pub mod proving

@@ -1,4 +1,4 @@
-//! Why a text is no account.
+//! Why a text isn't that of an account.
 
 ghost use Rattle.account_text.specs.declared.fault.AccountFault.TheVariants.{Memory};
 ghost use Rattle.std.specs.Prelude.{◌≡◌};
@@ -6,8 +6,8 @@ ghost use Rattle.std.specs.Prelude.{◌≡◌};
 use std::alloc::AllocError;
 use thiserror::Error;
 
-/// Why a text was not read as an account: `Memory`, where more memory was asked for and refused; `NotAccount`, where it
-/// is no JSON, or its rows are those of no account.
+/// Why a text can't be read as an account. `Memory`: an allocation failed. `NotAccount`: the text isn't JSON, or its
+/// rows aren't those of an account.
 #[derive(Clone, Copy, Debug, PartialEq, Eq, Error)]
 pub enum AccountFault {
     #[error("1 Memory")]

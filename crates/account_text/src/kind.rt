@@ -3,7 +3,7 @@
 ghost use Rattle.std.specs.Prelude.{◌≡◌, MatchOption};
 ghost use Rattle.account_text.specs.proving.Tokens.{kind_name};
 
-/// What a row tells of.
+/// The kinds of rows.
 #[derive(Clone, Copy, Debug, PartialEq, Eq)]
 pub(crate) enum Kind {
     Leaf,
@@ -17,7 +17,7 @@ pub(crate) enum Kind {
 }
 
 impl Kind {
-    /// Its name in the text.
+    /// The kind's name in the text.
     pub(crate) fn name(self) -> &'static str
         ensures { result.now ≡ kind_name self }
     {
@@ -34,7 +34,7 @@ impl Kind {
     }
 }
 
-/// The kind of this name.
+/// The kind with this name, or None if there is none.
 pub(crate) fn kind_named(name: &str) -> Option<Kind>
     ensures { MatchOption result ((k : Kind) → name.now ≡ kind_name k → ⊥) (λ k. name.now ≡ kind_name k) }
 {

@@ -6,7 +6,7 @@ ghost use Rattle.account_text.specs.Text.{IsTextOf};
 
 use octet_account::law::one_account;
 
-/// A text is that of one account at most.
+/// A text is the text of at most one account.
 pub fn one_account_of_a_text()
     ensures { (text : List ℕ) (a b : Account) → IsTextOf text a → IsTextOf text b → a ≡ b }
 {

@@ -1,4 +1,4 @@
-//! Accounts of encodings as text, in JSON: what is written, and what is read.
+//! Accounts of encodings as text in JSON, written and read.
 #![tactic(auto)]
 
 mod fault;

@@ -1,4 +1,4 @@
-//! An account from its text, a row at a time: beside the rows it keeps no tree.
+//! Reads an account from its text, one row at a time. It keeps the rows, but no tree of the text.
 
 ghost use Rattle.std.specs.Prelude.{◌≡◌, ◌∷◌, ℕ, List, MatchOption, IfOk, Err, Ok, Some, decimal, true, false};
 ghost use Rattle.std.specs.List.{AllByRecursion};
@@ -22,7 +22,7 @@ use octet_account::account::Account;
 use octet_account::row::{Numbers, Places, Row, Told};
 use std::alloc::Global;
 
-/// The number, in digits alone, of this text.
+/// The number of this text, or None if the text isn't a number in digits alone.
 fn number_of(text: &str) -> Option<u32>
     ensures { MatchOption result ((n : ℕ) → IsSmall n → text.now ≡ decimal n → ⊥)
         (λ n. IsSmall n × (text.now ≡ decimal n)) }
@@ -37,7 +37,7 @@ fn number_of(text: &str) -> Option<u32>
     Some(number)
 }
 
-/// Takes a number.
+/// Takes a number, or returns None if the next token isn't one.
 fn number(reader: &mut Reader<'_>) -> Option<u32>
     ensures { MatchOption result
         ((n : ℕ) (ts : List Token') → IsSmall n → reader.old ≡ number_first n ts → ⊥)
@@ -57,7 +57,7 @@ fn take_begin_array(reader: &mut Reader<'_>) -> bool
     matches!(reader.next(), Some(Token::BeginArray))
 }
 
-/// Takes the numbers of a header.
+/// Takes the three numbers of a header, or returns None.
 fn numbers(reader: &mut Reader<'_>) -> Option<Numbers>
     ensures { MatchOption result
         ((z : Numbers') (ts : List Token') → AreSmall z → reader.old ≡ numbers_first z ts → ⊥)
@@ -97,7 +97,7 @@ fn places(alloc: Global, reader: &mut Reader<'_>) -> Result<Vec<u32>, AccountFau
     Ok(found)
 }
 
-/// Takes the numbers of a header, and how many members follow.
+/// Takes the numbers of a header, and the number of its members, or returns None.
 fn list(reader: &mut Reader<'_>) -> Option<(Numbers, u32)>
     ensures { MatchOption result
         ((z : Numbers') (n : ℕ) (ts : List Token') → AreSmall z → IsSmall n
@@ -110,7 +110,7 @@ fn list(reader: &mut Reader<'_>) -> Option<(Numbers, u32)>
     Some((numbers, members))
 }
 
-/// Takes the numbers of the header of a SET or SET OF, how many members follow, their places, and the inverse.
+/// Takes the numbers of the header of a SET or SET OF, the number of its members, their places, and the inverse.
 fn set(alloc: Global, reader: &mut Reader<'_>) -> Result<(Numbers, Box<Places>), AccountFault>
     ensures read { IfOk result (λ s. IsSet (numbers_of s.0) s.1.value reader.old reader.new) }
     ensures refused { result ≡ Err AccountFault.NotAccount
@@ -130,20 +130,13 @@ fn set(alloc: Global, reader: &mut Reader<'_>) -> Result<(Numbers, Box<Places>),
         Ok(found) => found,
         Err(fault) => return Err(fault),
     };
-    match Box::new(
-        alloc,
-        Places {
-            members,
-            places,
-            inverse,
-        },
-    ) {
+    match Places::of(alloc, members, places, inverse) {
         Ok(set) => Ok((numbers, set)),
         Err(_) => Err(AccountFault::Memory),
     }
 }
 
-/// Takes what a row of this kind tells.
+/// Takes the items of a row of this kind, after its name.
 fn told(alloc: Global, kind: Kind, reader: &mut Reader<'_>) -> Result<Told, AccountFault>
     ensures read { IfOk result (λ t. (kind_of (told_of t) ≡ kind) × IsSmallRow (told_of t)
         × (reader.old ≡ told_first (told_of t) reader.new)) }
@@ -182,7 +175,7 @@ fn told(alloc: Global, kind: Kind, reader: &mut Reader<'_>) -> Result<Told, Acco
     }
 }
 
-/// Takes a row.
+/// Takes one row.
 pub(crate) fn row(alloc: Global, reader: &mut Reader<'_>) -> Result<Row, AccountFault>
     ensures read { IfOk result (λ r. IsSmallRow (told_of r.told)
         × (reader.old ≡ row_first (told_of r.told) reader.new)) }
@@ -267,10 +260,10 @@ fn whole(alloc: Global, text: &str) -> Result<Vec<Row>, AccountFault>
     Ok(rows)
 }
 
-/// Reads the account whose rows a text in JSON tells, in whatever spelling JSON allows; numbers are whole, from 0 to
-/// 16,777,216, and in digits alone. `NotAccount` (100) says that there is none: the text is no JSON, its rows are not
-/// those of one account, there are too few or too many, or they nest deeper than 400 levels. `Memory` (1) says that
-/// memory was refused. It takes time in line with the length of the text, and keeps the rows alone.
+/// Reads the account whose rows a text has, in any spelling that JSON allows. Numbers are whole, from 0 to 16,777,216,
+/// and in digits alone. `NotAccount`: the text isn't JSON, its rows aren't those of one account, there are too few or
+/// too many, or they are nested deeper than 400 levels. `Memory`: an allocation failed. The time is linear in the
+/// length of the text, and the function keeps the rows alone.
 pub fn from_json(alloc: Global, text: &str) -> Result<Account, AccountFault>
     ensures read { IfOk result (λ a. IsTextOf text.now a) }
     ensures refused { result ≡ Err AccountFault.NotAccount → (a : Account') → IsTextOf text.now a → ⊥ }

@@ -12,14 +12,14 @@ use limits::MAX_HEADERS;
 use octet_account::row::{Row, Told};
 use std::alloc::{AllocError, Global};
 
-/// A header whose members are being read: how many are left, and whether each has to be written.
+/// A header whose members are being read: the number of members that are left, and whether each must be written.
 #[derive(Clone, Copy, Debug, PartialEq, Eq)]
 pub(crate) struct Open {
     pub(crate) left: u32,
     pub(crate) all_written: bool,
 }
 
-/// Takes the innermost header that has members left, and closes those inside it.
+/// Returns the innermost header that has members left, and closes the headers inside it.
 #[tactic(auto, using(crate::proofs::Standing::closed))]
 pub(crate) fn next(stack: &mut Vec<Open>) -> Option<Open>
     ensures kept { (all rs : List FlatRow) → Stands all stack.old.items rs
@@ -35,7 +35,7 @@ pub(crate) fn next(stack: &mut Vec<Open>) -> Option<Open>
     None
 }
 
-/// The members of a SEQUENCE, SET, list or explicit tag that this row opens.
+/// The header that this row opens, if it is that of a SEQUENCE, SET, list or explicit tag.
 fn inside(row: &Row) -> Option<Open>
     ensures { option_to_list result ≡ inside_of (told_of row.now.told) }
 {
@@ -50,14 +50,14 @@ fn inside(row: &Row) -> Option<Open>
     Some(Open { left, all_written })
 }
 
-/// Whether a row tells that a component is left out.
+/// Whether a row is that of a component that is left out.
 fn is_left_out(row: &Row) -> bool
     ensures { result ≡ leaves_out (told_of row.now.told) }
 {
     matches!(row.told, Told::Absent | Told::Default)
 }
 
-/// Takes a row as the next member of the innermost header, where it may stand there.
+/// Takes a row as the next member of the innermost header, or returns false if it may not be there.
 fn enter(stack: &mut Vec<Open>, top: Open, row: &Row) -> Result<bool, AllocError>
     requires some { 0 < top.left }
     requires small { IsSmallRow (told_of row.now.told) }
@@ -83,7 +83,7 @@ fn enter(stack: &mut Vec<Open>, top: Open, row: &Row) -> Result<bool, AllocError
     Ok(true)
 }
 
-/// Whether rows are those of an account. The memory that it takes grows with how deep they nest.
+/// Whether rows are those of an account. The memory that the function takes grows with how deep the rows are nested.
 pub(crate) fn are_rows(alloc: Global, rows: &[Row]) -> Result<bool, AllocError>
     requires { AllByRecursion IsSmallRow (flat rows.now) }
     ensures yes { result ≡ Ok true → (a : Account) × AreRows a (flat rows.now) }

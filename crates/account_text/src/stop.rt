@@ -1,4 +1,4 @@
-//! Where octets stop being the text of an account.
+//! The octet at which octets stop being the text of an account.
 
 use crate::fault::AccountFault;
 use crate::read::row;
@@ -6,8 +6,8 @@ use json::{Reader, Scratch, Token};
 use std::alloc::{AllocError, Global};
 use thiserror::Error;
 
-/// Where octets stop being the text of an account, and what was expected there. Octets and rows are counted from 0; an
-/// octet is the one behind what was read.
+/// The place at which octets stop being the text of an account, and what was expected there. Octets and rows are
+/// counted from 0. The octet is the first one after what was read.
 #[derive(Clone, Copy, Debug, PartialEq, Eq, Error)]
 pub enum Stop {
     /// The octets before this one are UTF-8, and those from it on are not.
@@ -16,22 +16,22 @@ pub enum Stop {
     /// The text doesn't begin with the bracket of an array.
     #[error("at octet 0: found no JSON array, expected an array of rows")]
     NotArray,
-    /// Rows were read, and what comes next is none.
+    /// Rows were read, and what comes next isn't a row.
     #[error("at octet {octet}, in row {row}: found no row, expected a kind and its numbers in an array")]
     NotRow {
-        /// How many rows stand before it.
+        /// The number of rows before it.
         row: usize,
         octet: usize,
     },
     /// More text follows the rows.
     #[error("at octet {0}: found more text after the rows, expected its end")]
     Behind(usize),
-    /// These are as many rows, but they are not those of one account.
-    #[error("found {0} rows that are not those of one account, expected after each row as many members as it says, at most 400 deep")]
+    /// The text has this number of rows, but they aren't those of one account.
+    #[error("found rows that are not those of one account, {0} of them, expected after each row as many members as it says, at most 400 deep")]
     NotOne(usize),
 }
 
-/// What is wrong behind all rows.
+/// What is wrong after all rows.
 fn after_rows(reader: &mut Reader<'_>, rows: usize) -> Stop {
     if reader.next().is_some() {
         return Stop::Behind(reader.offset());
@@ -39,7 +39,7 @@ fn after_rows(reader: &mut Reader<'_>, rows: usize) -> Stop {
     Stop::NotOne(rows)
 }
 
-/// Where rows stop being rows, of which a text can have so many.
+/// Where rows stop being rows. A text has at most `most` rows.
 fn in_rows(alloc: Global, reader: &mut Reader<'_>, most: usize) -> Result<Stop, AllocError> {
     for rows in 0..most {
         if reader.take_end_array() {
@@ -57,8 +57,8 @@ fn in_rows(alloc: Global, reader: &mut Reader<'_>, most: usize) -> Result<Stop, 
     Ok(Stop::NotOne(most))
 }
 
-/// Where octets that [`crate::from_json`] refuses stop being the text of an account. A bad number or name is found
-/// behind it.
+/// Returns the place at which octets that [`crate::from_json`] refuses stop being the text of an account. For a bad
+/// number or name it is the octet after it. `AllocError` comes only if an allocation fails.
 pub fn stop_of(alloc: Global, octets: &[u8]) -> Result<Stop, AllocError> {
     let text = match str::from_utf8(octets) {
         Ok(text) => text,

@@ -1,4 +1,4 @@
-//! The text of an account, a token at a time.
+//! Writes the text of an account, one token at a time.
 
 ghost use Rattle.std.specs.Prelude.{◌≡◌, ◌∷◌, ◌++◌, [], List, IfOk, string_bytes};
 ghost use Rattle.json.specs.Token.{begin_array, end_array, string};
@@ -30,7 +30,7 @@ fn begin(out: &mut Writer<Global>, kind: Kind) -> Result<(), AllocError>
     out.string(kind.name())
 }
 
-/// Writes what a row begins with: its kind, and the numbers of its header.
+/// Writes the start of a row: the bracket, the name of its kind, and the numbers of its header.
 fn header(out: &mut Writer<Global>, kind: Kind, numbers: &Numbers) -> Result<(), AllocError>
     ensures { Appends result out.old out.new
         (begin_array ∷ string (kind_name kind) ∷ numbers_first (numbers_of numbers.now) []) }
@@ -41,7 +41,7 @@ fn header(out: &mut Writer<Global>, kind: Kind, numbers: &Numbers) -> Result<(),
     number(out, numbers.contents)
 }
 
-/// Writes places, and the brackets round them.
+/// Writes places, and the brackets around them.
 fn list(out: &mut Writer<Global>, places: &[u32]) -> Result<(), AllocError>
     ensures { Appends result out.old out.new (list_first places.now []) }
 {
@@ -52,7 +52,7 @@ fn list(out: &mut Writer<Global>, places: &[u32]) -> Result<(), AllocError>
     out.end_array()
 }
 
-/// Writes the row of a SET or SET OF, but for the bracket that closes it.
+/// Writes the row of a SET or SET OF, except the bracket that closes it.
 fn set(
     out: &mut Writer<Global>,
     kind: Kind,
@@ -69,7 +69,7 @@ fn set(
     list(out, set.inverse.as_slice())
 }
 
-/// Writes a row, but for the bracket that closes it.
+/// Writes a row, except the bracket that closes it.
 fn told(out: &mut Writer<Global>, row: &Row) -> Result<(), AllocError>
     ensures { Appends result out.old out.new
         (begin_array ∷ string (kind_name (kind_of (told_of row.now.told))) ∷ told_first (told_of row.now.told) []) }
@@ -110,7 +110,8 @@ fn rows(out: &mut Writer<Global>, rows: &[Row]) -> Result<(), AllocError>
     Ok(())
 }
 
-/// The text of an account: its rows in JSON, without white space. It takes time in line with the length of the text.
+/// Returns the text of an account: its rows in JSON, without white space. The time is linear in the length of the text.
+/// `AllocError` comes only if an allocation fails.
 pub fn to_json(alloc: Global, account: &Account) -> Result<String, AllocError>
     ensures text { IfOk result (λ s. (rs : List FlatRow) → AreRows account.now rs → string_bytes s ≡ compact_text rs) }
     ensures reads_back { IfOk result (λ s. IsTextOf (string_bytes s) account.now) }

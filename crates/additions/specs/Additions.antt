@@ -1,5 +1,5 @@
--- What extension markers ask of the members of a list and of the items of an enumeration (X.680, clauses 20, 25, 27 and
--- 29), each by its place; and how a member or an item breaks that.
+-- What extension markers require of each member of a list and of each item of an enumeration (X.680, clauses 20, 25, 27
+-- and 29), and how one breaks that.
 use Rattle.std.specs.Prelude.{◌≡◌, ◌⊎◌, ℕ, ◌<◌, ◌≤ℤ◌, ◌<ℤ◌, ℤ, Bool, true, false, List, Option, Some, slice_get}
 use Rattle.asn_base.specs.Tags.{class_rank}
 use Rattle.trees.specs.declared.module.TagDefault.{TagDefault}
@@ -14,14 +14,15 @@ use Rattle.tagging.specs.First.{First, is_addition}
 use Rattle.additions.specs.declared.check.Rule.{Rule}
 use Rattle.additions.specs.declared.check.Rule.TheVariants.{MarkerPlace, AdditionOrder, DefaultAddition}
 
--- the member stands behind the marker
+-- the member comes after the extension marker, as an addition
 abbrev pub IsAdded : Part → Type 0
 IsAdded c = is_addition c.standing ≡ true
 
--- it stands in version brackets number g of its list
+-- the member of a written list is in version brackets number g of that list
 abbrev pub IsOfGroup : ℕ → Part → Type 0
 IsOfGroup g c = c.standing ≡ Addition (Some g)
 
+-- DEFAULT comes after the type of a component with this presence (X.680, clause 25)
 abbrev pub has_default : PresenceTree → Bool
 has_default mandatory = false
 has_default optional = false
@@ -31,10 +32,10 @@ has_default (default v) = true
 abbrev pub LabelBefore : Label → Label → Type 0
 LabelBefore g f = (class_rank g.0 < class_rank f.0) ⊎ ((class_rank g.0 ≡ class_rank f.0) × (g.1 < f.1))
 
--- ---- what is asked
+-- ---- what is required
 
--- what stands between two members of the same version brackets stands in them too: so with member n, c, and an earlier
--- one
+-- If c, which is member n, and an earlier member are in the same version brackets, the members between them are in
+-- these brackets too.
 abbrev pub IsTogether : List Part → ℕ → Part → Type 0
 IsTogether cs n c = (l m g : ℕ) (d e : Part) →
     l < m →
@@ -45,16 +46,17 @@ IsTogether cs n c = (l m g : ℕ) (d e : Part) →
     IsOfGroup g c →
     IsOfGroup g e
 
--- member n of the list, c, stands where it may
+-- member n of the list, c, is at an allowed place
 pub record IsPlaced (marker : Bool) (cs : List Part) (n : ℕ) (c : Part) : Type 0 where
-  -- an addition stands in a list with an extension marker
+  -- an addition is in a list with an extension marker
   pub marked : IsAdded c → marker ≡ true
-  -- behind an addition stand additions alone: they end the list
+  -- after an addition there are only additions: they end the list
   pub behind : (m : ℕ) (d : Part) → m < n → slice_get cs m ≡ Some d → IsAdded d → IsAdded c
-  -- the members of version brackets stand together
+  -- the members of version brackets are adjacent
   pub together : IsTogether cs n c
 
--- the tags of an addition to a CHOICE, which is alternative n, stand behind those of each earlier addition
+-- the first tags of alternative n, if it is an addition to a CHOICE, come after those of each earlier addition (X.680,
+-- clause 29)
 abbrev pub IsInOrder : List Type' → List Part → ℕ → Part → Type 0
 IsInOrder ts cs n c = (m : ℕ) (d : Part) (g f : Label) →
     m < n →
@@ -65,35 +67,38 @@ IsInOrder ts cs n c = (m : ℕ) (d : Part) (g f : Label) →
     First ts c.ty f →
     LabelBefore g f
 
--- what is asked of member n of a list, c
+-- what extension markers require of member n of a list, c
 pub record Keeps (ts : List Type') (k : ListKind) (marker : Bool) (cs : List Part) (n : ℕ) (c : Part) : Type 0 where
   pub placed : IsPlaced marker cs n c
-  -- an addition, also one in version brackets, has no DEFAULT (narrower than X.680)
+  -- an addition, also one in version brackets, has no DEFAULT (own rule; X.680 allows one)
   pub no_default : IsAdded c → has_default c.presence ≡ false
+  -- the additions to a CHOICE come in the canonical order of their tags (X.680, clause 29)
   pub ordered : k ≡ Choice → IsInOrder ts cs n c
 
--- the number at place n is above each earlier one
+-- the number at place n is greater than each earlier one (X.680, clause 20)
 abbrev pub IsAboveEarlier : List ℤ → ℕ → Type 0
 IsAboveEarlier zs n = (m : ℕ) (y z : ℤ) → m < n → slice_get zs m ≡ Some y → slice_get zs n ≡ Some z → y <ℤ z
 
--- Place n of type i keeps what is asked: where the type is a list, its member n does, and where it is an enumeration,
--- the number of item n behind the marker.
+-- Place n of type i is as required. If the type is a list, its member n is; if it is an enumeration, the number of
+-- addition n is.
 pub record KeepsAt (ts : List Type') (i n : ℕ) : Type 0 where
+  -- member n of a list is as required
   pub member : (k : ListKind) (marker : Bool) (cs : List Part) (d : TagDefault) (p : Option (ℕ × ℕ)) (c : Part) →
       Is ts i (members k marker cs) d p →
       slice_get cs n ≡ Some c →
       Keeps ts k marker cs n c
+  -- addition n of an enumeration has a number above those of the earlier additions
   pub item : (root : List Item) (more : Option (List Item)) (d : TagDefault) (p : Option (ℕ × ℕ)) →
       Is ts i (simple (an_enumerated root more)) d p →
       IsAboveEarlier (addition_numbers root (additions_of more)) n
 
--- all lists and enumerations do
+-- all members of lists and all additions of enumerations in a table are as extension markers require
 abbrev pub KeepAdditions : List Type' → Type 0
 KeepAdditions ts = (i n : ℕ) → KeepsAt ts i n
 
--- ---- how it is broken
+-- ---- how a requirement is broken
 
--- member n is of version brackets that were left before it
+-- member n is in version brackets that ended before it
 pub record IsParted (cs : List Part) (n : ℕ) : Type 0 where
   pub group : ℕ
   pub member : Part
@@ -110,11 +115,11 @@ pub record IsParted (cs : List Part) (n : ℕ) : Type 0 where
   pub at_other : slice_get cs other ≡ Some outside
   pub left : IsOfGroup group outside → ⊥
 
--- member n of the list stands where it may not
+-- member n of the list is at a place that isn't allowed
 pub data IsMisplaced (marker : Bool) (cs : List Part) (n : ℕ) : Type 0 where
-  -- it is an addition, and the list has no marker
+  -- the member is an addition, and the list has no marker
   unmarked : (c : Part) → slice_get cs n ≡ Some c → IsAdded c → marker ≡ false → IsMisplaced marker cs n
-  -- it is of the root, and stands behind an addition
+  -- the member is one of the root, and comes after an addition
   behind_addition : (m : ℕ) (c d : Part) →
       slice_get cs n ≡ Some c →
       m < n →
@@ -124,14 +129,15 @@ pub data IsMisplaced (marker : Bool) (cs : List Part) (n : ℕ) : Type 0 where
       IsMisplaced marker cs n
   out_of_brackets : IsParted cs n → IsMisplaced marker cs n
 
--- it is an addition with a DEFAULT
+-- member n is an addition with a DEFAULT
 pub record IsDefaultAddition (cs : List Part) (n : ℕ) : Type 0 where
   pub member : Part
   pub there : slice_get cs n ≡ Some member
   pub added : IsAdded member
   pub has_value : has_default member.presence ≡ true
 
--- it is an addition, and a tag that can stand first in it isn't behind one that can stand first in an earlier addition
+-- Member n is an addition. One of its first tags doesn't come after a first tag of an earlier addition, in the
+-- canonical order.
 pub record IsOutOfOrder (ts : List Type') (cs : List Part) (n : ℕ) : Type 0 where
   pub member : Part
   pub there : slice_get cs n ≡ Some member
@@ -147,22 +153,23 @@ pub record IsOutOfOrder (ts : List Type') (cs : List Part) (n : ℕ) : Type 0 wh
   pub of_member : First ts member.ty second
   pub not_before : LabelBefore first second → ⊥
 
--- member n stands where it may
+-- member n is at an allowed place
 abbrev pub IsPlacedAt : Bool → List Part → ℕ → Type 0
 IsPlacedAt marker cs n = (c : Part) → slice_get cs n ≡ Some c → IsPlaced marker cs n c
 
--- it is no addition with a DEFAULT
+-- member n isn't an addition with a DEFAULT
 abbrev pub HasNoDefaultAt : List Part → ℕ → Type 0
 HasNoDefaultAt cs n = (c : Part) → slice_get cs n ≡ Some c → IsAdded c → has_default c.presence ≡ false
 
--- member n of a list breaks the rule, and none that is asked before it: its place, then its DEFAULT, then its order
+-- Member n of a list breaks this rule, and no rule that is checked before it: first that of its place, then of its
+-- DEFAULT, then of its order.
 abbrev pub BreaksIn : List Type' → Rule → ListKind → Bool → List Part → ℕ → Type 0
 BreaksIn ts MarkerPlace k marker cs n = IsMisplaced marker cs n
 BreaksIn ts DefaultAddition k marker cs n = IsDefaultAddition cs n × IsPlacedAt marker cs n
 BreaksIn ts AdditionOrder k marker cs n =
     (k ≡ Choice) × IsOutOfOrder ts cs n × IsPlacedAt marker cs n × HasNoDefaultAt cs n
 
--- the number at place n is not above an earlier one
+-- the number at place n isn't greater than an earlier one
 pub record IsNotAbove (zs : List ℤ) (n : ℕ) : Type 0 where
   pub place : ℕ
   pub before : place < n
@@ -172,7 +179,7 @@ pub record IsNotAbove (zs : List ℤ) (n : ℕ) : Type 0 where
   pub there : slice_get zs n ≡ Some number
   pub falls : number ≤ℤ earlier
 
--- place n of type i breaks the rule: its member n does, or the number of item n behind the marker doesn't ascend
+-- place n of type i breaks the rule: member n of the list breaks it, or the number of addition n of the enumeration
 pub data Breaks (ts : List Type') : Rule → ℕ → ℕ → Type 0 where
   in_list : {r : Rule} {i n : ℕ} (k : ListKind) (marker : Bool) (cs : List Part) (d : TagDefault) (p : Option (ℕ × ℕ)) →
       Is ts i (members k marker cs) d p →
@@ -183,7 +190,7 @@ pub data Breaks (ts : List Type') : Rule → ℕ → ℕ → Type 0 where
       IsNotAbove (addition_numbers root (additions_of more)) n →
       Breaks ts AdditionOrder i n
 
--- type i breaks the rule at a place, and no earlier place of it, and no type before it, breaks any
+-- type i breaks the rule at a place; no earlier place of it, and no type before it, breaks any rule
 pub record IsFirstBreak (ts : List Type') (r : Rule) (i : ℕ) : Type 0 where
   pub number : ℕ
   pub breaks : Breaks ts r i number

@@ -1,12 +1,12 @@
--- What faults say of bounded modules: of a program p. Names are lists of octets.
+-- What faults of a program p mean, whose types are bounded. Names are lists of octets.
 use Rattle.resolve.specs.Program.{Program}
 use Rattle.additions.specs.First.{IsFirstAt}
 use Rattle.additions.specs.declared.check.Rule.TheVariants as rules
 use Rattle.additions.specs.declared.fault.ExtFault.{ExtFault}
 use Rattle.additions.specs.declared.fault.ExtFault.TheVariants.{Memory, MarkerPlace, AdditionOrder, DefaultAddition}
 
--- the fault is the first one of this program, by the numbers of types, with its module, the name of its assignment and
--- its place; Memory says nothing
+-- The fault is the first one of this program, by the numbers of its types. It has the module, the name of the
+-- assignment and the place. `Memory` says nothing.
 abbrev pub Stands : Program → ExtFault → Type 0
 Stands p Memory = Unit {0}
 Stands p (MarkerPlace s) = IsFirstAt p rules.MarkerPlace s

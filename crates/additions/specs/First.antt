@@ -1,4 +1,5 @@
--- Where in the text the first fault is reported: at the name of the member, or of the item, that breaks the rule.
+-- The place in the text at which the first fault is reported: the name of the member or of the item that breaks the
+-- rule.
 use Rattle.std.specs.Prelude.{◌≡◌, ℕ, List, Some, slice_get}
 use Rattle.trees.specs.declared.place.Spot.{Spot}
 use Rattle.names.specs.Faults.{module_told, name_told}
@@ -11,14 +12,14 @@ use Rattle.additions.specs.Additions.{IsFirstBreak}
 use Rattle.additions.specs.declared.check.Rule.{Rule}
 use Rattle.additions.specs.proving.Checks.{IsNamedAt}
 
--- type i, as it is written, is the first that breaks a rule, at the member or item whose name is at this place
+-- type i is the first that breaks a rule, at the member or item whose name is at this place of its text
 pub record IsFirstNamed (ts : List Type') (r : Rule) (i at : ℕ) : Type 0 where
   pub first : IsFirstBreak ts r i
   pub written : Written
   pub there : slice_get ts i ≡ Some (type_of written)
   pub named : IsNamedAt written.shape first.number at
 
--- this is reported with the module and the assignment in which that type is written
+-- the spot has the place of the first fault, and the module and the assignment in which the type is written
 pub record IsFirstAt (p : Program) (r : Rule) (s : Spot) : Type 0 where
   pub ty : ℕ
   pub first : IsFirstNamed p.types r ty s.at

@@ -1,3 +1,3 @@
--- What only contracts inside the crate and proofs speak of: what the check of one type or one list tells.
+-- Definitions for contracts inside the crate and for proofs: the results of checks of one type or one list.
 pub mod Checks
 pub mod Told

@@ -1,4 +1,4 @@
-//! What extension markers ask of all types of a table.
+//! Checks all types of a table for what extension markers require.
 
 ghost use Rattle.std.specs.Prelude.{◌≡◌, ◌<◌, ℕ, Some, length, map, option_map, slice_get, IfOk, MatchOption, MatchResult};
 ghost use Rattle.trees.specs.declared.types.EnumeratedSyntax.{EnumeratedSyntax as EnumeratedSyntax'};
@@ -19,10 +19,10 @@ use tagging::Tagged;
 use trees::{EnumeratedItem, EnumeratedSyntax, ListKind, Simple};
 use type_table::{ListMember, Shape, Written};
 
-/// What a member or an item can break.
+/// The rules that a member or an item can break.
 #[derive(Clone, Copy, Debug, PartialEq)]
 pub(crate) enum Rule {
-    /// Additions stand behind the marker and end the list; the members of version brackets stand together.
+    /// Additions come after the marker and end the list; the members of version brackets are adjacent.
     MarkerPlace,
     /// Additions ascend: to an enumeration by number, to a CHOICE by tag.
     AdditionOrder,
@@ -30,14 +30,14 @@ pub(crate) enum Rule {
     DefaultAddition,
 }
 
-/// The rule that is broken, and the place where: the number of the member, or that of the item behind the marker.
+/// The rule that is broken, and the number of the member, or of the addition of an enumeration, that breaks it.
 #[derive(Clone, Copy, Debug)]
 pub(crate) struct Broken {
     pub rule: Rule,
     pub place: usize,
 }
 
-/// What is wrong: want of memory, or this type breaks the rule, at the place of the text.
+/// What is wrong: an allocation failed, or this type breaks the rule at this place of the text.
 #[derive(Clone, Copy, Debug)]
 pub(crate) enum Fault {
     Memory,
@@ -74,7 +74,7 @@ fn name_of_member(components: &[ListMember], number: usize) -> usize
     components[number].name.at
 }
 
-/// The place where the name of an item behind the marker is written.
+/// The place where the name of an addition of an enumeration is written.
 fn item_at(given: &EnumeratedSyntax, number: usize) -> usize
     requires { number < length (more_of given.now) }
     ensures { IsItemAt (option_map (λ is. is.items) given.now.additions) number result }
@@ -129,7 +129,7 @@ fn in_items(alloc: Global, given: &EnumeratedSyntax) -> Result<Option<(Broken, u
     }
 }
 
-/// The first place of a type that breaks a rule, if one does, and where it is written.
+/// The first place of a type that breaks a rule, and where its name is written, or None if no place does.
 fn type_breaks(
     alloc: Global,
     tagged: &Tagged<'_>,
@@ -156,7 +156,7 @@ fn type_breaks(
     }
 }
 
-/// Whether all of these types keep what extension markers ask, or the first one that breaks a rule.
+/// Whether all of these types are as extension markers require; if not, the fault is the first broken rule.
 fn check_all(alloc: Global, tagged: &Tagged<'_>, types: &[Written]) -> Result<(), Fault>
     requires types { types_of types.now ≡ tagged.now.types }
     requires sound { AreSound tagged.now.types }
@@ -172,7 +172,7 @@ fn check_all(alloc: Global, tagged: &Tagged<'_>, types: &[Written]) -> Result<()
     Ok(())
 }
 
-/// Whether all types keep what extension markers ask, or the first one that breaks a rule.
+/// Whether all types are as extension markers require; if not, the fault is the first broken rule.
 pub(crate) fn check(alloc: Global, tagged: &Tagged<'_>) -> Result<(), Fault>
     requires sound { AreSound tagged.now.types }
     ensures { MatchResult result (λ _. KeepAdditions tagged.now.types) (TellsAt tagged.now.types) }

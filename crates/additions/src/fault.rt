@@ -1,4 +1,4 @@
-//! What can be wrong with what stands behind extension markers.
+//! What can be wrong with extension markers, and with additions after them.
 
 ghost use Rattle.std.specs.Prelude.{ℕ};
 ghost use Rattle.names.specs.Faults.{module_told, name_told};
@@ -11,28 +11,28 @@ use crate::check::Rule;
 use thiserror::Error;
 use trees::Spot;
 
-/// What is wrong, with the module, the name of the assignment where it stands, and the place in the module's text.
+/// What is wrong, with the module, the name of the assignment, and the place in the module's text.
 #[derive(Debug, Drop, Error)]
 pub enum ExtFault {
-    /// There was not enough memory.
+    /// An allocation failed.
     #[error("1 Memory")]
     Memory,
-    /// The member at the place stands where the extension marker of its list doesn't let it: it is an addition in a
-    /// list without a marker, a member of the root behind an addition, or a member of version brackets that were left
-    /// before it (X.680, clauses 25.1 and 29.1). No text gives such a list.
+    /// The member at the place is where the extension marker of its list doesn't allow it (X.680, clauses 25.1 and
+    /// 29.1). It is an addition in a list without a marker, a member of the root after an addition, or a member of
+    /// version brackets that ended before it. No text gives such a list.
     #[error("55 MarkerPlace: {0}")]
     MarkerPlace(Spot),
-    /// The addition at the place doesn't ascend: to an enumeration in its number (X.680, clause 20), to a CHOICE in the
-    /// canonical order of tags (X.680, clauses 8.6 and 29).
+    /// The addition at the place doesn't ascend. In an enumeration its number must (X.680, clause 20). In a CHOICE its
+    /// tags must in the canonical order (X.680, clauses 8.6 and 29).
     #[error("56 AdditionOrder: {0}")]
     AdditionOrder(Spot),
-    /// The addition at the place, in version brackets or not, has a DEFAULT. X.680 allows it; this compiler leaves it
-    /// out.
+    /// The addition at the place, in version brackets or not, has a DEFAULT. X.680 allows it, but this compiler doesn't
+    /// support it.
     #[error("57 DefaultAddition: {0}")]
     DefaultAddition(Spot),
 }
 
-/// The fault at a spot that a type breaks a rule.
+/// The fault that a type breaks a rule at a spot.
 pub(crate) fn fault_of(rule: Rule, spot: Spot) -> ExtFault
     ensures { (p : Program) (i : ℕ) →
         IsFirstNamed p.types rule i spot.at →

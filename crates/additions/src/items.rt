@@ -1,4 +1,4 @@
-//! What extension markers ask of the items of an enumeration (X.680, clause 20).
+//! What extension markers require of the items of an enumeration (X.680, clause 20).
 
 ghost use Rattle.std.specs.Prelude.{◌≡◌, ◌<◌, ◌≤◌, ◌≤ℤ◌, ◌<ℤ◌, ◌+◌, ◌++◌, ℤ, List, Some, length, slice_get, IfOk, IsTrue, IsFalse, MatchOption};
 ghost use Rattle.type_table.specs.Items.{root_numbers, addition_numbers};
@@ -18,7 +18,7 @@ fn number_at(numbers: &[i128], at: usize) -> i128
     numbers[at]
 }
 
-/// Whether a number is not above an earlier one.
+/// Whether a number isn't greater than an earlier one.
 fn falls(earlier: i128, later: i128) -> bool
     ensures falls { IsTrue result → later ≤ℤ earlier }
     ensures rises { IsFalse result → earlier <ℤ later }
@@ -26,7 +26,8 @@ fn falls(earlier: i128, later: i128) -> bool
     later <= earlier
 }
 
-/// The first of the numbers behind the first `from` that is not above the one before it, counted from there.
+/// The first of the numbers after the first `from` ones that isn't greater than the one before it. Its place is counted
+/// from `from`; the result is None if these numbers ascend.
 fn falling(numbers: &[i128], from: usize) -> Option<usize>
     requires { from ≤ length numbers.now }
     ensures { (root more : List ℤ) → numbers.now ≡ root ++ more → length root ≡ from → MatchOption result
@@ -41,7 +42,7 @@ fn falling(numbers: &[i128], from: usize) -> Option<usize>
     None
 }
 
-/// The first item behind the marker whose number doesn't ascend, counted from there, if there is one.
+/// The number, from 0, of the first addition whose number doesn't ascend, or None if the additions ascend.
 pub(crate) fn items_break(
     alloc: Global,
     given: &EnumeratedSyntax,

@@ -1,4 +1,4 @@
-//! What extension markers ask of bounded modules.
+//! Checks bounded modules for what extension markers require.
 
 ghost use Rattle.std.specs.Prelude.{◌≡◌, ◌<◌, Some, length, slice_get, MatchResult};
 ghost use Rattle.type_table.specs.Seen.{type_of};
@@ -16,7 +16,7 @@ use resolve::Linked;
 use std::alloc::Global;
 use type_table::Written;
 
-/// A type as it is written.
+/// A type as it is written in a text.
 fn written_at(linked: &Linked, ty: usize) -> &Written
     requires { ty < length linked.now.types }
     ensures { slice_get linked.now.types ty ≡ Some (type_of result.now) }
@@ -24,7 +24,7 @@ fn written_at(linked: &Linked, ty: usize) -> &Written
     &linked.types()[ty]
 }
 
-/// The fault that a type breaks a rule, with the names of its module and of the assignment where it is written.
+/// The fault that a type breaks a rule, with the names of its module and of the assignment in which it is written.
 fn told(alloc: Global, linked: &Linked, rule: Rule, ty: usize, at: usize) -> ExtFault
     requires there { ty < length linked.now.types }
     requires breaks { IsFirstNamed linked.now.types rule ty at }
@@ -38,10 +38,10 @@ fn told(alloc: Global, linked: &Linked, rule: Rule, ty: usize, at: usize) -> Ext
     }
 }
 
-/// Whether bounded modules keep what extension markers ask (X.680, clauses 20, 25, 27 and 29), or the first fault that
-/// stands in them, by the numbers of types and in each from the front, with its module, the name of the assignment and
-/// the place: `MarkerPlace`, `AdditionOrder` or `DefaultAddition`, or `Memory`. The modules' lists are sound, as
-/// linking leaves them.
+/// Whether bounded modules are as extension markers require (X.680, clauses 20, 25, 27 and 29). If not, the fault is
+/// the first one, by the numbers of types, and in each type by the order of its text. It has the module, the name of
+/// the assignment and the place: `MarkerPlace`, `AdditionOrder` or `DefaultAddition`. `Memory`: an allocation failed.
+/// The modules' lists are sound, as linking guarantees.
 pub fn additions(alloc: Global, bounded: &Bounded<'_>) -> Result<(), ExtFault>
     requires sound { AreSound bounded.now.types }
     ensures { MatchResult result (λ _. KeepAdditions bounded.now.types) (Stands bounded.now) }

@@ -1,5 +1,5 @@
-//! What follows of programs whose lists and enumerations keep what extension markers ask. A caller calls a law to know
-//! it; it takes no memory and no time.
+//! What follows for programs whose lists and enumerations are as extension markers require. A caller calls a law to
+//! know it; a law takes no memory and no time.
 
 ghost use Rattle.std.specs.Prelude.{◌≡◌};
 ghost use Rattle.resolve.specs.Program.{Program};
@@ -8,8 +8,8 @@ ghost use Rattle.additions.specs.Faults.{Stands};
 ghost use Rattle.additions.specs.declared.fault.ExtFault.{ExtFault};
 ghost use Rattle.additions.specs.declared.fault.ExtFault.TheVariants.{Memory};
 
-/// Modules in which a fault stands, other than want of memory, don't keep what extension markers ask: so `additions`
-/// succeeds, memory apart, just where they do.
+/// If a fault of modules other than `Memory` is true, they aren't as extension markers require. So `additions` succeeds
+/// if and only if they are, unless an allocation fails.
 pub fn no_other()
     ensures { (p : Program) (e : ExtFault) → (e ≡ Memory → ⊥) → Stands p e → KeepAdditions p.types → ⊥ }
 {}

@@ -1,4 +1,4 @@
-//! Extension markers in bounded modules: what stands behind them, in order.
+//! Checks extension markers in bounded modules, and the order of the additions after them.
 #![tactic(auto)]
 
 mod check;

@@ -1,4 +1,4 @@
-//! What extension markers ask of the members of a list.
+//! What extension markers require of the members of a list.
 
 ghost use Rattle.std.specs.Prelude.{◌≡◌, ◌↔◌, ◌<◌, ◌≤◌, ℕ, false, Some, List, length, map, slice_get, IsTrue, IsFalse, IfOk, MatchOption};
 ghost use Rattle.type_table.specs.Seen.{part_of};
@@ -38,7 +38,7 @@ fn has_default(component: &ListMember) -> bool
     }
 }
 
-/// Whether a member is of these version brackets of its list.
+/// Whether a member is in these version brackets of its list.
 fn is_of_group(component: &ListMember, group: usize) -> bool
     ensures { IsTrue result ↔ IsOfGroup group (part_of component.now) }
 {
@@ -48,7 +48,7 @@ fn is_of_group(component: &ListMember, group: usize) -> bool
     }
 }
 
-/// The version brackets that a member is of.
+/// The number of the version brackets that a member is in, or None if it is in none.
 fn group_of(component: &ListMember) -> Option<usize>
     ensures { MatchOption result
         ((g : ℕ) → IsOfGroup g (part_of component.now) → ⊥)
@@ -60,7 +60,7 @@ fn group_of(component: &ListMember) -> Option<usize>
     }
 }
 
-/// Whether one of the first members is of these version brackets.
+/// Whether one of the first `before` members is in these version brackets.
 fn is_seen(components: &[ListMember], before: usize, group: usize) -> bool
     requires { before ≤ length components.now }
     ensures { IsTrue result ↔ IsSeenBefore (map part_of components.now) before group }
@@ -73,7 +73,7 @@ fn is_seen(components: &[ListMember], before: usize, group: usize) -> bool
     false
 }
 
-/// Whether a member is of version brackets that were left before it.
+/// Whether a member is in version brackets that ended before it.
 fn is_parted(components: &[ListMember], at: usize) -> bool
     requires there { at < length components.now }
     requires before { AreTogetherBefore (map part_of components.now) at }
@@ -95,7 +95,7 @@ fn is_parted(components: &[ListMember], at: usize) -> bool
     }
 }
 
-/// Whether an addition stands directly before a member.
+/// Whether the member directly before this one is an addition.
 fn follows_addition(components: &[ListMember], at: usize) -> bool
     requires { at < length components.now }
     ensures { IsTrue result ↔ FollowsAddition (map part_of components.now) at }
@@ -106,7 +106,7 @@ fn follows_addition(components: &[ListMember], at: usize) -> bool
     is_addition(&components[at - 1])
 }
 
-/// Whether a member stands where the extension marker doesn't let it.
+/// Whether a member is at a place that the extension marker doesn't allow.
 fn is_misplaced(marker: bool, components: &[ListMember], at: usize) -> bool
     requires there { at < length components.now }
     requires before { ArePlacedBefore marker (map part_of components.now) at }
@@ -123,7 +123,7 @@ fn is_misplaced(marker: bool, components: &[ListMember], at: usize) -> bool
     is_parted(components, at)
 }
 
-/// The tag that stands first in an alternative of a CHOICE.
+/// The first tag of an alternative of a CHOICE.
 fn tag_at(
     alloc: Global,
     tagged: &Tagged<'_>,
@@ -142,7 +142,7 @@ fn tag_at(
     }
 }
 
-/// Whether an alternative of a CHOICE is an addition whose tag doesn't stand behind those of the additions before it.
+/// Whether an alternative of a CHOICE is an addition whose tag doesn't come after those of the additions before it.
 fn is_disordered(
     alloc: Global,
     tagged: &Tagged<'_>,
@@ -201,7 +201,7 @@ fn is_default_addition(components: &[ListMember], at: usize) -> bool
     has_default(&components[at])
 }
 
-/// The rule that a member breaks, if it breaks one.
+/// The rule that a member breaks, or None if it breaks none.
 fn member_breaks(
     alloc: Global,
     tagged: &Tagged<'_>,
@@ -231,7 +231,7 @@ fn member_breaks(
     Ok(None)
 }
 
-/// The first member that breaks a rule, if there is one.
+/// The first member that breaks a rule, or None if there is none.
 pub(crate) fn list_breaks(
     alloc: Global,
     tagged: &Tagged<'_>,

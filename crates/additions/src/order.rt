@@ -14,7 +14,7 @@ use asn_base::tag::{Class, Tag};
 use std::alloc::{AllocError, Global};
 use tagging::{FormedTag, Tagged, tags_of};
 
-/// The place of a class among classes: universal, application, context, private.
+/// The place of a class in the order of classes: universal, application, context-specific, private.
 fn rank(class: Class) -> u8
     ensures { result ≡ class_rank class }
 {
@@ -26,7 +26,7 @@ fn rank(class: Class) -> u8
     }
 }
 
-/// Whether a tag stands before another one in canonical order.
+/// Whether a tag comes before another one in the canonical order.
 pub(crate) fn comes_before(earlier: Tag, later: Tag) -> bool
     ensures { IsTrue result ↔ LabelBefore (label earlier) (label later) }
 {
@@ -34,7 +34,7 @@ pub(crate) fn comes_before(earlier: Tag, later: Tag) -> bool
         || (rank(earlier.class) == rank(later.class) && earlier.number < later.number)
 }
 
-/// What linked modules with their tags keep.
+/// What is known of linked modules with their tags.
 pub(crate) fn facts(tagged: &Tagged<'_>)
     ensures linked { IsLinked tagged.now.types }
     ensures tagged { IsTagged tagged.now.types }
@@ -44,7 +44,7 @@ pub(crate) fn facts(tagged: &Tagged<'_>)
     let _types = linked.types();
 }
 
-/// The outermost of some tags.
+/// The outermost of some tags, or None if there are none.
 fn outermost(path: &[FormedTag]) -> Option<Tag>
     ensures { MatchOption result
         (path_of path.now ≡ [])
@@ -56,7 +56,7 @@ fn outermost(path: &[FormedTag]) -> Option<Tag>
     }
 }
 
-/// The tag that stands first in a type which is no untagged CHOICE.
+/// The first tag of a type that isn't an untagged CHOICE.
 pub(crate) fn first_tag(alloc: Global, tagged: &Tagged<'_>, ty: usize) -> Result<Tag, AllocError>
     requires there { ty < length tagged.now.types }
     requires bears { Tags tagged.now.types ty [] → ⊥ }

@@ -1,4 +1,4 @@
--- What it takes for a value that holds others to be of a kind, part by part.
+-- When a value that holds others is of a kind, part by part.
 use Rattle.std.specs.Prelude.{◌≡◌, ℕ, ◌+◌, ◌*◌, ◌<◌, ◌++◌, Bool, false, suc, List, [], ◌∷◌, Option, Some, None}
 use Rattle.std.specs.Prelude.{get_or, slice_get}
 use Rattle.asn_base.specs.Abstract.{AbstractValue, fields, list, alternative, Row, end, present}
@@ -8,11 +8,11 @@ use Rattle.asn_base.specs.Typed.{IsAllowedSize, members, IsOfGroup, HasOfGroup, 
 use Rattle.asn_base.specs.Typed.{AreComponents, AreElements, nodes}
 use Rattle.asn_base.specs.Same.{Alike}
 
--- the value is that of the alternative with its number
+-- the value is one of the type of alternative i
 abbrev pub IsChosen : List Resolved → ℕ → List Alternative → ℕ → AbstractValue → Type 0
 IsChosen s n as' i v = (a : Alternative) × (slice_get as' i ≡ Some a) × ValueIn s n a.type v
 
--- a value of this kind that holds others, which have at most n levels
+-- a value of this kind that holds other values, each of which has at most n levels
 abbrev pub Holds : List Resolved → ℕ → Kind → AbstractValue → Type 0
 Holds s n (a_sequence e cs) (fields vs) = AreComponents s n cs vs × GroupsAreWhole cs vs
 Holds s n (a_set e cs) (fields vs) = AreComponents s n cs vs × GroupsAreWhole cs vs
@@ -21,35 +21,35 @@ Holds s n (a_set_of c u) (list vs) = AreElements s n u vs × IsAllowedSize c (me
 Holds s n (a_choice root e more) (alternative i v) = IsChosen s n (root ++ more) i v
 Holds s n k v = ⊥
 
--- a value of the component, or none where it may be absent
+-- a value of the component, or its absence, if the component may be absent
 abbrev pub IsComponent : List Resolved → ℕ → Component → Option AbstractValue → Type 0
 IsComponent s n c None = MayBeAbsent s n c.type c.presence
 IsComponent s n c (Some v) = ValueIn s n c.type v
 
--- the nodes of a value that may be absent
+-- the nodes of a value; an absent one has none
 abbrev pub nodes_of : Option AbstractValue → ℕ
 nodes_of None = 0
 nodes_of (Some v) = nodes v
 
--- where some of these components are present, their groups are whole among all
+-- if a component of a group is present among ds, no component of that group is missing among cs
 abbrev pub GroupsOfAreWhole : List Component → Row → List Component → Row → Type 0
 GroupsOfAreWhole cs vs ds ws = (g : ℕ) → HasOfGroup g ds ws → LacksOfGroup g cs vs → ⊥
 
--- the component is absent, and is to stand where its group g does
+-- the component is absent, but it must be present if a component of group g is
 abbrev pub IsDue : ℕ → Component → Option AbstractValue → Type 0
 IsDue g c None = c.presence ≡ addition false (Some g)
 IsDue g c (Some v) = ⊥
 
--- the component is present, of group g
+-- the component is present, and it is of group g
 abbrev pub IsPresentOf : ℕ → Component → Option AbstractValue → Type 0
 IsPresentOf g c None = ⊥
 IsPresentOf g c (Some v) = IsOfGroup g c
 
--- two have the same bits but for zeros at the end
+-- two lists have the same bits, except for zeros at the end
 abbrev pub AreAlikeBits : List Bool → List Bool → Type 0
 AreAlikeBits a b = (i : ℕ) → get_or a i false ≡ get_or b i false
 
--- the eight bits from 8 * j on are the same, where bits behind the end are zeros
+-- the eight bits from offset 8 * j on are the same, and bits after the end count as zeros
 abbrev pub HaveSameOctet : List Bool → List Bool → ℕ → Type 0
 HaveSameOctet a b j = (k : ℕ) → k < 8 → get_or a (8 * j + k) false ≡ get_or b (8 * j + k) false
 
@@ -60,22 +60,22 @@ IsFlat (list vs) = ⊥
 IsFlat (alternative i v) = ⊥
 IsFlat v = Unit {0}
 
--- the component's default is alike to the value
+-- the component has a default, and its default is alike to the value
 abbrev pub HasDefaultAlike : List Resolved → Component → AbstractValue → Type 0
 HasDefaultAlike s c v = (d : AbstractValue) × (c.presence ≡ default d) × Alike s c.type d v
 
--- two values of a component are alike, where an absent one counts as its default
+-- two values of a component are alike; an absent one counts as the component's default
 abbrev pub AlikeAt : List Resolved → Component → Option AbstractValue → Option AbstractValue → Type 0
 AlikeAt s c None None = Unit {0}
 AlikeAt s c None (Some w) = HasDefaultAlike s c w
 AlikeAt s c (Some v) None = HasDefaultAlike s c v
 AlikeAt s c (Some v) (Some w) = Alike s c.type v w
 
--- two values of the alternative with this number are alike
+-- two values of the type of alternative i are alike
 abbrev pub AlikeChosen : List Resolved → List Alternative → ℕ → AbstractValue → AbstractValue → Type 0
 AlikeChosen s as' i v w = (a : Alternative) × (slice_get as' i ≡ Some a) × Alike s a.type v w
 
--- so many members of the row are alike to x
+-- n members of the row are alike to x
 pub data Count (s : List Resolved) (u : ℕ) (x : AbstractValue) : Row → ℕ → Type 0 where
   no_more : Count s u x end 0
   counted : {v : AbstractValue} {vs : Row} {n : ℕ} → Alike s u x v → Count s u x vs n → Count s u x (present v vs) (suc n)
@@ -84,11 +84,11 @@ pub data Count (s : List Resolved) (u : ℕ) (x : AbstractValue) : Row → ℕ �
       → Count s u x vs n
       → Count s u x (present v vs) n
 
--- as many members of one row as of the other are alike to x
+-- both rows have the same number of members that are alike to x
 abbrev pub IsAsOften : List Resolved → ℕ → AbstractValue → Row → Row → Type 0
 IsAsOften s u x vs ws = (n : ℕ) × Count s u x vs n × Count s u x ws n
 
--- so is each member of a row
+-- for each value of the list, both rows have the same number of members that are alike to it
 abbrev pub AreAsOften : List Resolved → ℕ → List AbstractValue → Row → Row → Type 0
 AreAsOften s u [] vs ws = Unit {0}
 AreAsOften s u (x ∷ xs) vs ws = IsAsOften s u x vs ws × AreAsOften s u xs vs ws

@@ -6,7 +6,7 @@ ghost use Rattle.std.specs.Prelude.{◌≡◌, ◌+◌, ◌*◌, ◌<◌, ◌↔
 
 use crate::value::BitString;
 
-/// How many bits it has.
+/// The number of bits in the string.
 pub(crate) fn bit_count(bits: &BitString) -> u128
     ensures count { result ≡ length (bits_of bits.now) }
     ensures small { result < 2 ^ 127 }
@@ -15,7 +15,7 @@ pub(crate) fn bit_count(bits: &BitString) -> u128
     8 * octets - u128::from(bits.unused)
 }
 
-/// The bit of an octet at a place, the highest at 0.
+/// The bit of an octet at a place: 0 is the highest bit, 7 the lowest.
 fn bit_of_octet(octet: u8, place: u8) -> bool
     requires { place < 8 }
     ensures { result ≡ get_or (bits_of_octet octet) place false }
@@ -32,7 +32,7 @@ fn bit_of_octet(octet: u8, place: u8) -> bool
     }
 }
 
-/// The bit at a place of an octet, false behind the last bit.
+/// The bit at a place of an octet, false after the last bit of the string.
 fn bit(bits: &BitString, octet: usize, place: u8) -> bool
     requires { place < 8 }
     ensures { result ≡ get_or (bits_of bits.now) (8 * octet + place) false }
@@ -47,7 +47,7 @@ fn bit(bits: &BitString, octet: usize, place: u8) -> bool
     bit_of_octet(bits.octets[octet], place)
 }
 
-/// Whether two have the same eight bits in an octet, false behind the last bit.
+/// Whether two strings have the same eight bits in an octet; a bit after the last one counts as false.
 fn have_same_octet(first: &BitString, second: &BitString, octet: usize) -> bool
     ensures { IsTrue result ↔ HaveSameOctet (bits_of first.now) (bits_of second.now) octet }
 {
@@ -59,7 +59,7 @@ fn have_same_octet(first: &BitString, second: &BitString, octet: usize) -> bool
     true
 }
 
-/// Whether two are alike but for zeros at the end.
+/// Whether two strings have the same bits, except for zeros at the end.
 pub(crate) fn are_alike_bits(first: &BitString, second: &BitString) -> bool
     ensures { IsTrue result ↔ AreAlikeBits (bits_of first.now) (bits_of second.now) }
 {
@@ -71,7 +71,7 @@ pub(crate) fn are_alike_bits(first: &BitString, second: &BitString) -> bool
     true
 }
 
-/// Whether two have the same bits.
+/// Whether two strings have the same bits.
 pub(crate) fn are_equal_bits(first: &BitString, second: &BitString) -> bool
     ensures { IsTrue result ↔ (bits_of first.now ≡ bits_of second.now) }
 {

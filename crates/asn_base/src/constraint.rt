@@ -1,4 +1,4 @@
-//! What constraints leave of the numbers or sizes of a type (X.680, 51).
+//! What constraints allow of the numbers or sizes of a type (X.680, 51).
 
 ghost use Rattle.std.specs.Prelude.{◌≡◌};
 ghost use Rattle.asn_base.specs.Seen.{constraint_of};
@@ -19,8 +19,8 @@ pub struct Bounds {
     pub extensible: bool,
 }
 
-/// What the constraints of a type leave: the members of `allowed` (every one where it is None), and the bounds of the
-/// root, which the packed encoding sees.
+/// What the constraints of a type allow: the numbers in the ranges of `allowed`, or every number if it is None.
+/// `visible` has the bounds of the root, which the packed encoding uses (X.691, 10.3).
 #[derive(Drop)]
 pub struct Constraint {
     pub allowed: Option<Vec<Range>>,
@@ -28,7 +28,7 @@ pub struct Constraint {
 }
 
 impl Constraint {
-    /// Every number is allowed.
+    /// The constraint that allows every number.
     pub fn any_number() -> Self
         ensures { constraint_of result ≡ any_number }
     {
@@ -42,7 +42,7 @@ impl Constraint {
         }
     }
 
-    /// Every size is allowed, from 0.
+    /// The constraint that allows every size, from 0.
     pub fn any_size() -> Self
         ensures { constraint_of result ≡ any_size }
     {

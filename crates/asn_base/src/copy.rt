@@ -1,4 +1,4 @@
-//! Copies of values. Each refuses for want of memory alone.
+//! Copies of values. Each fails only if an allocation fails.
 
 ghost use Rattle.asn_base.specs.Abstract.{abstract, bits_of};
 ghost use Rattle.std.specs.Prelude.{◌≡◌, ◌++◌, ◌∷◌, [], IfOk, OnOk, map, option_map};
@@ -8,7 +8,7 @@ use crate::value::{BitString, Value};
 use std::alloc::{AllocError, Global};
 
 impl BitString {
-    /// Another one with the same bits, or `AllocError` for want of memory alone.
+    /// Returns another string with the same bits. `AllocError` comes only if an allocation fails.
     pub fn copy(&self) -> Result<BitString, AllocError>
         ensures { IfOk result (λ b. bits_of b ≡ bits_of self.now) }
     {
@@ -17,8 +17,8 @@ impl BitString {
 }
 
 impl Value {
-    /// An equal value in memory of its own, or `AllocError` for want of memory alone. It calls itself once for each
-    /// level of the value, as letting a value go does: a value of a schema has at most 64 levels.
+    /// Returns an equal value in memory of its own. `AllocError` comes only if an allocation fails. The function calls
+    /// itself once for each level of the value, as dropping a value does. A value of a schema has at most 64 levels.
     pub fn copy(&self, alloc: Global) -> Result<Value, AllocError>
         ensures { IfOk result (λ v. abstract v ≡ abstract self.now) }
     {
@@ -26,7 +26,7 @@ impl Value {
     }
 }
 
-/// Adds one more.
+/// Appends one element. `AllocError` comes only if an allocation fails.
 pub(crate) fn add<T: Drop>(list: &mut Vec<T>, one: T) -> Result<(), AllocError>
     ensures { OnOk result (list.new.items ≡ list.old.items ++ one ∷ []) }
 {
@@ -59,7 +59,7 @@ fn copied(alloc: Global, value: &Value) -> Result<Value, AllocError>
     }
 }
 
-/// Copies of components, absent ones where they are.
+/// Copies of components; an absent component is absent in the copy.
 #[cycle(copies)]
 fn copied_fields(alloc: Global, values: &[Option<Value>]) -> Result<Vec<Option<Value>>, AllocError>
     ensures { IfOk result (λ vs. map (option_map abstract) vs.items ≡ map (option_map abstract) values.now) }

@@ -1,4 +1,4 @@
-//! Whether a value is one of a type.
+//! Whether a value is one of the values of a type.
 
 ghost use Rattle.asn_base.specs.Abstract.{abstract, row_of_list, row_of_options};
 ghost use Rattle.asn_base.specs.Decided.{Holds, IsChosen, IsComponent, nodes_of};
@@ -17,8 +17,9 @@ use crate::schema::{Alternatives, Component, Core, Presence, Schema, TypeId};
 use crate::value::Value;
 use limits::{MAX_LEVELS, MAX_NODES};
 
-/// Whether it is a value of the type: shape, constraints, items, named bits, alphabets, groups of additions, at most 64
-/// levels and at most 2^24 nodes. It is none where the schema lacks the type. It takes no memory.
+/// Whether the value is one of the type `id`: shape, constraints, items, named bits, alphabets, groups of additions, at
+/// most 64 levels and at most 2^24 nodes. The answer is false if the schema lacks the type. The function takes no
+/// memory.
 pub fn is_value(value: &Value, schema: &Schema, id: TypeId) -> bool
     ensures { IsTrue result ↔ IsValue schema.now id.index (abstract value.now) }
 {
@@ -26,15 +27,15 @@ pub fn is_value(value: &Value, schema: &Schema, id: TypeId) -> bool
     is_judged(value, schema, schema.depths(), MAX_LEVELS, id, &mut left) && left > 0
 }
 
-/// Whether it is a value of the type, the limit on nodes apart. A value of any depth may be asked of: what lies below
-/// 64 levels isn't looked at.
+/// Whether the value is one of the type, except for the limit on nodes. The value may have any depth: levels below the
+/// 64th aren't looked at.
 pub fn is_value_without_nodes(value: &Value, schema: &Schema, id: TypeId) -> bool
     ensures { IsTrue result ↔ IsValueWithoutNodes schema.now id.index (abstract value.now) }
 {
     is_within(value, schema, schema.depths(), MAX_LEVELS, id)
 }
 
-/// Whether it is a value of the type with at most this many levels, the limit on nodes apart.
+/// Whether the value is one of the type with at most `levels` levels, except for the limit on nodes.
 pub(crate) fn is_within(
     value: &Value,
     schema: &Schema,
@@ -49,8 +50,8 @@ pub(crate) fn is_within(
     is_judged(value, schema, depths, levels, id, &mut left)
 }
 
-/// Whether it is a value of the type with at most this many levels. Its nodes are taken from `left`, of which none is
-/// left where it has as many or more.
+/// Whether the value is one of the type with at most `levels` levels. If it is, its number of nodes is subtracted from
+/// `left`, which becomes 0 if the value has as many or more.
 #[cycle(within)]
 #[inline(always)]
 fn is_judged(
@@ -76,7 +77,7 @@ fn is_judged(
     is_any(value, schema, depths, levels, id, left)
 }
 
-/// The same of a type that the schema has, whatever its kind.
+/// The same question for a type that the schema has, of any kind.
 #[cycle(within)]
 fn is_any(
     value: &Value,
@@ -97,8 +98,8 @@ fn is_any(
     fits(core, value) || holds(core, value, schema, depths, levels - 1, id, left)
 }
 
-/// Whether it is a value of the kind that holds others, each with at most this many levels. The nodes in it are taken
-/// from `left`.
+/// Whether the value is one of a kind that holds other values, each with at most `levels` levels. Their number of nodes
+/// is subtracted from `left`.
 #[cycle(within)]
 #[inline(always)]
 fn holds(
@@ -181,7 +182,7 @@ fn holds(
     }
 }
 
-/// Whether these are the components of a value, with whole groups.
+/// Whether these are the components of a value, with groups that are whole.
 #[cycle(within)]
 fn are_fields(
     components: &[Component],
@@ -216,7 +217,7 @@ fn are_fields(
     true
 }
 
-/// Whether it is a value of the component at this place, or none where that may be.
+/// Whether the value is one of the component at this place, or is absent where the component may be absent.
 #[cycle(within)]
 #[inline(always)]
 fn is_component(
@@ -253,7 +254,7 @@ fn is_component(
     }
 }
 
-/// Whether these are the elements of a value, as many as are allowed.
+/// Whether these are the elements of a value, and their number is allowed.
 #[cycle(within)]
 fn are_elements(
     size: &Constraint,
@@ -281,7 +282,7 @@ fn are_elements(
     true
 }
 
-/// Whether it is the value of the alternative with this number.
+/// Whether the value is one of the alternative with this number.
 #[cycle(within)]
 fn is_chosen(
     alternatives: &Alternatives,
@@ -305,7 +306,7 @@ fn is_chosen(
     }
 }
 
-/// The type of the alternative with this number.
+/// The type of the alternative with this number, from 0 over both lists, or None if there is no such alternative.
 pub(crate) fn chosen_type(alternatives: &Alternatives, index: usize) -> Option<TypeId>
     ensures { MatchOption result
         (slice_get (map alternative_of alternatives.now.root.items ++ map alternative_of alternatives.now.additions.items) index ≡ None)

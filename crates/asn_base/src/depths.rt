@@ -10,7 +10,7 @@ use crate::decide::is_within;
 use crate::schema::{Component, Core, Presence, Schema, TypeId};
 use std::alloc::{AllocError, Global};
 
-/// The number at a place of a table, 1 where it has none.
+/// The number at a place of a table, 1 if the table has none there.
 fn depth(rows: &[Vec<u8>], ty: usize, place: usize) -> u8
     ensures { result ≡ depth_at (rows_of rows.now) ty place }
 {
@@ -24,7 +24,7 @@ fn depth(rows: &[Vec<u8>], ty: usize, place: usize) -> u8
     row[place]
 }
 
-/// The levels of the default of a type's component, where there is a table.
+/// The levels of the default of a type's component, or None if there is no table.
 pub(crate) fn depth_of(table: &Option<Vec<Vec<u8>>>, id: TypeId, place: usize) -> Option<u8>
     ensures { result ≡ option_map (λ v. depth_at (rows_of v.items) id.index place) table.now }
 {
@@ -34,7 +34,7 @@ pub(crate) fn depth_of(table: &Option<Vec<Vec<u8>>>, id: TypeId, place: usize) -
     }
 }
 
-/// The levels of a component's default, told up to one more than before.
+/// The levels of a component's default, exact up to one level more than in the table before.
 fn next_depth(
     component: &Component,
     id: TypeId,
@@ -76,7 +76,7 @@ fn components_of(core: &Core) -> &[Component]
     }
 }
 
-/// The row of a type, told up to one more than before.
+/// The row of a type, exact up to one level more than in the table before.
 fn next_row(
     alloc: Global,
     components: &[Component],
@@ -99,7 +99,7 @@ fn next_row(
     Ok(row)
 }
 
-/// The table, told up to one more than before.
+/// The table, exact up to one level more than the table before.
 fn next_rows(
     alloc: Global,
     schema: &Schema,
@@ -128,7 +128,7 @@ fn next_rows(
     Ok(rows)
 }
 
-/// Whether a number of the row is above the most.
+/// Whether a number of the row is greater than `most`.
 fn row_above(row: &[u8], most: u8) -> bool
     requires { 0 < most }
     ensures { result ≡ false → (j : ℕ) → in_row row.now j ≤ most }
@@ -141,7 +141,7 @@ fn row_above(row: &[u8], most: u8) -> bool
     false
 }
 
-/// Whether a number of the table is above the most.
+/// Whether a number of the table is greater than `most`.
 fn is_above(rows: &[Vec<u8>], most: u8) -> bool
     requires { 0 < most }
     ensures { result ≡ false → NoneAbove most (rows_of rows.now) }
@@ -154,8 +154,9 @@ fn is_above(rows: &[Vec<u8>], most: u8) -> bool
     false
 }
 
-/// The levels of all defaults: first those with one level, then with two, each by the table of the fewer. It goes over
-/// the defaults once for each level of the deepest.
+/// The levels of all defaults: first of those with one level, then of those with two, each by the table of the levels
+/// before. The function reads all defaults once for each level of the deepest one. `AllocError` comes only if an
+/// allocation fails.
 pub(crate) fn found(alloc: Global, schema: &Schema) -> Result<Option<Vec<Vec<u8>>>, AllocError>
     ensures { IfOk result (AreKnown schema.now 63) }
 {

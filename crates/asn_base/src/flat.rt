@@ -13,7 +13,7 @@ use crate::law::abstract_values;
 use crate::schema::Core;
 use crate::value::Value;
 
-/// Whether two are equal. One that holds others is equal to none here.
+/// Whether two values that hold no others are equal. A value that holds others is equal to none here.
 fn are_equal(first: &Value, second: &Value) -> bool
     ensures { IsFlat (abstract first.now) → (IsTrue result ↔ (abstract first.now ≡ abstract second.now)) }
 {

@@ -10,7 +10,7 @@ ghost use Rattle.std.specs.Prelude.{◌≡◌, ◌↔◌, ℕ, IsTrue, Some, fal
 use crate::schema::{Component, Presence};
 use crate::value::Value;
 
-/// The group of a component, if it has one.
+/// The group of a component, or None if it is in no group.
 #[inline(always)]
 fn group(presence: &Presence) -> Option<usize>
     ensures { result ≡ group_of (presence_of presence.now) }
@@ -21,7 +21,7 @@ fn group(presence: &Presence) -> Option<usize>
     }
 }
 
-/// Whether a component of the group is to stand wherever one of the group does.
+/// Whether a component must be present if a component of the group is: it is one of the group, and isn't OPTIONAL.
 fn is_due(presence: &Presence, group: usize) -> bool
     ensures { IsTrue result ↔ (presence_of presence.now ≡ addition false (Some group)) }
 {
@@ -34,7 +34,7 @@ fn is_due(presence: &Presence, group: usize) -> bool
     }
 }
 
-/// Whether the component is absent though its group is to have it.
+/// Whether the component is absent, although it must be present if another component of the group is.
 fn is_missing(group: usize, component: &Component, value: &Option<Value>) -> bool
     ensures { IsTrue result ↔ IsDue group (component_of component.now) (option_map abstract value.now) }
 {
@@ -58,7 +58,7 @@ fn lacks(group: usize, components: &[Component], values: &[Option<Value>]) -> bo
     false
 }
 
-/// The group of a component that is present.
+/// The group of a component that is present, or None if it is absent or in no group.
 #[inline(always)]
 fn standing_group(component: &Component, value: &Option<Value>) -> Option<usize>
     ensures { (g : ℕ) → (result ≡ Some g ↔ IsPresentOf g (component_of component.now) (option_map abstract value.now)) }
@@ -69,8 +69,8 @@ fn standing_group(component: &Component, value: &Option<Value>) -> Option<usize>
     }
 }
 
-/// Whether no component of this one's group is missing, if it is present: groups are whole where this holds of each
-/// component. One of a group that is present costs a look at all components.
+/// Whether no component of this component's group is missing, if this component is present. If this holds for each
+/// component, all groups are whole. For a component of a group that is present, the function reads all components once.
 #[inline(always)]
 pub(crate) fn is_kept(
     component: &Component,

@@ -14,7 +14,7 @@ ghost use Rattle.asn_base.specs.Accepted.{IsAccepted, IsAcceptedType};
 ghost use Rattle.asn_base.specs.Schemas.{IsSchema};
 ghost use Rattle.asn_base.specs.Tags.{AllTagged, AllTellable};
 
-/// What each variant of a value is without memory.
+/// Gives the abstract value of each variant of a value.
 pub fn abstract_values()
     ensures bool { (b : 𝔹) → abstract (Bool b) ≡ boolean b }
     ensures int { (z : ℤ) → abstract (Int z) ≡ integer z }
@@ -31,13 +31,13 @@ pub fn abstract_values()
     ensures alt { (i : ℕ) (b : Box Value Global') → abstract (Alt i b) ≡ alternative i (abstract b.value) }
 {}
 
-/// A number of 128 bits is within the limit of INTEGER.
+/// Every number of 128 bits is within the limit of INTEGER.
 pub fn integer_within_limit(number: i128)
     ensures { IsWithinLimit number }
 {}
 
-/// Each type of a schema that today's writer takes is one that it takes. A schema without types is taken, and one stays
-/// so with one more type that is.
+/// Each type of a schema of simple types is an accepted one. The schema without types is accepted, and an accepted
+/// schema stays accepted if an accepted type is added to it.
 pub fn schemas_grow()
     ensures each { (s : List Resolved) (t : ℕ) (r : Resolved)
         → slice_get s t ≡ Some r
@@ -50,18 +50,18 @@ pub fn schemas_grow()
         → IsAccepted (s ++ (r ∷ [])) }
 {}
 
-/// What the types of today's writer keep is what a schema keeps.
+/// Each schema of simple types is a schema.
 pub fn accepted_are_schemas()
     ensures { (s : List Resolved) → IsAccepted s → IsSchema s }
 {}
 
-/// Each type of an accepted schema but a CHOICE has a tag, and first tags are distinct where they must be.
+/// Each type of an accepted schema, except a CHOICE, has a tag, and first tags are distinct where they must be.
 pub fn accepted_are_told_apart()
     ensures tagged { (s : List Resolved) → IsAccepted s → AllTagged s }
     ensures tellable { (s : List Resolved) → IsAccepted s → AllTellable s }
 {}
 
-/// In an accepted schema of today the limit on nodes is never passed: members are at most 256, and hold no others.
+/// A value of an accepted schema is within the limit on nodes: it has at most 256 members, which hold no others.
 pub fn few_nodes()
     ensures nodes { (s : List Resolved) (n t : ℕ) (v : AbstractValue) → IsAccepted s → ValueIn s n t v → nodes v ≤ 257 }
     ensures value { (s : List Resolved) (t : ℕ) (v : AbstractValue)
@@ -70,14 +70,14 @@ pub fn few_nodes()
         → IsValue s t v }
 {}
 
-/// Where no component stands in version brackets, all groups are whole.
+/// If no component is written in version brackets, all groups are whole.
 pub fn without_groups()
     ensures { (cs : List Component) (vs : Row)
         → AllByRecursion (λ c. group_of c.presence ≡ None) cs
         → GroupsAreWhole cs vs }
 {}
 
-/// Values that are alike have the same groups whole, and as many levels.
+/// Values that are alike have the same whole groups, and the same number of levels.
 pub fn alike_values()
     ensures groups { (s : List Resolved) (cs : List Component) (vs ws : Row)
         → AlikeComponents s cs vs ws
@@ -88,19 +88,19 @@ pub fn alike_values()
         → ValueIn s n t v
         → ValueIn s m t w
         → ValueIn s n t w }
-    // Whether they are alike can be decided.
+    // It is decidable whether two values are alike.
     ensures decided { (s : List Resolved) (m n t : ℕ) (v w : AbstractValue)
         → ValueIn s n t v
         → ValueIn s m t w
         → Alike s t v w ⊎ (Alike s t v w → ⊥) }
 {}
 
-/// A value with some levels is one with more.
+/// A value with at most m levels is also one with at most n levels, if m is at most n.
 pub fn levels_grow()
     ensures { (s : List Resolved) (t m n : ℕ) (v : AbstractValue) → m ≤ n → ValueIn s m t v → ValueIn s n t v }
 {}
 
-/// Being the same is an equivalence on the values of a type, the limit on nodes apart.
+/// Being the same is an equivalence relation on the values of a type; the limit on nodes doesn't matter.
 pub fn sameness()
     ensures itself { (s : List Resolved) (t : ℕ) (v : AbstractValue) → IsValueWithoutNodes s t v → Same s t v v }
     ensures turned { (s : List Resolved) (t : ℕ) (v w : AbstractValue) → Same s t v w → Same s t w v }

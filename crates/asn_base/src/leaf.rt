@@ -31,7 +31,7 @@ fn is_in_range(range: &Range, number: i128) -> bool
     above && below
 }
 
-/// Whether the number stands in one of the ranges, where these ascend. Of others it may answer false.
+/// Whether the number is in one of the ranges, if these ascend. If they don't, the answer may be a wrong false.
 fn finds_range(ranges: &[Range], number: i128) -> bool
     ensures { IsTrue result → IsInSome number (map range_of ranges.now) }
 {
@@ -57,7 +57,7 @@ fn is_in_some(ranges: &[Range], number: i128) -> bool
     false
 }
 
-/// Whether one of the ranges has the number. Where they ascend, only a number that none has is looked for in each.
+/// Whether one of the ranges has the number. If the ranges ascend, all of them are read only if none has the number.
 fn is_among_ranges(ranges: &[Range], number: i128) -> bool
     ensures { IsTrue result ↔ IsInSome number (map range_of ranges.now) }
 {
@@ -82,7 +82,7 @@ pub(crate) fn is_allowed_size(constraint: &Constraint, size: u128) -> bool
     is_allowed(constraint, size as i128)
 }
 
-/// Whether one of the items has the number, where these ascend. Of others it may answer false.
+/// Whether one of the items has the number, if the items ascend. If they don't, the answer may be a wrong false.
 fn finds_item(items: &[Item], number: i128) -> bool
     ensures { IsTrue result → HasNumber (map item_of items.now) number }
 {
@@ -105,7 +105,7 @@ fn has_item(items: &[Item], number: i128) -> bool
     false
 }
 
-/// Whether an item of the root or behind the marker has the number.
+/// Whether an item of the root or an addition has the number.
 fn has_number(items: &Items, number: i128) -> bool
     ensures { IsTrue result
         ↔ HasNumber (map item_of items.now.root.items ++ map item_of items.now.additions.items) number }
@@ -113,7 +113,8 @@ fn has_number(items: &Items, number: i128) -> bool
     has_item(items.root.as_slice(), number) || has_item(items.additions.as_slice(), number)
 }
 
-/// Whether an item of the root or behind the marker has the number, where both ascend. Of others it may answer false.
+/// Whether an item of the root or an addition has the number, if both lists ascend. If they don't, the answer may be a
+/// wrong false.
 fn finds_number(items: &Items, number: i128) -> bool
     ensures { IsTrue result
         → HasNumber (map item_of items.now.root.items ++ map item_of items.now.additions.items) number }
@@ -121,7 +122,7 @@ fn finds_number(items: &Items, number: i128) -> bool
     finds_item(items.root.as_slice(), number) || finds_item(items.additions.as_slice(), number)
 }
 
-/// Whether an item has the number, which is looked for in each only where none has it: items ascend.
+/// Whether an item has the number. The items ascend, so all of them are read only if none has the number.
 fn is_item(items: &Items, number: i128) -> bool
     ensures { IsTrue result
         ↔ HasNumber (map item_of items.now.root.items ++ map item_of items.now.additions.items) number }
@@ -129,7 +130,7 @@ fn is_item(items: &Items, number: i128) -> bool
     finds_number(items, number) || has_number(items, number)
 }
 
-/// Whether the code stands in the alphabet, where its codes ascend. Of others it may answer false.
+/// Whether the code is in the alphabet, if its codes ascend. If they don't, the answer may be a wrong false.
 fn finds_code(alphabet: &[u8], code: u8) -> bool
     ensures { IsTrue result → IsMember code alphabet.now }
 {
@@ -140,7 +141,7 @@ fn finds_code(alphabet: &[u8], code: u8) -> bool
     }
 }
 
-/// Whether the code stands in the alphabet.
+/// Whether the code is in the alphabet.
 fn has_code(alphabet: &[u8], code: u8) -> bool
     ensures { IsTrue result ↔ IsMember code alphabet.now }
 {
@@ -152,14 +153,14 @@ fn has_code(alphabet: &[u8], code: u8) -> bool
     false
 }
 
-/// Whether the code stands in the alphabet, each code of which is looked at only where it doesn't: codes ascend.
+/// Whether the code is in the alphabet. The codes ascend, so all of them are read only if none is the code.
 fn is_code(alphabet: &[u8], code: u8) -> bool
     ensures { IsTrue result ↔ IsMember code alphabet.now }
 {
     finds_code(alphabet, code) || has_code(alphabet, code)
 }
 
-/// Whether each octet stands in the alphabet.
+/// Whether each octet is a code of the alphabet.
 fn are_codes(alphabet: &[u8], octets: &[u8]) -> bool
     ensures { IsTrue result ↔ AllByRecursion (λ x. IsMember x alphabet.now) octets.now }
 {
@@ -171,7 +172,7 @@ fn are_codes(alphabet: &[u8], octets: &[u8]) -> bool
     true
 }
 
-/// Whether the octets are codes of the alphabet, and as many as are allowed.
+/// Whether each octet is a code of the alphabet, and their number is allowed.
 fn is_string_of(alphabet: &[u8], size: &Constraint, octets: &[u8]) -> bool
     ensures { IsTrue result
         ↔ AllByRecursion (λ x. IsMember x alphabet.now) octets.now
@@ -180,7 +181,7 @@ fn is_string_of(alphabet: &[u8], size: &Constraint, octets: &[u8]) -> bool
     is_allowed_size(size, octets.len() as u128) && are_codes(alphabet, octets)
 }
 
-/// Whether there are as many octets as are allowed.
+/// Whether the number of octets is allowed.
 fn has_allowed_octets(size: &Constraint, octets: &[u8]) -> bool
     ensures octets { AllBelowBase 256 octets.now }
     ensures size { IsTrue result ↔ IsAllowedSize (constraint_of size.now) (length octets.now) }
@@ -188,14 +189,14 @@ fn has_allowed_octets(size: &Constraint, octets: &[u8]) -> bool
     is_allowed_size(size, octets.len() as u128)
 }
 
-/// How many characters it has.
+/// The number of characters in the text.
 fn character_count(text: &str) -> usize
     ensures { result ≡ length (chars text.now) }
 {
     text.chars().count()
 }
 
-/// Whether there are as many characters as are allowed.
+/// Whether the number of characters is allowed.
 fn has_allowed_characters(size: &Constraint, text: &str) -> bool
     ensures utf8 { IsUtf8 text.now }
     ensures size { IsTrue result ↔ IsAllowedSize (constraint_of size.now) (length (chars text.now)) }
@@ -224,7 +225,7 @@ fn is_relative_oid(numbers: &[u64]) -> bool
     !numbers.is_empty() && numbers.len() <= MAX_ARCS
 }
 
-/// Whether the constraint allows every number, or its first range has this one.
+/// Whether the constraint allows every number, or its first range has this number.
 #[inline(always)]
 fn is_in_first(constraint: &Constraint, number: i128) -> bool
     ensures { IsTrue result → IsAllowed (constraint_of constraint.now) number }
@@ -238,8 +239,8 @@ fn is_in_first(constraint: &Constraint, number: i128) -> bool
     }
 }
 
-/// Whether the value is surely a truth, NULL, or a number or octets that the constraint's first range allows, and the
-/// kind is such a one: of most values that hold no others, it says so at once.
+/// Whether a quick test shows that the value is one of the kind: a BOOLEAN, NULL, an INTEGER or an OCTET STRING, which
+/// the constraint's first range allows. For most values that hold no others this test is enough. False decides nothing.
 #[inline(always)]
 pub(crate) fn fits_at_once(core: &Core, value: &Value) -> bool
     ensures { IsTrue result → Fits (kind_of core.now) (abstract value.now) }

@@ -3,7 +3,7 @@
 ghost use Rattle.std.specs.Prelude.{◌≡◌, false};
 ghost use Rattle.asn_base.specs.Names.{goes_on, is_identifier as is_name};
 
-/// Whether letters, digits and single hyphens, the last none, go on a name.
+/// Whether the octets can continue a name: letters, digits and single hyphens, of which none is last.
 fn goes_on(octets: &[u8]) -> bool
     ensures { result ≡ goes_on false octets.now }
 {
@@ -21,7 +21,7 @@ fn goes_on(octets: &[u8]) -> bool
     !behind_hyphen
 }
 
-/// Whether it is an identifier: a small letter, then letters, digits and single hyphens, the last none.
+/// Whether the name is an identifier: a small letter, then letters, digits and single hyphens, of which none is last.
 pub fn is_identifier(name: &str) -> bool
     ensures { result ≡ is_name name.now }
 {

@@ -14,10 +14,11 @@ use crate::schema::{Alternatives, Component, Core, Presence, Schema, TypeId};
 use crate::value::Value;
 use limits::MAX_LEVELS;
 
-/// Whether both are values of the type, the limit on nodes apart, and the same: equal up to the order in a SET OF,
-/// trailing zeros under named bits, and an absent component taken as its DEFAULT, at every level. It takes no memory.
-/// A SET OF of n members costs at most 2 * n * n comparisons of two members, and one where numbers of members differ
-/// none; all else is compared once, and none longer than the shorter of the two, but for zeros under named bits.
+/// Whether both values are of the type, except for the limit on nodes, and are the same. They are equal at every level,
+/// except for the order in a SET OF, zeros at the end under named bits, and an absent component, which counts as its
+/// DEFAULT. The function takes no memory. Two values of a SET OF with n members cost at most 2 * n * n comparisons of
+/// two members, and none if their numbers of members differ. All other parts are compared once, and at most over the
+/// length of the shorter one, except for zeros under named bits.
 pub fn same(first: &Value, second: &Value, schema: &Schema, id: TypeId) -> bool
     ensures { IsTrue result ↔ Same schema.now id.index (abstract first.now) (abstract second.now) }
 {
@@ -26,8 +27,8 @@ pub fn same(first: &Value, second: &Value, schema: &Schema, id: TypeId) -> bool
         && are_alike(first, second, schema, MAX_LEVELS, id)
 }
 
-/// The same for two that are known to be values of the type, which it doesn't look at again: so a short one is compared
-/// with a long DEFAULT in the time of the short one, but for zeros under named bits.
+/// The same question for two values that are known to be of the type, which isn't decided again. A short value is
+/// compared with a long DEFAULT in the time of the short one, except for zeros under named bits.
 pub fn same_values(first: &Value, second: &Value, schema: &Schema, id: TypeId) -> bool
     requires first { IsValueWithoutNodes schema.now id.index (abstract first.now) }
     requires second { IsValueWithoutNodes schema.now id.index (abstract second.now) }
@@ -36,7 +37,7 @@ pub fn same_values(first: &Value, second: &Value, schema: &Schema, id: TypeId) -
     are_alike(first, second, schema, MAX_LEVELS, id)
 }
 
-/// Whether two values of the type with at most this many levels are alike.
+/// Whether two values of the type, each with at most `levels` levels, are alike.
 #[cycle(alike)]
 fn are_alike(first: &Value, second: &Value, schema: &Schema, levels: u8, id: TypeId) -> bool
     ensures { ValueIn schema.now levels id.index (abstract first.now)
@@ -50,7 +51,7 @@ fn are_alike(first: &Value, second: &Value, schema: &Schema, levels: u8, id: Typ
     are_alike_by(core, first, second, schema, levels - 1)
 }
 
-/// Whether two values of the kind are alike, whose members have at most this many levels.
+/// Whether two values of the kind, whose members have at most `levels` levels, are alike.
 #[cycle(alike)]
 fn are_alike_by(core: &Core, first: &Value, second: &Value, schema: &Schema, levels: u8) -> bool
     ensures { ValueOf schema.now levels (kind_of core.now) (abstract first.now)
@@ -273,7 +274,7 @@ fn are_alike_fields(
     true
 }
 
-/// Whether two values of a component are alike, where an absent one counts as its default.
+/// Whether two values of a component are alike; an absent value counts as the component's default.
 #[cycle(alike)]
 fn are_alike_at(
     component: &Component,
@@ -301,7 +302,7 @@ fn are_alike_at(
     }
 }
 
-/// Whether the component's default is alike to the value.
+/// Whether the component has a default that is alike to the value.
 #[cycle(alike)]
 fn is_default_alike(component: &Component, value: &Value, schema: &Schema, levels: u8) -> bool
     ensures { IsComponent schema.now levels (component_of component.now) None
@@ -314,7 +315,7 @@ fn is_default_alike(component: &Component, value: &Value, schema: &Schema, level
     }
 }
 
-/// Whether the elements of two values are alike, each to the one at its place.
+/// Whether the elements of two values are alike, each to the element at the same place.
 #[cycle(alike)]
 fn are_alike_in_order(
     element: TypeId,
@@ -341,8 +342,8 @@ fn are_alike_in_order(
     true
 }
 
-/// Whether the elements of two values are alike, in any order: as many, and each of the first is alike to as many of
-/// the first as of the second.
+/// Whether the elements of two values are alike, in any order. They are if the values have the same number of elements,
+/// and each element of the first is alike to as many elements of the first as of the second.
 #[cycle(alike)]
 fn are_alike_in_any(
     element: TypeId,
@@ -369,7 +370,7 @@ fn are_alike_in_any(
     true
 }
 
-/// Whether as many of the first are alike to the value as of the second.
+/// Whether the first list has as many elements that are alike to the value as the second list has.
 #[cycle(alike)]
 fn is_as_often(
     element: TypeId,
@@ -390,7 +391,7 @@ fn is_as_often(
     count(element, value, first, schema, levels) == count(element, value, second, schema, levels)
 }
 
-/// How many elements are alike to the value.
+/// The number of elements that are alike to the value.
 #[cycle(alike)]
 fn count(element: TypeId, value: &Value, elements: &[Value], schema: &Schema, levels: u8) -> usize
     ensures { ValueIn schema.now levels element.index (abstract value.now)

@@ -1,6 +1,6 @@
 //! The string types whose characters have one octet each (X.680, 41).
 
-/// Which of the four string types it is.
+/// The four string types whose characters have one octet each.
 #[derive(Clone, Copy, PartialEq, Eq, Debug)]
 pub enum StringKind {
     Numeric,

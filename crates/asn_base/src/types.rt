@@ -1,4 +1,4 @@
-//! Copies of types, which share what they are behind their tags. Each refuses for want of memory alone.
+//! Copies of types, which share the `core` of each type. Each fails only if an allocation fails.
 
 ghost use Rattle.asn_base.specs.Seen.{resolved_of, types_of};
 ghost use Rattle.std.specs.Prelude.{◌≡◌, IfOk};

@@ -1,8 +1,7 @@
-mod Dots
 mod Opening
 mod Weaker
 mod Messages
 mod Paths
-mod Once
 mod Answered
 mod Rows
+mod Versions

@@ -13,16 +13,14 @@ use Rattle.encodings.specs.Rules.{Rules, Basic, Distinguished}
 use Rattle.codec_source.specs.declared.fault.ReadFault.{ReadFault}
 use Rattle.codec_source.specs.declared.fault.ReadFault.TheVariants as reading
 use Rattle.ber_message.specs.Messages.{IsEncoding, BeginsEncoding, HasEncodingFirst, HasMessageFirst}
-use Rattle.names.specs.declared.scope.Assigned.{Assigned}
-use Rattle.names.specs.declared.scope.Assigned.TheVariants as assigned
 use Rattle.resolve.specs.Program.{Program}
 use Rattle.messages.specs.declared.fault.Fault.{Fault}
 use Rattle.messages.specs.declared.fault.Fault.TheVariants as faults
 use Rattle.codec_code.specs.Routines.{id_of}
 use Rattle.ber_reader.specs.Readings.{IsRefused}
 use Rattle.asnc.specs.Headline.{IsAnswer, IsMessageOf}
-use Rattle.asnc.specs.Named.{IsNamed, TypeNamed}
-use Rattle.asnc.specs.Reading.{IsNotDer, IsNotReadAs, IsRead, IsUnread, Names, rules_of}
+use Rattle.named_values.specs.Named.{TypeNamed}
+use Rattle.asnc.specs.Reading.{IsNotDer, IsNotReadAs, IsRead, IsUnread, rules_of}
 use Rattle.asnc.specs.Writing.{IsEncoded}
 use Rattle.asnc.specs.declared.reading.Rules.{Rules as Rules'}
 use Rattle.asnc.specs.declared.reading.Rules.TheVariants as asked
@@ -31,16 +29,6 @@ use Rattle.asnc.proofs.Weaker.{basic_of}
 -- a type that has a value is there
 pub type_there : {s : List Resolved} {n t : ℕ} {v : AbstractValue} → ValueIn s n t v → t < length s
 type_there {s} {n} {t} (value_in i o) = slice_get_within s t _ i.found
-
--- a text names one type at most
-pub one_named : (p : Program) (name : List ℕ) (r : Option Assigned) (n : ℕ)
-    → ((a : Assigned) → (r ≡ Some a ↔ IsNamed p name a))
-    → r ≡ Some (assigned.Type n)
-    → Names p name n
-one_named p name r n h e = record {
-  is = (h (assigned.Type n)).0 e;
-  only = λ u k. (let f = sym e ∙ (h (assigned.Type u)).1 k in cc);
-}
 
 -- of two faults it is the one that isn't want of memory
 only_trailing : {Z : Type 0} (r : Result Z ReadFault) (e : ReadFault) → r ≡ Err e → (e ≡ reading.Memory → ⊥)
@@ -117,12 +105,33 @@ message_is_read m = record {
   short = m.short;
 }
 
-none_of : {p : Program} {s : List Resolved} {l : Rules} {name o : List ℕ} {v : AbstractValue} {e : ReadFault} (u : ℕ)
-    (m : IsMessageOf p s name o v) → m.type ≡ u → Says s l m.type m.ber.0 0 o → IsUnread s l u o e → ⊥
-unfolding message_is_read
-none_of {s = s} {l = l} {o = o} {e = e} u m q y r =
+none_of : {s : List Resolved} {l : Rules} {o : List ℕ} {e : ReadFault} (t u : ℕ)
+    (i : IsEncoding s t o) → t ≡ u → Says s l t i.value i.count o → IsUnread s l u o e → ⊥
+none_of {s = s} {l = l} {o = o} {e = e} t u i q y r =
     let n = subst (λ t. IsUnread s l t o e) (sym q) r in
-    n.none (message_is_read m) y
+    n.none i y
+
+-- octets that encode a value of the named type, by the rules that are asked for, are refused for want of memory alone
+pub encoding_is_read : (p : Program) (s : List Resolved) (l : Rules) (name o : List ℕ) (e : Fault) (t : ℕ)
+    (named : TypeNamed p name t)
+    (i : IsEncoding s t o)
+    → Says s l t i.value i.count o
+    → IsNotReadAs p s l name o e
+    → e ≡ faults.Memory
+encoding_is_read p s l name o faults.Memory t m i y r = refl
+encoding_is_read p s l name o (faults.NoType x) t m i y r = absurd (r.1 t m)
+encoding_is_read p s l name o (faults.Unread u) t m i y r = absurd (none_of t r.type i (r.named.only t m) y r.unread.unread)
+encoding_is_read p s l name o (faults.NoValue x) t m i y r = absurd r
+encoding_is_read p s l name o (faults.BadWords x) t m i y r = absurd r
+encoding_is_read p s l name o (faults.Help x) t m i y r = absurd r
+encoding_is_read p s l name o (faults.File x) t m i y r = absurd r
+encoding_is_read p s l name o (faults.NoFile x) t m i y r = absurd r
+encoding_is_read p s l name o (faults.Folder x) t m i y r = absurd r
+encoding_is_read p s l name o (faults.Front x) t m i y r = absurd r
+encoding_is_read p s l name o (faults.Value x) t m i y r = absurd r
+encoding_is_read p s l name o faults.TooLong t m i y r = absurd r
+encoding_is_read p s l name o (faults.Device n) t m i y r = absurd r
+encoding_is_read p s l name o (faults.NotAccount x) t m i y r = absurd r
 
 -- an encoding of a value, by the rules that are asked for, is refused for want of memory alone
 pub never_refused : (p : Program) (s : List Resolved) (l : Rules) (name o : List ℕ) (v : AbstractValue) (e : Fault)
@@ -130,19 +139,8 @@ pub never_refused : (p : Program) (s : List Resolved) (l : Rules) (name o : List
     → Says s l m.type m.ber.0 0 o
     → IsNotReadAs p s l name o e
     → e ≡ faults.Memory
-never_refused p s l name o v faults.Memory m y r = refl
-never_refused p s l name o v (faults.NoType x) m y r = absurd (r.1 m.type m.named)
-never_refused p s l name o v (faults.Unread u) m y r = absurd (none_of r.type m (r.named.only m.type m.named) y r.unread.unread)
-never_refused p s l name o v (faults.NoValue x) m y r = absurd r
-never_refused p s l name o v (faults.BadWords x) m y r = absurd r
-never_refused p s l name o v (faults.Help x) m y r = absurd r
-never_refused p s l name o v (faults.File x) m y r = absurd r
-never_refused p s l name o v (faults.NoFile x) m y r = absurd r
-never_refused p s l name o v (faults.Folder x) m y r = absurd r
-never_refused p s l name o v (faults.Front x) m y r = absurd r
-never_refused p s l name o v (faults.Value x) m y r = absurd r
-never_refused p s l name o v faults.TooLong m y r = absurd r
-never_refused p s l name o v (faults.Device n) m y r = absurd r
+unfolding message_is_read
+never_refused p s l name o v e m y r = encoding_is_read p s l name o e m.type m.named (message_is_read m) y r
 
 -- what is written of a value says it by either rules
 says_by : (l : Rules') {s : List Resolved} {t : ℕ} {w : AbstractValue} {o : List ℕ} → Says s Distinguished t w 0 o

@@ -1,41 +1,14 @@
--- Worked rows: what a text names, by which rules octets are read, and the path of what was being read.
+-- Worked rows: by which rules octets are read, and the path of what was being read.
 use Rattle.std.proofs.Common.{arith, ◌≡◌, ℕ, zero, suc, ◌<◌, true, List, [], ◌∷◌, length, Some, None, refl, get_or}
 use Rattle.std.specs.Prelude.{codes}
 use Rattle.std.specs.Fmt.{digits}
 use Rattle.asn_base.specs.declared.schema.TypeId.{TypeId}
 use Rattle.asn_base.specs.Types.{any_size, a_boolean, a_sequence, a_sequence_of, a_choice, mandatory, optional, Resolved}
 use Rattle.encodings.specs.Rules.{Basic, Distinguished}
-use Rattle.trees.specs.Values.{Name}
 use Rattle.ber_message.specs.declared.open.Part.TheVariants.{Component, Alternative, Element}
-use Rattle.asnc.specs.Named.{IsQualified}
 use Rattle.asnc.specs.Places.{path_of, with_name, with_number}
 use Rattle.asnc.specs.Reading.{rules_of}
 use Rattle.asnc.specs.declared.reading.Rules.TheVariants as asked
-
--- ---- names
-
--- the name M
-abbrev module_name : Name
-module_name = 77 ∷ []
-
-less_is_other : (n m : ℕ) → m < n → n ≡ m → ⊥
-less_is_other n m l e = omega (arith, l, e)
-
--- no dot stands in it
-no_dot : (i : ℕ) → i < length module_name → get_or module_name i 0 ≡ 46 → ⊥
-no_dot zero l e = less_is_other 77 46 (omega arith) e
-no_dot (suc i) l e = let k : suc i < 1 = l in absurd (omega (arith, k))
-
--- M.x is x in the module M
-a_name : IsQualified (codes "M.x") module_name (codes "x")
-a_name = record { spelled = refl; plain = no_dot }
-
--- M.x.y is x.y in the module M, and not y in a module M.x
-a_dot_behind : IsQualified (codes "M.x.y") module_name (codes "x.y")
-a_dot_behind = record { spelled = refl; plain = no_dot }
-
-no_dot_before : IsQualified (codes "M.x.y") (codes "M.x") (codes "y") → ⊥
-no_dot_before q = q.plain 1 (omega arith) refl
 
 -- ---- rules
 

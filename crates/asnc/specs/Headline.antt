@@ -1,5 +1,6 @@
--- The headline, from the octets of texts to the octets of an encoding, and from octets to a printed value, in the words
--- of the standards alone: no routine, table or kit occurs.
+-- The headline: from the octets of texts to the octets of an encoding, and from octets to a printed value. The rules
+-- are in X.680, clauses 12 to 51; X.690, clauses 8, 10 and 11; and X.691, clauses 10 to 30. It uses the words of the
+-- standards alone: no routine, table or kit occurs.
 use Rattle.std.specs.Prelude.{◌≡◌, ℕ, ◌≤◌, List, length}
 use Rattle.asn_base.specs.Abstract.{AbstractValue}
 use Rattle.asn_base.specs.Same.{Same}
@@ -10,15 +11,45 @@ use Rattle.value_text.specs.Print.{print}
 use Rattle.encodings.specs.Encoding.{Ber, Der, EncodesBy, Shortest}
 use Rattle.encodings.specs.Levels.{levels}
 use Rattle.encodings.specs.Rules.{Rules}
+use Rattle.packed_encodings.specs.Lengths.{Bits}
+use Rattle.packed_encodings.specs.Packing.{Packed, Reads}
+use Rattle.packed_encodings.specs.Padding.{Padded}
 use Rattle.trees.specs.Values.{Name, Tree}
 use Rattle.resolve.specs.Program.{Program}
 use Rattle.front_end.specs.Accepted.{Accepted}
 use Rattle.front_end.specs.Untyped.{StandsFor}
-use Rattle.asnc.specs.Named.{AreNamed, TypeNamed}
+use Rattle.account_checker.specs.Reasons.{IsRight as IsRightBesideIt}
+use Rattle.named_values.specs.Named.{AreNamed, TypeNamed}
 
--- For these texts of modules, the name of a type and the name of a value, the octets and the account are as they have
--- to be.
+-- For these texts of modules, the names of a type and of a value, the octets o are the value's DER encoding, and
+-- account a describes them.
 pub record IsRight (texts : List (List ℕ)) (first second o : List ℕ) (a : Account) : Type 0 where
+  -- the texts are accepted, as this program with these types
+  pub program : Program
+  pub types : List Resolved
+  pub accepted : Accepted texts program types
+  -- the first name is that of this type, and the value with the second name has this notation in this module
+  pub type : ℕ
+  pub within : Name
+  pub notation : Tree
+  pub named : AreNamed program first second type within notation
+  -- the notation means this value under the type, and the value is one of the type
+  pub value : AbstractValue
+  pub stands : StandsFor program within type notation value
+  pub is : IsValue types type value
+  -- the octets are an encoding of the value by the distinguished rules, and the only one
+  pub der : Der types type value 0 o
+  pub only : (q : List ℕ) → Der types type value 0 q → q ≡ o
+  -- no encoding of the value by the basic rules, in any definite form of lengths, is shorter
+  pub shortest : Shortest types type value o
+  -- the account describes how the octets are made up
+  pub account : Tells types type value o a
+  -- the checker accepts the account
+  pub checked : IsRightBesideIt types type value o a
+
+-- For these texts of modules, the names of a type and of a value, the octets o are the value's one message of unaligned
+-- canonical PER (X.691, clause 11.1).
+pub record IsRightlyPacked (texts : List (List ℕ)) (first second o : List ℕ) : Type 0 where
   -- the texts are accepted, as this program with these types
   pub program : Program
   pub types : List Resolved
@@ -32,36 +63,41 @@ pub record IsRight (texts : List (List ℕ)) (first second o : List ℕ) (a : Ac
   pub value : AbstractValue
   pub stands : StandsFor program within type notation value
   pub is : IsValue types type value
-  -- the octets are an encoding of the value by the distinguished rules, and the only one
-  pub der : Der types type value 0 o
-  pub only : (q : List ℕ) → Der types type value 0 q → q ≡ o
-  -- no encoding of it by the basic rules, in whichever definite lengths, is shorter
-  pub shortest : Shortest types type value o
-  -- the account tells how the octets are made up
-  pub account : Tells types type value o a
+  -- the octets are the bits of the value, filled to octets, and no others are
+  pub bits : Bits
+  pub packed : Packed types type value bits
+  pub filled : Padded bits o
+  pub only : (b : Bits) (q : List ℕ) → Packed types type value b → Padded b q → q ≡ o
+  -- the octets are read as a value that is the same, with no additions that the type lacks
+  pub back : AbstractValue
+  pub same : Same types type value back
+  pub reads : Reads types type back 0 o
+  -- and as no other value
+  pub sole : (w : AbstractValue) (k : ℕ) → Reads types type w k o → (w ≡ back) × (k ≡ 0)
 
--- For these texts of modules, the name of a type and octets, which are read by these rules, the printed text and the
--- number are as they have to be.
+-- For these texts of modules, rules r, the name of a type and octets o, the printed text is the value that the octets
+-- encode. k additions were skipped.
 pub record IsRightlyRead (texts : List (List ℕ)) (r : Rules) (name o printed : List ℕ) (k : ℕ) : Type 0 where
   -- the texts are accepted, as this program with these types
   pub program : Program
   pub types : List Resolved
   pub accepted : Accepted texts program types
-  -- the name is that of this type, and what is printed is a value of it
+  -- the name is that of this type, and the printed text is a value of the type
   pub type : ℕ
   pub named : TypeNamed program name type
   pub value : AbstractValue
   pub is : IsValue types type value
   pub text : printed ≡ print types type value
-  -- the octets are an encoding of it by the basic rules, with k additions that the type lacks
+  -- the octets are an encoding of the value by the basic rules, with k additions that the type lacks
   pub ber : Ber types type value k o
-  -- and by the rules that they are read by
+  -- the octets are also an encoding of the value by the rules that the caller asked for
   pub by_rules : EncodesBy r types type value k o
-  -- and whichever value they are an encoding of, it is the same, with as many additions
+  -- any value of which the octets are an encoding is the same, with as many unknown additions
   pub same : (v : AbstractValue) (j : ℕ) → Ber types type v j o → Same types type v value × (j ≡ k)
 
--- The octets are an encoding of v, a value of the type of this name, by the basic rules, in whichever definite lengths,
--- and within the limits of messages.
+-- The octets o are an encoding by the basic rules, in any definite form of lengths, of v, a value of the type with this
+-- name (X.690, clause 8). They are within the limits of messages (own rule): at most 400 levels of headers, and
+-- 16,777,216 octets.
 pub record IsMessageOf (p : Program) (s : List Resolved) (name o : List ℕ) (v : AbstractValue) : Type 0 where
   pub type : ℕ
   pub named : TypeNamed p name type
@@ -70,7 +106,8 @@ pub record IsMessageOf (p : Program) (s : List Resolved) (name o : List ℕ) (v 
   pub few : levels ber.2 ≤ 400
   pub short : length o ≤ 16777216
 
--- what is printed is a value of the type of this name that is the same as v, and no additions were skipped
+-- The printed text is a value of the type with this name that is the same as v, and k, the number of skipped additions,
+-- is 0.
 pub record IsAnswer (p : Program) (s : List Resolved) (name printed : List ℕ) (k : ℕ) (v : AbstractValue) : Type 0 where
   pub type : ℕ
   pub named : TypeNamed p name type

@@ -1,4 +1,4 @@
--- What a kit is seen as, and why texts have none.
+-- The meaning of a kit, and why texts have none.
 use Rattle.std.specs.Prelude.{◌≡◌, ℕ, List}
 use Rattle.asn_base.specs.Types.{Resolved}
 use Rattle.resolve.specs.Program.{Program}
@@ -7,12 +7,12 @@ use Rattle.front_end.specs.declared.fault.FrontFault.TheVariants as texts
 use Rattle.messages.specs.declared.fault.Fault.{Fault}
 use Rattle.messages.specs.declared.fault.Fault.TheVariants as faults
 
--- the program of accepted texts and its types, each by the same number in both
+-- the program of accepted texts and its types; a type has the same number in both
 pub record Opened : Type 0 where
   pub program : Program
   pub types : List Resolved
 
--- The refusal of texts stands: it is of the first fault in reading order. Memory speaks of no text.
+-- The refusal of texts is true: the fault is the first one in reading order. `Memory` says nothing about the texts.
 abbrev pub IsNotOpened : List (List ℕ) → Fault → Type 0
 IsNotOpened xs faults.Memory = Unit {0}
 IsNotOpened xs (faults.Front f) = (f ≡ texts.Memory → ⊥) × Stands xs f

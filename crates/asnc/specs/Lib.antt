@@ -1,10 +1,13 @@
--- What has to be believed: what a text of the form Module.Name names (`Named`), what a kit is and when texts have none
--- (`Kits`), what is written of a named value and when nothing is (`Writing`), which value of a named type is read of
--- octets and when none is (`Reading`), and where reading stops (`Places`); and all of it from the texts to the octets and back (`Headline`).
+-- The definitions that a user must believe. `Kits` says what a kit is, and when texts have none. `Writing` says which
+-- octets encode a named value, and when there are none; `Packing` says the same for packed encodings. `Reading` says
+-- which value of a named type octets encode, and when none is read. `Places` says at which octet a message is refused.
+-- `Versions` says how versions of a type read each other. `Headline` says all of it, from the texts to the octets and
+-- back.
 pub use Rattle.messages.specs.Status
 pub mod Headline
 pub mod Kits
-pub mod Named
+pub mod Packing
 pub mod Places
 pub mod Reading
+pub mod Versions
 pub mod Writing

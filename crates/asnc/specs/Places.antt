@@ -20,29 +20,29 @@ component_name s t i = elim (slice_get (components (kind_at s t)) i) [
   | Some c ↦ c.name
 ]
 
--- that of alternative i
+-- the identifier of alternative i of type t
 abbrev pub alternative_name : List Resolved → ℕ → ℕ → List ℕ
 alternative_name s t i = elim (slice_get (alternatives_in (kind_at s t)) i) [
   | None ↦ []
   | Some a ↦ a.name
 ]
 
--- a name behind a path: behind a dot, but where it is the first
+-- a path followed by a name, after a dot, unless the path is empty
 abbrev pub with_name : List ℕ → List ℕ → List ℕ
 with_name [] x = x
 with_name (c ∷ p) x = (c ∷ p) ++ (codes "." ++ x)
 
--- the number of an element behind a path
+-- a path followed by the number of an element in square brackets
 abbrev pub with_number : List ℕ → ℕ → List ℕ
 with_number p i = p ++ (codes "[" ++ (decimal i ++ codes "]"))
 
--- a part of a value of type t behind a path
+-- a path followed by a part of a value of type t
 abbrev pub with_part : List Resolved → ℕ → List ℕ → Part → List ℕ
 with_part s t p (Component i) = with_name p (component_name s t i)
 with_part s t p (Alternative i) = with_name p (alternative_name s t i)
 with_part s t p (Element i) = with_number p i
 
--- the part that was being read of an open value, if any
+-- a path followed by the part of an open value that was being read, if any
 abbrev pub with_open : List Resolved → List ℕ → Open → List ℕ
 with_open s p o = elim o.part [
   | None ↦ p
@@ -53,13 +53,13 @@ abbrev pub path_behind : List Resolved → List ℕ → List Open → List ℕ
 path_behind s p [] = p
 path_behind s p (o ∷ os) = path_behind s (with_open s p o) os
 
--- the parts that were being read, from the outermost in
+-- the path of the parts that were being read, the outermost first
 abbrev pub path_of : List Resolved → List Open → List ℕ
 path_of s os = path_behind s [] os
 
--- Reading the octets as a value of type t comes to a question without an answer at this octet. Octets that say
--- something of the type are read as far as the part that is judged wrong; where they say what is no value of the type,
--- as far as the innermost value that is none of its own. These parts were being read there.
+-- The octet at which reading the octets as a value of type t stops, and the parts that were being read there. If the
+-- octets are read to their end, it is the start of the part that is judged wrong. If they encode something that isn't a
+-- value of the type, this is the innermost value that isn't one of its type.
 pub record IsStopped (s : List Resolved) (t : ℕ) (o : List ℕ) (octet : ℕ) (path : List ℕ) : Type 0 where
   pub id : TypeId
   pub numbered : id.index ≡ t

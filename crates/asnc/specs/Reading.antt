@@ -18,24 +18,19 @@ use Rattle.resolve.specs.Program.{Program}
 use Rattle.messages.specs.declared.fault.Fault.{Fault}
 use Rattle.messages.specs.declared.fault.Fault.TheVariants as faults
 use Rattle.messages.specs.declared.fault.Unread.{Unread}
-use Rattle.asnc.specs.Named.{TypeNamed}
+use Rattle.named_values.specs.Named.{Names, TypeNamed}
 use Rattle.asnc.specs.Places.{IsStopped}
 use Rattle.asnc.specs.declared.reading.Rules.{Rules as Rules'}
 use Rattle.asnc.specs.declared.reading.Rules.TheVariants as asked
 
--- the rules that are asked for
+-- the rules that the caller asks for
 abbrev pub rules_of : Rules' → Rules
 rules_of asked.Ber = Basic
 rules_of asked.Der = Distinguished
 
--- a text names type t, and no other one
-pub record Names (p : Program) (name : List ℕ) (t : ℕ) : Type 0 where
-  pub is : TypeNamed p name t
-  pub only : (u : ℕ) → TypeNamed p name u → u ≡ t
-
--- The octets, at most as many as a message has and with at most 400 levels of headers, encode a value of type t as it
--- stands there, with k additions that the type lacks, and neither another value nor another number of them; and they
--- do by the rules that are asked for. The value is printed so.
+-- The octets are at most 16,777,216, with at most 400 levels of headers. They encode exactly one value of type t, with
+-- k additions that the type lacks, and no other value, and no other number of additions. They do so by the rules that
+-- the caller asks for. The printed text is that of the value.
 pub record IsRead (s : List Resolved) (r : Rules) (t : ℕ) (o printed : List ℕ) (k : ℕ) : Type 0 where
   pub value : AbstractValue
   pub encodes : Encodes s Basic t value k o
@@ -45,60 +40,61 @@ pub record IsRead (s : List Resolved) (r : Rules) (t : ℕ) (o printed : List �
   pub by_rules : Says s r t value k o
   pub text : printed ≡ print s t value
 
--- the same of a view of the value, and the number that was skipped
+-- the same for a view of the value, with the number of additions that were skipped
 pub record IsReadBy (s : List Resolved) (r : Rules) (t : ℕ) (o : List ℕ) (x : Read) : Type 0 where
   pub reading : IsReading s t o x
   pub only : (w : AbstractValue) (j : ℕ) → Encodes s Basic t w j o → (w ≡ value_of reading.tree) × (j ≡ x.skipped)
   pub by_rules : Says s r t (value_of reading.tree) x.skipped o
 
--- the text names a type, and such a value of it is read
+-- the text names a type, and a value of this type is read and printed
 pub record IsReadAs (p : Program) (s : List Resolved) (r : Rules) (name o printed : List ℕ) (k : ℕ) : Type 0 where
   pub type : ℕ
   pub named : Names p name type
   pub read : IsRead s r type o printed k
 
--- They encode a value of it by the basic rules, and not by the distinguished ones.
+-- The octets encode a value of the type by the basic rules, but not by the distinguished rules.
 pub record IsNotDer (s : List Resolved) (t : ℕ) (o : List ℕ) : Type 0 where
   pub is : IsEncoding s t o
   pub not_strict : Says s Distinguished t is.value is.count o → ⊥
 
--- The refusal to read octets by these rules as a value of type t stands.
+-- The fault that the octets can't be read by these rules as a value of type t is true.
 pub record IsUnread (s : List Resolved) (r : Rules) (t : ℕ) (o : List ℕ) (e : ReadFault) : Type 0 where
-  -- they encode none within the limits by the rules
+  -- by the rules the octets encode no value of the type within the limits
   pub none : (i : IsEncoding s t o) → Says s r t i.value i.count o → ⊥
-  -- 96 is told just where they do by the basic rules alone
+  -- `NotDer` if and only if the octets encode a value by the basic rules alone
   pub basic : (i : IsEncoding s t o) → (Says s r t i.value i.count o → ⊥) → e ≡ reading.NotDer
   pub not_der : e ≡ reading.NotDer → (r ≡ Distinguished) × IsNotDer s t o
-  -- 2 Limit(Message) is told just where they are more than a message has
+  -- `MessageLimit` if and only if there are more than 16,777,216 octets
   pub limit : 16777216 < length o → e ≡ reading.MessageLimit
   pub long : e ≡ reading.MessageLimit → 16777216 < length o
-  -- else 89 where an encoding of a value is a proper front of them, and only where what a front says is one
+  -- `Trailing` if the octets start with a complete encoding of a value and go on, and only if they start with an
+  -- encoding
   pub more : HasEncodingFirst s t o → e ≡ reading.Trailing
   pub trailing : e ≡ reading.Trailing → HasMessageFirst s t o
-  -- and 80 where they are a proper front of one
+  -- `Truncated` if the octets are the start of a longer encoding of a value
   pub less : BeginsEncoding s t o → e ≡ reading.Truncated
-  -- whatever is told but 96 has its reason
+  -- every fault except `NotDer` has its reason
   pub why : (e ≡ reading.NotDer → ⊥) → IsRefused s (id_of t) o e
 
--- and it tells where reading them stops
+-- the fault is true, and the octet and the path are those at which reading stops
 pub record IsUnreadAt (s : List Resolved) (r : Rules) (t : ℕ) (o : List ℕ) (u : Unread) : Type 0 where
   pub unread : IsUnread s r t o u.fault
   pub stopped : IsStopped s t o u.octet (string_bytes u.path)
 
--- the same as a fault; memory speaks of no octets
+-- the same as a fault; `Memory` says nothing about the octets
 abbrev pub IsNotRead : List Resolved → Rules → ℕ → List ℕ → Fault → Type 0
 IsNotRead s r t o faults.Memory = Unit {0}
 IsNotRead s r t o (faults.Unread u) = IsUnreadAt s r t o u
 IsNotRead s r t o fault = ⊥
 
--- the text names a type, and the octets are refused as a value of it
+-- the text names a type, and the octets are refused as a value of this type
 pub record IsUnreadAs (p : Program) (s : List Resolved) (r : Rules) (name o : List ℕ) (u : Unread) : Type 0 where
   pub type : ℕ
   pub named : Names p name type
   pub unread : IsUnreadAt s r type o u
 
--- Nothing is read, as the refusal tells: the text names no type, and is told; it does, and the octets are refused.
--- Memory speaks of neither.
+-- Nothing is read, for the reason that the fault gives. `NoType`: the text names no type. `Unread`: the text names a
+-- type, and the octets are refused. `Memory` says nothing about either.
 abbrev pub IsNotReadAs : Program → List Resolved → Rules → List ℕ → List ℕ → Fault → Type 0
 IsNotReadAs p s r name o faults.Memory = Unit {0}
 IsNotReadAs p s r name o (faults.NoType x) = (string_bytes x ≡ name) × ((t : ℕ) → TypeNamed p name t → ⊥)

@@ -1,8 +1,21 @@
 //! Modules that are ready for use.
 
-ghost use Rattle.std.specs.Prelude.{◌≡◌, ◌<◌, ℕ, List, map, IfOk, IfErr, MatchResult, string_bytes};
+ghost use Rattle.std.specs.Prelude.{◌≡◌, ◌<◌, ℕ, Err, List, length, map, IfOk, IfErr, IfSome, MatchOption, MatchResult, string_bytes};
 ghost use Rattle.asn_base.specs.Abstract.{abstract};
 ghost use Rattle.asn_base.specs.Typed.{IsValue};
+ghost use Rattle.codec_source.specs.declared.fault.ReadFault.TheVariants.{Memory as no_room};
+ghost use Rattle.der_writer.specs.Encoded.{IsEncoding};
+ghost use Rattle.der_writer.specs.declared.fault.WriteFault.TheVariants.{NotOfType, TooLong};
+ghost use Rattle.encodings.specs.Account.{Tells};
+ghost use Rattle.encodings.specs.Encoding.{Der};
+ghost use Rattle.packed_encodings.specs.Lengths.{Bits};
+ghost use Rattle.packed_encodings.specs.Packing.{Packed};
+ghost use Rattle.packed_encodings.specs.Padding.{Padded};
+ghost use Rattle.packed_writer.specs.Message.{IsMessage};
+ghost use Rattle.packed_writer.specs.declared.fault.WriteFault.TheVariants.{NotOfType as not_packed, TooLong as too_many_bits};
+ghost use Rattle.value_text.specs.Print.{print};
+ghost use Rattle.views.specs.Seen.{IsView};
+ghost use Rattle.views.specs.Tree.{Tree, value_of};
 ghost use Rattle.resolve.specs.Program.{Program};
 ghost use Rattle.front_end.specs.Accepted.{Accepted, AreAccepted, HasTypes, Keeps, octets_of};
 ghost use Rattle.front_end.specs.Faults.{Stands};
@@ -10,24 +23,36 @@ ghost use Rattle.front_end.specs.declared.fault.FrontFault.TheVariants.{Memory a
 ghost use Rattle.sinks.specs.Sent.{state};
 ghost use Rattle.messages.specs.declared.fault.Fault.TheVariants.{Device, Front, Memory};
 ghost use Rattle.asnc.specs.Kits.{IsNotOpened};
-ghost use Rattle.asnc.specs.Reading.{IsNotReadAs, IsReadAs, rules_of};
-ghost use Rattle.asnc.specs.Writing.{IsEncoded, IsMeant, IsNotEncoded, IsNotMeant, IsSent, IsSentInPart};
+ghost use Rattle.asnc.specs.Packing.{IsNotPacked, IsPacked};
+ghost use Rattle.asnc.specs.Reading.{IsNotReadAs, IsReadAs, IsReadBy, IsUnread, rules_of};
+ghost use Rattle.asnc.specs.Versions.{IsCompared, IsNotCompared};
+ghost use Rattle.asnc.specs.Writing.{IsAccountOf, IsEncoded, IsNotEncoded, IsSent, IsSentInPart};
+ghost use Rattle.named_values.specs.Meant.{IsMeant, IsNotMeant};
+ghost use Rattle.named_values.specs.Named.{Names, TypeNamed};
 
-use crate::meaning::meant;
-use crate::reading::{Rules, read_as};
+use crate::reading::{Rules, read_as, read_by};
+use account_text::to_json;
 use asn_base::schema::{Schema, TypeId};
 use asn_base::value::Value;
+use ber_reader::Read;
 use codec_code::{Code, compile};
+use codec_source::ReadFault;
 use der_writer::{WriteFault, write_der, write_der_to};
 use front_end::law::{accepted_keep, values_of_schema};
 use front_end::{FrontFault, Modules};
+use later_versions::later;
 use messages::Fault;
+use named_values::{meant, type_number};
 use octet_account::account::Account;
+use packed_code::{PackedCode, compile_packed};
+use packed_writer::write_uper;
 use resolve::Linked;
 use sinks::Sink;
 use std::alloc::Global;
 use std::marker::Model;
 use type_listing::list;
+use view_text::print_view;
+use views::View;
 
 /// Accepted modules: their names with their meanings, and the codec programs of their types.
 #[derive(Drop)]
@@ -35,6 +60,7 @@ pub struct Kit {
     modules: Modules,
     schema: Schema,
     code: Code,
+    packed: PackedCode,
 }
 
 impl Model for Kit {
@@ -52,14 +78,14 @@ impl Model for Kit {
     ghost use Rattle.std.specs.Prelude.{◌≡◌};
     ghost use Rattle.front_end.specs.Accepted.{HasTypes};
 
-    ghost invariant = { λ k. HasTypes k.modules k.code × (k.schema ≡ k.code) };
+    ghost invariant = { λ k. HasTypes k.modules k.code × (k.schema ≡ k.code) × (k.packed ≡ k.code) };
 }
 
-/// What a fault of texts is to a user.
+/// A fault of texts, as a user sees it.
 fn refusal(fault: FrontFault) -> Fault
     ensures stands { (xs : List (List ℕ)) → Stands xs fault → IsNotOpened xs result }
     ensures memory { fault ≡ no_memory → result ≡ Memory }
-    // No fault but want of memory is told as that.
+    // No fault except `Memory` becomes `Memory`.
     ensures told { (fault ≡ no_memory → ⊥) → result ≡ Front fault }
 {
     match fault {
@@ -76,31 +102,37 @@ fn kit_of(alloc: Global, linked: Linked, schema: Schema) -> Result<Kit, Fault>
     ensures types { IfOk result (λ k. k.types ≡ schema) }
     ensures memory { IfErr result (λ e. e ≡ Memory) }
 {
-    match compile(alloc, &schema) {
-        Ok(code) => Ok(Kit {
-            modules: Modules::of(linked),
-            schema,
-            code,
-        }),
-        Err(codec_code::Fault::Memory) => Err(Fault::Memory),
-    }
+    let code = match compile(alloc, &schema) {
+        Ok(code) => code,
+        Err(codec_code::Fault::Memory) => return Err(Fault::Memory),
+    };
+    let packed = match compile_packed(alloc, &schema) {
+        Ok(packed) => packed,
+        Err(packed_code::Fault::Memory) => return Err(Fault::Memory),
+    };
+    Ok(Kit {
+        modules: Modules::of(linked),
+        schema,
+        code,
+        packed,
+    })
 }
 
 impl Kit {
-    /// Reads the texts of modules, links them, and compiles their types. No texts at all are accepted too, and name
-    /// nothing.
+    /// Reads the texts of modules, links them, and compiles their types. An empty list of texts is accepted too; its
+    /// kit has no names.
     ///
-    /// The first fault is answered, in this order: of the octets and then of the tokens of each text in turn; of the
-    /// names of all modules; of tags; of constraints; of what stands behind markers, of DEFAULTs and of value
-    /// assignments. `Memory` where there was not enough of it.
+    /// The result is the first fault, in this order: of the octets and then of the tokens of each text in turn; of the
+    /// names of all modules; of tags; of constraints. Last come faults of additions after extension markers, of
+    /// DEFAULTs and of value assignments. `Memory`: an allocation failed.
     pub fn open(alloc: Global, texts: &[Vec<u8>]) -> Result<Kit, Fault>
         // The texts are accepted, as this program with these types.
         ensures opened { IfOk result (λ k. Accepted (map octets_of texts.now) k.program k.types) }
-        // Texts that are accepted are opened, as the program that they are, unless memory runs out.
+        // Accepted texts are opened, as the program that they are, unless an allocation fails.
         ensures only { (p : Program) →
             AreAccepted (map octets_of texts.now) p →
             MatchResult result (λ k. k.program ≡ p) (λ e. e ≡ Memory) }
-        // A fault stands, the first one in reading order.
+        // A fault is true, and is the first one in reading order.
         ensures fault { IfErr result (IsNotOpened (map octets_of texts.now)) }
     {
         accepted_keep();
@@ -110,7 +142,14 @@ impl Kit {
         }
     }
 
-    /// The type that the first text names, and the value that the second one means under it.
+    /// The schema has the types of the program.
+    fn settled(&self)
+        ensures { HasTypes self.now.program self.now.types }
+    {
+        let _code = &self.code;
+    }
+
+    /// The type with the first name, and the value that the second name means under this type.
     fn value_of(&self, alloc: Global, ty: &str, value: &str) -> Result<(TypeId, Value), Fault>
         ensures meant { IfOk result (λ r. IsMeant self.now.program ty.now value.now r.0.index (abstract r.1)) }
         ensures is { IfOk result (λ r. IsValue self.now.types r.0.index (abstract r.1)) }
@@ -121,19 +160,19 @@ impl Kit {
         meant(alloc, &self.modules, ty, value)
     }
 
-    /// The octets that encode a value of a type by the distinguished rules, and the account of them; both are named as
-    /// `Module.Name`, where they are assigned or where they are imported. The value's notation is read under this type,
-    /// whichever it is assigned with.
+    /// Returns the octets that encode a value of a type by the distinguished rules, and the account of these octets.
+    /// The type and the value are named as `Module.Name`, by the module that assigns or imports the name. The value's
+    /// notation is read under this type, whatever type it is assigned with.
     ///
-    /// `NoType` where the first name is no type's, else `NoValue` where the second is no value's; `Value` where the
-    /// value's notation stands for no value of the type; `TooLong` where the encoding has more than 16,777,216 octets;
-    /// `Memory`.
+    /// `NoType`: the first name is not that of a type. `NoValue`: the second name is not that of a value. `Value`: the
+    /// value's notation means no value of the type. `TooLong`: the encoding has more than 16,777,216 octets. `Memory`:
+    /// an allocation failed.
     pub fn der(&self, alloc: Global, ty: &str, value: &str) -> Result<(Vec<u8>, Account), Fault>
-        // The octets are the one encoding of what the value's notation stands for under the type; the account is
-        // theirs.
+        // The octets are the only DER encoding of what the value's notation means under the type. The account is that
+        // of the octets.
         ensures encoded { IfOk result (λ r.
             IsEncoded self.now.program self.now.types ty.now value.now r.0.items r.1) }
-        // A refusal stands.
+        // A fault is true.
         ensures refused { IfErr result (IsNotEncoded self.now.program self.now.types ty.now value.now) }
     {
         let (id, typed) = match self.value_of(alloc, ty, value) {
@@ -148,10 +187,30 @@ impl Kit {
         }
     }
 
-    /// Writes what [`Kit::der`] answers to a sink, one octet behind the other, and answers the account of it.
+    /// Returns the text of the account that [`Kit::der`] returns, in JSON without white space.
     ///
-    /// `NoType`, `NoValue`, `Value`, `TooLong` and `Memory` as there, before the first octet; `Device` where one call
-    /// of the sink failed, which isn't tried again, with how many octets went out before it.
+    /// `NoType`, `NoValue`, `Value`, `TooLong` and `Memory` as for [`Kit::der`].
+    pub fn account(&self, alloc: Global, ty: &str, value: &str) -> Result<String, Fault>
+        // The text is that of the account of the only DER encoding.
+        ensures told { IfOk result (λ s.
+            IsAccountOf self.now.program self.now.types ty.now value.now (string_bytes s)) }
+        // A fault is true.
+        ensures refused { IfErr result (IsNotEncoded self.now.program self.now.types ty.now value.now) }
+    {
+        let (_octets, account) = match self.der(alloc, ty, value) {
+            Ok(written) => written,
+            Err(fault) => return Err(fault),
+        };
+        match to_json(alloc, &account) {
+            Ok(text) => Ok(text),
+            Err(_) => Err(Fault::Memory),
+        }
+    }
+
+    /// Writes the octets that [`Kit::der`] returns to a sink, one octet after the other, and returns their account.
+    ///
+    /// `NoType`, `NoValue`, `Value`, `TooLong` and `Memory` as for [`Kit::der`], before the first octet. `Device`: one
+    /// call of the sink failed, which isn't tried again; the fault has the number of octets that went out before.
     pub fn der_to<S: Sink>(
         &self,
         alloc: Global,
@@ -160,18 +219,18 @@ impl Kit {
         sink: &mut S,
     ) -> Result<Account, Fault>
         requires room { S.failed sink.old < u64.MAX }
-        // The sink has taken just the one encoding, and no call failed; the account is that of the encoding.
+        // The sink took exactly the only DER encoding, and no call failed. The account is that of the encoding.
         ensures sent { IfOk result (IsSent self.now.program self.now.types ty.now value.now
             (state (S.taken sink.old) (S.failed sink.old))
             (state (S.taken sink.new) (S.failed sink.new))) }
-        // It has taken just the first n octets of the encoding, fewer than there are, and one call failed.
+        // The sink took exactly the first n octets of the encoding, fewer than there are, and one call failed.
         ensures device { IfErr result (λ e. (n : ℕ) →
             e ≡ Device n →
             IsSentInPart self.now.program self.now.types ty.now value.now
             (state (S.taken sink.old) (S.failed sink.old))
             (state (S.taken sink.new) (S.failed sink.new))
             n) }
-        // Any other refusal stands as that of `der`, and nothing went out.
+        // Any other fault is true, as one of `der`, and no octet went out.
         ensures refused { IfErr result (λ e.
             ((n : ℕ) → e ≡ Device n → ⊥) →
             IsNotEncoded self.now.program self.now.types ty.now value.now e × (sink.new ≡ sink.old)) }
@@ -189,12 +248,37 @@ impl Kit {
         }
     }
 
-    /// The value of a type that octets encode by the basic rules, or by the distinguished ones, printed, and how many
-    /// additions that the type lacks were skipped. The type is named as `Module.Name`, where it is assigned or where it
-    /// is imported.
+    /// Encodes a value of a type in canonical PER, unaligned: its bits, filled to octets (X.691, 11.1). Both are named as
+    /// for [`Kit::der`], and the value's notation is read under this type.
     ///
-    /// `NoType` where the name is no type's; `Unread` where the octets encode no value of it by the rules, in 400 levels
-    /// of headers, or are more than 16,777,216; `Memory`.
+    /// `NoType`: the first name is not that of a type. `NoValue`: the second name is not that of a value. `Value`: the
+    /// notation stands for no value of the type. `TooLong`: there are more than 16,777,216 octets. `Memory`: an
+    /// allocation failed.
+    pub fn uper(&self, alloc: Global, ty: &str, value: &str) -> Result<Vec<u8>, Fault>
+        // The octets are the bits of the value that the notation stands for under the type, and no others are.
+        ensures packed { IfOk result (λ o.
+            IsPacked self.now.program self.now.types ty.now value.now o.items) }
+        // The reason of a refusal applies.
+        ensures refused { IfErr result (IsNotPacked self.now.program self.now.types ty.now value.now) }
+    {
+        let (id, typed) = match self.value_of(alloc, ty, value) {
+            Ok(found) => found,
+            Err(fault) => return Err(fault),
+        };
+        match write_uper(alloc, &self.packed, id, &typed) {
+            Ok(octets) => Ok(octets),
+            Err(packed_writer::WriteFault::Memory) => Err(Fault::Memory),
+            Err(packed_writer::WriteFault::TooLong) => Err(Fault::TooLong),
+            Err(packed_writer::WriteFault::NotOfType) => unreachable!(),
+        }
+    }
+
+    /// Decodes the value of a type that octets encode by the basic or by the distinguished rules. Returns its printed
+    /// text, and the number of skipped additions that the type lacks. The type is named as `Module.Name`, by the module
+    /// that assigns or imports it.
+    ///
+    /// `NoType`: the name is not that of a type. `Unread`: the octets encode no value of the type by the rules, with at
+    /// most 400 levels of headers, or there are more than 16,777,216. `Memory`: an allocation failed.
     pub fn ber(
         &self,
         alloc: Global,
@@ -202,11 +286,11 @@ impl Kit {
         octets: &[u8],
         rules: Rules,
     ) -> Result<(String, u64), Fault>
-        // The octets encode one value of the type by the rules, with one number of additions; it is printed, and they
-        // are told.
+        // The octets encode exactly one value of the type by the rules, with one number of unknown additions. The value
+        // is printed, and the number is the second result.
         ensures read { IfOk result (λ r.
             IsReadAs self.now.program self.now.types (rules_of rules) ty.now octets.now (string_bytes r.0) r.1) }
-        // A refusal stands.
+        // A fault is true.
         ensures refused { IfErr result
             (IsNotReadAs self.now.program self.now.types (rules_of rules) ty.now octets.now) }
     {
@@ -221,8 +305,135 @@ impl Kit {
         )
     }
 
-    /// All types in the order of their numbers, to be read by people: of each its number, where it is written, its
-    /// tags, and the steps of its routine. Refused for want of memory alone.
+    /// Finds the type of a name, written as `Module.Name`, by the module that assigns or imports it (X.680, clause 14.1).
+    /// None if no type has this name. The number is that of the type for the other calls of this kit.
+    pub fn type_named(&self, name: &str) -> Option<TypeId>
+        // It is a type of this name, and there is none if the answer is None.
+        ensures named { MatchOption result
+            ((t : ℕ) → TypeNamed self.now.program name.now t → ⊥)
+            (λ id. TypeNamed self.now.program name.now id.index) }
+        // No other type has the name.
+        ensures only { IfSome result (λ id. Names self.now.program name.now id.index) }
+    {
+        type_number(&self.modules, name)
+    }
+
+    /// Encodes a value that a program has made, by the distinguished rules (X.690, clauses 8, 10 and 11), and returns
+    /// the octets with their account.
+    ///
+    /// `NotOfType`: the value is not one of the type, or the kit has no such type. `TooLong`: the encoding has more than
+    /// 16,777,216 octets. `Memory`: an allocation failed.
+    pub fn encode(
+        &self,
+        alloc: Global,
+        id: TypeId,
+        value: &Value,
+    ) -> Result<(Vec<u8>, Account), WriteFault>
+        // The octets are the value's one encoding, and no encoding by the basic rules is shorter.
+        ensures encoding { IfOk result (λ w. IsEncoding self.now.types id.index (abstract value.now) w.0.items) }
+        // The account describes them.
+        ensures account { IfOk result (λ w. Tells self.now.types id.index (abstract value.now) w.0.items w.1) }
+        // `NotOfType` if and only if the value is not one of the type.
+        ensures not_of_type { IfErr result (λ e. e ≡ NotOfType → IsValue self.now.types id.index (abstract value.now) → ⊥) }
+        ensures no_value { (IsValue self.now.types id.index (abstract value.now) → ⊥) → result ≡ Err NotOfType }
+        // `TooLong` only if each encoding by the distinguished rules is too long.
+        ensures longer { IfErr result (λ e. e ≡ TooLong → (o : List ℕ)
+            → Der self.now.types id.index (abstract value.now) 0 o
+            → 16777216 < length o) }
+    {
+        write_der(alloc, &self.code, id, value)
+    }
+
+    /// Encodes a value that a program has made, in canonical PER, unaligned: its bits, filled to octets (X.691, 11.1).
+    ///
+    /// `NotOfType`: the value is not one of the type, or the kit has no such type. `TooLong`: there are more than
+    /// 16,777,216 octets. `Memory`: an allocation failed.
+    pub fn pack(
+        &self,
+        alloc: Global,
+        id: TypeId,
+        value: &Value,
+    ) -> Result<Vec<u8>, packed_writer::WriteFault>
+        // The octets are the value's one message.
+        ensures message { IfOk result (λ o. IsMessage self.now.types id.index (abstract value.now) o.items) }
+        // `NotOfType` if and only if the value is not one of the type.
+        ensures not_of_type { IfErr result (λ e. e ≡ not_packed → IsValue self.now.types id.index (abstract value.now) → ⊥) }
+        ensures no_value { (IsValue self.now.types id.index (abstract value.now) → ⊥) → result ≡ Err not_packed }
+        // `TooLong` only if the value's message is too long.
+        ensures longer { IfErr result (λ e. e ≡ too_many_bits → (b : Bits) (o : List ℕ)
+            → Packed self.now.types id.index (abstract value.now) b
+            → Padded b o
+            → 16777216 < length o) }
+    {
+        write_uper(alloc, &self.packed, id, value)
+    }
+
+    /// Decodes the value of a type that octets encode by the basic or by the distinguished rules. Its strings are slices
+    /// of the octets if they are primitive there. Beside the value is the number of skipped additions that the type
+    /// lacks. `Read::view` shows the value part by part, and [`View::to_value`] copies it.
+    ///
+    /// The faults are those of [`ber_reader::read_ber`] and [`ber_reader::read_der`].
+    pub fn decode<'a>(
+        &self,
+        alloc: Global,
+        id: TypeId,
+        octets: &'a [u8],
+        rules: Rules,
+    ) -> Result<Read<'a>, ReadFault>
+        // It is the only value that the octets encode, with the only number of additions.
+        ensures read { IfOk result (IsReadBy self.now.types (rules_of rules) id.index octets.now) }
+        // The reason of a refusal applies.
+        ensures refused { IfErr result (λ e. (e ≡ no_room → ⊥)
+            → IsUnread self.now.types (rules_of rules) id.index octets.now e) }
+    {
+        read_by(alloc, &self.code, id, octets, rules)
+    }
+
+    /// Prints the value that a view shows, in the notation of X.680.
+    ///
+    /// `NotOfType`: it is not a value of the type, or the kit has no such type. `Memory`: an allocation failed.
+    pub fn print(
+        &self,
+        alloc: Global,
+        id: TypeId,
+        view: &View<'_>,
+    ) -> Result<String, value_text::Fault>
+        requires tree { (t : Tree) × IsView view.now t }
+        // A value of the type is printed, and nothing else.
+        ensures value { (t : Tree) → IsView view.now t → IfOk result (λ s. IsValue self.now.types id.index (value_of t)) }
+        ensures text { (t : Tree) → IsView view.now t
+            → IfOk result (λ s. string_bytes s ≡ print self.now.types id.index (value_of t)) }
+    {
+        print_view(alloc, &self.schema, id, view)
+    }
+
+    /// Whether the type of this name in the newer kit is a later version of that in the older kit: the same with additions
+    /// appended at extension markers, at any depth (X.680, clauses 7, 20, 25 and 29). The type is named as
+    /// `Module.Name`, in each kit where it is assigned or where it is imported.
+    ///
+    /// `NoType`: at least one kit has no type of this name. `Memory`: an allocation failed.
+    pub fn later(alloc: Global, older: &Kit, newer: &Kit, ty: &str) -> Result<bool, Fault>
+        // The name finds one type in each kit, and the answer is yes exactly if the newer one is a later version.
+        ensures compared { IfOk result (IsCompared older.now.program older.now.types
+            newer.now.program newer.now.types ty.now) }
+        // The reason of a refusal applies.
+        ensures refused { IfErr result (IsNotCompared older.now.program newer.now.program ty.now) }
+    {
+        let Some(first) = type_number(&older.modules, ty) else {
+            return Err(Fault::NoType(String::from_str(alloc, ty)?));
+        };
+        let Some(second) = type_number(&newer.modules, ty) else {
+            return Err(Fault::NoType(String::from_str(alloc, ty)?));
+        };
+        newer.settled();
+        match later(alloc, &older.schema, first, &newer.schema, second) {
+            Ok(answer) => Ok(answer),
+            Err(_) => Err(Fault::Memory),
+        }
+    }
+
+    /// Returns a list of all types, in order of their numbers, for people to read. It has the number of each type, its
+    /// place in the texts, its tags, and the steps of its routine. `Memory` comes only if an allocation fails.
     pub fn list(&self, alloc: Global) -> Result<String, Fault>
         ensures { IfErr result (λ e. e ≡ Memory) }
     {

@@ -1,6 +1,6 @@
-//! What follows for what a kit answers. A caller calls a law to know it; it takes no memory and no time.
+//! What follows from the results of a kit. A caller calls a law to know it; a law takes no memory and no time.
 
-ghost use Rattle.std.specs.Prelude.{◌≡◌, ℕ, List, String};
+ghost use Rattle.std.specs.Prelude.{◌≡◌, ℕ, List, String, IsUtf8, true};
 ghost use Rattle.std.specs.Global.{Global};
 ghost use Rattle.asn_base.specs.Types.{Resolved};
 ghost use Rattle.encodings.specs.Account.{Account};
@@ -8,21 +8,29 @@ ghost use Rattle.encodings.specs.Rules.{Rules, Basic};
 ghost use Rattle.resolve.specs.Program.{Program};
 ghost use Rattle.front_end.specs.Accepted.{Accepted, AreAccepted};
 ghost use Rattle.messages.specs.declared.fault.Fault.{Fault};
-ghost use Rattle.messages.specs.declared.fault.Fault.TheVariants.{Memory, NoType, NoValue, Unread, Value};
+ghost use Rattle.messages.specs.declared.fault.Fault.TheVariants.{Memory, NoType, Unread};
 ghost use Rattle.messages.specs.declared.fault.Unread.{Unread as Unread'};
-ghost use Rattle.told_values.specs.declared.telling.ValueTold.{ValueTold};
 ghost use Rattle.asn_base.specs.Abstract.{AbstractValue};
-ghost use Rattle.asnc.specs.Headline.{IsAnswer, IsMessageOf, IsRight, IsRightlyRead};
+ghost use Rattle.asnc.specs.Headline.{IsAnswer, IsMessageOf, IsRight, IsRightlyPacked, IsRightlyRead};
 ghost use Rattle.asnc.specs.Kits.{IsNotOpened};
+ghost use Rattle.asnc.specs.Packing.{IsNotPacked, IsPacked};
 ghost use Rattle.asnc.specs.Reading.{IsNotReadAs, IsReadAs, rules_of};
-ghost use Rattle.asnc.specs.Writing.{IsEncoded, IsNotEncoded, IsNotMeant};
+ghost use Rattle.asnc.specs.Versions.{IsCompared, IsKeptAnswer, IsWidenedAnswer};
+ghost use Rattle.asnc.specs.Writing.{IsAccountOf, IsEncoded, IsNotEncoded};
+ghost use Rattle.std.specs.Int.Digits.{AllBelowBase};
+ghost use Rattle.version_laws.specs.Versions.{IsKnown};
+ghost use Rattle.account_checker.specs.declared.reason.Verdict.TheVariants.{Yes};
+ghost use Rattle.judging.specs.Judged.{IsAccountIn, IsJudged};
 ghost use Rattle.asnc.specs.declared.reading.Rules.{Rules as Rules'};
 
 use asn_base::law::sameness;
 use encodings::{der_laws, level_laws, message_laws};
-use front_end::law::{accepted_keep, faults_exclude, one_value};
+use front_end::law::{accepted_keep, faults_exclude};
+use named_values::law::one_meaning;
+use packed_encodings::{message_laws as packed_message_laws, writing_laws};
+use version_laws::law::{earlier_reads, later_reads};
 
-/// What [`crate::Kit::der`] answers of texts that [`crate::Kit::open`] took is right, from the texts to the octets.
+/// What [`crate::Kit::der`] returns for texts that [`crate::Kit::open`] took is right, from the texts to the octets.
 pub fn headline()
     ensures { (xs : List (List ℕ)) (p : Program) (s : List Resolved) (first second o : List ℕ) (a : Account) →
         Accepted xs p s →
@@ -30,27 +38,55 @@ pub fn headline()
         IsRight xs first second o a }
 {}
 
-/// What [`crate::Kit::ber`] answers of texts that [`crate::Kit::open`] took is right; each encoding of a value by the
-/// basic rules is answered with that value where these are asked for, memory aside, and what [`crate::Kit::der`] answers
-/// by either rules.
+/// What [`crate::Kit::uper`] returns for texts that [`crate::Kit::open`] took is right, from the texts to the octets. They
+/// are the bits of the value, no others are, and they are read as a value that is the same, and as no other.
+pub fn packed()
+    ensures { (xs : List (List ℕ)) (p : Program) (s : List Resolved) (first second o : List ℕ) →
+        Accepted xs p s →
+        IsPacked p s first second o →
+        IsRightlyPacked xs first second o }
+{
+    packed_message_laws();
+    writing_laws();
+}
+
+/// [`judging::judge`] accepts what [`crate::Kit::der`] returns for texts that [`crate::Kit::open`] took, by the text of
+/// the account beside it, in any JSON spelling. So it accepts what [`crate::Kit::account`] returns.
+pub fn judged()
+    ensures account { (xs : List (List ℕ)) (p : Program) (s : List Resolved) (first second o text : List ℕ) (a : Account) →
+        Accepted xs p s →
+        IsEncoded p s first second o a →
+        IsAccountIn text a →
+        IsJudged xs first second o text Yes }
+    ensures text { (xs : List (List ℕ)) (p : Program) (s : List Resolved) (first second text : List ℕ) →
+        Accepted xs p s →
+        IsUtf8 text →
+        (w : IsAccountOf p s first second text) →
+        IsJudged xs first second w.octets text Yes }
+{}
+
+/// What [`crate::Kit::ber`] returns for texts that [`crate::Kit::open`] took is right. Each encoding of a value by the
+/// basic rules, if the caller asks for these, gives that value or `Memory`. What [`crate::Kit::der`] returns gives its
+/// value back by either rules.
 pub fn reading()
-    // What is printed is a value of the type that the octets encode by the rules, and the only one.
+    // The printed text is a value of the type that the octets encode by the rules, and the only one.
     ensures right { (xs : List (List ℕ)) (p : Program) (s : List Resolved) (r : Rules) (name o printed : List ℕ) (k : ℕ) →
         Accepted xs p s →
         IsReadAs p s r name o printed k →
         IsRightlyRead xs r name o printed k }
-    // Of an encoding of a value it is that value, with no additions skipped.
+    // For an encoding of a value, the printed text is that value, and no additions were skipped.
     ensures answered { (p : Program) (s : List Resolved) (r : Rules) (name o printed : List ℕ) (k : ℕ)
         (v : AbstractValue) →
         IsMessageOf p s name o v →
         IsReadAs p s r name o printed k →
         IsAnswer p s name printed k v }
-    // None is refused by the basic rules, want of memory aside.
+    // By the basic rules no encoding of a value has a fault except `Memory`.
     ensures not_refused { (p : Program) (s : List Resolved) (name o : List ℕ) (v : AbstractValue) (e : Fault) →
         IsMessageOf p s name o v →
         IsNotReadAs p s Basic name o e →
         e ≡ Memory }
-    // What is written of a value is such an encoding of it, and refused by neither rules.
+    // The octets that are written for a value are such an encoding of it, and have no fault by either rules except
+    // `Memory`.
     ensures written { (xs : List (List ℕ)) (p : Program) (s : List Resolved) (first second o : List ℕ) (a : Account) →
         Accepted xs p s →
         (w : IsEncoded p s first second o a) →
@@ -68,21 +104,76 @@ pub fn reading()
     sameness();
 }
 
-/// What is answered is not refused too, want of memory aside.
+/// What [`crate::Kit::der`] returns for one version of a type is decoded by [`crate::Kit::ber`] of another version, if
+/// [`crate::Kit::later`] says yes of both.
+pub fn versions()
+    // The older version prints what it keeps of the value, and skips as many additions as it leaves out, unless the value
+    // has an alternative or an item that the older version doesn't know.
+    ensures older { (xs ys : List (List ℕ)) (p q : Program) (s r : List Resolved) (name second o printed : List ℕ)
+        (a : Account) (k : ℕ) →
+        Accepted xs p s →
+        Accepted ys q r →
+        (c : IsCompared p s q r name true) →
+        (w : IsEncoded q r name second o a) →
+        AllBelowBase 256 o →
+        IsKnown s c.older w.value →
+        IsReadAs p s Basic name o printed k →
+        IsKeptAnswer p s name printed k w.value }
+    // It has no fault except `Memory`.
+    ensures older_reads { (xs ys : List (List ℕ)) (p q : Program) (s r : List Resolved) (name second o : List ℕ)
+        (a : Account) (e : Fault) →
+        Accepted xs p s →
+        Accepted ys q r →
+        (c : IsCompared p s q r name true) →
+        (w : IsEncoded q r name second o a) →
+        AllBelowBase 256 o →
+        IsKnown s c.older w.value →
+        IsNotReadAs p s Basic name o e →
+        e ≡ Memory }
+    // The newer version prints the value with what was appended absent, by either rules, and skips nothing.
+    ensures newer { (xs ys : List (List ℕ)) (p q : Program) (s r : List Resolved) (name second o printed : List ℕ)
+        (a : Account) (k : ℕ) (l : Rules') →
+        Accepted xs p s →
+        Accepted ys q r →
+        IsCompared p s q r name true →
+        (w : IsEncoded p s name second o a) →
+        IsReadAs q r (rules_of l) name o printed k →
+        IsWidenedAnswer q r name printed k w.value }
+    // It has no fault except `Memory`.
+    ensures newer_reads { (xs ys : List (List ℕ)) (p q : Program) (s r : List Resolved) (name second o : List ℕ)
+        (a : Account) (e : Fault) (l : Rules') →
+        Accepted xs p s →
+        Accepted ys q r →
+        IsCompared p s q r name true →
+        IsEncoded p s name second o a →
+        IsNotReadAs q r (rules_of l) name o e →
+        e ≡ Memory }
+{
+    earlier_reads();
+    later_reads();
+}
+
+/// Whatever has a result has no fault except `Memory`.
 pub fn one_answer()
-    // Texts that are accepted are opened.
+    // Accepted texts have no fault.
     ensures opened { (xs : List (List ℕ)) (p : Program) (e : Fault) →
         AreAccepted xs p →
         IsNotOpened xs e →
         e ≡ Memory }
-    // What is encoded stands for a value of the type, and its encoding is not too long.
+    // If there is an encoding, the texts mean a value of the type, and its encoding isn't too long.
     ensures written { (xs : List (List ℕ)) (p : Program) (s : List Resolved) (first second o : List ℕ) (a : Account)
         (e : Fault) →
         Accepted xs p s →
         IsEncoded p s first second o a →
         IsNotEncoded p s first second e →
         e ≡ Memory }
-    // What is read encodes a value by the rules.
+    // If a value is packed, it is one of the type, and its bits are not too long.
+    ensures packed { (xs : List (List ℕ)) (p : Program) (s : List Resolved) (first second o : List ℕ) (e : Fault) →
+        Accepted xs p s →
+        IsPacked p s first second o →
+        IsNotPacked p s first second e →
+        e ≡ Memory }
+    // If a value is read, the octets encode a value by the rules.
     ensures read { (p : Program) (s : List Resolved) (r : Rules) (name o printed : List ℕ) (k : ℕ) (e : Fault) →
         IsReadAs p s r name o printed k →
         IsNotReadAs p s r name o e →
@@ -90,25 +181,13 @@ pub fn one_answer()
 {
     faults_exclude();
     accepted_keep();
-    one_value();
+    one_meaning();
 }
 
-/// Refusals of names are told in one order: that of the type, then that of the value, then what is wrong with the
-/// notation or with the octets. Where one stands, none of another kind does.
+/// `NoType` and `Unread` are never both true: the name of the type is checked first. The order of the faults of names
+/// is a law of [`named_values::law`].
 pub fn one_refusal()
-    ensures type_before_value { (p : Program) (first second : List ℕ) (x y : String Global) →
-        IsNotMeant p first second (NoType x) →
-        IsNotMeant p first second (NoValue y) →
-        ⊥ }
-    ensures type_before_notation { (p : Program) (first second : List ℕ) (x : String Global) (t : ValueTold) →
-        IsNotMeant p first second (NoType x) →
-        IsNotMeant p first second (Value t) →
-        ⊥ }
-    ensures value_before_notation { (p : Program) (first second : List ℕ) (x : String Global) (t : ValueTold) →
-        IsNotMeant p first second (NoValue x) →
-        IsNotMeant p first second (Value t) →
-        ⊥ }
-    ensures type_before_octets { (p : Program) (s : List Resolved) (r : Rules) (name o : List ℕ) (x : String Global)
+    ensures { (p : Program) (s : List Resolved) (r : Rules) (name o : List ℕ) (x : String Global)
         (u : Unread') →
         IsNotReadAs p s r name o (NoType x) →
         IsNotReadAs p s r name o (Unread u) →

@@ -1,16 +1,20 @@
-//! The compiler behind one door: a command line, the texts of modules, a type and a value go in, octets come out; a
-//! type and octets go in, a printed value comes out.
+//! The compiler as one library. A command line, the texts of modules, a type and a value go in, and octets come out; or
+//! a type and octets go in, and a printed value comes out.
 #![tactic(auto)]
 
 mod kit;
 pub mod law;
-mod meaning;
-mod naming;
 mod places;
 mod reading;
 
+pub use asn_base::schema::TypeId;
+pub use asn_base::value::Value;
+pub use ber_reader::Read;
+pub use codec_source::ReadFault;
+pub use der_writer::WriteFault;
 pub use kit::Kit;
 pub use messages::{Fault, Unread, number, status};
 pub use octet_account::account::Account;
 pub use reading::Rules;
 pub use sinks::{Counted, InMemory, Sink, Stops, send_all};
+pub use views::{Part, View};

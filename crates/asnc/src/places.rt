@@ -22,7 +22,7 @@ fn component_at(schema: &Schema, id: TypeId, place: usize) -> &str
     }
 }
 
-/// That of an alternative by its number.
+/// The identifier of an alternative of a type by its number.
 fn alternative(schema: &Schema, id: TypeId, number: usize) -> &str
     ensures { result.now ≡ alternative_name schema.now id.index number }
 {
@@ -35,7 +35,7 @@ fn alternative(schema: &Schema, id: TypeId, number: usize) -> &str
     }
 }
 
-/// A name behind a path.
+/// Appends a name to a path, after a dot, unless the path is empty.
 fn push_name(path: &mut String, name: &str) -> Result<(), AllocError>
     ensures { OnOk result (string_bytes path.new ≡ with_name (string_bytes path.old) name.now) }
 {
@@ -46,7 +46,7 @@ fn push_name(path: &mut String, name: &str) -> Result<(), AllocError>
     Ok(())
 }
 
-/// The number of an element behind a path.
+/// Appends the number of an element to a path, in square brackets.
 fn push_number(alloc: Global, path: &mut String, number: usize) -> Result<(), AllocError>
     ensures { OnOk result (string_bytes path.new ≡ with_number (string_bytes path.old) number) }
 {
@@ -57,7 +57,7 @@ fn push_number(alloc: Global, path: &mut String, number: usize) -> Result<(), Al
     Ok(())
 }
 
-/// A part of a value of a type behind a path.
+/// Appends a part of a value of a type to a path.
 fn push_part(
     alloc: Global,
     schema: &Schema,
@@ -74,7 +74,7 @@ fn push_part(
     }
 }
 
-/// The part of an open value that was being read, if any, behind a path.
+/// Appends the part of an open value that was being read to a path, if there is one.
 fn push_open(
     alloc: Global,
     schema: &Schema,
@@ -89,7 +89,7 @@ fn push_open(
     }
 }
 
-/// The parts of open values that were being read, from the outermost in.
+/// The path of the parts of open values that were being read, the outermost first.
 fn path_to(alloc: Global, schema: &Schema, values: &[Open]) -> Result<String, AllocError>
     ensures { IfOk result (λ path. string_bytes path ≡ path_of schema.now values.now) }
 {
@@ -100,7 +100,8 @@ fn path_to(alloc: Global, schema: &Schema, values: &[Open]) -> Result<String, Al
     Ok(path)
 }
 
-/// Where reading the octets as a value of the type stops: the place of the octet, and the parts that were being read.
+/// Where reading the octets as a value of the type stops: the offset of the octet, and the path of the parts that were
+/// being read.
 pub(crate) fn stopped(
     alloc: Global,
     schema: &Schema,

@@ -12,7 +12,6 @@ ghost use Rattle.views.specs.Seen.{IsView};
 ghost use Rattle.views.specs.Tree.{Tree, value_of};
 ghost use Rattle.asnc.specs.Reading.{IsNotRead, IsNotReadAs, IsRead, IsReadAs, IsReadBy, IsUnread, rules_of};
 
-use crate::naming::type_number;
 use crate::places::stopped;
 use asn_base::schema::{Schema, TypeId};
 use ber_reader::{Read, read_ber, read_der};
@@ -20,19 +19,20 @@ use codec_code::Code;
 use codec_source::ReadFault;
 use front_end::Modules;
 use messages::{Fault, Unread};
+use named_values::type_number;
 use std::alloc::Global;
 use view_text::print_shown;
 
-/// By which rules octets are read.
+/// The rules by which octets are read.
 #[derive(Clone, Copy, Debug, PartialEq, Eq)]
 pub enum Rules {
-    /// By the basic ones.
+    /// The basic rules.
     Ber,
-    /// By the distinguished ones.
+    /// The distinguished rules.
     Der,
 }
 
-/// What a fault of octets is to a user, and where it stands.
+/// A fault of octets, as a user sees it, with the octet and the path at which it is.
 fn refusal(
     alloc: Global,
     schema: &Schema,
@@ -55,7 +55,7 @@ fn refusal(
     }
 }
 
-/// The value of a type that octets encode by the basic rules.
+/// The value of a type that octets encode by the basic rules, as a view.
 fn read_basic<'a>(
     alloc: Global,
     code: &Code,
@@ -71,7 +71,7 @@ fn read_basic<'a>(
     }
 }
 
-/// The value of a type that octets encode by the distinguished rules.
+/// The value of a type that octets encode by the distinguished rules, as a view.
 fn read_strict<'a>(
     alloc: Global,
     code: &Code,
@@ -87,8 +87,8 @@ fn read_strict<'a>(
     }
 }
 
-/// The value of a type that octets encode by the rules.
-fn read_by<'a>(
+/// The value of a type that octets encode by the rules, as a view.
+pub(crate) fn read_by<'a>(
     alloc: Global,
     code: &Code,
     id: TypeId,
@@ -104,8 +104,8 @@ fn read_by<'a>(
     }
 }
 
-/// The value of a type that octets encode by the rules, printed, and how many additions were skipped. `Unread` where
-/// they encode none, with the place; `Memory`.
+/// The printed value of a type that octets encode by the rules, and the number of skipped additions. `Unread`: the
+/// octets encode no value of the type; the fault has the place. `Memory`: an allocation failed.
 fn read_text(
     alloc: Global,
     schema: &Schema,
@@ -126,8 +126,8 @@ fn read_text(
     Ok((text, read.skipped))
 }
 
-/// The value of the type that a text names, printed. `NoType` where it names none; `Unread` where the octets encode no
-/// value of the type by the rules; `Memory`.
+/// The printed value of the type that a text names. `NoType`: the text names no type. `Unread`: the octets encode no
+/// value of the type by the rules. `Memory`: an allocation failed.
 pub(crate) fn read_as(
     alloc: Global,
     modules: &Modules,

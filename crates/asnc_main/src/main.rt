@@ -1,63 +1,12 @@
 //! The program `asnc`: reads its words and files, and writes what they ask for.
 #![tactic(auto)]
 
-use asnc::{Counted, Fault, Kit, Rules, send_all, status};
-use command_line::{Given, Job, Verb, job};
-use reports::report;
-use std::io::Read;
+use asnc::{Counted, Kit, Rules};
+use command_line::{Job, Verb};
+use messages::Fault;
+use programs::{end, end_in, job_of, octets_of, texts_of, write};
+use std::io;
 use std::process::ExitCode;
-use std::{env, fs, io};
-
-/// The words of the command line, the first of them the product's name.
-fn words_of(rt: &HostRuntime) -> Result<Vec<String>, Fault> {
-    let alloc = rt.alloc();
-    let mut words = Vec::new(alloc);
-    words.push(String::from_str(alloc, "asnc")?)?;
-    let args = match env::args(rt) {
-        Ok(args) => args,
-        Err(_) => {
-            let text = String::from_str(alloc, "a word of the command line is not text")?;
-            return Err(Fault::BadWords(text));
-        }
-    };
-    for word in args.skip(1) {
-        words.push(word)?;
-    }
-    Ok(words)
-}
-
-/// Tells of a fault: help on standard output, else one line on standard error.
-fn tell(rt: &HostRuntime, fault: &Fault) -> io::Result<()> {
-    match fault {
-        Fault::Help(text) => print!(rt; "{text}"),
-        _ => eprintln!(rt; "{fault}"),
-    }
-}
-
-/// Tells of a fault, and answers the exit status; 3 where it can't be told.
-fn end(rt: &HostRuntime, fault: &Fault) -> ExitCode {
-    match tell(rt, fault) {
-        Ok(()) => ExitCode::from(status(fault)),
-        Err(_) => ExitCode::from(3),
-    }
-}
-
-/// Tells of a fault that a job met, in its files or in their texts.
-fn end_in(rt: &HostRuntime, job: &Job, texts: &[Vec<u8>], fault: &Fault) -> ExitCode {
-    match report(rt.alloc(), job, texts, fault) {
-        Ok(line) => match eprintln!(rt; "{line}") {
-            Ok(()) => ExitCode::from(status(fault)),
-            Err(_) => ExitCode::from(3),
-        },
-        Err(_) => end(rt, &Fault::Memory),
-    }
-}
-
-/// Writes a text to standard output.
-fn write(rt: &HostRuntime, text: &str) -> Result<(), Fault> {
-    let mut out = Counted::of(io::writer(rt));
-    send_all(&mut out, text.as_bytes()).map_err(|sent| Fault::Device(sent))
-}
 
 /// Writes the octets that a job asks for, as they are.
 fn write_raw(rt: &HostRuntime, job: &Job, kit: &Kit) -> Result<(), Fault> {
@@ -70,6 +19,21 @@ fn write_raw(rt: &HostRuntime, job: &Job, kit: &Kit) -> Result<(), Fault> {
 fn write_hex(rt: &HostRuntime, job: &Job, kit: &Kit) -> Result<(), Fault> {
     let (octets, _account) = kit.der(rt.alloc(), job.ty.as_str(), job.value.as_str())?;
     let mut line = hex::encode_upper(rt.alloc(), octets.as_slice())?;
+    line.push('\n')?;
+    write(rt, line.as_str())
+}
+
+/// Writes the octets of canonical PER that a job asks for in hexadecimal, with a line end.
+fn write_packed(rt: &HostRuntime, job: &Job, kit: &Kit) -> Result<(), Fault> {
+    let octets = kit.uper(rt.alloc(), job.ty.as_str(), job.value.as_str())?;
+    let mut line = hex::encode_upper(rt.alloc(), octets.as_slice())?;
+    line.push('\n')?;
+    write(rt, line.as_str())
+}
+
+/// Writes the account that a job asks for, with a line end.
+fn write_account(rt: &HostRuntime, job: &Job, kit: &Kit) -> Result<(), Fault> {
+    let mut line = kit.account(rt.alloc(), job.ty.as_str(), job.value.as_str())?;
     line.push('\n')?;
     write(rt, line.as_str())
 }
@@ -90,78 +54,23 @@ fn work(rt: &HostRuntime, job: &Job, texts: &[Vec<u8>], octets: &[u8]) -> Result
         Verb::Der if job.raw => write_raw(rt, job, &kit),
         Verb::Der => write_hex(rt, job, &kit),
         Verb::Ber => write_value(rt, job, &kit, octets),
+        Verb::Uper => write_packed(rt, job, &kit),
+        Verb::Account => write_account(rt, job, &kit),
         Verb::List => write(rt, kit.list(rt.alloc())?.as_str()),
-    }
-}
-
-/// Why a file could not be read.
-fn file_fault(name: String, error: io::Error) -> Fault {
-    match error.kind() {
-        io::ErrorKind::NotFound => Fault::NoFile(name),
-        io::ErrorKind::IsADirectory => Fault::Folder(name),
-        io::ErrorKind::OutOfMemory => Fault::Memory,
-        _ => Fault::File(name),
-    }
-}
-
-/// What standard input holds.
-fn input(rt: &HostRuntime) -> io::Result<Vec<u8>> {
-    let mut text = Vec::new(rt.alloc());
-    let mut stdin = rt.stdin();
-    stdin.read_to_end(&mut text)?;
-    Ok(text)
-}
-
-/// The text of a file; `-` is standard input.
-fn text_of(rt: &HostRuntime, file: &str) -> io::Result<Vec<u8>> {
-    if file == "-" {
-        input(rt)
-    } else {
-        fs::read(rt, file)
-    }
-}
-
-/// Refuses that standard input is to be read twice.
-fn check_input(rt: &HostRuntime, files: &[String]) -> Result<(), Fault> {
-    if files.iter().filter(|file| file.as_str() == "-").count() > 1 {
-        let words = String::from_str(rt.alloc(), "standard input, -, can be one FILE alone")?;
-        return Err(Fault::BadWords(words));
-    }
-    Ok(())
-}
-
-/// The texts of files, in order.
-fn texts_of(rt: &HostRuntime, files: &[String]) -> Result<Vec<Vec<u8>>, Fault> {
-    check_input(rt, files)?;
-    let mut texts = Vec::new(rt.alloc());
-    for file in files {
-        match text_of(rt, file.as_str()) {
-            Ok(text) => texts.push(text)?,
-            Err(error) => return Err(file_fault(file.clone()?, error)),
+        Verb::Check => {
+            let words = String::from_str(rt.alloc(), "accounts are checked by octcheck")?;
+            Err(Fault::BadWords(words))
         }
-    }
-    Ok(texts)
-}
-
-/// The octets that a job gives.
-fn octets_of(rt: &HostRuntime, given: &Given) -> Result<Vec<u8>, Fault> {
-    match given {
-        Given::Nothing => Ok(Vec::new(rt.alloc())),
-        Given::Octets(octets) => Ok(octets.clone()?),
-        Given::Path(name) => match fs::read(rt, name.as_str()) {
-            Ok(octets) => Ok(octets),
-            Err(error) => Err(file_fault(name.clone()?, error)),
-        },
     }
 }
 
 /// Reads the files of a job and does it.
 fn run(rt: &HostRuntime, job: &Job) -> ExitCode {
-    let octets = match octets_of(rt, &job.octets) {
+    let octets = match octets_of(rt, job) {
         Ok(octets) => octets,
         Err(fault) => return end_in(rt, job, &[], &fault),
     };
-    let texts = match texts_of(rt, job.files.as_slice()) {
+    let texts = match texts_of(rt, job) {
         Ok(texts) => texts,
         Err(fault) => return end_in(rt, job, &[], &fault),
     };
@@ -172,11 +81,7 @@ fn run(rt: &HostRuntime, job: &Job) -> ExitCode {
 }
 
 fn main(rt: HostRuntime) -> ExitCode {
-    let words = match words_of(&rt) {
-        Ok(words) => words,
-        Err(fault) => return end(&rt, &fault),
-    };
-    match job(rt.alloc(), words.as_slice()) {
+    match job_of(&rt, "asnc") {
         Ok(job) => run(&rt, &job),
         Err(fault) => end(&rt, &fault),
     }

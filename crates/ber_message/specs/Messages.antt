@@ -1,4 +1,4 @@
--- What a message says, and what was told of it.
+-- What a message encodes, and the tokens that were read of it.
 use Rattle.std.specs.Prelude.{◌≡◌, ℕ, ◌+◌, ◌*◌, ◌<◌, ◌≤◌, List, [], ◌++◌, length}
 use Rattle.asn_base.specs.declared.schema.TypeId.{TypeId}
 use Rattle.asn_base.specs.Abstract.{AbstractValue}
@@ -21,9 +21,9 @@ use Rattle.reading_law.specs.Shows.{Shows, passed_in, StandIn}
 use Rattle.ber_views.specs.Telling.{IsBuiltOf}
 use Rattle.ber_views.specs.declared.telling.Built.{Built}
 
--- octets say a value of the type as it stands, with so many unknown additions, by the basic rules; they are at most as
--- many as a message has, with at most 400 levels of headers. The tokens show the value, and as many skipped additions;
--- contents octets stand in the message where they are told to.
+-- The octets encode exactly a value of the type by the basic rules, with `count` unknown additions. They are at most
+-- 16,777,216, with at most 400 levels of headers. The tokens show the value, and as many skipped additions. The
+-- contents octets of a token are in the message at the offset that the token has.
 pub record IsMessage (s : List Resolved) (t : TypeNumber) (o : Octets) (told : List Token) : Type 0 where
   pub value : AbstractValue
   pub count : ℕ
@@ -34,7 +34,8 @@ pub record IsMessage (s : List Resolved) (t : TypeNumber) (o : Octets) (told : L
   pub counted : passed_in told ≡ count
   pub stand : StandIn o told
 
--- as many values begin at most: each octet but the last begins a header at most, and 64 values stand one in another
+-- The most values that can begin in n octets: each octet except the last begins at most one header, and at most 64
+-- values are nested.
 abbrev pub room_of : ℕ → ℕ
 room_of n = n * 64 + 64
 
@@ -44,15 +45,15 @@ pub record IsRead (s : List Resolved) (t : TypeId) (o : Octets) : Type 0 where
   pub reads : Reads (λ u. routine_at s u) Takes t (front s o (room_of (length o))) last
   pub at_end : last.here.octets ≡ []
 
--- The view of such a value, built of the tokens that the type's routine reads of a message to its end, which it reads
--- in one way alone, with the number of additions that were skipped.
+-- The view of a value, built of the tokens that the type's routine reads of a message to its end, with the number of
+-- additions that were skipped. The routine reads the message in exactly one way.
 pub record IsViewed (s : List Resolved) (t : TypeNumber) (o : Octets) (b : Built) : Type 0 where
   pub read : IsRead s (id_of t) o
   pub one : (other : IsRead s (id_of t) o) → other.last ≡ read.last
   pub message : IsMessage s t o read.last.told
   pub built : IsBuiltOf s read.last.told b
 
--- a proper front of the octets says a value
+-- the octets start with an encoding of a value, and may go on
 pub record HasMessageFirst (s : List Resolved) (t : TypeNumber) (o : Octets) : Type 0 where
   pub value : AbstractValue
   pub count : ℕ
@@ -62,15 +63,15 @@ pub record HasMessageFirst (s : List Resolved) (t : TypeNumber) (o : Octets) : T
   pub whole : o ≡ octets ++ rest
   pub some : 1 ≤ length rest
 
--- the type's routine comes to the end of contents in which something must stand yet
+-- the type's routine comes to the end of contents in which a mandatory component is still missing
 pub record EndsTooSoon (s : List Resolved) (t : TypeId) (o : Octets) : Type 0 where
   pub last : State
   pub stops :
       StopsReading (λ u. routine_at s u) Takes (λ a q b. Leaves a q b Missing) t (front s o (room_of (length o))) last
   pub at_end : last.here.octets ≡ []
 
--- Octets say something of the type's shape that is no value of it: a constraint isn't met, an ENUMERATED lacks the
--- number, a group is not whole, or an absent component's DEFAULT has too many levels.
+-- The octets encode something of the type's shape that isn't a value of the type. A constraint isn't met, an ENUMERATED
+-- lacks the number, a group isn't whole, or the DEFAULT of an absent component has too many levels.
 pub record SaysNoValue (s : List Resolved) (t : TypeNumber) (o : Octets) : Type 0 where
   pub value : AbstractValue
   pub count : ℕ
@@ -79,8 +80,8 @@ pub record SaysNoValue (s : List Resolved) (t : TypeNumber) (o : Octets) : Type 
   pub short : length o ≤ 16777216
   pub is_none : IsValueWithoutNodes s t value → ⊥
 
--- Octets say a value of the type, constraints included, within 400 levels; they are at most as many as a message has.
--- By the definition of values it has at most 64 levels.
+-- The octets encode exactly a value of the type, which meets its constraints, within 400 levels of headers. They are at
+-- most 16,777,216. By the definition of values the value has at most 64 levels.
 pub record IsEncoding (s : List Resolved) (t : TypeNumber) (o : Octets) : Type 0 where
   pub value : AbstractValue
   pub count : ℕ
@@ -89,7 +90,7 @@ pub record IsEncoding (s : List Resolved) (t : TypeNumber) (o : Octets) : Type 0
   pub few : levels is_said ≤ 400
   pub short : length o ≤ 16777216
 
--- the octets are a proper front of such an encoding
+-- the octets are the start of a longer encoding of a value of the type
 pub record BeginsEncoding (s : List Resolved) (t : TypeNumber) (o : Octets) : Type 0 where
   pub octets : Octets
   pub missing : Octets
@@ -97,7 +98,7 @@ pub record BeginsEncoding (s : List Resolved) (t : TypeNumber) (o : Octets) : Ty
   pub whole : octets ≡ o ++ missing
   pub some : 1 ≤ length missing
 
--- such an encoding is a proper front of the octets, which are at most as many as a message has
+-- the octets start with an encoding of a value of the type, and go on; they are at most 16,777,216
 pub record HasEncodingFirst (s : List Resolved) (t : TypeNumber) (o : Octets) : Type 0 where
   pub octets : Octets
   pub rest : Octets
@@ -106,28 +107,28 @@ pub record HasEncodingFirst (s : List Resolved) (t : TypeNumber) (o : Octets) : 
   pub some : 1 ≤ length rest
   pub short : length o ≤ 16777216
 
--- the type's routine comes to a question without an answer, which is refused with this fault
+-- the type's routine comes to a question that the octets don't answer, and the fault is that of this question
 pub record StopsWith (s : List Resolved) (t : TypeId) (o : Octets) (e : ReadFault) : Type 0 where
   pub last : State
   pub stops :
       StopsReading (λ u. routine_at s u) Takes (λ a q b. Leaves a q b e) t (front s o (room_of (length o))) last
 
--- a value is read, and octets are left behind it
+-- the type's routine reads a value, and octets are left after it
 pub record IsReadBefore (s : List Resolved) (t : TypeId) (o : Octets) : Type 0 where
   pub last : State
   pub reads : Reads (λ u. routine_at s u) Takes t (front s o (room_of (length o))) last
   pub left : last.here.octets ≡ [] → ⊥
 
--- octets that are read as a message of the type: no more than one has, of a type that stands, with a whole first header
--- and the contents that it tells
+-- Octets that the routine of the type tries to read. They are at most 16,777,216, the schema has the type, the first
+-- header is whole, and so are the contents octets that it promises.
 pub record AreTried (s : List Resolved) (t : TypeId) (o : Octets) : Type 0 where
   pub short : length o ≤ 16777216
   pub type : t.index < length s
   pub header : EndsEarly o → ⊥
 
--- Why octets are refused as a message of the type, constraints apart: there are more than one has; the schema lacks the
--- type, so that no tag is the first one of it; they end within their first header, or before the contents that it
--- tells; else a value ends before they do, or a question has no answer.
+-- Why octets are refused as a message of the type, apart from constraints. There are more than 16,777,216; the schema
+-- lacks the type, so that no tag is expected; the octets end within their first header, or before the contents that it
+-- promises. Otherwise a value ends before the octets do, or they don't answer a question of the routine.
 pub data Refuses (s : List Resolved) (t : TypeId) (o : Octets) : ReadFault → Type 0 where
   too_long : 16777216 < length o → Refuses s t o MessageLimit
   no_type : length o ≤ 16777216 → (t.index < length s → ⊥) → Refuses s t o UnexpectedTag

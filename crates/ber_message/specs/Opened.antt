@@ -1,4 +1,4 @@
--- Which values are open behind tokens, and which of their parts are being read.
+-- Which values are open after some tokens, and which of their parts are being read.
 use Rattle.std.specs.Prelude.{ℕ, suc, List, [], ◌∷◌, ◌++◌, Option, Some, None}
 use Rattle.asn_base.specs.declared.schema.TypeId.{TypeId}
 use Rattle.octet_answers.specs.States.{Token, component, chosen, begun, ended, held, passed}
@@ -6,14 +6,14 @@ use Rattle.ber_message.specs.declared.open.Open.{Open}
 use Rattle.ber_message.specs.declared.open.Part.{Part}
 use Rattle.ber_message.specs.declared.open.Part.TheVariants.{Component, Alternative, Element}
 
--- a value that begins
+-- a value of type t that begins, of which no part was read
 abbrev pub opened : TypeId → Open
 opened t = record { ty = t; part = None; read = 0 }
 
 abbrev pub with_part : Option Part → Open → Open
 with_part p o = record { ty = o.ty; part = p; read = o.read }
 
--- the part that begins: the one that was told, or else the next element
+-- the part that begins: the one that a token named, or else element n
 abbrev pub part_or : Option Part → ℕ → Option Part
 part_or None n = Some (Element n)
 part_or (Some p) n = Some p
@@ -21,7 +21,7 @@ part_or (Some p) n = Some p
 abbrev pub entered : Open → Open
 entered o = with_part (part_or o.part o.read) o
 
--- behind a part
+-- the value after one of its parts ended
 abbrev pub behind_part : Open → Open
 behind_part o = record { ty = o.ty; part = None; read = suc o.read }
 
@@ -35,7 +35,7 @@ but_last [] = []
 but_last (o ∷ []) = []
 but_last (o ∷ p ∷ os) = o ∷ but_last (p ∷ os)
 
--- the values that are open behind one token more, the outermost first
+-- the values that are open after one more token, the outermost first
 abbrev pub opens_after : List Open → Token → List Open
 opens_after os (component i) = on_last (with_part (Some (Component i))) os
 opens_after os (chosen i) = on_last (with_part (Some (Alternative i))) os
@@ -48,6 +48,6 @@ abbrev pub opens_from : List Open → List Token → List Open
 opens_from os [] = os
 opens_from os (t ∷ ts) = opens_from (opens_after os t) ts
 
--- the values that are open behind the tokens, the outermost first
+-- the values that are open after the tokens, the outermost first
 abbrev pub opens : List Token → List Open
 opens ts = opens_from [] ts

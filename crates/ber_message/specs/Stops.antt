@@ -14,15 +14,16 @@ use Rattle.reading_law.specs.Shows.{IsSliceAt}
 use Rattle.ber_message.specs.Opened.{entered, on_last, opens}
 use Rattle.ber_message.specs.declared.stop.Whereabouts.{Whereabouts}
 
--- the place of the octets that aren't read, which stand there in the message, and the values that are open behind what
--- was read
+-- the offset of the first octet that isn't read, and the values that are open there; the unread octets are the rest of
+-- the message from that offset
 pub record IsAt (o : Octets) (w : Whereabouts) (z : State) : Type 0 where
   pub place : w.place ≡ z.here.at
   pub unread : IsSliceAt o w.place z.here.octets
   pub values : w.values.items ≡ opens z.told
 
--- From the front of the octets, where so many values may begin, the type's routine comes to a question without an
--- answer, or reads a value; or there are more octets than a message has, and the first one behind those is told.
+-- Where reading of the octets stops, if at most `most` values may begin. The type's routine comes to a question that
+-- the octets don't answer, or it reads a value. If there are more than 16,777,216 octets, the place is the first octet
+-- after these.
 pub data IsStop (s : List Resolved) (t : TypeId) (o : Octets) (most : ℕ) (w : Whereabouts) : Type 0 where
   stops : (z : State) (e : ReadFault)
       → StopsReading (λ u. routine_at s u) Takes (λ a q b. Leaves a q b e) t (front s o most) z
@@ -31,12 +32,13 @@ pub data IsStop (s : List Resolved) (t : TypeId) (o : Octets) (most : ℕ) (w : 
   reads : (z : State) → Reads (λ u. routine_at s u) Takes t (front s o most) z → IsAt o w z → IsStop s t o most w
   is_long : 16777216 < length o → w.place ≡ 16777216 → w.values.items ≡ [] → IsStop s t o most w
 
--- the same place, at which a part of the innermost open value begins: the one that was told, or else its next element
+-- the same place, at which a part of the innermost open value begins: the one that a token named, or else its next
+-- element
 pub record IsEntered (v w : Whereabouts) : Type 0 where
   pub place : w.place ≡ v.place
   pub values : w.values.items ≡ on_last entered v.values.items
 
--- Reading stops there if so many values may begin, and what isn't read is a part of the innermost open value.
+-- Reading stops there if only so many values may begin, and what isn't read is a part of the innermost open value.
 pub record IsStopBefore (s : List Resolved) (t : TypeId) (o : Octets) (w : Whereabouts) : Type 0 where
   pub most : ℕ
   pub stopped : Whereabouts

@@ -1,11 +1,11 @@
--- Ways to a value that begins, by the values that are open round it and the part of each that leads on.
+-- Ways to a value that begins: the values that are open around it, and the part of each that leads on.
 use Rattle.std.specs.Prelude.{◌≡◌, ℕ, suc, List, [], ◌∷◌, ◌++◌, map}
 use Rattle.asn_base.specs.declared.schema.TypeId.{TypeId}
 use Rattle.octet_answers.specs.States.{Token, component, chosen, begun, ended, held, passed}
 use Rattle.ber_message.specs.Opened.{entered, on_last, opens, opens_after}
 use Rattle.ber_message.specs.declared.open.Open.{Open}
 
--- how many values begin among the tokens
+-- the number of values that begin among the tokens
 abbrev pub begun_in : List Token → ℕ
 begun_in [] = 0
 begun_in (begun t ∷ ts) = suc (begun_in ts)
@@ -15,16 +15,16 @@ begun_in (ended ∷ ts) = begun_in ts
 begun_in (held k c x at ∷ ts) = begun_in ts
 begun_in (passed ∷ ts) = begun_in ts
 
--- an open value as it stands on a way, however many parts of it were read
+-- an open value as a step of a way, apart from how many parts of it were read
 abbrev pub on_way : Open → Open
 on_way o = record { ty = o.ty; part = o.part; read = 0 }
 
--- a value that begins in the innermost of the open values stands where the way leads
+-- a value that begins in the innermost open value is the one to which the way leads
 abbrev pub Leads : List Open → List Open → Type 0
 Leads way os = map on_way (on_last entered os) ≡ map on_way way
 
--- How many values begin before the first one to which the way leads, from where these are open; where it leads to none
--- of them, how many begin.
+-- The number of values that begin before the first one to which the way leads, if the values os are open at first. If
+-- the way leads to none of them, it is the number of all values that begin.
 pub data BeginsBefore (way : List Open) : List Open → List Token → ℕ → Type 0 where
   no_token : {os : List Open} → BeginsBefore way os [] 0
   leads_here : {os : List Open} {t : TypeId} {ts : List Token}
@@ -39,7 +39,7 @@ pub data BeginsBefore (way : List Open) : List Open → List Token → ℕ → T
       → BeginsBefore way (opens_after os t) ts n
       → BeginsBefore way os (t ∷ ts) n
 
--- these values are open behind tokens among which so many values begin, and one more begins behind them
+-- the values os are open after tokens among which `most` values begin, and one more value begins after those tokens
 pub record AreOpenBefore (all : List Token) (most : ℕ) (os : List Open) : Type 0 where
   pub before : List Token
   pub value : TypeId

@@ -11,8 +11,8 @@ ghost use Rattle.std.specs.Prelude.{◌≡◌, ◌<◌, ◌≤◌, List, length,
 use octets::law::one_front;
 use reading_law::law::{read_is_said, said_is_read, stops_once};
 
-/// One fault at most refuses octets as a message of a type, constraints apart, and none refuses what the type's routine
-/// reads to its end.
+/// Octets have at most one fault as a message of a type, apart from constraints. Octets that the type's routine reads
+/// to their end have none.
 pub fn one_refusal()
     ensures once { (s : List Resolved) (t : TypeId) (o : List ℕ) (e f : ReadFault)
         → Refuses s t o e

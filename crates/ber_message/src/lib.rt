@@ -1,6 +1,5 @@
-//! A whole message, read by the routine of its type by the basic rules: what was read is what its octets say (X.690,
-//! 8.1 to
-//! 8.14); and where reading stops.
+//! A whole message, read by the routine of its type by the basic rules: what was read is what its octets encode (X.690,
+//! 8.1 to 8.14), and where reading stops.
 #![tactic(auto)]
 
 pub mod law;

@@ -1,4 +1,4 @@
-//! Whole messages.
+//! Whole messages as tokens.
 
 ghost use Rattle.asn_base.specs.Abstract.{AbstractValue};
 ghost use Rattle.asn_base.specs.declared.tag.Tag.{Tag as Tag'};
@@ -22,11 +22,11 @@ use octets::{HeaderFault, read_header};
 use reading_law::law::{read_is_said, said_is_read};
 use std::alloc::Global;
 
-/// The tokens of a message of the type, read by the basic rules (X.690, 8.1 to 8.14) from the front; its strings are
-/// slices of it. Constraints are not judged.
+/// Reads a message of the type by the basic rules (X.690, 8.1 to 8.14), from its start, and returns its tokens. Strings
+/// are slices of the message. Constraints aren't judged.
 ///
-/// `MessageLimit`: it has more than 16,777,216 octets. `Trailing`: a value ends before the octets do. The first fault
-/// met is told. A type that the code lacks is `UnexpectedTag`.
+/// `MessageLimit`: the message has more than 16,777,216 octets. `Trailing`: a value ends before the octets do. Any
+/// other fault is the first one from the start of the message. A type that the code lacks is `UnexpectedTag`.
 pub fn read_message<'a>(
     alloc: Global,
     code: &Code,
@@ -34,9 +34,9 @@ pub fn read_message<'a>(
     octets: &'a [u8],
 ) -> Result<Vec<Token<'a>>, ReadFault>
     ensures ok { IfOk result (λ ts. IsMessage code.now id.index octets.now (map token_of ts.items)) }
-    // The type's routine reads these, and no others.
+    // The type's routine reads exactly these tokens.
     ensures told { IfOk result (λ ts. (r : IsRead code.now id octets.now) → r.last.told ≡ map token_of ts.items) }
-    // It is the only value that they say, with the only number of additions.
+    // The octets exactly encode no other value, and have no other number of unknown additions.
     ensures only { IfOk result (λ ts. (m : IsMessage code.now id.index octets.now (map token_of ts.items))
         → (w : AbstractValue) (k : ℕ)
         → Says code.now Basic id.index w k octets.now
@@ -44,21 +44,21 @@ pub fn read_message<'a>(
     ensures limit { 16777216 < length octets.now → result ≡ Err MessageLimit }
     ensures long { result ≡ Err MessageLimit → 16777216 < length octets.now }
     ensures trailing { result ≡ Err Trailing → HasMessageFirst code.now id.index octets.now }
-    // Whatever encodes a value of the type is read, memory apart; 89 is told where its encoding is a proper front of
-    // them, and 80 where they are one of it.
+    // Octets that encode a value of the type are read, unless an allocation fails. `Trailing` if the octets start with
+    // a complete encoding and go on; `Truncated` if they are the start of one.
     ensures read { IsEncoding code.now id.index octets.now → IfErr result (λ e. e ≡ Memory) }
     ensures more { HasEncodingFirst code.now id.index octets.now → (result ≡ Err Trailing) ⊎ (result ≡ Err Memory) }
     ensures less { BeginsEncoding code.now id.index octets.now → result ≡ Err Truncated }
-    // 85 is told at the end of contents, and 88 of nothing: constraints are not judged.
+    // `Missing` comes only at the end of contents. `OutsideConstraint` never comes: constraints aren't judged.
     ensures missing { result ≡ Err Missing → EndsTooSoon code.now id octets.now }
     ensures outside { result ≡ Err OutsideConstraint → ⊥ }
-    // A refusal but for want of memory or length says that the routine of the type reads nothing to the end.
+    // Any fault except `Memory` and `MessageLimit` means that the type's routine doesn't read the octets to their end.
     ensures err { IfErr result (λ e. (e ≡ Memory → ⊥)
         → (e ≡ MessageLimit → ⊥)
         → id.index < length code.now
         → IsRead code.now id octets.now
         → ⊥) }
-    // Any refusal but for want of memory stands. None is by the distinguished rules.
+    // Every fault except `Memory` is a true reason to refuse the octets. None is `NotDer`.
     ensures refused { IfErr result (λ e. (e ≡ Memory → ⊥) → Refuses code.now id octets.now e) }
     ensures not_der { result ≡ Err NotDer → ⊥ }
 {
@@ -90,12 +90,12 @@ pub fn read_message<'a>(
     Ok(cursor.into_tokens())
 }
 
-/// They are octets.
+/// Each octet is below 256.
 pub(crate) fn are_octets(octets: &[u8])
     ensures { AllBelowBase 256 octets.now }
 {}
 
-/// Whether the octets end within the header at their front, or before the contents that it tells.
+/// Whether the octets end within the header at their start, or before the contents octets that it promises.
 pub(crate) fn ends_early(octets: &[u8]) -> bool
     ensures early { result ≡ true → EndsEarly octets.now }
     ensures late { EndsEarly octets.now → result ≡ true }

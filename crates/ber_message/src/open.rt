@@ -1,4 +1,4 @@
-//! Which values are open behind what was read, and which of their parts are being read.
+//! Which values are open after some tokens, and which of their parts are being read.
 
 ghost use Rattle.ber_message.specs.Opened.{behind_part, but_last, entered as entered', on_last, opened, opens, opens_after, part_or, with_part};
 ghost use Rattle.ber_source.specs.Seen.{token_of};
@@ -20,7 +20,7 @@ pub enum Part {
     Element(usize),
 }
 
-/// A value that is open: its type, which of its parts is being read, if any, and how many were read to their ends.
+/// A value that is open: its type, the part of it that is being read, if any, and the number of its parts that ended.
 #[derive(Clone, Copy, PartialEq, Eq, Debug)]
 pub struct Open {
     pub ty: TypeId,
@@ -35,7 +35,7 @@ fn push_open(list: &mut Vec<Open>, one: Open) -> Result<(), AllocError>
     Ok(())
 }
 
-/// The part that begins: the one that was told, or else the next element.
+/// The part that begins: the one that a token named, or else the next element.
 fn part_of(value: Open) -> Option<Part>
     ensures { result ≡ part_or value.part value.read }
 {
@@ -56,7 +56,7 @@ pub(crate) fn entered(value: Open) -> Open
     }
 }
 
-/// A part of the innermost open value is told.
+/// Sets the part of the innermost open value, as a token named it.
 fn tell(list: &mut Vec<Open>, part: Part) -> Result<(), AllocError>
     ensures { OnOk result (list.new.items ≡ on_last (with_part (Some part)) list.old.items) }
 {
@@ -73,7 +73,7 @@ fn tell(list: &mut Vec<Open>, part: Part) -> Result<(), AllocError>
     }
 }
 
-/// A part of the innermost open value begins: the one that was told, or else its next element.
+/// A part of the innermost open value begins: the one that a token named, or else its next element.
 pub(crate) fn enter(list: &mut Vec<Open>) -> Result<(), AllocError>
     ensures { OnOk result (list.new.items ≡ on_last entered' list.old.items) }
 {
@@ -83,7 +83,7 @@ pub(crate) fn enter(list: &mut Vec<Open>) -> Result<(), AllocError>
     }
 }
 
-/// The part of the innermost open value that was being read ends.
+/// Ends the part of the innermost open value that was being read.
 fn pass(list: &mut Vec<Open>) -> Result<(), AllocError>
     requires { AllByRecursion (λ o. o.read < 18446744073709551615) list.old.items }
     ensures { OnOk result (list.new.items ≡ on_last behind_part list.old.items) }
@@ -101,7 +101,7 @@ fn pass(list: &mut Vec<Open>) -> Result<(), AllocError>
     }
 }
 
-/// The innermost open value ends.
+/// Ends the innermost open value.
 fn leave(list: &mut Vec<Open>) -> Result<(), AllocError>
     requires { AllByRecursion (λ o. o.read < 18446744073709551615) list.old.items }
     ensures { OnOk result (list.new.items ≡ on_last behind_part (but_last list.old.items)) }
@@ -112,7 +112,7 @@ fn leave(list: &mut Vec<Open>) -> Result<(), AllocError>
     }
 }
 
-/// A value of the type begins.
+/// Begins a value of the type, within the innermost open value.
 fn begin(list: &mut Vec<Open>, id: TypeId) -> Result<(), AllocError>
     ensures { OnOk result (list.new.items ≡ on_last entered' list.old.items ++ opened id ∷ []) }
 {
@@ -127,7 +127,7 @@ fn begin(list: &mut Vec<Open>, id: TypeId) -> Result<(), AllocError>
     )
 }
 
-/// One token more.
+/// Changes the list of open values as one more token requires.
 pub(crate) fn take(list: &mut Vec<Open>, token: Token<'_>) -> Result<(), AllocError>
     requires { AllByRecursion (λ o. o.read < 18446744073709551615) list.old.items }
     ensures { OnOk result (list.new.items ≡ opens_after list.old.items (token_of token.entry)) }
@@ -147,7 +147,7 @@ pub(crate) fn take(list: &mut Vec<Open>, token: Token<'_>) -> Result<(), AllocEr
     }
 }
 
-/// The values that are open behind the tokens, the outermost first.
+/// The values that are open after the tokens, the outermost first. `AllocError` comes only if an allocation fails.
 pub(crate) fn open_behind(alloc: Global, tokens: &[Token<'_>]) -> Result<Vec<Open>, AllocError>
     ensures { IfOk result (λ list. list.items ≡ opens (map token_of tokens.now)) }
 {

@@ -17,8 +17,8 @@ use octet_answers::law::one_answer;
 use reading_law::law::stops_in_place;
 use std::alloc::{AllocError, Global};
 
-/// Where reading of a message stops: the place of the first octet that isn't read, from 0, and the values that are open
-/// there, the outermost first, each with the part of it that was being read.
+/// Where reading of a message stops: the offset of the first octet that isn't read, from 0, and the values that are
+/// open there. They are in order, the outermost first, each with the part of it that was being read.
 #[derive(Drop)]
 pub struct Whereabouts {
     pub place: usize,
@@ -26,7 +26,8 @@ pub struct Whereabouts {
 }
 
 impl Whereabouts {
-    /// What was not read is a part of the innermost open value: the one that was told, or else its next element.
+    /// Marks that a part of the innermost open value begins: the part that a token named, or else the next element.
+    /// `AllocError` comes only if an allocation fails.
     pub fn enter(&mut self) -> Result<(), AllocError>
         ensures { OnOk result (IsEntered self.old self.new) }
     {
@@ -34,17 +35,18 @@ impl Whereabouts {
     }
 }
 
-/// How many values begin in the message at most: each octet but the last begins a header at most, and 64 values stand
-/// one in another.
+/// The most values that can begin in a message: each octet except the last begins at most one header, and at most 64
+/// values are nested.
 pub fn most_values(octets: &[u8]) -> usize
     ensures { length octets.now ≤ 16777216 → result ≡ room_of (length octets.now) }
 {
     octets.len().min(MAX_MESSAGE) * MAX_OPEN + MAX_OPEN
 }
 
-/// Where reading of the message stops, if so many values may begin at most.
+/// Returns where reading of the message stops, if at most `most` values may begin. `AllocError` comes only if an
+/// allocation fails.
 ///
-/// Of a message with more than 16,777,216 octets it is the first one behind those.
+/// If the message has more than 16,777,216 octets, the place is the first octet after these.
 pub fn stop_of(
     alloc: Global,
     code: &Code,
@@ -54,7 +56,8 @@ pub fn stop_of(
 ) -> Result<Whereabouts, AllocError>
     ensures is { IfOk result (λ w. IsStop code.now id octets.now most w) }
     ensures place { IfOk result (λ w. w.place ≤ length octets.now) }
-    // Of what is read to its end if as many begin as do, it stops before the one that may not.
+    // If the message would be read to its end, and more than `most` values begin in it, reading stops before the first
+    // value that may not begin.
     ensures before { (r : IsRead code.now id octets.now)
         → length octets.now ≤ 16777216
         → most < begun_in r.last.told
@@ -88,7 +91,7 @@ fn is_memory(fault: ReadFault) -> bool
     fault == ReadFault::Memory
 }
 
-/// Where the cursor stands.
+/// The cursor's offset, and the values that are open there.
 fn told(alloc: Global, cursor: &Cursor<'_, '_>) -> Result<Whereabouts, AllocError>
     ensures place { IfOk result (λ w. w.place ≡ cursor.now.here.at) }
     ensures values { IfOk result (λ w. w.values.items ≡ opens cursor.now.told) }

@@ -18,12 +18,12 @@ use limits::{MAX_MESSAGE, MAX_OPEN};
 use reading_law::law::{read_is_said, said_is_read};
 use std::alloc::Global;
 
-/// The view of a message of the type, read by the basic rules (X.690, 8.1 to 8.14) from the front, with the number of
-/// additions that were skipped; its strings are slices of the message. It is what `read_message` reads, which keeps no
-/// tokens. Constraints are not judged.
+/// Reads a message of the type by the basic rules (X.690, 8.1 to 8.14), from its start. Returns the view of its value,
+/// and the number of additions that were skipped. Strings are slices of the message. The function reads what
+/// `read_message` reads, but keeps no tokens. Constraints aren't judged.
 ///
-/// `MessageLimit`: it has more than 16,777,216 octets. `Trailing`: a value ends before the octets do. The first fault
-/// met is told. A type that the code lacks is `UnexpectedTag`.
+/// `MessageLimit`: the message has more than 16,777,216 octets. `Trailing`: a value ends before the octets do. Any
+/// other fault is the first one from the start of the message. A type that the code lacks is `UnexpectedTag`.
 pub fn read_view<'a>(
     alloc: Global,
     code: &Code,
@@ -31,7 +31,7 @@ pub fn read_view<'a>(
     octets: &'a [u8],
 ) -> Result<Built<'a>, ReadFault>
     ensures ok { IfOk result (λ b. IsViewed code.now id.index octets.now b) }
-    // It is the only value that they say, with the only number of additions.
+    // The octets exactly encode no other value, and have no other number of unknown additions.
     ensures only { IfOk result (λ b. (v : IsViewed code.now id.index octets.now b)
         → (w : AbstractValue) (k : ℕ)
         → Says code.now Basic id.index w k octets.now
@@ -39,21 +39,21 @@ pub fn read_view<'a>(
     ensures limit { 16777216 < length octets.now → result ≡ Err MessageLimit }
     ensures long { result ≡ Err MessageLimit → 16777216 < length octets.now }
     ensures trailing { result ≡ Err Trailing → HasMessageFirst code.now id.index octets.now }
-    // Whatever encodes a value of the type is read, memory apart; 89 is told where its encoding is a proper front of
-    // them, and 80 where they are one of it.
+    // Octets that encode a value of the type are read, unless an allocation fails. `Trailing` if the octets start with
+    // a complete encoding and go on; `Truncated` if they are the start of one.
     ensures read { IsEncoding code.now id.index octets.now → IfErr result (λ e. e ≡ Memory) }
     ensures more { HasEncodingFirst code.now id.index octets.now → (result ≡ Err Trailing) ⊎ (result ≡ Err Memory) }
     ensures less { BeginsEncoding code.now id.index octets.now → result ≡ Err Truncated }
-    // 85 is told at the end of contents, and 88 of nothing: constraints are not judged.
+    // `Missing` comes only at the end of contents. `OutsideConstraint` never comes: constraints aren't judged.
     ensures missing { result ≡ Err Missing → EndsTooSoon code.now id octets.now }
     ensures outside { result ≡ Err OutsideConstraint → ⊥ }
-    // A refusal but for want of memory or length says that the routine of the type reads nothing to the end.
+    // Any fault except `Memory` and `MessageLimit` means that the type's routine doesn't read the octets to their end.
     ensures err { IfErr result (λ e. (e ≡ Memory → ⊥)
         → (e ≡ MessageLimit → ⊥)
         → id.index < length code.now
         → IsRead code.now id octets.now
         → ⊥) }
-    // Any refusal but for want of memory stands. None is by the distinguished rules.
+    // Every fault except `Memory` is a true reason to refuse the octets. None is `NotDer`.
     ensures refused { IfErr result (λ e. (e ≡ Memory → ⊥) → Refuses code.now id octets.now e) }
     ensures not_der { result ≡ Err NotDer → ⊥ }
 {

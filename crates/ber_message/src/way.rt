@@ -9,7 +9,7 @@ use crate::open::{Open, entered, take};
 use ber_source::Token;
 use std::alloc::{AllocError, Global};
 
-/// How many values begin with the token.
+/// The number of values that begin with the token: 0 or 1.
 fn begun_by(token: Token<'_>) -> usize
     ensures { result ≡ begun_in (token_of token.entry ∷ []) }
 {
@@ -28,14 +28,14 @@ fn begun_by(token: Token<'_>) -> usize
     }
 }
 
-/// Whether both are of one type, and the same part of them is being read.
+/// Whether both values are of one type, and the same part of them is being read.
 fn is_same(one: Open, other: Open) -> bool
     ensures { IsTrue result ↔ (on_way one ≡ on_way other) }
 {
     one.ty == other.ty && one.part == other.part
 }
 
-/// Whether these are the same, each as the one in its place.
+/// Whether the two lists are the same, each value as the one at its place in the other list.
 fn are_same(values: &[Open], way: &[Open]) -> bool
     ensures { IsTrue result ↔ (map on_way values.now ≡ map on_way way.now) }
 {
@@ -51,7 +51,7 @@ fn are_same(values: &[Open], way: &[Open]) -> bool
     are_same(others, before)
 }
 
-/// Whether a value that begins in the innermost of the open values stands where the way leads.
+/// Whether a value that begins in the innermost open value is the one to which the way leads.
 fn leads(values: &[Open], way: &[Open]) -> bool
     ensures { IsTrue result ↔ Leads way.now values.now }
 {
@@ -70,7 +70,7 @@ fn leads(values: &[Open], way: &[Open]) -> bool
     are_same(others, before)
 }
 
-/// Whether the token begins a value that stands where the way leads.
+/// Whether the token begins a value to which the way leads.
 fn is_reached(values: &[Open], token: Token<'_>, way: &[Open]) -> bool
     ensures { IsTrue result ↔ ((begun_in (token_of token.entry ∷ []) ≡ 1) × Leads way.now values.now) }
 {
@@ -80,7 +80,8 @@ fn is_reached(values: &[Open], token: Token<'_>, way: &[Open]) -> bool
     leads(values, way)
 }
 
-/// How many values begin before the first one to which the way leads; all that begin, where it leads to none of them.
+/// Returns the number of values that begin before the first one to which the way leads, or of all that begin, if the
+/// way leads to none of them. `AllocError` comes only if an allocation fails.
 pub fn begun_before(alloc: Global, tokens: &[Token<'_>], way: &[Open]) -> Result<usize, AllocError>
     ensures { IfOk result (λ n. BeginsBefore way.now [] (map token_of tokens.now) n) }
 {

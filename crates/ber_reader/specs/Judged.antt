@@ -1,4 +1,4 @@
--- Which fault is told of a value that was read whole and is none of its type, and where.
+-- Which fault a decoder reports for a message whose value isn't one of the type, and at which part of the value.
 use Rattle.std.specs.Prelude.{◌≡◌, ℕ, suc, ℤ, Bool, true, false, if◌then◌else◌, List, [], ◌∷◌, ◌++◌, Option, Some, None, slice_get}
 use Rattle.asn_base.specs.Abstract.{AbstractValue, enumerated, fields, list, alternative, Row, end, absent, present}
 use Rattle.asn_base.specs.Schemas.{components, is_addition}
@@ -16,7 +16,7 @@ use Rattle.octet_answers.specs.States.{Token}
 
 -- ---- the parts of a value
 
--- a value, and the type that it should be of
+-- a value, and the type of which it should be a value
 pub record Piece : Type 0 where
   pub type : TypeNumber
   pub value : AbstractValue
@@ -24,7 +24,7 @@ pub record Piece : Type 0 where
 abbrev pub piece : TypeNumber → AbstractValue → Piece
 piece t v = record { type = t; value = v }
 
--- which part it is of the value round it, and what stands there
+-- a part of a value: which part it is, the type of the part, and the value there
 pub record Placed : Type 0 where
   pub part : Part
   pub piece : Piece
@@ -32,11 +32,11 @@ pub record Placed : Type 0 where
 abbrev pub placed : Part → TypeNumber → AbstractValue → Placed
 placed p t v = record { part = p; piece = piece t v }
 
--- the kind of a type; what the schema lacks has no parts, as a NULL
+-- the kind of a type; a type that the schema lacks counts as NULL, which has no parts
 abbrev pub kind_at : List Resolved → TypeNumber → Kind
 kind_at s t = elim (slice_get s t) [ None ↦ a_null | Some r ↦ r.kind ]
 
--- the type of the elements of a list
+-- the type of the elements of a SEQUENCE OF or SET OF
 abbrev pub element_of : Kind → Option TypeNumber
 element_of (a_sequence_of c u) = Some u
 element_of (a_set_of c u) = Some u
@@ -47,13 +47,13 @@ abbrev pub alternatives : Kind → List Alternative
 alternatives (a_choice root e more) = root ++ more
 alternatives k = []
 
--- component i, where it is present
+-- component i, if it is present
 abbrev pub component_piece : ℕ → Option Component → Option AbstractValue → List Placed
 component_piece i (Some c) (Some v) = placed (a_part.Component i) c.type v ∷ []
 component_piece i (Some c) None = []
 component_piece i None o = []
 
--- the components that are present, in order of definition, from component i on
+-- the components that are present, in order of definition; the first of the list has the number i
 abbrev pub component_pieces : ℕ → List Component → Row → List Placed
 component_pieces i [] vs = []
 component_pieces i (c ∷ cs) end = []
@@ -61,7 +61,7 @@ component_pieces i (c ∷ cs) (absent vs) = component_pieces (suc i) cs vs
 component_pieces i (c ∷ cs) (present v vs) =
     placed (a_part.Component i) c.type v ∷ component_pieces (suc i) cs vs
 
--- the elements, from element i on
+-- the elements in order; the first of the list has the number i
 abbrev pub element_pieces : ℕ → TypeNumber → Row → List Placed
 element_pieces i u end = []
 element_pieces i u (absent vs) = element_pieces i u vs
@@ -80,13 +80,13 @@ parts k v = []
 abbrev pub parts_of : List Resolved → Piece → List Placed
 parts_of s p = parts (kind_at s p.type) p.value
 
--- ---- the innermost value that is none of its type
+-- ---- the innermost value that isn't one of its type
 
--- the value is none of its type
+-- the value isn't one of its type
 abbrev pub IsWrong : List Resolved → Piece → Type 0
 IsWrong s p = IsValue s p.type p.value → ⊥
 
--- the first part that is no value of its type; None where each of them is one
+-- the first part that isn't a value of its type; None if each part is one
 pub data FirstWrong (s : List Resolved) : List Placed → Option Placed → Type 0 where
   none_wrong : FirstWrong s [] None
   wrong_here : {p : Placed} {ps : List Placed} → IsWrong s p.piece → FirstWrong s (p ∷ ps) (Some p)
@@ -95,14 +95,14 @@ pub data FirstWrong (s : List Resolved) : List Placed → Option Placed → Type
       → FirstWrong s ps o
       → FirstWrong s (p ∷ ps) o
 
--- an open value is of the type, and this part of it is being read
+-- the open value is of the type, and this part of it is being decoded
 pub record IsOpenAt (o : Open) (t : TypeNumber) (p : Part) : Type 0 where
   pub of_type : o.ty.index ≡ t
   pub at_part : o.part ≡ Some p
 
--- The innermost value that is none of its type, in one that is none of its, and the way there: where each part of that
--- is a value of its type it is that one itself, without a way, or else it stands in the first part that is none, and
--- the way leads through this part.
+-- The innermost value within a value that isn't one of its type, and the way there. If each part of the value is a
+-- value of its type, it is the value itself, and the way is empty. Otherwise it is within the first part that isn't a
+-- value of its type, and the way starts with this part.
 pub data Innermost (s : List Resolved) : Piece → List Open → Piece → Type 0 where
   is_itself : {p : Piece} → IsWrong s p → FirstWrong s (parts_of s p) None → Innermost s p [] p
   is_within : {p r : Piece} {q : Placed} {o : Open} {os : List Open}
@@ -111,37 +111,37 @@ pub data Innermost (s : List Resolved) : Piece → List Open → Piece → Type 
       → Innermost s q.piece os r
       → Innermost s p (o ∷ os) r
 
--- the open values are the way to the innermost one that is none of its type
+-- the open values are the way to the innermost value that isn't one of its type
 pub record LeadToWrong (s : List Resolved) (p : Piece) (os : List Open) : Type 0 where
   pub inner : Piece
   pub is_innermost : Innermost s p os inner
 
--- and they do behind others
+-- the open values are others and, after these, the way to the innermost value that isn't one of its type
 pub record LeadOn (s : List Resolved) (p : Piece) (others all : List Open) : Type 0 where
   pub way : List Open
   pub whole : all ≡ others ++ way
   pub lead : LeadToWrong s p way
 
--- so many values begin among the tokens before one round which open values are the way to the innermost that is none of
--- its type
+-- Among the tokens, `most` values begin before the innermost value that isn't one of its type. The values that are open
+-- there are the way to it.
 pub record IsBeforeWrong (s : List Resolved) (p : Piece) (told : List Token) (most : ℕ) : Type 0 where
   pub values : List Open
   pub before : AreOpenBefore told most values
   pub lead : LeadToWrong s p (on_last entered values)
 
--- ---- its fault
+-- ---- the fault of a value
 
 -- the component is an addition, if there is one
 abbrev pub is_addition_in : Option Component → Bool
 is_addition_in None = false
 is_addition_in (Some c) = is_addition c
 
--- a component, which is left out where it is an addition
+-- the value of a component, which becomes absent if the component is an addition
 abbrev pub in_root : Bool → Option AbstractValue → Option AbstractValue
 in_root true o = None
 in_root false o = o
 
--- the components, but for additions
+-- the components of a value; those that are additions become absent
 abbrev pub without_additions : List Component → Row → Row
 without_additions [] vs = vs
 without_additions (c ∷ cs) end = end
@@ -149,20 +149,21 @@ without_additions (c ∷ cs) (absent vs) = absent (without_additions cs vs)
 without_additions (c ∷ cs) (present v vs) =
     if is_addition c then absent (without_additions cs vs) else present v (without_additions cs vs)
 
--- the components are a value of the type once additions are left out
+-- the components are a value of the type if all additions are made absent
 abbrev pub IsValueInRoot : List Resolved → TypeNumber → Row → Type 0
 IsValueInRoot s t vs = IsValue s t (fields (without_additions (components (kind_at s t)) vs))
 
--- neither an ENUMERATED, nor components, nor an alternative
+-- the value isn't that of an ENUMERATED, a SEQUENCE, a SET or a CHOICE
 abbrev pub IsOther : AbstractValue → Type 0
 IsOther (enumerated z) = ⊥
 IsOther (fields vs) = ⊥
 IsOther (alternative i v) = ⊥
 IsOther v = Unit {0}
 
--- The fault of a value that is none of type t while each part of it is a value of its type: the type lacks a number
--- (X.680, 20); a component of a group is missing (25), where the components are a value without additions; a DEFAULT
--- has too many levels; or else a constraint isn't met.
+-- The fault of a value that isn't one of type t, if each of its parts is a value of its type. `BadContents`: the
+-- enumeration lacks the number (X.680, 20). `Missing`: a component of a group is missing (25), and the components are a
+-- value without additions. `TooDeep`: a part or a DEFAULT has too many levels. `OutsideConstraint`: a constraint isn't
+-- met.
 pub data IsOwn (s : List Resolved) (t : TypeNumber) : AbstractValue → ReadFault → Type 0 where
   lacks_number : {z : ℤ} → IsOwn s t (enumerated z) BadContents
   half_a_group : {vs : Row} → IsValueInRoot s t vs → IsOwn s t (fields vs) Missing
@@ -170,7 +171,7 @@ pub data IsOwn (s : List Resolved) (t : TypeNumber) : AbstractValue → ReadFaul
   deep_alternative : {i : ℕ} {v : AbstractValue} → IsOwn s t (alternative i v) TooDeep
   outside : {v : AbstractValue} → IsOther v → IsOwn s t v OutsideConstraint
 
--- the fault is the own one of the innermost value that is none of its type
+-- the fault is that of the innermost value in v that isn't one of its type
 pub record IsJudged (s : List Resolved) (t : TypeNumber) (v : AbstractValue) (f : ReadFault) : Type 0 where
   pub inner : Piece
   pub way : List Open

@@ -1,5 +1,5 @@
--- What readers answer (`Readings`), what steps of a routine read (`Stepped`), and which fault is told of what is no
--- value of its type (`Judged`).
+-- What decoders return (`Readings`), what the steps of a routine read (`Stepped`), and which fault decoders report for
+-- a message whose value isn't one of the type (`Judged`).
 pub mod Readings
 pub mod Judged
 pub mod Stepped

@@ -1,4 +1,4 @@
--- What the steps within the headers of a routine read.
+-- What the steps of a routine read, after the headers at its start.
 use Rattle.std.specs.Prelude.{Bool, true, false, List, [], ◌∷◌, Option, Some, None}
 use Rattle.asn_base.specs.declared.schema.TypeId.{TypeId}
 use Rattle.codec_code.specs.declared.step.Need.{Need}
@@ -6,24 +6,24 @@ use Rattle.codec_code.specs.declared.step.Need.TheVariants.{Mandatory, Optional,
 use Rattle.codec_code.specs.declared.step.Step.{Step}
 use Rattle.codec_code.specs.declared.step.Step.TheVariants.{Head, Each, EachSorted, Call}
 
--- the steps behind the headers that steps begin with
+-- the steps after the headers with which the steps start
 abbrev pub behind_heads : List Step → List Step
 behind_heads [] = []
 behind_heads (Head h ∷ ss) = behind_heads ss
 behind_heads (p ∷ ss) = p ∷ ss
 
--- the type of the elements that a step reads
+-- the type of the elements that a step reads, if it reads elements
 abbrev pub element_in : Step → Option TypeId
 element_in (Each u) = Some u
 element_in (EachSorted u) = Some u
 element_in p = None
 
--- the type that a step calls
+-- the type whose routine a step calls, if it calls one
 abbrev pub called_in : Step → Option TypeId
 called_in (Call u) = Some u
 called_in p = None
 
--- the need of an addition
+-- whether the component is an addition
 abbrev pub is_of_addition : Need → Bool
 is_of_addition Addition = true
 is_of_addition Mandatory = false

@@ -1,4 +1,4 @@
-//! Messages by the distinguished rules.
+//! Decodes messages by the distinguished rules.
 
 ghost use Rattle.asn_base.specs.Abstract.{AbstractValue};
 ghost use Rattle.ber_message.specs.Messages.{BeginsEncoding, HasEncodingFirst, HasMessageFirst, IsEncoding, IsRead, SaysNoValue};
@@ -20,11 +20,12 @@ use encodings::schema_laws;
 use std::alloc::Global;
 use strict_rules::is_strict;
 
-/// The value of the type that the octets encode by the distinguished rules (X.690, 10 and 11), as it stands there, as
-/// `read_ber` tells it. Additions that the type lacks are not judged, nor is their place in a SET, and a component that
-/// is the same as its DEFAULT may stand where additions were skipped within it.
+/// Decodes the value of the type that the octets encode by the distinguished rules (X.690, 10 and 11), exactly as
+/// `read_ber` does. Additions that the type lacks aren't judged, nor is their place in a SET. A component that is the
+/// same as its DEFAULT may be present if additions were skipped within it.
 ///
-/// `NotDer`: the octets encode the value by the basic rules alone. The other faults are those of `read_ber`.
+/// `NotDer`: the octets encode a value of the type by the basic rules, but not by the distinguished rules. The other
+/// faults are those of `read_ber`.
 pub fn read_der<'a>(
     alloc: Global,
     code: &Code,
@@ -32,7 +33,7 @@ pub fn read_der<'a>(
     octets: &'a [u8],
 ) -> Result<Read<'a>, ReadFault>
     ensures ok { IfOk result (λ r. IsStrictReading code.now id.index octets.now r) }
-    // It is the only value that they encode, with the only number of additions.
+    // The octets exactly encode no other value, and have no other number of unknown additions.
     ensures only { IfOk result (λ r. (t : Tree) (w : AbstractValue) (k : ℕ)
         → IsView r.view t
         → Encodes code.now Basic id.index w k octets.now
@@ -40,25 +41,27 @@ pub fn read_der<'a>(
     ensures limit { 16777216 < length octets.now → result ≡ Err MessageLimit }
     ensures long { result ≡ Err MessageLimit → 16777216 < length octets.now }
     ensures trailing { result ≡ Err Trailing → HasMessageFirst code.now id.index octets.now }
-    // 96 is told just of what encodes a value by the basic rules and doesn't by the distinguished ones, memory apart.
+    // `NotDer` if and only if the octets encode a value by the basic rules, and not by the distinguished ones. Instead
+    // `Memory` may come.
     ensures not_der { result ≡ Err NotDer
         → (i : IsEncoding code.now id.index octets.now)
         × (Says code.now Distinguished id.index i.value i.count octets.now → ⊥) }
     ensures basic { (i : IsEncoding code.now id.index octets.now)
         → (Says code.now Distinguished id.index i.value i.count octets.now → ⊥)
         → (result ≡ Err NotDer) ⊎ (result ≡ Err Memory) }
-    // Whatever encodes a value of the type by the distinguished rules is read, memory apart; 89 is told where an
-    // encoding by the basic rules is a proper front of them, and 80 where they are one of it.
+    // Octets that encode a value of the type by the distinguished rules are decoded, unless an allocation fails.
+    // `Trailing` if the octets start with a complete encoding by the basic rules and go on; `Truncated` if they are the
+    // start of one.
     ensures read { (i : IsEncoding code.now id.index octets.now)
         → Says code.now Distinguished id.index i.value i.count octets.now
         → IfErr result (λ e. e ≡ Memory) }
     ensures more { HasEncodingFirst code.now id.index octets.now → (result ≡ Err Trailing) ⊎ (result ≡ Err Memory) }
     ensures less { BeginsEncoding code.now id.index octets.now → result ≡ Err Truncated }
-    // Of what is no value of the type the fault is told that `read_ber` tells.
+    // If the octets encode no value of the type, the fault is the one that `read_ber` reports.
     ensures judged { IsRead code.now id octets.now
         → (n : SaysNoValue code.now id.index octets.now)
         → MatchResult result (λ r. ⊥) (λ e. (e ≡ Memory) ⊎ IsJudged code.now id.index n.value e) }
-    // Any other refusal stands by the basic rules.
+    // Any other fault refuses the octets by the basic rules too.
     ensures refused { IfErr result (λ e. (e ≡ Memory → ⊥)
         → (e ≡ NotDer → ⊥)
         → IsRefused code.now id octets.now e) }

@@ -1,4 +1,5 @@
-//! Encodings by the distinguished rules are read by the basic ones; what the fault of what is no value of its type says.
+//! DER encodings are BER encodings that `read_ber` decodes; and what the fault of a value that isn't one of its type
+//! means.
 
 ghost use Rattle.asn_base.specs.Abstract.{AbstractValue, Row, fields};
 ghost use Rattle.asn_base.specs.declared.tag.Tag.{Tag};
@@ -25,9 +26,9 @@ ghost use Rattle.std.specs.Prelude.{◌≡◌, ◌≤◌, Bool, length, List, ma
 use ber_message::law::one_refusal;
 use encodings::{der_laws, level_laws, message_laws, reading_laws, schema_laws};
 
-/// An encoding of a value by the distinguished rules, of at most 16,777,216 octets, is one that `read_ber` refuses for
-/// want of memory alone; and whatever value it encodes by the basic rules is the same, with no unknown additions. So
-/// what a writer of these rules answers is read back.
+/// A DER encoding of at most 16,777,216 octets is one that `read_ber` refuses only if an allocation fails. Whatever
+/// value the octets encode by the basic rules is the same, without unknown additions. So what an encoder by the
+/// distinguished rules returns is decoded again.
 pub fn written_is_read()
     ensures read { (s : List Resolved) (t : ℕ) (v : AbstractValue) (o : List ℕ)
         → IsSchema s
@@ -46,7 +47,7 @@ pub fn written_is_read()
     reading_laws();
 }
 
-/// One fault at most is that of a value which is none of its type.
+/// A value that isn't one of its type has at most one fault.
 pub fn judged_once()
     ensures { (s : List Resolved) (t : ℕ) (v : AbstractValue) (e f : ReadFault)
         → IsJudged s t v e
@@ -54,8 +55,8 @@ pub fn judged_once()
         → e ≡ f }
 {}
 
-/// One value is the innermost that is none of its type, and one way leads there: through values of the same types, by
-/// the same parts.
+/// There is only one innermost value that isn't one of its type. Only one way leads there, through values of the same
+/// types, by the same parts.
 pub fn one_way()
     ensures { (s : List Resolved) (p q r : Piece) (os ps : List Open)
         → Innermost s p os q
@@ -63,9 +64,9 @@ pub fn one_way()
         → (q ≡ r) × (map on_way os ≡ map on_way ps) }
 {}
 
-/// What the faults of components say that are no value of their type, of at most 16,777,216 nodes. 85: a group is not
-/// whole, where each component that is present has a level less than a value may have. 95: there is one that has not,
-/// or an absent one's DEFAULT has not, or one is none of its type.
+/// What the fault of components means that aren't a value of their type, with at most 16,777,216 nodes. `Missing`: if
+/// each present component is a value of at most 63 levels, a group isn't whole. `TooDeep`: a component isn't a value of
+/// its type with at most 63 levels, or may not be absent, or its DEFAULT, if it is absent, has more levels.
 pub fn faults_of_components()
     ensures half_a_group { (s : List Resolved) (t : ℕ) (vs : Row)
         → IsOwn s t (fields vs) Missing
@@ -88,7 +89,7 @@ pub fn faults_of_components()
         → ⊥ }
 {}
 
-/// One fault at most refuses a message, want of memory aside, and none refuses one that is read.
+/// A message has at most one fault, apart from `Memory`, and a message that is decoded has none.
 pub fn refused_once()
     ensures once { (s : List Resolved) (t : TypeId) (o : List ℕ) (e f : ReadFault)
         → IsSchema s

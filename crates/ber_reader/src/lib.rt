@@ -1,5 +1,5 @@
-//! Messages by the basic rules, and by the distinguished ones, read as views of their values (X.690, 8.1 to 8.14, 10
-//! and 11).
+//! Decodes messages by the basic and by the distinguished rules, as views of their values (X.690, 8.1 to 8.14, 10 and
+//! 11).
 #![tactic(auto)]
 
 mod der;

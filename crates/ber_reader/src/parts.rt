@@ -1,4 +1,4 @@
-//! What the parts of a value are of: components, elements and alternatives, as the steps of its type read them.
+//! The types of a value's parts: components, elements and alternatives, as the steps of its type's routine read them.
 
 ghost use Rattle.asn_base.specs.Schemas.{components};
 ghost use Rattle.ber_reader.specs.Judged.{alternatives, element_of, is_addition_in, kind_at};
@@ -10,7 +10,7 @@ ghost use Rattle.std.specs.Prelude.{◌≡◌, false, option_map, slice_get, suc
 use asn_base::schema::TypeId;
 use codec_code::{Code, Coding, Field, Need, Step};
 
-/// The component that a step reads.
+/// The component that a step reads, if it reads one.
 fn field_in(step: Step) -> Option<Field>
     ensures { result ≡ field_in' step }
 {
@@ -28,7 +28,7 @@ fn field_in(step: Step) -> Option<Field>
     }
 }
 
-/// The type of the elements that a step reads.
+/// The type of the elements that a step reads, if it reads elements.
 fn element_in(step: Step) -> Option<TypeId>
     ensures { result ≡ element_in' step }
 {
@@ -46,7 +46,7 @@ fn element_in(step: Step) -> Option<TypeId>
     }
 }
 
-/// The type that a step calls.
+/// The type whose routine a step calls, if it calls one.
 fn called_in(step: Step) -> Option<TypeId>
     ensures { result ≡ called_in' step }
 {
@@ -64,7 +64,7 @@ fn called_in(step: Step) -> Option<TypeId>
     }
 }
 
-/// The steps behind the headers that steps begin with.
+/// The steps after the headers with which the steps start.
 fn within(steps: &[Step]) -> &[Step]
     ensures { result.now ≡ behind_heads steps.now }
 {
@@ -92,7 +92,7 @@ fn contents(code: &Code, id: TypeId) -> &[Step]
     within(code.steps(id, Coding::Tagged))
 }
 
-/// The step at a place.
+/// The step at a place, from 0.
 fn step_at(steps: &[Step], place: usize) -> Option<Step>
     ensures { result ≡ slice_get steps.now place }
 {
@@ -103,7 +103,7 @@ fn step_at(steps: &[Step], place: usize) -> Option<Step>
     }
 }
 
-/// The step at a place behind the first one.
+/// The step at a place after the first step: place 0 is the second step.
 fn step_behind(steps: &[Step], place: usize) -> Option<Step>
     ensures { result ≡ slice_get steps.now (suc place) }
 {
@@ -123,7 +123,7 @@ fn component_at(code: &Code, id: TypeId, place: usize) -> Option<Field>
     }
 }
 
-/// The type of the elements.
+/// The type of the elements, or None if the type isn't a SEQUENCE OF or SET OF.
 pub(crate) fn element_at(code: &Code, id: TypeId) -> Option<TypeId>
     ensures { result ≡ option_map id_of (element_of (kind_at code.now id.index)) }
 {
@@ -154,7 +154,7 @@ pub(crate) fn component_type(code: &Code, id: TypeId, place: usize) -> Option<Ty
     }
 }
 
-/// Whether it is the need of an addition.
+/// Whether the component is an addition.
 fn is_of_addition(need: Need) -> bool
     ensures { result ≡ is_of_addition' need }
 {

@@ -1,4 +1,4 @@
-//! Where a message is refused.
+//! The octet at which a message is refused.
 
 ghost use Rattle.ber_message.specs.Messages.{IsMessage, IsRead, SaysNoValue, room_of};
 ghost use Rattle.ber_message.specs.Stops.{IsStop, IsStopBefore};
@@ -17,14 +17,17 @@ use codec_code::Code;
 use codec_source::ReadFault;
 use std::alloc::{AllocError, Global};
 
-/// Where a message is refused that `read_ber` refuses, other than for want of memory: the place of the octet, from 0,
-/// and the values that were open there, the outermost first, each with the part of it that was being read.
+/// Returns where `read_ber` refuses a message: the offset of the octet, from 0, and the values that are open there.
+/// They are in order, the outermost first, each with the part of it that was being read. `AllocError` comes only if an
+/// allocation fails.
 ///
 /// `Truncated`, `Indefinite`, `BadLength`, `BadTag`, `UnexpectedTag`: the header. `BadContents`, `IntegerLimit`,
-/// `OidLimit`: the first of the contents octets. `Missing`: the end of the contents. `TooDeep`: the header one too
-/// many. `Trailing`: the first octet behind the value. `MessageLimit`: the first octet behind those that a message may
-/// have. Where all of a message was read and is no value of the type, the header of the innermost value that is none of
-/// its own, which is the part that was being read.
+/// `OidLimit`: the first contents octet. `Missing`: the end of the contents. `TooDeep`: the header that is one too
+/// many. `Trailing`: the first octet after the value. `MessageLimit`: the first octet after the 16,777,216 that a
+/// message may have.
+///
+/// If all of a message was read, and its value isn't one of the type, the offset is that of a header. It is the header
+/// of the innermost value that isn't one of its type, and this value is the part that was being read.
 pub fn whereabouts(
     alloc: Global,
     code: &Code,
@@ -32,7 +35,7 @@ pub fn whereabouts(
     octets: &[u8],
 ) -> Result<Whereabouts, AllocError>
     ensures is { IfOk result (λ w. IsPlace code.now id octets.now w) }
-    // Of what is read as a whole it is before the part that is judged wrong, of anything else where reading it stops.
+    // If the message is read as a whole, the place is that of the wrong part; otherwise it is where reading stops.
     ensures judged { IsRead code.now id octets.now
         → id.index < length code.now
         → length octets.now ≤ 16777216
@@ -41,7 +44,8 @@ pub fn whereabouts(
         → length octets.now ≤ 16777216
         → IfOk result (λ w. IsStop code.now id octets.now (room_of (length octets.now)) w) }
     ensures place { IfOk result (λ w. w.place ≤ length octets.now) }
-    // Where all of it says what is no value of the type, it is the innermost value that is none of its own.
+    // If the message's value isn't one of the type, the place is that of the innermost value that isn't one of its
+    // type.
     ensures innermost { (r : IsRead code.now id octets.now)
         → (n : SaysNoValue code.now id.index octets.now)
         → IfOk result (IsBeforeInnermost code.now id octets.now r.last.told n.value) }
@@ -68,7 +72,8 @@ fn is_memory(fault: ReadFault) -> bool
     fault == ReadFault::Memory
 }
 
-/// How many values begin in the message before the innermost one that is none of its type; its tokens are these.
+/// The number of values that begin in the message before the innermost one that isn't a value of its type. The tokens
+/// are those of the message.
 fn before_wrong(
     alloc: Global,
     code: &Code,

@@ -1,4 +1,4 @@
-//! Messages read as views.
+//! Decodes messages as views of their values.
 
 ghost use Rattle.asn_base.specs.Abstract.{AbstractValue};
 ghost use Rattle.asn_base.specs.Typed.{IsValue, IsValueWithoutNodes};
@@ -21,22 +21,23 @@ use encodings::message_laws;
 use std::alloc::Global;
 use views::View;
 
-/// A value that was read, and how many additions that its type lacks were skipped.
+/// A value that was decoded, and the number of skipped additions that its type lacks.
 #[derive(Drop)]
 pub struct Read<'a> {
     pub view: View<'a>,
     pub skipped: u64,
 }
 
-/// The value of the type that the octets encode by the basic rules (X.690, 8.1 to 8.14), as it stands there. Its
-/// strings are slices of the octets where they were primitive, and joined copies where they were in segments.
+/// Decodes the value of the type that the octets encode by the basic rules (X.690, 8.1 to 8.14), exactly as they encode
+/// it. Its strings are slices of the octets if they are primitive there, and joined copies if they are in segments.
 ///
-/// `MessageLimit`: there are more than 16,777,216 octets. `Trailing`: a value ends before the octets do.
-/// The first fault met from the front is told; a type that the code lacks is `UnexpectedTag`. Where all of them was
-/// read and says what is no value of the type, it is the fault of the innermost value in it that is none of its own:
-/// `BadContents` of an ENUMERATED that lacks the number, `Missing` of components of which one of a group must stand
-/// beside others, `TooDeep` where the levels of an absent component's DEFAULT are too many, `OutsideConstraint` of any
-/// other.
+/// `MessageLimit`: there are more than 16,777,216 octets. `Trailing`: a value ends before the octets do. Any other
+/// fault is the first one from the start of the octets. A type that the code lacks is `UnexpectedTag`.
+///
+/// If all octets were read and their value isn't one of the type, the fault is that of the innermost value that isn't
+/// one of its type. `BadContents`: an ENUMERATED lacks the number. `Missing`: a component of a group is missing,
+/// although another one of the group is present. `TooDeep`: the DEFAULT of an absent component has too many levels.
+/// `OutsideConstraint`: any other value.
 pub fn read_ber<'a>(
     alloc: Global,
     code: &Code,
@@ -44,7 +45,7 @@ pub fn read_ber<'a>(
     octets: &'a [u8],
 ) -> Result<Read<'a>, ReadFault>
     ensures ok { IfOk result (λ r. IsReading code.now id.index octets.now r) }
-    // It is the only value that they encode, with the only number of additions.
+    // The octets exactly encode no other value, and have no other number of unknown additions.
     ensures only { IfOk result (λ r. (t : Tree) (w : AbstractValue) (k : ℕ)
         → IsView r.view t
         → Encodes code.now Basic id.index w k octets.now
@@ -52,21 +53,22 @@ pub fn read_ber<'a>(
     ensures limit { 16777216 < length octets.now → result ≡ Err MessageLimit }
     ensures long { result ≡ Err MessageLimit → 16777216 < length octets.now }
     ensures trailing { result ≡ Err Trailing → HasMessageFirst code.now id.index octets.now }
-    // Whatever encodes a value of the type is read, memory apart; 89 is told where its encoding is a proper front of
-    // them, and 80 where they are one of it.
+    // Octets that encode a value of the type are decoded, unless an allocation fails. `Trailing` if the octets start
+    // with a complete encoding and go on; `Truncated` if they are the start of one.
     ensures read { IsEncoding code.now id.index octets.now → IfErr result (λ e. e ≡ Memory) }
     ensures more { HasEncodingFirst code.now id.index octets.now → (result ≡ Err Trailing) ⊎ (result ≡ Err Memory) }
     ensures less { BeginsEncoding code.now id.index octets.now → result ≡ Err Truncated }
-    // 88 is told where they say what is no value of the type, 85 there or at the end of contents.
+    // `OutsideConstraint` only if the octets encode something that isn't a value of the type; `Missing` only then, or
+    // at the end of contents.
     ensures outside { result ≡ Err OutsideConstraint → SaysNoValue code.now id.index octets.now }
     ensures missing { result ≡ Err Missing
         → EndsTooSoon code.now id octets.now ⊎ SaysNoValue code.now id.index octets.now }
-    // Where the type's routine reads them to their end and what they say is no value of the type, the fault is told of
-    // the innermost value that is none of its own, memory apart.
+    // If the type's routine reads the octets to their end, their value may still not be one of the type. Then the fault
+    // is that of the innermost value that isn't one of its type, or `Memory`.
     ensures judged { IsRead code.now id octets.now
         → (n : SaysNoValue code.now id.index octets.now)
         → MatchResult result (λ r. ⊥) (λ e. (e ≡ Memory) ⊎ IsJudged code.now id.index n.value e) }
-    // Any refusal but for want of memory stands. None is by the distinguished rules.
+    // Every fault except `Memory` is a true reason to refuse the octets. None is `NotDer`.
     ensures refused { IfErr result (λ e. (e ≡ Memory → ⊥) → IsRefused code.now id octets.now e) }
     ensures not_der { result ≡ Err NotDer → ⊥ }
 {
@@ -86,8 +88,8 @@ pub fn read_ber<'a>(
     })
 }
 
-/// Judges whether the value that a view shows is one of the type. A copy is asked only where the view alone
-/// doesn't tell that it is.
+/// Judges whether the value that a view shows is one of the type. The value is copied only if the view alone doesn't
+/// show that it is one.
 fn judge(alloc: Global, code: &Code, id: TypeId, view: &View<'_>) -> Result<(), ReadFault>
     requires { (t : Tree) × IsView view.now t }
     ensures ok { OnOk result ((t : Tree)

@@ -1,4 +1,4 @@
-//! What it is that makes a value none of its type, where all of it was read.
+//! Which part of a decoded value isn't a value of its type, and why.
 
 ghost use Rattle.asn_base.specs.Abstract.{abstract, fields, row_of_list, row_of_options};
 ghost use Rattle.asn_base.specs.Schemas.{components};
@@ -18,7 +18,7 @@ use codec_code::Code;
 use codec_source::ReadFault;
 use std::alloc::{AllocError, Global};
 
-/// A value that is none of its type, and which part it is of the value round it.
+/// A value that isn't one of its type, and which part of the value around it it is.
 #[derive(Clone, Copy)]
 pub(crate) struct Wrong<'v> {
     pub part: Part,
@@ -26,7 +26,7 @@ pub(crate) struct Wrong<'v> {
     pub value: &'v Value,
 }
 
-/// The value as a part, where it is none of the type.
+/// The value as a part, or None if it is one of the type.
 fn if_wrong<'v>(code: &Code, part: Part, ty: TypeId, value: &'v Value) -> Option<Wrong<'v>>
     ensures { FirstWrong code.now (placed part ty.index (abstract value.now) ∷ [])
         (option_map (λ w. placed w.part w.ty.index (abstract w.value.now)) result) }
@@ -37,7 +37,7 @@ fn if_wrong<'v>(code: &Code, part: Part, ty: TypeId, value: &'v Value) -> Option
     Some(Wrong { part, ty, value })
 }
 
-/// The component at a place, where it is present and none of its type.
+/// The component at a place, or None if it is absent or a value of its type.
 fn wrong_at<'v>(
     code: &Code,
     id: TypeId,
@@ -57,7 +57,7 @@ fn wrong_at<'v>(
     }
 }
 
-/// The first component that is no value of its type.
+/// The first component that isn't a value of its type.
 fn wrong_field<'v>(code: &Code, id: TypeId, members: &'v [Option<Value>]) -> Option<Wrong<'v>>
     ensures { FirstWrong code.now
         (component_pieces 0 (components (kind_at code.now id.index))
@@ -73,7 +73,7 @@ fn wrong_field<'v>(code: &Code, id: TypeId, members: &'v [Option<Value>]) -> Opt
     None
 }
 
-/// The first element that is no value of the type.
+/// The first element that isn't a value of its type.
 fn wrong_element<'v>(code: &Code, ty: TypeId, members: &'v [Value]) -> Option<Wrong<'v>>
     ensures { FirstWrong code.now (element_pieces 0 ty.index (row_of_list (map abstract members.now)))
         (option_map (λ w. placed w.part w.ty.index (abstract w.value.now)) result) }
@@ -87,7 +87,7 @@ fn wrong_element<'v>(code: &Code, ty: TypeId, members: &'v [Value]) -> Option<Wr
     None
 }
 
-/// The first part that is no value of its type, of a value of this one.
+/// The first part of a value of type `id` that isn't a value of its own type.
 pub(crate) fn wrong_member<'v>(code: &Code, id: TypeId, value: &'v Value) -> Option<Wrong<'v>>
     ensures { FirstWrong code.now (parts (kind_at code.now id.index) (abstract value.now))
         (option_map (λ w. placed w.part w.ty.index (abstract w.value.now)) result) }
@@ -115,7 +115,7 @@ pub(crate) fn wrong_member<'v>(code: &Code, id: TypeId, value: &'v Value) -> Opt
     }
 }
 
-/// A component like this one, which is left out where it is an addition.
+/// A copy of the component, which is absent if the component is an addition. `AllocError` only if an allocation fails.
 fn without(
     alloc: Global,
     is_addition: bool,
@@ -134,7 +134,7 @@ fn without(
     }
 }
 
-/// Adds one more.
+/// Appends one component. `AllocError` comes only if an allocation fails.
 fn add(list: &mut Vec<Option<Value>>, one: Option<Value>) -> Result<(), AllocError>
     ensures { OnOk result (list.new.items ≡ list.old.items ++ one ∷ []) }
 {
@@ -142,7 +142,7 @@ fn add(list: &mut Vec<Option<Value>>, one: Option<Value>) -> Result<(), AllocErr
     Ok(())
 }
 
-/// The components, but for additions.
+/// A copy of the components, in which additions are absent.
 fn without_additions(
     alloc: Global,
     code: &Code,
@@ -162,8 +162,8 @@ fn without_additions(
     Ok(Value::Fields(root))
 }
 
-/// Why components are no value of the type, though each is one of its own: one of a group that must stand beside those
-/// of it that stand is missing, if they are a value without additions; or else the levels of a DEFAULT are too many.
+/// Why components aren't a value of the type, although each is a value of its own type. `Missing`: they are a value
+/// without their additions, so a group isn't whole. `TooDeep`: otherwise, a DEFAULT has too many levels.
 fn fault_of_components(
     alloc: Global,
     code: &Code,
@@ -187,9 +187,9 @@ fn fault_of_components(
     }
 }
 
-/// Why the value is none of the type, though each part of it is a value of its own. `BadContents`: an ENUMERATED lacks
-/// the number. `Missing`: a component of a group that must stand beside others. `TooDeep`: the levels of an absent
-/// component's DEFAULT are too many. `OutsideConstraint`: any other.
+/// Why the value isn't one of the type, although each part of it is a value of its own type. `BadContents`: an
+/// ENUMERATED lacks the number. `Missing`: a component of a group is missing, although another one is present.
+/// `TooDeep`: the DEFAULT of an absent component has too many levels. `OutsideConstraint`: any other value.
 fn own_fault(alloc: Global, code: &Code, id: TypeId, value: &Value) -> ReadFault
     ensures limit { result ≡ MessageLimit → ⊥ }
     ensures trailing { result ≡ Trailing → ⊥ }
@@ -212,8 +212,8 @@ fn own_fault(alloc: Global, code: &Code, id: TypeId, value: &Value) -> ReadFault
     }
 }
 
-/// Why the value, which is none of the type, is none: the own fault of the innermost one in it that is none of its
-/// type. It calls itself once for each level of the value.
+/// Why the value isn't one of the type: the fault of the innermost value in it that isn't one of its type. The function
+/// calls itself once for each level of the value.
 pub(crate) fn fault_of(alloc: Global, code: &Code, id: TypeId, value: &Value) -> ReadFault
     ensures limit { result ≡ MessageLimit → ⊥ }
     ensures trailing { result ≡ Trailing → ⊥ }
@@ -227,8 +227,8 @@ pub(crate) fn fault_of(alloc: Global, code: &Code, id: TypeId, value: &Value) ->
     }
 }
 
-/// Adds the way to the innermost value that is none of its type, in one that is none of its: of each value round it the
-/// part that leads on, the outermost first. It calls itself once for each level of the value.
+/// Appends the way to the innermost value that isn't one of its type. The way has each value around it with the part
+/// that leads on, the outermost first. The function calls itself once for each level of the value.
 pub(crate) fn lead(
     code: &Code,
     id: TypeId,

@@ -1,4 +1,4 @@
--- A cursor gives one answer, and begins no more values than it has room for.
+-- A cursor gives one answer to each question, and begins no more values than it has room for.
 use Rattle.std.specs.Prelude.{◌≡◌, suc, ◌<◌, ◌≤◌, Bool, true, false, List, Option, Some, None}
 use Rattle.std.proofs.Common.{refl, sym, ap, subst, ◌∙◌}
 use Rattle.std.proofs.Math.Nat.{lt-suc_self, le_refl, le_of_lt}

@@ -1,5 +1,5 @@
--- What contents octets hold (`Holding`); a cursor in memory, as the state that it is in (`Seen`), and what it keeps as
--- a source (`Laws`).
+-- What contents octets mean (`Holding`); a cursor in memory, as the state that it represents (`Seen`); and what a
+-- cursor guarantees as a source (`Laws`).
 pub mod Holding
 pub mod Seen
 pub mod Laws

@@ -1,4 +1,4 @@
--- A cursor in memory, as the state that it is in.
+-- A cursor in memory, as the state that it represents.
 use Rattle.std.specs.Prelude.{◌+◌, ◌≤◌, map, length, List, Vec}
 use Rattle.std.specs.declared.alloc.Global.{Global}
 use Rattle.std.specs.List.{AllByRecursion}
@@ -24,7 +24,7 @@ token_of tokens.Ended = ended
 token_of (tokens.Held k form octets at) = held k (is_constructed form) octets.now at
 token_of tokens.Passed = passed
 
--- a list of all that was read
+-- a vector of all tokens that were read, as a list
 abbrev pub listed : Vec Token' Global → List Token
 listed v = map token_of v.items
 
@@ -38,7 +38,7 @@ mark_of marks.Passed = passed
 abbrev pub held_of : Held → Token
 held_of h = held h.kind (is_constructed h.form) h.octets.now h.at
 
--- by what was told so far
+-- the state of a place, with the tokens that its receiver got so far
 abbrev pub state_of : {T : Type 0} → (T → List Token) → Place T → State
 state_of told p = record {
   schema = p.code.now;
@@ -50,11 +50,11 @@ state_of told p = record {
   room = p.room;
 }
 
--- all octets that are left stand within a message
+-- the octets that are left are within the first 16,777,216 of a message
 abbrev pub Fits : Window → Type 0
 Fits w = w.at + length w.octets ≤ 16777216
 
--- and whoever is told may be told of values of the schema
+-- all open contents are within a message, and the receiver takes values of the schema
 pub record IsWithin {T : Type 0} (suits : T → List Resolved → Type 0) (p : Place T) : Type 0 where
   pub here : Fits (window_of p.here)
   pub outer : AllByRecursion Fits (map window_of p.outer.items)

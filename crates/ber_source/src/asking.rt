@@ -1,4 +1,4 @@
-//! Answers about what stands next: components, elements and alternatives.
+//! Answers about what comes next: components, elements and alternatives.
 
 ghost use Rattle.asn_base.specs.declared.schema.TypeId.{TypeId as TypeId'};
 ghost use Rattle.ber_source.specs.Seen.{IsWithin, mark_of, state_of};
@@ -23,7 +23,7 @@ use next_tags::{
 };
 use octet_answers::law::one_unit;
 
-/// Tells one token more.
+/// Gives one more token to the receiver.
 #[inline(always)]
 fn tell<'c, 'a, T: Teller<'a>>(place: &mut Place<'c, 'a, T>, mark: Mark) -> Result<(), ReadFault>
     requires { IsWithin T.suits place.old }
@@ -37,14 +37,14 @@ fn tell<'c, 'a, T: Teller<'a>>(place: &mut Place<'c, 'a, T>, mark: Mark) -> Resu
     }
 }
 
-/// Whether an encoding stands next.
+/// Whether an encoding comes next, before the end of the contents.
 pub fn has_more<'c, 'a, T: Teller<'a>>(place: &Place<'c, 'a, T>) -> bool
     ensures { MoreNext (state_of T.tokens place.now) result (state_of T.tokens place.now) }
 {
     !place.here.octets.is_empty()
 }
 
-/// Whether the component of a SEQUENCE stands next.
+/// Whether the component of a SEQUENCE comes next.
 #[inline(always)]
 pub fn stands_next<'c, 'a, T: Teller<'a>>(
     place: &mut Place<'c, 'a, T>,
@@ -78,7 +78,7 @@ pub fn stands_next<'c, 'a, T: Teller<'a>>(
     Err(ReadFault::UnexpectedTag)
 }
 
-/// The alternative that stands next.
+/// The alternative whose encoding comes next.
 pub fn choose_next<'c, 'a, T: Teller<'a>>(
     place: &mut Place<'c, 'a, T>,
     calls: &[Step],
@@ -104,7 +104,7 @@ pub fn choose_next<'c, 'a, T: Teller<'a>>(
     }
 }
 
-/// Skips additions behind the last component that must stand, to the end of the contents.
+/// Skips additions after the last mandatory component, to the end of the contents.
 pub fn skip<'c, 'a, T: Teller<'a>>(place: &mut Place<'c, 'a, T>) -> Result<(), ReadFault>
     requires { IsWithin T.suits place.old }
     ensures within { IsWithin T.suits place.new }
@@ -125,7 +125,7 @@ pub fn skip<'c, 'a, T: Teller<'a>>(place: &mut Place<'c, 'a, T>) -> Result<(), R
     }
 }
 
-/// The last of the types.
+/// The last one of the types, or None if there is none.
 fn innermost(values: &[TypeId]) -> Option<TypeId>
     ensures some { IfSome result (λ id. (others : List TypeId') × (values.now ≡ others ++ id ∷ [])) }
     ensures none { IfNone result (values.now ≡ []) }
@@ -136,7 +136,7 @@ fn innermost(values: &[TypeId]) -> Option<TypeId>
     }
 }
 
-/// The marks behind so many.
+/// The marks after the first `from` ones.
 fn marks_from(marks: &[usize], from: usize) -> &[usize]
     ensures { result.now ≡ drop from marks.now }
 {
@@ -147,8 +147,8 @@ fn marks_from(marks: &[usize], from: usize) -> &[usize]
     }
 }
 
-/// The component of a SET that stands next behind additions, of those that the steps begin with, or None where none
-/// does and all that must were read.
+/// Skips additions, and returns the component of a SET that comes next, of those with which the steps start. The result
+/// is None at the end of the contents, if all mandatory ones were read; if not, `Missing`.
 pub fn among_next<'c, 'a, T: Teller<'a>>(
     place: &mut Place<'c, 'a, T>,
     steps: &[Step],
@@ -185,7 +185,7 @@ pub fn among_next<'c, 'a, T: Teller<'a>>(
     }
 }
 
-/// The component at a place of a SET was read.
+/// Notes that the component at a place of a SET was read.
 fn mark<'c, 'a, T: Teller<'a>>(place: &mut Place<'c, 'a, T>, at: usize) -> Result<(), ReadFault>
     requires { IsWithin T.suits place.old }
     ensures within { IsWithin T.suits place.new }

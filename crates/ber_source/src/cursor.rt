@@ -17,7 +17,7 @@ use octet_answers::law::one_answer;
 use std::alloc::Global;
 use std::marker::Model;
 
-/// A message while it is read, from the front, by the basic rules.
+/// A message while it is read, from its start, by the basic rules.
 #[derive(Drop)]
 pub struct Cursor<'c, 'a> {
     place: Place<'c, 'a, Vec<Token<'a>>>,
@@ -39,7 +39,8 @@ impl<'c, 'a> Model for Cursor<'c, 'a> {
 }
 
 impl<'c, 'a> Cursor<'c, 'a> {
-    /// At the front of a message, where so many values may begin. `MessageLimit`: it has more than 16,777,216 octets.
+    /// A cursor at the start of a message, in which at most `room` values may begin. `MessageLimit`: the message has
+    /// more than 16,777,216 octets.
     pub fn new(
         alloc: Global,
         code: &'c Code,
@@ -58,28 +59,28 @@ impl<'c, 'a> Cursor<'c, 'a> {
         })
     }
 
-    /// Whether no octets are left of the contents that it stands in.
+    /// Whether no octets are left of the contents that are being read.
     pub fn is_at_end(&self) -> bool
         ensures { IsTrue result ↔ (self.now.here.octets ≡ []) }
     {
         self.place.here.octets.is_empty()
     }
 
-    /// The place in the message of the first octet that isn't read of the contents that it stands in, from 0.
+    /// The offset in the message, from 0, of the first octet that isn't read of the contents that are being read.
     pub fn at(&self) -> usize
         ensures { result ≡ self.now.here.at }
     {
         self.place.here.at
     }
 
-    /// What was read so far.
+    /// The tokens that were read so far.
     pub fn tokens(&self) -> &[Token<'a>]
         ensures { map token_of result.now ≡ self.now.told }
     {
         self.place.told.as_slice()
     }
 
-    /// What was read.
+    /// The tokens that were read.
     pub fn into_tokens(self) -> Vec<Token<'a>>
         ensures { map token_of result.items ≡ self.entry.told }
     {

@@ -1,5 +1,6 @@
-//! Octets as a source, read by the basic rules (X.690, 8.1 to 8.14): a cursor that answers a routine's questions just
-//! as `octet_answers` defines, and tells what is read in tokens whose strings are slices of the message.
+//! Octets as a source, read by the basic rules (X.690, 8.1 to 8.14). A cursor answers the questions of a routine
+//! exactly as `octet_answers` defines. What it reads is given to a receiver in tokens, whose strings are slices of the
+//! message.
 #![tactic(auto)]
 
 pub mod asking;

@@ -1,4 +1,4 @@
-//! Answers that lead on: values begin and end, headers open and close, and contents are read.
+//! Answers that move on: values begin and end, headers open and close, and contents are read.
 
 ghost use Rattle.asn_base.specs.Abstract.{AbstractValue};
 ghost use Rattle.ber_source.specs.Holding.{AreBad, AreReadAs};
@@ -30,7 +30,7 @@ use octets::{Form, HeaderFault};
 use segmented_strings::{SegmentsFault, Why, read_segments};
 use std::alloc::Global;
 
-/// The fault of a header, as that of a reader.
+/// The fault of a header, as that of a decoder.
 pub(crate) fn told_header(fault: HeaderFault) -> ReadFault
     ensures { result ≡ of_header fault }
 {
@@ -42,7 +42,7 @@ pub(crate) fn told_header(fault: HeaderFault) -> ReadFault
     }
 }
 
-/// The fault of primitive contents, as that of a reader.
+/// The fault of primitive contents, as that of a decoder.
 fn told_leaf(fault: LeafFault) -> ReadFault
     ensures { result ≡ of_leaf fault }
 {
@@ -53,7 +53,7 @@ fn told_leaf(fault: LeafFault) -> ReadFault
     }
 }
 
-/// The fault of segments, as that of a reader.
+/// The fault of segments, as that of a decoder.
 fn told_why(why: Why) -> ReadFault
     ensures { result ≡ of_segments why }
 {
@@ -66,14 +66,14 @@ fn told_why(why: Why) -> ReadFault
     }
 }
 
-/// Why contents octets are none of a kind, and at which of them, from 0.
+/// Why contents octets aren't those of a kind, and the offset in them, from 0, of the octet that fails.
 #[derive(Clone, Copy)]
 struct Bad {
     fault: ReadFault,
     at: usize,
 }
 
-/// Segments that are refused.
+/// The fault and the offset of segments that are refused.
 fn told_segments(fault: SegmentsFault) -> Bad
     ensures memory { fault ≡ NoMemory → result.fault ≡ Memory }
     ensures at { (n : ℕ) (e : Why') → fault ≡ At n e → (result.fault ≡ of_segments e) × (result.at ≡ n) }
@@ -109,7 +109,7 @@ fn push_window<'a>(list: &mut Vec<Window<'a>>, one: Window<'a>) -> Result<(), Re
     Ok(())
 }
 
-/// A value of the type begins.
+/// Begins a value of the type.
 #[inline(always)]
 pub fn begin<'c, 'a, T: Teller<'a>>(
     place: &mut Place<'c, 'a, T>,
@@ -136,7 +136,7 @@ pub fn begin<'c, 'a, T: Teller<'a>>(
     Ok(())
 }
 
-/// The value that began last ends.
+/// Ends the value that began last, of those that are open.
 #[inline(always)]
 pub fn end<'c, 'a, T: Teller<'a>>(place: &mut Place<'c, 'a, T>) -> Result<(), ReadFault>
     requires { IsWithin T.suits place.old }
@@ -154,7 +154,7 @@ pub fn end<'c, 'a, T: Teller<'a>>(place: &mut Place<'c, 'a, T>) -> Result<(), Re
     }
 }
 
-/// Opens the header that stands next, which has this tag, and is constructed where it must be.
+/// Opens the header that comes next. It must have this tag, and must be constructed if the step requires it.
 #[inline(always)]
 pub fn open<'c, 'a, T: Teller<'a>>(
     place: &mut Place<'c, 'a, T>,
@@ -184,7 +184,7 @@ pub fn open<'c, 'a, T: Teller<'a>>(
     Ok(())
 }
 
-/// Goes into the contents of the encoding that stands next.
+/// Goes into the contents of the encoding that comes next.
 #[inline(always)]
 fn enter<'c, 'a, T: Teller<'a>>(
     place: &mut Place<'c, 'a, T>,
@@ -265,7 +265,7 @@ pub fn hold<'c, 'a, T: Teller<'a>>(
     }
 }
 
-/// The octets behind so many.
+/// The octets after the first `count` ones.
 fn behind(octets: &[u8], count: usize) -> &[u8]
     ensures { result.now ≡ drop count octets.now }
 {
@@ -276,7 +276,7 @@ fn behind(octets: &[u8], count: usize) -> &[u8]
     }
 }
 
-/// Goes behind so many of the octets, if there are as many.
+/// Moves over `count` octets, if there are as many.
 fn stand_at<'c, 'a, T: Teller<'a>>(place: &mut Place<'c, 'a, T>, count: usize)
     requires { IsWithin T.suits place.old }
     ensures within { IsWithin T.suits place.new }
@@ -294,7 +294,7 @@ fn stand_at<'c, 'a, T: Teller<'a>>(place: &mut Place<'c, 'a, T>, count: usize)
     }
 }
 
-/// What the octets hold as contents of this kind, where so many levels of headers may stand in them.
+/// What the octets mean as contents of this kind, with at most `room` levels of headers in them.
 #[inline(always)]
 fn judge<'a>(
     alloc: Global,
@@ -329,7 +329,7 @@ fn judge<'a>(
     }
 }
 
-/// Goes behind the contents, and tells them.
+/// Moves over the contents octets, and gives them to the receiver.
 #[inline(always)]
 fn pass_contents<'c, 'a, T: Teller<'a>>(
     place: &mut Place<'c, 'a, T>,

@@ -1,4 +1,4 @@
-//! Additions that the type lacks are passed.
+//! Skips additions that the type lacks.
 
 ghost use Rattle.ber_source.specs.Seen.{IsWithin, state_of};
 ghost use Rattle.codec_code.specs.declared.step.Field.{Field as Field'};
@@ -23,8 +23,8 @@ use limits::MAX_HEADERS;
 use next_tags::{Unit, find, next_unit};
 use octet_answers::law::one_unit;
 
-/// Passes additions that the type lacks, where it is extensible, and answers the component that stands behind them, or
-/// None at the end of the contents.
+/// Skips additions that the type lacks, if it is extensible. Returns the component that comes after them, or None at
+/// the end of the contents.
 pub(crate) fn pass<'c, 'a, T: Teller<'a>>(
     place: &mut Place<'c, 'a, T>,
     steps: &[Step],
@@ -52,7 +52,8 @@ pub(crate) fn pass<'c, 'a, T: Teller<'a>>(
     }
 }
 
-/// Answers what stands next, if it is a component or the end of the contents; else passes one addition.
+/// Returns the component that comes next, or None at the end of the contents. If an addition comes next, it is skipped,
+/// and there is no result yet.
 fn pass_one<'c, 'a, T: Teller<'a>>(
     place: &mut Place<'c, 'a, T>,
     steps: &[Step],
@@ -106,7 +107,7 @@ fn pass_one<'c, 'a, T: Teller<'a>>(
     Ok(None)
 }
 
-/// Goes behind the encoding that stands next.
+/// Moves over the encoding that comes next.
 fn step_over<'c, 'a, T: Teller<'a>>(
     place: &mut Place<'c, 'a, T>,
     unit: Unit<'a>,

@@ -1,4 +1,4 @@
-//! Where a cursor stands.
+//! The position of a cursor in a message, with all that is open there.
 
 ghost use Rattle.ber_source.specs.Seen.{IsWithin, state_of};
 ghost use Rattle.octet_answers.specs.States.{front};
@@ -11,9 +11,9 @@ use codec_code::Code;
 use octets::Form;
 use std::alloc::Global;
 
-/// The contents of the nearest open header, and what stands behind each of the open ones; the types of the values that
-/// are open; the components that were read of the SETs that are open; who is told what is read; and how many values may
-/// still begin.
+/// The unread contents of the nearest open header, and what comes after each open header. There are also the types of
+/// the open values, and the components that were read of the open SETs. The last fields are the receiver of the tokens,
+/// and how many values may still begin.
 #[derive(Drop)]
 pub struct Place<'c, 'a, T> {
     pub alloc: Global,
@@ -26,7 +26,8 @@ pub struct Place<'c, 'a, T> {
     pub room: usize,
 }
 
-/// At the front of a message, where so many values may begin; who is told what is read was told nothing yet.
+/// The place at the start of a message, in which at most `room` values may begin. The receiver must have got nothing
+/// yet.
 pub fn at_front<'c, 'a, T: Teller<'a>>(
     alloc: Global,
     code: &'c Code,

@@ -1,4 +1,4 @@
-//! Who is told what is read.
+//! Receivers of the tokens that are read.
 
 ghost use Rattle.asn_base.specs.Types.{Resolved};
 ghost use Rattle.ber_source.specs.Seen.{held_of, mark_of, token_of};
@@ -10,22 +10,22 @@ ghost use Rattle.std.specs.Prelude.{◌≡◌, ◌++◌, ◌∷◌, [], IfErr, L
 use crate::token::{Held, Holding, Mark, Token};
 use codec_source::ReadFault;
 
-/// Is told what is read of a message, in its order, and makes of it what it likes: a list, or a view. It refuses
-/// nothing but want of memory.
+/// Receives the tokens of a message in its order, and builds something of them, such as a list or a view. A receiver
+/// refuses a token only if an allocation fails.
 pub trait Teller<'a>: Drop {
-    /// What was told so far.
+    /// The tokens that were received so far.
     ghost tokens: { Self → List Token' };
 
-    /// It may be told of values of this schema.
+    /// Whether values of this schema may be given to it.
     ghost suits: { Self → List Resolved → Type 0 };
 
-    /// One token more, which tells no contents octets.
+    /// Receives one more token, which has no contents octets.
     fn tell(&mut self, mark: Mark) -> Result<(), ReadFault>
         ensures ok { OnOk result (tokens self.new ≡ tokens self.old ++ mark_of mark ∷ []) }
         ensures err { IfErr result (λ e. e ≡ Memory) }
         ensures suits { (s : List Resolved) → suits self.old s → suits self.new s };
 
-    /// The contents octets of a value that holds no others, and what they hold.
+    /// Receives the contents octets of a value that holds no others, with their meaning.
     fn hold(&mut self, held: Held<'a>, holding: Holding<'a>) -> Result<(), ReadFault>
         requires { IsHolding held holding }
         ensures ok { OnOk result (tokens self.new ≡ tokens self.old ++ held_of held.entry ∷ []) }
@@ -46,7 +46,7 @@ fn marked<'a>(mark: Mark) -> Token<'a>
     }
 }
 
-/// A list of all that was read, for values of any schema.
+/// A list of all tokens that were read, for values of any schema.
 impl<'a> Teller<'a> for Vec<Token<'a>> {
     ghost tokens = { λ v. map token_of v.items };
 

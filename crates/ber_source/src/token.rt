@@ -1,4 +1,4 @@
-//! What was read.
+//! The tokens of a message.
 
 use asn_base::schema::TypeId;
 use codec_code::LeafKind;
@@ -6,7 +6,7 @@ use leaf_readings::Leaf;
 use octets::Form;
 use segmented_strings::Joined;
 
-/// What was read: the values in order, each with all that stands in it.
+/// A part of what was read. The tokens of a message are in order of its values, each value with all that is in it.
 #[derive(Clone, Copy)]
 pub enum Token<'a> {
     /// The component at this place in order of definition, from 0, follows.
@@ -17,7 +17,8 @@ pub enum Token<'a> {
     Begun(TypeId),
     /// The value that began last, of those that are open, ends.
     Ended,
-    /// The contents octets of a value that holds no others, and the place in the message of the first of them, from 0.
+    /// The contents octets of a value that holds no others, and the offset in the message, from 0, of the first of
+    /// them.
     Held {
         kind: LeafKind,
         form: Form,
@@ -28,7 +29,7 @@ pub enum Token<'a> {
     Passed,
 }
 
-/// What was read, but for contents octets.
+/// A token that has no contents octets.
 #[derive(Clone, Copy)]
 pub enum Mark {
     /// The component at this place in order of definition, from 0, follows.
@@ -43,7 +44,7 @@ pub enum Mark {
     Passed,
 }
 
-/// The contents octets of a value that holds no others, and the place in the message of the first of them, from 0.
+/// The contents octets of a value that holds no others, and the offset in the message, from 0, of the first of them.
 #[derive(Clone, Copy)]
 pub struct Held<'a> {
     pub kind: LeafKind,
@@ -52,7 +53,7 @@ pub struct Held<'a> {
     pub at: usize,
 }
 
-/// What contents octets hold: primitive ones, or those of a string in segments, joined.
+/// The meaning of contents octets: of primitive ones, or of those of a string in segments, which are joined.
 #[derive(Drop)]
 pub enum Holding<'a> {
     Whole(Leaf<'a>),

@@ -1,9 +1,9 @@
-//! Contents octets as far as they are not read.
+//! The part of contents octets that isn't read yet.
 
 use octets::Form;
 
-/// Contents octets, constructed or not, as far as they are not read; the place in the message of the first of them,
-/// from 0; and how many components of the SETs around them were read.
+/// The contents octets, constructed or not, that aren't read yet, with the offset in the message, from 0, of the first
+/// of them. `from` is the number of components that were read of the SETs around them.
 #[derive(Clone, Copy)]
 pub struct Window<'a> {
     pub form: Form,

@@ -1,5 +1,6 @@
--- What a view's node is for each type (`Shapes`), how contents octets are shown (`Shown`), how a view is built of tokens
--- (`Wants`), what was told so far (`Log`), and what is built of it (`Telling`).
+-- Which node a view has for a value of each type (`Shapes`), how contents octets are shown (`Shown`), and how a view is
+-- built of tokens (`Wants`). The tokens that were received so far are in `Log`, and the view that is built of them in
+-- `Telling`.
 pub mod Shapes
 pub mod Shown
 pub mod Wants

@@ -1,4 +1,4 @@
--- The tokens that were told.
+-- The tokens that a view received.
 use Rattle.std.specs.Prelude.{ℕ, suc, List, [], ◌∷◌, ◌++◌}
 use Rattle.octet_answers.specs.States.{Token, component, chosen, begun, ended, held, passed}
 use Rattle.ber_source.specs.Seen.{token_of}
@@ -14,7 +14,7 @@ level (More t before) = before.value ++ token_of t.value ∷ []
 abbrev pub logged : Log → List Token
 logged = fold-Log (List Token) level
 
--- how many additions were skipped
+-- the number of skipped additions among the tokens
 abbrev pub passes : List Token → ℕ
 passes [] = 0
 passes (passed ∷ ts) = suc (passes ts)

@@ -1,4 +1,4 @@
--- What node of a view stands for a value of each type, as its routine tells it.
+-- Which node a view has for a value of each type, by the steps of the type's routine.
 use Rattle.std.specs.Prelude.{suc, List, [], ◌∷◌, length}
 use Rattle.asn_base.specs.Types.{Kind, a_sequence, a_set, a_sequence_of, a_set_of}
 use Rattle.codec_code.specs.declared.step.Step.{Step}
@@ -8,7 +8,7 @@ use Rattle.codec_code.specs.Briefs.{fields_in}
 use Rattle.ber_views.specs.declared.shape.Shape.{Shape}
 use Rattle.ber_views.specs.declared.shape.Shape.TheVariants as shapes
 
--- a row of so many components, a list, or none of its own
+-- a row with the number of its components, a list, or no node of its own
 abbrev pub shape_of : Kind → Shape
 shape_of (a_sequence e cs) = shapes.Row (length cs)
 shape_of (a_set e cs) = shapes.Row (length cs)
@@ -16,7 +16,7 @@ shape_of (a_sequence_of c u) = shapes.List
 shape_of (a_set_of c u) = shapes.List
 shape_of k = shapes.Bare
 
--- the same by the steps of a routine
+-- the node by the steps of a routine
 abbrev pub shape_in : List Step → Shape
 shape_in [] = shapes.Bare
 shape_in (Head h ∷ ss) = shape_in ss

@@ -1,11 +1,11 @@
--- How a view shows the contents octets that were read: what is a slice of the message, and what is a copy.
+-- How a view shows the contents octets that were read: as a slice of the message, or as a copy.
 use Rattle.std.specs.Prelude.{◌≡◌, ℕ, suc, Bool, true, false, List, [], ◌∷◌, ◌++◌, Some, None}
 use Rattle.encodings.specs.Header.{Octets}
 use Rattle.octet_answers.specs.States.{Token, component, chosen, begun, ended, held, passed}
 use Rattle.views.specs.Tree.{Leaf, bits, octets, text, Tree, leaf, fields, list, alternative, Members, no_member, member}
 
--- A string that was primitive is shown with its place in the message, a BIT STRING's from its second contents octet on;
--- one that was joined from segments without a place.
+-- A string that is primitive is shown with the offset of its contents octets in the message, for a BIT STRING from the
+-- second one on. A string that was joined from segments is shown without an offset.
 abbrev pub IsShownAs : Bool → Octets → ℕ → Leaf → Type 0
 IsShownAs false x at (octets o p) = (o ≡ x) × (p ≡ Some at)
 IsShownAs false x at (text o p) = (o ≡ x) × (p ≡ Some at)
@@ -27,8 +27,8 @@ abbrev mutual
   leaves_in no_member = []
   leaves_in (member k t ms) = leaves_of t ++ leaves_in ms
 
--- for each value that holds no others, of whose contents octets these tokens tell, there is a leaf that shows them, and
--- there are no more leaves
+-- For each token with contents octets, in order, there is a leaf that shows these octets, and there are no other
+-- leaves.
 abbrev pub AreShown : List Token → List Leaf → Type 0
 AreShown [] [] = Unit {0}
 AreShown [] (l ∷ ls) = ⊥

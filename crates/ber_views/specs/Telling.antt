@@ -1,4 +1,4 @@
--- A view while it is told what is read.
+-- A view while it receives the tokens of a message.
 use Rattle.std.specs.Prelude.{◌≡◌, false, List, ◌++◌, length}
 use Rattle.asn_base.specs.Abstract.{AbstractValue}
 use Rattle.asn_base.specs.Types.{Resolved}
@@ -13,19 +13,20 @@ use Rattle.ber_views.specs.Log.{logged, passes}
 use Rattle.ber_views.specs.Shown.{leaves_of, AreShown}
 use Rattle.ber_views.specs.Wants.{Reading, IsBefore, Wants}
 
--- whatever tokens follow those that were told, of which a value's tree is built: so much of it is built
+-- So much of a value is built as the tokens so far give. It stays true whatever tokens follow, if all tokens together
+-- give the value's tree.
 abbrev pub IsFaithful : List Resolved → List Token → Build → Type 0
 IsFaithful s told b = (m : Reading) (w : AbstractValue) (ts : List Token)
     → Wants s m w (told ++ ts) 0 false begun
     → IsBefore s m w ts b
 
--- it is told of values of this schema; unless memory was refused, what was told so far is built
+-- the view receives values of this schema; unless an allocation failed, the tokens so far are built
 pub record IsTelling (t : Telling) (s : List Resolved) : Type 0 where
   pub code : t.code.now ≡ s
   pub builds : t.failed ≡ false → IsFaithful s (logged t.log) t.build
   pub counts : t.failed ≡ false → length t.skipped.items ≡ passes (logged t.log)
 
--- The view of the value of which the tokens build the tree, and how many additions were skipped.
+-- The view of the value whose tree the tokens give, and the number of additions that were skipped.
 pub record IsBuiltOf (s : List Resolved) (told : List Token) (b : Built) : Type 0 where
   pub view : (m : Reading) (w : AbstractValue)
       → Wants s m w told 0 false begun

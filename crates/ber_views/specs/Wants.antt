@@ -1,4 +1,4 @@
--- How a view is built of what was read, token by token: what must hold so that the tree of a value is built in the end.
+-- How a view is built of tokens, one by one: the condition under which the tree of a value is built in the end.
 use Rattle.std.specs.Prelude.{◌≡◌, ℕ, ◌+◌, ◌^◌, ◌<◌, ◌≤◌, Bool, true, false, List, [], ◌∷◌, length}
 use Rattle.asn_base.specs.Abstract.{AbstractValue}
 use Rattle.asn_base.specs.Types.{Resolved}
@@ -17,20 +17,20 @@ use Rattle.ber_views.specs.declared.build.Build.{Build}
 use Rattle.ber_views.specs.Shapes.{shape_in}
 use Rattle.ber_views.specs.Shown.{IsShownAs, leaves_of, AreShown}
 
--- contents octets of a value, in a message
+-- the octets are the contents octets of a value, within a message
 pub record AreHeld (k : LeafKind) (c : Bool) (x : Octets) (at : ℕ) (v : AbstractValue) : Type 0 where
   pub levels : ℕ
   pub few : levels ≤ 400
   pub short : at + length x ≤ 16777216
   pub contents : AreContents c k v levels x
 
--- what follows holds of each leaf that shows the value
+-- `Then` holds for each leaf that shows the value of these contents octets
 pub record Held (k : LeafKind) (c : Bool) (x : Octets) (at : ℕ) (Then : Leaf → Type 0) : Type 0 where
   pub value : AbstractValue
   pub held : AreHeld k c x at value
   pub then : (l : Leaf) → leaf_value l ≡ value → IsShownAs c x at l → Then l
 
--- what follows holds of what is built once the innermost open node is closed
+-- `Then` holds for the building after the innermost open node is closed
 pub record Closed (b : Building) (Then : Building → Type 0) : Type 0 where
   pub building : Building
   pub wait : Waiting
@@ -39,13 +39,13 @@ pub record Closed (b : Building) (Then : Building → Type 0) : Type 0 where
   pub closed : IsClosed b wait waits tree building
   pub then : Then building
 
--- a message, and the tokens that it is read as
+-- a message, and the tokens that are read of it
 pub record Reading : Type 0 where
   pub message : Octets
   pub tokens : List Token
 
--- The whole value is built, and nothing else. What is told with a place stands there in the message, and each string is
--- shown as it was held.
+-- The whole value is built, and nothing else. What is shown with an offset is in the message at that offset, and each
+-- string is shown as its token has it.
 pub record IsBuilt (m : Reading) (w : AbstractValue) (b : Building) : Type 0 where
   pub tree : Tree
   pub whole : b ≡ with_tree 0 tree begun'
@@ -53,20 +53,20 @@ pub record IsBuilt (m : Reading) (w : AbstractValue) (b : Building) : Type 0 whe
   pub borrowed : IsBorrowed m.message tree
   pub shown : AreShown m.tokens (leaves_of tree)
 
--- behind the begin of a value of this shape, which is component n: the node that is opened, if any
+-- the building after a value of this shape began, as component n; a value with a node of its own opens this node
 abbrev pub begun_as : Shape → ℕ → Building → Building
 begun_as (shapes.Row size) n b = opened n (open_fields size) b
 begun_as shapes.List n b = opened n open_list b
 begun_as shapes.Bare n b = b
 
--- the number of the value's next part, behind its begin: of a value that has no node of its own its own number
+-- the number of the value's next part after the value began; a value without a node of its own keeps its number
 abbrev pub number_as : Shape → ℕ → ℕ
 number_as (shapes.Row size) n = 0
 number_as shapes.List n = 0
 number_as shapes.Bare n = n
 
--- the rest of the tokens, where the next value is component n, what was held last was a leaf or not, and so much is
--- built
+-- The rest of the tokens gives the tree of the value. n is the number of the next value, h says whether the last token
+-- had contents octets, and b is built so far.
 abbrev pub Wants : List Resolved → Reading → AbstractValue → List Token → ℕ → Bool → Building → Type 0
 Wants s m w [] n h b = IsBuilt m w b
 Wants s m w (component i ∷ ts) n h b = (i < 2 ^ 32) × Wants s m w ts i false b
@@ -81,7 +81,7 @@ Wants s m w (ended ∷ ts) n false b = Closed b (λ c. Wants s m w ts 0 false c)
 Wants s m w (held k c x at ∷ ts) n h b = Held k c x at (λ l. Wants s m w ts 0 true (with_leaf n l b))
 Wants s m w (passed ∷ ts) n h b = Wants s m w ts n h b
 
--- a builder stands before these tokens
+-- a builder before it gets these tokens
 pub record IsBefore (s : List Resolved) (m : Reading) (w : AbstractValue) (ts : List Token) (b : Build) : Type 0 where
   pub building : Building
   pub holds : Holds b.builder building

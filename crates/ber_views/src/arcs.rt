@@ -9,7 +9,7 @@ ghost use Rattle.std.specs.Prelude.{◌≡◌, ◌+◌, ◌*◌, ◌++◌, ◌^�
 use leaf_readings::read_arc;
 use std::alloc::{AllocError, Global};
 
-/// Adds numbers, each below 2^64.
+/// Appends numbers, each below 2^64.
 fn push_arcs(arcs: &mut Vec<u64>, octets: &[u8]) -> Result<(), AllocError>
     requires { (ns : List ℕ) × AllByRecursion (λ n. n < 2 ^ 64) ns × (octets.now ≡ flat_map septets ns) }
     ensures { (ns : List ℕ)
@@ -66,7 +66,7 @@ pub(crate) fn object_arcs(alloc: Global, octets: &[u8]) -> Result<Vec<u64>, Allo
     }
 }
 
-/// The two numbers that one stands for (8.19.4).
+/// The two numbers that were joined into one (8.19.4).
 fn parted(number: u128) -> (u64, u64)
     requires { number < 2 ^ 64 + 80 }
     ensures { (x y : ℕ)

@@ -1,4 +1,4 @@
-//! A view is built of what was read, token by token.
+//! Builds a view of tokens, one by one.
 
 ghost use Rattle.asn_base.specs.Abstract.{AbstractValue};
 ghost use Rattle.ber_source.specs.Holding.{IsHolding};
@@ -17,8 +17,8 @@ use codec_code::Code;
 use std::alloc::{AllocError, Global};
 use views::Builder;
 
-/// A view so far: the number of the component that the next value is, and whether a value that holds no others is to
-/// end next.
+/// A view so far. It has the number of the component that the next value is, and the flag whether the last token had
+/// contents octets.
 #[derive(Drop)]
 pub struct Build<'a> {
     pub builder: Builder<'a>,
@@ -26,7 +26,7 @@ pub struct Build<'a> {
     pub held: bool,
 }
 
-/// A value of the type begins.
+/// Begins a value of the type.
 #[inline(always)]
 fn begin<'a>(code: &Code, build: &mut Build<'a>, id: TypeId) -> Result<(), AllocError>
     ensures { (m : Reading) (w : AbstractValue) (ts : List Token')
@@ -48,7 +48,7 @@ fn begin<'a>(code: &Code, build: &mut Build<'a>, id: TypeId) -> Result<(), Alloc
     Ok(())
 }
 
-/// The value that began last ends.
+/// Ends the value that began last, of those that are open.
 #[inline(always)]
 fn end(build: &mut Build<'_>, code: &Code)
     ensures { (m : Reading) (w : AbstractValue) (ts : List Token')
@@ -65,7 +65,7 @@ fn end(build: &mut Build<'_>, code: &Code)
     build.held = false;
 }
 
-/// An alternative is told.
+/// Opens an alternative: the next value is that of the alternative with this number.
 fn choose(code: &Code, build: &mut Build<'_>, index: usize) -> Result<(), AllocError>
     ensures { (m : Reading) (w : AbstractValue) (ts : List Token')
         → IsBefore code.now m w (chosen index ∷ ts) build.old
@@ -77,7 +77,7 @@ fn choose(code: &Code, build: &mut Build<'_>, index: usize) -> Result<(), AllocE
     Ok(())
 }
 
-/// A component is told, which has a place below 2^32.
+/// Sets the component that the next value is, by its place, which is below 2^32.
 #[inline(always)]
 fn name(code: &Code, build: &mut Build<'_>, place: usize)
     ensures { (m : Reading) (w : AbstractValue) (ts : List Token')
@@ -88,7 +88,7 @@ fn name(code: &Code, build: &mut Build<'_>, place: usize)
     build.held = false;
 }
 
-/// The number of a place.
+/// The place as a number of 32 bits.
 fn number_of(place: usize) -> u32
     ensures { place < 2 ^ 32 → result ≡ place }
 {
@@ -99,7 +99,7 @@ fn number_of(place: usize) -> u32
     }
 }
 
-/// A value that holds no others is told.
+/// Adds a value that holds no others.
 #[inline(always)]
 pub(crate) fn hold<'a>(
     alloc: Global,
@@ -119,7 +119,7 @@ pub(crate) fn hold<'a>(
     Ok(())
 }
 
-/// One token more, which tells no contents octets.
+/// Takes one more token, which has no contents octets.
 #[inline(always)]
 pub(crate) fn take(code: &Code, build: &mut Build<'_>, mark: Mark) -> Result<(), AllocError>
     ensures { (m : Reading) (w : AbstractValue) (ts : List Token')
@@ -141,7 +141,7 @@ pub(crate) fn take(code: &Code, build: &mut Build<'_>, mark: Mark) -> Result<(),
     }
 }
 
-/// Nothing yet.
+/// The empty view.
 pub(crate) fn nothing<'a>(alloc: Global) -> Build<'a>
     ensures holds { Holds result.builder begun }
     ensures number { result.number ≡ 0 }

@@ -18,7 +18,7 @@ use octet_answers::law::one_answer;
 use std::alloc::Global;
 use std::marker::Model;
 
-/// A message while it is read, from the front, by the basic rules, and a view of what was read.
+/// A message while it is read from its start by the basic rules, and the view of what was read.
 #[derive(Drop)]
 pub struct Viewer<'c, 'a> {
     place: Place<'c, 'a, Telling<'c, 'a>>,
@@ -42,7 +42,8 @@ impl<'c, 'a> Model for Viewer<'c, 'a> {
 }
 
 impl<'c, 'a> Viewer<'c, 'a> {
-    /// At the front of a message, where so many values may begin. `MessageLimit`: it has more than 16,777,216 octets.
+    /// A cursor at the start of a message, in which at most `room` values may begin. `MessageLimit`: the message has
+    /// more than 16,777,216 octets.
     pub fn new(
         alloc: Global,
         code: &'c Code,
@@ -61,14 +62,14 @@ impl<'c, 'a> Viewer<'c, 'a> {
         })
     }
 
-    /// Whether no octets are left of the contents that it stands in.
+    /// Whether no octets are left of the contents that are being read.
     pub fn is_at_end(&self) -> bool
         ensures { IsTrue result ↔ (self.now.here.octets ≡ []) }
     {
         self.place.here.octets.is_empty()
     }
 
-    /// What was read.
+    /// The view of what was read.
     pub fn into_telling(self) -> Telling<'c, 'a>
         ensures tokens { logged result.log ≡ self.entry.told }
         ensures suits { IsTelling result self.entry.schema }

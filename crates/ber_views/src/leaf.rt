@@ -22,7 +22,7 @@ use segmented_strings::law::one_joining;
 use std::alloc::{AllocError, Global};
 use views::Builder;
 
-/// Adds the value that contents octets hold, as the component with a number.
+/// Adds the value of contents octets, as the component with this number.
 #[inline(always)]
 pub(crate) fn push_held<'a>(
     alloc: Global,
@@ -47,7 +47,7 @@ pub(crate) fn push_held<'a>(
     }
 }
 
-/// Those of primitive contents octets, which were read as this.
+/// Adds the value of primitive contents octets, which were read already.
 #[inline(always)]
 fn push_whole<'a>(
     alloc: Global,
@@ -86,7 +86,7 @@ fn push_whole<'a>(
     }
 }
 
-/// Bits: the first contents octet tells how many of them are unused.
+/// Adds bits: the first contents octet is the number of unused bits.
 fn push_bits<'a>(
     builder: &mut Builder<'a>,
     number: u32,
@@ -109,7 +109,7 @@ fn push_bits<'a>(
     }
 }
 
-/// A string that was joined.
+/// Adds a string that was joined from segments.
 fn push_joined<'a>(builder: &mut Builder<'a>, number: u32, joined: Joined) -> Result<(), AllocError>
     requires { HasFewUnused joined }
     ensures { (v : AbstractValue) (b : Building) (x : List ℕ) (at : ℕ)

@@ -1,4 +1,4 @@
-//! What was told, for contracts alone.
+//! The tokens that a view received, for contracts alone.
 
 ghost use Rattle.ber_source.specs.Seen.{token_of};
 ghost use Rattle.ber_views.specs.Log.{logged};
@@ -7,7 +7,7 @@ ghost use Rattle.std.specs.Prelude.{◌≡◌, ◌++◌, ◌∷◌, []};
 use ber_source::{Held, Mark, Token};
 use std::snapshot::Snapshot;
 
-/// The tokens that were told, in order, of which no memory is taken: contracts see them, and no code does.
+/// The tokens that were received, in order. They take no memory: contracts see them, and no code does.
 #[derive(Drop)]
 pub enum Log<'a> {
     Empty,
@@ -21,7 +21,7 @@ pub(crate) fn empty<'a>() -> Log<'a>
     Log::Empty
 }
 
-/// One token more.
+/// Appends one token.
 pub(crate) fn add<'a>(log: &mut Log<'a>, token: Token<'a>)
     ensures { logged log.new ≡ logged log.old ++ token_of token.entry ∷ [] }
 {

@@ -1,4 +1,4 @@
-//! What node of a view stands for a value of each type.
+//! Which node a view has for a value of each type.
 
 ghost use Rattle.ber_views.specs.Shapes.{shape_in};
 ghost use Rattle.codec_code.specs.Briefs.{fields_in as fields_in'};
@@ -8,8 +8,8 @@ ghost use Rattle.std.specs.Prelude.{◌≡◌, ◌≤◌, length};
 use asn_base::schema::TypeId;
 use codec_code::{Brief, Code, Coding, Step};
 
-/// A row of so many components, a list of elements, or none of its own: a value that holds no others, or an
-/// alternative, whose number is told behind its begin.
+/// A row with the number of its components, a list of elements, or no node of its own. The last is for a value that
+/// holds no others, and for a CHOICE, whose node opens when the number of the alternative comes.
 #[derive(Clone, Copy)]
 pub enum Shape {
     Row(usize),
@@ -17,7 +17,7 @@ pub enum Shape {
     Bare,
 }
 
-/// How many components the steps read.
+/// The number of components that the steps read.
 fn fields_in(steps: &[Step]) -> usize
     ensures few { result ≤ length steps.now }
     ensures as_many { result ≡ fields_in' steps.now }
@@ -51,7 +51,7 @@ pub(crate) fn shape_of(steps: &[Step]) -> Shape
     }
 }
 
-/// The node of a value of the type, without a walk over its routine where few words say what that is.
+/// The node of a value of the type. If the brief of the type's routine is enough, the steps aren't walked.
 #[inline(always)]
 pub(crate) fn shape_at(code: &Code, id: TypeId) -> Shape
     ensures { result ≡ shape_in (routine_at code.now id.index) }

@@ -1,4 +1,4 @@
-//! A view while it is told what is read.
+//! A view while it receives the tokens of a message.
 
 ghost use Rattle.asn_base.specs.Types.{Resolved};
 ghost use Rattle.ber_source.specs.Holding.{IsHolding};
@@ -15,8 +15,8 @@ use codec_source::ReadFault;
 use std::alloc::{AllocError, Global};
 use views::View;
 
-/// A view while its message is read, which is told what is read, and how many additions were skipped. Once memory was
-/// refused it is of no more use.
+/// A view while its message is read. It receives the tokens, and counts the skipped additions. After an allocation
+/// failed, it is of no more use.
 #[derive(Drop)]
 pub struct Telling<'c, 'a> {
     pub(crate) alloc: Global,
@@ -27,7 +27,7 @@ pub struct Telling<'c, 'a> {
     pub(crate) log: Log<'a>,
 }
 
-/// The view of a value, and how many additions that its type lacks were skipped.
+/// The view of a value, and the number of skipped additions that its type lacks.
 #[derive(Drop)]
 pub struct Built<'a> {
     pub view: View<'a>,
@@ -35,7 +35,7 @@ pub struct Built<'a> {
 }
 
 impl<'c, 'a> Telling<'c, 'a> {
-    /// Nothing was told yet.
+    /// A view that has received no token yet.
     pub(crate) fn new(alloc: Global, code: &'c Code) -> Self
         ensures suits { IsTelling result code.now }
         ensures nothing { logged result.log ≡ [] }
@@ -50,8 +50,8 @@ impl<'c, 'a> Telling<'c, 'a> {
         }
     }
 
-    /// The view of the value of which the tokens that were told build the tree, and how many additions were skipped.
-    /// `AllocError`: memory was refused while they were told.
+    /// Returns the view of the value whose tree the received tokens give, and the number of skipped additions.
+    /// `AllocError`: an allocation failed while tokens were received.
     pub fn finish(self) -> Result<Built<'a>, AllocError>
         ensures { (s : List Resolved)
             → IsTelling self.entry s
@@ -68,7 +68,7 @@ impl<'c, 'a> Telling<'c, 'a> {
     }
 }
 
-/// How many there are.
+/// The number of octets in the list.
 fn as_many(list: &Vec<u8>) -> u64
     ensures { result ≡ length list.now.items }
 {
@@ -88,7 +88,7 @@ fn marked<'a>(mark: Mark) -> Token<'a>
     }
 }
 
-/// One is added where an addition was skipped.
+/// Counts one more if the mark is that of a skipped addition.
 #[inline(always)]
 fn count(skipped: &mut Vec<u8>, mark: Mark) -> Result<(), AllocError>
     ensures { OnOk result (length skipped.new.items ≡ length skipped.old.items + passes (mark_of mark ∷ [])) }
@@ -105,7 +105,7 @@ fn count(skipped: &mut Vec<u8>, mark: Mark) -> Result<(), AllocError>
     }
 }
 
-/// One token more, which tells no contents octets.
+/// Receives one more token, which has no contents octets.
 #[inline(always)]
 fn add_mark<'c, 'a>(telling: &mut Telling<'c, 'a>, mark: Mark) -> Result<(), AllocError>
     ensures ok { OnOk result (logged telling.new.log ≡ logged telling.old.log ++ mark_of mark ∷ []) }
@@ -118,7 +118,7 @@ fn add_mark<'c, 'a>(telling: &mut Telling<'c, 'a>, mark: Mark) -> Result<(), All
     Ok(())
 }
 
-/// The contents octets of a value that holds no others.
+/// Receives the contents octets of a value that holds no others.
 #[inline(always)]
 fn add_held<'c, 'a>(
     telling: &mut Telling<'c, 'a>,

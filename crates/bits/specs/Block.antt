@@ -3,7 +3,7 @@ use Rattle.std.specs.Int.RustNames.{bit_or}
 use Rattle.std.specs.Prelude.{ℕ, List, [], ◌^◌, Option, Some, None, refl, slice_index, slice_set}
 use Rattle.std.specs.Coded.{Coded, code_by, coded×, coded_list, coded_ℕ}
 
--- words, and how many there is room for
+-- some words, and the number of words that fit in the block
 pub record Block : Type 0 where
   pub items : List ℕ
   pub room : ℕ

@@ -1,4 +1,4 @@
--- What a block of memory owns and lends.
+-- The memory that a block owns and lends.
 use Rattle.std.specs.Prelude.{ℕ, List, length}
 use Rattle.std.specs.Allocator.{block_with_items}
 use Rattle.std.specs.contracts.impls.GlobalAllocator.TheImpl.{ghosts}
@@ -13,10 +13,10 @@ use denote.Struct.Lending.{lent_at}
 abbrev pub heap : Global
 heap = record { memory = record { seal = tt } }
 
--- at p lie these words, behind them is room for more, and the right to free the block is there
+-- these words are at p, room for more is after them, and the owner has the right to free the block
 abbrev pub memory_owns : Ptr → List ℕ → ℕ → Fml
 memory_owns p ws n = block_with_items (ghosts.dealloc_token heap) u64 p (length ws) n ws
 
--- what the holder of a `&` has: the words
+-- what a `&` of the block gives: the words
 abbrev pub memory_lends : Ptr → List ℕ → Lft → Fml
 memory_lends p ws κ = lent_at (Array u64 (length ws)) p ws κ

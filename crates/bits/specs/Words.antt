@@ -1,15 +1,15 @@
--- Numbers as bits, the highest first.
+-- Numbers and octets as bits, the highest first: the form in which other crates say which bits are meant; no clause.
 use Rattle.std.specs.Prelude.{ℕ, zero, suc, ◌/◌, ◌%◌, ◌^◌, ◌==◌, Bool, List, [], ◌∷◌, flat_map}
 
--- the low k bits of n
+-- the low k bits of number n, the highest of them first
 abbrev pub word : ℕ → ℕ → List Bool
 word zero n = []
 word (suc k) n = (n / 2 ^ k % 2 == 1) ∷ word k n
 
--- the bits of octets, one octet after the other
+-- the bits of octets, eight for each, one octet after the other
 abbrev pub octet_bits : List ℕ → List Bool
 octet_bits = flat_map (word 8)
 
--- the bits of words of 64, one word after the other
+-- the bits of words of 64 bits, one word after the other
 abbrev pub word_bits : List ℕ → List Bool
 word_bits = flat_map (word 64)

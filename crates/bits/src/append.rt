@@ -1,4 +1,4 @@
-//! Bits of octets as octets.
+//! Copies bits of octets as octets.
 
 ghost use Rattle.bits.specs.Left.{Appends};
 ghost use Rattle.bits.specs.Words.{octet_bits};
@@ -9,7 +9,7 @@ ghost use Rattle.std.specs.Vec.{vec_capacity, vec_len};
 use crate::load::load;
 use std::alloc::AllocError;
 
-/// Adds `count` octets, from the bit `at` on, to the end of `out`. An `Err` leaves `out` as it was.
+/// Appends `count` octets, from the bit `at` on, to `out`. An `Err` leaves `out` as it was.
 pub(crate) fn append(
     octets: &[u8],
     at: usize,
@@ -29,7 +29,7 @@ pub(crate) fn append(
     Ok(())
 }
 
-/// The same, where the first bit is the first of an octet.
+/// The same, if the first bit is the highest bit of an octet.
 fn append_whole(octets: &[u8], at: usize, count: usize, out: &mut Vec<u8>) -> Result<(), AllocError>
     requires whole { at % 8 ≡ 0 }
     requires inside { at + 8 * count ≤ 8 * length octets.now }
@@ -42,7 +42,7 @@ fn append_whole(octets: &[u8], at: usize, count: usize, out: &mut Vec<u8>) -> Re
     Ok(())
 }
 
-/// The same at any bit, where `out` has room.
+/// The same from any bit, if `out` has room.
 fn append_shifted(octets: &[u8], at: usize, count: usize, out: &mut Vec<u8>)
     requires inside { at + 8 * count ≤ 8 * length octets.now }
     requires short { length octets.now ≤ 2 ^ 60 }
@@ -60,7 +60,7 @@ fn append_shifted(octets: &[u8], at: usize, count: usize, out: &mut Vec<u8>)
     }
 }
 
-/// Adds the eight octets of a number, the highest first, where `out` has room.
+/// Appends the eight octets of a number, the highest first, if `out` has room.
 fn push_eight(out: &mut Vec<u8>, number: u64)
     requires { vec_len out.old + 8 ≤ vec_capacity out.old }
     ensures items { out.new.items ≡ out.old.items ++ to_be_bytes w64 number }

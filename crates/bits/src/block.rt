@@ -10,7 +10,7 @@ use std::marker::Model;
 /// The most words that a block may have.
 const MAX_WORDS: usize = 1 << 56;
 
-/// Words in a row, and how many there is room for. Where there is no room there is no block.
+/// Words in a row, and the number of words that fit in their block. If no word fits, there is no block.
 pub struct Words {
     held: Option<Held>,
     alloc: Global,
@@ -33,14 +33,14 @@ impl Model for Words {
 }
 
 impl Words {
-    /// No words. It takes no memory.
+    /// The empty list of words. It takes no memory.
     pub(crate) fn new(alloc: Global) -> Self
         ensures { result ≡ block [] 0 }
     {
         Words { held: None, alloc }
     }
 
-    /// How many words there is room for.
+    /// The number of words that fit in the block.
     pub(crate) fn room(&self) -> usize
         ensures room { result ≡ self.now.room }
         ensures few { self.now.room ≤ max_words }
@@ -52,7 +52,7 @@ impl Words {
         }
     }
 
-    /// The words in order. It takes no memory.
+    /// The words in order. The call takes no memory.
     pub(crate) fn as_slice(&self) -> &[u64]
         ensures { result.now ≡ self.now.items }
     {
@@ -62,7 +62,7 @@ impl Words {
         }
     }
 
-    /// The word at a place. It takes no memory.
+    /// The word at a place. The call takes no memory.
     pub(crate) fn at(&self, place: usize) -> u64
         requires { place < length self.now.items }
         ensures { result ≡ slice_index self.now.items place }
@@ -70,12 +70,12 @@ impl Words {
         self.as_slice()[place]
     }
 
-    /// What the words are got from.
+    /// The allocator that the words come from.
     pub(crate) fn allocator(&self) -> Global {
         self.alloc
     }
 
-    /// Makes room for so many words, and more. An `Err` changes nothing.
+    /// Makes room for at least `least` words. An `Err` changes nothing.
     #[inline(never)]
     pub(crate) fn grow(&mut self, least: usize) -> Result<(), AllocError>
         requires { length self.old.items ≤ least }
@@ -94,7 +94,7 @@ impl Words {
         Ok(())
     }
 
-    /// Adds a word, where there is room.
+    /// Appends a word. There must be room.
     pub(crate) fn add(&mut self, word: u64)
         requires { length self.old.items < self.old.room }
         ensures { self.new ≡ block (self.old.items ++ word ∷ []) self.old.room }
@@ -115,7 +115,7 @@ impl Words {
     }
 }
 
-/// The room to ask for: twice what there is, or more.
+/// The number of words to ask room for: twice the room that there is, or `least`, if that is more.
 fn wanted(room: usize, least: usize) -> usize
     requires { (room ≤ max_words) × (least ≤ max_words) }
     ensures { (room ≤ result) × (least ≤ result) × (result ≤ max_words) }

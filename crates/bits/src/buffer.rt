@@ -35,7 +35,7 @@ impl Model for BitBuf {
 }
 
 impl BitBuf {
-    /// No bits. It takes no memory.
+    /// The empty list. It takes no memory.
     pub fn new(alloc: Global) -> Self
         ensures { result ≡ [] }
     {
@@ -45,14 +45,14 @@ impl BitBuf {
         }
     }
 
-    /// How many bits there are.
+    /// The number of bits.
     pub fn len(&self) -> usize
         ensures { result ≡ length self.now }
     {
         self.len
     }
 
-    /// Adds a bit. An `Err` adds nothing.
+    /// Appends a bit. An `Err` appends nothing.
     pub fn push(&mut self, bit: bool) -> Result<(), AllocError>
         ensures ok { OnOk result (self.new ≡ self.old ++ bit ∷ []) }
         ensures err { OnErr result (self.new ≡ self.old) }
@@ -60,7 +60,7 @@ impl BitBuf {
         self.push_word(bit as u64, 1)
     }
 
-    /// Adds the low n bits of a number, the highest first; n is at most 64. An `Err` adds nothing.
+    /// Appends the low n bits of a number, the highest first; n is at most 64. An `Err` appends nothing.
     pub fn push_word(&mut self, number: u64, n: usize) -> Result<(), AllocError>
         requires { n ≤ 64 }
         ensures ok { OnOk result (self.new ≡ self.old ++ word n number) }
@@ -75,7 +75,7 @@ impl BitBuf {
         Ok(())
     }
 
-    /// Fills up with zero bits to whole octets; no bits stay none. An `Err` adds nothing.
+    /// Appends zero bits up to a whole number of octets. An empty list stays empty. An `Err` appends nothing.
     #[tactic(auto, using(crate::proofs::WordLaws::pads))]
     pub fn pad(&mut self) -> Result<(), AllocError>
         ensures ok { OnOk result (Pads self.old self.new) }
@@ -85,14 +85,14 @@ impl BitBuf {
         self.push_word(0, zeros)
     }
 
-    /// The bits in order, 64 a word, the highest first. The last word is filled up with zero bits. It takes no memory.
+    /// The bits in order, 64 per word, the highest first. The last word is filled with zero bits. It takes no memory.
     pub fn words(&self) -> &[u64]
         ensures { Fills self.now result.now }
     {
         self.words.as_slice()
     }
 
-    /// The bit at a place, from 0. It takes no memory.
+    /// The bit at a place, from 0, or None after the end. It takes no memory.
     pub fn get(&self, place: usize) -> Option<bool>
         ensures { result ≡ slice_get self.now place }
     {
@@ -103,7 +103,8 @@ impl BitBuf {
         Some((word >> (63 - place % 64)) % 2 == 1)
     }
 
-    /// The octets that the bits are, where they are a multiple of eight; of no bits none.
+    /// The octets of the bits, whose number must be a multiple of eight. `AllocError` comes only if an allocation
+    /// fails.
     pub fn into_octets(self) -> Result<Vec<u8>, AllocError>
         requires { length self % 8 ≡ 0 }
         ensures { IfOk result (λ o. octet_bits o.items ≡ self) }
@@ -111,7 +112,7 @@ impl BitBuf {
         octets_of(self.words.allocator(), self.words.as_slice(), self.len)
     }
 
-    /// Adds the bits of octets, the highest bit of an octet first, at any place. An `Err` adds nothing.
+    /// Appends the bits of octets, the highest bit of each octet first. An `Err` appends nothing.
     pub fn push_octets(&mut self, octets: &[u8]) -> Result<(), AllocError>
         ensures ok { OnOk result (self.new ≡ self.old ++ octet_bits octets.now) }
         ensures err { OnErr result (self.new ≡ self.old) }
@@ -123,7 +124,7 @@ impl BitBuf {
         Ok(())
     }
 
-    /// Adds the bits of another list. An `Err` adds nothing.
+    /// Appends the bits of another list. An `Err` appends nothing.
     pub fn push_bits(&mut self, other: &BitBuf) -> Result<(), AllocError>
         ensures ok { OnOk result (self.new ≡ self.old ++ other.now) }
         ensures err { OnErr result (self.new ≡ self.old) }

@@ -1,4 +1,4 @@
-//! Octets read as bits.
+//! Reads octets as bits.
 
 ghost use Rattle.bits.specs.Words.{octet_bits, word};
 ghost use Rattle.std.specs.Prelude.{◌≡◌, ◌*◌, ◌^◌, ◌<◌, ◌≤◌, ◌++◌, OnErr, OnOk, drop, length, take};
@@ -7,7 +7,7 @@ use crate::append::append;
 use crate::load::load;
 use std::alloc::AllocError;
 
-/// Some bits of octets that are read from the front, the highest bit of an octet first. A copy reads on by itself.
+/// Some bits of octets, read from the first on, the highest bit of each octet first. A copy reads on independently.
 #[derive(Clone, Copy)]
 pub struct Bits<'a> {
     octets: &'a [u8],
@@ -30,14 +30,14 @@ impl<'a> Bits<'a> {
         Bits { octets, at: 0, end }
     }
 
-    /// How many bits are left.
+    /// The number of bits that are left.
     pub fn len(&self) -> usize
         ensures { result ≡ length (bits_left self.now) }
     {
         self.end - self.at
     }
 
-    /// The next n bits alone; so many are left. The cursor stays where it is.
+    /// A cursor over the next n bits alone. At least n bits must be left. This cursor doesn't move.
     pub fn front(&self, n: usize) -> Bits<'a>
         requires { n ≤ length (bits_left self.now) }
         ensures { bits_left result ≡ take n (bits_left self.now) }
@@ -49,7 +49,7 @@ impl<'a> Bits<'a> {
         }
     }
 
-    /// Leaves out the next n bits; so many are left.
+    /// Skips the next n bits. At least n bits must be left.
     pub fn skip(&mut self, n: usize)
         requires { n ≤ length (bits_left self.old) }
         ensures { bits_left self.new ≡ drop n (bits_left self.old) }
@@ -57,7 +57,7 @@ impl<'a> Bits<'a> {
         self.at += n;
     }
 
-    /// Takes the next n bits as a number, the highest first; n is at most 64, and so many are left.
+    /// Takes the next n bits as a number, the highest first. n is at most 64, and at least n bits must be left.
     pub fn take(&mut self, n: usize) -> u64
         requires few { n ≤ 64 }
         requires left { n ≤ length (bits_left self.old) }
@@ -69,8 +69,8 @@ impl<'a> Bits<'a> {
         number
     }
 
-    /// Takes the next `count` octets, from any bit on, and adds them to the end of `out`; so many are left. An `Err`
-    /// takes none, and leaves `out` as it was.
+    /// Takes the next `count` octets, from any bit on, and appends them to `out`. At least 8 * `count` bits must be
+    /// left. An `Err` takes none, and leaves `out` as it was.
     pub fn take_octets(&mut self, count: usize, out: &mut Vec<u8>) -> Result<(), AllocError>
         requires { 8 * count ≤ length (bits_left self.old) }
         ensures ok { OnOk result (Took count out.old.items out.new.items (bits_left self.old) (bits_left self.new)) }

@@ -7,7 +7,7 @@ use crate::memory::Memory;
 use std::alloc::{AllocError, Global};
 use std::marker::Model;
 
-/// Words in a block of memory, and how many it has room for.
+/// Words in a block of memory, and the number of words that fit in the block.
 pub struct Held {
     memory: Memory,
     len: usize,
@@ -30,7 +30,7 @@ impl Model for Held {
 }
 
 impl Held {
-    /// A block with room for so many words, and none in it.
+    /// A block without words, in which `room` words fit.
     pub(crate) fn with_room(alloc: Global, room: usize) -> Result<Self, AllocError>
         requires { room ≤ max_words }
         ensures { IfOk result (λ h. h ≡ block [] room) }
@@ -44,7 +44,7 @@ impl Held {
         })
     }
 
-    /// How many words there is room for.
+    /// The number of words that fit in the block.
     pub(crate) fn room(&self) -> usize
         ensures room { result ≡ self.now.room }
         ensures few { self.now.room ≤ max_words }
@@ -60,7 +60,7 @@ impl Held {
         self.memory.lend(self.len)
     }
 
-    /// Makes room for so many words in all. An `Err` changes nothing.
+    /// Makes room for `room` words in all. An `Err` changes nothing.
     pub(crate) fn grow(&mut self, room: usize) -> Result<(), AllocError>
         requires more { self.old.room ≤ room }
         requires few { room ≤ max_words }
@@ -72,7 +72,7 @@ impl Held {
         Ok(())
     }
 
-    /// Adds a word, where there is room.
+    /// Appends a word. There must be room.
     pub(crate) fn add(&mut self, word: u64)
         requires { length self.old.items < self.old.room }
         ensures { self.new ≡ block (self.old.items ++ word ∷ []) self.old.room }

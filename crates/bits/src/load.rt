@@ -6,7 +6,7 @@ ghost use Rattle.std.specs.Prelude.{◌≡◌, ℕ, ◌+◌, ◌-◌, ◌*◌, �
 
 use crate::pack::word_of;
 
-/// The n bits at a place, at most 64 of them, as a number, the highest first.
+/// The n bits from the bit `at` on as a number, the highest first; n is at most 64.
 pub(crate) fn load(octets: &[u8], at: usize, n: usize) -> u64
     requires few { n ≤ 64 }
     requires inside { at + n ≤ 8 * length octets.now }
@@ -26,7 +26,7 @@ pub(crate) fn load(octets: &[u8], at: usize, n: usize) -> u64
     (front | next) >> (64 - n)
 }
 
-/// The eight octets from a place on as a number, the first one highest, with zero octets where there are fewer.
+/// The eight octets from a place on as a number, the first one the highest. Octets after the end count as 0.
 fn eight_from(octets: &[u8], from: usize) -> u64
     requires { from ≤ length octets.now }
     ensures { Begins result octets.now from }

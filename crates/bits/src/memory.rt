@@ -8,8 +8,8 @@ use std::alloc::{AllocError, Allocator, Global};
 use std::marker::{Model, Send, Sync};
 use std::slice;
 
-/// A block of memory with room for words of 64 bits. The first places hold words, the others nothing yet. Who holds it
-/// keeps the number of its words and of its places, which its calls are handed.
+/// A block of memory with room for words of 64 bits. The first places hold words, and the others hold nothing yet. The
+/// owner of the block keeps the number of words and of places, and passes them to each call.
 pub(crate) struct Memory {
     start: *mut u64,
     ghost words: { List ℕ },
@@ -28,7 +28,7 @@ unsafe impl Send for Memory {}
 unsafe impl Sync for Memory {}
 
 impl Memory {
-    /// A block with room for so many words, and none in it. `Err` where the heap has no such block.
+    /// A block without words, in which `room` words fit. `Err`: the heap has no such block.
     pub(crate) fn allocate(alloc: &Global, room: usize) -> Result<Memory, AllocError>
         requires { room ≤ max_words }
         ensures { IfOk result (λ m. (m.words ≡ []) × (m.room ≡ room)) }
@@ -49,7 +49,7 @@ impl Memory {
         unsafe { alloc.deallocate(start as *mut u8, room * 8, 8) }
     }
 
-    /// Makes the block one with more room. It may move. An `Err` changes nothing.
+    /// Makes the block larger. It may move. An `Err` changes nothing.
     pub(crate) fn grow(
         &mut self,
         alloc: &Global,
@@ -74,14 +74,14 @@ impl Memory {
         }
     }
 
-    /// Writes a word behind those that are there.
+    /// Writes a word after those that are there.
     pub(crate) fn add(&mut self, len: usize, word: u64)
         requires words { len ≡ length self.old.words }
         requires room { len < self.old.room }
         ensures words { self.new.words ≡ self.old.words ++ word ∷ [] }
         ensures room { self.new.room ≡ self.old.room }
     {
-        // The place after the words is in the block, and holds nothing that is let go.
+        // The place after the words is in the block, and holds nothing that must be dropped.
         unsafe { self.start.add(len).write(word) }
     }
 

@@ -8,7 +8,7 @@ ghost use Rattle.std.specs.Prelude.{◌≡◌, ◌+◌, ◌*◌, ◌<◌, ◌≤
 use crate::block::Words;
 use std::alloc::AllocError;
 
-/// The most bits that are asked room for at once.
+/// The largest number of bits for which room is asked at once.
 const MAX_BITS: usize = 1 << 61;
 
 /// Makes room for n bits after the first `len`. An `Err` changes nothing.
@@ -32,7 +32,7 @@ pub(crate) fn reserve(words: &mut Words, len: usize, n: usize) -> Result<(), All
     Ok(())
 }
 
-/// Puts the low n bits of a number, the highest first, after the first `len`, where there is room.
+/// Puts the low n bits of a number, the highest first, after the first `len` bits. There must be room.
 pub(crate) fn put(words: &mut Words, len: usize, number: u64, n: usize)
     requires some { (0 < n) × (n ≤ 64) }
     requires held { Holds words.old.items len (first_bits words.old.items len) }
@@ -52,7 +52,7 @@ pub(crate) fn put(words: &mut Words, len: usize, number: u64, n: usize)
     }
 }
 
-/// How many bits octets are, where there can be so many.
+/// The number of bits in the octets, or `AllocError` if that is more than a list may have.
 pub(crate) fn bit_count(octets: &[u8]) -> Result<usize, AllocError>
     ensures { IfOk result (λ n. n ≡ 8 * length octets.now) }
 {
@@ -69,7 +69,7 @@ pub(crate) fn word_of(octets: [u8; 8]) -> u64
     u64::from_be_bytes(octets)
 }
 
-/// Puts the bits of octets after the first `len` bits, where there is room.
+/// Puts the bits of octets after the first `len` bits. There must be room.
 pub(crate) fn put_octets(words: &mut Words, len: usize, octets: &[u8])
     requires held { Holds words.old.items len (first_bits words.old.items len) }
     requires room { len + 8 * length octets.now ≤ 64 * words.old.room }
@@ -91,7 +91,7 @@ pub(crate) fn put_octets(words: &mut Words, len: usize, octets: &[u8])
     }
 }
 
-/// Puts the first `count` bits of other words after the first `len`, where there is room.
+/// Puts the first `count` bits of other words after the first `len` bits. There must be room.
 pub(crate) fn put_words(words: &mut Words, len: usize, others: &[u64], count: usize)
     requires held { Holds words.old.items len (first_bits words.old.items len) }
     requires room { len + count ≤ 64 * words.old.room }
@@ -108,7 +108,7 @@ pub(crate) fn put_words(words: &mut Words, len: usize, others: &[u64], count: us
     }
 }
 
-/// Puts all bits of other words after the first `len`, where there is room.
+/// Puts all bits of other words after the first `len` bits. There must be room.
 fn put_whole(words: &mut Words, len: usize, others: &[u64])
     requires held { Holds words.old.items len (first_bits words.old.items len) }
     requires room { len + 64 * length others.now ≤ 64 * words.old.room }

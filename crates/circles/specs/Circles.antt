@@ -1,4 +1,5 @@
--- Components with a DEFAULT whose types lead back to the lists that hold them (X.680, clause 25.7).
+-- Components with a DEFAULT whose types lead back to the lists that hold them (own rule, narrower than X.680, clause
+-- 25).
 use Rattle.std.specs.Prelude.{◌≡◌, ℕ, Bool, List, Some, slice_get}
 use Rattle.asn_base.specs.declared.tag.Tag.{Tag}
 use Rattle.trees.specs.Values.{Tree}
@@ -8,7 +9,7 @@ use Rattle.trees.specs.declared.types.Keyword.{Keyword}
 use Rattle.trees.specs.Types.{default}
 use Rattle.type_table.specs.Table.{Part, Kind, reference, tagged, members, elements, Type'}
 
--- type k stands directly in a type, or is the one that a reference there stands for
+-- type k is one that a type of this kind refers to, tags or directly contains
 pub data IsPart (k : ℕ) : Kind → Type 0 where
   referred : IsPart k (reference k)
   behind_tag : {g : Tag} {w : Keyword} → IsPart k (tagged g w k)
@@ -18,7 +19,7 @@ pub data IsPart (k : ℕ) : Kind → Type 0 where
       IsPart k (members l m cs)
   element : {e : ElementsKind} → IsPart k (elements e k)
 
--- type j is type i, or stands in it at any depth, through references too
+-- type j is type i, or references, tags and contained types lead from i to it, at any depth
 pub data Reaches (ts : List Type') : ℕ → ℕ → Type 0 where
   itself : {i : ℕ} → Reaches ts i i
   onward : {i j : ℕ} (k : ℕ) (t : Type') →
@@ -27,8 +28,8 @@ pub data Reaches (ts : List Type') : ℕ → ℕ → Type 0 where
       Reaches ts k j →
       Reaches ts i j
 
--- a component with a DEFAULT has a type that leads back to the list, type i, that holds it: what the default is would
--- depend on itself
+-- In a table of written types, a component with a DEFAULT has a type that leads back to the list, type i, that has the
+-- component. The meaning of the default would depend on itself.
 pub record IsDefaultCircle (ts : List Type') (i : ℕ) : Type 0 where
   pub written : Type'
   pub there : slice_get ts i ≡ Some written
@@ -43,5 +44,6 @@ pub record IsDefaultCircle (ts : List Type') (i : ℕ) : Type 0 where
   pub defaulted : component.presence ≡ default notation
   pub back : Reaches ts component.ty i
 
+-- no list of the table has a component with a DEFAULT whose type leads back to that list (own rule)
 abbrev pub NoDefaultCircles : List Type' → Type 0
 NoDefaultCircles ts = (i : ℕ) → IsDefaultCircle ts i → ⊥

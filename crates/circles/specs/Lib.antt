@@ -1,3 +1,3 @@
--- What has to be believed: `Circles`. What stands in `proving` only contracts inside the crate and proofs speak of.
+-- A user must believe `Circles`. The definitions in `proving` serve contracts inside the crate, and proofs.
 pub mod Circles
 pub mod proving

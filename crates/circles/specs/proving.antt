@@ -1,3 +1,3 @@
--- What only contracts inside the crate and proofs speak of: marks and ranks on the way.
+-- Definitions for contracts inside the crate and for proofs: the marks and ranks of a search.
 pub mod Reach
 pub mod Ranks

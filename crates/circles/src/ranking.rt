@@ -1,12 +1,12 @@
-//! Numbers types so that those which lead to one another have one rank, and what a type leads to otherwise a higher
-//! one. Each part of a type is looked at twice, however the types are chained. The numbering is only searched for here:
-//! whoever uses the ranks tests that they rise.
+//! Numbers types so that types that lead to one another have one rank, and any other type that a type leads to has a
+//! higher rank. The search looks at each part of a type twice, however the types are chained. The numbering isn't
+//! proved: whoever uses the ranks tests that they rise.
 
 use crate::ranks::{part, rank_at};
 use std::alloc::{AllocError, Global};
 use type_table::Written;
 
-/// A type on the way, with the next of its parts and its number in the order of coming.
+/// A type on the way, with the number of its next part, and its own number in the order in which the search came to it.
 #[derive(Clone, Copy, Drop)]
 struct Visit {
     ty: usize,
@@ -17,8 +17,8 @@ struct Visit {
 /// A search through all types, deep parts first.
 #[derive(Drop)]
 struct Ranking {
-    /// For each type 0 until the search comes to it; then its number in the order of coming, or the number of an
-    /// earlier type that it leads to; at last its rank, which is greater than all those numbers.
+    /// For each type 0 until the search comes to it. Then it is its number in the order of coming, or the number of an
+    /// earlier type that it leads to. At the end it is the type's rank, which is greater than all those numbers.
     numbers: Vec<usize>,
     way: Vec<Visit>,
     /// Types that lead to a type on the way and have no rank yet.
@@ -46,7 +46,7 @@ impl Ranking {
         Ok(())
     }
 
-    /// Gives its rank to a type that leads to no earlier one, and to those that wait since they lead to it.
+    /// Gives its rank to a type that leads to no earlier one, and to the waiting types that lead to it.
     fn close(&mut self, visit: Visit) -> Result<(), AllocError> {
         let rank = self.rank;
         self.rank = rank.saturating_sub(1);
@@ -66,7 +66,7 @@ impl Ranking {
         Ok(())
     }
 
-    /// Goes back from a type whose parts are all looked at.
+    /// Goes back from a type after all its parts were looked at.
     fn leave(&mut self, visit: Visit) -> Result<(), AllocError> {
         if rank_at(&self.numbers, visit.ty) < visit.number {
             self.waiting.push(visit.ty)?;
@@ -75,7 +75,7 @@ impl Ranking {
         self.close(visit)
     }
 
-    /// Looks at the next part of a type. A part that the search comes to for the first time is looked at again
+    /// Looks at the next part of a type. A part that the search meets for the first time is looked at once more
     /// afterwards.
     fn look(&mut self, visit: Visit, part: usize) -> Result<(), AllocError> {
         let number = rank_at(&self.numbers, part);
@@ -104,7 +104,7 @@ impl Ranking {
         }
     }
 
-    /// Goes through all that a type leads to.
+    /// Visits all types that a type leads to.
     fn search(&mut self, types: &[Written], start: usize) -> Result<(), AllocError> {
         self.come_to(start)?;
         for _turn in 0..u64::MAX {
@@ -117,7 +117,7 @@ impl Ranking {
     }
 }
 
-/// Ranks of all types.
+/// The ranks of all types. `AllocError` comes only if an allocation fails.
 pub(crate) fn ranks_of(alloc: Global, types: &[Written]) -> Result<Vec<usize>, AllocError> {
     let mut ranking = Ranking {
         numbers: vec![in alloc; 0; types.len()]?,

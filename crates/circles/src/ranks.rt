@@ -1,4 +1,4 @@
-//! Tests of ranks: they don't fall from a type to its parts, and rise at components with a DEFAULT.
+//! Tests ranks: they don't fall from a type to its parts, and rise at components with a DEFAULT.
 
 ghost use Rattle.std.specs.Prelude.{ℕ, ◌≡◌, ◌<◌, ◌≤◌, ◌∷◌, [], Some, length, map, slice_get, slice_index, IsTrue};
 ghost use Rattle.circles.specs.proving.Ranks.{parts, AreFrom, Rise, DefaultsAbove};
@@ -33,7 +33,8 @@ fn member_type(components: &[ListMember], number: usize) -> Option<usize>
     }
 }
 
-/// A type that stands directly in a type, or is referred to there, by its place among those.
+/// A part of a type: a type that it directly contains or refers to, by its number among the parts, or None if it has
+/// fewer.
 pub(crate) fn part(written: &Written, number: usize) -> Option<usize>
     ensures { result ≡ slice_get (parts (type_of written.now).kind) number }
 {
@@ -58,7 +59,7 @@ fn part_count(written: &Written) -> usize
     }
 }
 
-/// Whether the part at a place, if there is one, has no lower rank than this one.
+/// Whether the part with this number, if there is one, has a rank of at least `rank`.
 fn rises(written: &Written, number: usize, rank: usize, ranks: &[usize]) -> bool
     ensures { IsTrue result →
         (j : ℕ) →
@@ -71,7 +72,7 @@ fn rises(written: &Written, number: usize, rank: usize, ranks: &[usize]) -> bool
     }
 }
 
-/// Whether no part of a type has a lower rank than this one.
+/// Whether no part of a type has a rank below `rank`.
 fn parts_rise(written: &Written, rank: usize, ranks: &[usize]) -> bool
     ensures { IsTrue result → AreFrom rank ranks.now (type_of written.now).kind }
 {
@@ -95,7 +96,7 @@ pub(crate) fn all_rise(types: &[Written], ranks: &[usize]) -> bool
     true
 }
 
-/// Whether a component has no DEFAULT, or its type has a higher rank than this one.
+/// Whether a component has no DEFAULT, or its type has a rank above `rank`.
 fn default_rises(component: &ListMember, rank: usize, ranks: &[usize]) -> bool
     ensures { IsTrue result → HasDefault (part_of component.now) → rank < slice_index ranks.now component.now.ty }
 {
@@ -105,7 +106,7 @@ fn default_rises(component: &ListMember, rank: usize, ranks: &[usize]) -> bool
     true
 }
 
-/// Whether the type of each component with a DEFAULT has a higher rank than this one.
+/// Whether the type of each component with a DEFAULT has a rank above `rank`.
 pub(crate) fn defaults_rise(components: &[ListMember], rank: usize, ranks: &[usize]) -> bool
     ensures { IsTrue result → DefaultsAbove rank ranks.now (map part_of components.now) }
 {

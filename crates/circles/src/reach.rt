@@ -1,4 +1,4 @@
-//! Searches for what types lead to, through references, tags, members and elements.
+//! Searches for the types that a type leads to, through references, tags, members and elements.
 
 ghost use Rattle.std.specs.Prelude.{ℕ, Bool, ◌≡◌, ◌<◌, ◌≤◌, ◌↔◌, length, slice_get, map, IfOk, OnOk, IsTrue};
 ghost use Rattle.names.specs.Modules.{StandsIn};
@@ -11,7 +11,7 @@ use std::alloc::{AllocError, Global};
 use trees::{ListKind, PresenceSyntax};
 use type_table::{ListMember, Shape, Written};
 
-/// Marks a type, which then waits, unless this search has marked it before.
+/// Marks a type and adds it to the waiting types, unless this search has marked it before.
 fn mark(
     ty: usize,
     search: usize,
@@ -95,7 +95,7 @@ fn mark_defaults(
     Ok(())
 }
 
-/// Marks what stands directly in a type, or is referred to there.
+/// Marks the types that a type directly contains or refers to.
 fn mark_parts(
     written: &Written,
     search: usize,
@@ -127,7 +127,8 @@ fn mark_parts(
     }
 }
 
-/// Marks all that the marked types lead to. Each type waits at most once, so it costs no more than what is reached.
+/// Marks all types that the marked types lead to. Each type waits at most once, so the time is linear in the types that
+/// are reached.
 fn mark_reached(
     types: &[Written],
     search: usize,

@@ -13,7 +13,7 @@ use crate::reach::lead_to;
 use std::alloc::{AllocError, Global};
 use type_table::{ListMember, Shape, Written};
 
-/// Whether ranks rise, and the components of a list with a DEFAULT have types of higher ranks than the list.
+/// Whether ranks rise, and the types of a list's components with a DEFAULT have higher ranks than the list.
 fn is_above(ranks: &[usize], rise: bool, list: usize, components: &[ListMember]) -> bool
     ensures { IsTrue result →
         IsTrue rise × DefaultsAbove (slice_index ranks.now list) ranks.now (map part_of components.now) }
@@ -21,8 +21,8 @@ fn is_above(ranks: &[usize], rise: bool, list: usize, components: &[ListMember])
     rise && defaults_rise(components, rank_at(ranks, list), ranks)
 }
 
-/// Whether a type is a list that its own components with a DEFAULT lead back to. Where ranks rise and those components
-/// have higher ones, they don't; what they lead to is searched for the list otherwise.
+/// Whether a type is a list that its own components with a DEFAULT lead back to. If ranks rise and those components
+/// have higher ones, they don't. Otherwise the function searches what they lead to for the list.
 fn is_in_circle(
     alloc: Global,
     types: &[Written],
@@ -51,7 +51,7 @@ fn is_in_circle(
     }
 }
 
-/// The first list in a circle, if there is one.
+/// The first list in a circle, or None if there is none.
 fn first_circle(
     alloc: Global,
     types: &[Written],
@@ -75,8 +75,9 @@ fn first_circle(
     Ok(None)
 }
 
-/// The first list in a circle, if there is one: it has a component with a DEFAULT whose type leads back to it (X.680,
-/// clause 25.7). Types in a circle have one rank, so just one list is searched from.
+/// Returns the number of the first list in a circle, or None. The list has a component with a DEFAULT whose type leads
+/// back to it (X.680, clause 25.7). Types in a circle have one rank, so only one list needs a search. `AllocError`
+/// comes only if an allocation fails.
 pub fn circle_of(alloc: Global, types: &[Written]) -> Result<Option<usize>, AllocError>
     requires closed { IsClosed (types_of types.now) }
     requires parts { HasMembers (types_of types.now) }

@@ -1,4 +1,4 @@
--- What is known of a routine without a walk over its steps.
+-- What is known of a routine without reading its steps.
 use Rattle.std.specs.Prelude.{◌≡◌, ℕ, suc, List, [], ◌∷◌, Some, slice_get}
 use Rattle.asn_base.specs.declared.schema.TypeId.{TypeId}
 use Rattle.asn_base.specs.Types.{Resolved}
@@ -10,27 +10,27 @@ use Rattle.codec_code.specs.declared.step.Step.{Step}
 use Rattle.codec_code.specs.declared.step.Step.TheVariants.{Head, Leaf, Field, Ranked, Each, End}
 use Rattle.codec_code.specs.Routines.{routine_at}
 
--- how many of the steps are components
+-- the number of components among the steps
 abbrev pub fields_in : List Step → ℕ
 fields_in [] = 0
 fields_in (Field f ∷ ss) = suc (fields_in ss)
 fields_in (Ranked f r ∷ ss) = suc (fields_in ss)
 fields_in (s ∷ ss) = fields_in ss
 
--- a header, and then components of a SEQUENCE, so many in all
+-- the steps are the components of a SEQUENCE, n in all, and what follows them
 pub record AreComponents (ss : List Step) (n : ℕ) : Type 0 where
   pub first : Field'
   pub others : List Step
   pub are : ss ≡ Field first ∷ others
   pub as_many : fields_in ss ≡ n
 
--- what is said of steps in few words holds of them
+-- the brief is true of the steps
 abbrev pub IsBrief : Brief → List Step → Type 0
 IsBrief (briefs.Leaf h k) ss = (ss ≡ Head h ∷ Leaf k ∷ End ∷ []) × (h.row ≡ rows.Leaf)
 IsBrief (briefs.Components h n) ss = (rest : List Step) × (ss ≡ Head h ∷ rest) × AreComponents rest n
 IsBrief (briefs.Elements h) ss = (t : TypeId) × (rest : List Step) × (ss ≡ Head h ∷ Each t ∷ rest)
 IsBrief briefs.Any ss = Unit {0}
 
--- so it does of the routine of each type at whose place something is said
+-- each brief is true of the routine of the type with its number
 abbrev pub AreBriefs : List Resolved → List Brief → Type 0
 AreBriefs s bs = (t : ℕ) (b : Brief) → slice_get bs t ≡ Some b → IsBrief b (routine_at s t)

@@ -1,5 +1,5 @@
--- What a routine tells when a value is written: headers that open and close, contents octets between them, components
--- that are left out, and where the members of a SET or SET OF end. And what octets these stand for.
+-- The events that a routine emits when a value is written. Headers open and close, with contents octets between them;
+-- components are left out; and members of a SET or SET OF end. The definitions also say which octets the events mean.
 use Rattle.std.specs.Prelude.{◌≡◌, ℕ, ◌≤◌, Bool, true, List, [], ◌∷◌, ◌++◌, length, map}
 use Rattle.std.specs.List.{concat, AllByRecursion}
 use Rattle.std.specs.List.Sorted.{IsPermutation}
@@ -11,16 +11,16 @@ use Rattle.codec_code.specs.declared.step.RowKind.{RowKind}
 use Rattle.codec_code.specs.declared.step.RowKind.TheVariants.{Set, SetOf}
 
 pub data Event : Type 0 where
-  -- a header, round what is told up to where it closes
+  -- a header opens, around all events up to the one that closes it
   opens : Tag → (constructed : Bool) → RowKind → Event
   puts : Octets → Event
   closes : Event
-  -- a component that isn't written: with a DEFAULT it is the same as that, without one it is absent
+  -- a component isn't written: it is the same as its DEFAULT, or it is absent and has none
   leaves_out : (with_default : Bool) → Event
-  -- behind each member of a SET OF, and behind each component of a SET that is written, with its rank
+  -- a member of a SET OF ends, or a component of a SET that is written ends, which has this rank
   parts : (rank : ℕ) → Event
 
--- by what members of a SET OF and of a SET are put in order
+-- the order of the members: of a SET OF by their octets, of a SET by the ranks of the components
 pub data Order : Type 0 where
   by_octets : Order
   by_rank : Order
@@ -35,9 +35,9 @@ mutual
     done : Tree
     piece : Octets → Tree → Tree
     lacking : (with_default : Bool) → Tree → Tree
-    -- a header with what stands in it, and what follows
+    -- a header with the parts in it, and the parts that follow
     within : Tag → (constructed : Bool) → RowKind → Tree → Tree → Tree
-    -- the header of a SET or SET OF with its members, and what follows
+    -- the header of a SET or SET OF with its members, and the parts that follow
     ordered : Tag → Order → Members → Tree → Tree
 
   pub data Members : Type 0 where
@@ -46,7 +46,7 @@ mutual
     member : (rank : ℕ) → Tree → Members → Members
 
 abbrev mutual
-  -- the events that tell a tree
+  -- the events of a tree, in order
   pub flat : Tree → List Event
   flat done = []
   flat (piece x t) = puts x ∷ flat t
@@ -59,7 +59,7 @@ abbrev mutual
   flats (no_component d ms) = leaves_out d ∷ flats ms
   flats (member r i ms) = flat i ++ parts r ∷ flats ms
 
--- an encoding, and the rank of its component
+-- an encoding of a member, and the rank of its component
 pub record Part : Type 0 where
   pub rank : ℕ
   pub octets : Octets
@@ -72,18 +72,19 @@ RanksAscend (p ∷ ps) = AllByRecursion (λ q. p.rank ≤ q.rank) ps × RanksAsc
 abbrev pub encodings_of : List Part → Encodings
 encodings_of = map (λ p. p.octets)
 
--- a SET OF in ascending order of the encodings, compared as octets (X.690, 11.6), a SET in that of the tags (10.3)
+-- Encodings of a SET OF ascend, compared as octets (X.690, 11.6). Encodings of a SET are in the order of their tags
+-- (10.3).
 abbrev pub InOrder : Order → List Part → Type 0
 InOrder by_octets ps = Ascending AtMost (encodings_of ps)
 InOrder by_rank ps = RanksAscend ps
 
--- the same parts in their order
+-- qs are the parts ps, put in order
 pub record Arranged (o : Order) (ps qs : List Part) : Type 0 where
   pub same : IsPermutation ps qs
   pub in_order : InOrder o qs
 
 abbrev mutual
-  -- Octets that a tree stands for: each header in the fewest octets, members of a SET or SET OF in their order.
+  -- the octets that a tree means: each header has the fewest octets, and members of a SET or SET OF are in order
   pub StandsFor : Tree → Octets → Type 0
   StandsFor done o = o ≡ []
   StandsFor (piece x t) o = (y : Octets) × StandsFor t y × (o ≡ x ++ y)

@@ -1,4 +1,4 @@
--- What it means that a routine stands for its type when a value is written.
+-- What it means for a routine to be that of its type when a value is written.
 use Rattle.std.specs.Prelude.{◌≡◌, ◌<◌, ◌^◌, List, length}
 use Rattle.asn_base.specs.Abstract.{AbstractValue}
 use Rattle.asn_base.specs.Types.{TypeNumber, Resolved}
@@ -6,7 +6,7 @@ use Rattle.encodings.specs.Header.{Octets}
 use Rattle.encodings.specs.Encoding.{Der}
 use Rattle.codec_code.specs.Events.{Event, Tree, flat, StandsFor}
 
--- the events tell a tree, and whatever octets this stands for encode the value by the distinguished rules
+-- the events are those of a tree, and the octets that it means are the value's encoding by the distinguished rules
 pub record Tells (s : List Resolved) (t : TypeNumber) (v : AbstractValue) (es : List Event) : Type 0 where
   pub tree : Tree
   pub told : es ≡ flat tree

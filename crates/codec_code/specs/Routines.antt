@@ -1,4 +1,4 @@
--- The routine of each type (X.690, 8.1 and 8.9 to 8.14).
+-- The routine of each type, for encodings with tags (X.690, 8.1 and 8.9 to 8.14).
 use Rattle.std.specs.Prelude.{ℕ, suc, ◌+◌, Bool, true, false, ◌&&◌, ◌||◌, ◌==◌, nat_lt, if◌then◌else◌, List, []}
 use Rattle.std.specs.Prelude.{◌∷◌, ◌++◌, length, map, flat_map, replicate, Option, Some, None, slice_get}
 use Rattle.asn_base.specs.declared.tag.Tag.{Tag}
@@ -26,7 +26,7 @@ id_of t = record { index = t }
 
 -- ---- headers
 
--- the row of the header before contents of this kind; a CHOICE has none but explicit tags
+-- the kind of a header's row in an account, before contents of this kind; a CHOICE has only headers of explicit tags
 abbrev pub row_of : Kind → RowKind
 row_of (a_sequence e cs) = rows.Sequence
 row_of (a_set e cs) = rows.Set
@@ -39,7 +39,7 @@ abbrev pub is_constructed : RowKind → Bool
 is_constructed rows.Leaf = false
 is_constructed k = true
 
--- a header for each tag: all but the last are explicit (8.14)
+-- a header for each tag, the outermost first; all but the last are explicit (8.14)
 abbrev pub heads : List Tag → RowKind → List Step
 heads [] k = []
 heads (g ∷ []) k = Head (record { tag = g; constructed = is_constructed k; row = k }) ∷ []
@@ -56,7 +56,7 @@ need_of optional = Optional
 need_of (default d) = Default
 need_of (addition o g) = Addition
 
--- the canonical order of tags, decided (X.680, 8.6)
+-- the canonical order of tags, as a test (X.680, 8.6)
 abbrev pub before : Tag → Tag → Bool
 before g f =
     nat_lt (class_rank g.class) (class_rank f.class)
@@ -73,11 +73,11 @@ abbrev pub both_before : Option Tag → Option Tag → Bool
 both_before (Some g) (Some f) = before g f
 both_before g f = false
 
--- the outermost tag of the first type stands before that of the second
+-- the outermost tag of the first type comes before that of the second in the canonical order
 abbrev pub stands_before : List Resolved → TypeNumber → TypeNumber → Bool
 stands_before s t u = both_before (tags_at s t) (tags_at s u)
 
--- how many of the components stand before type t in the canonical order of their tags
+-- the number of components that come before type t in the canonical order of their tags
 abbrev pub rank : List Resolved → List Component → TypeNumber → ℕ
 rank s [] t = 0
 rank s (c ∷ cs) t = (if stands_before s c.type t then 1 else 0) + rank s cs t
@@ -85,12 +85,12 @@ rank s (c ∷ cs) t = (if stands_before s c.type t then 1 else 0) + rank s cs t
 abbrev pub field_of : ℕ → Component → Field'
 field_of i c = record { place = i; need = need_of c.presence; ty = id_of c.type }
 
--- the components in order of definition, from place i
+-- the steps of components in order of definition; the first one has place i
 abbrev pub fields_from : ℕ → List Component → List Step
 fields_from i [] = []
 fields_from i (c ∷ cs) = Field (field_of i c) ∷ fields_from (suc i) cs
 
--- those of a SET, whose components are all
+-- the steps of components of a SET, of which `all` are the components; the first step has place i
 abbrev pub ranked_from : List Resolved → (all : List Component) → ℕ → List Component → List Step
 ranked_from s all i [] = []
 ranked_from s all i (c ∷ cs) = Ranked (field_of i c) (rank s all c.type) ∷ ranked_from s all (suc i) cs
@@ -98,7 +98,7 @@ ranked_from s all i (c ∷ cs) = Ranked (field_of i c) (rank s all c.type) ∷ r
 abbrev pub rest_if : Bool → List Step
 rest_if extensible = if extensible then Rest ∷ [] else []
 
--- the component at a place of a type
+-- component i of type t, if there is one
 abbrev pub component_in : List Resolved → TypeNumber → ℕ → Option Component
 component_in s t i = elim (slice_get s t) [ None ↦ None | Some r ↦ slice_get (components r.kind) i ]
 
@@ -134,22 +134,22 @@ body s (a_choice root e more) = choice_of (root ++ more)
 unfoldable pub routine_of : List Resolved → Resolved → List Step
 routine_of s r = heads r.tags (row_of r.kind) ++ (body s r.kind ++ ends (length r.tags))
 
--- the routine of a type for encodings with tags, and none where there is no such type
+-- the routine of a type for encodings with tags; it has no steps if there is no such type
 abbrev pub routine_at : List Resolved → TypeNumber → List Step
 routine_at s t = elim (slice_get s t) [ None ↦ [] | Some r ↦ routine_of s r ]
 
--- the routine of a type; for the packed encodings there is none yet
+-- the routine of a type; for packed encodings it has no steps
 abbrev pub steps_at : List Resolved → Coding → TypeNumber → List Step
 steps_at s Tagged t = routine_at s t
 steps_at s Per t = []
 
 -- ---- one table
 
--- all routines, one behind the other
+-- all routines, one after the other
 abbrev pub table_of : List Resolved → List Step
 table_of s = flat_map (routine_of s) s
 
--- where the routines of some types begin behind n steps, and where the last one ends
+-- the numbers of the steps at which the routines of some types start, from n on, and at which the last one ends
 abbrev pub starts_from : List Resolved → ℕ → List Resolved → List ℕ
 starts_from s n [] = n ∷ []
 starts_from s n (r ∷ rs) = n ∷ starts_from s (n + length (routine_of s r)) rs

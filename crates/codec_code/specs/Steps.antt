@@ -1,4 +1,4 @@
--- What a routine stands for when a value is written, step by step.
+-- What a routine means when a value is written, step by step.
 use Rattle.std.specs.Prelude.{◌≡◌, ℕ, ◌<◌, zero, suc, Bool, true, false, List, [], ◌∷◌, ◌++◌, drop, Option, Some, None}
 use Rattle.std.specs.Prelude.{slice_get}
 use Rattle.asn_base.specs.declared.schema.TypeId.{TypeId}
@@ -24,7 +24,7 @@ use Rattle.codec_code.specs.declared.step.Step.TheVariants.{Call, Rest, End}
 use Rattle.codec_code.specs.Events.{Event, opens, puts, closes, leaves_out, parts}
 use Rattle.codec_code.specs.Routines.{routine_at}
 
--- the kind whose contents these are, without constraints, items and names, which contents octets don't depend on
+-- the kind of such contents, without constraints, items and names, on which contents octets don't depend
 abbrev pub plain : LeafKind → Kind
 plain leaves.Boolean = a_boolean
 plain leaves.Integer = an_integer any_number
@@ -38,14 +38,14 @@ plain leaves.RelativeOid = a_relative_oid
 plain leaves.Utf8String = a_utf8_string any_size
 plain (leaves.RestrictedString k) = a_restricted_string k [] any_size
 
--- x are contents octets of the value by the distinguished rules: of what is alike and has such contents, under named
--- bits that without trailing zeros (X.690, 11.2.2)
+-- x are the contents octets of the value by the distinguished rules. Under named bits they are those of the value
+-- without zeros at its end (X.690, 11.2.2).
 pub record HasContents (k : LeafKind) (v : AbstractValue) (x : Octets) : Type 0 where
   pub trimmed : AbstractValue
   pub same : AlikeBy [] (plain k) v trimmed
   pub contents : Contents Distinguished (plain k) trimmed false x
 
--- the component at a place: none there, absent, or a value
+-- the component at a place: None if there is no such place, or else a value or its absence
 abbrev pub component_at : Row → ℕ → Option (Option AbstractValue)
 component_at end i = None
 component_at (absent ws) zero = Some None
@@ -53,13 +53,13 @@ component_at (present w ws) zero = Some (Some w)
 component_at (absent ws) (suc i) = component_at ws i
 component_at (present w ws) (suc i) = component_at ws i
 
--- the component has a DEFAULT, and w is the same
+-- the component has a DEFAULT, and w is the same as it
 pub record IsTheDefault (s : List Resolved) (c : Component) (w : AbstractValue) : Type 0 where
   pub value : AbstractValue
   pub has_default : c.presence ≡ default value
   pub same : Same s c.type w value
 
--- component i of type t is such
+-- component i of type t has a DEFAULT, and w is the same as it
 pub record IsDefaultAt (s : List Resolved) (t : TypeNumber) (i : ℕ) (w : AbstractValue) : Type 0 where
   pub tags : List Tag
   pub kind : Kind
@@ -76,7 +76,7 @@ abbrev pub has_default : Need → Bool
 has_default Default = true
 has_default n = false
 
--- a component that isn't written: absent, or the same as its DEFAULT (11.5)
+-- the component isn't written: it is absent, or the same as its DEFAULT (11.5)
 pub data IsLeftOut (s : List Resolved) (t : TypeNumber) (f : Field') (ws : Row) : Type 0 where
   is_absent : may_be_absent f.need ≡ true → component_at ws f.place ≡ Some None → IsLeftOut s t f ws
   is_default : {w : AbstractValue}
@@ -85,13 +85,13 @@ pub data IsLeftOut (s : List Resolved) (t : TypeNumber) (f : Field') (ws : Row) 
       → IsDefaultAt s t f.place w
       → IsLeftOut s t f ws
 
--- a component that is written
+-- the component is present with the value w, and is written
 pub record IsWritten (s : List Resolved) (t : TypeNumber) (f : Field') (ws : Row) (w : AbstractValue) : Type 0 where
   pub stands : component_at ws f.place ≡ Some (Some w)
   pub no_default : has_default f.need ≡ true → IsDefaultAt s t f.place w → ⊥
 
 mutual
-  -- these steps, of the routine of type t, tell these events of a value
+  -- these steps, of the routine of type t, emit these events for the value
   pub data Steps (s : List Resolved) : TypeNumber → List Step → AbstractValue → List Event → Type 0 where
     finished : {t : TypeNumber} {v : AbstractValue} → Steps s t [] v []
     head : {t : TypeNumber} {h : Head'} {ss : List Step} {v : AbstractValue} {es : List Event}
@@ -138,7 +138,7 @@ mutual
         → Steps s t ss (list ws) es
         → all ≡ xs ++ es
         → Steps s t (EachSorted u ∷ ss) (list ws) all
-    -- the alternative's call, and then what stands behind all calls
+    -- the call of the alternative, and then the steps after all calls
     pick : {t : TypeNumber} {n i : ℕ} {u : TypeId} {ss : List Step} {w : AbstractValue} {xs es all : List Event}
         → i < n
         → slice_get ss i ≡ Some (Call u)
@@ -147,7 +147,7 @@ mutual
         → all ≡ xs ++ es
         → Steps s t (Pick n ∷ ss) (alternative i w) all
 
-  -- a type's routine tells these events of elements, one after the other
+  -- a type's routine emits these events for the elements, one after the other
   pub data Elements (s : List Resolved) : TypeNumber → Row → List Event → Type 0 where
     no_element : {u : TypeNumber} → Elements s u end []
     element : {u : TypeNumber} {w : AbstractValue} {ws : Row} {xs es all : List Event}
@@ -156,7 +156,7 @@ mutual
         → all ≡ xs ++ es
         → Elements s u (present w ws) all
 
-  -- the same where each is a part
+  -- a type's routine emits these events for the elements, each of which is a part
   pub data Parts (s : List Resolved) : TypeNumber → Row → List Event → Type 0 where
     no_part : {u : TypeNumber} → Parts s u end []
     part : {u : TypeNumber} {w : AbstractValue} {ws : Row} {xs es all : List Event}

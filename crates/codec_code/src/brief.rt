@@ -1,4 +1,4 @@
-//! What is known of a routine without a walk over its steps.
+//! What is known of a routine without reading its steps.
 
 ghost use Rattle.codec_code.specs.Briefs.{AreBriefs, IsBrief, fields_in as fields_in'};
 ghost use Rattle.codec_code.specs.Routines.{routine_at};
@@ -8,8 +8,8 @@ ghost use Rattle.std.specs.Prelude.{◌≡◌, ◌≤◌, ◌∷◌, length, sli
 use crate::step::{Head, LeafKind, RowKind, Step};
 use asn_base::schema::{Schema, TypeId};
 
-/// What steps are, where few words say it: a header, contents that hold no others, and the end; a header round so many
-/// components of a SEQUENCE; a header round elements in their order; or any steps.
+/// A short description of steps. `Leaf`: a header, contents that hold no others, and the end. `Components`: a header
+/// around a number of components of a SEQUENCE. `Elements`: a header around elements in their order. `Any`: any steps.
 #[derive(Clone, Copy, Debug)]
 pub enum Brief {
     Leaf(Head, LeafKind),
@@ -18,7 +18,7 @@ pub enum Brief {
     Any,
 }
 
-/// How many of the steps are components.
+/// The number of components among the steps.
 fn fields_in(steps: &[Step]) -> usize
     ensures few { result ≤ length steps.now }
     ensures as_many { result ≡ fields_in' steps.now }
@@ -31,7 +31,7 @@ fn fields_in(steps: &[Step]) -> usize
     }
 }
 
-/// What a header and contents that hold no others are with the steps behind them.
+/// The description of a header, contents that hold no others, and the steps after them.
 fn with_contents(head: Head, kind: LeafKind, behind: &[Step]) -> Brief
     ensures { IsBrief result (HeadStep head ∷ LeafStep kind ∷ behind.now) }
 {
@@ -48,7 +48,7 @@ fn with_contents(head: Head, kind: LeafKind, behind: &[Step]) -> Brief
     }
 }
 
-/// What a header is with the steps behind it.
+/// The description of a header and the steps after it.
 fn with_header(head: Head, behind: &[Step]) -> Brief
     ensures { IsBrief result (HeadStep head ∷ behind.now) }
 {
@@ -60,7 +60,7 @@ fn with_header(head: Head, behind: &[Step]) -> Brief
     }
 }
 
-/// What steps are, in few words.
+/// The description of steps.
 pub(crate) fn brief_of(steps: &[Step]) -> Brief
     ensures { IsBrief result steps.now }
 {
@@ -70,7 +70,7 @@ pub(crate) fn brief_of(steps: &[Step]) -> Brief
     }
 }
 
-/// What is said at a place, if anything is.
+/// The description at a place of the list, or None after its end.
 #[inline(always)]
 fn brief_at(briefs: &[Brief], at: usize) -> Option<Brief>
     ensures { result ≡ slice_get briefs.now at }
@@ -82,7 +82,7 @@ fn brief_at(briefs: &[Brief], at: usize) -> Option<Brief>
     }
 }
 
-/// What is said of the routine of the type.
+/// The description of the routine of the type.
 #[inline(always)]
 pub(crate) fn brief_in(schema: &Schema, briefs: &[Brief], id: TypeId) -> Brief
     requires { AreBriefs schema.now briefs.now }

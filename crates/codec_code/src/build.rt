@@ -1,4 +1,4 @@
-//! From a schema to its routines.
+//! Compiles a schema to its routines.
 
 ghost use Rattle.asn_base.specs.Seen.{types_of};
 ghost use Rattle.codec_code.specs.Briefs.{AreBriefs};
@@ -13,14 +13,14 @@ use crate::step::Step;
 use asn_base::schema::{Resolved, Schema, TypeId};
 use std::alloc::Global;
 
-/// All routines in one table, and where each begins.
+/// All routines in one table, and the number of the step at which each starts.
 #[derive(Drop)]
 pub(crate) struct Table {
     pub steps: Vec<Step>,
     pub starts: Vec<usize>,
 }
 
-/// The codec programs of a schema's types. `Memory`: more memory was asked for and refused; nothing else is refused.
+/// Compiles the routines of a schema's types. `Memory`: an allocation failed; there is no other fault.
 pub fn compile(alloc: Global, schema: &Schema) -> Result<Code, Fault>
     ensures { IfOk result (λ code. code ≡ schema.now) }
 {
@@ -34,7 +34,7 @@ pub fn compile(alloc: Global, schema: &Schema) -> Result<Code, Fault>
     Ok(Code::of(schema.copy(alloc)?, table, briefs))
 }
 
-/// What is said in few words of the routine of each type.
+/// The description of the routine of each type.
 fn all_briefs(
     alloc: Global,
     schema: &Schema,

@@ -21,8 +21,8 @@ use std::marker::Model;
 use view_values::is_surely_value;
 use views::Part;
 
-/// The codec programs of a schema's types. It keeps a copy of the schema, by which contracts name its types, and lends
-/// none.
+/// The routines of a schema's types. The code keeps a copy of the schema, by which contracts name its types, and
+/// doesn't lend it.
 #[derive(Drop)]
 pub struct Code {
     schema: Schema,
@@ -65,36 +65,36 @@ impl Code {
         }
     }
 
-    /// What the types of its schema keep.
+    /// Each type of the code's schema keeps what `IsSchema` says.
     pub fn accepted(&self)
         ensures { IsSchema self.now }
     {
         self.schema.accepted();
     }
 
-    /// Whether it has the type.
+    /// Whether the code has the type.
     pub fn has(&self, id: TypeId) -> bool
         ensures { IsTrue result ↔ id.index < length self.now }
     {
         self.schema.has(id)
     }
 
-    /// How many types it has.
+    /// The number of types.
     pub(crate) fn count(&self) -> usize
         ensures { result ≡ length self.now }
     {
         self.schema.types().len()
     }
 
-    /// Whether the value is one of the type; false where there is no such type. It takes no memory.
+    /// Whether the value is one of the type; false if there is no such type. It takes no memory.
     pub fn is_value(&self, id: TypeId, value: &Value) -> bool
         ensures { IsTrue result ↔ IsValue self.now id.index (abstract value.now) }
     {
         is_value(value, &self.schema, id)
     }
 
-    /// Whether the value that a part of a view shows is surely one of the type, the limit on nodes apart: where it answers
-    /// true, it is. Where it answers false, a copy has to be asked. It takes no memory.
+    /// Whether a quick test shows that the value of a part of a view is one of the type, except for the limit on nodes.
+    /// True is always right. False decides nothing: a copy of the value must be asked. The test takes no memory.
     pub fn is_surely_value(&self, id: TypeId, part: &Part<'_, '_>) -> bool
         requires { (t : Tree) × IsPart part.now t }
         ensures { (t : Tree)
@@ -105,16 +105,17 @@ impl Code {
         is_surely_value(part, &self.schema, id)
     }
 
-    /// Whether the component at this place of the type, from 0 in order of definition, has a DEFAULT that the value is
-    /// the same as; false where there is no such component, or it has none. It takes no memory.
+    /// Whether the component at this place of the type, from 0 in order of definition, has a DEFAULT that is the same
+    /// as the value. The result is false if there is no such component, or it has no DEFAULT. The function takes no
+    /// memory.
     pub fn is_default(&self, id: TypeId, place: usize, value: &Value) -> bool
         ensures { IsTrue result ↔ IsDefaultAt self.now id.index place (abstract value.now) }
     {
         is_default_at(&self.schema, id, place, value)
     }
 
-    /// What the routine of the type for encodings with tags is, where few words say it: no walk over its steps is needed
-    /// then.
+    /// A short description of the routine of the type for encodings with tags. Unless it is `Any`, the steps needn't be
+    /// read.
     #[inline(always)]
     pub fn brief(&self, id: TypeId) -> Brief
         ensures { IsBrief result (routine_at self.now id.index) }
@@ -122,8 +123,7 @@ impl Code {
         brief_in(&self.schema, self.briefs.as_slice(), id)
     }
 
-    /// The routine of the type, for encodings with tags. There are no steps where there is no such type; for the packed
-    /// encodings there are none yet.
+    /// The routine of the type. It has no steps if there is no such type, or for packed encodings.
     pub fn steps(&self, id: TypeId, coding: Coding) -> &[Step]
         ensures { result.now ≡ steps_at self.now coding id.index }
     {
@@ -139,7 +139,7 @@ impl Code {
     }
 }
 
-/// The routine of the type, in the table.
+/// The routine of the type, as a part of the table.
 #[tactic(auto, using(crate::proofs::Table::is_order, crate::proofs::Table::is_within, crate::proofs::Table::is_routine, crate::proofs::Table::no_start, crate::proofs::Table::no_end))]
 pub(crate) fn routine<'a>(
     schema: &Schema,

@@ -16,7 +16,7 @@ use asn_base::same::same_values;
 use asn_base::schema::{Component, Core, Presence, Schema, TypeId};
 use asn_base::value::Value;
 
-/// Whether the component at this place of the type has a DEFAULT that the value is the same as.
+/// Whether the component at this place of the type has a DEFAULT that is the same as the value.
 #[tactic(auto, using(crate::proofs::Defaults::of_none))]
 pub(crate) fn is_default_at(schema: &Schema, id: TypeId, place: usize, value: &Value) -> bool
     ensures { IsTrue result ↔ IsDefaultAt schema.now id.index place (abstract value.now) }
@@ -30,7 +30,7 @@ pub(crate) fn is_default_at(schema: &Schema, id: TypeId, place: usize, value: &V
     }
 }
 
-/// The component at this place of the type, if there is one.
+/// The component at this place of the type, or None if there is none.
 fn component_at(schema: &Schema, id: TypeId, place: usize) -> Option<&Component>
     ensures { MatchOption result (component_in schema.now id.index place ≡ None)
         (λ c. component_in schema.now id.index place ≡ Some (component_of c.now)) }
@@ -61,8 +61,8 @@ fn components_of(core: &Core) -> &[Component]
     }
 }
 
-/// Whether the component has a DEFAULT that the value is the same as. The default is known to be a value of its type,
-/// and is looked at no further than the value goes.
+/// Whether the component has a DEFAULT that is the same as the value. The default is known to be a value of its type,
+/// and is read only as far as the value goes.
 #[tactic(auto, using(crate::proofs::Defaults::of_default, crate::proofs::Defaults::of_mandatory, crate::proofs::Defaults::of_optional, crate::proofs::Defaults::of_addition, crate::proofs::Defaults::is_known))]
 fn is_the_default(schema: &Schema, component: &Component, value: &Value) -> bool
     requires { HasValue schema.now (component_of component.now) }
@@ -74,7 +74,7 @@ fn is_the_default(schema: &Schema, component: &Component, value: &Value) -> bool
     }
 }
 
-/// Whether two truths or two numbers are equal; None of all other values.
+/// Whether two BOOLEANs or two INTEGERs are equal; None for all other values.
 #[inline(always)]
 fn equal_at_once(value: &Value, known: &Value) -> Option<bool>
     ensures plain { IfSome result (λ equal. IsPlain (abstract known.now)) }
@@ -94,7 +94,7 @@ fn equal_at_once(value: &Value, known: &Value) -> Option<bool>
     }
 }
 
-/// Whether a value is the same as one that is known to be of the type.
+/// Whether a value is the same as another one that is known to be of the type.
 #[tactic(auto, using(crate::proofs::Defaults::not_of_type))]
 fn is_the_same(schema: &Schema, id: TypeId, value: &Value, known: &Value) -> bool
     requires { IsValueWithoutNodes schema.now id.index (abstract known.now) }

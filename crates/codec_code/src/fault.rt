@@ -1,4 +1,4 @@
-//! Why a schema was not compiled.
+//! Why a schema can't be compiled.
 
 ghost use Rattle.codec_code.specs.declared.fault.Fault.TheVariants.{Memory};
 ghost use Rattle.std.specs.Prelude.{◌≡◌};
@@ -6,7 +6,7 @@ ghost use Rattle.std.specs.Prelude.{◌≡◌};
 use std::alloc::{AllocError, AllocFailed};
 use thiserror::Error;
 
-/// Why a schema was not compiled: `Memory`, where more memory was asked for and refused.
+/// Why a schema can't be compiled. `Memory`: an allocation failed.
 #[derive(Clone, Copy, Debug, PartialEq, Eq, Error)]
 pub enum Fault {
     #[error("1 Memory")]

@@ -1,4 +1,4 @@
-//! What routines stand for.
+//! The laws of routines.
 
 ghost use Rattle.asn_base.specs.Abstract.{AbstractValue};
 ghost use Rattle.asn_base.specs.Schemas.{IsSchema};
@@ -13,10 +13,10 @@ ghost use Rattle.std.specs.Prelude.{List, ℕ};
 use asn_base::law::{alike_values, sameness};
 use encodings::{header_laws, leaf_laws};
 
-/// The routine of each type stands for it: of a value of the type it tells events, and whatever octets these stand for
-/// are the value's encoding by the distinguished rules, which is the only one (`encodings::schema_laws`).
+/// The routine of each type is right. It emits events for each value of the type. The octets that the events mean are
+/// the value's encoding by the distinguished rules, which is the only one (`encodings::schema_laws`).
 pub fn routine_laws()
-    // It tells some.
+    // The routine emits events for each value.
     ensures some { (s : List Resolved) (t : ℕ) (v : AbstractValue)
         → IsSchema s
         → IsValueWithoutNodes s t v

@@ -1,4 +1,4 @@
-//! Codec programs: for each type of a schema a routine of steps, which writers and readers run.
+//! Codec programs: for each type of a schema a routine of steps, which encoders and decoders run.
 #![tactic(auto)]
 
 mod brief;

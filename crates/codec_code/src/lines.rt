@@ -6,8 +6,8 @@ use crate::step::{Coding, Field, Head, Step};
 use asn_base::schema::TypeId;
 use std::alloc::{AllocError, Global};
 
-/// The routines of all types for encodings with tags, a line for each type and one for each step. `Memory`: more memory
-/// was asked for and refused.
+/// Returns the routines of all types for encodings with tags, with a line for each type and one for each step.
+/// `Memory`: an allocation failed.
 pub fn listing(alloc: Global, code: &Code) -> Result<String, Fault> {
     let mut out = String::new(alloc);
     for index in 0..code.count() {

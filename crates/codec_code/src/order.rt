@@ -8,7 +8,7 @@ ghost use Rattle.std.specs.Prelude.{◌≡◌, length, map};
 use asn_base::schema::{Component, Resolved, TypeId};
 use asn_base::tag::{Class, Tag};
 
-/// The place of a class among the others.
+/// The place of a class in the order of classes, from 0.
 fn class_place(class: Class) -> u8
     ensures { result ≡ class_rank class }
 {
@@ -20,7 +20,7 @@ fn class_place(class: Class) -> u8
     }
 }
 
-/// Whether the first tag stands before the second.
+/// Whether the first tag comes before the second in the canonical order.
 fn tag_before(first: Tag, second: Tag) -> bool
     ensures { result ≡ before first second }
 {
@@ -29,7 +29,7 @@ fn tag_before(first: Tag, second: Tag) -> bool
     one < two || one == two && first.number < second.number
 }
 
-/// The outermost tag of a type, None where it has none.
+/// The outermost tag of a type, or None if it has no tag.
 fn outermost_of(types: &[Resolved], id: TypeId) -> Option<Tag>
     ensures { result ≡ tags_at (types_of types.now) id.index }
 {
@@ -46,7 +46,7 @@ fn first_of(tags: &[Tag]) -> Option<Tag>
     if tags.is_empty() { None } else { Some(tags[0]) }
 }
 
-/// Whether the outermost tag of the first type stands before that of the second.
+/// Whether the outermost tag of the first type comes before that of the second in the canonical order.
 fn type_before(types: &[Resolved], first: TypeId, second: TypeId) -> bool
     ensures { result ≡ stands_before (types_of types.now) first.index second.index }
 {
@@ -59,7 +59,7 @@ fn type_before(types: &[Resolved], first: TypeId, second: TypeId) -> bool
     }
 }
 
-/// How many of the components stand before the type in the canonical order of their tags.
+/// The number of components that come before the type in the canonical order of their tags.
 pub(crate) fn rank_of(types: &[Resolved], components: &[Component], id: TypeId) -> usize
     ensures { result ≡ rank (types_of types.now) (map component_of components.now) id.index }
 {

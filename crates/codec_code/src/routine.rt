@@ -1,4 +1,4 @@
-//! From a type to its steps.
+//! Compiles a type to its steps.
 
 ghost use Rattle.asn_base.specs.Seen.{alternative_of, component_of, kind_of, presence_of, resolved_of, types_of};
 ghost use Rattle.codec_code.specs.Routines.{body, calls, choice_of, ends, field_of, fields_from, heads, is_constructed, need_of, ranked_from, rest_if, routine_of, row_of};
@@ -11,7 +11,7 @@ use crate::step::{Field, Head, LeafKind, Need, RowKind, Step};
 use asn_base::schema::{Alternative, Alternatives, Component, Core, Presence, Resolved};
 use asn_base::tag::Tag;
 
-/// The steps of a type behind those that stand.
+/// Appends the steps of a type.
 #[tactic(auto, unfolding(crate::specs::Routines::routine_of))]
 pub(crate) fn push_routine(
     out: &mut Vec<Step>,
@@ -26,7 +26,7 @@ pub(crate) fn push_routine(
     Ok(())
 }
 
-/// What the row of the header before such contents is.
+/// The kind of the row of a header before such contents.
 fn row(core: &Core) -> RowKind
     ensures { result ≡ row_of (kind_of core.now) }
 {
@@ -57,7 +57,7 @@ fn is_wide(row: RowKind) -> bool
     }
 }
 
-/// A header for each tag, the outermost first. All but the last are explicit.
+/// Appends a header for each tag, the outermost first. All but the last are explicit.
 fn push_heads(out: &mut Vec<Step>, tags: &[Tag], row: RowKind) -> Result<(), Fault>
     ensures { OnOk result (out.new.items ≡ out.old.items ++ heads tags.now row) }
 {
@@ -93,7 +93,7 @@ fn push_ends(out: &mut Vec<Step>, tags: usize) -> Result<(), Fault>
     Ok(())
 }
 
-/// The steps within the headers.
+/// Appends the steps within the headers.
 fn push_body(out: &mut Vec<Step>, types: &[Resolved], core: &Core) -> Result<(), Fault>
     ensures { OnOk result (out.new.items ≡ out.old.items ++ body (types_of types.now) (kind_of core.now)) }
 {
@@ -133,7 +133,7 @@ fn push_one(out: &mut Vec<Step>, step: Step) -> Result<(), Fault>
     Ok(())
 }
 
-/// Where the type has an extension marker.
+/// Appends the step for additions that the type lacks, if it has an extension marker.
 fn push_rest(out: &mut Vec<Step>, extensible: bool) -> Result<(), Fault>
     ensures { OnOk result (out.new.items ≡ out.old.items ++ rest_if extensible) }
 {
@@ -164,7 +164,7 @@ fn component(place: usize, component: &Component) -> Field
     }
 }
 
-/// The components of a SEQUENCE.
+/// Appends the components of a SEQUENCE.
 fn push_fields(out: &mut Vec<Step>, components: &[Component]) -> Result<(), Fault>
     ensures { OnOk result (out.new.items ≡ out.old.items ++ fields_from 0 (map component_of components.now)) }
 {
@@ -174,7 +174,8 @@ fn push_fields(out: &mut Vec<Step>, components: &[Component]) -> Result<(), Faul
     Ok(())
 }
 
-/// The components of a SET. They are at most 320, so that counting those before each takes no more steps than that.
+/// Appends the components of a SET. They are at most 320, so counting those before each one takes at most as many
+/// comparisons for each.
 fn push_ranked(
     out: &mut Vec<Step>,
     types: &[Resolved],
@@ -190,7 +191,7 @@ fn push_ranked(
     Ok(())
 }
 
-/// A call for each alternative, the root's first.
+/// Appends a call for each alternative, those of the root first.
 fn push_choice(out: &mut Vec<Step>, alternatives: &Alternatives) -> Result<(), Fault>
     ensures { OnOk result (out.new.items ≡ out.old.items
         ++ choice_of (map alternative_of alternatives.now.root.items

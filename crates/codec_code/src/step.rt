@@ -4,7 +4,7 @@ use asn_base::schema::TypeId;
 use asn_base::strings::StringKind;
 use asn_base::tag::Tag;
 
-/// What a header's row in an account is: contents that hold no others, an explicit tag, or members.
+/// The kind of a header's row in an account: contents that hold no others, an explicit tag, or members.
 #[derive(Clone, Copy, PartialEq, Eq, Debug)]
 pub enum RowKind {
     Leaf,
@@ -40,7 +40,7 @@ pub enum Need {
     Addition,
 }
 
-/// A header: its tag, whether it is constructed, and what its row in an account is.
+/// A header: its tag, whether it is constructed, and the kind of its row in an account.
 #[derive(Clone, Copy, PartialEq, Eq, Debug)]
 pub struct Head {
     pub tag: Tag,
@@ -59,29 +59,30 @@ pub struct Field {
 /// One step of a routine.
 #[derive(Clone, Copy, PartialEq, Eq, Debug)]
 pub enum Step {
-    /// A header round the steps to its `End`.
+    /// A header around the steps up to its `End`.
     Head(Head),
     /// Contents that hold no others.
     Leaf(LeafKind),
     /// A component of a SEQUENCE.
     Field(Field),
-    /// A component of a SET, and how many of the components stand before it in the canonical order of their tags.
+    /// A component of a SET, and the number of components that come before it in the canonical order of their tags.
     Ranked(Field, usize),
     /// The elements in order, each by the routine of this type.
     Each(TypeId),
     /// The elements in ascending order of their encodings, each by the routine of this type.
     EachSorted(TypeId),
-    /// One of the calls behind it, which are as many as there are alternatives, and by the number of the alternative.
+    /// Runs one of the calls after this step, chosen by the number of the alternative. The field is the number of
+    /// calls.
     Pick(usize),
     /// The routine of this type.
     Call(TypeId),
-    /// Additions that the type lacks are skipped when octets are read; none are written.
+    /// Skips additions that the type lacks when octets are read; writes none.
     Rest,
     /// Closes the nearest open header.
     End,
 }
 
-/// For which encodings a routine is: those with tags, or the packed ones.
+/// The encodings that a routine is for: those with tags, or the packed ones.
 #[derive(Clone, Copy, PartialEq, Eq, Debug)]
 pub enum Coding {
     Tagged,

@@ -1,4 +1,4 @@
--- What a source is asked when a routine reads, and what it answers.
+-- The questions that a routine asks a source when it reads, and the answers.
 use Rattle.std.specs.Prelude.{◌≡◌, Bool, List, Option}
 use Rattle.asn_base.specs.declared.schema.TypeId.{TypeId}
 use Rattle.codec_code.specs.declared.step.Head.{Head}
@@ -10,23 +10,23 @@ pub data Event : Type 0 where
   -- a value of this type begins, and it ends
   begins : TypeId → Event
   ends : Event
-  -- a header stands next, and the nearest open one is at its end
+  -- a header comes next, and the nearest open header is at its end
   opens : Head → Event
   closes : Event
-  -- contents of this kind stand next
+  -- contents of this kind come next
   holds : LeafKind → Event
   -- additions that the type lacks are skipped
   skips : Event
-  -- a component of a SEQUENCE stands next, or not
+  -- whether a component of a SEQUENCE comes next
   stands : Field → (yes : Bool) → Event
-  -- one more element of a list stands next, or not; those of a SET OF are sorted by their encodings
+  -- whether one more element of a list comes next; the elements of a SET OF are sorted by their encodings
   more : TypeId → (sorted : Bool) → (yes : Bool) → Event
-  -- of the components of a SET, which these steps begin with, one of this type stands next, or none
+  -- which component of a SET comes next, by its type, of those with which these steps start; None if there is none
   among : List Step → Option TypeId → Event
-  -- of the alternatives that these calls are, one of this type stands next
+  -- which alternative comes next, by its type, of those that these calls are for
   picks : List Step → TypeId → Event
 
--- what a source is asked
+-- a question to a source
 pub data Question : Type 0 where
   to_begin : TypeId → Question
   to_end : Question
@@ -34,10 +34,10 @@ pub data Question : Type 0 where
   to_close : Question
   to_hold : LeafKind → Question
   to_skip : Question
-  -- whether a component of a SEQUENCE stands next, and whether one more element does
+  -- whether a component of a SEQUENCE comes next, and whether one more element does
   whether_stands : Field → Question
   whether_more : TypeId → (sorted : Bool) → Question
-  -- which of the components of a SET stands next, and which of the alternatives
+  -- which component of a SET comes next, and which alternative
   which_stands : List Step → Question
   which_picked : List Step → Question
 
@@ -54,6 +54,6 @@ pub data Alike : Event → Event → Type 0 where
   both_among : {ss : List Step} {t u : Option TypeId} → Alike (among ss t) (among ss u)
   both_pick : {ss : List Step} {t u : TypeId} → Alike (picks ss t) (picks ss u)
 
--- a question has one answer, after which the source is in one state
+-- a question has at most one answer, after which the source is in one state
 abbrev pub IsOneAnswer : {S : Type 0} → (S → Event → S → Type 0) → Type 0
 IsOneAnswer {S} takes = (a b c : S) (e f : Event) → Alike e f → takes a e b → takes a f c → (e ≡ f) × (b ≡ c)

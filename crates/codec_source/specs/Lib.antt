@@ -1,5 +1,4 @@
--- What a source is asked (`Events`), what a routine stands for when a value is read (`Reading`), and where it stops
--- (`Stopping`).
+-- The questions to a source (`Events`), what a routine reads (`Reading`), and where it stops (`Stopping`).
 pub mod Events
 pub mod Reading
 pub mod Stopping

@@ -1,5 +1,5 @@
--- What a routine stands for when a value is read, step by step: a run from one state of a source to another. What was
--- read is a part of the state.
+-- What a routine means when a value is read, step by step: a run from one state of a source to another. What was read
+-- is a part of the state.
 use Rattle.std.specs.Prelude.{ℕ, true, false, List, [], ◌∷◌, take, drop, Option, Some, None}
 use Rattle.asn_base.specs.declared.schema.TypeId.{TypeId}
 use Rattle.codec_code.specs.declared.step.Head.{Head as Head'}
@@ -10,13 +10,14 @@ use Rattle.codec_code.specs.declared.step.Step.TheVariants.{Head, Leaf, Field, R
 use Rattle.codec_code.specs.declared.step.Step.TheVariants.{Call, Rest, End}
 use Rattle.codec_source.specs.Events.{Event, begins, ends, opens, closes, holds, skips, stands, more, among, picks}
 
--- behind the components of a SET
+-- the steps after the components of a SET
 abbrev pub behind_components : List Step → List Step
 behind_components [] = []
 behind_components (Ranked f r ∷ ss) = behind_components ss
 behind_components (s ∷ ss) = s ∷ ss
 
--- what the first of these steps takes, which steps go on behind it, and a value of which type is read before they do
+-- The answer that the first of these steps takes, and the steps that go on after it. If there is a type, a value of it
+-- is read before they do.
 pub data Asks {S : Type 0} (takes : S → Event → S → Type 0)
     : List Step → S → List Step → Option TypeId → S → Type 0 where
   head : {h : Head'} {ss : List Step} {x y : S} → takes x (opens h) y → Asks takes (Head h ∷ ss) x ss None y
@@ -29,7 +30,7 @@ pub data Asks {S : Type 0} (takes : S → Event → S → Type 0)
   field : {f : Field'} {ss : List Step} {x y : S}
       → takes x (stands f true) y
       → Asks takes (Field f ∷ ss) x ss (Some f.ty) y
-  -- the components of a SET in any order, until none stands next
+  -- the components of a SET in any order, until none comes next
   component : {f : Field'} {r : ℕ} {t : TypeId} {ss : List Step} {x y : S}
       → takes x (among (Ranked f r ∷ ss) (Some t)) y
       → Asks takes (Ranked f r ∷ ss) x (Ranked f r ∷ ss) (Some t) y
@@ -48,13 +49,13 @@ pub data Asks {S : Type 0} (takes : S → Event → S → Type 0)
   no_sorted_element : {t : TypeId} {ss : List Step} {x y : S}
       → takes x (more t true false) y
       → Asks takes (EachSorted t ∷ ss) x ss None y
-  -- one of the calls, and then what stands behind all of them
+  -- one of the calls, and then the steps after all calls
   pick : {n : ℕ} {t : TypeId} {ss : List Step} {x y : S}
       → takes x (picks (take n ss) t) y
       → Asks takes (Pick n ∷ ss) x (drop n ss) (Some t) y
   call : {t : TypeId} {ss : List Step} {x : S} → Asks takes (Call t ∷ ss) x ss (Some t) x
 
--- these steps, where each type has its routine, lead from one state to another
+-- these steps lead from one state to another, with a routine for each type
 pub data Does {S : Type 0} (routine : ℕ → List Step) (takes : S → Event → S → Type 0)
     : List Step → S → S → Type 0 where
   finished : {x : S} → Does routine takes [] x x

@@ -1,4 +1,4 @@
--- Where a run stops: the steps lead to a state in which what is asked for next has no answer.
+-- Where a run stops: the steps lead to a state in which the next question has no answer.
 use Rattle.std.specs.Prelude.{ℕ, true, false, List, [], ◌∷◌, take, Option, Some, None}
 use Rattle.asn_base.specs.declared.schema.TypeId.{TypeId}
 use Rattle.codec_code.specs.declared.step.Step.{Step}
@@ -8,7 +8,7 @@ use Rattle.codec_source.specs.Events.{Event, begins, ends, Question, to_begin, t
 use Rattle.codec_source.specs.Events.{whether_stands, whether_more, which_stands, which_picked}
 use Rattle.codec_source.specs.Reading.{Asks, Does}
 
--- what the first of these steps asks; behind the last one the value is to end
+-- the question of the first of these steps; after the last step the value should end
 abbrev pub asked : List Step → Question
 asked [] = to_end
 asked (Head h ∷ ss) = to_open h
@@ -22,13 +22,13 @@ asked (EachSorted t ∷ ss) = whether_more t true
 asked (Pick n ∷ ss) = which_picked (take n ss)
 asked (Call t ∷ ss) = to_begin t
 
--- the first step asks for nothing that the source has
+-- the question of the first step has no answer in this state
 abbrev pub AsksNothing : {S : Type 0} → (S → Event → S → Type 0) → List Step → S → Type 0
 AsksNothing {S} takes ss x = (behind : List Step) (t : Option TypeId) (y : S) → Asks takes ss x behind t y → ⊥
 
 mutual
-  -- These steps, where each type has its routine, come to a question without an answer, which leaves the source in the
-  -- last state.
+  -- These steps, with a routine for each type, come to a question without an answer. This question leaves the source in
+  -- the last state.
   pub data Stops {S : Type 0} (routine : ℕ → List Step) (takes : S → Event → S → Type 0)
       (leaves : S → Question → S → Type 0)
       : List Step → S → S → Type 0 where
@@ -41,7 +41,7 @@ mutual
         → StopsThen routine takes leaves t behind y z
         → Stops routine takes leaves ss x z
 
-  -- a value of the type, if any, and then these steps do
+  -- a value of the type, if there is one, or then these steps come to a question without an answer
   pub data StopsThen {S : Type 0} (routine : ℕ → List Step) (takes : S → Event → S → Type 0)
       (leaves : S → Question → S → Type 0)
       : Option TypeId → List Step → S → S → Type 0 where
@@ -69,7 +69,7 @@ mutual
         → Stops routine takes leaves ss c z
         → StopsThen routine takes leaves (Some t) ss x z
 
--- the type's routine does, where it reads a value
+-- the type's routine comes to a question without an answer when it reads a value
 abbrev pub StopsReading : {S : Type 0} → (ℕ → List Step) → (S → Event → S → Type 0) → (S → Question → S → Type 0)
     → TypeId → S → S → Type 0
 StopsReading routine takes leaves t x z = StopsThen routine takes leaves (Some t) [] x z

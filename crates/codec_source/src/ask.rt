@@ -11,14 +11,14 @@ use crate::source::Source;
 use asn_base::schema::TypeId;
 use codec_code::{Field, Head, LeafKind, Step};
 
-/// The steps that go on, and the type of which a value is read before they do.
+/// The steps that go on, and the type of the value that is read before they do, if there is one.
 #[derive(Drop)]
 pub(crate) struct Answer<'a> {
     pub(crate) behind: &'a [Step],
     pub(crate) value: Option<TypeId>,
 }
 
-/// Takes what the first step asks for; `all` has the step and the rest.
+/// Takes the answer to the question of the first step; `all` has the step and the rest.
 #[inline(always)]
 pub(crate) fn ask<'a, S: Source>(
     step: Step,
@@ -230,7 +230,7 @@ fn ask_pick<'a, S: Source>(
     }
 }
 
-/// The first steps, as many as there are of so many.
+/// The first `count` steps, or all of them if there are fewer.
 #[tactic(auto, using(crate::proofs::Asking::take_all))]
 fn first_steps(count: usize, steps: &[Step]) -> &[Step]
     ensures { result.now ≡ take count steps.now }
@@ -242,7 +242,7 @@ fn first_steps(count: usize, steps: &[Step]) -> &[Step]
     }
 }
 
-/// The steps behind so many.
+/// The steps after the first `count` ones.
 #[tactic(auto, using(crate::proofs::Asking::drop_all, crate::proofs::Asking::rest_is))]
 fn later_steps(count: usize, steps: &[Step]) -> &[Step]
     ensures { result.now ≡ drop count steps.now }
@@ -254,7 +254,7 @@ fn later_steps(count: usize, steps: &[Step]) -> &[Step]
     }
 }
 
-/// The steps behind the components of a SET.
+/// The steps after the components of a SET.
 #[tactic(auto, using(crate::proofs::Asking::one_component, crate::proofs::Asking::other_step, crate::proofs::Asking::no_step))]
 fn after_components(steps: &[Step]) -> &[Step]
     ensures { result.now ≡ behind_components steps.now }
@@ -269,7 +269,7 @@ fn after_components(steps: &[Step]) -> &[Step]
     rest
 }
 
-/// Whether it is a component of a SET.
+/// Whether the step is a component of a SET.
 fn is_component(step: Step) -> bool
     ensures { result ≡ is_ranked step }
 {

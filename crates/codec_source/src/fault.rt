@@ -1,4 +1,4 @@
-//! Why a message is not read.
+//! Why a message can't be read.
 
 ghost use Rattle.codec_source.specs.declared.fault.ReadFault.TheVariants.{Memory};
 ghost use Rattle.std.specs.Prelude.{◌≡◌};
@@ -6,8 +6,8 @@ ghost use Rattle.std.specs.Prelude.{◌≡◌};
 use std::alloc::{AllocError, AllocFailed};
 use thiserror::Error;
 
-/// Why a message is not read. `Memory`: more memory was asked for and refused. The machine tells no other by itself:
-/// they are its source's.
+/// Why a message can't be read. `Memory`: an allocation failed. The machine itself has no other fault: the others are
+/// those of its source.
 #[derive(Clone, Copy, Debug, PartialEq, Eq, Error)]
 pub enum ReadFault {
     #[error("1 Memory")]
@@ -15,46 +15,46 @@ pub enum ReadFault {
     /// The message has more than 16,777,216 octets.
     #[error("2 Limit(Message)")]
     MessageLimit,
-    /// A number is none from -2^127 to 2^127 - 1.
+    /// An integer is outside -2^127 to 2^127 - 1.
     #[error("2 Limit(Integer)")]
     IntegerLimit,
-    /// More than 64 numbers, or one is 2^64 or greater.
+    /// An object identifier has more than 64 numbers, or one of them is 2^64 or greater.
     #[error("2 Limit(Oid)")]
     OidLimit,
-    /// The octets end within a header, or before the contents that it tells.
+    /// The octets end within a header, or before the contents octets that it promises.
     #[error("80 Truncated")]
     Truncated,
     /// The length is in the indefinite form.
     #[error("81 Indefinite")]
     Indefinite,
-    /// The first length octet is `FF`, or no message has the length.
+    /// The first length octet is `FF`, or the length is more than a message can have.
     #[error("82 BadLength")]
     BadLength,
-    /// The identifier is that of no tag.
+    /// The identifier octets aren't those of a tag in an allowed form.
     #[error("83 BadTag")]
     BadTag,
-    /// A tag or form that cannot stand here.
+    /// A tag or form that isn't allowed here.
     #[error("84 UnexpectedTag")]
     UnexpectedTag,
     /// Contents end before a mandatory component.
     #[error("85 Missing")]
     Missing,
-    /// Contents that are none of the type.
+    /// Contents octets of no value of the type.
     #[error("86 BadContents")]
     BadContents,
-    /// A constructed BIT STRING without segments.
+    /// A constructed BIT STRING has no segments.
     #[error("87 EmptySegments")]
     EmptySegments,
-    /// A value that the constraints don't allow.
+    /// The constraints don't allow the value.
     #[error("88 OutsideConstraint")]
     OutsideConstraint,
-    /// Octets behind the whole.
+    /// There are octets after the whole value.
     #[error("89 Trailing")]
     Trailing,
-    /// More levels of headers, or of values, than the limit.
+    /// There are more levels of headers, or of values, than the limit.
     #[error("95 TooDeep")]
     TooDeep,
-    /// An encoding that is not distinguished.
+    /// The encoding isn't one by the distinguished rules.
     #[error("96 NotDer")]
     NotDer,
 }

@@ -1,8 +1,8 @@
-//! What a machine has still to do.
+//! What a machine still has to do.
 
 use codec_code::Step;
 
-/// Steps that are left of a routine, to the end of its value.
+/// The steps of a routine that are left, to the end of its value.
 #[derive(Clone, Copy)]
 pub struct Frame<'a> {
     pub steps: &'a [Step],

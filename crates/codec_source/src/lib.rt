@@ -1,5 +1,5 @@
-//! A machine that runs a routine over a source, for reading: whatever the source's answers mean, it takes just what the
-//! routine stands for, and refuses only where that is nothing.
+//! A machine that runs a routine over a source, to read a value. Whatever the source's answers mean, the machine takes
+//! exactly the answers that the routine asks for, and fails only if a question has no answer or an allocation fails.
 #![tactic(auto)]
 
 mod ask;

@@ -18,9 +18,9 @@ use asn_base::schema::TypeId;
 use codec_code::{Code, Coding, Step};
 use std::alloc::Global;
 
-/// Reads a value by the type's routine for encodings with tags: what was read is in the source. A refusal but for want
-/// of memory says that the routine reads nothing. It calls nothing in itself, and takes memory for one frame a value
-/// that is open and holds others.
+/// Reads a value by the type's routine for encodings with tags; what was read is in the source. A fault other than
+/// `Memory` means that the routine reads nothing. The function doesn't call itself. It takes memory for one frame for
+/// each open value that holds others.
 pub fn read<S: Source>(
     alloc: Global,
     code: &Code,
@@ -30,7 +30,7 @@ pub fn read<S: Source>(
     ensures ok { OnOk result (Reads (routine_at code.now) S.takes id source.old source.new) }
     ensures only { OnOk result ((b : S) → Reads (routine_at code.now) S.takes id source.old b → b ≡ source.new) }
     ensures err { IfRefused result ((b : S) → Reads (routine_at code.now) S.takes id source.old b → ⊥) }
-    // It came to a question without an answer, and stands there.
+    // The routine came to a question without an answer, and the source is left there.
     ensures stopped { IfRefusedWith result (λ e.
         StopsReading (routine_at code.now) S.takes (λ a q b. S.leaves a q b e) id source.old source.new) }
 {
@@ -50,7 +50,7 @@ pub fn read<S: Source>(
     Ok(())
 }
 
-/// The frame that goes on: this one, or the last of those that wait, which is taken from them.
+/// The frame that goes on: this one, or the last of the waiting frames, which is removed from them.
 fn next_of<'a>(frames: &mut Vec<Frame<'a>>, next: Option<Frame<'a>>) -> Option<Frame<'a>>
     ensures same { and_next frames.new.items result ≡ and_next frames.old.items next.entry }
     ensures last { result ≡ None → frames.new.items ≡ [] }
@@ -61,7 +61,7 @@ fn next_of<'a>(frames: &mut Vec<Frame<'a>>, next: Option<Frame<'a>>) -> Option<F
     }
 }
 
-/// One frame more.
+/// Appends one frame.
 fn add<'a>(frames: &mut Vec<Frame<'a>>, frame: Frame<'a>) -> Result<(), ReadFault>
     ensures ok { OnOk result (frames.new.items ≡ frames.old.items ++ frame.entry ∷ []) }
     ensures err { IfErr result (λ e. e ≡ Memory) }
@@ -70,7 +70,7 @@ fn add<'a>(frames: &mut Vec<Frame<'a>>, frame: Frame<'a>) -> Result<(), ReadFaul
     Ok(())
 }
 
-/// One step of a frame above those that wait, and the frame that goes on then, where it isn't the last of these.
+/// Does one step of a frame above those that wait. Returns the frame that goes on, unless it is the last waiting one.
 #[inline(always)]
 fn turn<'a, S: Source>(
     code: &'a Code,
@@ -116,7 +116,7 @@ fn turn<'a, S: Source>(
     }
 }
 
-/// A value of the type begins, behind which these steps go on. It is read at once where it holds no others.
+/// Begins a value of the type, after which these steps go on. A value that holds no others is read at once.
 #[inline(always)]
 fn call<'a, S: Source>(
     code: &'a Code,

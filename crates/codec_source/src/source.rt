@@ -1,4 +1,4 @@
-//! What a machine reads from.
+//! The source from which a machine reads.
 
 ghost use Rattle.asn_base.specs.declared.schema.TypeId.{TypeId as TypeId'};
 ghost use Rattle.codec_source.specs.Events.{Alike, Event, among, begins, closes, ends, holds, more, opens, picks, skips, stands};
@@ -11,45 +11,45 @@ use crate::fault::ReadFault;
 use asn_base::schema::TypeId;
 use codec_code::{Field, Head, LeafKind, Step};
 
-/// Answers one question after the other, each with what stands next, and keeps what was read. A refusal but for want of
-/// memory says that there is no answer, and leaves the source where the question was asked, or behind some of what was
-/// looked at for it.
+/// Answers one question after the other with what comes next, and keeps what was read. A fault other than `Memory`
+/// means that the question has no answer. The source is left at the question, or after some of what it looked at to
+/// answer it.
 pub trait Source {
-    /// The second state is the first behind the answer.
+    /// The second state is the first one after the answer.
     ghost takes: { Self → Event → Self → Type 0 };
 
-    /// The question, which has no answer in the first state, is refused with this fault, and leaves the source in the
-    /// second.
+    /// The question has no answer in the first state. It is refused with this fault, and leaves the source in the
+    /// second state.
     ghost leaves: { Self → Question → Self → ReadFault' → Type 0 };
 
-    /// How many values may still begin, at most.
+    /// The largest number of values that may still begin.
     ghost room: { Self → ℕ };
 
-    /// A value of the type begins.
+    /// Begins a value of the type.
     fn begin(&mut self, id: TypeId) -> Result<(), ReadFault>
         ensures ok { OnOk result (takes self.old (begins id) self.new) }
         ensures err { IfRefused result ((b : Self) → takes self.old (begins id) b → ⊥) }
         ensures left { IfRefusedWith result (leaves self.old (to_begin id) self.new) };
 
-    /// The value that began last ends.
+    /// Ends the value that began last.
     fn end(&mut self) -> Result<(), ReadFault>
         ensures ok { OnOk result (takes self.old ends self.new) }
         ensures err { IfRefused result ((b : Self) → takes self.old ends b → ⊥) }
         ensures left { IfRefusedWith result (leaves self.old to_end self.new) };
 
-    /// Opens the header that stands next.
+    /// Opens the header that comes next.
     fn open(&mut self, head: Head) -> Result<(), ReadFault>
         ensures ok { OnOk result (takes self.old (opens head) self.new) }
         ensures err { IfRefused result ((b : Self) → takes self.old (opens head) b → ⊥) }
         ensures left { IfRefusedWith result (leaves self.old (to_open head) self.new) };
 
-    /// Closes the nearest open header, whose contents were read.
+    /// Closes the nearest open header, whose contents were read to their end.
     fn close(&mut self) -> Result<(), ReadFault>
         ensures ok { OnOk result (takes self.old closes self.new) }
         ensures err { IfRefused result ((b : Self) → takes self.old closes b → ⊥) }
         ensures left { IfRefusedWith result (leaves self.old to_close self.new) };
 
-    /// Reads contents.
+    /// Reads contents octets of this kind.
     fn leaf(&mut self, kind: LeafKind) -> Result<(), ReadFault>
         ensures ok { OnOk result (takes self.old (holds kind) self.new) }
         ensures err { IfRefused result ((b : Self) → takes self.old (holds kind) b → ⊥) }
@@ -61,26 +61,26 @@ pub trait Source {
         ensures err { IfRefused result ((b : Self) → takes self.old skips b → ⊥) }
         ensures left { IfRefusedWith result (leaves self.old to_skip self.new) };
 
-    /// Whether the component of a SEQUENCE stands next.
+    /// Whether the component of a SEQUENCE comes next.
     fn has_component(&mut self, field: Field) -> Result<bool, ReadFault>
         ensures ok { IfOk result (λ yes. takes self.old (stands field yes) self.new) }
         ensures err { IfRefused result ((yes : Bool) (b : Self) → takes self.old (stands field yes) b → ⊥) }
         ensures left { IfRefusedWith result (leaves self.old (whether_stands field) self.new) };
 
-    /// Whether one more element of this type stands next; those of a SET OF are `sorted`.
+    /// Whether one more element of this type comes next; the elements of a SET OF are `sorted`.
     fn has_element(&mut self, id: TypeId, sorted: bool) -> Result<bool, ReadFault>
         ensures ok { IfOk result (λ yes. takes self.old (more id sorted yes) self.new) }
         ensures err { IfRefused result ((yes : Bool) (b : Self) → takes self.old (more id sorted yes) b → ⊥) }
         ensures left { IfRefusedWith result (leaves self.old (whether_more id sorted) self.new) };
 
-    /// The type of the component of a SET that stands next, of those that the steps begin with, or None where none
-    /// does.
+    /// The type of the component of a SET that comes next, of those with which the steps start, or None if there is
+    /// none.
     fn next_component(&mut self, steps: &[Step]) -> Result<Option<TypeId>, ReadFault>
         ensures ok { IfOk result (λ id. takes self.old (among steps.now id) self.new) }
         ensures err { IfRefused result ((id : Option' TypeId') (b : Self) → takes self.old (among steps.now id) b → ⊥) }
         ensures left { IfRefusedWith result (leaves self.old (which_stands steps.now) self.new) };
 
-    /// The type of the alternative that stands next, of those that the steps call.
+    /// The type of the alternative that comes next, of those that the steps call.
     fn alternative(&mut self, calls: &[Step]) -> Result<TypeId, ReadFault>
         ensures ok { IfOk result (λ id. takes self.old (picks calls.now id) self.new) }
         ensures err { IfRefused result ((id : TypeId') (b : Self) → takes self.old (picks calls.now id) b → ⊥) }

@@ -1,4 +1,4 @@
-//! Values that hold no others, read at once.
+//! Reads at once the values that hold no others.
 
 ghost use Rattle.codec_code.specs.Routines.{routine_at};
 ghost use Rattle.codec_code.specs.declared.step.Step.{Step as Step'};
@@ -13,8 +13,8 @@ use crate::source::Source;
 use asn_base::schema::TypeId;
 use codec_code::{Brief, Code, Head, LeafKind};
 
-/// The header and the kind of contents, where the routine of the type is a header, contents and the end: that of a type
-/// with one tag that holds no others.
+/// The header and the kind of contents, if the routine of the type is a header, contents and the end; otherwise None.
+/// The type of such a routine has one tag, and its values hold no others.
 #[inline(always)]
 pub(crate) fn leaf_routine(code: &Code, id: TypeId) -> Option<(Head, LeafKind)>
     ensures { IfSome result (λ p. routine_at code.now id.index ≡ Head' p.0 ∷ Leaf p.1 ∷ End ∷ []) }
@@ -25,8 +25,8 @@ pub(crate) fn leaf_routine(code: &Code, id: TypeId) -> Option<(Head, LeafKind)>
     }
 }
 
-/// Takes what these three steps and the end of their value ask for: whatever frames wait behind it, they go on where
-/// they would behind the steps, whatever routines types have.
+/// Takes the answers to the questions of these three steps and of the end of their value. Whatever frames wait, they go
+/// on exactly as they would after the steps, whatever the routines of types are.
 #[inline(always)]
 pub(crate) fn read_whole<S: Source>(
     head: Head,

@@ -1,10 +1,12 @@
 -- What is found for the arguments of a command line.
-use Rattle.std.proofs.Common.{◌≡◌, refl, ℕ, List, Option, Some, None, Box, option_map, unwrap_or}
+use Rattle.std.proofs.Common.{◌≡◌, refl, ap, ℕ, List, [], ◌∷◌, Option, Some, None, Box, map, option_map, unwrap_or}
+use Rattle.std.specs.Prelude.{slice_get}
 use Rattle.std.specs.Borrow.{Bor}
 use Rattle.std.specs.Box.{box_value}
 use Rattle.clap.specs.Simple.{subcommand_rows}
 use Rattle.clap.specs.declared.parser.matches.ArgMatches.TheViews.{out-SubCommand}
 use Rattle.clap.specs.declared.parser.matches.SubCommand.{SubCommand}
+use Rattle.command_line.specs.CommandLine.{first_word}
 
 -- the text behind a reference that may be absent
 pub text_or : (o : Option (Bor (List ℕ))) (d : Bor (List ℕ)) → (unwrap_or o d).now ≡ unwrap_or (option_map (λ s. s.now) o) d.now
@@ -16,3 +18,8 @@ pub named_by : {Z : Type 0} (o : Option (Box SubCommand Z))
     → option_map (λ b. (out-SubCommand (box_value b)).name.now) o ≡ option_map (λ p. p.0) (subcommand_rows o)
 named_by None = refl
 named_by (Some b) = refl
+
+-- the first word of some
+pub first_is : {A : Type 0} (f : A → List ℕ) (ws : List A) (w : A) → Some w ≡ slice_get ws 0 → first_word (map f ws) ≡ f w
+first_is f [] w e = absurd cc
+first_is f (x ∷ ws) w e = let g : x ≡ w = cc in ap f g

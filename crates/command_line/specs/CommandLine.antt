@@ -1,6 +1,6 @@
--- The command lines that the program takes, and what a job holds of one.
+-- The command lines that the programs asnc and octcheck accept, and what a job has of one.
 use Rattle.std.specs.Prelude.{◌≡◌, ◌⊎◌, ⊤, ℕ, List, [], ◌∷◌, true, false, Some, Ok, codes, map, option_map, string_bytes, unwrap_or}
-use Rattle.clap.specs.Words.{App, Rule, Row, Text, IsAmong, all_of, fault_of, first_of, one_of, new_app, new_rule, subcommand_of, with_rule, with_subcommand}
+use Rattle.clap.specs.Words.{App, Rule, Row, Text, IsAmong, all_of, fault_of, first_of, one_of, new_app, new_rule, matches_of, subcommand_of, with_rule, with_subcommand}
 use Rattle.clap.specs.declared.builder.ArgAction.TheVariants.{Append, Set, SetTrue}
 use Rattle.clap.specs.declared.error.kind.ErrorKind.{ErrorKind}
 use Rattle.clap.specs.declared.error.kind.ErrorKind.TheVariants as kinds
@@ -8,11 +8,12 @@ use Rattle.hex.specs.Hex.{decode_of}
 use Rattle.messages.specs.declared.fault.Fault.{Fault}
 use Rattle.messages.specs.declared.fault.Fault.TheVariants as faults
 use Rattle.command_line.specs.declared.request.Job.{Job}
+use Rattle.command_line.specs.declared.request.Verb.{Verb}
 use Rattle.command_line.specs.declared.request.Verb.TheVariants as verbs
 use Rattle.command_line.specs.declared.request.Given.{Given}
 use Rattle.command_line.specs.declared.request.Given.TheVariants as given
 
--- `--ID TEXT`, which has to be there
+-- `--ID TEXT`, which is required
 abbrev pub text_rule : Text → Rule
 text_rule id = record (new_rule id) {
   long = Some id;
@@ -21,33 +22,39 @@ text_rule id = record (new_rule id) {
   action = Some Set;
 }
 
--- `--ID`, which may be there
+-- `--ID`, which is optional
 abbrev pub flag_rule : Text → Rule
 flag_rule id = record (new_rule id) { long = Some id; action = Some SetTrue }
 
--- the words at the end, one at least
+-- the words at the end, at least one
 abbrev pub files_rule : Rule
 files_rule = record (new_rule (codes "FILE")) { required = true; action = Some Append }
 
--- `der --type TEXT --value TEXT`
-abbrev pub der_names_app : App
-der_names_app = with_rule (with_rule (new_app (codes "der")) (text_rule (codes "type"))) (text_rule (codes "value"))
+-- `NAME --type TEXT --value TEXT`
+abbrev pub value_names_app : Text → App
+value_names_app name = with_rule (with_rule (new_app name) (text_rule (codes "type"))) (text_rule (codes "value"))
+
+-- `NAME --type TEXT --value TEXT [--context] FILE..`
+abbrev pub value_app : Text → App
+value_app name = with_rule (with_rule (value_names_app name) (flag_rule (codes "context"))) files_rule
 
 -- `der --type TEXT --value TEXT [--raw] [--context]`
 abbrev pub der_flags_app : App
-der_flags_app = with_rule (with_rule der_names_app (flag_rule (codes "raw"))) (flag_rule (codes "context"))
+der_flags_app =
+    with_rule (with_rule (value_names_app (codes "der")) (flag_rule (codes "raw"))) (flag_rule (codes "context"))
 
 -- `der --type TEXT --value TEXT [--raw] [--context] FILE..`
 abbrev pub der_app : App
 der_app = with_rule der_flags_app files_rule
 
--- `ber --type TEXT --hex TEXT`
-abbrev pub ber_names_app : App
-ber_names_app = with_rule (with_rule (new_app (codes "ber")) (text_rule (codes "type"))) (text_rule (codes "hex"))
+-- `NAME --type TEXT --hex TEXT`
+abbrev pub octets_names_app : Text → App
+octets_names_app name = with_rule (with_rule (new_app name) (text_rule (codes "type"))) (text_rule (codes "hex"))
 
 -- `ber --type TEXT --hex TEXT [--strict] [--context]`
 abbrev pub ber_flags_app : App
-ber_flags_app = with_rule (with_rule ber_names_app (flag_rule (codes "strict"))) (flag_rule (codes "context"))
+ber_flags_app =
+    with_rule (with_rule (octets_names_app (codes "ber")) (flag_rule (codes "strict"))) (flag_rule (codes "context"))
 
 -- `ber --type TEXT --hex TEXT [--strict] [--context] FILE..`
 abbrev pub ber_app : App
@@ -57,7 +64,7 @@ ber_app = with_rule ber_flags_app files_rule
 abbrev pub list_app : App
 list_app = with_rule (with_rule (new_app (codes "list")) (flag_rule (codes "context"))) files_rule
 
--- a command is wanted, and `help` is none; it has a version
+-- the program asnc without its commands: a command is required, `help` isn't one, and there is a version
 abbrev pub bare_app : App
 bare_app = record (new_app (codes "asnc")) {
   top = record (new_app (codes "asnc")).top {
@@ -71,11 +78,43 @@ bare_app = record (new_app (codes "asnc")) {
 abbrev pub octets_app : App
 octets_app = with_subcommand (with_subcommand bare_app der_app.top) ber_app.top
 
--- the commands `der`, `ber` and `list`
-abbrev pub asnc_app : App
-asnc_app = with_subcommand octets_app list_app.top
+-- the commands `der`, `ber`, `uper` and `account`
+abbrev pub written_app : App
+written_app =
+    with_subcommand (with_subcommand octets_app (value_app (codes "uper")).top) (value_app (codes "account")).top
 
--- the text that was given for an argument, empty where there is none
+-- the commands `der`, `ber`, `uper`, `account` and `list`
+abbrev pub asnc_app : App
+asnc_app = with_subcommand written_app list_app.top
+
+-- the program octcheck without its arguments: there is a version, and there are no commands
+abbrev pub bare_check_app : App
+bare_check_app = record (new_app (codes "octcheck")) {
+  top = record (new_app (codes "octcheck")).top { has_version = true };
+}
+
+-- `octcheck --type TEXT --value TEXT`
+abbrev pub check_names_app : App
+check_names_app = with_rule (with_rule bare_check_app (text_rule (codes "type"))) (text_rule (codes "value"))
+
+-- `octcheck --type TEXT --value TEXT --hex TEXT --account TEXT`
+abbrev pub check_texts_app : App
+check_texts_app = with_rule (with_rule check_names_app (text_rule (codes "hex"))) (text_rule (codes "account"))
+
+-- `octcheck --type TEXT --value TEXT --hex TEXT --account TEXT [--context] FILE..`
+abbrev pub octcheck_app : App
+octcheck_app = with_rule (with_rule check_texts_app (flag_rule (codes "context"))) files_rule
+
+-- the first word, or the empty one if there are no words
+abbrev pub first_word : List Text → Text
+first_word [] = []
+first_word (w ∷ ws) = w
+
+-- the words are those of octcheck; otherwise they are those of asnc
+abbrev pub AreOfChecker : List Text → Type 0
+AreOfChecker words = first_word words ≡ codes "octcheck"
+
+-- the text that was given for an argument, or the empty one
 abbrev pub text_in : List Row → Text → Text
 text_in rows id = unwrap_or (first_of id rows) []
 
@@ -83,7 +122,7 @@ text_in rows id = unwrap_or (first_of id rows) []
 abbrev pub texts_in : List Row → Text → List Text
 texts_in rows id = unwrap_or (all_of id rows) []
 
--- The job holds what was found for the arguments of `der`; what it doesn't take is empty.
+-- The job has what was found for the arguments of `der`. Fields that `der` doesn't take are empty.
 pub record IsDerOf (rows : List Row) (job : Job) : Type 0 where
   pub verb : job.verb ≡ verbs.Der
   pub type : string_bytes job.ty ≡ text_in rows (codes "type")
@@ -97,20 +136,34 @@ pub record IsDerOf (rows : List Row) (job : Job) : Type 0 where
   pub no_octets : job.octets ≡ given.Nothing
   pub not_strict : job.strict ≡ false
 
--- The octets that a text tells: those of the file whose name stands behind an @, or else those of its digits, two an
--- octet.
+-- The job has this verb, and what was found for the names of a type and of a value. Fields that the verb doesn't take
+-- are empty.
+pub record IsValueJobOf (verb : Verb) (rows : List Row) (job : Job) : Type 0 where
+  pub verb_is : job.verb ≡ verb
+  pub type : string_bytes job.ty ≡ text_in rows (codes "type")
+  pub value : string_bytes job.value ≡ text_in rows (codes "value")
+  pub context : (one_of (codes "context") rows ≡ Some (codes "true")) → job.context ≡ true
+  pub no_context : (one_of (codes "context") rows ≡ Some (codes "false")) → job.context ≡ false
+  pub files : map string_bytes job.files.items ≡ texts_in rows (codes "FILE")
+  pub no_account : string_bytes job.account ≡ []
+  pub no_octets : job.octets ≡ given.Nothing
+  pub not_raw : job.raw ≡ false
+  pub not_strict : job.strict ≡ false
+
+-- The octets that a text gives. After an `@` the text is the name of the file that has the octets; otherwise its digits
+-- are the octets, two for each.
 abbrev pub IsGiven : Text → Given → Type 0
 IsGiven text (given.Path name) = text ≡ 64 ∷ string_bytes name
 IsGiven text (given.Octets o) = decode_of text ≡ Ok o.items
 IsGiven text given.Nothing = ⊥
 
--- it tells none
+-- the text gives no octets
 pub record TellsNone (text : Text) : Type 0 where
   pub no_file : (name : List ℕ) → text ≡ 64 ∷ name → ⊥
   pub no_digits : (o : List ℕ) → decode_of text ≡ Ok o → ⊥
 
--- The job holds what was found for the arguments of `ber`, and the octets that the text of `--hex` tells; what it
--- doesn't take is empty.
+-- The job has what was found for the arguments of `ber`, and the octets that the text of `--hex` gives. Fields that
+-- `ber` doesn't take are empty.
 pub record IsBerOf (rows : List Row) (job : Job) : Type 0 where
   pub verb : job.verb ≡ verbs.Ber
   pub type : string_bytes job.ty ≡ text_in rows (codes "type")
@@ -124,7 +177,7 @@ pub record IsBerOf (rows : List Row) (job : Job) : Type 0 where
   pub no_account : string_bytes job.account ≡ []
   pub not_raw : job.raw ≡ false
 
--- The job holds what was found for the arguments of `list`; what it doesn't take is empty.
+-- The job has what was found for the arguments of `list`. Fields that `list` doesn't take are empty.
 pub record IsListOf (rows : List Row) (job : Job) : Type 0 where
   pub verb : job.verb ≡ verbs.List
   pub no_type : string_bytes job.ty ≡ []
@@ -137,26 +190,46 @@ pub record IsListOf (rows : List Row) (job : Job) : Type 0 where
   pub no_octets : job.octets ≡ given.Nothing
   pub not_strict : job.strict ≡ false
 
--- the job is that of the command of this name, `list`, `ber` or else `der`
+-- The job has what was found for the arguments of `octcheck`, and the octets that the text of `--hex` gives. Fields
+-- that `octcheck` doesn't take are empty.
+pub record IsCheckOf (rows : List Row) (job : Job) : Type 0 where
+  pub verb : job.verb ≡ verbs.Check
+  pub type : string_bytes job.ty ≡ text_in rows (codes "type")
+  pub value : string_bytes job.value ≡ text_in rows (codes "value")
+  pub octets : IsGiven (text_in rows (codes "hex")) job.octets
+  pub account : string_bytes job.account ≡ text_in rows (codes "account")
+  pub context : (one_of (codes "context") rows ≡ Some (codes "true")) → job.context ≡ true
+  pub no_context : (one_of (codes "context") rows ≡ Some (codes "false")) → job.context ≡ false
+  pub files : map string_bytes job.files.items ≡ texts_in rows (codes "FILE")
+  pub not_raw : job.raw ≡ false
+  pub not_strict : job.strict ≡ false
+
+-- the job is that of the command with this name: `list`, `ber`, `uper`, `account`, or otherwise `der`
 pub record IsJobOf (command : Text) (rows : List Row) (job : Job) : Type 0 where
   pub list : command ≡ codes "list" → IsListOf rows job
   pub ber : command ≡ codes "ber" → IsBerOf rows job
-  pub der : (command ≡ codes "list" → ⊥) → (command ≡ codes "ber" → ⊥) → IsDerOf rows job
+  pub uper : command ≡ codes "uper" → IsValueJobOf verbs.Uper rows job
+  pub account : command ≡ codes "account" → IsValueJobOf verbs.Account rows job
+  pub der : (command ≡ codes "list" → ⊥)
+      → (command ≡ codes "ber" → ⊥)
+      → (command ≡ codes "uper" → ⊥)
+      → (command ≡ codes "account" → ⊥)
+      → IsDerOf rows job
 
--- a text that tells no octets; memory speaks of none
+-- the fault of a text that gives no octets; `Memory` says nothing of the text
 abbrev pub IsNotGiven : Text → Fault → Type 0
 IsNotGiven text faults.Memory = ⊤
 IsNotGiven text (faults.BadWords t) = TellsNone text
 IsNotGiven text fault = ⊥
 
--- there is no job of the command: it is `ber`, and the text of `--hex` tells no octets
+-- the fault of a command without a job: the command is `ber`, and the text of `--hex` gives no octets
 abbrev pub IsNoJobOf : Text → List Row → Fault → Type 0
 IsNoJobOf command rows faults.Memory = ⊤
 IsNoJobOf command rows (faults.BadWords t) = (command ≡ codes "ber") × TellsNone (text_in rows (codes "hex"))
 IsNoJobOf command rows fault = ⊥
 
--- nothing is wrong with the words, and the job holds what they name for their command
-pub record IsAsked (words : List Text) (job : Job) : Type 0 where
+-- the words of asnc have no fault, and the job has what they give for their command
+pub record IsCommand (words : List Text) (job : Job) : Type 0 where
   pub taken : fault_of asnc_app words ≡ []
   pub command : Text
   pub called : option_map (λ p. p.0) (subcommand_of asnc_app words) ≡ Some command
@@ -164,7 +237,17 @@ pub record IsAsked (words : List Text) (job : Job) : Type 0 where
   pub found : option_map (λ p. p.1) (subcommand_of asnc_app words) ≡ Some rows
   pub holds : IsJobOf command rows job
 
--- the fault that tells of a failure of this kind to read the words
+-- the words of octcheck have no fault, and the job has what they give
+pub record IsCheck (words : List Text) (job : Job) : Type 0 where
+  pub taken : fault_of octcheck_app words ≡ []
+  pub holds : IsCheckOf (matches_of octcheck_app words) job
+
+-- the job is the one that the words of asnc or of octcheck ask for
+pub record IsAsked (words : List Text) (job : Job) : Type 0 where
+  pub check : AreOfChecker words → IsCheck words job
+  pub command : (AreOfChecker words → ⊥) → IsCommand words job
+
+-- the fault that a failure of this kind to read the words becomes
 abbrev pub IsFaultOf : ErrorKind → Fault → Type 0
 IsFaultOf k faults.Memory = k ≡ kinds.OutOfMemory
 IsFaultOf k (faults.Help t) = (k ≡ kinds.DisplayHelp) ⊎ (k ≡ kinds.DisplayVersion)
@@ -172,7 +255,7 @@ IsFaultOf k (faults.BadWords t) =
     (k ≡ kinds.OutOfMemory → ⊥) × (k ≡ kinds.DisplayHelp → ⊥) × (k ≡ kinds.DisplayVersion → ⊥)
 IsFaultOf k fault = ⊥
 
--- nothing is wrong with the words but that their command is `ber` and the text of `--hex` tells no octets
+-- the words have no other fault than this: their command is `ber`, and the text of `--hex` gives no octets
 pub record HasNoOctets (words : List Text) : Type 0 where
   pub taken : fault_of asnc_app words ≡ []
   pub called : option_map (λ p. p.0) (subcommand_of asnc_app words) ≡ Some (codes "ber")
@@ -180,18 +263,28 @@ pub record HasNoOctets (words : List Text) : Type 0 where
   pub found : option_map (λ p. p.1) (subcommand_of asnc_app words) ≡ Some rows
   pub none : TellsNone (text_in rows (codes "hex"))
 
--- something other is wrong with the words than that they ask for help or for the version
-pub record AreWrong (words : List Text) : Type 0 where
+-- the words of octcheck have no other fault than this: the text of `--hex` gives no octets
+pub record ChecksNoOctets (words : List Text) : Type 0 where
+  pub taken : fault_of octcheck_app words ≡ []
+  pub none : TellsNone (text_in (matches_of octcheck_app words) (codes "hex"))
+
+-- the words of a program have a fault that isn't a request for help or for the version
+pub record AreWrong (a : App) (words : List Text) : Type 0 where
   pub kind : ErrorKind
-  pub among : IsAmong kind (fault_of asnc_app words)
+  pub among : IsAmong kind (fault_of a words)
   pub no_help : kind ≡ kinds.DisplayHelp → ⊥
   pub no_version : kind ≡ kinds.DisplayVersion → ⊥
 
--- The words are refused: they ask for help or for the version, or something else is wrong with them, or they give no
--- octets where they have to. Memory speaks of no words.
-abbrev pub IsRefused : List Text → Fault → Type 0
-IsRefused words faults.Memory = ⊤
-IsRefused words (faults.Help t) =
-    IsAmong kinds.DisplayHelp (fault_of asnc_app words) ⊎ IsAmong kinds.DisplayVersion (fault_of asnc_app words)
-IsRefused words (faults.BadWords t) = AreWrong words ⊎ HasNoOctets words
-IsRefused words fault = ⊥
+-- The words of a program are refused. They ask for help or for the version, they have another fault, or they give no
+-- octets where octets are required. `Memory` says nothing of the words.
+abbrev pub IsRefusedBy : App → (NoOctets : Type 0) → List Text → Fault → Type 0
+IsRefusedBy a NoOctets words faults.Memory = ⊤
+IsRefusedBy a NoOctets words (faults.Help t) =
+    IsAmong kinds.DisplayHelp (fault_of a words) ⊎ IsAmong kinds.DisplayVersion (fault_of a words)
+IsRefusedBy a NoOctets words (faults.BadWords t) = AreWrong a words ⊎ NoOctets
+IsRefusedBy a NoOctets words fault = ⊥
+
+-- the words of asnc or of octcheck are refused
+pub record IsRefused (words : List Text) (fault : Fault) : Type 0 where
+  pub check : AreOfChecker words → IsRefusedBy octcheck_app (ChecksNoOctets words) words fault
+  pub command : (AreOfChecker words → ⊥) → IsRefusedBy asnc_app (HasNoOctets words) words fault

@@ -1,6 +1,7 @@
-//! The words of a command line: what they ask for, or what is wrong with them.
+//! Reads the words of a command line: what they ask for, or what is wrong with them.
 #![tactic(auto)]
 
+mod commands;
 mod octets;
 mod request;
 mod words;

@@ -11,26 +11,26 @@ use messages::Fault;
 use shown_texts::shown;
 use std::alloc::{AllocError, Global};
 
-/// What is wrong with a text that tells no octets.
-fn complaint(alloc: Global, text: &str) -> Result<String, AllocError> {
+/// What is wrong with a text of a program's words that gives no octets.
+fn complaint(alloc: Global, program: &str, text: &str) -> Result<String, AllocError> {
     let told = shown(alloc, text)?;
     format!(in alloc;
-        "--hex wants two hexadecimal digits an octet, or @ and the name of a file, and not {told} (asnc --help shows the words)"
+        "--hex wants two hexadecimal digits an octet, or @ and the name of a file, and not {told} ({program} --help shows the words)"
     )
 }
 
-/// What stands behind an `@`, with which a text begins.
+/// The rest of a text that begins with `@`, or None if it doesn't.
 fn file_name(text: &str) -> Option<&str>
     ensures { MatchOption result ((name : List ℕ) → text.now ≢ 64 ∷ name) (λ name. text.now ≡ 64 ∷ name.now) }
 {
     text.strip_prefix('@')
 }
 
-/// The octets that a text tells: those of the file whose name stands behind an `@`, or else those of its digits, two an
-/// octet.
+/// Returns the octets that a text of a program's words gives. After an `@` the text is the name of the file that has
+/// the octets; otherwise its digits are the octets, two for each.
 ///
-/// `BadWords` where it tells none.
-pub(crate) fn given_in(alloc: Global, text: &str) -> Result<Given, Fault>
+/// `BadWords`: the text gives no octets. `Memory`: an allocation failed.
+pub(crate) fn given_in(alloc: Global, program: &str, text: &str) -> Result<Given, Fault>
     ensures given { IfOk result (IsGiven text.now) }
     ensures none { IfErr result (IsNotGiven text.now) }
 {
@@ -43,7 +43,7 @@ pub(crate) fn given_in(alloc: Global, text: &str) -> Result<Given, Fault>
             if fault == FromHexError::OutOfMemory {
                 return Err(Fault::Memory);
             }
-            Err(Fault::BadWords(complaint(alloc, text)?))
+            Err(Fault::BadWords(complaint(alloc, program, text)?))
         }
     }
 }

@@ -1,28 +1,34 @@
 //! What a command line asks for.
 
-/// The octets that a command line hands in.
+/// The octets that a command line gives.
 #[derive(Debug, Drop)]
 pub enum Given {
-    /// None.
+    /// No octets.
     Nothing,
     /// These octets, written in hexadecimal.
     Octets(Vec<u8>),
-    /// Those of the file with this name.
+    /// The octets of the file with this name.
     Path(String),
 }
 
-/// What is to be done.
+/// What a program should do.
 #[derive(Clone, Copy, Debug, PartialEq, Eq)]
 pub enum Verb {
-    /// To write a value by the distinguished encoding rules.
+    /// Writes a value by the distinguished encoding rules.
     Der,
-    /// To read octets as a value, by the basic encoding rules or by the distinguished ones.
+    /// Reads octets as a value, by the basic or by the distinguished encoding rules.
     Ber,
-    /// To list the types, with what is written of each.
+    /// Writes a value by the canonical packed encoding rules, unaligned.
+    Uper,
+    /// Writes how the distinguished encoding of a value is made up, header by header.
+    Account,
+    /// Lists the types, with what is known of each.
     List,
+    /// Judges octets by an account of them.
+    Check,
 }
 
-/// A command line's request. What its verb doesn't take is empty, `Nothing` or false.
+/// The request of a command line. Fields that its verb doesn't take are empty, `Nothing` or false.
 #[derive(Debug, Drop)]
 pub struct Job {
     pub verb: Verb,
@@ -30,15 +36,15 @@ pub struct Job {
     pub ty: String,
     /// The name of a value, as `Module.value`.
     pub value: String,
-    /// The name of the file that holds an account of an encoding.
+    /// The name of the file with an account of an encoding.
     pub account: String,
     pub octets: Given,
-    /// Whether octets are written as they are, in place of hexadecimal.
+    /// Whether octets are written as they are, instead of in hexadecimal.
     pub raw: bool,
-    /// Whether only distinguished encodings are read.
+    /// Whether only encodings by the distinguished rules are read.
     pub strict: bool,
-    /// Whether the line of a text in which a fault stands is shown.
+    /// Whether a fault in a text is shown with the line in which it is.
     pub context: bool,
-    /// The names of the files that hold the modules' texts, in order.
+    /// The names of the files with the modules' texts, in order.
     pub files: Vec<String>,
 }

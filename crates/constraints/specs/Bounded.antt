@@ -1,4 +1,5 @@
--- Programs in which every constraint has a meaning and leaves something, and how a type breaks that.
+-- Programs in which every constraint has a meaning and allows something, and how a type breaks that (X.680, clauses 49
+-- to 52).
 use Rattle.std.specs.Prelude.{◌≡◌, ◌⊎◌, ◌<◌, ℕ, ℤ, true, false, List, Some, slice_get}
 use Rattle.asn_base.specs.Schemas.{IsNumber, IsSize}
 use Rattle.trees.specs.Values.{Name}
@@ -14,7 +15,7 @@ use Rattle.constraints.specs.Constraints.{takes, is_marked, IsFitting}
 use Rattle.constraints.specs.Allowed.{IsInRoot, IsInAlphabet}
 use Rattle.constraints.specs.Constraints.{has_marker}
 
--- constraint n of type i, which is of kind k behind its references and tags, is c, and is read in module M
+-- constraint n of type i is c, read in module M; k is the kind that the type's references and tags lead to
 pub record IsWritten (p : Program) (i n : ℕ) (k : Kind) (M : Name) (c : ConstraintTree) : Type 0 where
   pub type : Type'
   pub assigns : Name
@@ -29,12 +30,15 @@ pub record IsListed (p : Program) (i n : ℕ) (c : ConstraintTree) : Type 0 wher
   pub there : slice_get p.types i ≡ Some type
   pub written : slice_get type.constraints n ≡ Some c
 
--- a constraint of type i stands behind one with an extension marker: of the same type, or of one behind it
+-- A constraint of type i comes after one with an extension marker. The earlier one is on the same type, or on a type
+-- that its references and tags lead to.
 pub record IsReconstrained (p : Program) (i : ℕ) : Type 0 where
   pub number : ℕ
   pub constraint : ConstraintTree
   pub listed : IsListed p i number constraint
+  -- how many references and tags lead from type i to the type on which the earlier one is written
   pub steps : ℕ
+  -- the number of that type
   pub behind : ℕ
   pub leads : walk p.types steps i ≡ Some behind
   pub other : ℕ
@@ -43,23 +47,25 @@ pub record IsReconstrained (p : Program) (i : ℕ) : Type 0 where
   pub before : ((steps ≡ 0) × (other < number)) ⊎ (0 < steps)
   pub marked : has_marker earlier ≡ true
 
--- the kind is one of four string types, of whose characters the constraints of type i leave one
+-- if the kind is one of four string types, the constraints of type i allow at least one character
 abbrev pub HasCharacters : Program → Kind → ℕ → Type 0
 HasCharacters p (simple (a_restricted_string s)) i = (c : ℕ) × IsInAlphabet p s i c
 HasCharacters p k i = Unit {0}
 
--- what constraints have to be
+-- what is required of a program's constraints: each fits its type, none comes after an extensible one, and each type is
+-- left something
 pub record AreBounded (p : Program) : Type 0 where
+  -- each constraint is one that its type takes, and has a meaning
   pub fitting : (i n : ℕ) (k : Kind) (M : Name) (c : ConstraintTree) → IsWritten p i n k M c → IsFitting p k M c
-  -- what an extension marker stands in is the last constraint (narrower than X.680)
+  -- no constraint comes after one with an extension marker (own rule; X.680 allows more)
   pub last : (i : ℕ) → IsReconstrained p i → ⊥
-  -- a number or size is left in each root, and a character in each alphabet
+  -- a number or size is in each root, and a character in each alphabet
   pub numbers : (i : ℕ) (k : Kind) → IsOfKind p.types i k → (z : ℤ) × IsInRoot p k i z
   pub characters : (i : ℕ) (k : Kind) → IsOfKind p.types i k → HasCharacters p k i
 
 -- ---- how type i breaks that
 
--- a constraint of type i has property P, which speaks of its kind, of the module in which it is read, and of it
+-- a constraint of type i has property P, which is about its kind, the module in which it is read, and the constraint
 pub record HasConstraint (p : Program) (i : ℕ) (P : Kind → Name → ConstraintTree → Type 0) : Type 0 where
   pub number : ℕ
   pub kind : Kind
@@ -72,19 +78,19 @@ pub record HasConstraint (p : Program) (i : ℕ) (P : Kind → Name → Constrai
 abbrev pub HasSuch : {A : Type 0} → List A → (A → Type 0) → Type 0
 HasSuch {A} xs P = (x : A) × StandsIn xs x × P x
 
--- the type doesn't take the constraint, or an end in it is no number, no size or no character
+-- the type doesn't take the constraint, or an end in it isn't a number, a size or a single character
 abbrev pub IsMisfit : Program → Kind → Name → ConstraintTree → Type 0
 IsMisfit p k M (values_in r) = (takes k (values_in r) ≡ false) ⊎ HasSuch r.ranges (HasNoEnd p k M IsNumber)
 IsMisfit p k M (sizes_in r) = (takes k (sizes_in r) ≡ false) ⊎ HasSuch r.ranges (HasNoEnd p k M IsSize)
 IsMisfit p k M (chars_in xs) = (takes k (chars_in xs) ≡ false) ⊎ HasSuch xs HasNoCharacter
 
--- an end in it leads to value v, which leads back to itself
+-- an end in the constraint leads to value v, which leads back to itself
 abbrev pub IsRound : Program → ℕ → Kind → Name → ConstraintTree → Type 0
 IsRound p v k M (values_in r) = HasSuch r.ranges (GoesRound p k M v)
 IsRound p v k M (sizes_in r) = HasSuch r.ranges (GoesRound p k M v)
 IsRound p v k M (chars_in xs) = ⊥
 
--- the lower end of a range in it is above the upper one
+-- the lower end of a range in the constraint is above the upper one
 abbrev pub IsTurnedRound : Program → Kind → Name → ConstraintTree → Type 0
 IsTurnedRound p k M (values_in r) = HasSuch r.ranges (IsReversed p k M IsNumber)
 IsTurnedRound p k M (sizes_in r) = HasSuch r.ranges (IsReversed p k M IsSize)
@@ -93,7 +99,8 @@ IsTurnedRound p k M (chars_in xs) = HasSuch xs IsTurned
 abbrev pub IsMisplaced : Kind → Name → ConstraintTree → Type 0
 IsMisplaced k M c = is_marked k c ≡ false
 
--- all constraints of type i, and of the types behind it, have a meaning, and they leave no number, size or character
+-- All constraints of type i, and of the types that its references and tags lead to, have a meaning. Together they allow
+-- no number, no size or no character.
 pub record IsEmpty (p : Program) (i : ℕ) : Type 0 where
   pub kind : Kind
   pub is : IsOfKind p.types i kind

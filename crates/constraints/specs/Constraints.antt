@@ -1,4 +1,4 @@
--- What constraints say, each by itself (X.680, clauses 49 to 51): which types take them, what they have to be, and
+-- What constraints mean, each by itself (X.680, clauses 49 to 51): which types take them, what is required of them, and
 -- which numbers, sizes and characters they allow.
 use Rattle.std.specs.Prelude.{◌≡◌, ℕ, ℤ, Bool, true, false, not, ◌||◌, ◌&&◌, ◌==◌, [], length}
 use Rattle.asn_base.specs.Schemas.{IsNumber, IsSize}
@@ -10,12 +10,15 @@ use Rattle.resolve.specs.Program.{Program}
 use Rattle.range_ends.specs.Ranges.{IsWithinOne, AreRanges}
 use Rattle.range_ends.specs.Characters.{IsAmongAny, AreFit}
 
--- ---- which types take which constraints (X.680, 51, table 9; narrower: no SIZE on named bits, no FROM on UTF8String)
+-- ---- which types take which constraints (X.680, 51, table 9; but no SIZE on named bits, and no FROM on UTF8String)
 
+-- the kind is INTEGER, which alone takes single values and ranges (own rule; X.680, clause 51, table 9, allows more)
 abbrev pub is_integer : Kind → Bool
 is_integer (simple (an_integer ns)) = true
 is_integer k = false
 
+-- the kind takes SIZE: BIT STRING without named bits (own rule), OCTET STRING, a character string, SEQUENCE OF or SET
+-- OF (X.680, clause 51.5)
 abbrev pub has_size : Kind → Bool
 has_size (simple (a_bit_string [])) = true
 has_size (simple an_octet_string) = true
@@ -24,23 +27,27 @@ has_size (simple (a_restricted_string s)) = true
 has_size (elements e j) = true
 has_size k = false
 
--- the packed encoding sees the size of no UTF8String (X.691, 10.3.10)
+-- the packed encoding doesn't use the size of a UTF8String (X.691, 10.3.10)
 abbrev pub has_visible_size : Kind → Bool
 has_visible_size (simple a_utf8_string) = false
 has_visible_size k = has_size k
 
+-- the kind takes FROM: NumericString, PrintableString, IA5String or VisibleString, and not UTF8String (own rule; X.680,
+-- clause 51.7)
 abbrev pub has_alphabet : Kind → Bool
 has_alphabet (simple (a_restricted_string s)) = true
 has_alphabet k = false
 
+-- a type of kind k takes a constraint of this form
 abbrev pub takes : Kind → ConstraintTree → Bool
 takes k (values_in r) = is_integer k
 takes k (sizes_in r) = has_size k
 takes k (chars_in xs) = has_alphabet k
 
--- ---- extension markers (X.680, 50.8 to 50.12; narrower: behind one value or range alone, and not in the SIZE of a
--- character string)
+-- ---- extension markers (X.680, 50.8 to 50.12; but only after one value or range, and not in the SIZE of a character
+-- string)
 
+-- a constraint on a type of this kind may have an extension marker, which one on a character string may not (own rule)
 abbrev pub may_extend : Kind → Bool
 may_extend (simple (an_integer ns)) = true
 may_extend (simple (a_bit_string bs)) = true
@@ -48,23 +55,26 @@ may_extend (simple an_octet_string) = true
 may_extend (elements e j) = true
 may_extend k = false
 
+-- an extension marker is in the constraint (X.680, clause 52)
 abbrev pub has_marker : ConstraintTree → Bool
 has_marker (values_in r) = r.marker
 has_marker (sizes_in r) = r.marker
 has_marker (chars_in xs) = false
 
+-- the constraint is one single value or one range, and not FROM
 abbrev pub is_alone : ConstraintTree → Bool
 is_alone (values_in r) = length r.ranges == 1
 is_alone (sizes_in r) = length r.ranges == 1
 is_alone (chars_in xs) = false
 
--- no marker stands in the constraint, or it stands where it may
+-- the constraint has no marker, or the marker is at an allowed place: after one value or one range (own rule)
 abbrev pub is_marked : Kind → ConstraintTree → Bool
 is_marked k c = not (has_marker c) || (may_extend k && is_alone c)
 
--- ---- what constraints of a type of kind k, read in module M, have to be, and what they allow
+-- ---- what is required of constraints of a type of kind k, read in module M, and what they allow
 
--- ends are what they have to be: numbers, and in SIZE sizes; no range is turned round
+-- the constraint has a meaning: ends are numbers, in SIZE sizes, and in FROM single characters; no range has its lower
+-- end above its upper one
 abbrev pub IsMeant : Program → Kind → Name → ConstraintTree → Type 0
 IsMeant p k M (values_in r) = AreRanges p k M IsNumber r.ranges
 IsMeant p k M (sizes_in r) = AreRanges p k M IsSize r.ranges
@@ -82,7 +92,7 @@ AllowsNumber p k M (values_in r) z = IsWithinOne p k M r.ranges z
 AllowsNumber p k M (sizes_in r) z = IsWithinOne p k M r.ranges z
 AllowsNumber p k M (chars_in xs) z = Unit {0}
 
--- it allows the character of code c
+-- the constraint allows the character with code c
 abbrev pub AllowsCharacter : ConstraintTree → ℕ → Type 0
 AllowsCharacter (chars_in xs) c = IsAmongAny xs c
 AllowsCharacter (values_in r) c = Unit {0}

@@ -1,4 +1,4 @@
--- What faults say of linked modules: of a program p. Names are lists of octets.
+-- What faults of linked modules mean, for a program p. Names are lists of octets.
 use Rattle.std.specs.Prelude.{◌≡◌, ℕ, Some, slice_get}
 use Rattle.trees.specs.declared.place.Spot.{Spot}
 use Rattle.names.specs.Faults.{module_told, name_told}
@@ -9,8 +9,8 @@ use Rattle.constraints.specs.Bounded.{HasConstraint, IsMisfit, IsRound, IsTurned
 use Rattle.constraints.specs.declared.fault.BoundFault.{BoundFault}
 use Rattle.constraints.specs.declared.fault.BoundFault.TheVariants.{Memory, Circular, Empty, WrongKind, Reconstrained, LowerAboveUpper, MarkerPlace}
 
--- a value that leads back to itself stands in the module and under the name that the spot names, and an end of a range
--- leads to it
+-- An end of a range leads to a value that leads back to itself. The value is in the module and under the name that the
+-- spot has.
 pub record IsCircular (p : Program) (s : Spot) : Type 0 where
   pub number : ℕ
   pub value : Value
@@ -19,7 +19,7 @@ pub record IsCircular (p : Program) (s : Spot) : Type 0 where
   pub ty : ℕ
   pub round : HasConstraint p ty (IsRound p number)
 
--- the fault is one of this program, and stands in the module and under the name that it names; Memory says nothing
+-- the fault is one of this program, in the module and under the name that it has; `Memory` says nothing
 abbrev pub Stands : Program → BoundFault → Type 0
 Stands p Memory = Unit {0}
 Stands p (Circular s) = IsCircular p s

@@ -1,6 +1,6 @@
 -- Which of several faults of constraints is reported, and where in the text. Types are checked by their numbers, and
--- before each one those that its references and tags lead to, the farthest first. The constraints of a type go in
--- order. For each one the order is: no earlier one has a marker; the type takes it; its own marker; its ranges.
+-- before each one those that its references and tags lead to, the farthest first. The constraints of a type are checked
+-- in order. For each one the order is: no earlier one has a marker; the type takes it; its own marker; its ranges.
 use Rattle.std.specs.Prelude.{◌≡◌, ◌⊎◌, ◌<◌, ℕ, true, false, List, Some, Vec, map, slice_get}
 use Rattle.std.specs.Global.{Global}
 use Rattle.trees.specs.declared.place.At.{At as Placed}
@@ -42,8 +42,8 @@ use Rattle.constraints.specs.proving.Limits.{IsMarkedIn, LeavesNone}
 
 -- ---- characters
 
--- an end of a range is not one character, which is reported at that end, the first one before the last; or the first
--- character has a greater code, which is reported at the first
+-- An end of a range isn't a single character; this is reported at that end, and the first end is checked before the
+-- last. Or the first character has a greater code than the last, which is reported at the first.
 abbrev pub AreEndsWrong : Placed (Vec ℕ Global) → Placed (Vec ℕ Global) → CharsFault → Type 0
 AreEndsWrong a b (chars.NoCharacter at) =
     ((at ≡ a.at) × ((c : ℕ) → IsCharacter a.it.items c → ⊥))
@@ -53,7 +53,7 @@ AreEndsWrong a b (chars.Reversed at) = (at ≡ a.at) × AreReversed a.it.items b
 abbrev pub IsCharsWrong : CharsSyntax → CharsFault → Type 0
 IsCharsWrong c f = (b : Placed (Vec ℕ Global)) × (c.last ≡ Some b) × AreEndsWrong c.first b f
 
--- the first fault of texts and ranges of characters
+-- the first fault in texts and ranges of characters
 pub record IsFirstChars (cs : List CharsSyntax) (f : CharsFault) : Type 0 where
   pub number : ℕ
   pub range : CharsSyntax
@@ -63,7 +63,7 @@ pub record IsFirstChars (cs : List CharsSyntax) (f : CharsFault) : Type 0 where
 
 -- ---- one constraint
 
--- what is wrong with a constraint where this is wrong with a range of it
+-- the fault of a constraint in which this is the fault of a range
 abbrev pub wrong_of : RangeFault → Wrong
 wrong_of (ranges.NoEnd at) = wrongs.At rules.WrongKind at
 wrong_of (ranges.Reversed at) = wrongs.At rules.LowerAboveUpper at
@@ -73,8 +73,8 @@ abbrev pub wrong_chars : CharsFault → Wrong
 wrong_chars (chars.NoCharacter at) = wrongs.At rules.WrongKind at
 wrong_chars (chars.Reversed at) = wrongs.At rules.LowerAboveUpper at
 
--- this is reported first of a constraint by itself, of a type of kind k, read in module M: at the constraint, or at an
--- end of a range in it
+-- The first fault of a constraint by itself, of a type of kind k, read in module M. It is at the constraint, or at an
+-- end of a range in it.
 pub data IsConstraintWrong (p : Program) (k : Kind) (M : Name) (c : ConstraintSyntax) (w : Wrong) : Type 0 where
   memory : w ≡ wrongs.Memory → IsConstraintWrong p k M c w
   not_taken : takes k (constraint_of c) ≡ false →
@@ -107,12 +107,12 @@ pub data IsConstraintWrong (p : Program) (k : Kind) (M : Name) (c : ConstraintSy
 
 -- ---- the constraints of a type
 
--- a marker is before constraint n: in an earlier one of these, or in one of a type that this type leads to, whose
--- constraints leave l
+-- A marker is before constraint n. It is in an earlier one of these constraints, or in one of a type that this type
+-- leads to; l is what the constraints of that type allow.
 abbrev pub IsBehindMarker : List ConstraintSyntax → Limit → ℕ → Type 0
 IsBehindMarker cs l n = (l.extensible ≡ true) ⊎ IsMarkedIn (map constraint_of cs) n
 
--- this is reported first of constraint n of these, c
+-- the first fault of c, which is constraint n of these
 pub data IsNextWrong (p : Program) (k : Kind) (M : Name) (cs : List ConstraintSyntax) (l : Limit) (n : ℕ)
     (c : ConstraintSyntax) (w : Wrong) : Type 0 where
   reconstrained : IsBehindMarker cs l n →
@@ -134,8 +134,8 @@ pub record IsFirstConstraint (p : Program) (k : Kind) (M : Name) (cs : List Cons
       slice_get (map constraint_of cs) n ≡ Some c →
       IsFitting p k M c
 
--- this is reported first of all of them, of a type that begins at the place: a fault of one, or that nothing is left
--- where each has a meaning
+-- The first fault of all constraints of a type that begins at the place. It is the fault of one constraint, or each has
+-- a meaning and together they allow nothing.
 pub data IsLimitWrong (p : Program) (k : Kind) (M : Name) (cs : List ConstraintSyntax) (l : Limit) (place : ℕ)
     (w : Wrong) : Type 0 where
   of_one : IsFirstConstraint p k M cs l w → IsLimitWrong p k M cs l place w
@@ -145,7 +145,7 @@ pub data IsLimitWrong (p : Program) (k : Kind) (M : Name) (cs : List ConstraintS
 
 -- ---- types
 
--- this is reported first of type i, as it is written
+-- the first fault of type i, as it is written
 pub record IsTypeFault (p : Program) (i : ℕ) (f : Fault) : Type 0 where
   pub written : Written
   pub there : slice_get p.types i ≡ Some (type_of written)
@@ -154,15 +154,15 @@ pub record IsTypeFault (p : Program) (i : ℕ) (f : Fault) : Type 0 where
   pub within : Name
   pub assigns : Name
   pub stands : IsAssignment p written.assignment within assigns
-  -- what the constraints of the types that it leads to leave
+  -- what the constraints of the types that this type leads to allow
   pub start : Limit
   pub starts : IsStartOf p i start
   pub wrong : Wrong
   pub fault : IsLimitWrong p kind within written.constraints.items start written.at wrong
   pub told : f ≡ fault_of wrong i
 
--- This is reported first of a program: of type `number`, or of a type that it leads to. The constraints of all types
--- with lower numbers have a meaning, and leave something.
+-- The first fault of a program: of type `number`, or of a type that it leads to. The constraints of all types with
+-- lower numbers have a meaning, and allow something.
 pub record IsFirstFault (p : Program) (f : Fault) : Type 0 where
   pub number : ℕ
   pub steps : ℕ
@@ -173,14 +173,14 @@ pub record IsFirstFault (p : Program) (f : Fault) : Type 0 where
 
 -- ---- faults by name
 
--- the first fault breaks the rule, and is reported with the module and the assignment in which its type is written
+-- the first fault breaks the rule, and the spot has the module and the assignment in which its type is written
 pub record IsFirstAt (p : Program) (r : Rule) (s : Spot) : Type 0 where
   pub ty : ℕ
   pub first : IsFirstFault p (faults.At r ty s.at)
   pub stands : IsWrittenIn p ty (module_told s) (name_told s)
 
--- the first fault is that an end leads to a value which leads back to itself: this is reported where that value gets
--- its name
+-- The first fault is that an end leads to a value which leads back to itself. It is reported at the place where that
+-- value gets its name.
 pub record IsFirstCircle (p : Program) (s : Spot) : Type 0 where
   pub number : ℕ
   pub first : IsFirstFault p (faults.Circular number)
@@ -191,7 +191,7 @@ pub record IsFirstCircle (p : Program) (s : Spot) : Type 0 where
   pub written : slice_get p.assignments value.assignment ≡ Some (assignment_of assigned)
   pub at : s.at ≡ assigned.name.at
 
--- this fault is the first; Memory says nothing
+-- this fault is the first; `Memory` says nothing
 abbrev pub TellsFirst : Program → BoundFault → Type 0
 TellsFirst p told.Memory = Unit {0}
 TellsFirst p (told.Circular s) = IsFirstCircle p s

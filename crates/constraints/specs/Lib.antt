@@ -1,6 +1,7 @@
--- What has to be believed: constraints by themselves (`Constraints`), what those of a type leave (`Allowed`), programs
--- whose constraints have a meaning (`Bounded`), what faults say (`Faults`), and which one is told first and where (`First`).
--- What stands in `proving` only contracts inside the crate and proofs speak of.
+-- The definitions that a user must believe. They say what constraints mean by themselves (`Constraints`), and what
+-- those of a type allow (`Allowed`). They also say in which programs all constraints have a meaning (`Bounded`), what
+-- faults mean (`Faults`), and which fault is reported first, and where (`First`). The definitions in `proving` serve
+-- contracts inside the crate, and proofs.
 pub mod Constraints
 pub mod Allowed
 pub mod Bounded

@@ -31,8 +31,8 @@ use tagging::Tagged;
 use trees::Simple;
 use type_table::Shape;
 
-/// Tagged modules in which every constraint has a meaning and leaves something. It borrows the modules, so the numbers
-/// of types are theirs.
+/// Tagged modules in which every constraint has a meaning and allows something. The value borrows the modules, so its
+/// numbers of types are theirs.
 #[derive(Drop)]
 pub struct Bounded<'a> {
     tagged: &'a Tagged<'a>,
@@ -77,14 +77,14 @@ impl<'a> Bounded<'a> {
         self.tagged.has(ty)
     }
 
-    /// What all modules whose constraints are bounded keep.
+    /// What holds of all modules whose constraints are bounded.
     pub fn whole(&self)
         ensures { AreBounded self.now }
     {
         let _tagged = self.tagged;
     }
 
-    /// What the constraints of a type leave.
+    /// What the constraints of a type allow.
     pub(crate) fn limit(&self, ty: usize) -> Option<&Limit>
         requires { ty < length self.now.types }
         ensures { IsSomeAnd result (λ l. (k : Kind) → IsOfKind self.now.types ty k → IsLeft self.now k ty l.now) }
@@ -92,14 +92,14 @@ impl<'a> Bounded<'a> {
         self.column.limit(ty)
     }
 
-    /// A number that types have in common where [`Bounded::leave_the_same`] tells so: types that are references to one
-    /// type, or tags before it, without constraints of their own. It is below the number of types.
+    /// A number that types share if [`Bounded::leave_the_same`] is true of them: types that are references to one type,
+    /// or tags before it, without constraints of their own. The number is below the number of types.
     pub fn limit_number(&self, ty: TypeId) -> Option<usize> {
         self.column.number(ty.index)
     }
 
-    /// Whether the constraints of two types are known to leave the same, if both are of one kind behind references and
-    /// tags. It takes no memory.
+    /// Whether the constraints of two types are known to allow the same, if references and tags lead from both to one
+    /// kind. The function takes no memory.
     pub fn leave_the_same(&self, one: TypeId, other: TypeId) -> bool
         ensures { result ≡ true → (k : Kind) → IsOfKind self.now.types one.index k → IsOfKind self.now.types other.index k
             → LeaveTheSame self.now k one.index other.index }
@@ -113,7 +113,7 @@ impl<'a> Bounded<'a> {
         }
     }
 
-    /// What a type is behind its references and tags.
+    /// The shape that a type's references and tags lead to.
     pub(crate) fn shape(&self, ty: usize) -> &'a Shape
         requires { ty < length self.now.types }
         ensures { IsOfKind self.now.types ty (kind_of result.now) }
@@ -122,10 +122,10 @@ impl<'a> Bounded<'a> {
     }
 }
 
-/// Tagged modules with what their constraints leave (X.680, clauses 49 to 51), or the first fault that stands in them,
-/// with its module, the name of the assignment and the place: `Reconstrained`, `WrongKind`, `MarkerPlace`,
-/// `LowerAboveUpper` or `Circular` of one constraint, `Empty` of a type, or `Memory`. Types are looked at by their
-/// numbers, before each those behind it, and constraints in order.
+/// Returns tagged modules with what their constraints allow (X.680, clauses 49 to 51), or the first fault, with its
+/// module, the name of the assignment and the place. `Reconstrained`, `WrongKind`, `MarkerPlace`, `LowerAboveUpper` and
+/// `Circular` are faults of one constraint, and `Empty` is one of a type. `Memory`: an allocation failed. Types are
+/// checked by their numbers, before each one those that it leads to, and constraints in order.
 pub fn bound<'a>(alloc: Global, tagged: &'a Tagged<'a>) -> Result<Bounded<'a>, BoundFault>
     ensures found { MatchResult result
         (λ b. (b ≡ tagged.now) × AreBounded tagged.now)
@@ -143,7 +143,7 @@ pub fn bound<'a>(alloc: Global, tagged: &'a Tagged<'a>) -> Result<Bounded<'a>, B
     }
 }
 
-/// The least and the greatest number or size that is left, and whether an extension marker stands.
+/// The least and the greatest number or size that is allowed, and whether there is an extension marker.
 pub(crate) fn seen(limit: &Limit) -> Bounds
     requires { 0 < length limit.now.numbers }
     ensures least { IsLeast (λ z. IsInSome z limit.now.numbers) result.least }
@@ -157,7 +157,7 @@ pub(crate) fn seen(limit: &Limit) -> Bounds
     }
 }
 
-/// What the packed encoding sees of the numbers or sizes of a type.
+/// The bounds of the numbers or sizes of a type that the packed encoding uses.
 fn visible(bounded: &Bounded<'_>, ty: usize) -> Option<Bounds>
     requires { ty < length bounded.now.types }
     ensures { IsSomeAnd result (λ b. (k : Kind) → IsOfKind bounded.now.types ty k
@@ -170,7 +170,7 @@ fn visible(bounded: &Bounded<'_>, ty: usize) -> Option<Bounds>
     }
 }
 
-/// Whether the packed encoding sees the size of a type.
+/// Whether the packed encoding uses the size of a type.
 fn has_visible_size(shape: &Shape) -> bool
     ensures { result ≡ has_visible_size' (kind_of shape.now) }
 {
@@ -180,14 +180,14 @@ fn has_visible_size(shape: &Shape) -> bool
     }
 }
 
-/// Whether a number may be counted: any of an INTEGER, and no size below 0.
+/// Whether a number can count: any number of an INTEGER, and otherwise a size, which is not below 0.
 fn counted(shape: &Shape, number: i128) -> bool
     ensures { IsTrue result ↔ IsCounted (kind_of shape.now) number }
 {
     is_integer(shape) || 0 <= number
 }
 
-/// Whether a number is left, or any that may be counted.
+/// Whether a number is in the root, or, if there is an extension marker, can count.
 fn leaves(limit: &Limit, shape: &Shape, number: i128) -> bool
     ensures { IsTrue result ↔ (IsInSome number limit.now.numbers
         ⊎ ((limit.now.extensible ≡ true) × IsCounted (kind_of shape.now) number)) }
@@ -195,9 +195,9 @@ fn leaves(limit: &Limit, shape: &Shape, number: i128) -> bool
     limit.numbers.has(number) || (limit.extensible && counted(shape, number))
 }
 
-/// What the packed encoding sees of the numbers of an INTEGER type (X.691, clauses 10.3 and 12.1): the least and the
-/// greatest that its constraints leave, None where there is no bound, and whether an extension marker stands in them.
-/// None for any other type. It takes no memory.
+/// The bounds of the numbers of an INTEGER type that the packed encoding uses (X.691, clauses 10.3 and 12.1). They are
+/// the least and the greatest number that its constraints allow, None where there is no bound, and whether an extension
+/// marker is in them. The result is None for any other type. The function takes no memory.
 pub fn range(bounded: &Bounded<'_>, ty: TypeId) -> Option<Bounds>
     requires { ty.index < length bounded.now.types }
     ensures { (k : Kind) → IsOfKind bounded.now.types ty.index k → MatchOption result
@@ -211,10 +211,10 @@ pub fn range(bounded: &Bounded<'_>, ty: TypeId) -> Option<Bounds>
     }
 }
 
-/// What the packed encoding sees of the sizes of a BIT STRING without named bits, an OCTET STRING, one of the four
-/// restricted strings, or a SEQUENCE OF or SET OF (X.691, clauses 10.3, 16, 17, 20, 22 and 30): as [`range`], in bits,
-/// octets, characters or elements, from 0 where no constraint stands. None for any other type; the size of a UTF8String
-/// is not seen. It takes no memory.
+/// The bounds of the sizes that the packed encoding uses, as [`range`] (X.691, clauses 10.3, 16, 17, 20, 22 and 30).
+/// The type is a BIT STRING without named bits, an OCTET STRING, one of the four restricted strings, or a SEQUENCE OF
+/// or SET OF. A size is in bits, octets, characters or elements; without a constraint the least is 0. The result is
+/// None for any other type; the size of a UTF8String isn't used. The function takes no memory.
 pub fn size(bounded: &Bounded<'_>, ty: TypeId) -> Option<Bounds>
     requires { ty.index < length bounded.now.types }
     ensures { (k : Kind) → IsOfKind bounded.now.types ty.index k → MatchOption result
@@ -228,9 +228,9 @@ pub fn size(bounded: &Bounded<'_>, ty: TypeId) -> Option<Bounds>
     }
 }
 
-/// The characters of one of the four restricted strings that its constraints leave (X.691, clause 30.5), by their
-/// codes; all of its characters where no constraint stands. None for any other type. It takes no memory: the codes are
-/// the bits of a `u128`.
+/// The codes of the characters that the constraints of one of the four restricted strings allow (X.691, clause 30.5).
+/// Without a constraint they are those of all its characters. The result is None for any other type. The function takes
+/// no memory: the codes are the bits of a `u128`.
 pub fn alphabet(bounded: &Bounded<'_>, ty: TypeId) -> Option<Codes>
     requires { ty.index < length bounded.now.types }
     ensures { (k : Kind) → IsOfKind bounded.now.types ty.index k → MatchOption result
@@ -246,8 +246,8 @@ pub fn alphabet(bounded: &Bounded<'_>, ty: TypeId) -> Option<Codes>
     }
 }
 
-/// Whether a number may be the value of an INTEGER type: its constraints allow it, or they have an extension marker. It
-/// takes no memory.
+/// Whether a number may be the value of an INTEGER type: its constraints allow the number, or they have an extension
+/// marker. The function takes no memory.
 pub fn allows_number(bounded: &Bounded<'_>, ty: TypeId, number: i128) -> bool
     requires { ty.index < length bounded.now.types }
     ensures { (k : Kind) → IsOfKind bounded.now.types ty.index k →
@@ -259,8 +259,8 @@ pub fn allows_number(bounded: &Bounded<'_>, ty: TypeId, number: i128) -> bool
     }
 }
 
-/// Whether a value of a type that is no INTEGER may have this size, in bits, octets, characters or elements: the
-/// constraints of the type allow it, or they have an extension marker. It takes no memory.
+/// Whether a value of a type other than INTEGER may have this size, in bits, octets, characters or elements. It may if
+/// the constraints of the type allow the size, or have an extension marker. The function takes no memory.
 pub fn allows_size(bounded: &Bounded<'_>, ty: TypeId, size: usize) -> bool
     requires { ty.index < length bounded.now.types }
     ensures { (k : Kind) → IsOfKind bounded.now.types ty.index k →
@@ -269,8 +269,8 @@ pub fn allows_size(bounded: &Bounded<'_>, ty: TypeId, size: usize) -> bool
     allows_number(bounded, ty, size as i128)
 }
 
-/// Whether the character of this code may stand in a value of one of the four restricted strings: it is one of that
-/// type's characters, and constraints allow it. It takes no memory.
+/// Whether the character with this code is allowed in a value of one of the four restricted strings: it is one of that
+/// type's characters, and constraints allow it. The function takes no memory.
 pub fn allows_character(bounded: &Bounded<'_>, ty: TypeId, code: u32) -> bool
     requires { ty.index < length bounded.now.types }
     ensures { (s : StringKind) → IsOfKind bounded.now.types ty.index (simple (a_restricted_string s)) →

@@ -10,16 +10,16 @@ ghost use Rattle.constraints.specs.proving.Characters.{AreFrom, IsCharsFault, Ar
 use ranges::Codes;
 use trees::{At, CharsSyntax};
 
-/// Why a range of characters has no meaning, at a place in the text.
+/// Why a range of characters has no meaning, with a place in the text.
 #[derive(Clone, Copy)]
 pub(crate) enum CharsFault {
-    /// The end at the place is not one character.
+    /// The end at the place isn't a single character.
     NoCharacter(usize),
     /// The first character, at the place, has a greater code than the last.
     Reversed(usize),
 }
 
-/// The code of the character that a text is.
+/// The code of the character that a text is, or None if it isn't a single character.
 fn character(text: &[u8]) -> Option<u32>
     ensures { MatchOption result ((c : ℕ) → IsCharacter text.now c → ⊥) (IsCharacter text.now) }
 {

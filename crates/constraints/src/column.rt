@@ -1,4 +1,4 @@
-//! What the constraints of all types leave, found once.
+//! What the constraints of all types allow, found once.
 
 ghost use Rattle.std.specs.Prelude.{◌≡◌, ◌<◌, ℕ, IfOk, IfErr, OnOk, Some, length, map, slice_get, option_map, MatchResult};
 ghost use Rattle.type_table.specs.Seen.{kind_of, type_of, types_of};
@@ -18,7 +18,7 @@ use type_table::{Shape, Written};
 /// What is wrong with the constraints of a type.
 #[derive(Clone, Copy)]
 pub(crate) enum Fault {
-    /// There was not enough memory.
+    /// An allocation failed.
     Memory,
     /// An end leads to this value, by its number, whose notation leads back to the value itself.
     Circular(usize),
@@ -26,7 +26,7 @@ pub(crate) enum Fault {
     At(Rule, usize, usize),
 }
 
-/// The type behind the reference or tag that a type is.
+/// The type that a reference or tag leads to, or None if the type is neither.
 fn behind(written: &Written) -> Option<usize>
     ensures { result ≡ behind' (kind_of written.now.shape) }
 {
@@ -37,7 +37,7 @@ fn behind(written: &Written) -> Option<usize>
     }
 }
 
-/// The types from one on through references and tags, up to the first for which a limit is noted.
+/// The types from `start` on through references and tags, up to the first for which a limit is noted.
 fn trail(
     alloc: Global,
     types: &[Written],
@@ -65,14 +65,14 @@ fn trail(
     Ok(all)
 }
 
-/// The limits of types: for each the number of its limit, where that is noted.
+/// The limits of types: for each type the number of its limit, if one is noted.
 #[derive(Drop)]
 pub(crate) struct Column {
     pub at: Vec<Option<usize>>,
     pub limits: Vec<Limit>,
 }
 
-/// The fault of a type that something wrong with its constraints makes.
+/// The fault of a type whose constraints have this fault.
 fn fault_at(wrong: Wrong, ty: usize) -> Fault
     ensures { result ≡ fault_of wrong ty }
 {
@@ -84,7 +84,7 @@ fn fault_at(wrong: Wrong, ty: usize) -> Fault
 }
 
 impl Column {
-    /// The number of the limit of a type, where it is noted.
+    /// The number of the limit of a type, or None if none is noted.
     pub(crate) fn number(&self, ty: usize) -> Option<usize>
         ensures { result ≡ number_noted self.now.at.items ty }
     {
@@ -94,7 +94,7 @@ impl Column {
         }
     }
 
-    /// The limit of a type, where it is noted.
+    /// The limit of a type, or None if none is noted.
     pub(crate) fn limit(&self, ty: usize) -> Option<&Limit>
         ensures { option_map (λ l. l.now) result ≡ limit_noted self.now.at.items self.now.limits.items ty }
     {
@@ -106,7 +106,7 @@ impl Column {
     }
 }
 
-/// A type as it is written.
+/// A type as it is written in a text.
 pub(crate) fn written_at(linked: &Linked, ty: usize) -> &Written
     requires { ty < length linked.now.types }
     ensures { slice_get linked.now.types ty ≡ Some (type_of result.now) }
@@ -114,7 +114,7 @@ pub(crate) fn written_at(linked: &Linked, ty: usize) -> &Written
     &linked.types()[ty]
 }
 
-/// What a type is behind its references and tags.
+/// The shape that a type's references and tags lead to.
 pub(crate) fn core_at(linked: &Linked, ty: usize) -> &Shape
     requires { ty < length linked.now.types }
     ensures { IsOfKind linked.now.types ty (kind_of result.now) }
@@ -124,7 +124,7 @@ pub(crate) fn core_at(linked: &Linked, ty: usize) -> &Shape
     &written.shape
 }
 
-/// What is left before the constraints that are written on a type.
+/// What is allowed before the constraints that are written on a type.
 fn start_of(alloc: Global, linked: &Linked, column: &Column, ty: usize) -> Result<Limit, AllocError>
     requires there { ty < length linked.now.types }
     requires noted { AreNoted linked.now column.now.at.items column.now.limits.items }
@@ -147,7 +147,8 @@ fn start_of(alloc: Global, linked: &Linked, column: &Column, ty: usize) -> Resul
     }
 }
 
-/// The limit of a type of linked modules, where that of the type behind it is noted.
+/// The limit of a type of linked modules. If the type is a reference or a tag, the limit of the type that it leads to
+/// is noted.
 fn limit_in(
     alloc: Global,
     linked: &Linked,
@@ -185,7 +186,7 @@ fn limit_in(
     }
 }
 
-/// The limit of a type, where that of the type behind it is noted.
+/// The limit of a type. If the type is a reference or a tag, the limit of the type that it leads to is noted.
 fn limit_at(
     alloc: Global,
     scope: &ReferenceTable<'_>,
@@ -201,7 +202,7 @@ fn limit_at(
     limit_in(alloc, scope.linked(), scope, column, ty)
 }
 
-/// Whether a type is a reference or a tag without constraints, and the type behind it.
+/// The type that a reference or tag without constraints leads to, or None for any other type.
 fn shared(linked: &Linked, ty: usize) -> Option<usize>
     requires { ty < length linked.now.types }
     ensures { (j : ℕ) → result ≡ Some j → IsShared linked.now.types ty j }
@@ -214,7 +215,8 @@ fn shared(linked: &Linked, ty: usize) -> Option<usize>
     }
 }
 
-/// Notes the limit of a type, where that of the type behind it is noted.
+/// Notes the limit of a type. If the type is a reference or a tag, the limit of the type that it leads to is noted
+/// already.
 fn note(
     alloc: Global,
     scope: &ReferenceTable<'_>,
@@ -280,7 +282,7 @@ fn note_trail(
     Ok(())
 }
 
-/// Nothing is noted.
+/// A column in which no limit is noted.
 fn nothing_noted(alloc: Global, count: usize) -> Result<Vec<Option<usize>>, AllocError>
     ensures { IfOk result (λ at. (length at.items ≡ count) × ((i a : ℕ) → slice_get at.items i ≡ Some (Some a) → ⊥)) }
 {

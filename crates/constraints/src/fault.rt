@@ -21,37 +21,37 @@ use std::alloc::Global;
 use thiserror::Error;
 use trees::Spot;
 
-/// What is wrong, with the module, the name of the assignment where it stands, and the place in the module's text.
+/// What is wrong, with the module, the name of the assignment, and the place in the module's text.
 #[derive(Debug, Drop, Error)]
 pub enum BoundFault {
-    /// There was not enough memory.
+    /// An allocation failed.
     #[error("1 Memory")]
     Memory,
     /// An end of a range leads to this value, whose notation leads back to the value itself.
     #[error("33 Circular: {0}")]
     Circular(Spot),
-    /// The constraints of the type at the place, and those of the types behind it, leave no number, no size or no
-    /// character (X.680, clause 49.1).
+    /// The constraints of the type at the place allow no number, no size or no character (X.680, clause 49.1). These
+    /// constraints include those of the types to which references and tags lead from the type.
     #[error("50 Empty: {0}")]
     Empty(Spot),
-    /// The type doesn't take the constraint at the place; or an end of a range at the place is no number, is a size
-    /// below 0, or is not one character (X.680, clauses 51.2, 51.4, 51.5 and 51.7).
+    /// The type doesn't take the constraint at the place. Or an end of a range at the place isn't a number, is a size
+    /// below 0, or isn't a single character (X.680, clauses 51.2, 51.4, 51.5 and 51.7).
     #[error("51 WrongKind: {0}")]
     WrongKind(Spot),
-    /// The constraint at the place stands behind one with an extension marker. X.680 allows it; this compiler leaves it
-    /// out.
+    /// The constraint at the place comes after one with an extension marker. X.680 allows it, but this compiler doesn't
+    /// support it.
     #[error("52 Reconstrained: {0}")]
     Reconstrained(Spot),
     /// The lower end of a range, at the place, is above its upper end (X.680, clause 51.4.3).
     #[error("53 LowerAboveUpper: {0}")]
     LowerAboveUpper(Spot),
-    /// An extension marker stands where this compiler doesn't take it: behind several values or ranges, or in the SIZE
-    /// of a character string, in the constraint at the place.
+    /// The constraint at the place has an extension marker that this compiler doesn't take: after several values or
+    /// ranges, or in the SIZE of a character string.
     #[error("55 MarkerPlace: {0}")]
     MarkerPlace(Spot),
 }
 
-/// The fault at a spot that a type breaks a rule.
+/// The fault that a type breaks a rule at a spot.
 fn fault_of(rule: Rule, spot: Spot) -> BoundFault
     ensures stands { (p : Program) (i : ℕ) →
         Breaks p rule i →
@@ -86,7 +86,7 @@ fn broken(alloc: Global, linked: &Linked, rule: Rule, ty: usize, at: usize) -> B
     }
 }
 
-/// A value that is assigned.
+/// An assigned value, by its number.
 fn value_at(linked: &Linked, value: usize) -> &ValueAt
     requires { value < length linked.now.values }
     ensures { slice_get linked.now.values value ≡ Some (value_of result.now) }
@@ -94,7 +94,7 @@ fn value_at(linked: &Linked, value: usize) -> &ValueAt
     &linked.values()[value]
 }
 
-/// An assignment.
+/// An assignment, by its number.
 fn assigned_at(linked: &Linked, assignment: usize) -> &AssignedAt
     requires { assignment < length linked.now.assignments }
     ensures { slice_get linked.now.assignments assignment ≡ Some (assignment_of result.now) }
@@ -102,7 +102,7 @@ fn assigned_at(linked: &Linked, assignment: usize) -> &AssignedAt
     &linked.assignments()[assignment]
 }
 
-/// The fault that an end leads to a value, which leads back to itself.
+/// The fault that an end leads to a value which leads back to itself.
 fn circular(alloc: Global, linked: &Linked, value: usize) -> BoundFault
     requires there { value < length linked.now.values }
     requires round { IsRoundAt linked.now value }
@@ -119,7 +119,7 @@ fn circular(alloc: Global, linked: &Linked, value: usize) -> BoundFault
     }
 }
 
-/// What is wrong with the constraints of linked modules, with the names that it is told by.
+/// The fault of the constraints of linked modules, with the names with which it is reported.
 pub(crate) fn told(alloc: Global, linked: &Linked, fault: Fault) -> BoundFault
     requires { IsFault linked.now fault }
     ensures stands { Stands linked.now result }

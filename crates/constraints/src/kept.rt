@@ -1,4 +1,4 @@
-//! What a resolved type keeps of its constraints.
+//! What a resolved type has for its constraints.
 
 ghost use Rattle.std.specs.Prelude.{ℕ, ◌≡◌, ◌<◌, [], false, length, IfOk};
 ghost use Rattle.asn_base.specs.declared.strings.StringKind.{StringKind};
@@ -18,7 +18,7 @@ use asn_base::schema::TypeId;
 use ranges::law::bounds;
 use std::alloc::{AllocError, Global};
 
-/// The ranges of what is allowed, None where everything is.
+/// The ranges of the allowed numbers, or None if every number is allowed.
 fn allowed_ranges(alloc: Global, limit: &Limit) -> Result<Option<Vec<Range>>, AllocError>
     ensures { IfOk result (AreAllowed limit.now) }
 {
@@ -29,9 +29,9 @@ fn allowed_ranges(alloc: Global, limit: &Limit) -> Result<Option<Vec<Range>>, Al
     Ok(Some(ranges.into_ranges()))
 }
 
-/// What the constraints of a type leave of its numbers or sizes, as a resolved type keeps it: the ranges that are
-/// allowed, None where an extension marker allows all, and the bounds of the root (X.680, clauses 49 to 51; X.691,
-/// clause 10.3). Err where memory is wanting.
+/// Returns what the constraints of a type allow of its numbers or sizes, in the form of a resolved type. It has the
+/// ranges that are allowed, None if an extension marker allows all, and the bounds of the root (X.680, clauses 49 to
+/// 51; X.691, clause 10.3). `AllocError` comes only if an allocation fails.
 pub fn constraint(
     alloc: Global,
     bounded: &Bounded<'_>,
@@ -58,8 +58,9 @@ pub fn constraint(
     }
 }
 
-/// The characters of one of the four restricted strings that its constraints leave, as a resolved type keeps them:
-/// their codes, in order (X.691, clause 30.5). No code of any other type. Err where memory is wanting.
+/// Returns the codes of the characters that the constraints of one of the four restricted strings allow, in order, in
+/// the form of a resolved type (X.691, clause 30.5). There are none for any other type. `AllocError` comes only if an
+/// allocation fails.
 pub fn codes(alloc: Global, bounded: &Bounded<'_>, ty: TypeId) -> Result<Vec<u8>, AllocError>
     requires { ty.index < length bounded.now.types }
     ensures strings { (s : StringKind) → IsOfKind bounded.now.types ty.index (simple (a_restricted_string s)) →

@@ -1,5 +1,5 @@
-//! What follows of programs whose constraints have a meaning. A caller calls a law to know it; it takes no memory and
-//! no time.
+//! What follows for programs whose constraints have a meaning. A caller calls a law to know it; a law takes no memory
+//! and no time.
 
 ghost use Rattle.std.specs.Prelude.{◌≡◌};
 ghost use Rattle.resolve.specs.Program.{Program};
@@ -8,8 +8,8 @@ ghost use Rattle.constraints.specs.Faults.{Stands};
 ghost use Rattle.constraints.specs.declared.fault.BoundFault.{BoundFault};
 ghost use Rattle.constraints.specs.declared.fault.BoundFault.TheVariants.{Memory};
 
-/// Modules in which a fault stands, other than want of memory, have a constraint without a meaning: so `bound`
-/// succeeds, memory apart, just where every constraint has one.
+/// If a fault of modules other than `Memory` is true, a constraint has no meaning, or they allow nothing. So `bound`
+/// succeeds if and only if they are bounded, unless an allocation fails.
 pub fn no_other()
     ensures { (p : Program) (e : BoundFault) → (e ≡ Memory → ⊥) → Stands p e → AreBounded p → ⊥ }
 {}

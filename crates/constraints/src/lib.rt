@@ -1,5 +1,5 @@
-//! Constraints of tagged types: which numbers, sizes and characters they allow, and what the packed encoding sees of
-//! them.
+//! Constraints of tagged types: which numbers, sizes and characters they allow, and which bounds the packed encoding
+//! uses.
 #![tactic(auto)]
 
 mod bounded;

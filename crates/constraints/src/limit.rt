@@ -1,4 +1,4 @@
-//! What the constraints of a type leave.
+//! What the constraints of a type allow.
 
 ghost use Rattle.std.specs.Prelude.{◌≡◌, ◌↔◌, ℕ, ℤ, IfErr, IfOk, MatchResult, map, length, true, false, MatchBool};
 ghost use Rattle.trees.specs.Constraints.{constraint_of};
@@ -18,8 +18,8 @@ use std::alloc::{AllocError, Global};
 use trees::{ConstraintSyntax, Simple};
 use type_table::Shape;
 
-/// What constraints leave of the numbers or sizes of a type and, of one of the four restricted strings, of its
-/// characters; and whether an extension marker stands in one.
+/// What constraints allow of the numbers or sizes of a type, and of the characters of one of the four restricted
+/// strings; and whether one has an extension marker.
 #[derive(Drop)]
 pub(crate) struct Limit {
     pub numbers: Ranges,
@@ -27,7 +27,7 @@ pub(crate) struct Limit {
     pub extensible: bool,
 }
 
-/// The characters of a type.
+/// The codes of all characters of a type without constraints.
 fn first_codes(shape: &Shape) -> Codes
     ensures { HasCodes (kind_of shape.now) result }
 {
@@ -37,7 +37,7 @@ fn first_codes(shape: &Shape) -> Codes
     }
 }
 
-/// The least number of a type without constraints: the least size is 0.
+/// The least number of a type without constraints: 0 for a size, and None for an INTEGER.
 fn floor(shape: &Shape) -> Option<i128>
     ensures { result ≡ floor' (kind_of shape.now) }
 {
@@ -59,7 +59,7 @@ fn first_numbers(alloc: Global, shape: &Shape) -> Result<Ranges, AllocError>
     }
 }
 
-/// What is left where no constraint stands.
+/// What is allowed without constraints.
 pub(crate) fn first_limit(alloc: Global, shape: &Shape) -> Result<Limit, AllocError>
     ensures { IfOk result (IsFirst (kind_of shape.now)) }
 {
@@ -72,7 +72,7 @@ pub(crate) fn first_limit(alloc: Global, shape: &Shape) -> Result<Limit, AllocEr
 }
 
 impl Limit {
-    /// The same once more.
+    /// An equal limit. `AllocError` comes only if an allocation fails.
     pub(crate) fn copy(&self, alloc: Global) -> Result<Limit, AllocError>
         ensures { IfOk result (λ l. IsSame self.now l) }
     {
@@ -84,7 +84,7 @@ impl Limit {
     }
 }
 
-/// What one constraint more leaves of numbers or sizes.
+/// The numbers or sizes that are allowed after one more constraint.
 fn fewer_numbers(
     alloc: Global,
     numbers: Ranges,
@@ -98,7 +98,7 @@ fn fewer_numbers(
     }
 }
 
-/// What it leaves of characters.
+/// The characters that are allowed after one more constraint.
 fn fewer_codes(codes: Codes, more: &Option<Codes>) -> Codes
     ensures { (c : ℕ) → IsMember c result ↔ (IsMember c codes × AmongAny more.now c) }
 {
@@ -108,7 +108,7 @@ fn fewer_codes(codes: Codes, more: &Option<Codes>) -> Codes
     }
 }
 
-/// What one constraint more leaves.
+/// What is allowed after one more constraint.
 fn narrowed(alloc: Global, limit: Limit, meaning: &Meaning) -> Result<Limit, AllocError>
     ensures { IfOk result (IsNarrowed limit meaning.now) }
 {
@@ -125,7 +125,7 @@ fn narrowed(alloc: Global, limit: Limit, meaning: &Meaning) -> Result<Limit, All
     })
 }
 
-/// Whether nothing is left.
+/// Whether nothing is allowed.
 fn is_empty(shape: &Shape, limit: &Limit) -> bool
     ensures { MatchBool result
         (LeavesNothing (kind_of shape.now) limit.now)
@@ -136,8 +136,8 @@ fn is_empty(shape: &Shape, limit: &Limit) -> bool
     limit.numbers.is_empty() || (has_alphabet(shape) && limit.codes.is_empty())
 }
 
-/// What constraints of a type of a shape, read in a module, leave of what was left before them; or what is wrong with
-/// the first of them at fault.
+/// What the constraints of a type with this shape, read in a module, allow of what was allowed before them; or the
+/// fault of the first one that has a fault.
 fn narrowed_by(
     alloc: Global,
     scope: &ReferenceTable<'_>,
@@ -168,7 +168,7 @@ fn narrowed_by(
     Ok(limit)
 }
 
-/// The same, where something is left.
+/// The same, with the fault `Empty` if nothing is allowed.
 pub(crate) fn limit_of(
     alloc: Global,
     scope: &ReferenceTable<'_>,

@@ -16,7 +16,7 @@ use std::alloc::Global;
 use trees::{ConstraintForm, ConstraintSyntax, RangesSyntax, Simple};
 use type_table::Shape;
 
-/// What a constraint can break.
+/// The rules that a constraint can break.
 #[derive(Clone, Copy)]
 pub(crate) enum Rule {
     Empty,
@@ -29,16 +29,16 @@ pub(crate) enum Rule {
 /// What is wrong with a constraint.
 #[derive(Clone, Copy)]
 pub(crate) enum Wrong {
-    /// There was not enough memory.
+    /// An allocation failed.
     Memory,
     /// An end leads to this value, by its number, whose notation leads back to the value itself.
     Circular(usize),
-    /// It breaks the rule, at the place.
+    /// The constraint breaks the rule, at the place.
     At(Rule, usize),
 }
 
-/// What a constraint means: the numbers or sizes that it allows, or the characters; and whether an extension marker
-/// stands in it.
+/// What a constraint means: the numbers or sizes, or the characters, that it allows; and whether it has an extension
+/// marker.
 #[derive(Drop)]
 pub(crate) struct Meaning {
     pub numbers: Option<Ranges>,
@@ -75,7 +75,7 @@ pub(crate) fn has_size(shape: &Shape) -> bool
     }
 }
 
-/// Whether an extension marker may stand in a constraint of the type.
+/// Whether a constraint of the type may have an extension marker.
 fn may_extend(shape: &Shape) -> bool
     ensures { result ≡ may_extend' (kind_of shape.now) }
 {
@@ -102,14 +102,14 @@ fn takes(shape: &Shape, form: &ConstraintForm) -> bool
     }
 }
 
-/// Whether no marker stands behind ranges, or it stands where it may.
+/// Whether ranges have no marker, or their marker is at an allowed place.
 fn is_marked(shape: &Shape, ranges: &RangesSyntax) -> bool
     ensures { (of : Counted') → result ≡ is_marked' (kind_of shape.now) (ranged of (ranges_of ranges.now)) }
 {
     !ranges.marker || (may_extend(shape) && ranges.ranges.len() == 1)
 }
 
-/// The numbers or sizes that ranges allow, where their marker stands where it may.
+/// The numbers or sizes that ranges allow, if their marker is at an allowed place.
 fn numbers_of(
     alloc: Global,
     site: &Site<'_>,
@@ -199,8 +199,8 @@ fn taken(
     }
 }
 
-/// The meaning of a constraint of a type of a shape, read in a module, or what is first wrong with it: whether the type
-/// takes it, its marker, its ranges in order.
+/// The meaning of a constraint of a type with this shape, read in a module, or its first fault. Checked are whether the
+/// type takes it, then its marker, then its ranges in order.
 pub(crate) fn meaning_of(
     alloc: Global,
     scope: &ReferenceTable<'_>,

@@ -1,4 +1,5 @@
--- What an account of an encoding is: header by header, how its octets are made up (X.690, 8.1, 8.9 to 8.14, 10 and 11).
+-- An account of an encoding: how its octets are made up, header by header (X.690, clauses 8.1, 8.9 to 8.14, 10 and 11).
+-- An account doesn't ask that a SET or SET OF is in the order of the distinguished rules.
 use Rattle.std.specs.Prelude.{◌≡◌, ℕ, ◌+◌, Bool, true, List, [], ◌∷◌, ◌++◌, length, Some, slice_get}
 use Rattle.std.specs.List.{concat}
 use Rattle.asn_base.specs.declared.tag.Tag.{Tag}
@@ -11,19 +12,20 @@ use Rattle.encodings.specs.Header.{Octets, Encodings, identifier, HeaderBy}
 use Rattle.encodings.specs.Contents.{Contents}
 use Rattle.encodings.specs.Encoding.{IsDefault}
 
--- how many octets a header's identifier has, its length, and the contents that it tells
+-- the number of identifier octets of a header, of its length octets, and of the contents octets that they promise
 pub record Numbers : Type 0 where
   pub identifier : ℕ
   pub size : ℕ
   pub contents : ℕ
 
 mutual
-  -- an account, from one header on
+  -- an account from one header on, with the header's numbers and what is within it
   pub data Account : Type 0 where
     header : Numbers → Inside → Account
 
-  -- what stands within a header: contents of a value that holds no others; one more header, round which it is explicit;
-  -- or members, in SET and SET OF with the place of each in the octets, and for each place the member that stands there
+  -- What is within a header in an account: the contents of a value that holds no others; one more header, around which
+  -- this one is explicit; or members. In SET and SET OF there are two lists besides: for each member its place in the
+  -- octets, and for each place the member that is there.
   pub data Inside : Type 0 where
     leaf_row : Inside
     wrap_row : Account → Inside
@@ -32,23 +34,27 @@ mutual
     set_row : Rows → (places inverse : List ℕ) → Inside
     setof_row : Rows → (places inverse : List ℕ) → Inside
 
-  -- the members in order of definition or of the value: absent, the same as a DEFAULT, or written
+  -- the members of an account, in order of definition or of the value, each absent, equal to its DEFAULT and left out,
+  -- or written
   pub data Rows : Type 0 where
     no_row : Rows
     absent_row : Rows → Rows
     default_row : Rows → Rows
     written : Account → Rows → Rows
 
--- these are the numbers of a header with the fewest octets (10.1)
+-- The numbers z are those of octets h, the header with the fewest octets of tag t and length n (X.690, clause 10.1).
+-- Flag c says that the encoding is constructed.
 pub record HeaderTold (t : Tag) (c : Bool) (n : ℕ) (h : Octets) (z : Numbers) : Type 0 where
   pub is_header : HeaderBy Distinguished t c n h
   pub identifier_told : z.identifier ≡ length (identifier t.class t.number c)
   pub size_told : z.identifier + z.size ≡ length h
   pub contents_told : z.contents ≡ n
 
--- what stands within the innermost header, and the headers round it: all but the innermost are explicit (8.14), and so
--- is that of a CHOICE; an untagged CHOICE is told by what it holds
+-- The octets are the contents x after the headers of these tags, the outermost first, and the account has the numbers
+-- of these headers (X.690, clause 8.14). All but the innermost header are explicit, and so is each header of a CHOICE.
+-- An untagged CHOICE has no header of its own, but that of its alternative.
 pub data Headed : List Tag → Bool → Octets → Inside → Octets → Account → Type 0 where
+  -- an untagged CHOICE has the account of its alternative
   headed_bare : {c : Bool} {x : Octets} {a : Account} → Headed [] c x (wrap_row a) x a
   headed_innermost : {t : Tag} {c : Bool} {h x : Octets} {z : Numbers} {i : Inside}
       → HeaderTold t c (length x) h z
@@ -58,21 +64,23 @@ pub data Headed : List Tag → Bool → Octets → Inside → Octets → Account
       → HeaderTold t true (length y) h z
       → Headed (t ∷ u ∷ ts) c x i (h ++ y) (header z (wrap_row a))
 
--- the places of n members, and the members of n places: a permutation and its inverse
+-- the lists are the places of n members, from 0, and their inverse, the member at each of the n places
 pub record ArePlaces (n : ℕ) (places inverse : List ℕ) : Type 0 where
   pub each_member : length places ≡ n
   pub each_place : length inverse ≡ n
+  -- if member i is at place j, the member at place j is i
   pub there : (i j : ℕ) → slice_get places i ≡ Some j → slice_get inverse j ≡ Some i
+  -- if the member at place j is i, member i is at place j
   pub back : (i j : ℕ) → slice_get inverse j ≡ Some i → slice_get places i ≡ Some j
 
--- encodings zs are those of the members xs, each at its place
+-- zs are the encodings xs of the members, each at its place
 pub record StandAt (places inverse : List ℕ) (xs zs : Encodings) : Type 0 where
   pub are_places : ArePlaces (length xs) places inverse
   pub as_many : length zs ≡ length xs
   pub each : (i j : ℕ) → slice_get places i ≡ Some j → slice_get zs j ≡ slice_get xs i
 
 mutual
-  -- an account tells how octets encode v, a value of type t
+  -- account a describes how octets o encode v, a value of type t of schema s
   pub data Tells (s : List Resolved) : TypeNumber → AbstractValue → Octets → Account → Type 0 where
     tells : {t : TypeNumber} {tags : List Tag} {k : Kind} {v : AbstractValue} {c : Bool} {x o : Octets} {i : Inside}
         {a : Account}
@@ -81,9 +89,10 @@ mutual
         → Headed tags c x i o a
         → Tells s t v o a
 
-  -- how contents, constructed or not, hold a value of this kind
+  -- what is within a header describes how contents octets x encode v, a value of kind k; the flag says that they are
+  -- constructed
   pub data TellsInside (s : List Resolved) : Kind → AbstractValue → Bool → Octets → Inside → Type 0 where
-    -- by the distinguished rules, under named bits without trailing zeros
+    -- the contents are those of the distinguished rules; a string with named bits has no zeros at its end
     leaf_told : {k : Kind} {v w : AbstractValue} {c : Bool} {x : Octets}
         → IsLeaf k
         → AlikeBy s k v w
@@ -103,14 +112,16 @@ mutual
         → TellsElements s u vs xs rs
         → StandAt p q xs zs
         → TellsInside s (a_set_of c u) (list vs) true (concat zs) (setof_row rs p q)
+    -- alternatives are counted over root and additions
     choice_told : {i : ℕ} {e : Bool} {root more : List Alternative} {b : Alternative} {v : AbstractValue} {x : Octets}
         {a : Account}
         → slice_get (root ++ more) i ≡ Some b
         → Tells s b.type v x a
         → TellsInside s (a_choice root e more) (alternative i v) true x (wrap_row a)
 
-  -- A component with a DEFAULT has the row `default_row` just where it is the same as that; any other has `absent_row`
-  -- just where it is absent. The rest are written.
+  -- The rows describe how the encodings are those of the components, in order of definition. A component that is the
+  -- same as its DEFAULT, or absent with a DEFAULT, has the row `default_row`. Any other component that is absent has
+  -- `absent_row`. The rest are written.
   pub data TellsMembers (s : List Resolved) : List Component → Row → Encodings → Rows → Type 0 where
     no_member_told : TellsMembers s [] end [] no_row
     absent_told : {c : Component} {cs : List Component} {vs : Row} {xs : Encodings} {rs : Rows}
@@ -133,6 +144,8 @@ mutual
         → TellsMembers s cs vs xs rs
         → TellsMembers s (c ∷ cs) (present v vs) (x ∷ xs) (written a rs)
 
+  -- the rows describe how the encodings are those of the elements, all of type u, in the order of the value; each is
+  -- written
   pub data TellsElements (s : List Resolved) : TypeNumber → Row → Encodings → Rows → Type 0 where
     no_element_told : {u : TypeNumber} → TellsElements s u end [] no_row
     element_told : {u : TypeNumber} {v : AbstractValue} {vs : Row} {x : Octets} {xs : Encodings} {a : Account}

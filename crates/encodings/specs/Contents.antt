@@ -1,4 +1,5 @@
--- Contents octets of the kinds that hold no others (X.690, 8.2 to 8.8, 8.19, 8.20, 8.23, 10.2, 11.1 and 11.2).
+-- Contents octets of the kinds whose values hold no others (X.690, clauses 8.2 to 8.8, 8.19, 8.20, 8.23, 10.2, 11.1 and
+-- 11.2).
 use Rattle.std.specs.Prelude.{◌≡◌, ℕ, suc, ◌+◌, ◌*◌, ◌^◌, ◌<◌, ◌≤◌, ℤ, pos, negsuc, Bool, true, false}
 use Rattle.std.specs.Prelude.{List, [], ◌∷◌, ◌++◌, length, flat_map, replicate}
 use Rattle.std.specs.Int.Digits.{number_from_digits, AllBelowBase}
@@ -13,14 +14,16 @@ use Rattle.encodings.specs.Rules.{Rules, Strictly}
 use Rattle.encodings.specs.Header.{Octets, septets}
 use Rattle.encodings.specs.Strings.{Pieces, BitPieces}
 
--- octets that are a number in two's complement (8.3.3)
+-- the octets, at least one, are number z in two's complement (X.690, clause 8.3.3)
 pub data TwosComplement : ℤ → Octets → Type 0 where
+  -- the octets are worth n, and the top bit is zero
   not_negative : {n : ℕ} {o : Octets}
       → 1 ≤ length o
       → AllBelowBase 256 o
       → number_from_digits 256 o ≡ n
       → 2 * n < 256 ^ length o
       → TwosComplement (pos n) o
+  -- the number is -(n + 1), and the top bit is one
   negative : {n : ℕ} {o : Octets}
       → 1 ≤ length o
       → AllBelowBase 256 o
@@ -28,27 +31,30 @@ pub data TwosComplement : ℤ → Octets → Type 0 where
       → 2 * n < 256 ^ length o
       → TwosComplement (negsuc n) o
 
--- the shortest of them (8.3.2)
+-- octets o are number z in two's complement, and no shorter ones are (X.690, clauses 8.3.2 and 8.3.3)
 pub record Number (z : ℤ) (o : Octets) : Type 0 where
   pub is : TwosComplement z o
   pub shortest : (p : Octets) → TwosComplement z p → length o ≤ length p
 
--- no trailing zero bit (11.2.2)
+-- the last of the bits, if there is one, isn't zero (X.690, clause 11.2.2)
 abbrev pub EndsInOne : List Bool → Type 0
 EndsInOne s = (t : List Bool) → s ≡ t ++ false ∷ [] → ⊥
 
--- the bits end in the last octet, filled with zero bits (11.2.1)
+-- after their first one, the contents octets hold the bits s, and the last octet is filled with zero bits (X.690,
+-- clause 11.2.1)
 abbrev pub FilledWithZeros : List Bool → Octets → Type 0
 FilledWithZeros s o =
     (n : ℕ) × (octets : Octets) × (o ≡ n ∷ octets) × (flat_map bits_of_octet octets ≡ s ++ replicate n false)
 
--- the first two numbers of an object identifier are encoded as one (8.19.4)
+-- the numbers to encode for an object identifier, whose first two numbers x and y are joined into 40 x + y (X.690,
+-- clause 8.19.4)
 abbrev pub joined : List ℕ → List ℕ
 joined (x ∷ y ∷ zs) = (40 * x + y) ∷ zs
 joined zs = zs
 
--- contents, constructed or not, of a value of a kind that holds no others: FALSE is 0, TRUE any other octet; strings by
--- the distinguished rules whole, bits filled with zeros, and with names without trailing zero bits
+-- By rules r the contents octets, constructed or not, encode a value of a kind that holds no others (X.690, clauses 8.2
+-- to 8.8, 8.19, 8.20 and 8.23). FALSE is 0, and TRUE is any other octet. By the distinguished rules TRUE is 255, and
+-- strings are whole. Their unused bits are zeros, and with named bits the last bit isn't zero.
 pub data Contents (r : Rules) : Kind → AbstractValue → Bool → Octets → Type 0 where
   of_false : Contents r a_boolean (boolean false) false (0 ∷ [])  -- 8.2.2
   of_true : {x : ℕ}

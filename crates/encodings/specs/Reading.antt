@@ -1,4 +1,4 @@
--- What a reader answers: a value as it stands in octets.
+-- What a decoder returns: the value that octets encode exactly.
 use Rattle.std.specs.Prelude.{ℕ, List}
 use Rattle.asn_base.specs.Abstract.{AbstractValue}
 use Rattle.asn_base.specs.Types.{Resolved}
@@ -7,8 +7,7 @@ use Rattle.encodings.specs.Rules.{Rules}
 use Rattle.encodings.specs.Header.{Octets}
 use Rattle.encodings.specs.Encoding.{Says}
 
--- octets encode w as it stands: it is a value of the type, the limit on nodes apart, and they say it, with k unknown
--- additions
+-- the octets encode exactly w, a value of the type, except for the limit on nodes, with k unknown additions
 pub record Encodes (s : List Resolved) (r : Rules) (t : ℕ) (w : AbstractValue) (k : ℕ) (o : Octets) : Type 0 where
   pub value : IsValueWithoutNodes s t w
   pub says_it : Says s r t w k o

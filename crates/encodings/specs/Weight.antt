@@ -1,4 +1,5 @@
--- More octets than an encoding by the distinguished rules takes: 2,000 for each node, and those of its strings.
+-- The weight of a value: its encoding by the distinguished rules has at most so many octets. It is 2,000 for each node,
+-- and one more for each octet or bit of its strings.
 use Rattle.std.specs.Prelude.{ℕ, ◌+◌, length}
 use Rattle.asn_base.specs.Abstract.{AbstractValue, bits, octets, text, fields, list, alternative, Row, end, absent}
 use Rattle.asn_base.specs.Abstract.{present}

@@ -18,27 +18,28 @@ ghost use Rattle.encodings.specs.Rules.{Rules, Basic, Unsorted, Distinguished};
 
 use asn_base::law::{accepted_are_told_apart, alike_values, sameness};
 
-/// A value of a type has one encoding by the distinguished rules, and none by the basic rules is shorter: for each kind
-/// of type, over every spelling of definite length.
+/// A value of a type has one encoding by the distinguished rules, and no encoding by the basic rules is shorter. This
+/// holds for each kind of type, and for every definite form of length octets.
 pub fn der_laws()
-    // What octets say of a value by the distinguished rules is an encoding of it by them, and by the basic ones.
+    // If octets encode exactly a value by the distinguished rules, they are a DER encoding of it, and also a BER
+    // encoding.
     ensures der { (s : List Resolved) (t : ℕ) (v : AbstractValue) (o : List ℕ)
         → IsValueWithoutNodes s t v
         → Says s Distinguished t v 0 o
         → Der s t v 0 o }
     ensures ber { (s : List Resolved) (t k : ℕ) (v : AbstractValue) (o : List ℕ) → Der s t v k o → Ber s t v k o }
-    // Octets that encode a value as it stands encode it, with as many unknown additions.
+    // If octets encode exactly a value, they are an encoding of it, with the same number of unknown additions.
     ensures as_it_stands { (s : List Resolved) (t k : ℕ) (w : AbstractValue) (o : List ℕ)
         → Encodes s Basic t w k o
         → Ber s t w k o }
-    // Values that are the same have one such encoding, where only a CHOICE has no tag.
+    // Values that are the same have one DER encoding, if only a CHOICE has no tag.
     ensures one { (s : List Resolved) (t : ℕ) (v w : AbstractValue) (o p : List ℕ)
         → AllTagged s
         → Same s t v w
         → Der s t v 0 o
         → Der s t w 0 p
         → p ≡ o }
-    // Such an encoding is one by the distinguished rules but for the order in sets.
+    // A DER encoding follows the distinguished rules also without those about the order in sets.
     ensures unsorted { (s : List Resolved) (t k : ℕ) (v : AbstractValue) (o : List ℕ)
         → Der s t v k o
         → EncodesBy Unsorted s t v k o }
@@ -48,12 +49,12 @@ pub fn der_laws()
     unsorted_laws();
 }
 
-/// Whatever keeps the distinguished rules but for the order in SET and SET OF has as few octets as any encoding.
+/// Octets that follow the distinguished rules, except the order in SET and SET OF, are as few as any encoding's.
 pub fn unsorted_laws()
     ensures ber { (s : List Resolved) (t k : ℕ) (v : AbstractValue) (o : List ℕ)
         → EncodesBy Unsorted s t v k o
         → Ber s t v k o }
-    // None by the basic rules of a value that is the same has fewer octets.
+    // If two values are the same, no encoding of the second by the basic rules has fewer octets.
     ensures none_shorter { (s : List Resolved) (t : ℕ) (v w : AbstractValue) (o p : List ℕ)
         → Same s t v w
         → EncodesBy Unsorted s t v 0 o
@@ -66,7 +67,8 @@ pub fn unsorted_laws()
     sameness();
 }
 
-/// The same for a writer, which proves of its octets what they say, in a schema that is accepted.
+/// The same laws for a writer, whose octets encode exactly a value by the distinguished rules. One encoding, and one
+/// value, need an accepted schema.
 pub fn writer_laws()
     ensures der { (s : List Resolved) (t : ℕ) (v : AbstractValue) (o : List ℕ)
         → IsValueWithoutNodes s t v
@@ -83,7 +85,7 @@ pub fn writer_laws()
         → IsValueWithoutNodes s t v
         → Says s Distinguished t v 0 o
         → Shortest s t v o }
-    // And octets that are an encoding of two values by these rules make them the same.
+    // If octets are a DER encoding of two values, these are the same.
     ensures one_value { (s : List Resolved) (t : ℕ) (v w : AbstractValue) (o : List ℕ)
         → IsAccepted s
         → Der s t v 0 o
@@ -96,16 +98,17 @@ pub fn writer_laws()
     reading_laws();
 }
 
-/// Octets say one value, and no encoding begins another, where only a CHOICE has no tag and first tags are distinct.
+/// Octets exactly encode at most one value, and no encoding starts another one. Only a CHOICE may have no tag, and
+/// first tags must be distinct.
 pub fn reading_laws()
-    // Octets say one value as it stands, with one number of unknown additions.
+    // Octets exactly encode at most one value, with one number of unknown additions.
     ensures one_value { (s : List Resolved) (r : Rules) (t j k : ℕ) (v w : AbstractValue) (o : List ℕ)
         → AllTagged s
         → AllTellable s
         → Says s r t v j o
         → Says s r t w k o
         → (v ≡ w) × (j ≡ k) }
-    // So they are an encoding of values that are the same.
+    // If octets are an encoding of two values, these are the same, and the numbers of unknown additions are equal.
     ensures ber { (s : List Resolved) (t j k : ℕ) (v w : AbstractValue) (o : List ℕ)
         → AllTagged s
         → AllTellable s
@@ -118,7 +121,7 @@ pub fn reading_laws()
         → Der s t v j o
         → Der s t w k o
         → Same s t v w × (j ≡ k) }
-    // No encoding begins another one, whatever follows and of whatever types they are.
+    // No encoding starts another one, whatever octets follow, and of whatever types they are.
     ensures none_begins_another { (s : List Resolved) (q r : Rules) (t u j k : ℕ) (v w : AbstractValue)
         (o p x y : List ℕ)
         → AllTagged s
@@ -130,10 +133,10 @@ pub fn reading_laws()
     sameness();
 }
 
-/// Levels of headers belong to the octets: each reading of them has as many. An encoding by the distinguished rules has
-/// at most six for each level of its value, so that one of a value has at most 400.
+/// The number of levels of headers depends on the octets alone. A DER encoding has at most six levels of headers for
+/// each level of its value, and so at most 400.
 pub fn level_laws()
-    // By whatever rules octets say a value, and whichever, they have one number of levels.
+    // Two encodings of one type with the same octets have the same number of levels, whatever their rules and values.
     ensures one { (s : List Resolved) (q r : Rules) (t j k : ℕ) (v w : AbstractValue) (o : List ℕ)
         (d : Says s q t v j o) (e : Says s r t w k o)
         → AllTagged s
@@ -150,8 +153,8 @@ pub fn level_laws()
         → levels d ≤ 400 }
 {}
 
-/// Each value of a kind that holds no others has contents by the distinguished rules, and one only: as it stands, or
-/// under named bits without its trailing zeros.
+/// Each value of a kind that holds no others has contents octets by the distinguished rules, and only one list of them.
+/// They encode exactly the value, or for named bits the value without zeros at its end.
 pub fn leaf_laws()
     ensures some { (s : List Resolved) (k : Kind) (v : AbstractValue)
         → IsSound s k
@@ -164,8 +167,8 @@ pub fn leaf_laws()
         → y ≡ x }
 {}
 
-/// Each value of a type of a schema has an encoding by the distinguished rules, unless its strings are longer than the
-/// longest length octets tell.
+/// Each value of a type of a schema has an encoding by the distinguished rules, if its weight is below 256^126, the
+/// limit of what length octets can express.
 pub fn existence_laws()
     ensures { (s : List Resolved) (t : ℕ) (v : AbstractValue)
         → IsSchema s
@@ -177,15 +180,15 @@ pub fn existence_laws()
     alike_values();
 }
 
-/// Nothing but its length keeps a value from having an encoding by the distinguished rules, and within any limit it has
-/// one just where it has any.
+/// Only its length can keep a value from having an encoding by the distinguished rules. Within any limit of octets a
+/// value has a DER encoding exactly if it has any encoding.
 pub fn length_laws()
-    // What has an encoding by the basic rules has one by the distinguished rules, which is no longer.
+    // A value with an encoding by the basic rules has a DER encoding, which is no longer.
     ensures least { (s : List Resolved) (t : ℕ) (v : AbstractValue) (p : List ℕ)
         → IsSchema s
         → Ber s t v 0 p
         → (o : List ℕ) × Der s t v 0 o × (length o ≤ length p) }
-    // A value has such an encoding of at most m octets, or each of its encodings has more.
+    // A value has a DER encoding of at most m octets, or each of its encodings has more than m.
     ensures within { (s : List Resolved) (t m : ℕ) (v : AbstractValue)
         → IsSchema s
         → IsValueWithoutNodes s t v
@@ -196,8 +199,8 @@ pub fn length_laws()
     der_laws();
 }
 
-/// A value that octets say has at most as many nodes as there are octets, so that one within a message's limit is
-/// within the limit on nodes too.
+/// The value that octets encode exactly has at most as many nodes as there are octets. So a value whose encoding is
+/// within the limit of a message is within the limit on nodes too.
 pub fn message_laws()
     ensures nodes { (s : List Resolved) (r : Rules) (t k : ℕ) (w : AbstractValue) (o : List ℕ)
         → IsSchema s
@@ -211,15 +214,15 @@ pub fn message_laws()
         → IsValue s t w }
 {}
 
-/// An account of an encoding tells its octets, and they are a shortest one: whatever the order in SET and SET OF, none
-/// by the basic rules has fewer. Each encoding by the distinguished rules has one.
+/// An account of an encoding determines its octets. Whatever the order in SET and SET OF, these are a shortest
+/// encoding: no encoding by the basic rules has fewer octets. Each DER encoding has an account.
 pub fn account_laws()
-    // A type, a value and an account have one list of octets.
+    // A type, a value and an account determine one list of octets.
     ensures one { (s : List Resolved) (t : ℕ) (v : AbstractValue) (o p : List ℕ) (a : Account)
         → Tells s t v o a
         → Tells s t v p a
         → p ≡ o }
-    // They are an encoding by the distinguished rules, but for the order in sets.
+    // These octets follow the distinguished rules, except those about the order in sets.
     ensures unsorted { (s : List Resolved) (t : ℕ) (v : AbstractValue) (o : List ℕ) (a : Account)
         → IsSchema s
         → IsValueWithoutNodes s t v
@@ -241,7 +244,7 @@ pub fn account_laws()
     unsorted_laws();
 }
 
-/// The laws together, of a schema with any kinds of types.
+/// The laws together, for a schema with types of any kind.
 pub fn schema_laws()
     // Values that are the same have one encoding by the distinguished rules.
     ensures one_der { (s : List Resolved) (t : ℕ) (v w : AbstractValue) (o p : List ℕ)
@@ -250,24 +253,24 @@ pub fn schema_laws()
         → Der s t v 0 o
         → Der s t w 0 p
         → p ≡ o }
-    // Octets are such an encoding of values that are the same.
+    // If octets are a DER encoding of two values, these are the same.
     ensures one_value { (s : List Resolved) (t j k : ℕ) (v w : AbstractValue) (o : List ℕ)
         → IsSchema s
         → Der s t v j o
         → Der s t w k o
         → Same s t v w × (j ≡ k) }
-    // None by the basic rules is shorter.
+    // No encoding by the basic rules is shorter than a DER encoding.
     ensures shortest { (s : List Resolved) (t : ℕ) (v : AbstractValue) (o : List ℕ)
         → IsSchema s
         → Der s t v 0 o
         → Shortest s t v o }
-    // By the basic rules octets say one value as it stands.
+    // By the basic rules octets exactly encode at most one value.
     ensures says_one { (s : List Resolved) (t j k : ℕ) (v w : AbstractValue) (o : List ℕ)
         → IsSchema s
         → Says s Basic t v j o
         → Says s Basic t w k o
         → (v ≡ w) × (j ≡ k) }
-    // No encoding of a type is a proper front of another.
+    // No encoding of a type is the start of a longer encoding of that type.
     ensures none_begins_another { (s : List Resolved) (t j k : ℕ) (v w : AbstractValue) (o p x : List ℕ)
         → IsSchema s
         → Says s Basic t v j o

@@ -7,13 +7,14 @@ ghost use Rattle.encodings.specs.Header.{Header, HeaderBy, LengthOf, identifier}
 ghost use Rattle.encodings.specs.Fewest.{shortest_header};
 ghost use Rattle.encodings.specs.Rules.{Rules, Distinguished};
 
-/// The shortest header is the one by the distinguished rules, and no header of as much or more has fewer octets.
+/// The shortest header is the only one by the distinguished rules. No header of the same tag for as many contents
+/// octets, or more, has fewer octets.
 pub fn header_laws()
     ensures is { (t : Tag) (c : Bool) (n : ℕ) → n < 2 ^ 64 → HeaderBy Distinguished t c n (shortest_header t c n) }
     ensures only { (t : Tag) (c : Bool) (n : ℕ) (h : List ℕ)
         → HeaderBy Distinguished t c n h
         → h ≡ shortest_header t c n }
-    // No header begins another one, of whatever tags, forms and lengths.
+    // No header starts another one, whatever their tags, forms and lengths.
     ensures none_begins_another { (t u : Tag) (b c : Bool) (n m : ℕ) (h g x y : List ℕ)
         → Header t b n h
         → Header u c m g
@@ -25,7 +26,7 @@ pub fn header_laws()
         → length (shortest_header t b n) ≤ length h }
 {}
 
-/// No identifier octets begin others, and no length octets do, whatever follows them.
+/// No identifier octets start others, and no length octets start others, whatever octets follow them.
 pub fn part_laws()
     ensures identifiers { (b c : Class) (m n : ℕ) (f g : Bool) (x y : List ℕ)
         → identifier b m f ++ x ≡ identifier c n g ++ y

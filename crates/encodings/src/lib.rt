@@ -1,4 +1,4 @@
-//! What octets say of a value: definitions in `specs`, and the laws of them that other crates call.
+//! Encodings of values: definitions in `specs`, and the laws about them that other crates use.
 #![tactic(auto)]
 
 mod encoding_law;

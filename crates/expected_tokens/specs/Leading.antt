@@ -1,4 +1,4 @@
--- Which tokens a text can go on with, by the rules.
+-- The tokens that can come next in a text, by the rules of the notation.
 use Rattle.std.specs.Prelude.{◌≡◌, ◌⊎◌, List, [], ◌∷◌, ◌++◌, map}
 use Rattle.text.specs.declared.token.Token.{Token}
 use Rattle.text.specs.declared.token.TokenKind.{TokenKind}
@@ -8,13 +8,13 @@ use Rattle.expected_tokens.specs.declared.rules.Symbol.{Symbol}
 use Rattle.expected_tokens.specs.declared.rules.Symbol.TheVariants as symbols
 use Rattle.expected_tokens.specs.Rules.{nothing, begins, rules}
 
--- x is one of these
+-- x is an element of the list
 abbrev pub IsOne : {X : Type 0} → List X → X → Type 0
 IsOne [] x = ⊥
 IsOne (y ∷ ys) x = (y ≡ x) ⊎ IsOne ys x
 
--- Parts that stand for a text which begins with these tokens; behind them the other parts stand for what follows. A
--- part is its token, or what a rule of its symbol says.
+-- Some parts stand for a text that begins with these tokens; after these tokens, other parts stand for what follows. A
+-- part is a token, or anything that a rule of its symbol allows.
 pub data Leads : List Part → List TokenKind → List Part → Type 0 where
   here : {is : List Part} → Leads is [] is
   token : {is js : List Part} {ts : List TokenKind} (k : TokenKind) → Leads is ts js → Leads (Is k ∷ is) (k ∷ ts) js
@@ -27,7 +27,7 @@ pub data Leads : List Part → List TokenKind → List Part → Type 0 where
       → Leads is (k ∷ ts) js
       → Leads (Of s ∷ is) (k ∷ ts) js
 
--- a module
+-- the parts of a module's text: one symbol
 abbrev pub whole : List Part
 whole = Of symbols.Module ∷ []
 
@@ -35,7 +35,7 @@ whole = Of symbols.Module ∷ []
 abbrev pub CanGoOn : List TokenKind → Type 0
 CanGoOn ts = (js : List Part) × Leads whole ts js
 
--- Behind these tokens one of this kind can come next.
+-- After these tokens, a token of this kind can come next.
 abbrev pub CanFollow : List TokenKind → TokenKind → Type 0
 CanFollow ts k = CanGoOn (ts ++ k ∷ [])
 

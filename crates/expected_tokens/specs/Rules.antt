@@ -1,6 +1,6 @@
--- The rules of the notation (X.680, clauses 13 to 51), each with a token in front or none. They say what the
--- productions of modules, types, constraints and values say (the specs of module_head, type_parts, type_syntax,
--- notation and syntax).
+-- The rules of the notation (X.680, clauses 13 to 51), each of which starts with a token or is empty. They allow the
+-- same texts as the productions of modules, types, constraints and values (the specs of module_head, type_parts,
+-- type_syntax, notation and syntax).
 use Rattle.std.specs.Prelude.{List, [], ◌∷◌}
 use Rattle.text.specs.declared.token.TokenKind.{TokenKind}
 use Rattle.text.specs.declared.token.TokenKind.TheVariants as kinds
@@ -15,7 +15,7 @@ use Rattle.expected_tokens.specs.declared.rules.Symbol.TheVariants as symbols
 use Rattle.expected_tokens.specs.declared.rules.Rule.{Rule as Rule'}
 use Rattle.expected_tokens.specs.declared.rules.Rule.TheVariants as codes
 
--- what a symbol may stand for: nothing, or a token and the parts behind it
+-- what a symbol can stand for: nothing, or a token and the parts after it
 pub data Rule : Type 0 where
   nothing : Rule
   begins : TokenKind → List Part → Rule

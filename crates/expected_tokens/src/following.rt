@@ -1,4 +1,4 @@
-//! The tokens that can come next.
+//! The kinds of tokens that can come next.
 
 ghost use Rattle.std.specs.Prelude.{◌≡◌, ◌⊎◌, ◌↔◌, [], IsTrue, IfOk, List, map, true, false};
 ghost use Rattle.text.specs.declared.token.TokenKind.{TokenKind as TokenKind'};
@@ -21,7 +21,7 @@ fn is_some_left(stacks: &[Stack]) -> bool
     }
 }
 
-/// Whether some stacks go on with a token of a kind.
+/// Whether a token of this kind can come next, by some stacks.
 fn goes_on(alloc: Global, stacks: &[Stack], kind: TokenKind) -> Result<bool, AllocError>
     ensures { IfOk result (λ b. IsTrue b ↔ GoesOn (map (λ s. s.items) stacks.now) kind) }
 {
@@ -29,7 +29,7 @@ fn goes_on(alloc: Global, stacks: &[Stack], kind: TokenKind) -> Result<bool, All
     Ok(is_some_left(left.as_slice()))
 }
 
-/// Puts a kind to others, if some stacks go on with it.
+/// Appends a kind to others, if a token of it can come next, by some stacks.
 fn put_if_goes(
     alloc: Global,
     stacks: &[Stack],
@@ -47,7 +47,7 @@ fn put_if_goes(
     Ok(all)
 }
 
-/// Puts to some kinds those of others with which some stacks go on.
+/// Appends to some kinds those of others of which a token can come next, by some stacks.
 fn put_those_that_go(
     alloc: Global,
     stacks: &[Stack],
@@ -66,10 +66,10 @@ fn put_those_that_go(
     }
 }
 
-/// The kinds of tokens that can come next behind some tokens in a module's text.
+/// Returns the kinds of the tokens that can come next after some tokens in a module's text.
 ///
-/// None can where a module ends there, or where no module begins with these tokens. Linear in the number of tokens,
-/// where things nest as deep as a module may have them. `AllocError` where memory runs out.
+/// There are none if a module ends there, or if no module begins with these tokens. The time is linear in the number of
+/// tokens, if parts are nested at most as deep as a module allows. `AllocError` comes only if an allocation fails.
 pub fn expected(alloc: Global, tokens: &[Token]) -> Result<Vec<TokenKind>, AllocError>
     ensures { IfOk result (λ v. (k : TokenKind') → IsOne v.items k ↔ CanFollow (kinds_of tokens.now) k) }
 {

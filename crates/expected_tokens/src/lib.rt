@@ -1,5 +1,5 @@
-//! Which tokens can come next in a module's text: the rules of the notation, and what can stand behind a front of a
-//! text by them.
+//! Which tokens can come next in a module's text: the rules of the notation, and what they allow after the start of a
+//! text.
 #![tactic(auto)]
 
 mod following;

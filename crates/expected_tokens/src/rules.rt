@@ -1,4 +1,4 @@
-//! The rules of the notation (X.680, clauses 13 to 51), each with a token in front or none.
+//! The rules of the notation (X.680, clauses 13 to 51), each of which starts with a token or is empty.
 
 ghost use Rattle.std.specs.Prelude.{◌≡◌, map};
 ghost use Rattle.expected_tokens.specs.Rules.{rules, rule_of};
@@ -6,7 +6,7 @@ ghost use Rattle.expected_tokens.specs.Rules.{rules, rule_of};
 use text::reserved::Word;
 use text::{Mark, TokenKind};
 
-/// What may stand in a text.
+/// The symbols of the rules.
 #[derive(Clone, Copy)]
 pub enum Symbol {
     Module,
@@ -70,21 +70,21 @@ pub enum Symbol {
     MoreNumbers,
 }
 
-/// A part of what a rule says.
+/// A part of a rule.
 #[derive(Clone, Copy)]
 pub enum Part {
     /// A token of this kind.
     Is(TokenKind),
-    /// What this symbol stands for.
+    /// Anything that this symbol stands for.
     Of(Symbol),
 }
 
-/// What a symbol may stand for.
+/// What a symbol can stand for.
 #[derive(Clone, Copy)]
 pub enum Rule {
     /// Nothing.
     Nothing,
-    /// A token of this kind, and these parts behind it.
+    /// A token of this kind, and these parts after it.
     Begins(TokenKind, &'static [Part]),
 }
 

@@ -1,4 +1,4 @@
-//! What can follow a front of a text: each way to read it leaves a stack of parts that stand for the rest.
+//! What can follow the start of a text: each way to read it leaves a stack of parts that stand for the rest.
 
 ghost use Rattle.std.specs.Prelude.{◌≡◌, ◌⊎◌, ◌↔◌, ◌++◌, ◌∷◌, ◌<◌, [], IsTrue, IfOk, MatchOption, List, length, map, true, false};
 ghost use Rattle.text.specs.declared.token.TokenKind.{TokenKind as TokenKind'};
@@ -12,7 +12,7 @@ use std::alloc::{AllocError, Global};
 use text::reserved::Word;
 use text::{Mark, Token, TokenKind};
 
-/// Parts that stand for what follows, the next of them first.
+/// The parts that stand for what follows; the next one is first.
 pub type Stack = Vec<Part>;
 
 fn is_same_word(one: Word, other: Word) -> bool
@@ -52,7 +52,7 @@ pub fn is_same(one: TokenKind, other: TokenKind) -> bool
     }
 }
 
-/// Whether one of the rules says nothing.
+/// Whether one of the rules is empty.
 fn can_be_absent(rules: &[Rule]) -> bool
     ensures { IsTrue result ↔ IsOne (map rule_of rules.now) nothing }
 {
@@ -65,7 +65,7 @@ fn can_be_absent(rules: &[Rule]) -> bool
     }
 }
 
-/// A stack of these parts above those.
+/// A stack of the parts `above` on top of the parts `below`.
 fn stacked(alloc: Global, above: &[Part], below: &[Part]) -> Result<Stack, AllocError>
     ensures { IfOk result (λ s. s.items ≡ above.now ++ below.now) }
 {
@@ -75,7 +75,7 @@ fn stacked(alloc: Global, above: &[Part], below: &[Part]) -> Result<Stack, Alloc
     Ok(stack)
 }
 
-/// Puts to some stacks the one of these parts above those, if two kinds are the same.
+/// Appends to some stacks the one of the parts `above` on top of the parts `below`, if two kinds are the same.
 fn put_if(
     alloc: Global,
     first: TokenKind,
@@ -96,7 +96,7 @@ fn put_if(
     Ok(all)
 }
 
-/// Puts to some stacks the one that a rule leaves behind a token of a kind, above the parts below.
+/// Appends to some stacks the one that a rule leaves after a token of a kind, on top of the parts below.
 fn by_rule(
     alloc: Global,
     rule: Rule,
@@ -113,7 +113,7 @@ fn by_rule(
     }
 }
 
-/// Puts to some stacks those that some rules leave behind a token of a kind, above the parts below.
+/// Appends to some stacks those that some rules leave after a token of a kind, on top of the parts below.
 fn by_rules(
     alloc: Global,
     rules: &[Rule],
@@ -133,7 +133,7 @@ fn by_rules(
     }
 }
 
-/// Puts to some stacks those that a stack leaves behind a token of a kind.
+/// Appends to some stacks those that a stack leaves after a token of a kind.
 fn next(
     alloc: Global,
     stack: &[Part],
@@ -158,7 +158,7 @@ fn next(
     }
 }
 
-/// Puts to some stacks those that others leave behind a token of a kind.
+/// Appends to some stacks those that others leave after a token of a kind.
 fn after_each(
     alloc: Global,
     stacks: &[Stack],
@@ -177,7 +177,7 @@ fn after_each(
     }
 }
 
-/// The stacks that some stacks leave behind a token of a kind.
+/// Returns the stacks that some stacks leave after a token of a kind. `AllocError` comes only if an allocation fails.
 pub fn after(alloc: Global, stacks: &[Stack], kind: TokenKind) -> Result<Vec<Stack>, AllocError>
     ensures { IfOk result (λ v. (js : List Part') →
         IsOne (parts_of v) js ↔ AnyNext (map (λ s. s.items) stacks.now) kind js) }
@@ -185,7 +185,7 @@ pub fn after(alloc: Global, stacks: &[Stack], kind: TokenKind) -> Result<Vec<Sta
     after_each(alloc, stacks, kind, Vec::new(alloc))
 }
 
-/// The kind of the first token, and the tokens behind it.
+/// The kind of the first token, and the tokens after it, or None if there is no token.
 fn first_of(tokens: &[Token]) -> Option<(TokenKind, &[Token])>
     ensures { MatchOption result (kinds_of tokens.now ≡ [])
         (λ x. (kinds_of tokens.now ≡ x.0 ∷ kinds_of x.1.now) × (length x.1.now < length tokens.now)) }
@@ -196,7 +196,7 @@ fn first_of(tokens: &[Token]) -> Option<(TokenKind, &[Token])>
     }
 }
 
-/// The stacks that a module leaves behind some tokens.
+/// Returns the stacks that a module leaves after some tokens. `AllocError` comes only if an allocation fails.
 pub fn behind(alloc: Global, tokens: &[Token]) -> Result<Vec<Stack>, AllocError>
     ensures { IfOk result (λ v. (ts : List TokenKind') (js : List Part') →
         Leads whole (kinds_of tokens.now ++ ts) js ↔ LeadsAny (parts_of v) ts js) }

@@ -1,4 +1,5 @@
--- What is asked of bounded modules besides what tagging and bounding ask, and the schema of those that keep it.
+-- What an accepted program keeps besides its tags and constraints, and the schema that it has (X.680, clauses 16, 20,
+-- 25, 27 and 29).
 use Rattle.std.specs.Prelude.{◌≡◌, ℕ, Some, List, slice_get}
 use Rattle.asn_base.specs.Abstract.{AbstractValue}
 use Rattle.asn_base.specs.Schemas.{IsSchema}
@@ -21,29 +22,30 @@ pub record IsRead (p : Program) : Type 0 where
   pub sound : IsSound p
   pub spelled : AreSpelled p.types
 
--- notation n, read in module M, stands for a value of type i
+-- notation n, read in module M, stands for a value of type i of program p
 abbrev pub HasValue : Program → Name → ℕ → Tree → Type 0
 HasValue p M i n = (v : AbstractValue) × IsTyped p (Allows p) (AllowsCode p) M i n v
 
--- each value assignment's notation stands for a value of its type
+-- the notation of each value assignment of program p stands for a value of its type (X.680, clause 16)
 abbrev pub AreTypedValues : Program → Type 0
 AreTypedValues p = (i : ℕ) (v : Value) (M x : Name) →
     slice_get p.values i ≡ Some v →
     IsAssignment p v.assignment M x →
     HasValue p M v.ty v.notation
 
--- what stands behind markers stands where it may, and DEFAULTs and value assignments stand for values of their types
+-- Additions after markers are at allowed places in program p, and DEFAULTs and value assignments stand for values of
+-- their types (X.680, clauses 16, 20, 25, 27 and 29).
 pub record IsSettling (p : Program) : Type 0 where
   pub additions : KeepAdditions p.types
   pub defaults : AreTypedDefaults p
   pub values : AreTypedValues p
 
--- the program is such a one, and these are the types of its schema
+-- the additions, DEFAULTs and values of program p are as required, and s are the types of its schema
 pub record AreSettled (p : Program) (s : List Resolved) : Type 0 where
   pub asked : IsSettling p
   pub settled : IsSettled p s
 
--- the program is such a one, the schema is its, and is one that is accepted
+-- the additions, DEFAULTs and values of program p are as required, s is its schema, and that is an accepted one
 pub record Settles (p : Program) (s : List Resolved) : Type 0 where
   pub asked : IsSettling p
   pub settled : IsSettled p s

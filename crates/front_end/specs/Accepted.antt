@@ -1,4 +1,4 @@
--- Texts that are accepted: each is a module, and together the modules keep all that is asked (X.680, clauses 12 to 51).
+-- Accepted texts: each is a module, and together the modules keep all that is required (X.680, clauses 12 to 51).
 use Rattle.std.specs.Prelude.{ℕ, List, Vec}
 use Rattle.std.specs.Global.{Global}
 use Rattle.std.specs.List.{AllZip}
@@ -19,37 +19,39 @@ use Rattle.extensions.specs.Settles.{IsRead, IsSettling, Settles}
 abbrev pub octets_of : Vec ℕ Global → List ℕ
 octets_of v = v.items
 
--- the text has tokens, and is this module, with at most 128 things open at one place
+-- Text x has tokens, and they are those of module m, with at most 128 parts open at one place (own rule; X.680, clauses
+-- 12 and 13).
 pub record IsModule (x : List ℕ) (m : ModuleTree) : Type 0 where
   pub tokens : List Token
   pub lexed : IsLexed x tokens
   pub tree : (module_text (bounded 128)).Is m (lexemes x tokens)
 
--- The texts are accepted as this program.
+-- The texts xs are accepted as program p.
 pub record AreAccepted (xs : List (List ℕ)) (p : Program) : Type 0 where
   -- each text has tokens and is its module
   pub modules : List ModuleTree
   pub are : AllZip IsModule xs modules
   -- the modules' names have their meanings
   pub links : Links modules p
-  -- the types have their tags, and first tags differ where they have to
+  -- the types have their tags, and first tags are distinct where they must be
   pub tagged : IsTagged p.types
-  -- each constraint has a meaning and leaves something
+  -- each constraint has a meaning, and allows something
   pub bounded : AreBounded p
-  -- what stands behind markers stands where it may; DEFAULTs and value assignments stand for values of their types
+  -- additions after markers are at allowed places; the notations of DEFAULTs and value assignments mean values of their
+  -- types
   pub asked : IsSettling p
 
--- These are the settled types of the program, and those of an accepted schema.
+-- These are the settled types s of program p, and those of an accepted schema.
 abbrev pub HasTypes : Program → List Resolved → Type 0
 HasTypes p s = Settles p s
 
--- The texts are accepted as this program with these types.
+-- The texts xs are accepted as program p, and s are its types.
 pub record Accepted (xs : List (List ℕ)) (p : Program) (s : List Resolved) : Type 0 where
   pub accepted : AreAccepted xs p
   pub types : HasTypes p s
 
--- What the program of accepted texts keeps: it is as parsing and linking leave it, its types have their tags, its
--- constraints have their meanings, and what stands behind markers, its DEFAULTs and its values are as they have to be.
+-- What holds of the program of accepted texts. It is one that parsing and linking can give; its types have their tags,
+-- and its constraints have their meanings. Its additions, DEFAULTs and values are as required.
 pub record Keeps (p : Program) : Type 0 where
   pub read : IsRead p
   pub tagged : IsTagged p.types

@@ -1,6 +1,6 @@
--- Why texts are not accepted: which fault stands, the first one in reading order. Each text is read in turn, its octets
--- and then its tokens; behind all texts come names, tags, constraints, and last what stands behind markers, DEFAULTs
--- and value assignments.
+-- Why texts aren't accepted: which fault is true, the first one in reading order. Each text is read in turn, its octets
+-- and then its tokens. After all texts come names, tags and constraints, and last additions, DEFAULTs and value
+-- assignments.
 use Rattle.std.specs.Prelude.{◌≡◌, ◌<◌, ℕ, List, Some, slice_get}
 use Rattle.std.specs.List.{AllZip}
 use Rattle.text.specs.declared.fault.LexFault.{LexFault}
@@ -37,12 +37,12 @@ use Rattle.front_end.specs.declared.fault.FrontFault.TheVariants as faults
 
 -- ---- texts
 
--- the text has no tokens, as the fault tells
+-- the text has no tokens, for the reason that the fault gives
 pub record HasNoTokens (x : List ℕ) (f : LexFault) : Type 0 where
   pub no_memory : f ≡ lexing.Memory → ⊥
   pub stands : texts.Stands x f
 
--- the text has tokens, and they are no module, as the fault tells
+-- the text has tokens, and they aren't a module, for the reason that the fault gives
 pub record IsNoModule (x : List ℕ) (f : SyntaxFault) : Type 0 where
   pub no_memory : f ≡ parsing.Memory → ⊥
   pub tokens : List Token
@@ -58,14 +58,14 @@ pub record IsFirstRefused (xs : List (List ℕ)) (k : ℕ) (P : List ℕ → Typ
 
 -- ---- linked modules
 
--- what is told of a fault of a value, of which P holds
+-- what is reported for a fault of a value for which P holds
 pub record Tells (p : Program) (P : ValueFault → Type 0) (t : ValueTold) : Type 0 where
   pub fault : ValueFault
   pub stands : P fault
   pub told : IsTold p fault t
 
--- The fault is the first one of linked modules: of their tags; else of their constraints; else of what follows a marker,
--- of a DEFAULT, or of a value assignment. Memory says nothing.
+-- The fault is the first one of linked modules: of their tags; otherwise of their constraints; otherwise of an
+-- addition, of a DEFAULT, or of a value assignment. `Memory` says nothing.
 abbrev pub IsLinkedFault : Program → FrontFault → Type 0
 IsLinkedFault p faults.Memory = Unit {0}
 IsLinkedFault p (faults.Tag f) = (f ≡ tags.Memory → ⊥) × tagging.Stands p f × first_tags.TellsFirst p f
@@ -86,7 +86,7 @@ pub record HaveProgram (ms : List ModuleTree) (P : Program → Type 0) : Type 0 
   pub links : Links ms program
   pub such : P program
 
--- the fault stands in modules: in their names, or else in what is linked
+-- the fault is true of modules: of their names, or otherwise of the linked modules
 abbrev pub IsModulesFault : List ModuleTree → FrontFault → Type 0
 IsModulesFault ms faults.Memory = Unit {0}
 IsModulesFault ms (faults.Text k f) = ⊥
@@ -94,7 +94,7 @@ IsModulesFault ms (faults.Tree k f) = ⊥
 IsModulesFault ms (faults.Name f) = (f ≡ linking.Memory → ⊥) × IsLinkFault ms f
 IsModulesFault ms fault = HaveProgram ms (λ p. IsLinkedFault p fault)
 
--- each text is a module, and the fault stands in the modules
+-- each text is a module, and the fault is true of the modules
 pub record AreNoProgram (xs : List (List ℕ)) (fault : FrontFault) : Type 0 where
   pub modules : List ModuleTree
   pub are : AllZip IsModule xs modules
@@ -102,7 +102,8 @@ pub record AreNoProgram (xs : List (List ℕ)) (fault : FrontFault) : Type 0 whe
 
 -- ---- all together
 
--- The fault stands: in the first text that is none, or else in the modules. Memory says nothing of texts.
+-- The fault is true: of the first text that isn't a module, or otherwise of the modules. `Memory` says nothing of
+-- texts.
 abbrev pub Stands : List (List ℕ) → FrontFault → Type 0
 Stands xs faults.Memory = Unit {0}
 Stands xs (faults.Text k f) = IsFirstRefused xs k (λ x. HasNoTokens x f)

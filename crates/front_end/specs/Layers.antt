@@ -1,10 +1,10 @@
--- The order in which faults are told: layer behind layer.
+-- The order in which faults are reported, layer by layer.
 use Rattle.std.specs.Prelude.{ℕ}
 use Rattle.front_end.specs.declared.fault.FrontFault.{FrontFault}
 use Rattle.front_end.specs.declared.fault.FrontFault.TheVariants as faults
 
--- the place of a fault's layer in that order: texts, names, tags, constraints, what stands behind markers, DEFAULTs and
--- value assignments; want of memory is of none
+-- The place of a fault's layer in that order: texts, names, tags, constraints, additions after markers, DEFAULTs and
+-- value assignments. `Memory` is in no layer.
 abbrev pub layer : FrontFault → ℕ
 layer faults.Memory = 0
 layer (faults.Text k f) = 1

@@ -1,7 +1,7 @@
--- What has to be believed: which texts are accepted, as which program and with which types (`Accepted`), which fault
--- stands in texts that are not (`Faults`), and the order in which faults are told (`Layers`); what is told of a
--- notation that stands for no value of a type (`Untyped`). What stands in `proving` only contracts inside the crate
--- and proofs speak of.
+-- The definitions that a user must believe. `Accepted` says which texts are accepted, as which program and with which
+-- types. `Faults` says which fault is true of texts that aren't, and `Layers` in which order faults are reported.
+-- `Untyped` says what is reported for a notation that means no value of a type. The definitions in `proving` serve
+-- contracts inside the crate, and proofs.
 pub mod Accepted
 pub mod Faults
 pub mod Layers

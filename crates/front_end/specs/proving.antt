@@ -1,2 +1,2 @@
--- What only contracts inside the crate and proofs speak of.
+-- Definitions for contracts inside the crate and for proofs.
 pub mod Steps

@@ -1,4 +1,4 @@
-//! The program of modules and its types, layer by layer: what each layer leaves, or which fault stands.
+//! Builds the program of modules and its types, layer by layer: what each layer gives, or which fault is true.
 
 ghost use Rattle.std.specs.Prelude.{◌≡◌, IfOk, IfErr, MatchResult, map};
 ghost use Rattle.trees.specs.Modules.{module_tree_of};
@@ -21,7 +21,7 @@ use syntax::Module;
 use tagging::{TagFault, Tagged, tag};
 use told_values::told;
 
-/// The linked modules, each of whose names has one meaning.
+/// The linked modules, in which each name has one meaning.
 pub(crate) fn linked(alloc: Global, modules: Vec<Module>) -> Result<Linked, FrontFault>
     ensures linked { IfOk result (Links (map module_tree_of modules.items)) }
     ensures fault { IfErr result (IsNamesFault (map module_tree_of modules.items)) }
@@ -56,7 +56,7 @@ fn bounded<'a>(alloc: Global, tagged: &'a Tagged<'a>) -> Result<Bounded<'a>, Fro
     }
 }
 
-/// What is told of a fault of bounded modules.
+/// What is reported for a fault of bounded modules.
 fn unsettled<'a>(alloc: Global, bounded: &Bounded<'a>, fault: ExtFault<'a>) -> FrontFault
     requires tagged { IsTagged bounded.now.types }
     requires bounded { AreBounded bounded.now }
@@ -93,7 +93,7 @@ fn settled(alloc: Global, bounded: &Bounded<'_>) -> Result<Schema, FrontFault>
     }
 }
 
-/// The types of linked modules, once they are tagged, bounded and settled.
+/// The types of linked modules, after they are tagged, bounded and settled.
 pub(crate) fn schema_of(alloc: Global, linked: &Linked) -> Result<Schema, FrontFault>
     requires { IsRead linked.now }
     ensures tagged { IfOk result (λ _. IsTagged linked.now.types) }

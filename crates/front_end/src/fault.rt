@@ -1,4 +1,4 @@
-//! Why texts are not accepted.
+//! Why texts aren't accepted.
 
 ghost use Rattle.std.specs.Prelude.{◌≡◌};
 ghost use Rattle.front_end.specs.declared.fault.FrontFault.TheVariants.{Memory};
@@ -13,35 +13,35 @@ use text::LexFault;
 use thiserror::Error;
 use told_values::ValueTold;
 
-/// Why texts are not accepted. It owns what it tells: a number and a name come first in its text, then the place or the
-/// module, the name and the place in that module's text.
+/// Why texts aren't accepted. The fault owns its texts. Its text starts with a number and a name. Then comes the place,
+/// or the module, the name and the place in that module's text.
 #[derive(Debug, Drop, Error)]
 pub enum FrontFault {
-    /// There was not enough memory.
+    /// An allocation failed.
     #[error("1 Memory: out of memory")]
     Memory,
     /// The text with this number, counted from 0, has no tokens (X.680, clause 12).
     #[error("{1}")]
     Text(usize, LexFault),
-    /// The tokens of the text with this number, counted from 0, are no module (X.680, clause 13).
+    /// The tokens of the text with this number, counted from 0, aren't a module (X.680, clause 13).
     #[error("{1}")]
     Tree(usize, SyntaxFault),
-    /// The modules' names have no meaning (X.680, clauses 13 and 14).
+    /// A name of the modules has no meaning (X.680, clauses 13 and 14).
     #[error("{0}")]
     Name(NameFault),
-    /// The types don't have their tags (X.680, clauses 25, 27, 29 and 31).
+    /// A type doesn't have its tags (X.680, clauses 25, 27, 29 and 31).
     #[error("{0}")]
     Tag(TagFault),
-    /// A constraint has no meaning, or leaves nothing (X.680, clauses 49 to 51).
+    /// A constraint has no meaning, or allows nothing (X.680, clauses 49 to 51).
     #[error("{0}")]
     Bound(BoundFault),
-    /// What stands behind an extension marker doesn't stand where it may (X.680, clauses 20, 25 and 29).
+    /// An addition, or a member after one, breaks a rule of extension markers (X.680, clauses 20, 25 and 29).
     #[error("{0}")]
     Additions(ExtFault),
-    /// A DEFAULT stands for no value of its component's type (X.680, clause 25.1).
+    /// The notation of a DEFAULT means no value of its component's type (X.680, clause 25.1).
     #[error("{0}")]
     Default(ValueTold),
-    /// A value assignment's notation stands for no value of its type (X.680, clause 16.2).
+    /// The notation of a value assignment means no value of its type (X.680, clause 16.2).
     #[error("{0}")]
     Assigned(ValueTold),
 }

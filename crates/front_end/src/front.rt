@@ -1,4 +1,4 @@
-//! One door for all layers.
+//! Opens texts through all layers.
 
 ghost use Rattle.std.specs.Prelude.{◌≡◌, IfOk, IfErr, MatchResult, map};
 ghost use Rattle.resolve.specs.Program.{Program};
@@ -14,28 +14,28 @@ use asn_base::schema::Schema;
 use resolve::Linked;
 use std::alloc::Global;
 
-/// Texts that are accepted: the program that they are, and its types, each by the same number in both.
+/// Accepted texts: the program that they are, and its types. A type has the same number in both.
 #[derive(Drop)]
 pub struct Front {
-    /// The modules, whose names have their meanings.
+    /// The modules, in which each name has a meaning.
     pub linked: Linked,
     /// The types of the program.
     pub schema: Schema,
 }
 
-/// The program and the types of texts, each of which is one module.
+/// Returns the program and the types of texts, each of which is one module.
 ///
-/// The first fault is answered, in this order: of the octets and then of the tokens of each text in turn; of the names
-/// of all modules; of tags; of constraints; of what stands behind markers, of DEFAULTs and of value assignments.
-/// `Memory` where there was not enough of it.
+/// The result is the first fault, in this order: of the octets and then of the tokens of each text in turn; of the
+/// names of all modules; of tags; of constraints; of additions after markers, of DEFAULTs and of value assignments.
+/// `Memory`: an allocation failed.
 pub fn open(alloc: Global, texts: &[Vec<u8>]) -> Result<Front, FrontFault>
     // The texts are accepted, as this program with these types.
     ensures accepted { IfOk result (λ f. Accepted (map octets_of texts.now) f.linked f.schema) }
-    // Texts that are accepted are answered as the program that they are, unless memory runs out.
+    // Accepted texts give the program that they are, unless an allocation fails.
     ensures only { (p : Program) →
         AreAccepted (map octets_of texts.now) p →
         MatchResult result (λ f. f.linked ≡ p) (λ e. e ≡ Memory) }
-    // A fault stands, the first one in reading order.
+    // A fault is true, and is the first one in reading order.
     ensures fault { IfErr result (Stands (map octets_of texts.now)) }
 {
     faults_exclude();

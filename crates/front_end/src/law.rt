@@ -1,4 +1,4 @@
-//! What follows for texts. A caller calls a law to know it; it takes no memory and no time.
+//! What follows for texts. A caller calls a law to know it; a law takes no memory and no time.
 
 ghost use Rattle.std.specs.Prelude.{◌≡◌, ℕ, List};
 ghost use Rattle.std.specs.List.{AllZip};
@@ -19,8 +19,8 @@ ghost use Rattle.front_end.specs.Untyped.{StandsFor};
 ghost use Rattle.front_end.specs.declared.fault.FrontFault.{FrontFault as FrontFault'};
 ghost use Rattle.front_end.specs.declared.fault.FrontFault.TheVariants.{Memory, Text as of_octets, Tree as of_tokens};
 
-/// Texts in which a fault stands, other than want of memory, are not accepted: so [`crate::open`] succeeds, memory
-/// apart, just where they are.
+/// If a fault of texts other than `Memory` is true, they aren't accepted. So [`crate::open`] succeeds if and only if
+/// they are accepted, unless an allocation fails.
 pub fn faults_exclude()
     ensures { (xs : List (List ℕ)) (p : Program) (e : FrontFault') →
         (e ≡ Memory → ⊥) →
@@ -39,8 +39,8 @@ pub fn faults_exclude()
     extensions::law::no_other();
 }
 
-/// Faults are told layer by layer, and those of texts text by text: of two that stand in the same texts, other than
-/// want of memory, each is of the same layer; and one at most is of a text, of its octets or else of its tokens.
+/// Faults are reported layer by layer, and those of texts text by text. Two faults that are true of the same texts are
+/// in the same layer, unless one is `Memory`. At most one is that of a text, of its octets or otherwise of its tokens.
 pub fn one_layer()
     ensures layer { (xs : List (List ℕ)) (e f : FrontFault') →
         (e ≡ Memory → ⊥) →
@@ -75,7 +75,7 @@ pub fn one_layer()
     extensions::law::one_kind();
 }
 
-/// Texts are one list of modules at most.
+/// Texts are at most one list of modules.
 pub fn one_list()
     ensures { (xs : List (List ℕ)) (ms ns : List ModuleTree) → AllZip IsModule xs ms → AllZip IsModule xs ns → ms ≡ ns }
 {
@@ -83,7 +83,7 @@ pub fn one_list()
     syntax::one_module();
 }
 
-/// Texts are accepted as one program at most.
+/// Texts are accepted as at most one program.
 pub fn one_program()
     ensures { (xs : List (List ℕ)) (p q : Program) → AreAccepted xs p → AreAccepted xs q → p ≡ q }
 {
@@ -91,7 +91,7 @@ pub fn one_program()
     resolve::law::one_program();
 }
 
-/// Modules that texts are, once they are linked, are what settling takes.
+/// Linked modules that texts are can be settled: they are what settling requires.
 pub fn modules_are_read()
     ensures { (xs : List (List ℕ)) (ms : List ModuleTree) (p : Program) → AllZip IsModule xs ms → Links ms p
         → IsRead p }
@@ -100,14 +100,14 @@ pub fn modules_are_read()
     extensions::law::linked_are_read();
 }
 
-/// The program of accepted texts keeps what [`crate::Modules`] asks.
+/// The program of accepted texts is as [`crate::Modules`] requires.
 pub fn accepted_keep()
     ensures { (xs : List (List ℕ)) (p : Program) → AreAccepted xs p → Keeps p }
 {
     modules_are_read();
 }
 
-/// What a notation in accepted texts stands for is a value of the type in the texts' schema.
+/// What a notation in accepted texts means is a value of the type in the texts' schema.
 pub fn values_of_schema()
     ensures { (p : Program) (s : List Resolved) (M : Name) (i : ℕ) (n : Tree) (v : AbstractValue) →
         Keeps p →
@@ -118,7 +118,7 @@ pub fn values_of_schema()
     schema_of::law::same_values();
 }
 
-/// A notation in accepted texts stands for one value of a type at most.
+/// A notation in accepted texts means at most one value of a type.
 pub fn one_value()
     ensures { (p : Program) (M : Name) (i : ℕ) (n : Tree) (v w : AbstractValue) →
         Keeps p →

@@ -1,4 +1,4 @@
-//! The front end behind one door: from the texts of modules to their program and their types, or the first fault.
+//! The front end as one library: from the texts of modules to their program and their types, or the first fault.
 #![tactic(auto)]
 
 mod building;

@@ -1,4 +1,4 @@
-//! The modules of accepted texts, and the values of notations in them.
+//! The modules of accepted texts, and the values that notations in them mean.
 
 ghost use Rattle.std.specs.Prelude.{◌≡◌, ◌<◌, IfOk, IfErr, length};
 ghost use Rattle.asn_base.specs.Abstract.{abstract};
@@ -23,14 +23,13 @@ use typed_values::{Cause, ValueFault, typed};
 /// Why a notation has no value.
 #[derive(Debug, Drop)]
 pub enum Untyped {
-    /// There was not enough memory.
+    /// An allocation failed.
     Memory,
-    /// It stands for no value of the type; what is told of it.
+    /// The notation means no value of the type; what is reported for it.
     Told(ValueTold),
 }
 
-/// The modules of accepted texts, whose names have their meanings, and whose types, DEFAULTs and values are as they
-/// have to be.
+/// The modules of accepted texts, in which each name has a meaning. Their types, DEFAULTs and values are as required.
 #[derive(Drop)]
 pub struct Modules {
     linked: Linked,
@@ -52,7 +51,7 @@ impl Model for Modules {
     ghost invariant = { λ m. Keeps m.linked };
 }
 
-/// The types of modules with their tags, which they are known to have.
+/// The types of modules with their tags; the modules are known to have them.
 fn with_tags(alloc: Global, linked: &Linked) -> Result<Tagged<'_>, AllocError>
     requires { IsTagged linked.now.types }
     ensures { IfOk result (λ t. t ≡ linked.now) }
@@ -65,7 +64,7 @@ fn with_tags(alloc: Global, linked: &Linked) -> Result<Tagged<'_>, AllocError>
     }
 }
 
-/// The constraints of modules with their meanings, which they are known to have.
+/// The constraints of modules with their meanings; the modules are known to have them.
 fn with_bounds<'a>(alloc: Global, tagged: &'a Tagged<'a>) -> Result<Bounded<'a>, AllocError>
     requires { AreBounded tagged.now }
     ensures { IfOk result (λ b. b ≡ tagged.now) }
@@ -78,7 +77,7 @@ fn with_bounds<'a>(alloc: Global, tagged: &'a Tagged<'a>) -> Result<Bounded<'a>,
     }
 }
 
-/// What is told of a notation that stands for no value of a type.
+/// What is reported for a notation that means no value of a type.
 fn told_of<'a>(
     alloc: Global,
     bounded: &Bounded<'a>,
@@ -103,7 +102,7 @@ fn told_of<'a>(
     }
 }
 
-/// The value that a notation in bounded modules stands for under a type.
+/// The value that a notation in bounded modules means under a type.
 fn value_in<'a>(
     alloc: Global,
     bounded: &Bounded<'a>,
@@ -141,16 +140,16 @@ impl Modules {
         &self.linked
     }
 
-    /// What the modules of accepted texts keep.
+    /// What holds of the modules of accepted texts.
     pub fn kept(&self)
         ensures { Keeps self.now }
     {
         let _linked = &self.linked;
     }
 
-    /// The value that a notation, read in the module `within`, stands for under a type (X.680, clause 17). Where it
-    /// stands for none, what is told of it: the reason, the module, the name and the place, and what was expected
-    /// there. `Memory` where there was not enough of it.
+    /// Returns the value that a notation, read in the module `within`, means under a type (X.680, clause 17). If it
+    /// means none, the fault has the reason, the module, the name, the place, and what was expected there. `Memory`: an
+    /// allocation failed.
     pub fn typed(
         &self,
         alloc: Global,

@@ -1,4 +1,4 @@
-//! The modules that texts are.
+//! Reads texts as modules.
 
 ghost use Rattle.std.specs.Prelude.{IfOk, IfErr, map};
 ghost use Rattle.std.specs.List.{AllZip};
@@ -42,7 +42,7 @@ fn module_of(alloc: Global, text: &[u8], number: usize) -> Result<Module, FrontF
     }
 }
 
-/// The modules that texts are, or the fault of the first text that is none.
+/// The modules that texts are, or the fault of the first text that isn't a module.
 pub(crate) fn modules_of(alloc: Global, texts: &[Vec<u8>]) -> Result<Vec<Module>, FrontFault>
     ensures modules { IfOk result (λ ms. AllZip IsModule (map octets_of texts.now) (map module_tree_of ms.items)) }
     ensures fault { IfErr result (Stands (map octets_of texts.now)) }

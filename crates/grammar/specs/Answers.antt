@@ -1,4 +1,4 @@
--- What a reader answers from a place on.
+-- The results of a reader that starts at a place.
 use Rattle.std.proofs.Common.{zero, suc, ◌≡◌, ℕ, ◌+◌, ◌-◌, ◌<◌, ◌≤◌, ◌||◌, ◌⊎◌, inl, inr, Bool, true, false, List, [], ◌∷◌, ◌++◌, length, take, drop, Ok, Err, refl, sym, ap, subst, ◌∙◌ as ◌⋆◌, append_assoc, arith, length-append, length-drop}
 use Rattle.std.proofs.lemmas.List.{take_at, take-append-drop, append-nil}
 use Rattle.grammar.specs.Lexeme.{Lexeme}
@@ -8,11 +8,11 @@ use Rattle.grammar.specs.Reading.{Limit, Nesting, Integer, TagNumber, Fault, Une
 use Rattle.grammar.specs.Laws.{nowhere, past, more, more_than, left_of, Sound, Passes, ReadsAs}
 use Rattle.grammar.specs.Places.{Limits, Within, raised, Limited, free, between, IsRead, Stops, Ends, PassesLimit}
 
--- the next lexeme, if there is one, can't go on with u
+-- the next lexeme, if there is one, can't continue u
 abbrev pub Closed : {A : Type 0} → Grammar A → List Lexeme → List Lexeme → Type 0
 Closed all u us = (t : Lexeme) (r : List Lexeme) → us ≡ t ∷ r → all.CanGoOn (u ++ t ∷ []) → ⊥
 
--- the numbers of the limits b, and those of a too
+-- the limits b, but with the numbers and tags that a allows as well
 abbrev pub joined : Limits → Limits → Limits
 joined a b = record { nesting = b.nesting; number = λ n. a.number n || b.number n; tag = λ n. a.tag n || b.tag n }
 
@@ -34,13 +34,13 @@ joined_first f g n = either_left (f n) (g n)
 pub joined_second : (f g : ℕ → Bool) (n : ℕ) → g n ≡ true → (f n || g n) ≡ true
 joined_second f g n = either_right (f n) (g n)
 
--- what is within a, is so together with a
+-- if b allows no more than a by this limit, the joined limits allow no more either
 joined_within : (l : Limit) (a b : Limits) → Within l b a → Within l (joined a b) a
 joined_within Nesting a b w = w
 joined_within Integer a b w = λ n e. one_of (a.number n) (b.number n) e (w n)
 joined_within TagNumber a b w = λ n e. one_of (a.tag n) (b.tag n) e (w n)
 
--- What a reader within the limits a keeps.
+-- What a reader within the limits a guarantees.
 pub record Reads {A : Type 0} (g : Limited A) (a : Limits) (read : Reader A) : Type 0 where
   pub grows : (b : Limits) → Grows (g b) (g (joined a b))
   pub front : (b : Limits) (u us : List Lexeme)
@@ -62,7 +62,7 @@ within_all Nesting a = omega arith
 within_all Integer a = λ n h. h
 within_all TagNumber a = λ n h. h
 
--- raising one limit leaves the others as they were
+-- raising one limit leaves the other limits unchanged
 kept : (l m : Limit) (a b : Limits) → (l ≡ m) ⊎ Within m (raised l a b) a
 kept Nesting Nesting a b = inl refl
 kept Nesting Integer a b = inr (λ n h. h)
@@ -83,21 +83,21 @@ its_own Nesting n = refl
 its_own Integer n = refl
 its_own TagNumber n = refl
 
--- two places with neither before the other
+-- two places are the same if neither is before the other
 pub same_place : (i j : ℕ) → (i < j → ⊥) → (j < i → ⊥) → i ≡ j
 same_place zero zero h k = refl
 same_place zero (suc j) h k = absurd (h (omega arith))
 same_place (suc i) zero h k = absurd (k (omega arith))
 same_place (suc i) (suc j) h k = ap suc (same_place i j (λ lt. h (omega (arith, lt))) (λ lt. k (omega (arith, lt))))
 
--- the longest front is one
+-- only one place ends the longest prefix
 pub one_stop : {A : Type 0} (g : Limited A) (a : Limits) (ts : List Lexeme) (start i j : ℕ)
     → Stops g a ts start i
     → Stops g a ts start j
     → i ≡ j
 one_stop g a ts start i j s s' = same_place i j (λ lt. s.longest j lt s'.to s'.before) (λ lt. s'.longest i lt s.to s.before)
 
--- where nothing goes on under any limits, none is passed
+-- if nothing can continue under any limits, no limit is passed
 pub not_both : {A : Type 0} (g : Limited A) (a : Limits) (ts : List Lexeme) (start i j : ℕ) (l : Limit)
     → Ends g a ts start i
     → PassesLimit g a ts start j l
@@ -117,13 +117,13 @@ module _ {A : Type 0} (g : Limited A) (a : Limits) (read : Reader A) (reads : Re
       weaker (Err (Beyond l n)) (inl k) = inl k
       weaker (Err (Beyond l n)) (inr k) = inr (λ w. k (joined_within l a b w))
 
-  -- how far a fault has come
+  -- the number of lexemes from a fault on
   far : (f : Fault) (us : List Lexeme) → Passes {A = A} (λ l. Within l a a) us (Err f) → left_of f ≤ length us
   far (Unexpected k) us h = h
   far (Beyond l k) us (inl h) = h
   far (Beyond l k) us (inr w) = absurd (w (within_all l a))
 
-  -- Where the lexemes end, a refusal says that they are no whole.
+  -- At the end of the lexemes, an `Unexpected` fault means that they aren't a whole.
   no_whole : (k : ℕ) (u : List Lexeme) (x : A) → read (u ++ []) ≡ Err (Unexpected k) → (free g).Is x u → ⊥
   no_whole k u x q (b, w) = elim (reads.whole b x u ((reads.grows b).is x u w)) [
     | inl e ↦ let d = sym e ⋆ q in absurd cc
@@ -131,7 +131,7 @@ module _ {A : Type 0} (g : Limited A) (a : Limits) (read : Reader A) (reads : Re
   ]
 
   module _ (ts : List Lexeme) (start : ℕ) (place : start ≤ length ts) where
-    -- u is what stands between two places
+    -- u has the lexemes between two places
     front_at : (u rest : List Lexeme)
         → drop start ts ≡ u ++ rest
         →
@@ -150,14 +150,14 @@ module _ {A : Type 0} (g : Limited A) (a : Limits) (read : Reader A) (reads : Re
     rest_fits : (u rest : List Lexeme) → drop start ts ≡ u ++ rest → length rest ≤ length ts
     rest_fits u rest e = omega (arith, ap length e, length-append u rest, length-drop start ts)
 
-    -- the lexemes behind a place
+    -- the lexemes after a place
     abbrev behind : ℕ → List Lexeme
     behind j = drop (j - start) (drop start ts)
 
     behind_long : (j : ℕ) → start ≤ j → j ≤ length ts → length (behind j) ≡ length ts - j
     behind_long j from to = omega (arith, length-drop (j - start) (drop start ts), length-drop start ts)
 
-    -- the reading comes as far as a front goes on
+    -- the reader comes as far as a prefix can continue
     come : (b : Limits) (j : ℕ)
         → (g b).CanGoOn (between ts start j)
         → Passes (λ l. Within l b a) (behind j) (read (drop start ts))
@@ -263,7 +263,7 @@ module _ {A : Type 0} (g : Limited A) (a : Limits) (read : Reader A) (reads : Re
         let s : Sound nowhere (g a) (drop start ts) (Ok x) = subst (Sound nowhere (g a) (drop start ts)) e (reads.sound (drop start ts)) in
         rest_fits s.0 x.1 s.1
 
-    -- behind what is read nothing goes on
+    -- after what is read, nothing can continue
     pub ended_at : (x : A × List Lexeme)
         → read (drop start ts) ≡ Ok x
         → 1 ≤ length x.1
@@ -283,7 +283,7 @@ module _ {A : Type 0} (g : Limited A) (a : Limits) (read : Reader A) (reads : Re
           none = λ k. absurd (omega (arith, k, some, fits));
         }
 
-    -- what is there is read
+    -- a whole that nothing continues is read
     closed_at : (u us : List Lexeme) (end : ℕ)
         → drop start ts ≡ u ++ us
         → end ≡ length ts - length us
@@ -310,9 +310,9 @@ module _ {A : Type 0} (g : Limited A) (a : Limits) (read : Reader A) (reads : Re
           | inr (p, k, q) ↦ absurd (k (within_all p.0 a))
         ]
 
-    -- ---- a limit that is passed is told
+    -- ---- a limit that is passed is reported
 
-    -- what can go on within the limits is no longer than the longest such front
+    -- a prefix that can continue within the limits is no longer than the longest one
     no_longer : (i j : ℕ)
         → Stops g a ts start i
         → (u rest : List Lexeme)
@@ -364,14 +364,14 @@ module _ {A : Type 0} (g : Limited A) (a : Limits) (read : Reader A) (reads : Re
     same_limit : (l m : Limit) (k n : ℕ) (r : Read A) → r ≡ Err (Beyond l k) → r ≡ Err (Beyond m n) → l ≡ m
     same_limit l m k n r p q = let e = sym p ⋆ q in cc
 
-    -- one limit at most is passed
+    -- at most one limit is passed
     pub one_limit : (l m : Limit) (i j : ℕ) → PassesLimit g a ts start i l → PassesLimit g a ts start j m → l ≡ m
     one_limit l m i j p q =
         let s = told l i p in
         let t = told m j q in
         same_limit l m s.0 t.0 (read (drop start ts)) s.1 t.1
 
--- the whole of the lexemes
+-- the lexemes as a whole
 module _ {A : Type 0} (g : Limited A) (a : Limits) (read : Reader A) (reads : Reads g a read) where
   pub whole_is : (ts : List Lexeme) (x : A) → read ts ≡ Ok (x, []) → (g a).Is x ts
   whole_is ts x e =

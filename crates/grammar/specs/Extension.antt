@@ -1,4 +1,4 @@
--- Lists with an extension marker: what their readers read is so spelled.
+-- Lists with an extension marker: what their readers read is in the grammar.
 use Rattle.std.proofs.Common.{◌≡◌, ℕ, zero, suc, inl, inr, List, [], ◌∷◌, ◌++◌, length, Option, Some, Ok, Err, refl, sym, ap, subst, ◌∙◌ as ◌⋆◌, append_assoc}
 use Rattle.text.specs.declared.token.Mark.TheVariants.{Comma, Ellipsis}
 use Rattle.grammar.specs.Lexeme.{Lexeme, Mark}
@@ -7,18 +7,18 @@ use Rattle.grammar.specs.Reading.{Limit, Read, Reader, ◌>>=◌, behind_commas_
 use Rattle.grammar.specs.Laws.{Sound, commas_sound, is_behind, front_behind}
 use Rattle.grammar.specs.Rules.{Same}
 
--- parts behind commas
+-- parts, each after a comma
 abbrev pub commas : {A : Type 0} → Grammar A → Grammar (List A)
 commas a = many (behind (Mark Comma) a)
 
--- what stands behind the first part
+-- what comes after the first part
 abbrev pub tail : {A B : Type 0} → Grammar A → Grammar B → Grammar (Extensible A B)
 tail a b = commas a ∙ optional (behind (Mark Comma) (marked b))
 
 abbrev pub first_and : {A B : Type 0} → A × Extensible A B → Extensible A B
 first_and p = (p.0 ∷ p.1.0, p.1.1)
 
--- the first part and what stands behind it are such a list
+-- a first part, and what comes after it, make a list with an extension marker
 pub extensible_same : {A B : Type 0} (a : Grammar A) (b : Grammar B)
     → Same ((a ∙ tail a b) ⇒ first_and) (extensible a b)
 extensible_same {A} {B} a b = record { to = record { is = to_is; on = to_on }; back = record { is = back_is; on = back_on } }
@@ -53,7 +53,7 @@ module _ (over : Limit → ℕ) {A B : Type 0} (a : Grammar A) (b : Grammar B) (
   abbrev spelled : Read (List B) → Read (Extensible A B)
   spelled r = r >>= λ ys. Ok (([], Some ys.0), ys.1)
 
-  -- behind a comma and the marker
+  -- after a comma and the marker
   marked_sound : (rest : List Lexeme) (r : Read (List B))
       → Sound over (commas b) rest r
       → Sound over (tail a b) (Mark Comma ∷ Mark Ellipsis ∷ rest) (spelled r)

@@ -1,4 +1,4 @@
--- Lists with an extension marker: no front of the grammar is refused before its end, and what is so spelled is read.
+-- Lists with an extension marker: readers refuse no prefix of the grammar before its end, and read each whole.
 use Rattle.std.proofs.Common.{◌≡◌, ℕ, zero, suc, ◌≤◌, ◌⊎◌, inl, inr, Bool, true, false, List, [], ◌∷◌, ◌++◌, length, Option, Some, None, Ok, Err, refl, sym, ap, subst, ◌∙◌ as ◌⋆◌, append_assoc, arith, length-append}
 use Rattle.std.proofs.lemmas.List.{append-nil}
 use Rattle.text.specs.declared.token.Mark.TheVariants.{Comma, Ellipsis}
@@ -43,7 +43,7 @@ module _ {A B : Type 0} (within : Limit → Type 0) (a : Grammar A) (b : Grammar
   more_shrink (suc k) (Mark Comma ∷ us) = passes_on within (Mark Comma ∷ us) us _ (one_less (Mark Comma) us) (or_shrink us (more_at ra rb k) (more_shrink k))
   more_shrink (suc k) (t ∷ us) = le_same (t ∷ us)
 
-  -- behind one more comma, for which there is fuel
+  -- after one more comma, for which there is fuel
   at_comma : (k : ℕ) (rest us ts : List Lexeme)
       → length ts ≤ k
       → ts ≡ Mark Comma ∷ rest
@@ -58,21 +58,21 @@ module _ {A B : Type 0} (within : Limit → Type 0) (a : Grammar A) (b : Grammar
   no_marker (Mark Ellipsis) r e = let d = sym no_mark ⋆ e in absurd cc
   no_marker t r e = refl
 
-  -- where a part begins, the part is read
+  -- if a part begins here, the part is read
   at_part : (P : Read (Extensible A B) → Type 0) (t : Lexeme) (r : List Lexeme) (more : Reader (Extensible A B))
       → starts t ≡ true
       → P (ra (t ∷ r) >>= λ x. put x.0 (more x.1))
       → P (or_marker ra rb more (next_marker (t ∷ r)) (t ∷ r))
   at_part P t r more e h = subst (λ (o : Option (List Lexeme)). P (or_marker ra rb more o (t ∷ r))) (sym (no_marker t r e)) h
 
-  -- a front of a part
+  -- a prefix of a part
   part_front : (j : ℕ) (w us : List Lexeme)
       → a.CanGoOn w
       → Passes within us (or_marker ra rb (more_at ra rb j) (next_marker (w ++ us)) (w ++ us))
   part_front j [] us h = or_shrink us (more_at ra rb j) (more_shrink j)
   part_front j (t ∷ w) us h = at_part (Passes within us) t (w ++ us) (more_at ra rb j) (fa.first t w h) (plain_passes us (ra (t ∷ (w ++ us))) (more_at ra rb j) (more_shrink j) (fa.front (t ∷ w) us h))
 
-  -- a front of the marker and what is behind it
+  -- a prefix of the marker and what comes after it
   marked_front : (j : ℕ) (w us : List Lexeme)
       → (marked b).CanGoOn w
       → Passes within us (or_marker ra rb (more_at ra rb j) (next_marker (w ++ us)) (w ++ us))
@@ -83,7 +83,7 @@ module _ {A B : Type 0} (within : Limit → Type 0) (a : Grammar A) (b : Grammar
         (passes_made within us (behind_commas_at rb (length ((v1 ++ v2) ++ us)) ((v1 ++ v2) ++ us)) (λ ys. ([], Some ys)) (commas_front within b starts-b ends-b rb fb apart-b (length ((v1 ++ v2) ++ us)) xs v1 v2 us (le_same ((v1 ++ v2) ++ us)) hm hv))
   ]
 
-  -- behind the parts that are whole stands nothing yet, or a comma and a front of a part or of the marker
+  -- after the whole parts there is nothing, or a comma and a prefix of a part or of the marker
   abbrev Last : List Lexeme → Type 0
   Last w = (w ≡ []) ⊎ ((v : List Lexeme) × (w ≡ Mark Comma ∷ v) × (a.CanGoOn v ⊎ (marked b).CanGoOn v))
 
@@ -102,7 +102,7 @@ module _ {A B : Type 0} (within : Limit → Type 0) (a : Grammar A) (b : Grammar
   stands_more x us vs r more (inl e) h = subst (λ (q : Read A). Passes within us (q >>= λ x. put x.0 (more x.1))) (sym e) (passes_made within us (more vs) (λ e. (x ∷ e.0, e.1)) h)
   stands_more x us vs r more (inr w) h = subst (λ (q : Read A). Passes within us (q >>= λ x. put x.0 (more x.1))) (sym w.2) (inr w.1)
 
-  -- what stands behind a part begins with a comma, or is nothing
+  -- what comes after a part begins with a comma, or is empty
   begins : (xs : List A) (q w : List Lexeme)
       → IsMany (behind (Mark Comma) a) xs q
       → Last w
@@ -156,14 +156,14 @@ module _ {A B : Type 0} (within : Limit → Type 0) (a : Grammar A) (b : Grammar
     | inr (v, e, k) ↦ inr (v, e, inr k)
   ]
 
-  -- no front is refused before its end
+  -- no prefix is refused before its end
   tail_front : (u us : List Lexeme)
       → (tail a b).CanGoOn u
       → Passes within us (more_at ra rb (length (u ++ us)) (u ++ us))
   tail_front u us (inl (xs, v, w, e, hv, hw)) = subst (λ (l : List Lexeme). Passes within us (more_at ra rb (length (l ++ us)) (l ++ us))) (sym e) (all_front (length ((v ++ w) ++ us)) xs v w us (le_same ((v ++ w) ++ us)) hv (last_of w hw))
   tail_front u us (inr (xs, v, w, e, hv, hw)) = subst (λ (l : List Lexeme). Passes within us (more_at ra rb (length (l ++ us)) (l ++ us))) (sym e) (all_front (length ((v ++ w) ++ us)) xs v w us (le_same ((v ++ w) ++ us)) hv (last_marked w hw))
 
-  -- ---- what is so spelled is read
+  -- ---- each whole is read
 
   abbrev end_of : Lexeme → Bool
   end_of = with_comma (either ends ends-b)
@@ -190,7 +190,7 @@ module _ {A B : Type 0} (within : Limit → Type 0) (a : Grammar A) (b : Grammar
   more_none (suc k) (Mark Comma ∷ us) f = absurd cc
   more_none (suc k) (t ∷ us) f = refl
 
-  -- behind one more comma, for which there is fuel
+  -- after one more comma, for which there is fuel
   whole_at_comma : (k : ℕ) (y : Extensible A B) (rest us ts : List Lexeme)
       → length ts ≤ k
       → ts ≡ Mark Comma ∷ rest
@@ -208,7 +208,7 @@ module _ {A B : Type 0} (within : Limit → Type 0) (a : Grammar A) (b : Grammar
   stands_both x y us vs r more (inl e) (inr h) = inr (h.0, h.1, ap (λ (q : Read A). q >>= λ x. put x.0 (more x.1)) e ⋆ ap (put x) h.2)
   stands_both x y us vs r more (inr w) h = inr (w.0, w.1, ap (λ (q : Read A). q >>= λ x. put x.0 (more x.1)) w.2)
 
-  -- the marker and the additions
+  -- the marker and the additions are read
   marked_whole : (j : ℕ) (ys : List B) (w us : List Lexeme)
       → (marked b).Is ys w
       → Follows end_of us
@@ -229,7 +229,7 @@ module _ {A B : Type 0} (within : Limit → Type 0) (a : Grammar A) (b : Grammar
       let m = behind_is (Mark Comma) (marked b) ys w h in
       whole_at_comma k ([], Some ys) (m.0 ++ us) us (w ++ us) le (ap (λ (l : List Lexeme). l ++ us) m.1) (λ j lj. marked_whole j ys m.0 us m.2 f)
 
-  -- a part does not end before what stands behind it
+  -- a part doesn't end before what comes after it
   last_follows : (o : Option (List B)) (w us : List Lexeme)
       → (optional (behind (Mark Comma) (marked b))).Is o w
       → Follows end_of us

@@ -1,4 +1,4 @@
--- What lists with an extension marker, version brackets, and their readers owe each other.
+-- What readers of lists with an extension marker, and of version brackets, guarantee.
 use Rattle.std.proofs.Common.{◌≡◌, ℕ, ◌⊎◌, inl, inr, Bool, true, false, List, [], ◌∷◌, length, Option, Some, Ok, Err, refl, sym, ap, subst, ◌∙◌ as ◌⋆◌}
 use Rattle.text.specs.declared.token.Mark.TheVariants.{Colon, Comma, Ellipsis, OpenVersion, CloseVersion}
 use Rattle.grammar.specs.Lexeme.{Lexeme, Number, Mark}
@@ -156,7 +156,7 @@ close_apart ends e t h = subst (λ (t : Lexeme). ends t ≡ false) (sym (close_v
 abbrev Version : Type 0
 Version = Option (ℕ × Unit {0})
 
--- the number has no meaning
+-- the number's value is dropped
 abbrev forgot : Version → Unit {0}
 forgot v = tt
 
@@ -179,7 +179,7 @@ version_same fits [] = refl
 version_same fits (Number n ∷ ts) = number_again (fits n) n (Number n ∷ ts) ts
 version_same fits (t ∷ ts) = refl
 
--- one production or the other, in the other order
+-- a choice of two productions is the same in the other order
 turned : {A : Type 0} (a b : Grammar A) → Same (a ∣ b) (b ∣ a)
 turned {A} a b = record { to = record { is = is a b; on = on a b }; back = record { is = is b a; on = on b a } }
   where
@@ -239,7 +239,7 @@ module _ {A : Type 0} (fits : ℕ → Bool) (read : Reader A) where
       ⋆ ap (λ (r : Read (Unit {0})). r >>= λ v. listed_at read v.1 >>= λ xs. close_version_at xs.1 >>= λ c. Ok (inr xs.0, c.1)) (version_same fits ts)
   addition_same (t ∷ ts) = refl
 
--- what parts in version brackets must not begin or go on with
+-- lexemes with which parts in version brackets must not begin or continue
 pub record FitsBrackets (starts ends : Lexeme → Bool) : Type 0 where
   pub comma : ends (Mark Comma) ≡ false
   pub close : ends (Mark CloseVersion) ≡ false
@@ -262,7 +262,7 @@ numbers_apart : (starts : Lexeme → Bool)
 numbers_apart starts e (Number n) h = absurd (let d = sym (e n) ⋆ h in cc)
 numbers_apart starts e t h = refl
 
--- fits is the reader's test on numbers, fits' the grammar's
+-- `fits` is the reader's test of numbers, and `fits'` is the grammar's
 module _ (s f : Type 0) (over : Limit → ℕ) (within : Limit → Type 0) (fits fits' : ℕ → Bool)
     (grows : (n : ℕ) → fits n ≡ true → fits' n ≡ true) (past : Past (over Integer) ((n : ℕ) → fits' n ≡ true))
     (room : (n : ℕ) → fits' n ≡ true → within Integer → fits n ≡ true) {A : Type 0} (a : Grammar A)

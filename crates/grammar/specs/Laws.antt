@@ -1,4 +1,4 @@
--- What a reader owes to a grammar, and that one production after another keeps it.
+-- What a reader guarantees for a grammar, and that a sequence of productions keeps it.
 use Rattle.std.proofs.Common.{◌≡◌, ℕ, zero, suc, ◌≤◌, ◌⊎◌, inl, inr, Bool, true, false, List, [], ◌∷◌, ◌++◌, length, Ok, Err, refl, sym, ap, subst, ◌∙◌ as ◌⋆◌, append_assoc, arith, length-append}
 use Rattle.std.proofs.lemmas.List.{append-nil}
 use Rattle.text.specs.declared.token.Mark.TheVariants.{Comma}
@@ -11,22 +11,22 @@ abbrev pub left_of : Fault → ℕ
 left_of (Unexpected n) = n
 left_of (Beyond l n) = n
 
--- the number of lexemes from a fault on, where n are behind it, or behind the lexeme that passes a limit
+-- the number of lexemes from a fault on, if n are after it, or after the lexeme that passes a limit
 abbrev pub more : ℕ → ℕ → ℕ
 more zero n = n
 more (suc over) n = suc n
 
--- That number where n lexemes are behind what can go on: where over is 1 at a limit, the lexeme that passes it can go
--- on too.
+-- The number of lexemes from a fault on, if n lexemes are after the prefix that can continue. If `over` is 1 at a
+-- limit, the prefix includes the lexeme that passes the limit.
 abbrev pub more_than : Fault → (Limit → ℕ) → ℕ → ℕ
 more_than (Unexpected k) over n = n
 more_than (Beyond l k) over n = more (over l) n
 
--- each fault before the lexeme that passes a limit
+-- each fault is before the lexeme that passes a limit
 abbrev pub nowhere : Limit → ℕ
 nowhere l = 0
 
--- the fault behind it where more may be open, where a number may be greater, or where the number of a tag may be
+-- The fault is after that lexeme for nesting (`deeper`), for numbers (`wider`), or for the numbers of tags (`higher`).
 abbrev pub deeper : Limit → ℕ
 deeper Nesting = 1
 deeper Integer = 0
@@ -42,28 +42,28 @@ higher Nesting = 0
 higher Integer = 0
 higher TagNumber = 1
 
--- the fault of this one limit behind the lexeme that passes it
+-- the fault of this one limit is after the lexeme that passes it
 abbrev pub past : Limit → Limit → ℕ
 past Nesting = deeper
 past Integer = wider
 past TagNumber = higher
 
--- everything is within each limit
+-- all is within each limit
 abbrev pub everywhere : Limit → Type 0
 everywhere l = Unit {0}
 
--- What is read is so, and the lexemes before a fault can go on.
+-- What is read is in the grammar, and the lexemes before a fault are a prefix that can continue.
 abbrev pub Sound : {A : Type 0} → (Limit → ℕ) → Grammar A → List Lexeme → Read A → Type 0
 Sound over g ts (Ok x) = (u : List Lexeme) × (ts ≡ u ++ x.1) × g.Is x.0 u
 Sound over g ts (Err f) =
     (u rest : List Lexeme) × (ts ≡ u ++ rest) × (left_of f ≡ more_than f over (length rest)) × g.CanGoOn u
 
--- no token of these goes on with what stands before
+-- the next lexeme can't continue what comes before it
 abbrev pub Follows : (Lexeme → Bool) → List Lexeme → Type 0
 Follows ends [] = Unit {0}
 Follows ends (t ∷ us) = ends t ≡ false
 
--- The reading has come to the lexemes us, or met a limit. Where all is within that limit, this is no way out.
+-- The reading has come to the lexemes us, or has passed a limit. If all is within that limit, it has come to us.
 abbrev pub Passes : {A : Type 0} → (Limit → Type 0) → List Lexeme → Read A → Type 0
 Passes within us (Ok x) = length x.1 ≤ length us
 Passes within us (Err (Unexpected n)) = n ≤ length us
@@ -72,7 +72,7 @@ Passes within us (Err (Beyond l n)) = (n ≤ length us) ⊎ (within l → ⊥)
 abbrev pub ReadsAs : {A : Type 0} → (Limit → Type 0) → Read A → A → List Lexeme → Type 0
 ReadsAs within r x us = (r ≡ Ok (x, us)) ⊎ ((p : Limit × ℕ) × (within p.0 → ⊥) × (r ≡ Err (Beyond p.0 p.1)))
 
--- Each whole is read, and no front is refused.
+-- Each whole is read, and no prefix is refused.
 pub record Finds {A : Type 0} (within : Limit → Type 0) (g : Grammar A) (starts ends : Lexeme → Bool) (read : Reader A) : Type 0 where
   pub nil : g.CanGoOn []
   pub part : (x : A) (u : List Lexeme) → g.Is x u → g.CanGoOn u
@@ -80,7 +80,7 @@ pub record Finds {A : Type 0} (within : Limit → Type 0) (g : Grammar A) (start
   pub whole : (x : A) (u us : List Lexeme) → g.Is x u → Follows ends us → ReadsAs within (read (u ++ us)) x us
   pub front : (u us : List Lexeme) → g.CanGoOn u → Passes within us (read (u ++ us))
 
--- ---- one after the other
+-- ---- a sequence
 
 -- the reader of a sequence
 abbrev pub then_read : {A B C : Type 0} → (A × B → C) → Reader A → Reader B → Reader C
@@ -108,7 +108,7 @@ module _ (over : Limit → ℕ) {A B C : Type 0} (a : Grammar A) (b : Grammar B)
   seq_sound ts (Ok x) rb sa sb = second_sound ts x.1 x.0 sa.0 sa.1 sa.2 (rb x.1) (sb x.1)
   seq_sound ts (Err g) rb sa sb = (sa.0, sa.1, sa.2, sa.3, inl sa.4)
 
--- a result that has come to tokens that us ends with
+-- a result that has come to the lexemes vs has come to any list us that is at least as long
 pub passes_on : {A : Type 0} (within : Limit → Type 0) (us vs : List Lexeme) (r : Read A)
     → length vs ≤ length us
     → Passes within vs r
@@ -178,7 +178,7 @@ abbrev pub is_comma : Lexeme → Bool
 is_comma (Mark Comma) = true
 is_comma t = false
 
--- ---- behind a mark
+-- ---- a part after a lexeme
 
 pub behind_is : {A : Type 0} (t : Lexeme) (a : Grammar A) (x : A) (u : List Lexeme)
     → (behind t a).Is x u
@@ -203,7 +203,7 @@ pub front_behind : {A : Type 0} (t : Lexeme) (a : Grammar A) (v : List Lexeme)
     → (behind t a).CanGoOn (t ∷ v)
 front_behind t a v h = inr (tt, t ∷ [], v, refl, refl, h)
 
--- ---- any number behind commas
+-- ---- any number of parts, each after a comma
 
 module _ (over : Limit → ℕ) {A : Type 0} (a : Grammar A) (read : Reader A) where
   more_sound : (ts rest : List Lexeme) (x : A) (u : List Lexeme)
@@ -249,7 +249,7 @@ module _ {A : Type 0} (within : Limit → Type 0) (a : Grammar A) (starts ends :
   one_passes us (Err (Unexpected n)) more all h = h
   one_passes us (Err (Beyond l n)) more all h = h
 
-  -- nothing is left over
+  -- a loop over commas leaves at most the lexemes that it was given
   pub commas_shrink : (k : ℕ) (ts : List Lexeme) → Passes within ts (behind_commas_at read k ts)
   unfolding behind_commas_at
   commas_shrink zero ts = omega arith
@@ -257,7 +257,7 @@ module _ {A : Type 0} (within : Limit → Type 0) (a : Grammar A) (starts ends :
   commas_shrink (suc k) ((Mark Comma) ∷ ts) = passes_on within ((Mark Comma) ∷ ts) ts _ (omega arith) (one_passes ts (read ts) (behind_commas_at read k) (commas_shrink k) (fa.front [] ts fa.nil))
   commas_shrink (suc k) (t ∷ ts) = omega arith
 
-  -- what was read so far stands, and the rest passes
+  -- if a part is read, and the rest passes, both pass
   stands_more : (x : A) (us vs : List Lexeme) (r : Read A) (more : Reader (List A))
       → ReadsAs within r x vs
       → Passes within us (more vs)
@@ -266,7 +266,7 @@ module _ {A : Type 0} (within : Limit → Type 0) (a : Grammar A) (starts ends :
       subst (λ (q : Read A). Passes within us (q >>= λ x. more x.1 >>= λ xs. Ok (x.0 ∷ xs.0, xs.1))) (sym e) (passes_made within us (more vs) (λ xs. x ∷ xs) h)
   stands_more x us vs r more (inr w) h = subst (λ (q : Read A). Passes within us (q >>= λ x. more x.1 >>= λ xs. Ok (x.0 ∷ xs.0, xs.1))) (sym w.2) (inr w.1)
 
-  -- a front behind commas is empty or begins with one
+  -- a prefix of parts after commas is empty, or begins with a comma
   pub begins : (xs : List A) (u v : List Lexeme)
       → IsMany (behind (Mark Comma) a) xs u
       → (behind (Mark Comma) a).CanGoOn v
@@ -317,7 +317,7 @@ module _ {A : Type 0} (within : Limit → Type 0) (a : Grammar A) (starts ends :
             (commas_front apart j xs q v us (omega (arith, length-append b.0 ((q ++ v) ++ us))) hq g)
       ])
 
-  -- the same, for what is whole
+  -- the same, for a whole
   whole_at_comma : (k : ℕ) (rest us ts : List Lexeme) (xs : List A)
       → length ts ≤ k
       → ts ≡ (Mark Comma) ∷ rest

@@ -1,4 +1,4 @@
--- Lists with commas, what stands in braces, and parts behind a name.
+-- Lists with commas, parts in braces, and parts after a name.
 use Rattle.std.proofs.Common.{◌≡◌, ℕ, ◌≤◌, ◌⊎◌, inl, inr, Bool, true, false, List, [], ◌∷◌, ◌++◌, length, Ok, Err, refl, sym, ap, subst, ◌∙◌ as ◌⋆◌, arith}
 use Rattle.std.proofs.lemmas.List.{append-nil}
 use Rattle.text.specs.declared.token.Mark.TheVariants.{Comma, OpenBrace, CloseBrace}
@@ -7,7 +7,7 @@ use Rattle.grammar.specs.Grammar.{Grammar, token, mark, ◌∙◌, ◌∣◌, �
 use Rattle.grammar.specs.Reading.{Limit, Read, Reader, ◌>>=◌, stop, closed_at, behind_commas_at, listed_at, named_at}
 use Rattle.grammar.specs.Laws.{Sound, Follows, Passes, ReadsAs, Finds, then_read, seq_sound, commas_sound, passes_on, passes_made, seq_front, seq_whole, seq_part, is_comma, begins, follows_many, commas_front, commas_whole}
 
--- ---- what is read is so
+-- ---- what is read is in the grammar
 
 module _ (over : Limit → ℕ) where
   pub left_sound : {A : Type 0} (a b : Grammar A) (ts : List Lexeme) (r : Read A)
@@ -39,7 +39,7 @@ module _ (over : Limit → ℕ) where
   unfolding listed_at
   listed_sound a read s ts = seq_sound over a (many (behind (Mark Comma) a)) (λ p. p.0 ∷ p.1) ts (read ts) (λ us. behind_commas_at read (length us) us) (s ts) (λ us. commas_sound over a read s (length us) us)
 
-  -- what stands in braces
+  -- the part in braces
   pub brace_sound : {A B : Type 0} (a : Grammar A) (f : A → B) (ts : List Lexeme) (r : Read B)
       → Sound over ((a ∙ mark CloseBrace) ⇒ (λ p. f p.0)) ts r
       → Sound over (braces a ⇒ f) ((Mark OpenBrace) ∷ ts) r
@@ -63,7 +63,7 @@ module _ (over : Limit → ℕ) where
 
 -- ---- the first lexemes of a sequence
 
--- no whole is empty
+-- a whole is never empty
 pub record IsSolid {A : Type 0} (a : Grammar A) : Type 0 where
   pub no_empty : (x : A) → a.Is x [] → ⊥
 
@@ -88,7 +88,7 @@ seq_solid a b f solid = record { no_empty = λ z h. go z h }
     go z (p, q, ([], w, e, ha, hb)) = solid.no_empty p.0 ha
     go z (p, q, (t ∷ v, w, e, ha, hb)) = absurd cc
 
--- What may stand behind one lexeme s.
+-- the lexemes that can come after the one lexeme s
 pub record Next {A : Type 0} (a : Grammar A) (s : Lexeme) (P : Lexeme → Type 0) : Type 0 where
   pub next : (t : Lexeme) (u : List Lexeme) → a.CanGoOn (s ∷ t ∷ u) → P t
 
@@ -222,7 +222,7 @@ module _ {A C : Type 0} (within : Limit → Type 0) (a : Grammar A) (starts ends
         front = seq_front within (listed a) (mark CloseBrace) f starts (with_comma ends) is_rbrace no_lexeme no_lexeme (listed_at read) closed_at fl (finds_closed within) (rbrace_apart ends apart_end);
       }
 
-  -- what may stand behind the first token in the braces
+  -- the lexemes that can come after the first one in braces
   pub body_next : (s : Lexeme) (P : Lexeme → Type 0)
       → Next a s P
       → ((x : A) → a.Is x (s ∷ []) → (P (Mark Comma)) × (P (Mark CloseBrace)))
@@ -240,13 +240,13 @@ module _ {A C : Type 0} (within : Limit → Type 0) (a : Grammar A) (starts ends
       is_rbrace_is (Mark CloseBrace) e = refl
       is_rbrace_is t e = absurd cc
 
-      -- a list of one lexeme is one part
+      -- a list of one lexeme has one part
       single : (xs : List A) → (listed a).Is xs (s ∷ []) → (P (Mark Comma)) × (P (Mark CloseBrace))
       single xs (p, q, ([], w, e, ha, hb)) = absurd (solid.no_empty p.0 ha)
       single xs (p, q, (t ∷ [], w, e, ha, hb)) = one p.0 (subst (λ (t : Lexeme). a.Is p.0 (t ∷ [])) (sym (head_is s t [] w e)) ha)
       single xs (p, q, (t ∷ t' ∷ v, w, e, ha, hb)) = absurd cc
 
--- ---- a part behind a name
+-- ---- a part after a name
 
 abbrev pub is_ident : Lexeme → Bool
 is_ident (Ident x) = true
@@ -303,7 +303,7 @@ module _ {A : Type 0} (within : Limit → Type 0) (v : Grammar A) (starts ends :
       first t u (inl (inr (x, e))) = subst (λ (t : Lexeme). is_ident t ≡ true) (sym (head_is t (Ident x) u [] e)) refl
       first t u (inr (x, p, q, e, hp, hq)) = subst (λ (t : Lexeme). is_ident t ≡ true) (sym (head_is t (Ident x) u q (e ⋆ ap (λ (l : List Lexeme). l ++ q) hp))) refl
 
--- ---- what stands behind an open brace
+-- ---- the lexemes after an open brace
 
 pub braces_is : {A : Type 0} (a : Grammar A) (z : A) (u : List Lexeme)
     → (braces a).Is z u

@@ -1,4 +1,4 @@
--- What loops over lists keep.
+-- What loops over lists guarantee.
 use Rattle.std.proofs.Common.{◌≡◌, ℕ, zero, suc, ◌≤◌, List, [], ◌∷◌, ◌++◌, length, Some, None, Result, Ok, Err, refl, sym, ap, subst, ◌∙◌ as ◌⋆◌, append_assoc, arith, length-append}
 use Rattle.std.proofs.lemmas.List.{append-nil}
 use Rattle.text.specs.declared.token.Mark.TheVariants.{Comma}
@@ -20,7 +20,7 @@ regroup front x (Err e) = refl
 
 -- ---- lists with commas
 
--- a reader leaves no more lexemes than it was given
+-- a reader leaves at most as many lexemes as it was given
 pub record Shrinks {A : Type 0} (read : Reader A) : Type 0 where
   pub shorter : (ts : List Lexeme) (x : A × List Lexeme) → read ts ≡ Ok x → length x.1 ≤ length ts
 
@@ -40,7 +40,7 @@ sound_short g ts (Ok y) x e s =
     subst (λ (y : _). length y.1 ≤ length ts) d le
 sound_short g ts (Err f) x e s = absurd cc
 
--- enough fuel is as good as any other
+-- results are the same for any fuel that is enough
 bind_same : {A B : Type 0} (r : Result A Fault) (f g : A → Result B Fault)
     → ((x : A) → r ≡ Ok x → f x ≡ g x)
     → (r >>= f) ≡ (r >>= g)

@@ -21,7 +21,7 @@ opposite b p q = let e = sym p ⋆ q in absurd cc
 abbrev next : {A : Type 0} → Read A → (List Lexeme → Read (List A)) → Read (List A)
 next r more = r >>= λ x. more x.1 >>= λ xs. Ok (x.0 ∷ xs.0, xs.1)
 
--- ---- what is read is so
+-- ---- what is read is in the grammar
 
 module _ (over : Limit → ℕ) {A : Type 0} (a : Grammar A) where
   first_sound : (ts rest : List Lexeme) (x : A) (u : List Lexeme)
@@ -57,7 +57,7 @@ module _ (over : Limit → ℕ) {A : Type 0} (a : Grammar A) where
   many_sound begins read s (suc k) (t ∷ ts) =
       goes_is (Sound over (many a) (t ∷ ts)) (begins t) (t ∷ ts) (next (read (t ∷ ts)) (many_at begins read k)) (λ e. one_sound (t ∷ ts) (read (t ∷ ts)) (many_at begins read k) (s (t ∷ ts)) (many_sound begins read s k)) (λ e. ([], refl, refl))
 
--- ---- no front is refused, and each whole is read
+-- ---- no prefix is refused, and each whole is read
 
 module _ {A : Type 0} (within : Limit → Type 0) (a : Grammar A) (starts ends ends' : Lexeme → Bool) (read : Reader A)
     (fa : Finds within a starts ends read) (solid : IsSolid a) (apart : (t : Lexeme) → starts t ≡ true → ends t ≡ false)
@@ -81,7 +81,7 @@ module _ {A : Type 0} (within : Limit → Type 0) (a : Grammar A) (starts ends e
         le : (us : List Lexeme) → length us ≤ length us
         le us = omega arith
 
-    -- what was read so far stands, and the rest passes
+    -- if a part is read, and the rest passes, both pass
     stands_more : (x : A) (us vs : List Lexeme) (r : Read A) (more : Reader (List A))
         → ReadsAs within r x vs
         → Passes within us (more vs)
@@ -90,12 +90,12 @@ module _ {A : Type 0} (within : Limit → Type 0) (a : Grammar A) (starts ends e
         subst (λ (q : Read A). Passes within us (next q more)) (sym e) (passes_made within us (more vs) (λ xs. x ∷ xs) h)
     stands_more x us vs r more (inr w) h = subst (λ (q : Read A). Passes within us (next q more)) (sym w.2) (inr w.1)
 
-    -- a whole begins with a lexeme that begins one
+    -- a whole begins with a lexeme with which a part can begin
     is_begun : (x : A) (u : List Lexeme) → a.Is x u → (t : Lexeme) × (w : List Lexeme) × (u ≡ t ∷ w) × (starts t ≡ true)
     is_begun x [] h = absurd (solid.no_empty x h)
     is_begun x (t ∷ w) h = (t, w, refl, fa.first t w (fa.part x (t ∷ w) h))
 
-    -- a front is empty or begins so too
+    -- a prefix is empty, or begins with such a lexeme
     begun : (xs : List A) (u v : List Lexeme)
         → IsMany a xs u
         → a.CanGoOn v
@@ -202,7 +202,7 @@ module _ {A : Type 0} (within : Limit → Type 0) (a : Grammar A) (starts ends e
           | inr (s, y, n, q) ↦ subst (λ (t : Lexeme). starts t ≡ true) (sym (head_is t s u y (e ⋆ n))) q
         ]
 
--- ---- what a loop keeps
+-- ---- what a loop guarantees
 
 -- a reader takes at least one lexeme
 pub record Consumes {A : Type 0} (read : Reader A) : Type 0 where
@@ -241,7 +241,7 @@ any_fuel begins read s (suc k) (suc j) (t ∷ ts) p q =
     ap (goes_on_if (begins t) (t ∷ ts)) (same_next (read (t ∷ ts)) (many_at begins read k) (many_at begins read j)
     (λ x e. let le = s.shorter (t ∷ ts) x e in any_fuel begins read s k j x.1 (omega arith) (omega arith)))
 
--- is one of the parts here?
+-- whether a part begins here
 abbrev pub is_begun_by : (Lexeme → Bool) → List Lexeme → Bool
 is_begun_by begins [] = false
 is_begun_by begins (t ∷ ts) = begins t

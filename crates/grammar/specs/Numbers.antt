@@ -5,7 +5,7 @@ use Rattle.grammar.specs.Grammar.{Grammar}
 use Rattle.grammar.specs.Reading.{Limit, Integer, Beyond, Read, fitting}
 use Rattle.grammar.specs.Laws.{more, Sound, Passes, ReadsAs, passes_on}
 
--- what is asked where a limit's fault stands behind the lexeme that passes it
+-- what is required if a limit's fault is after the lexeme that passes it
 abbrev pub Past : ℕ → Type 0 → Type 0
 Past zero P = Unit {0}
 Past (suc over) P = P
@@ -25,7 +25,7 @@ beyond_sound over (suc k) e P past g n u ts before with_it =
     same : length (Number n ∷ ts) ≡ suc (length ts)
     same = omega arith
 
--- a number behind a front
+-- a number after a prefix
 pub fitting_sound : (over : Limit → ℕ) (fits fits' : ℕ → Bool)
     → Past (over Integer) ((n : ℕ) → fits' n ≡ true)
     → {A : Type 0} (g : Grammar A) (b : Bool) (n : ℕ) (u ts : List Lexeme) (r : Read A)
@@ -37,17 +37,17 @@ fitting_sound over fits fits' past g true n u ts r before with_it h = h refl
 fitting_sound over fits fits' past g false n u ts r before with_it h =
     beyond_sound over (over Integer) refl ((n : ℕ) → fits' n ≡ true) past g n u ts before (λ all. with_it (all n))
 
--- where the reader refuses a number, not all is within the limit
+-- if the reader refuses a number, not all is within the limit
 not_within : (within : Limit → Type 0) → (within Integer → false ≡ true) → within Integer → ⊥
 not_within within room w = absurd (let e = room w in cc)
 
--- a number of a front
+-- a number of a prefix
 pub fitting_passes : {A : Type 0} (within : Limit → Type 0) (b : Bool) (us ts : List Lexeme) (r : Read A)
     → (within Integer → b ≡ true) → Passes within us r → Passes within us (fitting b ts r)
 fitting_passes within true us ts r room h = h
 fitting_passes within false us ts r room h = inr (not_within within room)
 
--- a number that stands behind a front
+-- a number right after a prefix
 pub fitting_shrinks : {A : Type 0} (within : Limit → Type 0) (b : Bool) (n : ℕ) (us : List Lexeme) (r : Read A)
     → Passes within us r → Passes within (Number n ∷ us) (fitting b (Number n ∷ us) r)
 fitting_shrinks within true n us r h = passes_on within (Number n ∷ us) us r (omega arith) h
@@ -58,7 +58,7 @@ pub fitting_stands : {A : Type 0} (within : Limit → Type 0) (b : Bool) (ts us 
 fitting_stands within true ts us r x room h = h
 fitting_stands within false ts us r x room h = inr ((Integer, length ts), not_within within room, refl)
 
--- a number that stands among what is behind a front
+-- a number among the lexemes after a prefix
 pub fitting_behind : {A : Type 0} (within : Limit → Type 0) (b : Bool) (us ts : List Lexeme) (r : Read A)
     → length ts ≤ length us → Passes within us r → Passes within us (fitting b ts r)
 fitting_behind within true us ts r le h = h

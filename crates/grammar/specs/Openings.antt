@@ -1,4 +1,4 @@
--- What is owed where something is opened, and small rules.
+-- What readers guarantee for parts that open a nested part, and small rules.
 use Rattle.std.proofs.Common.{◌≡◌, ℕ, zero, suc, ◌+◌, ◌≤◌, inl, inr, Bool, true, false, List, [], ◌∷◌, ◌++◌, length, Ok, Err, refl, sym, ap, subst, ◌∙◌ as ◌⋆◌, arith}
 use Rattle.text.specs.declared.token.Mark.TheVariants.{OpenBrace, CloseBrace}
 use Rattle.grammar.specs.Lexeme.{Lexeme, Ident, Mark}
@@ -19,7 +19,7 @@ pub loosely : {A : Type 0} {s f : Type 0} {over : Limit → ℕ} {within : Limit
     → OwesLoosely s f over within g starts ends read
 loosely k = record { sound = k.sound; finds = k.finds }
 
--- by a reader that answers the same
+-- for a reader with the same results
 pub loose_read : {A : Type 0} {s f : Type 0} {over : Limit → ℕ} {within : Limit → Type 0} {g : Grammar A}
     {starts ends : Lexeme → Bool} {r : Reader A} (r' : Reader A)
     → ((ts : List Lexeme) → r ts ≡ r' ts)
@@ -27,21 +27,21 @@ pub loose_read : {A : Type 0} {s f : Type 0} {over : Limit → ℕ} {within : Li
     → OwesLoosely s f over within g starts ends r'
 loose_read {A} {s} {f} {over} {within} {g} {starts} {ends} {r} r' e k = record { sound = λ q. same_sound over g r r' e (k.sound q); finds = λ q. same_finds within g starts ends r r' e (k.finds q) }
 
--- a pair, the first of which may be empty
+-- a pair, of which the first part may be empty
 pub rule_both : {A B : Type 0} {s f : Type 0} {over : Limit → ℕ} {within : Limit → Type 0} (a : Grammar A)
     (b : Grammar B) {starts ends : Lexeme → Bool} {read : Reader (A × B)}
     → Owes s f over within ((a ∙ b) ⇒ (λ p. p)) starts ends read
     → Owes s f over within (a ∙ b) starts ends read
 rule_both {A} {B} {s} {f} {over} {within} a b {starts} {ends} {read} k = record { sound = λ q. pair_sound over a b read (k.sound q); finds = λ q. pair_finds within a b starts ends read (k.finds q); solid = record { no_empty = λ p h. k.solid.no_empty p (p, refl, h) } }
 
--- a part behind a name
+-- a part after a name
 pub rule_named : {A : Type 0} {s f : Type 0} {over : Limit → ℕ} {within : Limit → Type 0} {a : Grammar A}
     {starts ends : Lexeme → Bool} {read : Reader A}
     → OwesLoosely s f over within a starts ends read
     → Owes s f over within (token Ident ∙ a) is_ident ends (named_at read)
 rule_named {A} {s} {f} {over} {within} {a} {starts} {ends} {read} k = record { sound = λ q. named_sound over a read (k.sound q); finds = λ q. finds_named within a starts ends read (k.finds q); solid = pair_solid (token Ident) a (token_solid Ident) }
 
--- a tree made of a tree made of two parts
+-- the tree of a tree that is made of two parts
 pub after_made : {A B C D : Type 0} (g : C → D) (f : A × B → C) (r : Read A) (rb : Reader B)
     → made g (after_read f r rb) ≡ after_read (λ p. g (f p)) r rb
 after_made {A} {B} {C} {D} g f (Ok x) rb = go (rb x.1)
@@ -51,7 +51,7 @@ after_made {A} {B} {C} {D} g f (Ok x) rb = go (rb x.1)
     go (Err e) = refl
 after_made g f (Err e) rb = refl
 
--- ---- a part behind a lexeme that opens
+-- ---- a part after a lexeme that opens it
 
 abbrev pub IsOpenable : ℕ → Type 0
 IsOpenable zero = ⊥
@@ -61,7 +61,7 @@ abbrev pub barred : {A : Type 0} → Bool → ℕ → List Lexeme → Read A →
 barred true n ts read = opened n ts read
 barred false n ts read = stop ts
 
--- read reads what is behind the lexeme
+-- `read` reads what comes after the lexeme
 abbrev pub opened_by : {A : Type 0} → (Lexeme → Bool) → ℕ → Reader A → Reader A
 opened_by test n read [] = stop []
 opened_by test n read (t ∷ ts) = barred (test t) n (t ∷ ts) (read ts)
@@ -101,7 +101,7 @@ module _ {A : Type 0} (s f : Type 0) (over : Limit → ℕ) (within : Limit → 
       go true = passes_on within (t ∷ us) us (read us) (omega arith) (fb.front [] us fb.nil)
       go false = le_same (t ∷ us)
 
-  -- nothing more may be open, in what is read and in what is written
+  -- no more parts may be open, for the reader and for the grammar
   none_sound : over Nesting ≡ 0 → SoundReader over cut_off (opened_by test zero read)
   none_sound e [] = ([], [], refl, refl, refl)
   none_sound e (t ∷ ts) = go (test t)
@@ -110,7 +110,7 @@ module _ {A : Type 0} (s f : Type 0) (over : Limit → ℕ) (within : Limit → 
       go true = ([], t ∷ ts, refl, ap (λ (k : ℕ). more k (length (t ∷ ts))) (sym e), refl)
       go false = ([], t ∷ ts, refl, refl, refl)
 
-  -- one thing more may be open in what is written
+  -- one more part may be open for the grammar
   one_sound : (m : ℕ) → over Nesting ≡ suc m → SoundReader over (behind l b) (opened_by test zero read)
   one_sound m e [] = ([], [], refl, refl, inl (inl refl))
   one_sound m e (t ∷ ts) = go (test t) refl
@@ -122,7 +122,7 @@ module _ {A : Type 0} (s f : Type 0) (over : Limit → ℕ) (within : Limit → 
       go true q = (t ∷ [], ts, refl, long ⋆ ap (λ (k : ℕ). more k (length ts)) (sym e), inl (inr (tt, ap (λ (u : Lexeme). u ∷ []) (one t q))))
       go false q = ([], t ∷ ts, refl, refl, inl (inl refl))
 
-  -- a lexeme where no more may be open is a way out, where not all is within the limit
+  -- at a lexeme where no more parts may be open, the limit is passed, if not all is within it
   out_stands : (within Nesting → ⊥)
       → (x : A) (t : Lexeme) (ts us : List Lexeme)
       → test t ≡ true
@@ -159,7 +159,7 @@ module _ {A : Type 0} (s f : Type 0) (over : Limit → ℕ) (within : Limit → 
       front [] us h = zero_passes us
       front (t ∷ u) us h = out_passes w t (u ++ us) us (first t u h)
 
--- n: how many more things may be open for the reader, and m for the grammar
+-- n is the number of parts that may still be open for the reader, and m is that for the grammar
 module _ {A : Type 0} {s f : Type 0} {over : Limit → ℕ} {within : Limit → Type 0} (l : Lexeme) (test : Lexeme → Bool)
     (holds : test l ≡ true) (one : (t : Lexeme) → test t ≡ true → t ≡ l) (b : Grammar A) {starts ends : Lexeme → Bool}
     {read : Reader A} where
@@ -245,7 +245,7 @@ close_apart : (ends : Lexeme → Bool)
     → ends t ≡ false
 close_apart ends e t h = subst (λ (t : Lexeme). ends t ≡ false) (sym (closed_one t h)) e
 
--- what is not empty, as far as the closing brace
+-- a part that is never empty, up to the closing brace
 pub rule_inside : {A : Type 0} {s f : Type 0} {over : Limit → ℕ} {within : Limit → Type 0} {a : Grammar A}
     {starts ends : Lexeme → Bool} {read : Reader A}
     → Owes s f over within a starts ends read
@@ -253,7 +253,7 @@ pub rule_inside : {A : Type 0} {s f : Type 0} {over : Limit → ℕ} {within : L
     → Owes s f over within (inside a) starts no_lexeme (inside_at read)
 rule_inside {A} {s} {f} {over} {within} {a} {starts} {ends} {read} k e = rule_read (inside_at read) (inside_same read) (rule_seq (λ p. p.0) k (rule_token closed_is) (close_apart ends e))
 
--- what may be empty, as far as the closing brace
+-- a part that may be empty, up to the closing brace
 pub rule_inside_loose : {A : Type 0} {s f : Type 0} {over : Limit → ℕ} {within : Limit → Type 0} {a : Grammar A}
     {starts ends : Lexeme → Bool} {read : Reader A}
     → OwesLoosely s f over within a starts ends read
@@ -261,7 +261,7 @@ pub rule_inside_loose : {A : Type 0} {s f : Type 0} {over : Limit → ℕ} {with
     → Owes s f over within (inside a) (either starts is_closed) no_lexeme (inside_at read)
 rule_inside_loose {A} {s} {f} {over} {within} {a} {starts} {ends} {read} k e = rule_read (inside_at read) (inside_same read) (rule_lead (λ p. p.0) k (rule_token closed_is) (close_apart ends e))
 
--- in braces: n more things may be open for the reader, and m for the grammar
+-- a part in braces; n more parts may be open for the reader, and m for the grammar
 pub rule_in_braces : {A : Type 0} {s f : Type 0} {over : Limit → ℕ} {within : Limit → Type 0} (a : Grammar A)
     {starts : Lexeme → Bool} (read : Reader A) (n m : ℕ)
     → (s → m ≡ over Nesting + n)

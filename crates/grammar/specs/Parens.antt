@@ -1,4 +1,4 @@
--- What a part in parentheses and its reader owe each other.
+-- What readers of a part in parentheses guarantee.
 use Rattle.std.proofs.Common.{◌≡◌, ℕ, Bool, true, false, List, [], ◌∷◌, Ok, Err, refl, sym, subst}
 use Rattle.text.specs.declared.token.Mark.TheVariants.{OpenParenthesis, CloseParenthesis}
 use Rattle.grammar.specs.Lexeme.{Lexeme, Mark}

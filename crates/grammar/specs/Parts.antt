@@ -1,4 +1,4 @@
--- Laws of whole productions, made of those of their parts.
+-- Laws of whole productions, made of the laws of their parts.
 use Rattle.std.proofs.Common.{◌≡◌, ℕ, ◌≤◌, inl, inr, Bool, true, false, List, [], ◌∷◌, ◌++◌, length, Option, Some, None, Ok, Err, refl, sym, ap, subst, ◌∙◌ as ◌⋆◌, arith}
 use Rattle.grammar.specs.Lexeme.{Lexeme}
 use Rattle.grammar.specs.Grammar.{Grammar, token, ◌∙◌, ◌∣◌, ◌⇒◌, optional, cut_off}
@@ -11,7 +11,7 @@ SoundReader over g read = (ts : List Lexeme) → Sound over g ts (read ts)
 
 -- ---- one lexeme
 
--- A reader of one lexeme of a kind, which a test tells.
+-- A reader of one lexeme of a kind, which a test recognizes.
 pub record IsKind {A : Type 0} (kind : A → Lexeme) (test : Lexeme → Bool) (read : Reader A) : Type 0 where
   pub yes : (x : A) → test (kind x) ≡ true
   pub one : (s : Lexeme) → test s ≡ true → (x : A) × (s ≡ kind x)
@@ -102,9 +102,9 @@ made_finds {A} {B} within a f starts ends read fa = record {
 pub made_solid : {A B : Type 0} (a : Grammar A) (f : A → B) → IsSolid a → IsSolid (a ⇒ f)
 made_solid a f s = record { no_empty = λ y h. s.no_empty h.0 h.2 }
 
--- ---- one after the other
+-- ---- a sequence
 
--- a part that is not empty, and then one that is not
+-- a part that is never empty, and then another that is never empty
 pub seq_finds : {A B C : Type 0} (within : Limit → Type 0) (a : Grammar A) (b : Grammar B) (f : A × B → C)
     (starts-a ends-a starts-b ends-b : Lexeme → Bool) (ra : Reader A) (rb : Reader B)
     → Finds within a starts-a ends-a ra
@@ -125,7 +125,7 @@ seq_finds {A} {B} within a b f starts-a ends-a starts-b ends-b ra rb fa fb sa sb
     after y [] us h g = absurd (sb.no_empty y h)
     after y (t ∷ v) us h g = apart t (fb.first t v (fb.part y (t ∷ v) h))
 
--- a part that may be empty, and then one that is not
+-- a part that may be empty, and then one that is never empty
 pub open_finds : {A B C : Type 0} (within : Limit → Type 0) (a : Grammar A) (b : Grammar B) (f : A × B → C)
     (starts starts-a ends-a starts-b ends-b : Lexeme → Bool) (ra : Reader A) (rb : Reader B)
     → Finds within a starts-a ends-a ra
@@ -184,7 +184,7 @@ pair_finds within a b starts ends read f = record {
 pub pair_solid : {A B : Type 0} (a : Grammar A) (b : Grammar B) → IsSolid a → IsSolid (a ∙ b)
 pair_solid {A} {B} a b s = record { no_empty = λ p h. (seq_solid a b (λ p. p) s).no_empty p (p, refl, h) }
 
--- ---- one production or the other, by the first lexeme
+-- ---- a choice of two productions by the first lexeme
 
 abbrev pub chosen_read : {A : Type 0} → Bool → Read A → Read A → Read A
 chosen_read true r s = r
@@ -267,7 +267,7 @@ either_solid {A} a b sa sb = record { no_empty = go }
     go x (inl h) = sa.no_empty x h
     go x (inr h) = sb.no_empty x h
 
--- ---- a part or nothing
+-- ---- a part, or nothing
 
 abbrev pub perhaps : {A : Type 0} → (Lexeme → Bool) → Reader A → Reader (Option A)
 perhaps test read [] = Ok (None, [])
@@ -327,7 +327,7 @@ module _ {A : Type 0} (within : Limit → Type 0) (a : Grammar A) (starts ends e
       first t u (inl e) = absurd cc
       first t u (inr h) = fa.first t u h
 
--- ---- what can't be whole
+-- ---- a grammar without a whole
 
 pub cut_off_finds : {A : Type 0} (within : Limit → Type 0) (starts ends : Lexeme → Bool) (read : Reader A)
     → ((us : List Lexeme) → Passes within us (read us))
@@ -343,7 +343,7 @@ cut_off_finds within starts ends read h = record {
 pub cut_off_solid : {A : Type 0} → IsSolid (cut_off {A = A})
 cut_off_solid = record { no_empty = λ x h. h }
 
--- ---- another reader that answers the same
+-- ---- another reader with the same results
 
 pub same_sound : {A : Type 0} (over : Limit → ℕ) (g : Grammar A) (r r' : Reader A)
     → ((ts : List Lexeme) → r ts ≡ r' ts)

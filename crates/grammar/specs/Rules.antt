@@ -1,4 +1,4 @@
--- What a production and its reader owe each other, made of what their parts do.
+-- What a reader guarantees for its production, made of what the readers of its parts guarantee.
 use Rattle.std.proofs.Common.{◌≡◌, ℕ, ◌≤◌, inl, inr, Bool, true, false, List, [], ◌∷◌, ◌++◌, length, Ok, Err, refl, sym, ap, subst, arith}
 use Rattle.text.specs.declared.token.Mark.TheVariants.{Comma}
 use Rattle.grammar.specs.Lexeme.{Lexeme, Number, Mark}
@@ -12,19 +12,19 @@ use Rattle.grammar.specs.Numbers.{Past, fitting_sound, fitting_passes, fitting_s
 use Rattle.grammar.specs.Parts.{SoundReader, IsKind, token_sound, token_finds, token_solid, made_sound, made_finds, made_solid, seq_finds, open_finds, open_solid, pair_sound, pair_finds, pair_solid, pick, pick_sound, pick_finds, either_solid, perhaps, optional_sound, optional_finds, same_sound, same_finds}
 use Rattle.grammar.specs.Manies.{many_sound, many_finds}
 
--- What a reader owes a production: where s is asked, what is read is so; where f is asked, no front is refused and each
--- whole is read.
+-- What a reader guarantees for a production. If s holds, what is read is in the grammar. If f holds, no prefix is
+-- refused, and each whole is read.
 pub record OwesLoosely {A : Type 0} (s f : Type 0) (over : Limit → ℕ) (within : Limit → Type 0) (g : Grammar A) (starts ends : Lexeme → Bool) (read : Reader A) : Type 0 where
   pub sound : s → SoundReader over g read
   pub finds : f → Finds within g starts ends read
 
--- and no whole is empty
+-- the same, and no whole is empty
 pub record Owes {A : Type 0} (s f : Type 0) (over : Limit → ℕ) (within : Limit → Type 0) (g : Grammar A) (starts ends : Lexeme → Bool) (read : Reader A) : Type 0 where
   pub sound : s → SoundReader over g read
   pub finds : f → Finds within g starts ends read
   pub solid : IsSolid g
 
--- both are asked
+-- both guarantees hold
 abbrev pub Loose : {A : Type 0} → (Limit → ℕ) → (Limit → Type 0) → Grammar A → (Lexeme → Bool) → (Lexeme → Bool)
     → Reader A → Type 0
 Loose over within g starts ends read = OwesLoosely (Unit {0}) (Unit {0}) over within g starts ends read
@@ -33,7 +33,7 @@ abbrev pub Rules : {A : Type 0} → (Limit → ℕ) → (Limit → Type 0) → G
     → Reader A → Type 0
 Rules over within g starts ends read = Owes (Unit {0}) (Unit {0}) over within g starts ends read
 
--- what is owed where both are asked is owed where less is
+-- a reader with both guarantees has each of them
 pub asked : {A : Type 0} {s f : Type 0} {over : Limit → ℕ} {within : Limit → Type 0} {g : Grammar A}
     {starts ends : Lexeme → Bool} {read : Reader A}
     → Rules over within g starts ends read
@@ -64,7 +64,7 @@ no_right false y e = e
 abbrev pub either : (Lexeme → Bool) → (Lexeme → Bool) → Lexeme → Bool
 either p q t = bor (p t) (q t)
 
--- two grammars that say the same
+-- two grammars with the same wholes and the same prefixes
 pub record Same {A : Type 0} (a b : Grammar A) : Type 0 where
   pub to : Grows a b
   pub back : Grows b a
@@ -92,7 +92,7 @@ module _ {s f : Type 0} {over : Limit → ℕ} {within : Limit → Type 0} where
     solid = seq_solid a b g ka.solid;
   }
 
-  -- behind a lexeme that nothing else goes on with
+  -- a part after a lexeme that nothing else continues
   pub rule_behind : {A : Type 0} {l : Lexeme} {a : Grammar A} {test starts ends : Lexeme → Bool}
       {rs : Reader (Unit {0})} {ra : Reader A}
       → Owes s f over within (only l) test no_lexeme rs
@@ -100,7 +100,7 @@ module _ {s f : Type 0} {over : Limit → ℕ} {within : Limit → Type 0} where
       → Owes s f over within (behind l a) test ends (then_read (λ p. p.1) rs ra)
   rule_behind ks ka = rule_seq (λ p. p.1) ks ka (λ t e. refl)
 
-  -- what may be empty behind what is not
+  -- a part that may be empty, after one that is never empty
   pub rule_tail : {A B C : Type 0} {a : Grammar A} {b : Grammar B} {starts-a ends-a starts-b ends-b : Lexeme → Bool}
       {ra : Reader A} {rb : Reader B} (g : A × B → C)
       → Owes s f over within a starts-a ends-a ra
@@ -172,13 +172,13 @@ module _ {s f : Type 0} {over : Limit → ℕ} {within : Limit → Type 0} where
     finds = λ q. many_finds within a starts ends (either starts ends) read (k.finds q) k.solid apart (λ t. no_left (starts t) (ends t)) (λ t. no_right (starts t) (ends t));
   }
 
-  -- the tree made of what may be empty
+  -- the tree made of a part that may be empty
   pub loose_made : {A B : Type 0} {a : Grammar A} {starts ends : Lexeme → Bool} {read : Reader A} (g : A → B)
       → OwesLoosely s f over within a starts ends read
       → OwesLoosely s f over within (a ⇒ g) starts ends (λ ts. read ts >>= λ x. Ok (g x.0, x.1))
   loose_made {A} {B} {a} {starts} {ends} {read} g r = record { sound = λ q. made_sound over a g read (r.sound q); finds = λ q. made_finds within a g starts ends read (r.finds q) }
 
-  -- what may be empty before what is not
+  -- a part that may be empty, before one that is never empty
   pub rule_lead : {A B C : Type 0} {a : Grammar A} {b : Grammar B} {starts-a ends-a starts-b ends-b : Lexeme → Bool}
       {ra : Reader A} {rb : Reader B} (g : A × B → C)
       → OwesLoosely s f over within a starts-a ends-a ra
@@ -191,7 +191,7 @@ module _ {s f : Type 0} {over : Limit → ℕ} {within : Limit → Type 0} where
     solid = open_solid a b g kb.solid;
   }
 
-  -- with commas between
+  -- parts with commas between them
   pub rule_listed : {A : Type 0} {a : Grammar A} {starts ends : Lexeme → Bool} {read : Reader A}
       → Owes s f over within a starts ends read
       → ends (Mark Comma) ≡ false
@@ -202,14 +202,14 @@ module _ {s f : Type 0} {over : Limit → ℕ} {within : Limit → Type 0} where
     solid = seq_solid a (many (behind (Mark Comma) a)) (λ p. p.0 ∷ p.1) k.solid;
   }
 
-  -- by a reader that answers the same
+  -- for a reader with the same results
   pub rule_read : {A : Type 0} {a : Grammar A} {starts ends : Lexeme → Bool} {r : Reader A} (r' : Reader A)
       → ((ts : List Lexeme) → r ts ≡ r' ts)
       → Owes s f over within a starts ends r
       → Owes s f over within a starts ends r'
   rule_read {A} {a} {starts} {ends} {r} r' e k = record { sound = λ q. same_sound over a r r' e (k.sound q); finds = λ q. same_finds within a starts ends r r' e (k.finds q); solid = k.solid }
 
-  -- with tests that tell no more
+  -- with tests that are true of at least as many lexemes
   pub rule_tests : {A : Type 0} {a : Grammar A} {starts ends : Lexeme → Bool} {read : Reader A}
       (starts' ends' : Lexeme → Bool)
       → ((t : Lexeme) → starts t ≡ true → starts' t ≡ true)
@@ -231,7 +231,7 @@ module _ {s f : Type 0} {over : Limit → ℕ} {within : Limit → Type 0} where
         front = fa.front;
       }
 
-  -- of a grammar that says the same
+  -- for the same grammar in another form
   pub rule_same : {A : Type 0} {a : Grammar A} (b : Grammar A) {starts ends : Lexeme → Bool} {read : Reader A}
       → Same a b
       → Owes s f over within a starts ends read
@@ -261,7 +261,7 @@ unfoldable pub number_at : (ℕ → Bool) → Reader ℕ
 number_at fits (Number n ∷ rest) = fitting (fits n) (Number n ∷ rest) (Ok (n, rest))
 number_at fits ts = stop ts
 
--- fits is the reader's test on numbers, fits' the grammar's
+-- `fits` is the reader's test of numbers, and `fits'` is the grammar's
 module _ (over : Limit → ℕ) (within : Limit → Type 0) (fits fits' : ℕ → Bool)
     (grows : (n : ℕ) → fits n ≡ true → fits' n ≡ true) (past : Past (over Integer) ((n : ℕ) → fits' n ≡ true))
     (room : (n : ℕ) → fits' n ≡ true → within Integer → fits n ≡ true) where
@@ -311,7 +311,7 @@ fitting_made f false n ts rest = refl
 abbrev pub made : {A B : Type 0} → (A → B) → Read A → Read B
 made f r = r >>= λ x. Ok (f x.0, x.1)
 
--- what is read is not changed by taking it apart
+-- a result stays the same if it is taken apart and put together
 pub read_again : {A : Type 0} (r : Read A) → (r >>= λ x. Ok (x.0, x.1)) ≡ r
 read_again (Ok x) = refl
 read_again (Err e) = refl
@@ -332,7 +332,7 @@ pub one_is : (s : Lexeme) (test : Lexeme → Bool)
     → IsKind (λ (x : Unit {0}). s) test (one_at test)
 one_is s test holds one = record { yes = λ x. holds; one = λ t e. (tt, one t e); nil = refl; hit = λ x ts. ap (λ (b : Bool). taken b (s ∷ ts) ts) holds; miss = λ t ts e. ap (λ (b : Bool). taken b (t ∷ ts) ts) e }
 
--- what a production and its reader owe each other under limits: a are the reader's, b the grammar's
+-- what a reader guarantees for its production under limits: a are the reader's limits, and b are the grammar's
 abbrev pub Ruled : {A : Type 0} → ((ℕ → Bool) → Grammar A) → (Lexeme → Bool) → ((ℕ → Bool) → Reader A) → Type 0
 Ruled g starts read = (over : Limit → ℕ) (a b : Limits)
     → ((n : ℕ) → a.number n ≡ true → b.number n ≡ true)

@@ -1,4 +1,4 @@
--- No reader leaves more than it was given: each part's law.
+-- No reader leaves more lexemes than it was given: the law of each part.
 use Rattle.std.proofs.Common.{◌≡◌, ℕ, zero, suc, ◌≤◌, Bool, true, false, List, [], ◌∷◌, length, Option, Some, None, Ok, Err, refl, ap, subst, arith}
 use Rattle.text.specs.declared.token.Mark.TheVariants.{Colon, Comma, Ellipsis, OpenBrace, CloseBrace, OpenParenthesis, CloseParenthesis, OpenVersion, CloseVersion}
 use Rattle.grammar.specs.Lexeme.{Lexeme, Ident, Number, Mark}
@@ -6,7 +6,7 @@ use Rattle.grammar.specs.Reading.{Read, Reader, ◌>>=◌, fitting, opened, open
 use Rattle.grammar.specs.Loops.{Shrinks}
 use Rattle.grammar.specs.Parts.{chosen_read, perhaps}
 
--- a result leaves at most so many lexemes
+-- a result leaves at most n lexemes
 abbrev pub Leaves : {A : Type 0} → ℕ → Read A → Type 0
 Leaves n (Ok x) = length x.1 ≤ n
 Leaves n (Err e) = Unit {0}

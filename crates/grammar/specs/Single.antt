@@ -30,11 +30,11 @@ unfoldable pub module_name_at : Reader (List ℕ)
 module_name_at (TypeRef x ∷ rest) = Ok (x, rest)
 module_name_at ts = stop ts
 
--- what is read behind a lexeme
+-- what is read after a lexeme
 abbrev pub then_at : {A : Type 0} → Reader (Unit {0}) → Reader A → Reader A
 then_at mark read ts = mark ts >>= λ m. read m.1 >>= λ x. Ok (x.0, x.1)
 
--- ---- their tests
+-- ---- the tests of these readers
 
 abbrev pub is_closed : Lexeme → Bool
 is_closed (Mark CloseBrace) = true

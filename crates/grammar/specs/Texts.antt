@@ -1,4 +1,4 @@
--- What a reader answers for the tokens of a text.
+-- The results of a reader for the tokens of a text.
 use Rattle.std.proofs.Common.{◌≡◌, ℕ, ◌-◌, ◌≤◌, List, length, take, drop, Ok, Err, sym, ap, subst, ◌∙◌ as ◌⋆◌, arith, length-drop}
 use Rattle.std.proofs.lemmas.List.{take_all, drop-map, length-map}
 use Rattle.text.specs.declared.token.Token.{Token}
@@ -88,7 +88,7 @@ module _ {A : Type 0} (g : Limited A) (a : Limits) (read : Reader A) (reads : Re
       → ⊥
   never_found f w end e i = let o = found_only w end i in no_result (w, o.0) f (read (lexemes x (take (length ts - place) (drop place ts)))) o.1 e
 
-  -- what is read stands before a lexeme with which nothing goes on
+  -- what is read comes before a lexeme that can't continue it
   pub stopped : (v : A) (rest : List Token)
       → read (lexemes x (take (length ts - place) (drop place ts))) ≡ Ok (v, lexemes x rest)
       → 1 ≤ length rest
@@ -99,6 +99,6 @@ module _ {A : Type 0} (g : Limited A) (a : Limits) (read : Reader A) (reads : Re
       (ended_at g a read reads (lexemes x ts) place inside (v, lexemes x rest) (read_at (Ok (v, lexemes x rest)) e) (omega (arith, long rest, some)))
 
 module _ {A : Type 0} (read : Reader A) (x : List ℕ) (ts : List Token) where
-  -- the slice from the first token on is all
+  -- the slice from the first token on has all tokens
   pub from_whole : (r : Read A) → read (lexemes x ts) ≡ r → read (lexemes x (take (length ts - 0) (drop 0 ts))) ≡ r
   from_whole r e = ap (λ (l : List Token). read (lexemes x l)) (from_slice 0 ts) ⋆ e

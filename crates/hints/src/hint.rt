@@ -1,4 +1,4 @@
-//! What a name that means nothing may have been meant for.
+//! What may have been meant by a name that means nothing.
 
 use crate::near::is_near;
 use shown_texts::{is_kind, shown, spelled_at, tokens_in};
@@ -34,7 +34,7 @@ fn joined_near(name: &str) -> Option<&'static str> {
     None
 }
 
-/// Whether a word may stand where a value does, or for another name where a type does.
+/// Whether a word can be where a value is, or otherwise where a type is.
 fn is_word_for(word: Word, value: bool) -> bool {
     match word {
         Word::True | Word::False => value,
@@ -43,7 +43,7 @@ fn is_word_for(word: Word, value: bool) -> bool {
     }
 }
 
-/// The reserved word that a name is near to.
+/// The reserved word that a name is near to, or None.
 fn word_near(name: &str) -> Option<&'static str> {
     let value = is_small(name);
     for word in &Word::ALL {
@@ -55,7 +55,7 @@ fn word_near(name: &str) -> Option<&'static str> {
     if value { None } else { joined_near(name) }
 }
 
-/// Whether a name of this text stands at a place: a type's where it is assigned, or an identifier.
+/// Whether there is a name of this text at a place: the name of a type where it is assigned, or an identifier.
 fn is_name_at(tokens: &[Token], place: usize, value: bool) -> bool {
     if value {
         return is_kind(tokens, place, TokenKind::Identifier);
@@ -65,7 +65,7 @@ fn is_name_at(tokens: &[Token], place: usize, value: bool) -> bool {
         && is_kind(tokens, next, TokenKind::Mark(Mark::Assign))
 }
 
-/// The first name of a text that another one is near to.
+/// The first name of a text to which `name` is near, or None.
 fn name_near(alloc: Global, text: &[u8], name: &str) -> Result<Option<String>, AllocError> {
     let value = is_small(name);
     let tokens = tokens_in(alloc, text)?;
@@ -80,7 +80,7 @@ fn name_near(alloc: Global, text: &[u8], name: &str) -> Result<Option<String>, A
     Ok(None)
 }
 
-/// The first name of the texts that another one is near to.
+/// The first name of the texts to which `name` is near, or None.
 fn name_near_in(
     alloc: Global,
     texts: &[Vec<u8>],
@@ -95,12 +95,12 @@ fn name_near_in(
     Ok(None)
 }
 
-/// Whether a character is none of those that names and words are made of.
+/// Whether a character can't be a part of a name or word.
 fn parts_words(c: char) -> bool {
     !(c.is_ascii_alphanumeric() || c == '-')
 }
 
-/// The first name among those that were expected which another one is near to.
+/// The first name among the expected ones to which `name` is near, or None.
 fn expected_near<'a>(expected: &'a str, name: &str) -> Option<&'a str> {
     for word in expected.split(parts_words) {
         if is_near(name.as_bytes(), word.as_bytes()) {
@@ -110,8 +110,8 @@ fn expected_near<'a>(expected: &'a str, name: &str) -> Option<&'a str> {
     None
 }
 
-/// What a name that means nothing may have been meant for, in words: a name among those that were expected, a word of
-/// the notation, or a name of the texts; nothing where none of them is near.
+/// Returns what may have been meant by a name that means nothing, in words. It is a name among the expected ones, a
+/// word of the notation, or a name of the texts; the result is empty if none of them is near.
 pub fn did_you_mean(
     alloc: Global,
     texts: &[Vec<u8>],

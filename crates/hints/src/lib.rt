@@ -1,4 +1,4 @@
-//! What can stand at a place of a text, and what a name that means nothing may have been meant for.
+//! What can come at a place of a text, and what may have been meant by a name that means nothing.
 #![tactic(auto)]
 
 mod hint;

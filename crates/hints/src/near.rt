@@ -1,6 +1,6 @@
 //! Names that may have been meant for one another.
 
-/// How many octets two texts have in common at the front, letters of both cases being one.
+/// The number of octets that two texts have in common at the start, without regard to the case of letters.
 fn common_front(one: &[u8], other: &[u8]) -> usize {
     let mut common: usize = 0;
     for (a, b) in one.iter().zip(other.iter()) {
@@ -12,7 +12,7 @@ fn common_front(one: &[u8], other: &[u8]) -> usize {
     common
 }
 
-/// How many octets two texts have in common at the end, letters of both cases being one.
+/// The number of octets that two texts have in common at the end, without regard to the case of letters.
 fn common_end(one: &[u8], other: &[u8]) -> usize {
     let mut common: usize = 0;
     for (a, b) in one.iter().rev().zip(other.iter().rev()) {
@@ -24,7 +24,7 @@ fn common_end(one: &[u8], other: &[u8]) -> usize {
     common
 }
 
-/// Whether two octets are the same two, the other way round.
+/// Whether both lists have the same two octets, in the other order.
 fn are_swapped(one: &[u8], other: &[u8]) -> bool {
     match (one, other) {
         ([a, b], [c, d]) => a == d && b == c,
@@ -32,9 +32,9 @@ fn are_swapped(one: &[u8], other: &[u8]) -> bool {
     }
 }
 
-/// Whether one name may have been meant for the other: they are not the same, and differ in the case of letters alone,
-/// or in one octet that is another one, is missing or is too many, or in two that are swapped. Short names differ in
-/// their case alone.
+/// Whether one name may have been meant for the other. They aren't the same. They differ only in the case of letters,
+/// in one octet that is wrong, missing or too many, or in two octets that are swapped. Short names differ only in their
+/// case.
 pub fn is_near(one: &[u8], other: &[u8]) -> bool {
     if one == other {
         return false;

@@ -1,4 +1,4 @@
-//! What can stand at a place of a module's text, in words.
+//! What can come at a place of a module's text, in words.
 
 use crate::near::is_near;
 use expected_tokens::expected;
@@ -6,10 +6,10 @@ use std::alloc::{AllocError, Global};
 use text::reserved::Word;
 use text::{Mark, Token, TokenKind};
 
-/// How many kinds of tokens a type can begin with.
+/// The number of kinds of tokens with which a type can begin.
 const TYPE_KINDS: usize = 19;
 
-/// How many kinds of tokens a value can begin with.
+/// The number of kinds of tokens with which a value can begin.
 const VALUE_KINDS: usize = 11;
 
 /// Whether a type can begin with this word.
@@ -43,7 +43,7 @@ fn begins_value(kind: TokenKind) -> bool {
     }
 }
 
-/// Whether all kinds are among these that a type can begin with.
+/// Whether all kinds of tokens with which a type can begin are among these.
 fn is_place_of_type(kinds: &[TokenKind]) -> bool {
     let mut count: usize = 0;
     for kind in kinds {
@@ -54,7 +54,7 @@ fn is_place_of_type(kinds: &[TokenKind]) -> bool {
     count == TYPE_KINDS
 }
 
-/// Whether all kinds are among these that a value can begin with.
+/// Whether all kinds of tokens with which a value can begin are among these.
 fn is_place_of_value(kinds: &[TokenKind]) -> bool {
     let mut count: usize = 0;
     for kind in kinds {
@@ -65,7 +65,7 @@ fn is_place_of_value(kinds: &[TokenKind]) -> bool {
     count == VALUE_KINDS
 }
 
-/// How a mark is written.
+/// The text of a mark.
 fn mark_text(mark: Mark) -> &'static str {
     match mark {
         Mark::Assign => "'::='",
@@ -93,7 +93,7 @@ fn mark_text(mark: Mark) -> &'static str {
     }
 }
 
-/// What a kind of token is called.
+/// The name of a kind of token.
 fn called(kind: TokenKind) -> &'static str {
     match kind {
         TokenKind::TypeReference => "a type reference",
@@ -107,7 +107,7 @@ fn called(kind: TokenKind) -> &'static str {
     }
 }
 
-/// Puts a thing to the words of a list.
+/// Appends one thing to the words of a list.
 fn join(words: &mut String, thing: &str) -> Result<(), AllocError> {
     words.push_str(if words.is_empty() {
         ", expected "
@@ -118,8 +118,8 @@ fn join(words: &mut String, thing: &str) -> Result<(), AllocError> {
     Ok(())
 }
 
-/// Kinds of tokens in words: as a type or a value, where all stand there that one of these begins with, else one by
-/// one.
+/// Kinds of tokens in words. If all kinds with which a type or a value can begin are among them, these are named as a
+/// type or a value. The other kinds are named one by one.
 fn list(alloc: Global, kinds: &[TokenKind]) -> Result<String, AllocError> {
     let mut words = String::new(alloc);
     let types = is_place_of_type(kinds);
@@ -142,7 +142,7 @@ fn list(alloc: Global, kinds: &[TokenKind]) -> Result<String, AllocError> {
     Ok(words)
 }
 
-/// The word among these kinds that a name is near to.
+/// The word among these kinds that a name is near to, or None.
 fn meant(kinds: &[TokenKind], name: &str) -> Option<&'static str> {
     for kind in kinds {
         if let TokenKind::Reserved(word) = *kind {
@@ -155,8 +155,8 @@ fn meant(kinds: &[TokenKind], name: &str) -> Option<&'static str> {
     None
 }
 
-/// What can stand at a place, in words, and what the token there may have been meant for. At the front of a text only the
-/// name of a module can.
+/// Returns what can come at a place, in words, and what may have been meant by the token there. At the start of a text
+/// only the name of a module can come. `AllocError` comes only if an allocation fails.
 pub fn wanted(
     alloc: Global,
     tokens: &[Token],
@@ -168,7 +168,11 @@ pub fn wanted(
     }
     let front = tokens.get(..place).unwrap_or(tokens);
     let kinds = expected(alloc, front)?;
-    let mut words = list(alloc, kinds.as_slice())?;
+    let mut words = if front.is_empty() {
+        String::from_str(alloc, ", expected a module, which begins with its name")?
+    } else {
+        list(alloc, kinds.as_slice())?
+    };
     if let Some(word) = meant(kinds.as_slice(), found) {
         words.push_str("; did you mean ")?;
         words.push_str(word)?;

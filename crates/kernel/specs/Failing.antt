@@ -1,4 +1,4 @@
--- Faults of what a loop reads are faults of the loop.
+-- A fault of a part that a loop reads is a fault of the loop.
 use Rattle.std.specs.Prelude.{◌≡◌, Bool, true, List, length, Some}
 use Rattle.grammar.specs.Lexeme.{Lexeme}
 use Rattle.grammar.specs.Loops.{commas_fail}

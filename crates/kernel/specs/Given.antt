@@ -1,4 +1,4 @@
--- What the reading functions are given and give back.
+-- What the reading functions take and return: the tokens of a text, and a tree or an error; no clause.
 use Rattle.std.specs.Prelude.{◌≡◌, ℕ, List, Result, Ok, Err, length}
 use Rattle.std.specs.List.{AllByRecursion}
 use Rattle.text.specs.declared.token.Token.{Token}
@@ -24,7 +24,7 @@ limit_of limits.Nesting = Nesting
 limit_of limits.Integer = Integer
 limit_of limits.TagNumber = TagNumber
 
--- What a function returned, seen by view, is what reading gives, unless memory ran out.
+-- What a function returned, seen by `view`, is what `read` gives, unless an allocation failed.
 abbrev pub Fails : {Y : Type 0} → ReadError → Result Y Fault → Type 0
 Fails errors.Memory read = Unit {0}
 Fails (errors.Unexpected n) read = read ≡ Err (Unexpected n)
@@ -34,7 +34,7 @@ abbrev pub Gives : {X Y : Type 0} → (X → Y) → Result X ReadError → Resul
 Gives view (Ok x) read = read ≡ Ok (view x)
 Gives view (Err e) read = Fails e read
 
--- the tokens of a text that has them, with no limit passed, as the lexer gives them
+-- the tokens of a text that has tokens and passes no limit, as the lexer returns them
 pub record IsLexed (x : List ℕ) (ts : List Token) : Type 0 where
   pub text : IsText x ts
   pub limits : IsWithinLimits x ts

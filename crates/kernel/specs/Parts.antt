@@ -1,4 +1,4 @@
--- What the generic parts read, and how it lies in memory.
+-- What the generic parts read, and how memory holds it.
 use Rattle.std.specs.Prelude.{◌⊎◌, List, map, option_map}
 use Rattle.std.proofs.Common.{inl, inr}
 use Rattle.grammar.specs.Reading.{Extensible as Extensible'}

@@ -1,4 +1,4 @@
-//! What a token's octets say.
+//! What a token's octets mean.
 
 ghost use Rattle.std.specs.Prelude.{◌≡◌, ◌⊎◌, ◌≤◌, ◌<◌, ◌∷◌, [], ℕ, IfOk, MatchOption, MatchResult, string_bytes, slice_range, slice_index, length, true, false};
 ghost use Rattle.std.specs.List.{filter_map};
@@ -17,7 +17,7 @@ use std::alloc::{AllocError, Global};
 use text::Token;
 use trees::At;
 
-/// The name that a token is.
+/// The name that a token is. `AllocError` comes only if an allocation fails.
 pub fn name_of(alloc: Global, text: &[u8], token: Token) -> Result<String, AllocError>
     requires token { IsTokenOf text.now token }
     requires name { (token.kind ≡ kinds.Identifier) ⊎ (token.kind ≡ kinds.TypeReference) }
@@ -41,7 +41,7 @@ pub fn name_at(alloc: Global, text: &[u8], token: Token) -> Result<At<String>, A
     })
 }
 
-/// The number that decimal digits tell.
+/// The value of some decimal digits, of which the first is the highest.
 fn value_of(digits: &[u8]) -> u128
     requires digits { (k : ℕ) → k < length digits.now → is_ascii_digit (slice_index digits.now k) ≡ true }
     requires small { digits_value 10 digits.now ≤ max_number }
@@ -64,7 +64,7 @@ pub fn number_of(text: &[u8], token: Token) -> u128
     value_of(&text[token.span.start..token.span.end])
 }
 
-/// The number that a token is, with `left` tokens from it on, if no limit is passed.
+/// The number that a token is, if it passes no limit. `left` is the number of tokens from it on, which the fault has.
 pub fn small_number(text: &[u8], token: Token, left: usize) -> Result<u128, ReadError>
     requires token { IsTokenOf text.now token }
     requires number { token.kind ≡ kinds.Number }
@@ -115,7 +115,7 @@ pub fn digits_of(alloc: Global, text: &[u8], token: Token) -> Result<Vec<u8>, Al
     digits_among(alloc, &text[token.span.start + 1..token.span.end - 2])
 }
 
-/// The first octet, and those after it, where two quotes are one.
+/// The first octet, and the octets after it; two quotes count as one octet.
 #[tactic(auto, unfolding(grammar::specs::Lexeme::single_quotes))]
 fn next_octet(octets: &[u8]) -> Option<(u8, &[u8])>
     ensures { MatchOption result (single_quotes octets.now ≡ [])
@@ -128,7 +128,7 @@ fn next_octet(octets: &[u8]) -> Option<(u8, &[u8])>
     }
 }
 
-/// The octets, where two quotes are one.
+/// The octets, with two quotes as one.
 fn unquoted(alloc: Global, octets: &[u8]) -> Result<Vec<u8>, AllocError>
     ensures { IfOk result (λ v. v.items ≡ single_quotes octets.now) }
 {

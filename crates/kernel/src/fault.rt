@@ -1,4 +1,4 @@
-//! Why tokens could not be read.
+//! Why tokens can't be read.
 
 ghost use Rattle.std.specs.Prelude.{◌≡◌};
 ghost use Rattle.kernel.specs.declared.fault.ReadError.TheVariants as errors;
@@ -11,24 +11,24 @@ use text::Token;
 pub enum Limit {
     /// At most 128 braces, tags, list types and values of alternatives are open at one place.
     Nesting,
-    /// A number with no minus before it is less than 2 to the 127.
+    /// A number without a minus before it is less than 2^127.
     Integer,
-    /// The number of a tag is less than 2 to the 31.
+    /// The number of a tag is less than 2^31.
     TagNumber,
 }
 
-/// Why a part could not be read, with the number of tokens from the first wrong one on.
+/// Why a part can't be read, with the number of tokens from the first wrong one to the end.
 #[derive(Drop)]
 pub enum ReadError {
-    /// There was not enough memory.
+    /// An allocation failed.
     Memory,
-    /// Nothing goes on with the first of these tokens.
+    /// No part can go on with the first of these tokens.
     Unexpected(usize),
-    /// With the first of these tokens a limit is passed.
+    /// The first of these tokens passes a limit.
     Limit(Limit, usize),
 }
 
-/// What a reader answers: a tree and the tokens behind it, or why there is none.
+/// The result of a reader: a tree and the tokens after it, or a fault.
 pub type Read<'t, T> = Result<(T, &'t [Token]), ReadError>;
 
 impl From<AllocError> for ReadError {

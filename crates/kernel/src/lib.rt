@@ -1,4 +1,4 @@
-//! What tokens say, and readers of whole productions, made of readers of their parts.
+//! What tokens mean, and readers of whole productions, made of readers of their parts.
 #![tactic(auto)]
 
 pub mod decode;

@@ -1,4 +1,4 @@
-//! Lists of parts with commas between them, with an extension marker among them or not.
+//! Lists of parts with commas between them, with or without an extension marker.
 
 ghost use Rattle.std.specs.Prelude.{map, length, IfOk};
 ghost use Rattle.grammar.specs.Reading.{with_front, behind_commas_at, listed_at, additions_at, more_at, extensible_at, with_root, version_at};
@@ -14,7 +14,7 @@ use crate::part::{Begun, Part};
 use std::alloc::Global;
 use text::{Token, kind, mark};
 
-/// Reads the parts behind the next commas, and puts them behind those that are read.
+/// Reads the parts after the next commas, and appends them to those that are read.
 fn behind_commas<'t, P: Part<'t>>(
     alloc: Global,
     text: &[u8],
@@ -39,7 +39,7 @@ fn behind_commas<'t, P: Part<'t>>(
     Ok((items, rest))
 }
 
-/// Reads one part or more with commas between them.
+/// Reads at least one part, with commas between parts.
 #[tactic(auto, unfolding(grammar::specs::Reading::listed_at))]
 fn one_or_more<'t, P: Part<'t>>(
     alloc: Global,
@@ -53,13 +53,13 @@ fn one_or_more<'t, P: Part<'t>>(
     ensures rest { IfOk result (λ x. AreTokens text.now x.1.now) }
 {
     let (first, rest) = part.read(alloc, text, tokens)?;
-    // Most lists hold one part alone, and lists within lists are what takes most room.
+    // Most lists have only one part, and lists within lists take most of the room.
     let mut items = Vec::with_capacity(alloc, 1)?;
     items.push(first)?;
     behind_commas(alloc, text, part, items, rest)
 }
 
-/// One part or more with commas between them.
+/// At least one part, with commas between parts.
 #[derive(Drop)]
 pub struct Listed<P> {
     pub part: P,
@@ -87,14 +87,14 @@ impl<'t, P: Part<'t>> Part<'t> for Listed<P> {
     }
 }
 
-/// Parts with commas between them, those before an extension marker and those behind it, if it is there.
+/// Parts with commas between them: those before an extension marker, and those after it, if there is one.
 #[derive(Drop)]
 pub struct Extensible<T, U> {
     pub root: Vec<T>,
     pub additions: Option<Vec<U>>,
 }
 
-/// Reads the parts behind the marker.
+/// Reads the parts after the marker.
 #[tactic(auto, unfolding(grammar::specs::Reading::additions_at), using(crate::proofs::Extensions::no_front))]
 fn additions<'t, P: Part<'t>, Q: Part<'t>>(
     alloc: Global,
@@ -121,7 +121,7 @@ fn additions<'t, P: Part<'t>, Q: Part<'t>>(
     ))
 }
 
-/// Reads what stands behind the parts that are read: more parts, and the marker with its own.
+/// Reads what comes after the parts that are read: more parts, and the marker with its own parts.
 fn more<'t, P: Part<'t>, Q: Part<'t>>(
     alloc: Global,
     text: &[u8],
@@ -157,7 +157,7 @@ fn more<'t, P: Part<'t>, Q: Part<'t>>(
     ))
 }
 
-/// Reads one part or more, and the marker with its own.
+/// Reads at least one part, and the marker with its own parts.
 #[tactic(auto, unfolding(grammar::specs::Reading::extensible_at))]
 fn root_first<'t, P: Part<'t>, Q: Part<'t>>(
     alloc: Global,
@@ -179,7 +179,7 @@ fn root_first<'t, P: Part<'t>, Q: Part<'t>>(
     more(alloc, text, part, addition, root, rest)
 }
 
-/// A list in which one extension marker may stand, behind the root, with additions behind it.
+/// A list that may have one extension marker, after the root, with additions after it.
 #[derive(Drop)]
 pub struct ExtensibleList<P, Q> {
     pub part: P,
@@ -215,7 +215,7 @@ impl<'t, P: Part<'t>, Q: Part<'t>> Part<'t> for ExtensibleList<P, Q> {
     }
 }
 
-/// A list in which one extension marker may stand, behind the root or at once, with additions behind it.
+/// A list that may have one extension marker, after the root or at the start, with additions after it.
 #[derive(Drop)]
 pub struct RootlessList<P, Q> {
     pub part: P,
@@ -284,7 +284,7 @@ pub enum Addition<T> {
     Bracket(Vec<T>),
 }
 
-/// The tokens behind the number of version brackets and its colon, if they are there.
+/// The tokens after the number of version brackets and its colon, if they are there.
 #[tactic(auto, unfolding(grammar::specs::Reading::version_at))]
 fn version<'t>(text: &[u8], tokens: &'t [Token]) -> Result<&'t [Token], ReadError>
     requires tokens { AreTokens text.now tokens.now }
@@ -300,7 +300,7 @@ fn version<'t>(text: &[u8], tokens: &'t [Token]) -> Result<&'t [Token], ReadErro
     }
 }
 
-/// A part, or parts in version brackets, one at least (X.680, clause 25.1).
+/// A part, or at least one part in version brackets (X.680, clause 25.1).
 #[derive(Drop)]
 pub struct Added<P> {
     pub part: P,

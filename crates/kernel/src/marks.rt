@@ -9,7 +9,7 @@ ghost use Rattle.kernel.specs.Reads.{SkipsAs};
 use crate::fault::ReadError;
 use text::{Token, mark};
 
-/// The tokens behind an open parenthesis.
+/// The tokens after an open parenthesis.
 #[tactic(auto, unfolding(grammar::specs::Reading::open_at))]
 pub fn open<'a>(text: &[u8], tokens: &'a [Token]) -> Result<&'a [Token], ReadError>
     requires tokens { AreTokens text.now tokens.now }
@@ -22,7 +22,7 @@ pub fn open<'a>(text: &[u8], tokens: &'a [Token]) -> Result<&'a [Token], ReadErr
     }
 }
 
-/// The tokens behind a closing parenthesis.
+/// The tokens after a closing parenthesis.
 #[tactic(auto, unfolding(grammar::specs::Reading::close_at))]
 pub fn close<'a>(text: &[u8], tokens: &'a [Token]) -> Result<&'a [Token], ReadError>
     requires tokens { AreTokens text.now tokens.now }
@@ -35,7 +35,7 @@ pub fn close<'a>(text: &[u8], tokens: &'a [Token]) -> Result<&'a [Token], ReadEr
     }
 }
 
-/// The tokens behind a closing brace.
+/// The tokens after a closing brace.
 #[tactic(auto, unfolding(grammar::specs::Reading::closed_at))]
 pub fn closed<'a>(text: &[u8], tokens: &'a [Token]) -> Result<&'a [Token], ReadError>
     requires tokens { AreTokens text.now tokens.now }
@@ -48,7 +48,7 @@ pub fn closed<'a>(text: &[u8], tokens: &'a [Token]) -> Result<&'a [Token], ReadE
     }
 }
 
-/// The tokens behind a comma, if there is one.
+/// The tokens after a comma, or None if there is no comma.
 #[tactic(auto, unfolding(grammar::specs::Reading::next_comma))]
 pub fn comma<'a>(text: &[u8], tokens: &'a [Token]) -> Option<&'a [Token]>
     requires tokens { AreTokens text.now tokens.now }
@@ -62,7 +62,7 @@ pub fn comma<'a>(text: &[u8], tokens: &'a [Token]) -> Option<&'a [Token]>
     }
 }
 
-/// The tokens behind an extension marker, if there is one.
+/// The tokens after an extension marker, or None if there is none.
 #[tactic(auto, unfolding(grammar::specs::Reading::next_marker))]
 pub fn marker<'a>(text: &[u8], tokens: &'a [Token]) -> Option<&'a [Token]>
     requires tokens { AreTokens text.now tokens.now }
@@ -75,7 +75,7 @@ pub fn marker<'a>(text: &[u8], tokens: &'a [Token]) -> Option<&'a [Token]>
     }
 }
 
-/// The tokens behind a colon.
+/// The tokens after a colon.
 #[tactic(auto, unfolding(grammar::specs::Reading::colon_at))]
 pub fn colon<'a>(text: &[u8], tokens: &'a [Token]) -> Result<&'a [Token], ReadError>
     requires tokens { AreTokens text.now tokens.now }
@@ -88,7 +88,7 @@ pub fn colon<'a>(text: &[u8], tokens: &'a [Token]) -> Result<&'a [Token], ReadEr
     }
 }
 
-/// The tokens behind closing version brackets.
+/// The tokens after closing version brackets.
 #[tactic(auto, unfolding(grammar::specs::Reading::close_version_at))]
 pub fn close_version<'a>(text: &[u8], tokens: &'a [Token]) -> Result<&'a [Token], ReadError>
     requires tokens { AreTokens text.now tokens.now }

@@ -1,4 +1,4 @@
-//! What a reader of a production is.
+//! Readers of productions.
 
 ghost use Rattle.std.specs.Prelude.{◌≡◌, ℕ, List, Bool, IfOk};
 ghost use Rattle.grammar.specs.Lexeme.{Lexeme, lexemes};
@@ -28,19 +28,19 @@ pub trait Production {
 pub trait Part<'t> {
     type Tree: Drop;
 
-    /// The tree without memory.
+    /// The tree, apart from how memory holds it.
     ghost Shape: { Type 0 };
 
     ghost view: { Self.Tree → Shape };
 
     ghost reader: { Self → Reader Shape };
 
-    /// What must hold of the reader in a text before it reads.
+    /// What must hold of the reader and a text before it reads.
     ghost is_ready: { Self → List ℕ → Type 0 };
 
     ghost is_short: { (s : Self) (x : List ℕ) → is_ready s x → Short (reader s) };
 
-    /// Reads the production at the first of these tokens.
+    /// Reads the production from the first of these tokens on.
     fn read(&self, alloc: Global, text: &[u8], tokens: &'t [Token]) -> Read<'t, Self::Tree>
         requires ready { is_ready self.now text.now }
         requires tokens { AreTokens text.now tokens.now }
@@ -48,7 +48,7 @@ pub trait Part<'t> {
         ensures rest { IfOk result (λ x. AreTokens text.now x.1.now) };
 }
 
-/// A reader that can tell from the first token whether its production stands here.
+/// A reader that can decide by the first token whether its production is here.
 pub trait Begun<'t>: Part<'t> {
     ghost begins: { Lexeme → Bool };
 
@@ -57,7 +57,7 @@ pub trait Begun<'t>: Part<'t> {
         ensures { result ≡ is_begun_by begins (lexemes text.now tokens.now) };
 }
 
-/// A reader by a function: how a production reads itself again.
+/// A reader by a function, for a production that contains itself.
 #[derive(Drop)]
 pub struct By<'t, G: Production, F: Fn(&'t [Token]) -> Read<'t, G::Tree>> {
     f: F,
@@ -65,7 +65,7 @@ pub struct By<'t, G: Production, F: Fn(&'t [Token]) -> Read<'t, G::Tree>> {
     of: PhantomData<(&'t u8, G)>,
 }
 
-/// The function reads the production, where so many more things may be open.
+/// The function reads the production, if `depth` more parts may be open.
 pub fn reads_by<'t, G: Production, F: Fn(&'t [Token]) -> Read<'t, G::Tree>>(
     _of: PhantomData<G>,
     f: F,

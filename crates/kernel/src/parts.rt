@@ -1,4 +1,4 @@
-//! Parts in parentheses and braces, behind a name, and parts that may be absent.
+//! Parts in parentheses or braces, parts after a name, and parts that may be absent.
 
 ghost use Rattle.std.specs.Prelude.{◌≡◌};
 ghost use Rattle.grammar.specs.Lexeme.{lexemes};
@@ -16,7 +16,7 @@ use std::alloc::Global;
 use text::{Token, kind, mark};
 use trees::Named;
 
-/// Whether a parenthesis opens here.
+/// Whether there is an open parenthesis here.
 fn is_opened(text: &[u8], tokens: &[Token]) -> bool
     requires tokens { AreTokens text.now tokens.now }
     ensures { result ≡ is_begun_by is_open (lexemes text.now tokens.now) }
@@ -67,7 +67,7 @@ impl<'t, P: Part<'t>> Begun<'t> for InParens<P> {
     }
 }
 
-/// Whether a brace opens here.
+/// Whether there is an open brace here.
 fn is_brace(text: &[u8], tokens: &[Token]) -> bool
     requires tokens { AreTokens text.now tokens.now }
     ensures { result ≡ is_begun_by is_lbrace (lexemes text.now tokens.now) }
@@ -75,7 +75,7 @@ fn is_brace(text: &[u8], tokens: &[Token]) -> bool
     matches!(tokens, [mark!(OpenBrace), ..])
 }
 
-/// A part in braces, where so many more things may be open.
+/// A part in braces, if `depth` more parts may be open.
 #[derive(Drop)]
 pub struct InBraces<P> {
     pub depth: usize,
@@ -123,7 +123,7 @@ impl<'t, P: Part<'t>> Begun<'t> for InBraces<P> {
     }
 }
 
-/// Whether an identifier is here.
+/// Whether there is an identifier here.
 fn is_named(text: &[u8], tokens: &[Token]) -> bool
     requires tokens { AreTokens text.now tokens.now }
     ensures { result ≡ is_begun_by is_ident (lexemes text.now tokens.now) }
@@ -131,7 +131,7 @@ fn is_named(text: &[u8], tokens: &[Token]) -> bool
     matches!(tokens, [kind!(Identifier), ..])
 }
 
-/// A part behind a name.
+/// A part after a name.
 #[derive(Drop)]
 pub struct WithName<P> {
     pub part: P,
@@ -178,7 +178,7 @@ impl<'t, P: Part<'t>> Begun<'t> for WithName<P> {
     }
 }
 
-/// A part if it stands here.
+/// A part that may be absent.
 #[derive(Drop)]
 pub struct Optional<P> {
     pub part: P,

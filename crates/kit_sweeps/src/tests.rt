@@ -1,4 +1,4 @@
-//! `Kit::open`, `der`, `der_to`, `ber` and `list` of small modules.
+//! `Kit::open`, `der`, `der_to`, `uper`, `ber` and `list` of small modules.
 
 mod growths;
 mod modules;

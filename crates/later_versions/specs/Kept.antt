@@ -1,4 +1,4 @@
--- What a type keeps of a value of a later version: all but the components that were appended, which it doesn't know
+-- What a type keeps of a value of a later version: all except the appended components, which the type doesn't know
 -- (X.680, clauses 7 and 25).
 use Rattle.std.specs.Prelude.{ℕ, suc, ◌+◌, List, [], ◌∷◌, Some, None, length, slice_get, get_or}
 use Rattle.asn_base.specs.Abstract.{AbstractValue}
@@ -6,11 +6,12 @@ use Rattle.asn_base.specs.Abstract.{fields, list, alternative, Row, end, absent,
 use Rattle.asn_base.specs.Types.{Resolved}
 use Rattle.asn_base.specs.Schemas.{types_in}
 
--- the types of the members of type t, at their places: of components, alternatives over both lists, or of the elements
+-- the types of the members of type t, by their places: of components, of alternatives over both lists, or of the
+-- elements
 abbrev pub members_of : List Resolved → ℕ → List ℕ
 members_of s t = elim (slice_get s t) [ None ↦ [] | Some r ↦ types_in r.kind ]
 
--- the type of the member at a place; where there is none, the number of no type
+-- the type of the member at a place; if there is no such member, a number that no type has
 abbrev pub member_of : List Resolved → ℕ → ℕ → ℕ
 member_of s t i = get_or (members_of s t) i (length s)
 
@@ -22,7 +23,7 @@ abbrev mutual
   kept s t (alternative i v) = alternative i (kept s (member_of s t i) v)
   kept s t v = v
 
-  -- what components of these types keep; those behind are left out
+  -- the row that is kept of components, whose known ones have these types; the components after these are left out
   pub kept_row : List Resolved → List ℕ → Row → Row
   kept_row s us end = end
   kept_row s [] (absent vs) = end
@@ -36,7 +37,7 @@ abbrev mutual
   kept_elements s u (present v vs) = present (kept s u v) (kept_elements s u vs)
 
 abbrev mutual
-  -- how many components that are present type t leaves out of a value; what is in them isn't counted
+  -- the number of present components of a value that type t leaves out; what is in them isn't counted
   pub left_out : List Resolved → ℕ → AbstractValue → ℕ
   left_out s t (fields vs) = left_out_of_row s (members_of s t) vs
   left_out s t (list vs) = left_out_of_elements s (member_of s t 0) vs

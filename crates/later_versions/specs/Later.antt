@@ -1,5 +1,5 @@
--- When a type is a later version of another one: all alike but for additions appended at extension markers
--- (X.680, clauses 7, 20, 25 and 29).
+-- When a type is a later version of another one: both are the same, except for additions that were appended at
+-- extension markers (X.680, clauses 7, 20, 25 and 29).
 use Rattle.std.specs.Prelude.{◌≡◌, ◌↔◌, ◌<◌, ◌≤◌, ℕ, ℤ, Bool, true, List, [], ◌∷◌, length, map, Option, Some, None}
 use Rattle.std.specs.Prelude.{slice_get}
 use Rattle.asn_base.specs.declared.strings.StringKind.{StringKind}
@@ -14,24 +14,25 @@ use Rattle.asn_base.specs.Schemas.{IsNumber, IsSize, is_addition}
 use Rattle.asn_base.specs.Same.{Same}
 use Rattle.later_versions.specs.Kept.{members_of, kept, left_out}
 
--- two constraints leave the same of the numbers, or sizes, of which P holds, and the packed encoding sees the same
+-- two constraints allow the same of the numbers or sizes for which P holds, and give the packed encoding the same
+-- bounds
 pub record LeaveSame (P : ℤ → Type 0) (c d : Constraint) : Type 0 where
   pub allowed : (z : ℤ) → P z → (IsAllowed c z ↔ IsAllowed d z)
   pub visible : c.visible ≡ d.visible
 
--- the second list begins with those of the first, one for one by relation R; more may follow
+-- the second list begins with the elements of the first, one for one related by R; more may follow
 pub record IsFront {A : Type 0} (R : A → A → Type 0) (xs ys : List A) : Type 0 where
   pub none_dropped : length xs ≤ length ys
   pub kept : (i : ℕ) (x y : A) → slice_get xs i ≡ Some x → slice_get ys i ≡ Some y → R x y
 
--- the same bits have the same names, in whatever order they are written
+-- the same bits have the same names, in any order
 abbrev pub NameSame : List NamedBit → List NamedBit → Type 0
 NameSame bs cs = (b : NamedBit) → (IsMember b bs ↔ IsMember b cs)
 
 -- ---- components
 
--- A component of type t of schema s is marked in the same way. A default of the later version has the components that
--- were appended absent, and is, these left out, the same as the earlier one.
+-- A component of type t of schema s has the same kind of presence in both versions. In the default of the later version
+-- the appended components are absent, and without them it is the same as the earlier default.
 pub data IsMarkedAlike (s : List Resolved) (t : ℕ) : Presence → Presence → Type 0 where
   both_mandatory : IsMarkedAlike s t mandatory mandatory
   both_optional : IsMarkedAlike s t optional optional
@@ -41,12 +42,12 @@ pub data IsMarkedAlike (s : List Resolved) (t : ℕ) : Presence → Presence →
       → IsMarkedAlike s t (default d) (default e)
   both_additions : {o : Bool} {g h : Option ℕ} → IsMarkedAlike s t (addition o g) (addition o h)
 
--- the same component: its name and its mark
+-- the components are the same in their name and their presence
 pub record IsSameComponent (s : List Resolved) (c d : Component) : Type 0 where
   pub name : c.name ≡ d.name
   pub mark : IsMarkedAlike s c.type c.presence d.presence
 
--- the components at these places stand in the same version brackets
+-- the components at these places are in the same version brackets
 pub record AreInOneGroup (cs : List Component) (i j : ℕ) : Type 0 where
   pub group : ℕ
   pub first : Component
@@ -56,8 +57,8 @@ pub record AreInOneGroup (cs : List Component) (i j : ℕ) : Type 0 where
   pub of_first : IsOfGroup group first
   pub of_second : IsOfGroup group second
 
--- Components of a later version: the same ones, and behind them additions. Groups are the same, and those that were
--- appended are new: none takes in a component of before.
+-- Components of a later version: the same ones, and additions after them. Groups are the same, and those of appended
+-- components are new: none has a component of the earlier version.
 pub record AreLater (s : List Resolved) (cs ds : List Component) : Type 0 where
   pub front : IsFront (IsSameComponent s) cs ds
   pub appended : (i : ℕ) (d : Component) → length cs ≤ i → slice_get ds i ≡ Some d → is_addition d ≡ true
@@ -66,7 +67,7 @@ pub record AreLater (s : List Resolved) (cs ds : List Component) : Type 0 where
 
 -- ---- types
 
--- what a type of schema s holds, and what it holds in a later version, but for the types of members
+-- the kind of a type of schema s, and its kind in a later version, apart from the types of members
 pub data IsLaterKind (s : List Resolved) : Kind → Kind → Type 0 where
   later_boolean : IsLaterKind s a_boolean a_boolean
   later_integer : {c d : Constraint} → LeaveSame IsNumber c d → IsLaterKind s (an_integer c) (an_integer d)
@@ -102,18 +103,18 @@ pub data IsLaterKind (s : List Resolved) : Kind → Kind → Type 0 where
       → IsFront (λ a b. a.name ≡ b.name) more all
       → IsLaterKind s (a_choice root e more) (a_choice others e all)
 
--- a type with its tags
+-- a type and its later version, with the same tags
 pub record IsLaterType (s : List Resolved) (q r : Resolved) : Type 0 where
   pub tags : q.tags ≡ r.tags
   pub kind : IsLaterKind s q.kind r.kind
 
--- the type that a list of members' places leads to from type t
+-- the type to which a list of members' places leads from type t
 abbrev pub leads : List Resolved → ℕ → List ℕ → Option ℕ
 leads s t [] = Some t
 leads s t (i ∷ places) = elim (slice_get (members_of s t) i) [ None ↦ None | Some u ↦ leads s u places ]
 
--- Type t' of schema s' is a later version of type t of schema s: wherever one list of places leads from both, it leads
--- to a type and a later one.
+-- Type t' of schema s' is a later version of type t of schema s. If a list of places leads to a type from both, it
+-- leads to a type and a later version of it.
 abbrev pub Later : (s : List Resolved) (t : ℕ) (s' : List Resolved) (t' : ℕ) → Type 0
 Later s t s' t' =
     (places : List ℕ) (u u' : ℕ) (q r : Resolved)

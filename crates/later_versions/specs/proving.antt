@@ -1,4 +1,4 @@
--- What only contracts inside the crate and proofs speak of.
+-- Definitions for contracts inside the crate and for proofs.
 pub mod Keeping
 pub mod Edges
 pub mod Placed

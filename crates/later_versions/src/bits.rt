@@ -1,4 +1,4 @@
-//! Named bits, compared (X.680, 22).
+//! Compares named bits (X.680, 22).
 
 ghost use Rattle.std.specs.Prelude.{◌≡◌, ◌↔◌, IsTrue, IfOk, map};
 ghost use Rattle.asn_base.specs.Names.{AreDistinct, IsMember};
@@ -11,7 +11,7 @@ use asn_base::schema::NamedBit;
 use std::alloc::{AllocError, Global};
 use std::collections::BTreeMap;
 
-/// Where each bit stands in the list, by its place in the string.
+/// The number of each bit in the list, by the bit's place in the string.
 fn placed(alloc: Global, bits: &[NamedBit]) -> Result<BTreeMap<usize, usize>, AllocError>
     ensures { IfOk result (λ m. ArePlaced (map named_bit_of bits.now) m) }
 {
@@ -32,7 +32,7 @@ fn have_same_name(one: &NamedBit, other: &NamedBit) -> bool
     one.name.as_bytes() == other.name.as_bytes()
 }
 
-/// Whether the bit is one of those, of which each has a place of its own.
+/// Whether the bit is one of the list, in which each bit has a place of its own.
 fn has(bits: &[NamedBit], places: &BTreeMap<usize, usize>, bit: &NamedBit) -> bool
     requires placed { ArePlaced (map named_bit_of bits.now) places.now }
     requires distinct { AreDistinct (map (λ b. b.place) (map named_bit_of bits.now)) }
@@ -48,7 +48,7 @@ fn has(bits: &[NamedBit], places: &BTreeMap<usize, usize>, bit: &NamedBit) -> bo
     have_same_name(&bits[found], bit)
 }
 
-/// Whether the first bits have all of the others.
+/// Whether all of the others are among the first bits.
 fn have_all(alloc: Global, bits: &[NamedBit], others: &[NamedBit]) -> Result<bool, AllocError>
     requires { AreDistinct (map (λ b. b.place) (map named_bit_of bits.now)) }
     ensures { IfOk result (λ b. IsTrue b ↔ ((x : NamedBit') →
@@ -63,8 +63,8 @@ fn have_all(alloc: Global, bits: &[NamedBit], others: &[NamedBit]) -> Result<boo
     Ok(true)
 }
 
-/// Whether two lists name the same bits, in whatever order. For n bits it takes time as n log n; it refuses for want of
-/// memory alone.
+/// Whether two lists name the same bits, in any order. For n bits the time grows as n log n. `AllocError` comes only if
+/// an allocation fails.
 pub(crate) fn name_same(
     alloc: Global,
     bits: &[NamedBit],

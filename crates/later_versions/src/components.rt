@@ -1,4 +1,4 @@
-//! Components, compared (X.680, 25 and 27).
+//! Compares components (X.680, 25 and 27).
 
 ghost use Rattle.std.specs.Prelude.{◌≡◌, ◌↔◌, ◌≤◌, ◌<◌, ℕ, true, IsTrue, IfOk, Some, length, map, slice_get};
 ghost use Rattle.asn_base.specs.Abstract.{abstract};
@@ -17,7 +17,7 @@ use asn_base::schema::{Component, Presence, Schema, TypeId};
 use asn_base::value::Value;
 use std::alloc::{AllocError, Global};
 
-/// Whether the later default has the appended components absent and is, these left out, the same as the earlier one.
+/// Whether the appended components are absent in the later default, and it is the same as the earlier one without them.
 fn has_same_default(
     alloc: Global,
     schema: &Schema,
@@ -36,7 +36,7 @@ fn has_same_default(
     }
 }
 
-/// Whether a component of the type is marked alike.
+/// Whether a component of the type has the same kind of presence in both versions.
 fn is_marked_alike(
     alloc: Global,
     schema: &Schema,
@@ -70,7 +70,7 @@ fn is_marked_alike(
     }
 }
 
-/// Whether two are the same component.
+/// Whether two components are the same in their name and their presence.
 fn is_same_component(
     alloc: Global,
     schema: &Schema,
@@ -111,7 +111,7 @@ fn begin_with_components(
     Ok(true)
 }
 
-/// Whether it stands behind the extension marker.
+/// Whether the component comes after the extension marker.
 fn is_addition(component: &Component) -> bool
     ensures { result ≡ is_addition' (component_of component.now) }
 {
@@ -121,7 +121,7 @@ fn is_addition(component: &Component) -> bool
     }
 }
 
-/// Whether all components from a place on stand behind the extension marker.
+/// Whether all components from a place on come after the extension marker.
 fn are_additions_from(components: &[Component], from: usize) -> bool
     ensures { IsTrue result ↔ ((i : ℕ) (d : Component') →
         from ≤ i → slice_get (map component_of components.now) i ≡ Some d → is_addition' d ≡ true) }
@@ -134,7 +134,7 @@ fn are_additions_from(components: &[Component], from: usize) -> bool
     true
 }
 
-/// The group of a component, if it stands in version brackets.
+/// The group of a component, or None if it isn't in version brackets.
 fn group(component: &Component) -> Option<usize>
     ensures { result ≡ group_of (presence_of component.now.presence) }
 {
@@ -144,7 +144,7 @@ fn group(component: &Component) -> Option<usize>
     }
 }
 
-/// Whether two components are of one group.
+/// Whether two components are in one group.
 fn are_of_one(one: &Component, other: &Component) -> bool
     ensures { IsTrue result ↔ AreOfOne (component_of one.now) (component_of other.now) }
 {
@@ -154,7 +154,7 @@ fn are_of_one(one: &Component, other: &Component) -> bool
     }
 }
 
-/// Whether the component at a place is of one group with the one before it.
+/// Whether the component at a place is in one group with the one before it.
 fn is_joined(components: &[Component], place: usize) -> bool
     ensures { IsTrue result ↔ AreJoined (map component_of components.now) place }
 {
@@ -167,7 +167,7 @@ fn is_joined(components: &[Component], place: usize) -> bool
     are_of_one(&components[place - 1], &components[place])
 }
 
-/// Whether the component at a place is of a group.
+/// Whether the component at a place is in a group.
 fn is_grouped(components: &[Component], place: usize) -> bool
     requires { place < length components.now }
     ensures { IsTrue result ↔ AreInOneGroup (map component_of components.now) place place }
@@ -175,7 +175,7 @@ fn is_grouped(components: &[Component], place: usize) -> bool
     are_of_one(&components[place], &components[place])
 }
 
-/// Whether groups are the same among the first components, and none goes on behind them.
+/// Whether groups are the same among the first components, and none goes on after them.
 fn have_same_groups(components: &[Component], others: &[Component]) -> bool
     requires { length components.now ≤ length others.now }
     ensures { IsTrue result
@@ -192,7 +192,7 @@ fn have_same_groups(components: &[Component], others: &[Component]) -> bool
     !is_joined(others, components.len())
 }
 
-/// Whether the others are these components and more that were appended. It refuses for want of memory alone.
+/// Whether the others are these components, followed by appended ones. `AllocError` comes only if an allocation fails.
 pub(crate) fn are_later(
     alloc: Global,
     schema: &Schema,

@@ -1,4 +1,4 @@
-//! What constraints leave, compared (X.680, 51; X.691, 10.3).
+//! Compares what constraints allow (X.680, 51; X.691, 10.3).
 
 ghost use Rattle.std.specs.Prelude.{◌≡◌, ◌↔◌, ℤ, IsTrue, IfOk, IfSome, ◌≤ℤ◌, map};
 ghost use Rattle.asn_base.specs.Seen.{bounds_of, constraint_of, range_of};
@@ -22,7 +22,7 @@ fn are_same_ends(one: Option<i128>, other: Option<i128>) -> bool
     }
 }
 
-/// Whether the packed encoding sees the same.
+/// Whether both give the packed encoding the same bounds.
 fn are_same_bounds(one: &Bounds, other: &Bounds) -> bool
     ensures { IsTrue result ↔ (bounds_of one.now ≡ bounds_of other.now) }
 {
@@ -31,7 +31,7 @@ fn are_same_bounds(one: &Bounds, other: &Bounds) -> bool
         && one.extensible == other.extensible
 }
 
-/// The numbers from the least one on, or all.
+/// The numbers from the least one on, or all numbers if there is no least one.
 fn numbers_from(alloc: Global, least: Option<i128>) -> Result<Ranges, AllocError>
     ensures { IfOk result (λ all. (z : ℤ) → IsInSome z all ↔ IfSome least (λ l. l ≤ℤ z)) }
 {
@@ -86,8 +86,8 @@ fn allowed_sizes(alloc: Global, constraint: &Constraint) -> Result<Ranges, Alloc
     }
 }
 
-/// Whether two constraints of INTEGER leave the same. For n ranges it takes time as n log n; it refuses for want of
-/// memory alone.
+/// Whether two constraints of INTEGER allow the same numbers and give the same bounds. For n ranges the time grows as n
+/// log n. `AllocError` comes only if an allocation fails.
 pub(crate) fn leave_same_numbers(
     alloc: Global,
     one: &Constraint,
@@ -103,7 +103,7 @@ pub(crate) fn leave_same_numbers(
     Ok(have_same(&numbers, &others))
 }
 
-/// Whether two constraints on sizes leave the same.
+/// Whether two constraints on sizes allow the same sizes and give the same bounds.
 pub(crate) fn leave_same_sizes(
     alloc: Global,
     one: &Constraint,

@@ -10,7 +10,7 @@ use asn_base::schema::{Schema, TypeId};
 use asn_base::value::Value;
 use std::alloc::{AllocError, Global};
 
-/// Adds one more.
+/// Appends one element. `AllocError` comes only if an allocation fails.
 fn add<T: Drop>(list: &mut Vec<T>, one: T) -> Result<(), AllocError>
     ensures { OnOk result (list.new.items ≡ list.old.items ++ one ∷ []) }
 {
@@ -18,7 +18,7 @@ fn add<T: Drop>(list: &mut Vec<T>, one: T) -> Result<(), AllocError>
     Ok(())
 }
 
-/// Adds an absent component, where the type has one at this place.
+/// Appends an absent component, if the type has a component at this place.
 fn pass(
     schema: &Schema,
     id: TypeId,
@@ -37,8 +37,8 @@ fn pass(
     }
 }
 
-/// What the type keeps of a value, in memory of its own; None where it leaves out a component that is present. It calls
-/// itself once for each level of the value, and refuses for want of memory alone.
+/// What the type keeps of a value, in memory of its own, or None if it leaves out a component that is present. The
+/// function calls itself once for each level of the value. `AllocError` comes only if an allocation fails.
 #[cycle(keeping)]
 pub(crate) fn keep(
     alloc: Global,
@@ -78,7 +78,7 @@ pub(crate) fn keep(
     }
 }
 
-/// The same of components.
+/// What the type keeps of components.
 #[cycle(keeping)]
 fn keep_fields(
     alloc: Global,
@@ -112,7 +112,7 @@ fn keep_fields(
     Ok(Some(all))
 }
 
-/// The same of elements.
+/// What the type keeps of elements.
 #[cycle(keeping)]
 fn keep_elements(
     alloc: Global,

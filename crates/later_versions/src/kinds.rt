@@ -1,4 +1,4 @@
-//! What types hold, compared.
+//! Compares the kinds of types.
 
 ghost use Rattle.std.specs.Prelude.{◌≡◌, ◌↔◌, IsTrue, IfOk, List, map};
 ghost use Rattle.asn_base.specs.Schemas.{GroupsTogether, IsSound};
@@ -15,7 +15,7 @@ use asn_base::schema::{Component, Core, Schema};
 use asn_base::strings::StringKind;
 use std::alloc::{AllocError, Global};
 
-/// Whether two restricted strings are of one type and of the same characters.
+/// Whether two restricted strings are of one type, with the same alphabet.
 fn is_same_alphabet(
     kind: StringKind,
     codes: &[u8],
@@ -27,7 +27,7 @@ fn is_same_alphabet(
     kind == other_kind && codes == other_codes
 }
 
-/// Whether it is a restricted string of this type and alphabet, and of sizes that leave the same.
+/// Whether the kind is a restricted string of this type and alphabet, with a constraint that allows the same sizes.
 fn is_same_string(
     alloc: Global,
     kind: StringKind,
@@ -52,7 +52,7 @@ fn is_same_string(
     }
 }
 
-/// Whether both lists of components have a marker or none, and the second one is a later version of the first.
+/// Whether both lists of components have a marker, or both have none, and the second is a later version of the first.
 fn are_later_lists(
     alloc: Global,
     schema: &Schema,
@@ -76,8 +76,8 @@ fn are_later_lists(
     }
 }
 
-/// Whether what a type of the first schema holds is what it may hold in a later version, of the second schema. The
-/// types of members aren't looked at. It refuses for want of memory alone.
+/// Whether the second kind, of the second schema, can be that of a later version of the first, of the first schema. The
+/// types of members aren't looked at. `AllocError` comes only if an allocation fails.
 pub(crate) fn is_later_kind(
     alloc: Global,
     first: &Schema,

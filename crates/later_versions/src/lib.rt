@@ -1,4 +1,4 @@
-//! Later versions of types: the same with additions appended at extension markers (X.680, 7, 20, 25 and 29).
+//! Later versions of types: the same types with additions appended at extension markers (X.680, 7, 20, 25 and 29).
 #![tactic(auto)]
 
 mod bits;

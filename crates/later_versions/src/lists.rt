@@ -1,4 +1,4 @@
-//! Items and alternatives, compared (X.680, 20 and 29).
+//! Compares items and alternatives (X.680, 20 and 29).
 
 ghost use Rattle.std.specs.Prelude.{◌≡◌, ◌↔◌, IsTrue, map};
 ghost use Rattle.asn_base.specs.Seen.{alternative_of, item_of};
@@ -13,7 +13,7 @@ fn is_same_item(one: &Item, other: &Item) -> bool
     one.number == other.number && one.name.as_bytes() == other.name.as_bytes()
 }
 
-/// Whether the others begin with these items.
+/// Whether the other items begin with these.
 fn begin_with_items(items: &[Item], others: &[Item]) -> bool
     ensures { IsTrue result ↔ IsFront (λ i j. i ≡ j) (map item_of items.now) (map item_of others.now) }
 {
@@ -35,7 +35,7 @@ fn are_same_items(items: &[Item], others: &[Item]) -> bool
     items.len() == others.len() && begin_with_items(items, others)
 }
 
-/// Whether the root is the same, and so the additions but for more behind them.
+/// Whether the root is the same, and the other additions begin with these.
 pub(crate) fn are_later_items(items: &Items, others: &Items) -> bool
     ensures { IsTrue result
         ↔ ((items.now.extensible ≡ others.now.extensible)
@@ -54,7 +54,7 @@ fn is_same_alternative(one: &Alternative, other: &Alternative) -> bool
     one.name.as_bytes() == other.name.as_bytes()
 }
 
-/// Whether the others begin with alternatives of these names.
+/// Whether the other alternatives begin with alternatives of these names.
 fn begin_with_alternatives(alternatives: &[Alternative], others: &[Alternative]) -> bool
     ensures { IsTrue result ↔ IsFront (λ a b. a.name ≡ b.name)
         (map alternative_of alternatives.now)
@@ -71,7 +71,7 @@ fn begin_with_alternatives(alternatives: &[Alternative], others: &[Alternative])
     true
 }
 
-/// Whether two lists have alternatives of the same names.
+/// Whether two lists of alternatives have the same names.
 fn are_same_alternatives(alternatives: &[Alternative], others: &[Alternative]) -> bool
     ensures { IsTrue result
         ↔ (map (λ a. a.name) (map alternative_of alternatives.now)
@@ -80,7 +80,7 @@ fn are_same_alternatives(alternatives: &[Alternative], others: &[Alternative]) -
     alternatives.len() == others.len() && begin_with_alternatives(alternatives, others)
 }
 
-/// Whether the root has the same names, and so the additions but for more behind them.
+/// Whether the root has the same names, and the other additions begin with these names.
 pub(crate) fn are_later_alternatives(alternatives: &Alternatives, others: &Alternatives) -> bool
     ensures { IsTrue result
         ↔ ((alternatives.now.extensible ≡ others.now.extensible)

@@ -7,7 +7,7 @@ ghost use Rattle.later_versions.specs.Kept.{member_of, members_of};
 
 use asn_base::schema::{Alternatives, Component, Core, Schema, TypeId};
 
-/// The type of the component at a place.
+/// The type of the component at a place, or None if there is none.
 fn component_type(components: &[Component], place: usize) -> Option<TypeId>
     ensures { option_map (λ t. t.index) result ≡ slice_get (map (λ c. c.type) (map component_of components.now)) place }
 {
@@ -17,7 +17,7 @@ fn component_type(components: &[Component], place: usize) -> Option<TypeId>
     None
 }
 
-/// The type of the alternative at a place, over both lists.
+/// The type of the alternative at a place, over both lists, or None if there is none.
 fn alternative_type(alternatives: &Alternatives, place: usize) -> Option<TypeId>
     ensures { option_map (λ t. t.index) result ≡ slice_get
         (map (λ a. a.type)
@@ -35,7 +35,7 @@ fn alternative_type(alternatives: &Alternatives, place: usize) -> Option<TypeId>
     None
 }
 
-/// The type of the only member.
+/// The type of the only member, at place 0.
 fn element_type(element: TypeId, place: usize) -> Option<TypeId>
     ensures { option_map (λ t. t.index) result ≡ slice_get (element.index ∷ []) place }
 {
@@ -45,7 +45,8 @@ fn element_type(element: TypeId, place: usize) -> Option<TypeId>
     None
 }
 
-/// The type of the member at a place: of a component, of an alternative over both lists, or of the elements.
+/// The type of the member at a place: of a component, of an alternative over both lists, or of the elements. None if
+/// there is no member there.
 pub(crate) fn member(core: &Core, place: usize) -> Option<TypeId>
     ensures { option_map (λ t. t.index) result ≡ slice_get (types_in (kind_of core.now)) place }
 {
@@ -59,7 +60,7 @@ pub(crate) fn member(core: &Core, place: usize) -> Option<TypeId>
     }
 }
 
-/// The same of a type of the schema; none where the schema has no such type.
+/// The type of the member at a place of a type of the schema, or None if there is none or the schema has no such type.
 pub(crate) fn member_at(schema: &Schema, id: TypeId, place: usize) -> Option<TypeId>
     ensures { option_map (λ t. t.index) result ≡ slice_get (members_of schema.now id.index) place }
 {
@@ -69,7 +70,7 @@ pub(crate) fn member_at(schema: &Schema, id: TypeId, place: usize) -> Option<Typ
     None
 }
 
-/// The same; where there is none, the number of no type.
+/// The type of the member at a place of a type of the schema; if there is none, a number that no type has.
 pub(crate) fn member_or_none(schema: &Schema, id: TypeId, place: usize) -> TypeId
     ensures { result.index ≡ member_of schema.now id.index place }
 {

@@ -1,4 +1,4 @@
-//! Pairs of types, a type of an earlier schema and one of a later schema, of which each is to be compared once.
+//! Pairs of types, one of an earlier schema and one of a later schema. Each pair is compared once.
 
 ghost use Rattle.std.specs.Prelude.{◌≡◌, OnOk};
 ghost use Rattle.later_versions.specs.proving.Pairs.{AreKnown, AreNoted, HasMet, pair_of};
@@ -14,14 +14,14 @@ pub(crate) struct Pair {
     pub second: TypeId,
 }
 
-/// Pairs in the order in which they were met, and the numbers of those.
+/// Pairs in the order in which they were met, and the set of their numbers.
 #[derive(Drop)]
 pub(crate) struct Pairs {
     pub list: Vec<Pair>,
     pub known: BTreeSet<(usize, usize)>,
 }
 
-/// Puts a pair behind the others, if it isn't among them.
+/// Appends a pair to the others, if it isn't among them.
 pub(crate) fn note(pairs: &mut Pairs, pair: Pair) -> Result<(), AllocError>
     requires { AreKnown pairs.old }
     ensures known { OnOk result (AreKnown pairs.new) }

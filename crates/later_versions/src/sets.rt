@@ -1,4 +1,4 @@
-//! Sets of numbers, compared.
+//! Compares sets of numbers.
 
 ghost use Rattle.std.specs.Prelude.{◌≡◌, ◌↔◌, ◌^◌, ℤ, pos, None, Some, IsTrue, map};
 ghost use Rattle.asn_base.specs.Seen.{range_of};
@@ -9,7 +9,7 @@ use asn_base::constraint::Range;
 use asn_base::law::integer_within_limit;
 use ranges::Ranges;
 
-/// Whether the range has no end.
+/// Whether the range has no upper end.
 fn goes_up(range: &Range) -> bool
     ensures { IsTrue result ↔ IsInRange (pos (2 ^ 127)) (range_of range.now) }
 {
@@ -26,7 +26,7 @@ fn goes_up(range: &Range) -> bool
     }
 }
 
-/// Whether it has no end.
+/// Whether the end is None.
 fn is_none(end: Option<i128>) -> bool
     ensures { IsTrue result ↔ (end ≡ None) }
 {
@@ -36,7 +36,7 @@ fn is_none(end: Option<i128>) -> bool
     }
 }
 
-/// Whether a range has the first number that is above all of 128 bits.
+/// Whether a range has 2^127, the first number above all numbers of 128 bits.
 fn reach_up(ranges: &[Range]) -> bool
     ensures { IsTrue result ↔ IsInSome (pos (2 ^ 127)) (map range_of ranges.now) }
 {
@@ -48,7 +48,7 @@ fn reach_up(ranges: &[Range]) -> bool
     false
 }
 
-/// Whether a range has no beginning.
+/// Whether a range has no lower end.
 fn reach_down(ranges: &[Range]) -> bool
     ensures { IsTrue result ↔ HasNoBeginning (map range_of ranges.now) }
 {
@@ -67,7 +67,7 @@ fn agree_at(number: i128, one: &Ranges, other: &Ranges) -> bool
     one.has(number) == other.has(number)
 }
 
-/// Whether the number behind this one is in both sets or in none.
+/// Whether the number after this one is in both sets or in none.
 fn agree_behind(number: i128, one: &Ranges, other: &Ranges) -> bool
     ensures { IsTrue result ↔ ((z : ℤ) → IsBehind number z → (IsInSome z one.now ↔ IsInSome z other.now)) }
 {
@@ -77,7 +77,7 @@ fn agree_behind(number: i128, one: &Ranges, other: &Ranges) -> bool
     agree_at(number + 1, one, other)
 }
 
-/// Whether the beginning, if there is one, is in both sets or in none.
+/// Whether the lower end, if there is one, is in both sets or in none.
 fn agree_at_least(least: Option<i128>, one: &Ranges, other: &Ranges) -> bool
     ensures { IsTrue result ↔ ((z : ℤ) → least ≡ Some z → (IsInSome z one.now ↔ IsInSome z other.now)) }
 {
@@ -87,7 +87,7 @@ fn agree_at_least(least: Option<i128>, one: &Ranges, other: &Ranges) -> bool
     }
 }
 
-/// Whether the number behind the end, if there is one, is in both sets or in none.
+/// Whether the number after the upper end, if there is one, is in both sets or in none.
 fn agree_at_end(greatest: Option<i128>, one: &Ranges, other: &Ranges) -> bool
     ensures { IsTrue result ↔ ((g : ℤ) → greatest ≡ Some g → (z : ℤ) →
         IsBehind g z → (IsInSome z one.now ↔ IsInSome z other.now)) }
@@ -109,7 +109,7 @@ fn agree_at_edges(range: &Range, one: &Ranges, other: &Ranges) -> bool
     agree_at_end(range.greatest, one, other)
 }
 
-/// The same of some ranges.
+/// Whether both sets agree at the edges of each range.
 fn agree_at_all(ranges: &[Range], one: &Ranges, other: &Ranges) -> bool
     ensures { IsTrue result
         ↔ ((z : ℤ) → IsEdgeOfSome (map range_of ranges.now) z → (IsInSome z one.now ↔ IsInSome z other.now)) }
@@ -122,8 +122,8 @@ fn agree_at_all(ranges: &[Range], one: &Ranges, other: &Ranges) -> bool
     true
 }
 
-/// Whether two sets have the same numbers: they agree below all edges of their ranges and at each. For n ranges it
-/// takes time as n log n, and no memory.
+/// Whether two sets have the same numbers: they agree below all edges of their ranges, and at each edge. For n ranges
+/// the time grows as n log n, and the function takes no memory.
 pub(crate) fn have_same(one: &Ranges, other: &Ranges) -> bool
     ensures { IsTrue result ↔ ((z : ℤ) → IsInSome z one.now ↔ IsInSome z other.now) }
 {

@@ -1,11 +1,11 @@
-//! Tags, compared (X.680, 8).
+//! Compares tags (X.680, 8).
 
 ghost use Rattle.std.specs.Prelude.{◌≡◌, ◌↔◌, IsTrue};
 ghost use Rattle.asn_base.specs.Tags.{class_rank};
 
 use asn_base::tag::{Class, Tag};
 
-/// The place of a class in their order.
+/// The place of a class in the order of classes, from 0.
 fn rank(class: Class) -> u8
     ensures { result ≡ class_rank class }
 {

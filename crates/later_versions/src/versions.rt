@@ -12,7 +12,7 @@ use asn_base::schema::{Schema, TypeId};
 use std::alloc::{AllocError, Global};
 use std::collections::BTreeSet;
 
-/// Whether the second type of a pair is what the first may be in a later version, but for the types of members.
+/// Whether the second type of a pair can be a later version of the first, apart from the types of members.
 fn is_later_pair(
     alloc: Global,
     first: &Schema,
@@ -35,7 +35,7 @@ fn is_later_pair(
     }
 }
 
-/// Puts the pairs of members at one place behind the others. A type has at most 320 members.
+/// Appends the pairs of members at one place to the others. A type has at most 320 members.
 fn note_members(
     first: &Schema,
     second: &Schema,
@@ -67,7 +67,7 @@ fn note_members(
     Ok(())
 }
 
-/// Compares a pair of types, the pairs of their members, and so on, each once.
+/// Compares a pair of types, the pairs of their members, and so on. Each pair is compared once.
 fn are_later(
     alloc: Global,
     first: &Schema,
@@ -98,12 +98,13 @@ fn are_later(
     Ok(true)
 }
 
-/// Whether the second type, of the second schema, is a later version of the first: the same with additions appended at
-/// extension markers, at any depth (X.680, 7, 20, 25 and 29). Kinds, tags, markers, names, numbers, named bits, what
-/// constraints leave and what the packed encoding sees of them, and OPTIONAL and DEFAULT are alike; a group of
-/// additions is appended whole; a default of the later version has what was appended absent and is else the same. The
-/// order in which root items of an enumeration and named bits were written doesn't count. Each pair of types that one
-/// list of members' places leads to is compared once. It refuses with `AllocError` for want of memory alone.
+/// Decides whether the second type, of the second schema, is a later version of the first (X.680, 7, 20, 25 and 29). It
+/// is one if it is the same type with additions appended at extension markers, at any depth. Kinds, tags, markers,
+/// names, numbers, named bits, OPTIONAL and DEFAULT are the same. So are the values that constraints allow, and the
+/// bounds that the packed encoding uses. A group of additions is appended whole. In a default of the later version the
+/// appended components are absent, and otherwise it is the same. The order in which root items of an enumeration and
+/// named bits were written doesn't count. Each pair of types to which one list of members' places leads is compared
+/// once. `AllocError` comes only if an allocation fails.
 pub fn later(
     alloc: Global,
     first: &Schema,

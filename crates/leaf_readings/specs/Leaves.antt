@@ -1,4 +1,5 @@
--- What primitive contents octets of kinds that hold no others are read as (X.690, 8.2 to 8.8, 8.19, 8.20 and 8.23).
+-- The values as which primitive contents octets are read, of kinds that hold no others (X.690, 8.2 to 8.8, 8.19, 8.20
+-- and 8.23).
 use Rattle.std.specs.Prelude.{◌≡◌, ℕ, ◌-◌, ◌*◌, Bool, false, List, length, take, flat_map, IsTrue, IsUtf8}
 use Rattle.std.specs.List.{AllByRecursion}
 use Rattle.asn_base.specs.Abstract.{AbstractValue, boolean, integer, enumerated, bits, octets, text, null, oid}
@@ -14,7 +15,8 @@ use Rattle.codec_code.specs.Steps.{plain}
 use Rattle.leaf_readings.specs.declared.leaf.Leaf.{Leaf}
 use Rattle.leaf_readings.specs.declared.leaf.Leaf.TheVariants as leaves
 
--- what each type of the kind asks of its values, whatever its constraints: the limit on numbers, and its characters
+-- what every type of the kind requires of its values, whatever its constraints: the limit on numbers, and the
+-- characters
 abbrev pub Suits : LeafKind → AbstractValue → Type 0
 Suits kinds.Integer (integer z) = IsWithinLimit z
 Suits kinds.Enumerated (enumerated z) = IsWithinLimit z
@@ -27,11 +29,11 @@ pub record IsReadAs (k : LeafKind) (v : AbstractValue) (x : Octets) : Type 0 whe
   pub contents : Contents Basic (plain k) v false x
   pub suits : Suits k v
 
--- the bits of octets but the last n ones
+-- the bits of octets without the last n ones
 abbrev pub bits_but : ℕ → Octets → List Bool
 bits_but n o = take (8 * length o - n) (flat_map bits_of_octet o)
 
--- the value that is handed over
+-- the value that a leaf is
 abbrev pub Tells : Leaf → AbstractValue → Type 0
 Tells (leaves.Bool b) v = v ≡ boolean b
 Tells (leaves.Int z) v = v ≡ integer z
@@ -45,7 +47,7 @@ Tells (leaves.Oid o) v =
 Tells (leaves.RelativeOid o) v =
     (ns : List ℕ) × (v ≡ relative_oid ns) × IsRelativeOid ns × (o.now ≡ flat_map septets ns)
 
--- contents octets x of this kind are those of the value that the leaf tells
+-- contents octets x of this kind are those of the value that the leaf is
 pub record Reads (k : LeafKind) (x : Octets) (l : Leaf) : Type 0 where
   pub value : AbstractValue
   pub told : Tells l value

@@ -11,7 +11,7 @@ use Rattle.codec_code.specs.declared.step.LeafKind.TheVariants as kinds
 use Rattle.leaf_readings.specs.declared.fault.LeafFault.{LeafFault}
 use Rattle.leaf_readings.specs.declared.fault.LeafFault.TheVariants as faults
 
--- octets are some numbers in septets, one behind the other (8.19.2)
+-- octets are at least one number in septets, one after the other (8.19.2)
 pub record AreNumbers (x : Octets) (ns : List ℕ) : Type 0 where
   pub some : 1 ≤ length ns
   pub whole : x ≡ flat_map septets ns
@@ -30,7 +30,7 @@ HasForm kinds.RelativeOid x = (ns : List ℕ) × AreNumbers x ns  -- 8.20
 HasForm kinds.Utf8String x = IsUtf8 x  -- 8.23.10
 HasForm (kinds.RestrictedString k) x = AllByRecursion (λ c. IsTrue (is_character k c)) x  -- 8.23.5
 
--- each fault stands where contents octets of the kind haven't its form, or where they have it and a limit is passed
+-- BadContents: the octets don't have the form of contents of the kind; the other faults: they have it, and pass a limit
 pub data Stands : LeafFault → LeafKind → Octets → Type 0 where
   without_form : {k : LeafKind} {x : Octets} → (HasForm k x → ⊥) → Stands faults.BadContents k x
   integer_past : {z : ℤ} {x : Octets}
@@ -41,7 +41,7 @@ pub data Stands : LeafFault → LeafKind → Octets → Type 0 where
       → Number z x
       → (IsWithinLimit z → ⊥)
       → Stands faults.IntegerLimit kinds.Enumerated x
-  -- the first number is that of the first two
+  -- the first number in septets encodes the first two numbers of the value
   oid_past : {ns : List ℕ} {x : Octets}
       → AreNumbers x ns
       → ((ms : List ℕ) → IsObjectIdentifier ms → joined ms ≡ ns → ⊥)

@@ -13,7 +13,7 @@ use crate::fault::LeafFault;
 use crate::septets::read_arc;
 use limits::MAX_ARCS;
 
-/// Whether numbers are below 2^64 with one more.
+/// Whether some numbers and one more are all below 2^64; `small` says so of the first ones.
 #[tactic(auto, using(crate::proofs::Spelling::judged_small, crate::proofs::Spelling::judged_great, crate::proofs::Spelling::judged_before))]
 fn stays_small(small: bool, number: Option<u128>) -> bool
     ensures { (ns : List ℕ) (n : ℕ) → IsJudged small ns → IsTold number n → IsJudged result (ns ++ n ∷ []) }
@@ -24,7 +24,7 @@ fn stays_small(small: bool, number: Option<u128>) -> bool
     }
 }
 
-/// How many numbers the octets are, and whether each is below 2^64. None where they are no numbers.
+/// How many numbers in septets the octets are, and whether each is below 2^64. None if the octets aren't such numbers.
 #[tactic(auto, using(crate::proofs::Spelling::none_counted, crate::proofs::Spelling::one_counted, crate::proofs::Spelling::no_numbers))]
 fn count_arcs(octets: &[u8]) -> Option<(usize, bool)>
     ensures some { IfSome result (λ r. Counted r.0 r.1 [] octets.now) }
@@ -44,7 +44,7 @@ fn count_arcs(octets: &[u8]) -> Option<(usize, bool)>
     Some((count, small))
 }
 
-/// Whether octets are those of an OBJECT IDENTIFIER, whose first two numbers are one (8.19.4).
+/// Checks that octets are those of an OBJECT IDENTIFIER, whose first two numbers are encoded as one (8.19.4).
 pub(crate) fn judge_object_identifier(octets: &[u8]) -> Result<(), LeafFault>
     ensures ok { IfOk result
         (λ u. (ns : List ℕ) × IsObjectIdentifier ns × (octets.now ≡ flat_map septets (joined ns))) }
@@ -68,7 +68,7 @@ pub(crate) fn judge_object_identifier(octets: &[u8]) -> Result<(), LeafFault>
     Ok(())
 }
 
-/// Whether the number may be the first, that of the first two.
+/// Whether the number may be the first one, which encodes the first two numbers of the value.
 fn is_first(number: Option<u128>) -> bool
     ensures { (n : ℕ) → IsTold number n → IsTrue result ↔ (n < 18446744073709551696) }
 {
@@ -78,7 +78,7 @@ fn is_first(number: Option<u128>) -> bool
     }
 }
 
-/// Whether octets are those of a RELATIVE-OID.
+/// Checks that octets are those of a RELATIVE-OID.
 pub(crate) fn judge_relative_oid(octets: &[u8]) -> Result<(), LeafFault>
     ensures ok { IfOk result (λ u. (ns : List ℕ) × IsRelativeOid ns × (octets.now ≡ flat_map septets ns)) }
     ensures err { IfErr result (λ e. Stands e RelativeOid octets.now) }

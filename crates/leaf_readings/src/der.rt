@@ -1,4 +1,4 @@
-//! Whether contents octets keep the distinguished rules (X.690, 11.1 and 11.2).
+//! Whether contents octets fulfil the distinguished rules (X.690, 11.1 and 11.2).
 
 ghost use Rattle.asn_base.specs.Abstract.{AbstractValue, bits_of_octet};
 ghost use Rattle.codec_code.specs.Steps.{plain};
@@ -10,9 +10,9 @@ ghost use Rattle.std.specs.Prelude.{◌≡◌, ◌<◌, ◌↔◌, Bool, IsTrue,
 
 use codec_code::LeafKind;
 
-/// Whether primitive contents octets of this kind, which are read by the basic rules, keep the distinguished ones too:
-/// TRUE has all bits set (11.1), the unused bits of a BIT STRING are zeros (11.2.1), and named bits end in a one
-/// (11.2.2). It takes no memory.
+/// Whether primitive contents octets of this kind, which are valid by the basic rules, fulfil the distinguished ones
+/// too. All bits of TRUE are set (11.1), the unused bits of a BIT STRING are zeros (11.2.1), and named bits end in a
+/// one (11.2.2). The call takes no memory.
 pub fn is_distinguished(kind: LeafKind, contents: &[u8]) -> bool
     ensures { (v : AbstractValue) → Contents Basic (plain kind) v false contents.now
         → IsTrue result ↔ Contents Distinguished (plain kind) v false contents.now }
@@ -74,7 +74,7 @@ fn ends_in_one(contents: &[u8]) -> bool
     }
 }
 
-/// Whether both hold.
+/// Whether the unused bits are zeros, and the bits end in a one or there are none.
 fn is_trimmed(contents: &[u8]) -> bool
     ensures { (s : List Bool) → WholeBits s contents.now
         → IsTrue result ↔ (FilledWithZeros s contents.now × EndsInOne s) }
@@ -82,7 +82,7 @@ fn is_trimmed(contents: &[u8]) -> bool
     is_filled(contents) && ends_in_one(contents)
 }
 
-/// Whether so many last bits of the octet are zeros.
+/// Whether the last `count` bits of the octet are zeros.
 fn has_zeros(octet: u8, count: u8) -> bool
     requires { count < 8 }
     ensures { IsTrue result ↔ (low_bits count octet ≡ replicate count false) }
@@ -99,7 +99,7 @@ fn has_zeros(octet: u8, count: u8) -> bool
     }
 }
 
-/// Whether the bit before so many last ones is a one.
+/// Whether the bit before the last `count` bits of the octet is a one.
 fn has_one(octet: u8, count: u8) -> bool
     requires { count < 8 }
     ensures { IsTrue result ↔ (one_bit count octet ≡ true) }

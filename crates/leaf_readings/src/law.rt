@@ -1,4 +1,4 @@
-//! Laws of what contents octets are read as.
+//! Laws of the values as which contents octets are read.
 
 ghost use Rattle.asn_base.specs.Abstract.{AbstractValue};
 ghost use Rattle.codec_code.specs.declared.step.LeafKind.{LeafKind};
@@ -7,7 +7,7 @@ ghost use Rattle.leaf_readings.specs.Refused.{Stands};
 ghost use Rattle.leaf_readings.specs.declared.fault.LeafFault.{LeafFault};
 ghost use Rattle.std.specs.Prelude.{◌≡◌, List, ℕ};
 
-/// Contents octets of a kind are those of one value at most, or else one fault stands, and never both.
+/// Contents octets of a kind are those of at most one value, or else they have one fault, and never both.
 pub fn one_reading()
     ensures value { (k : LeafKind) (v w : AbstractValue) (x : List ℕ) → IsReadAs k v x → IsReadAs k w x → v ≡ w }
     ensures fault { (e f : LeafFault) (k : LeafKind) (x : List ℕ) → Stands e k x → Stands f k x → e ≡ f }

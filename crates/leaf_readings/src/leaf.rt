@@ -1,4 +1,4 @@
-//! What contents octets are read as.
+//! The values as which contents octets are read.
 
 ghost use Rattle.codec_code.specs.declared.step.LeafKind.TheVariants.{BitString, Boolean, Enumerated, Integer, NamedBits, Null, ObjectIdentifier, OctetString, RelativeOid, RestrictedString, Utf8String};
 ghost use Rattle.asn_base.specs.Abstract.{AbstractValue};
@@ -15,42 +15,44 @@ use crate::text::{read_restricted, read_utf8};
 use asn_base::strings::StringKind;
 use codec_code::LeafKind;
 
-/// A value that holds no others, as it is read: it takes no memory, and its strings are slices of what was read.
+/// A value that holds no others, as it is read. It takes no memory, and its strings are slices of the octets that were
+/// read.
 #[derive(Clone, Copy, Debug, PartialEq, Eq)]
 pub enum Leaf<'a> {
     Bool(bool),
     Int(i128),
     Enum(i128),
-    /// The bits of these octets but so many last ones: the octets behind the first contents octet.
+    /// The number of unused bits at the end of the last octet, and the octets after the initial octet.
     Bits(u8, &'a [u8]),
     Octets(&'a [u8]),
     Text(&'a str),
     Null,
-    /// The contents octets: numbers in septets, the first of which is 40 times the first number and the second one.
-    /// `read_arc` reads one.
+    /// The contents octets: numbers in septets. The first of them is 40 times the first number, plus the second one.
+    /// `read_arc` reads one number.
     Oid(&'a [u8]),
     /// The contents octets: each number in septets.
     RelativeOid(&'a [u8]),
 }
 
-/// Reads primitive contents octets of this kind by the basic rules (X.690, 8.2 to 8.8, 8.19, 8.20 and 8.23). It takes
-/// no memory. Constraints, and the numbers of an ENUMERATED's items, are not judged.
+/// Reads primitive contents octets of this kind by the basic rules (X.690, 8.2 to 8.8, 8.19, 8.20 and 8.23). The call
+/// takes no memory. Constraints, and the numbers of an ENUMERATED's items, are not checked.
 ///
-/// `BadContents` is told where the octets haven't the form of such contents: a number longer than its shortest form,
-/// more than seven unused bits, a text of other characters than its type's. Where they have it, `IntegerLimit` is told
-/// of a number that 16 octets don't hold, and `OidLimit` of more than 64 numbers or one that is 2^64 or greater.
+/// `BadContents`: the octets don't have the form of such contents. Examples are a number longer than its shortest form,
+/// more than seven unused bits, and a text with a character that its type doesn't have. If the form is right,
+/// `IntegerLimit`: a number doesn't fit in 16 octets; `OidLimit`: there are more than 64 numbers, or one is 2^64 or
+/// greater.
 #[inline(always)]
 pub fn read_leaf(kind: LeafKind, contents: &[u8]) -> Result<Leaf<'_>, LeafFault>
     ensures ok { IfOk result (λ l. Reads kind contents.now l) }
     ensures err { IfErr result (λ e. Stands e kind contents.now) }
-    // They are read wherever they are those of a value, and each fault is told just where it stands.
+    // Octets that are those of a value are read, and each fault that they have is the error.
     ensures only { (v : AbstractValue) → IsReadAs kind v contents.now → IsOk result }
     ensures just { (e : Fault') → Stands e kind contents.now → result ≡ Err e }
 {
     read_kind(kind, contents)
 }
 
-/// The same, by the kind.
+/// The same as `read_leaf`, by a function for each kind.
 #[inline(always)]
 fn read_kind(kind: LeafKind, contents: &[u8]) -> Result<Leaf<'_>, LeafFault>
     ensures ok { IfOk result (λ l. Reads kind contents.now l) }
@@ -71,7 +73,7 @@ fn read_kind(kind: LeafKind, contents: &[u8]) -> Result<Leaf<'_>, LeafFault>
     }
 }
 
-/// No bit is set for FALSE, some are for TRUE (8.2.2).
+/// Reads a BOOLEAN: FALSE has no bit set, and TRUE has some (8.2.2).
 #[inline(always)]
 fn as_boolean(contents: &[u8]) -> Result<Leaf<'_>, LeafFault>
     ensures ok { IfOk result (λ l. Reads Boolean contents.now l) }

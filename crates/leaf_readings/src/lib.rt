@@ -1,4 +1,4 @@
-//! Primitive contents octets of kinds that hold no others, as they are read by the basic rules and judged by the
+//! Primitive contents octets of kinds that hold no others. They are read by the basic rules and checked against the
 //! distinguished ones (X.690, 8.2 to 8.8, 8.19, 8.20, 8.23, 10 and 11). Strings are slices of what is read.
 #![tactic(auto)]
 

@@ -9,7 +9,8 @@ use crate::fault::LeafFault;
 /// The most octets of a number within the limit.
 const MOST: usize = 16;
 
-/// The number that octets are in two's complement, in the fewest octets.
+/// The number that octets are in two's complement, in the fewest octets. `BadContents`: there are no octets, or fewer
+/// are enough. `IntegerLimit`: the number is outside the range from -2^127 to 2^127 - 1.
 #[inline(always)]
 pub(crate) fn read_number(octets: &[u8]) -> Result<i128, LeafFault>
     ensures ok { IfOk result (λ z. IsNumber z octets.now) }
@@ -25,7 +26,7 @@ pub(crate) fn read_number(octets: &[u8]) -> Result<i128, LeafFault>
     Ok(number_of(octets))
 }
 
-/// Whether there are octets, the first nine bits of which aren't all alike (8.3.2).
+/// Whether there are octets whose first nine bits aren't all alike (8.3.2).
 #[inline(always)]
 fn is_shortest(octets: &[u8]) -> bool
     ensures { IsTrue result ↔ IsShort octets.now }
@@ -57,7 +58,7 @@ fn number_of(octets: &[u8]) -> i128
     }
 }
 
-/// The number itself.
+/// The number itself, with a sign.
 fn not_negative(number: u128) -> i128
     requires { number < 2 ^ 127 }
     ensures { result ≡ pos number }
@@ -65,7 +66,7 @@ fn not_negative(number: u128) -> i128
     number as i128
 }
 
-/// One less than the negated number.
+/// The negated number, less one.
 fn negative(number: u128) -> i128
     requires { number < 2 ^ 127 }
     ensures { result ≡ negsuc number }
@@ -73,7 +74,7 @@ fn negative(number: u128) -> i128
     -1 - number as i128
 }
 
-/// The number that octets tell behind some that are worth `high`.
+/// The number that `high` and the octets after it are, in base 256.
 #[tactic(auto, using(crate::proofs::Shortest::worth_fits, crate::proofs::Shortest::worth_small, crate::proofs::Shortest::worth_step, crate::proofs::Shortest::worth_none))]
 fn worth(octets: &[u8], high: u128) -> u128
     requires { number_from_digits_after 256 high octets.now < 2 ^ 128 }
@@ -85,7 +86,7 @@ fn worth(octets: &[u8], high: u128) -> u128
     worth(behind, high * 256 + *octet as u128)
 }
 
-/// The same of the octets with each bit turned.
+/// The number that `high` and the octets after it, each bit of these inverted, are in base 256.
 #[tactic(auto, using(crate::proofs::Shortest::turned_fits, crate::proofs::Shortest::turned_small, crate::proofs::Shortest::turned_step, crate::proofs::Shortest::turned_none))]
 fn turned_worth(octets: &[u8], high: u128) -> u128
     requires { turned_after high octets.now < 2 ^ 128 }
@@ -97,7 +98,7 @@ fn turned_worth(octets: &[u8], high: u128) -> u128
     turned_worth(behind, high * 256 + (255 - *octet) as u128)
 }
 
-/// They are octets.
+/// Each item of a slice of octets is below 256.
 pub(crate) fn are_octets(octets: &[u8])
     ensures { AllBelowBase 256 octets.now }
 {}

@@ -5,11 +5,12 @@ ghost use Rattle.leaf_readings.specs.proving.Spelled.{Behind, Septets};
 ghost use Rattle.encodings.specs.Header.{septets};
 ghost use Rattle.std.specs.Prelude.{◌≡◌, ◌<◌, ◌++◌, ◌^◌, IfNone, IfSome, List, length, ℕ, None};
 
-/// From here on septets are worth more than any number of an OBJECT IDENTIFIER.
+/// A number is greater than any number of an OBJECT IDENTIFIER if its septets before the last one are worth this or
+/// more.
 const GREAT: u128 = 18_446_744_073_709_551_616;
 
-/// The number in septets at the front of octets, without zeros first, and what follows it. None stands for a number of
-/// 2^64 + 80 or greater.
+/// The number in septets at the start of octets, without leading zeros, and what follows it. The inner None is a number
+/// of 2^64 + 80 or greater; the outer None is octets that don't start with such a number.
 #[tactic(auto, using(crate::proofs::OneOctet::one_front))]
 pub fn read_arc(octets: &[u8]) -> Option<(Option<u128>, &[u8])>
     ensures some { IfSome result (λ r. Front r.0 r.1.now octets.now) }
@@ -32,7 +33,7 @@ pub fn read_arc(octets: &[u8]) -> Option<(Option<u128>, &[u8])>
     }
 }
 
-/// Reads septets behind some that are worth `high`.
+/// Reads septets after some that are worth `high`.
 #[tactic(auto, using(crate::proofs::Spelling::one_last, crate::proofs::Spelling::one_more, crate::proofs::Spelling::one_great, crate::proofs::Spelling::none_there, crate::proofs::Spelling::none_behind))]
 fn read_septets(octets: &[u8], high: u128) -> Option<(Option<u128>, &[u8])>
     requires { high < 2 ^ 64 }
@@ -56,7 +57,7 @@ fn read_septets(octets: &[u8], high: u128) -> Option<(Option<u128>, &[u8])>
     }
 }
 
-/// What follows septets, whatever they are worth.
+/// What follows septets, whatever they are worth. None if the octets end within them.
 #[tactic(auto, using(crate::proofs::Spelling::high_more, crate::proofs::Spelling::ends_before, crate::proofs::Spelling::none_ends))]
 fn behind_septets(octets: &[u8]) -> Option<&[u8]>
     ensures some { IfSome result (λ r. (high : ℕ) → (n : ℕ) × Septets high octets.now n r.now) }

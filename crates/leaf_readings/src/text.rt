@@ -7,7 +7,7 @@ ghost use Rattle.std.specs.Prelude.{◌≡◌, ◌↔◌, IfNone, IfSome, IsTrue
 
 use asn_base::strings::StringKind;
 
-/// The text, where octets are UTF-8.
+/// The text of octets, or None if they are not UTF-8.
 pub(crate) fn read_utf8(octets: &[u8]) -> Option<&str>
     ensures some { IfSome result (λ s. (s.now ≡ octets.now) × IsUtf8 octets.now) }
     ensures none { IfNone result (IsUtf8 octets.now → ⊥) }
@@ -18,7 +18,7 @@ pub(crate) fn read_utf8(octets: &[u8]) -> Option<&str>
     }
 }
 
-/// The text, where each octet is a character of the type.
+/// The text of octets, or None if one of them is no character of the type.
 pub(crate) fn read_restricted(kind: StringKind, octets: &[u8]) -> Option<&str>
     ensures some { IfSome result
         (λ s. (s.now ≡ octets.now) × AllByRecursion (λ c. IsTrue (is_character kind c)) octets.now) }

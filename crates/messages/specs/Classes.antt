@@ -83,7 +83,7 @@ bound_class_of (bounds.Reconstrained s) = (52, codes "Reconstrained")
 bound_class_of (bounds.LowerAboveUpper s) = (53, codes "LowerAboveUpper")
 bound_class_of (bounds.MarkerPlace s) = (55, codes "MarkerPlace")
 
--- what stands behind extension markers
+-- what follows extension markers
 abbrev pub addition_class_of : ExtFault → ℕ × List ℕ
 addition_class_of additions.Memory = (1, codes "Memory")
 addition_class_of (additions.MarkerPlace s) = (55, codes "MarkerPlace")
@@ -107,7 +107,7 @@ reason_class_of reasons.Missing = (63, codes "Missing")
 reason_class_of reasons.Behind = (60, codes "NotOfType")
 reason_class_of reasons.Outside = (61, codes "OutsideConstraint")
 
--- octets that are not read (X.690, clause 8)
+-- octets that can't be read (X.690, clause 8)
 abbrev pub read_class_of : ReadFault → ℕ × List ℕ
 read_class_of readings.Memory = (1, codes "Memory")
 read_class_of readings.MessageLimit = (2, codes "Limit(Message)")
@@ -151,6 +151,7 @@ class_of (faults.Value t) = reason_class_of t.reason
 class_of faults.TooLong = (71, codes "TooLong")
 class_of (faults.Device n) = (72, codes "Device")
 class_of (faults.Unread u) = read_class_of u.fault
+class_of (faults.NotAccount s) = (100, codes "NotAccount")
 
 abbrev pub number_of : Fault → ℕ
 number_of f = (class_of f).0

@@ -42,6 +42,7 @@ pub(crate) fn told_class(fault: &Fault) -> Class
         Fault::TooLong => is(71, "TooLong"),
         Fault::Device(_) => is(72, "Device"),
         Fault::Unread(unread) => of_reading(unread.fault),
+        Fault::NotAccount(_) => is(100, "NotAccount"),
     }
 }
 

@@ -6,14 +6,15 @@ ghost use Rattle.messages.specs.Status.{status_of};
 ghost use Rattle.messages.specs.declared.fault.Fault.TheVariants.{Memory};
 
 use crate::classes::told_class;
+use account_text::Stop;
 use codec_source::ReadFault;
 use front_end::FrontFault;
 use std::alloc::{AllocError, AllocFailed};
 use thiserror::Error;
 use told_values::ValueTold;
 
-/// Why octets are not read as a value, and where: the place of the octet, from 0, and the part of the value that was
-/// being read there, from the outermost in, as `a.b[2].c`; empty where it was the whole value.
+/// Why octets can't be read as a value, and where: the place of the octet, from 0, and the part of the value that was
+/// being read there. The part is given from the outermost one in, as `a.b[2].c`; it is empty if it was the whole value.
 #[derive(Debug, Drop, Error)]
 #[error("{fault} at octet {octet}")]
 pub struct Unread {
@@ -22,13 +23,13 @@ pub struct Unread {
     pub path: String,
 }
 
-/// A refusal: its number and name come first in its text, but for a help that was asked for.
+/// A refusal: its text begins with its number and name, except for help that was asked for.
 #[derive(Debug, Drop, Error)]
 pub enum Fault {
     /// There was not enough memory.
     #[error("error 1 Memory: out of memory")]
     Memory,
-    /// A file could not be read; its name.
+    /// A file could not be read; the string is its name.
     #[error("error 3 File: {0}: the file can not be read")]
     File(String),
     /// No file has this name.
@@ -37,10 +38,10 @@ pub enum Fault {
     /// This is a folder, and no file.
     #[error("error 3 File: {0}: this is a folder")]
     Folder(String),
-    /// The command line asks for nothing that the program does; what is wrong with it.
+    /// The command line asks for nothing that the program does; the string says what is wrong with it.
     #[error("error 4 BadWords: {0}")]
     BadWords(String),
-    /// Help was asked for; its text.
+    /// Help was asked for; the string is its text.
     #[error("{0}")]
     Help(String),
     /// The texts are not accepted.
@@ -61,9 +62,12 @@ pub enum Fault {
     /// The output took this many octets and then no more.
     #[error("error 72 Device: the output took {0} octets and then no more")]
     Device(u64),
-    /// The octets are not read as a value of the type.
+    /// The octets can't be read as a value of the type.
     #[error("error {0}")]
     Unread(Unread),
+    /// The octets are not the text of an account; `Stop` says where it stops being one.
+    #[error("error 100 NotAccount: {0}")]
+    NotAccount(Stop),
 }
 
 impl<T: Drop> From<AllocFailed<T>> for Fault {
@@ -82,22 +86,22 @@ impl From<AllocError> for Fault {
     }
 }
 
-/// The number of a fault's class, which its text names.
+/// The number of a fault's class, which its text contains.
 pub fn number(fault: &Fault) -> u8
     ensures { result ≡ number_of fault.now }
 {
     told_class(fault).number
 }
 
-/// The name of a fault's class, which its text names behind the number; that of a limit in parentheses.
+/// The name of a fault's class, which its text contains after the number; the name of a limit is in parentheses.
 pub fn name(fault: &Fault) -> &'static str
     ensures { result.now ≡ name_of fault.now }
 {
     told_class(fault).name
 }
 
-/// The exit status of a program that ends with this fault: 0 where help was asked for, 2 for a bad command line,
-/// 3 where memory, a file or a device was wanting, and 1 for what else is refused.
+/// The exit status of a program that ends with this fault. It is 0 if help was asked for, 2 for a bad command line, and
+/// 3 if memory ran out or a file or a device failed. Any other refusal gives 1.
 pub fn status(fault: &Fault) -> u8
     ensures { result ≡ status_of (number_of fault.now) }
 {

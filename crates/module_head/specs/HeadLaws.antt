@@ -1,4 +1,4 @@
--- What the reader of a module's head keeps, for the modules that have it.
+-- What the reader of a module's head fulfils, for the reader of whole modules.
 use Rattle.std.specs.Prelude.{◌≡◌, ℕ, Bool, true, false}
 use Rattle.text.specs.declared.reserved.Word.TheVariants.{Exports, Imports}
 use Rattle.grammar.specs.Lexeme.{Lexeme, Word}
@@ -11,7 +11,7 @@ use Rattle.grammar.specs.Rules.{Rules}
 use Rattle.module_head.specs.Heading.{head}
 use Rattle.module_head.specs.HeadReading.{head_at}
 
--- what may stand behind a head, that goes on with it
+-- a head may go on with this lexeme
 abbrev pub head_ends : Lexeme → Bool
 head_ends (Word Exports) = true
 head_ends (Word Imports) = true

@@ -19,18 +19,18 @@ tag_default_at (Word Implicit ∷ rest) = default_words_at (Word Implicit ∷ re
 tag_default_at (Word Automatic ∷ rest) = default_words_at (Word Automatic ∷ rest)
 tag_default_at ts = Ok (defaults.Explicit, ts)
 
--- behind DEFINITIONS
+-- what comes after DEFINITIONS
 unfoldable pub begun_at : Reader TagDefault
 begun_at ts = tag_default_at ts >>= λ d. then_at assign_at begin_at d.1 >>= λ b. Ok (d.0, b.1)
 
--- behind BEGIN
+-- what comes after BEGIN
 unfoldable pub export_list_at : Reader (Option (List Name))
 export_list_at (Word Exports ∷ rest) = exports_at (Word Exports ∷ rest)
 export_list_at ts = Ok (None, ts)
 
--- fits: the test that numbers with no minus meet
+-- fits: the test that numbers without a minus must pass
 module _ (fits : ℕ → Bool) where
-  -- behind the exports
+  -- what comes after the exports
   unfoldable pub import_list_at : Reader (List ImportTree)
   import_list_at (Word Imports ∷ rest) = imports_at fits (Word Imports ∷ rest)
   import_list_at ts = Ok ([], ts)
@@ -38,7 +38,7 @@ module _ (fits : ℕ → Bool) where
   unfoldable pub heading_at : Reader (Name × TagDefault)
   heading_at ts = module_ref_at fits ts >>= λ x. then_at definitions_at begun_at x.1 >>= λ d. Ok ((x.0, d.0), d.1)
 
-  -- as far as the imports
+  -- a module's head up to the imports
   unfoldable pub exporting_at : Reader ((Name × TagDefault) × Option (List Name))
   exporting_at ts = heading_at ts >>= λ h. export_list_at h.1 >>= λ e. Ok ((h.0, e.0), e.1)
 

@@ -30,7 +30,7 @@ symbol_at (TypeRef x ∷ rest) = Ok (x, rest)
 symbol_at (Ident x ∷ rest) = Ok (x, rest)
 symbol_at ts = stop ts
 
--- behind EXPORTS, where names are listed
+-- what comes after EXPORTS if names are listed
 unfoldable pub some_exports_at : Reader (Option (List Name))
 some_exports_at ts = do
   xs ← listed_at symbol_at ts
@@ -43,7 +43,7 @@ all_exports_at ts = semicolon_at ts >>= λ s. Ok (None, s.1)
 unfoldable pub no_exports_at : Reader (Option (List Name))
 no_exports_at ts = semicolon_at ts >>= λ s. Ok (Some [], s.1)
 
--- behind EXPORTS
+-- what comes after EXPORTS
 unfoldable pub exported_at : Reader (Option (List Name))
 exported_at (Word All ∷ rest) = all_exports_at rest
 exported_at (TypeRef x ∷ rest) = some_exports_at (TypeRef x ∷ rest)

@@ -20,12 +20,12 @@ begins_symbol (TypeRef x) = true
 begins_symbol (Ident x) = true
 begins_symbol t = false
 
--- fits: the test that numbers with no minus meet
+-- fits: the test that numbers without a minus must pass
 module _ (fits : ℕ → Bool) where
   unfoldable pub arc_number_at : Reader (Unit {0})
   arc_number_at ts = parens_at (number_at fits) ts >>= λ n. Ok (tt, n.1)
 
-  -- behind an identifier
+  -- what comes after an identifier
   unfoldable pub behind_arc_at : Reader (Unit {0})
   behind_arc_at (Mark OpenParenthesis ∷ rest) = arc_number_at (Mark OpenParenthesis ∷ rest)
   behind_arc_at ts = Ok (tt, ts)
@@ -45,7 +45,7 @@ module _ (fits : ℕ → Bool) where
   oid_at (Mark OpenBrace ∷ rest) = arcs_at rest >>= λ a. closed_at a.1
   oid_at ts = stop ts
 
-  -- behind a module's name
+  -- what comes after a module's name
   unfoldable pub behind_module_at : Name → Reader Name
   behind_module_at m (Mark OpenBrace ∷ rest) = oid_at (Mark OpenBrace ∷ rest) >>= λ o. Ok (m, o.1)
   behind_module_at m ts = Ok (m, ts)
@@ -67,7 +67,7 @@ module _ (fits : ℕ → Bool) where
   abbrev pub imports_from_at : Reader (List ImportTree)
   imports_from_at ts = many_at begins_symbol import_from_at (length ts) ts
 
-  -- behind IMPORTS
+  -- what comes after IMPORTS
   unfoldable pub imported_at : Reader (List ImportTree)
   imported_at ts = imports_from_at ts >>= λ is. semicolon_at is.1 >>= λ s. Ok (is.0, s.1)
 

@@ -15,17 +15,18 @@ use std::alloc::Global;
 use text::{Token, mark, word};
 use trees::{At, Import, TagDefault};
 
-/// What stands before a module's assignments (X.680, clause 13.1).
+/// What comes before a module's assignments (X.680, clause 13.1).
 #[derive(Drop)]
 pub struct ModuleHead {
     pub name: At<String>,
     pub tag_default: TagDefault,
-    /// The names that other modules may import; all that are assigned where none are listed.
+    /// The names that other modules may import. None if the module has no list of exports: then all that it assigns is
+    /// exported.
     pub exports: Option<Vec<At<String>>>,
     pub imports: Vec<Import>,
 }
 
-/// The tokens behind `::=`.
+/// The tokens after `::=`.
 #[tactic(auto, unfolding(grammar::specs::Single::assign_at))]
 pub fn assign<'a>(text: &[u8], tokens: &'a [Token]) -> Result<&'a [Token], ReadError>
     requires tokens { AreTokens text.now tokens.now }
@@ -38,7 +39,7 @@ pub fn assign<'a>(text: &[u8], tokens: &'a [Token]) -> Result<&'a [Token], ReadE
     }
 }
 
-/// Reads what stands behind `DEFINITIONS`, as far as `BEGIN`.
+/// Reads what comes after `DEFINITIONS`, up to and with `BEGIN`.
 #[tactic(auto, unfolding(crate::specs::HeadReading::begun_at, grammar::specs::Single::begin_at))]
 fn begun<'a>(text: &[u8], tokens: &'a [Token]) -> Read<'a, TagDefault>
     requires tokens { AreTokens text.now tokens.now }
@@ -53,7 +54,7 @@ fn begun<'a>(text: &[u8], tokens: &'a [Token]) -> Read<'a, TagDefault>
     }
 }
 
-/// Reads a module's name and its default for tags, as far as `BEGIN`.
+/// Reads a module's name and its tag default, up to and with `BEGIN`.
 #[tactic(auto, unfolding(crate::specs::HeadReading::heading_at, grammar::specs::Single::definitions_at))]
 fn heading<'a>(
     alloc: Global,
@@ -74,7 +75,7 @@ fn heading<'a>(
     }
 }
 
-/// Reads a module's head, as far as its first assignment.
+/// Reads a module's head, up to its first assignment.
 #[tactic(auto, unfolding(crate::specs::HeadReading::head_at, crate::specs::HeadReading::exporting_at))]
 pub fn head<'a>(alloc: Global, text: &[u8], tokens: &'a [Token]) -> Read<'a, ModuleHead>
     requires tokens { AreTokens text.now tokens.now }

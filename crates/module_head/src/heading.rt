@@ -1,4 +1,4 @@
-//! Reading the head of a module: its default for tags and its exports.
+//! Reading the head of a module: its tag default and its exports.
 
 ghost use Rattle.std.specs.Prelude.{map, option_map, IfOk};
 ghost use Rattle.grammar.specs.Reading.{listed_at};
@@ -29,7 +29,7 @@ fn tag_word<'a>(text: &[u8], tokens: &'a [Token]) -> Read<'a, TagDefault>
     }
 }
 
-/// Reads a default for tags (X.680, clause 13.2).
+/// Reads a tag default (X.680, clause 13.2).
 #[tactic(auto, unfolding(crate::specs::HeadingReading::default_words_at, grammar::specs::Single::tags_at))]
 fn default_words<'a>(text: &[u8], tokens: &'a [Token]) -> Read<'a, TagDefault>
     requires tokens { AreTokens text.now tokens.now }
@@ -43,7 +43,7 @@ fn default_words<'a>(text: &[u8], tokens: &'a [Token]) -> Read<'a, TagDefault>
     }
 }
 
-/// Reads what tags in a module are if nothing else is written: explicit, where no default stands there.
+/// Reads a module's tag default, which is explicit if none is written.
 #[tactic(auto, unfolding(crate::specs::HeadReading::tag_default_at))]
 pub fn tag_default<'a>(text: &[u8], tokens: &'a [Token]) -> Read<'a, TagDefault>
     requires tokens { AreTokens text.now tokens.now }
@@ -56,7 +56,7 @@ pub fn tag_default<'a>(text: &[u8], tokens: &'a [Token]) -> Read<'a, TagDefault>
     }
 }
 
-/// The tokens behind a semicolon.
+/// The tokens after a semicolon.
 #[tactic(auto, unfolding(crate::specs::HeadingReading::semicolon_at))]
 pub fn semicolon<'a>(text: &[u8], tokens: &'a [Token]) -> Result<&'a [Token], ReadError>
     requires tokens { AreTokens text.now tokens.now }
@@ -127,7 +127,7 @@ fn some_exports<'a>(
     Ok((Some(names), semicolon(text, rest)?))
 }
 
-/// Reads what stands behind `EXPORTS`.
+/// Reads what comes after `EXPORTS`.
 #[tactic(auto, unfolding(crate::specs::HeadingReading::exported_at, crate::specs::HeadingReading::all_exports_at, crate::specs::HeadingReading::no_exports_at))]
 fn exported<'a>(
     alloc: Global,
@@ -145,7 +145,7 @@ fn exported<'a>(
     }
 }
 
-/// Reads the names that are exported (X.680, clause 13.7); None where none are listed or `ALL` stands there.
+/// Reads the names that are exported (X.680, clause 13.7); None if there is no `EXPORTS`, or if `ALL` follows it.
 #[tactic(auto, unfolding(crate::specs::HeadReading::export_list_at, crate::specs::HeadingReading::exports_at))]
 pub fn export_list<'a>(
     alloc: Global,

@@ -37,7 +37,7 @@ fn number<'a>(text: &[u8], tokens: &'a [Token]) -> Read<'a, u128>
     }
 }
 
-/// Reads the number behind a name, in parentheses.
+/// Reads the number in parentheses that comes after a name.
 #[tactic(auto, unfolding(crate::specs::ImportReading::arc_number_at, grammar::specs::Reading::parens_at))]
 fn arc_number<'a>(text: &[u8], tokens: &'a [Token]) -> Result<&'a [Token], ReadError>
     requires tokens { AreTokens text.now tokens.now }
@@ -50,7 +50,7 @@ fn arc_number<'a>(text: &[u8], tokens: &'a [Token]) -> Result<&'a [Token], ReadE
     Ok(rest)
 }
 
-/// Reads what stands behind a name.
+/// Reads what comes after a name.
 #[tactic(auto, unfolding(crate::specs::ImportReading::behind_arc_at))]
 fn behind_arc<'a>(text: &[u8], tokens: &'a [Token]) -> Result<&'a [Token], ReadError>
     requires tokens { AreTokens text.now tokens.now }
@@ -108,7 +108,7 @@ fn more_arcs<'a>(text: &[u8], tokens: &'a [Token]) -> Result<&'a [Token], ReadEr
     Ok(rest)
 }
 
-/// Reads arcs, one at least.
+/// Reads arcs, at least one.
 #[tactic(auto, unfolding(crate::specs::ImportReading::arcs_at))]
 fn arcs<'a>(text: &[u8], tokens: &'a [Token]) -> Result<&'a [Token], ReadError>
     requires tokens { AreTokens text.now tokens.now }
@@ -119,7 +119,7 @@ fn arcs<'a>(text: &[u8], tokens: &'a [Token]) -> Result<&'a [Token], ReadError>
     more_arcs(text, rest)
 }
 
-/// Reads an object identifier, which says nothing here.
+/// Reads an object identifier, which has no meaning here.
 #[tactic(auto, unfolding(crate::specs::ImportReading::oid_at))]
 fn oid<'a>(text: &[u8], tokens: &'a [Token]) -> Result<&'a [Token], ReadError>
     requires tokens { AreTokens text.now tokens.now }
@@ -135,7 +135,7 @@ fn oid<'a>(text: &[u8], tokens: &'a [Token]) -> Result<&'a [Token], ReadError>
     }
 }
 
-/// Reads what stands behind a module's name.
+/// Reads what comes after a module's name.
 #[tactic(auto, unfolding(crate::specs::ImportReading::behind_module_at))]
 fn behind_module<'a>(
     alloc: Global,
@@ -159,7 +159,7 @@ fn behind_module<'a>(
     }
 }
 
-/// Reads a module's name, and an object identifier if one stands behind it (X.680, clause 13.1).
+/// Reads a module's name, and an object identifier if one follows it (X.680, clause 13.1).
 #[tactic(auto, unfolding(crate::specs::ImportReading::module_ref_at))]
 pub fn module_ref<'a>(alloc: Global, text: &[u8], tokens: &'a [Token]) -> Read<'a, At<String>>
     requires tokens { AreTokens text.now tokens.now }
@@ -213,7 +213,7 @@ fn many<'a>(alloc: Global, text: &[u8], tokens: &'a [Token]) -> Read<'a, Vec<Imp
     Ok((imports, rest))
 }
 
-/// Reads what stands behind `IMPORTS`.
+/// Reads what comes after `IMPORTS`.
 #[tactic(auto, unfolding(crate::specs::ImportReading::imported_at))]
 fn imported<'a>(alloc: Global, text: &[u8], tokens: &'a [Token]) -> Read<'a, Vec<Import>>
     requires tokens { AreTokens text.now tokens.now }
@@ -224,7 +224,7 @@ fn imported<'a>(alloc: Global, text: &[u8], tokens: &'a [Token]) -> Read<'a, Vec
     Ok((imports, semicolon(text, rest)?))
 }
 
-/// Reads what is imported (X.680, clause 13.12), which is nothing where no imports stand there.
+/// Reads the imports (X.680, clause 13.12); the list is empty if none are written.
 #[tactic(auto, unfolding(crate::specs::HeadReading::import_list_at, crate::specs::ImportReading::imports_at))]
 pub fn import_list<'a>(alloc: Global, text: &[u8], tokens: &'a [Token]) -> Read<'a, Vec<Import>>
     requires tokens { AreTokens text.now tokens.now }

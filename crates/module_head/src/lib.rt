@@ -1,4 +1,4 @@
-//! The notation of a module's head: its name, its default for tags, its exports and its imports.
+//! The notation of a module's head: its name, its tag default, its exports and its imports.
 #![tactic(auto)]
 
 pub mod head;

@@ -1,4 +1,4 @@
--- What faults of names say: the module and the name that they tell. Where in the text they point isn't said.
+-- What faults of names say: the module and the name in them. `First` says where in the text they are.
 use Rattle.std.specs.Prelude.{◌≡◌, ◌+◌, ℕ, List, Some, string_bytes, slice_get, ◌⊎◌, ◌++◌, [], ◌∷◌, map}
 use Rattle.trees.specs.declared.place.Spot.{Spot}
 use Rattle.trees.specs.Values.{Name}
@@ -8,7 +8,7 @@ use Rattle.names.specs.declared.fault.NameFault.TheVariants as faults
 use Rattle.names.specs.declared.fault.Limit.TheVariants as limits
 use Rattle.names.specs.Modules.{StandsIn, StandsTwice, name_of, assigned_names, names_in, IsExported, Imports, type_count, value_count, all_assignments}
 
--- the module and the name that a fault tells
+-- the module and the name in a fault
 abbrev pub module_told : Spot → Name
 module_told s = string_bytes s.module
 
@@ -23,14 +23,14 @@ pub record IsNamedTwice (ms : List ModuleTree) (M x : Name) : Type 0 where
   pub named : tree.name ≡ M
   pub twice : StandsTwice (names_in tree) x
 
--- module M is the one behind 256 others; the fault tells its name twice
+-- module M is the one after 256 others; the fault has its name as the module and as the name
 pub record IsPastModules (ms : List ModuleTree) (M x : Name) : Type 0 where
   pub tree : ModuleTree
   pub there : slice_get ms 256 ≡ Some tree
   pub named : tree.name ≡ M
   pub same : x ≡ M
 
--- of what is counted, n stand before the assignment of name x, k of them before all of these, and it is one more
+-- the assignment of name x among gs is one of what is counted, and n of these come before it; k of the n come before gs
 pub record IsPastHere (count : List AssignmentTree → ℕ) (n k : ℕ) (gs : List AssignmentTree) (x : Name) : Type 0 where
   pub before : List AssignmentTree
   pub given : AssignmentTree
@@ -40,7 +40,7 @@ pub record IsPastHere (count : List AssignmentTree → ℕ) (n k : ℕ) (gs : Li
   pub full : k + count before ≡ n
   pub counted : count (given ∷ []) ≡ 1
 
--- of what is counted, n stand before the assignment of name x in module M, and it is one more
+-- the assignment of name x in module M is one of what is counted, and n of these come before it
 pub record IsPast (count : List AssignmentTree → ℕ) (n : ℕ) (ms : List ModuleTree) (M x : Name) : Type 0 where
   pub before : List ModuleTree
   pub tree : ModuleTree
@@ -59,7 +59,7 @@ pub record ExportsNothing (ms : List ModuleTree) (M x : Name) : Type 0 where
   pub listed : StandsIn names x
   pub unassigned : StandsIn (assigned_names tree) x → ⊥
 
--- module M imports name x from a module of which Q holds
+-- module M imports name x from a module for which Q is true
 pub record ImportsFrom (ms : List ModuleTree) (M x : Name) (Q : ModuleTree → Type 0) : Type 0 where
   pub tree : ModuleTree
   pub there : StandsIn ms tree
@@ -78,11 +78,11 @@ pub record ImportsNowhere (ms : List ModuleTree) (M N : Name) : Type 0 where
   pub imports : Imports tree N name
   pub nowhere : StandsIn (map (λ m. m.name) ms) N → ⊥
 
--- two modules have the name x, which is told for M too, or x has two meanings in module M
+-- two modules have the name x, which the fault has for M too, or x has two meanings in module M
 abbrev pub IsGivenTwice : List ModuleTree → Name → Name → Type 0
 IsGivenTwice ms M x = ((M ≡ x) × StandsTwice (map (λ m. m.name) ms) x) ⊎ IsNamedTwice ms M x
 
--- module M exports or imports name x, which is not assigned where it has to be
+-- module M exports name x without assigning it, or imports it from a module that doesn't assign it
 abbrev pub IsUnassigned : List ModuleTree → Name → Name → Type 0
 IsUnassigned ms M x = ExportsNothing ms M x ⊎ ImportsFrom ms M x (λ m. StandsIn (assigned_names m) x → ⊥)
 

@@ -1,5 +1,5 @@
--- Which of several faults of names is told, and where in the text: the first one, in the order of modules; in a module
--- that of an export goes before that of an import.
+-- Which of several faults of names is reported, and where in the text: the first one, in the order of modules. In a
+-- module the fault of an export goes before that of an import.
 use Rattle.std.specs.Prelude.{◌≡◌, ◌⊎◌, ◌<◌, ℕ, List, Option, Some, None, String, map, slice_get, string_bytes}
 use Rattle.std.specs.Global.{Global}
 use Rattle.trees.specs.declared.place.At.{At}
@@ -18,18 +18,18 @@ use Rattle.names.specs.Names.{Module, under, names_of}
 use Rattle.names.specs.Scopes.{module_of, origin_of, origins, scopes}
 use Rattle.names.specs.proving.Standing.{ExportAssigned, ImportOffered, IsOffered, IsImportFault}
 
--- fault 30 is told at this place
+-- Twice has this offset
 abbrev pub IsTwiceAt : ℕ → NameFault → Type 0
 IsTwiceAt n faults.Memory = Unit {0}
 IsTwiceAt n (faults.Twice s) = s.at ≡ n
 IsTwiceAt n e = ⊥
 
--- where the name of an assignment is written
+-- the offset of an assignment's name
 abbrev pub name_place : Assignment → ℕ
 name_place (givens.Type a) = a.name.at
 name_place (givens.Value a) = a.name.at
 
--- a limit is told at the name of one of these assignments
+-- Limit has the offset of the name of one of these assignments
 abbrev pub IsLimitAt : List Assignment → NameFault → Type 0
 IsLimitAt gs faults.Memory = Unit {0}
 IsLimitAt gs (faults.Limit l s) = (g : Assignment) × StandsIn gs g × (s.at ≡ name_place g)
@@ -37,7 +37,7 @@ IsLimitAt gs e = ⊥
 
 -- ---- exports
 
--- the first of these names that has no assignment is told, where it is written
+-- the fault has the first of these names without an assignment, and its offset
 pub record IsFirstLost (ns : List (At (String Global))) (as' : List (Name × Assigned)) (s : Spot) : Type 0 where
   pub number : ℕ
   pub name : At (String Global)
@@ -51,13 +51,13 @@ TellsLost ns as' faults.Memory = Unit {0}
 TellsLost ns as' (faults.UnknownName s) = IsFirstLost ns as' s
 TellsLost ns as' e = ⊥
 
--- so it is of the names that a module exports
+-- the same of the names that a module exports
 abbrev pub IsFirstExport : Module → NameFault → Type 0
 IsFirstExport m e = (ns : List (At (String Global))) × (m.exports ≡ Some (map name_at ns)) × TellsLost ns m.assigned e
 
 -- ---- imports
 
--- a module that isn't there is told where it is named behind FROM, a name where it is imported
+-- UnknownModule has the offset of the module's name after FROM; a fault of an imported name has the offset of that name
 abbrev pub IsImportAt : Origin → NameFault → Type 0
 IsImportAt o faults.Memory = Unit {0}
 IsImportAt o (faults.UnknownModule s) = s.at ≡ o.module.at
@@ -65,7 +65,7 @@ IsImportAt o (faults.UnknownName s) = s.at ≡ o.at
 IsImportAt o (faults.NotExported s) = s.at ≡ o.at
 IsImportAt o e = ⊥
 
--- the first import of module M that isn't offered is told, where it is written
+-- the fault has the first import of module M that isn't offered, and its offset
 pub record IsFirstImport
     (ss : List (Name × Module)) (M : Name) (is : List (String Global × Origin)) (e : NameFault) : Type 0 where
   pub number : ℕ
@@ -78,12 +78,12 @@ pub record IsFirstImport
 
 -- ---- modules
 
--- an export is told first, and an import where all exports are assigned
+-- a fault of an export comes first; that of an import comes if all exports are assigned
 abbrev pub IsFirstOf : List (Name × Module) → Name → Scope → NameFault → Type 0
 IsFirstOf ss M s e =
     IsFirstExport (module_of s) e ⊎ (ExportAssigned (module_of s) × IsFirstImport ss M s.imports.entries e)
 
--- the first module whose exports and imports don't stand is told
+-- the fault is that of the first module with an unassigned export or with an import that isn't offered
 pub record IsFirstStanding (es : List (String Global × Scope)) (e : NameFault) : Type 0 where
   pub number : ℕ
   pub name : String Global

@@ -1,6 +1,6 @@
--- What has to be believed: what names stand for (`Names`), modules as they are written (`Modules`), what they give, by
--- number (`Sources`, `ByNumber`), what faults say (`Faults`), and how all that is seen in memory (`Scopes`, `Sources`).
--- What stands in `proving` only contracts inside the crates and proofs speak of.
+-- What a reader has to believe: what names mean (`Names`), modules in their notation (`Modules`), and what they give,
+-- by number (`Sources`, `ByNumber`). What faults say (`Faults`), which one is first (`First`), and how all that is seen
+-- in memory (`Scopes`, `Sources`). Only contracts inside the crates, and proofs, speak of `proving`.
 pub mod Names
 pub mod Sources
 pub mod Scopes

@@ -1,4 +1,4 @@
--- Tables of names without where they lie in memory.
+-- Tables of names, without their addresses in memory.
 use Rattle.std.specs.Prelude.{List, map, string_bytes, String}
 use Rattle.std.specs.Global.{Global}
 use Rattle.trees.specs.declared.place.At.{At}

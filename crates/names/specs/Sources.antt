@@ -1,4 +1,5 @@
--- What modules give: types that are still to be numbered, and values, without where they lie in memory.
+-- The form in which types and values are kept before the types in them are numbered, without addresses in memory; no
+-- clause.
 use Rattle.std.specs.Prelude.{◌≡◌, ◌<◌, ℕ, List, Option, Some, None, map}
 use Rattle.std.specs.List.{AllByRecursion}
 use Rattle.trees.specs.Values.{Name, Tree, name_at, tree_of}
@@ -10,13 +11,13 @@ use Rattle.names.specs.declared.sources.Header.{Header}
 use Rattle.names.specs.declared.sources.ValueAt.{ValueAt}
 use Rattle.names.specs.declared.sources.Source.{Source as SourceAt}
 
--- a type as it is written, the number of the assignment that it stands in, and its list and number where it is a member
+-- a type in its notation, and the number of the assignment that contains it; a member also has its list and its number
 pub record Source : Type 0 where
   pub tree : TypeTree
   pub assignment : ℕ
   pub place : Option (ℕ × ℕ)
 
--- these types stand in the first n assignments
+-- these types are in the first n assignments
 abbrev pub AllAssigned : ℕ → List Source → Type 0
 AllAssigned n ss = AllByRecursion (λ s. s.assignment < n) ss
 
@@ -24,7 +25,7 @@ AllAssigned n ss = AllByRecursion (λ s. s.assignment < n) ss
 abbrev pub HaveNoPlace : List Source → Type 0
 HaveNoPlace ss = AllByRecursion (λ s. s.place ≡ None) ss
 
--- a value assignment: its number, its type's number, and the value as it is written
+-- a value assignment: its number, its type's number, and the value in its notation
 pub record Value : Type 0 where
   pub assignment : ℕ
   pub ty : ℕ

@@ -1,5 +1,5 @@
--- What only contracts inside the crates and proofs speak of: definitions for the functions that gather names, and laws
--- that upper crates stand on.
+-- What only contracts inside the crates, and proofs, speak of: definitions for the functions that gather names, and
+-- laws that upper crates use.
 pub mod Lookup
 pub mod Tabled
 pub mod Limiting

@@ -57,7 +57,7 @@ impl Exports {
         }
     }
 
-    /// Is this one of the names?
+    /// Whether this is one of the names.
     pub(crate) fn has(&self, name: &str) -> bool
         ensures { result ≡ true ↔ StandsIn self.now name.now }
     {

@@ -21,13 +21,13 @@ pub enum Limit {
     Members,
     /// At most 1,024 items in the root of an enumeration, and at most 64 additions.
     Items,
-    /// A named bit stands at a place from 0 to 65,535.
+    /// The number of a named bit is from 0 to 65,535.
     NamedBit,
-    /// The number of an item, where none is written, is below 2 to the 127.
+    /// The number of an item without a written number is below 2 to the 127.
     Integer,
 }
 
-/// What is wrong, with the module, the name that is told, and where it stands.
+/// What is wrong, with the module, the name in question, and its offset in the module's text.
 #[derive(Debug, Drop, Error)]
 pub enum NameFault {
     /// There was not enough memory.
@@ -36,17 +36,17 @@ pub enum NameFault {
     /// A limit is passed in this assignment.
     #[error("2 Limit({0:?}): {1}")]
     Limit(Limit, Spot),
-    /// In the module this name is given twice: by modules, by assignments and imports, by the identifiers of one list,
-    /// or by the names of one number. The place is that of the second of two names.
+    /// This name is given twice in the module: by modules, by assignments and imports, by the identifiers of one list,
+    /// or by the names of one number. The offset is that of the second of two names.
     #[error("30 Twice: {0}")]
     Twice(Spot),
-    /// In the module this name stands for nothing.
+    /// This name has no meaning in the module.
     #[error("31 UnknownName: {0}")]
     UnknownName(Spot),
     /// The module imports a name that the other module doesn't export.
     #[error("32 NotExported: {0}")]
     NotExported(Spot),
-    /// In the module this type comes back to itself.
+    /// This type of the module comes back to itself.
     #[error("33 Circular: {0}")]
     Circular(Spot),
     /// The module imports names from a module that isn't there.

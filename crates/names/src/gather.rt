@@ -30,7 +30,7 @@ pub struct Tables {
     pub values: Vec<ValueAt>,
 }
 
-/// What modules give.
+/// The names, headers, assignments, types and values of modules.
 #[derive(Drop)]
 pub struct ModuleTables {
     pub modules: IndexMap<String, Scope>,
@@ -38,7 +38,7 @@ pub struct ModuleTables {
     pub tables: Tables,
 }
 
-/// What a name is assigned, and where.
+/// What a name is assigned, with the offset of the name.
 fn given_in<'a>(
     assigned: &'a IndexMap<String, At<Assigned>>,
     name: &str,
@@ -48,7 +48,7 @@ fn given_in<'a>(
     assigned.get(name)
 }
 
-/// Gives a name its meaning, or refuses to give it a second one.
+/// Gives a name its meaning, or refuses to give it a second one with `Twice`.
 fn name_once(
     alloc: Global,
     within: &str,
@@ -76,7 +76,7 @@ fn name_once(
     }
 }
 
-/// Adds an assignment, with its type, behind the others.
+/// Adds an assignment, with its type, after the others.
 fn place(
     owner: usize,
     name: At<String>,
@@ -229,7 +229,8 @@ fn origin_in<'a>(imports: &'a IndexMap<String, Origin>, name: &str) -> Option<&'
     imports.get(name)
 }
 
-/// Imports a name from a module, or refuses to give it a second meaning. The assignments stand behind the imports.
+/// Imports a name from a module, or refuses to give it a second meaning with `Twice`. Assignments come after the
+/// imports in a module's text, so the fault of an assigned name has the offset of its assignment.
 fn import_once(
     alloc: Global,
     within: &str,
@@ -339,7 +340,7 @@ fn exports_of(alloc: Global, given: Option<Vec<At<String>>>) -> Result<Option<Ex
     }
 }
 
-/// The names of a module, whose types and values go behind the others.
+/// The names of a module, whose types and values are added to the tables after the others.
 fn scope_from(
     alloc: Global,
     owner: usize,
@@ -383,7 +384,7 @@ fn scope_from(
     }
 }
 
-/// Adds a module behind the others.
+/// Adds a module after the others.
 fn add_module(alloc: Global, given: Module, gathered: &mut ModuleTables) -> Result<(), NameFault>
     ensures ok { OnOk result
         ((ms : List ModuleTree) →
@@ -450,7 +451,7 @@ fn add_modules(
     Ok(())
 }
 
-/// What these modules give.
+/// Gathers the names, headers, assignments, types and values of these modules.
 pub fn gather(alloc: Global, modules: Vec<Module>) -> Result<ModuleTables, NameFault>
     ensures ok { IfOk result (HasGathered (map module_tree_of modules.items)) }
     ensures fault { IfErr result (IsNamingFault (map module_tree_of modules.items)) }

@@ -1,4 +1,4 @@
-//! Laws of names. A caller calls a law to know it; it takes no memory and no time.
+//! Laws of names. A caller calls a law to know it; the call takes no memory and no time.
 
 ghost use Rattle.std.specs.Prelude.{List};
 ghost use Rattle.trees.specs.Modules.{ModuleTree};
@@ -13,25 +13,25 @@ ghost use Rattle.names.specs.proving.Gathering.{HasGathered, IsNamingFault};
 ghost use Rattle.names.specs.proving.Ready.{IsReady};
 ghost use Rattle.names.specs.proving.Standing.{AreStanding, IsStandingFault};
 
-/// Modules in whose names a fault stands are not named as they have to be, or are too many.
+/// Modules whose names have a fault do not fulfil the rules on names, or are too many.
 pub fn name_faults_exclude()
     ensures { (ms : List ModuleTree) (e : NameFault) → IsNamesFault ms e → AreNamed ms → AreFew ms → ⊥ }
 {}
 
-/// Where no name has two meanings in a module, no module imports a name that it assigns.
+/// If no name has two meanings in a module, no module imports a name that it assigns.
 pub fn apart()
     ensures { (ms : List ModuleTree) →
         ((m : ModuleTree) → StandsIn ms m → AreDistinct (names_in m)) →
         IsApart (scopes_from 0 0 ms) }
 {}
 
-/// What is gathered refers to what is there.
+/// What is gathered from modules refers only to types, values, assignments and modules that are there.
 pub fn ready()
     ensures { (ms : List ModuleTree) (g : ModuleTables) → HasGathered ms g → IsReady g }
 {}
 
-/// Modules are named as they have to be where what is exported and imported stands in what is gathered of them; and a
-/// fault that stands there stands in the modules.
+/// Modules fulfil the rules on names if, in what is gathered from them, exports are assigned and imports are offered. A
+/// fault of what is gathered is a fault of the modules.
 pub fn stood()
     ensures named { (ms : List ModuleTree) (g : ModuleTables) →
         HasGathered ms g →

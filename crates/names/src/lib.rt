@@ -1,4 +1,4 @@
-//! What the names of modules stand for: their assignments, imports and exports.
+//! What the names of modules mean: their assignments, imports and exports.
 #![tactic(auto)]
 
 pub mod counts;

@@ -18,17 +18,17 @@ pub enum Assigned {
     Value(usize),
 }
 
-/// Where a name is imported from.
+/// The module that a name is imported from, with offsets in the importing module's text.
 #[derive(Drop)]
 pub struct Origin {
-    /// Where the name stands among the imported ones.
+    /// The offset of the name among the imported ones.
     pub at: usize,
-    /// The module, where it is named behind `FROM`.
+    /// The module, at the offset of its name after `FROM`.
     pub module: At<String>,
 }
 
-/// A module's names: its assignments, each where its name is written, its imports with their modules, and the names
-/// that it exports (all that it assigns where it lists none).
+/// A module's names: its assignments, each with the offset of its name, and its imports with their modules. The exports
+/// are None if the module has no list of exports: then all that it assigns is exported.
 #[derive(Drop)]
 pub struct Scope {
     pub assigned: IndexMap<String, At<Assigned>>,
@@ -67,7 +67,7 @@ impl Names {
         Names { modules }
     }
 
-    /// What a name stands for in a module.
+    /// What a name means in a module, or None if it means nothing there.
     #[tactic(auto, using(crate::specs::proving::Meanings::found_meaning, crate::specs::proving::Meanings::meaning_found))]
     pub fn find(&self, within: &str, name: &str) -> Option<Assigned>
         ensures { (a : Assigned) → (result ≡ Some a ↔ Meaning self.now within.now name.now a) }
@@ -75,8 +75,8 @@ impl Names {
         find_among(&self.modules, within, name)
     }
 
-    /// What a name, behind the name of a module if one is given, stands for in a module. `M.x` may stand in M itself,
-    /// or where x is imported from M.
+    /// What a name, after the name of a module if one is given, means in a module. `M.x` is allowed in M itself, and
+    /// where x is imported from M.
     #[tactic(auto, using(crate::specs::proving::Meanings::refers_bare, crate::specs::proving::Meanings::refers_within, crate::specs::proving::Meanings::refers_across, crate::specs::proving::Meanings::refers_not))]
     pub fn refers(&self, within: &str, owner: &Option<String>, name: &str) -> Option<Assigned>
         ensures { (a : Assigned) →

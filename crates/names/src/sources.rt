@@ -9,8 +9,8 @@ pub struct Place {
     pub number: usize,
 }
 
-/// A type that has a number and is still to be taken apart: the number of the assignment that it stands in, and where
-/// it is a member.
+/// A type that has a number and is still to be split into its parts, and the number of the assignment that contains it.
+/// A member also has its place.
 #[derive(Drop)]
 pub struct Source {
     pub syntax: TypeSyntax,
@@ -18,21 +18,21 @@ pub struct Source {
     pub place: Option<Place>,
 }
 
-/// A module: its name, and what tags in it are if nothing else stands behind them.
+/// A module: its name, and its tag default, which holds for tags without a keyword.
 #[derive(Drop)]
 pub struct Header {
     pub name: At<String>,
     pub default: TagDefault,
 }
 
-/// Where an assignment stands: its module's number, and its name.
+/// The module and the name of an assignment: its module's number, and its name.
 #[derive(Drop)]
 pub struct AssignedAt {
     pub module: usize,
     pub name: At<String>,
 }
 
-/// A value assignment: its number among all assignments, its type's number, and the value as it is written.
+/// A value assignment: its number among all assignments, its type's number, and the value in its notation.
 #[derive(Drop)]
 pub struct ValueAt {
     pub assignment: usize,

@@ -1,4 +1,4 @@
-//! Exports and imports: what they name is there.
+//! Exports and imports: checks that the names in them are assigned and offered.
 
 ghost use Rattle.std.specs.Prelude.{◌≡◌, ◌<◌, ◌↔◌, ◌⊎◌, true, Some, length, slice_get, IfErr, OnOk, map, string_bytes};
 ghost use Rattle.trees.specs.Values.{Name, name_at};
@@ -14,7 +14,7 @@ use indexmap::IndexMap;
 use std::alloc::Global;
 use trees::At;
 
-/// Are these names assigned?
+/// Checks that these names are assigned.
 fn all_assigned(
     alloc: Global,
     within: &str,
@@ -40,7 +40,7 @@ fn all_assigned(
     Ok(())
 }
 
-/// Is each name assigned that a module exports (X.680, clause 13.9)?
+/// Checks that each name is assigned that a module exports (X.680, clause 13.9).
 fn exports_stand(alloc: Global, within: &str, scope: &Scope) -> Result<(), NameFault>
     ensures ok { OnOk result (ExportAssigned (module_of scope.now)) }
     ensures fault { IfErr result (IsExportFault within.now (module_of scope.now)) }
@@ -55,7 +55,7 @@ fn exports_stand(alloc: Global, within: &str, scope: &Scope) -> Result<(), NameF
     }
 }
 
-/// Does a module export a name?
+/// Whether a module exports a name.
 fn exports(scope: &Scope, name: &str) -> bool
     ensures { result ≡ true ↔ IsExported (module_of scope.now).exports name.now }
 {
@@ -65,7 +65,7 @@ fn exports(scope: &Scope, name: &str) -> bool
     }
 }
 
-/// May a name be imported from a module?
+/// Checks that a name may be imported from a module.
 fn import_stands(
     alloc: Global,
     modules: &IndexMap<String, Scope>,
@@ -94,7 +94,7 @@ fn import_stands(
     }
 }
 
-/// An import, by its place: the name and where it is from.
+/// An import, by its index: the name and the module that it is from.
 fn entry_at<'a>(imports: &'a IndexMap<String, Origin>, i: usize) -> (&'a String, &'a Origin)
     requires { i < length imports.now.entries }
     ensures seen { slice_get (origins imports.now.entries) i ≡ Some (string_bytes result.0.now, origin_of result.1.now) }
@@ -103,7 +103,7 @@ fn entry_at<'a>(imports: &'a IndexMap<String, Origin>, i: usize) -> (&'a String,
     imports.get_index(i).unwrap()
 }
 
-/// A module, by its place: its name and its names.
+/// A module, by its index: its name and its names.
 fn module_at<'a>(modules: &'a IndexMap<String, Scope>, i: usize) -> (&'a String, &'a Scope)
     requires { i < length modules.now.entries }
     ensures seen { slice_get (scopes modules.now.entries) i ≡ Some (string_bytes result.0.now, module_of result.1.now) }
@@ -112,7 +112,7 @@ fn module_at<'a>(modules: &'a IndexMap<String, Scope>, i: usize) -> (&'a String,
     modules.get_index(i).unwrap()
 }
 
-/// May each name be imported that a module imports (X.680, clauses 13.13 to 13.16)?
+/// Checks that each name may be imported that a module imports (X.680, clauses 13.13 to 13.16).
 fn imports_stand(
     alloc: Global,
     modules: &IndexMap<String, Scope>,
@@ -135,7 +135,7 @@ fn imports_stand(
     Ok(())
 }
 
-/// Do a module's exports and imports stand?
+/// Checks the exports and imports of one module.
 fn one_stands(
     alloc: Global,
     modules: &IndexMap<String, Scope>,
@@ -159,7 +159,7 @@ fn one_stands(
     }
 }
 
-/// Do all exports and imports stand?
+/// Checks the exports and imports of all modules.
 pub fn all_stand(alloc: Global, modules: &IndexMap<String, Scope>) -> Result<(), NameFault>
     ensures ok { OnOk result (AreStanding (scopes modules.now.entries)) }
     ensures fault { IfErr result (IsStandingFault (scopes modules.now.entries)) }

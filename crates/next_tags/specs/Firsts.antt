@@ -1,4 +1,4 @@
--- First tags, as routines begin with them (X.680, 25.6.1 and 29.3).
+-- First tags of types, found at the beginning of their routines (X.680, 25.6.1 and 29.3).
 use Rattle.std.specs.Prelude.{◌≡◌, List, [], ◌∷◌, Option, Some, None}
 use Rattle.asn_base.specs.declared.tag.Tag.{Tag}
 use Rattle.asn_base.specs.declared.schema.TypeId.{TypeId}
@@ -21,12 +21,12 @@ head_tag (p ∷ ss) = tag_in p
 pub data Begins (s : List Resolved) (g : Tag) : Step → Type 0 where
   begins : {t : TypeId} → tags_at s t.index ≡ Some g → Begins s g (Call t)
 
--- one of the steps does
+-- one of the steps calls a type with this outermost tag
 pub data AnyBegins (s : List Resolved) (g : Tag) : List Step → Type 0 where
   this_begins : {p : Step} {ss : List Step} → Begins s g p → AnyBegins s g (p ∷ ss)
   later_begins : {p : Step} {ss : List Step} → AnyBegins s g ss → AnyBegins s g (p ∷ ss)
 
--- the step is a header with this tag, or the choice of a call of such a type
+-- the step is a header with this tag, or a choice between calls, one of which is of a type with this outermost tag
 abbrev pub BeginsBy : List Resolved → Tag → Step → List Step → Type 0
 BeginsBy s g (Head h) ss = h.tag ≡ g
 BeginsBy s g (Pick n) ss = AnyBegins s g ss

@@ -1,2 +1,2 @@
--- First tags, as routines begin with them.
+-- First tags of types, found at the beginning of their routines.
 pub mod Firsts

@@ -1,4 +1,4 @@
-//! An encoding at the front of octets.
+//! An encoding at the start of octets.
 
 ghost use Rattle.asn_base.specs.declared.tag.Tag.{Tag as Tag'};
 ghost use Rattle.octet_answers.specs.Units.{UnitAt};
@@ -10,7 +10,7 @@ use asn_base::tag::Tag;
 use octets::law::one_front;
 use octets::{Form, Header, HeaderFault, read_header};
 
-/// A header, of so many octets, its contents, and what follows them.
+/// A header of `count` octets, its contents, and what follows them.
 #[derive(Clone, Copy)]
 pub struct Unit<'a> {
     pub tag: Tag,
@@ -20,8 +20,8 @@ pub struct Unit<'a> {
     pub rest: &'a [u8],
 }
 
-/// The encoding at the front of octets (X.690, 8.1.1), or why none stands there: as `read_header`, which it takes the
-/// header by. It takes no memory.
+/// The encoding at the start of octets (X.690, 8.1.1), or why none is there. The faults are those of `read_header`,
+/// which reads the header. The call takes no memory.
 #[inline(always)]
 pub fn next_unit(octets: &[u8]) -> Result<Unit<'_>, HeaderFault>
     ensures ok { IfOk result (λ u. UnitAt u.tag (is_constructed u.form) u.count u.contents.now u.rest.now octets.now) }
@@ -35,7 +35,7 @@ pub fn next_unit(octets: &[u8]) -> Result<Unit<'_>, HeaderFault>
     }
 }
 
-/// The contents that a header tells, and what follows them.
+/// Splits octets into the contents that a header promises, and what follows them.
 #[inline(always)]
 fn parted(octets: &[u8], header: Header) -> Unit<'_>
     requires { HeaderAt header.tag (is_constructed header.form) header.contents header.octets octets.now }

@@ -1,4 +1,4 @@
-//! First tags, as routines begin with them.
+//! First tags of types, found at the beginning of their routines.
 
 ghost use Rattle.asn_base.specs.Tags.{First};
 ghost use Rattle.next_tags.specs.Firsts.{AnyBegins, Begins, BeginsBy, BeginsWith, head_tag, tag_in as tag_in'};
@@ -54,7 +54,7 @@ fn outermost(code: &Code, id: TypeId) -> Option<Tag>
     head_of(code.steps(id, Coding::Tagged))
 }
 
-/// Whether it is the outermost tag of the type.
+/// Whether the tag is the outermost tag of the type.
 fn is_outermost(code: &Code, id: TypeId, tag: Tag) -> bool
     ensures { IsTrue result ↔ (tags_at code.now id.index ≡ Some tag) }
 {
@@ -77,7 +77,7 @@ fn any_begins(code: &Code, calls: &[Step], tag: Tag) -> bool
     any_begins(code, behind, tag)
 }
 
-/// Whether it is the call of a type with this outermost tag.
+/// Whether the step is the call of a type with this outermost tag.
 fn begins_call(code: &Code, step: Step, tag: Tag) -> bool
     ensures { IsTrue result ↔ Begins code.now tag step }
 {
@@ -95,7 +95,7 @@ fn begins_call(code: &Code, step: Step, tag: Tag) -> bool
     }
 }
 
-/// Whether a step, before others, begins with the tag: the header, or one of the calls of a CHOICE.
+/// Whether a step begins with the tag: a header does by itself, and a choice by one of the calls that follow it.
 #[inline(always)]
 fn begins_step(code: &Code, step: Step, behind: &[Step], tag: Tag) -> bool
     ensures { IsTrue result ↔ BeginsBy code.now tag step behind.now }
@@ -125,7 +125,7 @@ fn begins_with(code: &Code, steps: &[Step], tag: Tag) -> bool
     }
 }
 
-/// The tag of the header that the routine of the type begins with, where few words say it.
+/// The tag of the header that the routine of the type begins with, if the type's `Brief` has it.
 #[inline(always)]
 fn first_tag(code: &Code, id: TypeId) -> Option<Tag>
     ensures { IfSome result (λ g. head_tag (routine_at code.now id.index) ≡ Some g) }
@@ -138,8 +138,8 @@ fn first_tag(code: &Code, id: TypeId) -> Option<Tag>
     }
 }
 
-/// Whether the tag can stand first before a value of the type: its outermost one, or of an untagged CHOICE that of an
-/// alternative.
+/// Whether the tag can be the first one of a value of the type: the type's outermost tag, or that of an alternative of
+/// an untagged CHOICE.
 #[inline(always)]
 pub fn can_begin(code: &Code, id: TypeId, tag: Tag) -> bool
     ensures { IsTrue result ↔ First code.now id.index tag }

@@ -1,6 +1,5 @@
-//! What stands next in octets: an encoding at their front, and which component or alternative its tag tells (X.680,
-//! 25.6.1,
-//! 27.3 and 29.3; X.690, 8.1.1).
+//! What comes next in octets: an encoding at their start, and the component or alternative that its tag identifies
+//! (X.680, 25.6.1, 27.3 and 29.3; X.690, 8.1.1).
 #![tactic(auto)]
 
 mod encoding;

@@ -42,7 +42,7 @@ fn field_in(step: Step) -> Option<Field>
     }
 }
 
-/// Whether the step reads a component that must stand.
+/// Whether the step reads a component that must be present.
 fn must_stand(step: Step) -> bool
     ensures { result ≡ must_stand' step }
 {
@@ -91,7 +91,7 @@ pub fn is_extensible(steps: &[Step]) -> bool
     is_extensible(behind)
 }
 
-/// The steps behind the last one that reads a component that must stand, or else the others.
+/// The steps after the last one that reads a component that must be present; `others` if no step does.
 fn last_from<'s>(others: &'s [Step], steps: &'s [Step]) -> &'s [Step]
     ensures { result.now ≡ last_from' others.now steps.now }
 {
@@ -105,14 +105,14 @@ fn last_from<'s>(others: &'s [Step], steps: &'s [Step]) -> &'s [Step]
     }
 }
 
-/// The steps behind the last component that must stand, or all where none must.
+/// The steps after the last component that must be present, or all steps if no component must.
 pub fn last_steps(steps: &[Step]) -> &[Step]
     ensures { result.now ≡ last_steps' steps.now }
 {
     last_from(steps, steps)
 }
 
-/// The component, of those that the steps read, of which the tag can be the first one.
+/// The first component that these steps read and whose first tag can be this one.
 pub fn find(code: &Code, steps: &[Step], tag: Tag) -> Option<Field>
     ensures some { IfSome result (λ f. IsFound code.now tag steps.now f) }
     ensures none { IfNone result ((f : Field') → IsFound code.now tag steps.now f → ⊥) }
@@ -131,7 +131,7 @@ pub fn find(code: &Code, steps: &[Step], tag: Tag) -> Option<Field>
     }
 }
 
-/// The alternative, of those that the steps call, of which the tag can be the first one, and its number.
+/// The first alternative that these steps call and whose first tag can be this one, and its number.
 pub fn choose(code: &Code, calls: &[Step], tag: Tag) -> Option<(usize, TypeId)>
     ensures some { IfSome result (λ r. IsChosen code.now tag calls.now r.0 r.1) }
     ensures below { IfSome result (λ r. r.0 < length calls.now) }
@@ -151,7 +151,7 @@ pub fn choose(code: &Code, calls: &[Step], tag: Tag) -> Option<(usize, TypeId)>
     }
 }
 
-/// Whether the place stands in the list.
+/// Whether the place is in the list.
 pub fn is_in(place: usize, marks: &[usize]) -> bool
     ensures { IsTrue result ↔ IsMember place marks.now }
 {
@@ -164,7 +164,7 @@ pub fn is_in(place: usize, marks: &[usize]) -> bool
     is_in(place, behind)
 }
 
-/// Whether each component that must stand was read.
+/// Whether each component that must be present was read.
 pub fn are_read(marks: &[usize], steps: &[Step]) -> bool
     ensures { IsTrue result ↔ AreRead marks.now steps.now }
 {
@@ -177,7 +177,7 @@ pub fn are_read(marks: &[usize], steps: &[Step]) -> bool
     are_read(marks, behind)
 }
 
-/// Whether the component that the step reads was read, if it must stand.
+/// Whether the component that the step reads was read, if it must be present.
 fn is_read(marks: &[usize], step: Step) -> bool
     ensures { IsTrue result
         ↔ ((f : Field') → field_in' step ≡ Some' f → may_be_absent' f.need ≡ false' → IsMember f.place marks.now) }

@@ -1,4 +1,4 @@
--- What is answered for what stands from a place on.
+-- What is returned for the tokens from a place on.
 use Rattle.std.specs.Prelude.{◌≡◌, ℕ, ⊤, Bool, true, false, List, Option, Some, None, slice_get, if◌then◌else◌}
 use Rattle.text.specs.declared.token.Mark.{Mark as Mark'}
 use Rattle.text.specs.declared.token.Mark.TheVariants.{Caret, Less, Exclamation, At, Ampersand, Ellipsis}
@@ -45,7 +45,7 @@ is_refused_word words.PlusInfinity = true
 is_refused_word words.MinusInfinity = true
 is_refused_word w = false
 
--- their marks
+-- the marks of constructs that this compiler leaves out
 abbrev pub is_refused_mark : Mark' → Bool
 is_refused_mark Caret = true
 is_refused_mark Less = true
@@ -64,15 +64,16 @@ abbrev pub is_refused_at : Option Lexeme → Bool
 is_refused_at (Some t) = is_refused t
 is_refused_at None = false
 
--- the fault of a place where nothing goes on so
+-- the fault if lexeme i is the first with which nothing can go on
 abbrev pub unexpected : List Lexeme → ℕ → SyntaxFault
 unexpected ts i = if is_refused_at (slice_get ts i) then faults.OutOfProfile i else faults.Unexpected i
 
--- From the token at a place as far as end the tokens are this, where n more things may be open.
+-- The tokens from a place to before end are v, in which at most n braces and alternatives are nested in each other.
 abbrev pub IsThere : {A : Type 0} → Limited A → ℕ → List ℕ → List Token → ℕ → A → ℕ → Type 0
 IsThere g n x ts place v end = IsRead (g (bounded n)) (free g) (lexemes x ts) place v end
 
--- A fault stands at its place: of what a grammar says of the lexemes from start on, within these limits.
+-- The fault is the right one for what a grammar says of the lexemes from start on, within these limits; it has the
+-- right place.
 abbrev pub Stands : {A : Type 0} → Limited A → List Lexeme → ℕ → Limits → SyntaxFault → Type 0
 Stands g ts start a faults.Memory = ⊤
 Stands g ts start a (faults.Unexpected i) = Ends g a ts start i × (is_refused_at (slice_get ts i) ≡ false)

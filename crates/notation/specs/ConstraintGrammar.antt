@@ -8,14 +8,15 @@ use Rattle.grammar.specs.Places.{Limited}
 use Rattle.trees.specs.Values.{Name}
 use Rattle.trees.specs.Constraints.{EndTree, number_end, name_end, RangeTree, only, between, RangesTree, ConstraintTree, values_in, sizes_in, chars_in}
 
+-- `|` or UNION, which mean the same (X.680, clause 50.1)
 abbrev pub or : Grammar (Unit {0})
 or = mark Bar ∣ word Union
 
--- one or more, with "|" or UNION between
+-- one or more parts, with "|" or UNION between
 abbrev pub by_or : {A : Type 0} → Grammar A → Grammar (List A)
 by_or a = (a ∙ many ((or ∙ a) ⇒ (λ p. p.1))) ⇒ λ p. p.0 ∷ p.1
 
--- a name, behind the name of a module or alone
+-- a value's name, after a module's name and a dot, or alone (X.680, clause 14)
 abbrev pub ref : Grammar (Option Name × Name)
 ref =
     token Ident ⇒ (λ x. (None, x))
@@ -25,20 +26,23 @@ ref =
 abbrev pub chars : Grammar (List ℕ × Option (List ℕ))
 chars = token CString ∙ optional (behind (Mark Range) (token CString))
 
--- "," and "..." behind the parts, if they stand there
+-- "," and "..." after the parts, if they are there
 abbrev pub marker : Grammar Bool
 marker = optional (behind (Mark Comma) (mark Ellipsis)) ⇒ is_some
 
+-- the tree of ranges, and of the extension marker after them, if it is there
 abbrev pub marked : List RangeTree × Bool → RangesTree
 marked p = record { ranges = p.0; marker = p.1 }
 
+-- the end of a range that is a number without a minus
 abbrev pub positive_end : ℕ → EndTree
 positive_end n = number_end (pos n)
 
+-- the end of a range that is a number after a minus
 abbrev pub negative_end : ℕ → EndTree
 negative_end n = number_end (neg_ℤ (pos n))
 
--- A limit on numbers is a test that numbers with no minus meet.
+-- A limit on numbers is a test: numbers without a minus must pass it.
 module _ (fits : ℕ → Bool) where
   -- an end of a range, or a value alone
   abbrev pub end : Grammar EndTree
@@ -47,24 +51,28 @@ module _ (fits : ℕ → Bool) where
       ∣ behind (Mark Minus) (token Number) ⇒ negative_end
       ∣ ref ⇒ (λ p. name_end p.0 p.1)
 
+  -- a single value, or a range, of which the lower end may be MIN and the upper one MAX (X.680, clauses 51.2 and 51.4)
   abbrev pub range : Grammar RangeTree
   range =
       end ⇒ only
       ∣ ((end ⇒ Some ∣ word Min ⇒ (λ _. None)) ∙ behind (Mark Range) (end ⇒ Some ∣ word Max ⇒ (λ _. None)))
       ⇒ (λ p. between p.0 p.1)
 
+  -- one or more ranges, and the extension marker after them, if it is there (X.680, clause 50.1)
   abbrev pub ranges : Grammar RangesTree
   ranges = (by_or range ∙ marker) ⇒ marked
 
+  -- SIZE, with ranges in parentheses (X.680, clause 51.5)
   abbrev pub size : Grammar ConstraintTree
   size = behind (Word Size) (parens ranges) ⇒ sizes_in
 
+  -- a constraint: ranges, SIZE or FROM, in parentheses (X.680, clauses 49, 51.5 and 51.7)
   abbrev pub constraint : Grammar ConstraintTree
   constraint =
       parens ranges ⇒ values_in
       ∣ parens size
       ∣ parens (behind (Word From) (parens (by_or chars))) ⇒ chars_in
 
--- the grammar of what opens nothing that is counted
+-- the grammar of what opens nothing that a limit counts
 abbrev pub flat : {A : Type 0} → ((ℕ → Bool) → Grammar A) → Limited A
 flat g a = g a.number

@@ -30,12 +30,12 @@ by_or_at read ts = do
   xs ← many_at is_or (or_then_at read) (length x.1) x.1
   Ok (x.0 ∷ xs.0, xs.1)
 
--- behind ".." between texts
+-- what comes after ".." between texts
 unfoldable pub last_chars_at : List ℕ → Reader (List ℕ × Option (List ℕ))
 last_chars_at c (CString d ∷ rest) = Ok ((c, Some d), rest)
 last_chars_at c ts = stop ts
 
--- behind a text
+-- what comes after a text
 unfoldable pub more_chars_at : List ℕ → Reader (List ℕ × Option (List ℕ))
 more_chars_at c (Mark Range ∷ rest) = last_chars_at c rest
 more_chars_at c ts = Ok ((c, None), ts)
@@ -52,11 +52,11 @@ unfoldable pub minus_at : Reader EndTree
 minus_at (Number n ∷ rest) = Ok (negative_end n, rest)
 minus_at ts = stop ts
 
--- the end that is named so
+-- an end of a range that is given by this name
 abbrev pub named_end : Read (Option Name × Name) → Read EndTree
 named_end r = r >>= λ p. Ok (name_end p.0.0 p.0.1, p.1)
 
--- behind the comma of a marker
+-- what comes after the comma of a marker
 unfoldable pub ellipsis_at : Reader Bool
 ellipsis_at (Mark Ellipsis ∷ rest) = Ok (true, rest)
 ellipsis_at ts = stop ts
@@ -69,7 +69,7 @@ abbrev pub is_size : Lexeme → Bool
 is_size (Word Size) = true
 is_size t = false
 
--- fits: the test that numbers with no minus meet
+-- fits: the test that numbers without a minus must pass
 module _ (fits : ℕ → Bool) where
   unfoldable pub end_at : Reader EndTree
   end_at (Number n ∷ rest) = fitting (fits n) (Number n ∷ rest) (Ok (positive_end n, rest))
@@ -81,12 +81,12 @@ module _ (fits : ℕ → Bool) where
   unfoldable pub some_end_at : Reader (Option EndTree)
   some_end_at ts = end_at ts >>= λ e. Ok (Some e.0, e.1)
 
-  -- behind ".."
+  -- what comes after ".."
   unfoldable pub upper_at : Reader (Option EndTree)
   upper_at (Word Max ∷ rest) = Ok (None, rest)
   upper_at ts = some_end_at ts
 
-  -- behind MIN
+  -- what comes after MIN
   unfoldable pub behind_min_at : Reader RangeTree
   behind_min_at (Mark Range ∷ rest) = upper_at rest >>= λ b. Ok (between None b.0, b.1)
   behind_min_at ts = stop ts
@@ -118,7 +118,7 @@ module _ (fits : ℕ → Bool) where
   unfoldable pub values_in_at : Reader ConstraintTree
   values_in_at ts = ranges_at ts >>= λ x. Ok (values_in x.0, x.1)
 
-  -- behind an open parenthesis
+  -- what comes after an open parenthesis
   unfoldable pub inside_at : Reader ConstraintTree
   inside_at (Word Size ∷ rest) = size_at (Word Size ∷ rest)
   inside_at (Word From ∷ rest) = from_in_at (Word From ∷ rest)

@@ -1,4 +1,4 @@
--- What the reader of values keeps, for the grammars above that have values in them.
+-- What the reader of values fulfils, for the grammars above it that contain values.
 use Rattle.std.specs.Prelude.{◌≡◌, ℕ, suc, ◌≤◌, Bool, true, false, List, length, slice_get, if◌then◌else◌}
 use Rattle.std.proofs.Common.{refl, sym, ap, subst, ◌∙◌ as ◌⋆◌}
 use Rattle.text.specs.declared.token.Mark.TheVariants.{Colon, Minus, OpenBrace}
@@ -31,7 +31,7 @@ starts fits (Word Null) = true
 starts fits (Word w) = false
 starts fits t = true
 
--- a value goes on with this lexeme alone, where it is a name
+-- a value that is a name goes on with this lexeme alone
 abbrev pub goes_on : Lexeme → Bool
 goes_on (Mark Colon) = true
 goes_on t = false
@@ -49,7 +49,7 @@ pub record ValueLaws : Type 0 where
       → (n : ℕ) → Grows (value fits n) (value fits' n)
   pub solid : (fits : ℕ → Bool) (n : ℕ) → IsSolid (value fits n)
 
--- the fault of a place where nothing goes on stands
+-- the fault returned for a place where nothing can go on is the right one
 pub first_stands : {A : Type 0} (g : Limited A) (ts : List Lexeme) (start : ℕ) (a : Limits) (i : ℕ) (f : SyntaxFault)
     → f ≡ unexpected ts i
     → Ends g a ts start i
@@ -60,7 +60,7 @@ first_stands g ts start a i f e h = go f (is_refused_at (slice_get ts i)) refl e
     go f true q e = subst (Stands g ts start a) (sym (e ⋆ ap (λ (b : Bool). if b then faults.OutOfProfile i else faults.Unexpected i) q)) (h, q)
     go f false q e = subst (Stands g ts start a) (sym (e ⋆ ap (λ (b : Bool). if b then faults.OutOfProfile i else faults.Unexpected i) q)) (h, q)
 
--- one fault at most stands, want of memory apart
+-- at most one fault is right, apart from Memory
 module _ {A : Type 0} (g : Limited A) (a : Limits) (read : Reader A) (reads : Reads g a read) (ts : List Lexeme)
     (start : ℕ) (place : start ≤ length ts) where
   refused_at : (i j : ℕ) (b c : Bool)

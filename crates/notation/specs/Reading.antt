@@ -12,21 +12,21 @@ unfoldable pub negative_at : Reader Tree
 negative_at (Number n ∷ rest) = Ok (negative n, rest)
 negative_at ts = stop ts
 
--- the module's name, if one is given, and the value's
+-- the module's name, if one is given, and the name of the value
 abbrev pub named_by : Reference → Option Name × Name
 named_by r = (option_map string_bytes r.module, string_bytes r.name)
 
--- behind a module's name and a dot
+-- what comes after a module's name and a dot
 unfoldable pub ref_name_at : Name → Reader (Option Name × Name)
 ref_name_at m (Ident x ∷ rest) = Ok ((Some m, x), rest)
 ref_name_at m ts = stop ts
 
--- behind a module's name
+-- what comes after a module's name
 unfoldable pub ref_dot_at : Name → Reader (Option Name × Name)
 ref_dot_at m (Mark Dot ∷ rest) = ref_name_at m rest
 ref_dot_at m ts = stop ts
 
--- the value that is named so
+-- the value that is a reference by this name
 abbrev pub referred : Read (Option Name × Name) → Read Tree
 referred r = r >>= λ p. Ok (reference p.0.0 p.0.1, p.1)
 
@@ -46,7 +46,7 @@ fields_at read ts = do
   end ← closed_at ms.1
   Ok (fields (members ms.0), end.1)
 
--- does a value end before this lexeme, or go on with it, after an identifier?
+-- after an identifier, a value ends before this lexeme or goes on with it
 unfoldable pub follows_name : List Lexeme → Bool
 follows_name (Mark Comma ∷ rest) = true
 follows_name (Mark Colon ∷ rest) = true
@@ -57,26 +57,26 @@ unfoldable pub by_name_at : Bool → Reader Tree → Reader Tree
 by_name_at true read ts = items_at read ts
 by_name_at false read ts = fields_at read ts
 
--- fits: the test that numbers with no minus meet
+-- fits: the test that numbers without a minus must pass
 module _ (fits : ℕ → Bool) where
   unfoldable pub numbers_at : Reader (List ℕ)
   numbers_at (Number n ∷ rest) =
       fitting (fits n) (Number n ∷ rest) (numbers_at rest >>= λ ns. Ok (n ∷ ns.0, ns.1))
   numbers_at ts = Ok ([], ts)
 
-  -- behind two numbers in braces
+  -- what comes after two numbers in braces
   unfoldable pub two_numbers_at : ℕ → ℕ → Reader Tree
   two_numbers_at a b ts = do
     ns ← numbers_at ts
     end ← closed_at ns.1
     Ok (numbers (a ∷ b ∷ ns.0), end.1)
 
-  -- behind the first number in braces
+  -- what comes after the first number in braces
   unfoldable pub by_number_at : Reader Tree → ℕ → Reader Tree
   by_number_at read a (Number b ∷ rest) = fitting (fits b) (Number b ∷ rest) (two_numbers_at a b rest)
   by_number_at read a ts = items_at read (Number a ∷ ts)
 
-  -- behind an open brace
+  -- what comes after an open brace
   unfoldable pub braced_at : Reader Tree → Reader Tree
   braced_at read (Mark CloseBrace ∷ rest) = Ok (nothing, rest)
   braced_at read (Number a ∷ rest) = fitting (fits a) (Number a ∷ rest) (by_number_at read a rest)

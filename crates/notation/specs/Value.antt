@@ -1,4 +1,4 @@
--- The grammar of values (X.680, clause 17.1 and the clauses of each kind of value).
+-- The grammar of values (X.680, clauses 17 to 33 and 41).
 use Rattle.std.specs.Prelude.{ℕ, zero, suc, Bool, ◌∷◌, Some, None, pos, neg_ℤ}
 use Rattle.text.specs.declared.token.Mark.TheVariants.{Colon, Dot, Minus, OpenBrace, CloseBrace}
 use Rattle.text.specs.declared.reserved.Word.TheVariants.{True, False, Null}
@@ -7,15 +7,17 @@ use Rattle.grammar.specs.Grammar.{Grammar, token, mark, word, number_of, ◌∙�
 use Rattle.grammar.specs.Places.{Limited}
 use Rattle.trees.specs.Values.{Tree, yes, no, null, number, binary, hex, chars, reference, chosen, nothing, numbers, items, fields, trees, members}
 
+-- the tree of a value that is a number without a minus
 abbrev pub positive : ℕ → Tree
 positive n = number (pos n)
 
+-- the tree of a value that is a number after a minus
 abbrev pub negative : ℕ → Tree
 negative n = number (neg_ℤ (pos n))
 
--- A limit on numbers is a test that numbers with no minus meet.
+-- A limit on numbers is a test: numbers without a minus must pass it.
 module _ (fits : ℕ → Bool) where
-  -- the values that hold no value
+  -- the values that hold no value, as numbers, strings and names
   abbrev pub simple : Grammar Tree
   simple =
       word True ⇒ (λ _. yes)
@@ -29,7 +31,7 @@ module _ (fits : ℕ → Bool) where
       ∣ token Ident ⇒ reference None
       ∣ (token TypeRef ∙ behind (Mark Dot) (token Ident)) ⇒ (λ p. reference (Some p.0) p.1)
 
-  -- those that open a brace or an alternative, with the values in them
+  -- the values that open a brace or an alternative, with the values in them
   abbrev pub nested : Grammar Tree → Grammar Tree
   nested value =
       (token Ident ∙ behind (Mark Colon) value) ⇒ (λ p. chosen p.0 p.1)
@@ -39,7 +41,7 @@ module _ (fits : ℕ → Bool) where
       ∣ braces (listed value) ⇒ (λ vs. items (trees vs))
       ∣ braces (listed (token Ident ∙ value)) ⇒ (λ ms. fields (members ms))
 
-  -- the values with at most n braces and alternatives open at one place
+  -- the values with at most n braces and alternatives nested in each other (X.680, clause 17)
   abbrev pub value : ℕ → Grammar Tree
   value zero = simple
   value (suc n) = simple ∣ nested (value n)

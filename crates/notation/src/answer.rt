@@ -1,4 +1,4 @@
-//! The value from a place on.
+//! The value that begins at a place of a list of tokens.
 
 ghost use Rattle.std.specs.Prelude.{◌≡◌, ◌-◌, ◌≤◌, ℕ, length, IfOk, IfErr, MatchResult};
 ghost use Rattle.grammar.specs.Lexeme.{lexemes};
@@ -17,20 +17,21 @@ use std::alloc::Global;
 use text::Token;
 use trees::ValueSyntax;
 
-/// Reads the value that begins at a place, where `opened` things are open already.
+/// Reads the value that begins at a place, inside `opened` braces and alternatives that are open already.
 ///
-/// In go a text, its tokens as [`text::lex`] gives them, and the place of a token, which may be their end.
-/// Out come the value and the place behind it; the token there can't go on with the value.
-/// The notation is that of X.680, clause 17.1, with the values of the types that this compiler knows.
+/// The arguments are a text, its tokens as [`text::lex`] gives them, and the index of a token, which may be their
+/// number. The result is the value and the index of the token after it; that token can't go on with the value. The
+/// notation is that of X.680, clause 17.1, with the values of the types that this compiler knows.
 ///
 /// # Errors
-/// The place of a fault is the first token with which no value within the limits can go on. It is told there as
-/// - [`SyntaxFault::Limit`] where a value could go on if this one limit were higher: at the brace or colon that opens
-///   more than 128 things, and at a number of 2 to the 127 with no minus before it;
-/// - [`SyntaxFault::Unexpected`] and [`SyntaxFault::OutOfProfile`] where none could under any limits; `OutOfProfile`
-///   where that token is a word or mark of a construct that is left out.
+/// The place of a fault is the first token with which no value within the limits can go on. The fault there is
+/// - [`SyntaxFault::Limit`] if a value could go on were this one limit higher. This happens at the brace or colon that
+///   opens more than 128 braces and alternatives. It also happens at a number of 2 to the 127 or more without a minus
+///   before it;
+/// - [`SyntaxFault::Unexpected`] or [`SyntaxFault::OutOfProfile`] if none could under any limits; `OutOfProfile` if
+///   that token is a word or mark of a construct that this compiler leaves out.
 ///
-/// Besides, [`SyntaxFault::Memory`] is told if there is not enough memory.
+/// Besides, the error is [`SyntaxFault::Memory`] if there is not enough memory.
 pub fn value_at(
     alloc: Global,
     text: &[u8],
@@ -41,12 +42,12 @@ pub fn value_at(
     requires text { IsLexed text.now tokens.now }
     requires place { place ≤ length tokens.now }
     requires room { opened ≤ 128 }
-    // What is answered is the value there.
+    // The result is the value at that place.
     ensures found { IfOk result (λ x. IsThere values (128 - opened) text.now tokens.now place (tree_of x.0) x.1) }
-    // A value that is there is answered, unless memory runs out.
+    // A value that is there is returned, unless memory runs out.
     ensures only { (v : Tree) (end : ℕ) → IsThere values (128 - opened) text.now tokens.now place v end
         → MatchResult result (λ x. (tree_of x.0 ≡ v) × (x.1 ≡ end)) (λ f. f ≡ SyntaxFault.Memory) }
-    // A fault stands at its place.
+    // A fault is the right one, with its place.
     ensures fault { IfErr result (Stands values (lexemes text.now tokens.now) place (bounded (128 - opened))) }
 {
     text::law::spans_within();

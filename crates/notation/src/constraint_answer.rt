@@ -1,4 +1,4 @@
-//! The constraint, or the size, from a place on.
+//! The constraint, or the size, that begins at a place of a list of tokens.
 
 ghost use Rattle.std.specs.Prelude.{◌≡◌, ◌≤◌, ℕ, length, IfOk, IfErr, MatchResult};
 ghost use Rattle.grammar.specs.Lexeme.{lexemes};
@@ -18,18 +18,19 @@ use trees::ConstraintSyntax;
 
 /// Reads the constraint that begins at a place.
 ///
-/// In go a text, its tokens as [`text::lex`] gives them, and the place of a token, which may be their end.
-/// Out come the constraint and the place behind its closing parenthesis.
-/// The notation is that of X.680, clause 49.6, with single values, ranges, sizes and alphabets (clause 51), and an
-/// extension marker behind values, ranges and sizes (clause 50.1).
+/// The arguments are a text, its tokens as [`text::lex`] gives them, and the index of a token, which may be their
+/// number. The result is the constraint and the index of the token after its closing parenthesis. The notation is that
+/// of X.680, clause 49.6, with single values, ranges, sizes and alphabets (clause 51). An extension marker may follow
+/// values, ranges and sizes (clause 50.1).
 ///
 /// # Errors
-/// The place of a fault is the first token with which no constraint within the limits can go on. It is told there as
-/// - [`SyntaxFault::Limit`] at a number of 2 to the 127 with no minus before it, with which one could go on otherwise;
-/// - [`SyntaxFault::Unexpected`] and [`SyntaxFault::OutOfProfile`] where none could under any limits; `OutOfProfile`
-///   where that token is a word or mark of a construct that is left out.
+/// The place of a fault is the first token with which no constraint within the limits can go on. The fault there is
+/// - [`SyntaxFault::Limit`] at a number of 2 to the 127 or more without a minus before it, if a constraint could go on
+///   with a smaller one;
+/// - [`SyntaxFault::Unexpected`] or [`SyntaxFault::OutOfProfile`] if none could under any limits; `OutOfProfile` if
+///   that token is a word or mark of a construct that this compiler leaves out.
 ///
-/// Besides, [`SyntaxFault::Memory`] is told if there is not enough memory.
+/// Besides, the error is [`SyntaxFault::Memory`] if there is not enough memory.
 pub fn constraint_at(
     alloc: Global,
     text: &[u8],
@@ -38,12 +39,12 @@ pub fn constraint_at(
 ) -> Result<(ConstraintSyntax, usize), SyntaxFault>
     requires text { IsLexed text.now tokens.now }
     requires place { place ≤ length tokens.now }
-    // What is answered is the constraint there.
+    // The result is the constraint at that place.
     ensures found { IfOk result (λ x. IsThere (flat constraint) 0 text.now tokens.now place (constraint_of x.0) x.1) }
-    // A constraint that is there is answered, unless memory runs out.
+    // A constraint that is there is returned, unless memory runs out.
     ensures only { (v : ConstraintTree) (end : ℕ) → IsThere (flat constraint) 0 text.now tokens.now place v end
         → MatchResult result (λ x. (constraint_of x.0 ≡ v) × (x.1 ≡ end)) (λ f. f ≡ SyntaxFault.Memory) }
-    // A fault stands at its place.
+    // A fault is the right one, with its place.
     ensures fault { IfErr result (Stands (flat constraint) (lexemes text.now tokens.now) place (bounded 0)) }
 {
     text::law::spans_within();
@@ -57,17 +58,18 @@ pub fn constraint_at(
 
 /// Reads the size that begins at a place: `SIZE (1..4)`.
 ///
-/// In go a text, its tokens as [`text::lex`] gives them, and the place of a token, which may be their end.
-/// Out come the size and the place behind its closing parenthesis.
-/// The notation is that of X.680, clause 51.5, with an extension marker behind the sizes or none.
+/// The arguments are a text, its tokens as [`text::lex`] gives them, and the index of a token, which may be their
+/// number. The result is the size and the index of the token after its closing parenthesis. The notation is that of
+/// X.680, clause 51.5; an extension marker may follow the sizes.
 ///
 /// # Errors
-/// The place of a fault is the first token with which no size within the limits can go on. It is told there as
-/// - [`SyntaxFault::Limit`] at a number of 2 to the 127 with no minus before it, with which one could go on otherwise;
-/// - [`SyntaxFault::Unexpected`] and [`SyntaxFault::OutOfProfile`] where none could under any limits; `OutOfProfile`
-///   where that token is a word or mark of a construct that is left out.
+/// The place of a fault is the first token with which no size within the limits can go on. The fault there is
+/// - [`SyntaxFault::Limit`] at a number of 2 to the 127 or more without a minus before it, if a size could go on with a
+///   smaller one;
+/// - [`SyntaxFault::Unexpected`] or [`SyntaxFault::OutOfProfile`] if none could under any limits; `OutOfProfile` if
+///   that token is a word or mark of a construct that this compiler leaves out.
 ///
-/// Besides, [`SyntaxFault::Memory`] is told if there is not enough memory.
+/// Besides, the error is [`SyntaxFault::Memory`] if there is not enough memory.
 pub fn size_at(
     alloc: Global,
     text: &[u8],
@@ -76,12 +78,12 @@ pub fn size_at(
 ) -> Result<(ConstraintSyntax, usize), SyntaxFault>
     requires text { IsLexed text.now tokens.now }
     requires place { place ≤ length tokens.now }
-    // What is answered is the size there.
+    // The result is the size at that place.
     ensures found { IfOk result (λ x. IsThere (flat size) 0 text.now tokens.now place (constraint_of x.0) x.1) }
-    // A size that is there is answered, unless memory runs out.
+    // A size that is there is returned, unless memory runs out.
     ensures only { (v : ConstraintTree) (end : ℕ) → IsThere (flat size) 0 text.now tokens.now place v end
         → MatchResult result (λ x. (constraint_of x.0 ≡ v) × (x.1 ≡ end)) (λ f. f ≡ SyntaxFault.Memory) }
-    // A fault stands at its place.
+    // A fault is the right one, with its place.
     ensures fault { IfErr result (Stands (flat size) (lexemes text.now tokens.now) place (bounded 0)) }
 {
     text::law::spans_within();

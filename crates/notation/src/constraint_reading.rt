@@ -20,7 +20,7 @@ use trees::{
     At, CharsSyntax, ConstraintForm, ConstraintSyntax, EndSyntax, RangeSyntax, RangesSyntax,
 };
 
-/// The text in quotes that a token is, where it is written.
+/// The text in quotes that a token is, with its offset.
 fn quoted(alloc: Global, text: &[u8], token: Token) -> Result<At<Vec<u8>>, AllocError>
     requires token { IsTokenOf text.now token }
     requires chars { token.kind ≡ kinds.CharacterString }
@@ -32,7 +32,7 @@ fn quoted(alloc: Global, text: &[u8], token: Token) -> Result<At<Vec<u8>>, Alloc
     })
 }
 
-/// Reads the text behind `..`.
+/// Reads the text after `..`.
 #[tactic(auto, unfolding(crate::specs::ConstraintReading::last_chars_at))]
 fn last_chars<'a>(
     alloc: Global,
@@ -56,7 +56,7 @@ fn last_chars<'a>(
     }
 }
 
-/// Reads what stands behind a text.
+/// Reads what comes after a text.
 #[tactic(auto, unfolding(crate::specs::ConstraintReading::more_chars_at))]
 fn more_chars<'a>(
     alloc: Global,
@@ -109,7 +109,7 @@ impl<'t> Part<'t> for OneText {
     }
 }
 
-/// Reads `FROM` and the characters behind it.
+/// Reads `FROM` and the characters after it.
 #[tactic(auto, unfolding(crate::specs::ConstraintReading::from_at, grammar::specs::Reading::parens_at), using(crate::proofs::ConstraintParts::chars_short))]
 fn from<'a>(alloc: Global, text: &[u8], tokens: &'a [Token]) -> Read<'a, Vec<CharsSyntax>>
     requires tokens { AreTokens text.now tokens.now }
@@ -126,7 +126,7 @@ fn from<'a>(alloc: Global, text: &[u8], tokens: &'a [Token]) -> Read<'a, Vec<Cha
     }
 }
 
-/// Reads the number behind a minus, which stands at a place.
+/// Reads the number after a minus, whose offset is `at`.
 #[tactic(auto, unfolding(crate::specs::ConstraintReading::minus_at))]
 fn negative_end<'a>(text: &[u8], at: usize, tokens: &'a [Token]) -> Read<'a, EndSyntax>
     requires tokens { AreTokens text.now tokens.now }
@@ -171,7 +171,7 @@ fn end<'a>(alloc: Global, text: &[u8], tokens: &'a [Token]) -> Read<'a, EndSynta
     }
 }
 
-/// Reads what stands behind `..`.
+/// Reads what comes after `..`.
 #[tactic(auto, unfolding(crate::specs::ConstraintReading::upper_at, crate::specs::ConstraintReading::some_end_at))]
 fn upper<'a>(alloc: Global, text: &[u8], tokens: &'a [Token]) -> Read<'a, Option<EndSyntax>>
     requires tokens { AreTokens text.now tokens.now }
@@ -187,7 +187,7 @@ fn upper<'a>(alloc: Global, text: &[u8], tokens: &'a [Token]) -> Read<'a, Option
     }
 }
 
-/// Reads what stands behind `MIN`.
+/// Reads what comes after `MIN`.
 #[tactic(auto, unfolding(crate::specs::ConstraintReading::behind_min_at))]
 fn behind_min<'a>(alloc: Global, text: &[u8], tokens: &'a [Token]) -> Read<'a, RangeSyntax>
     requires tokens { AreTokens text.now tokens.now }
@@ -203,7 +203,7 @@ fn behind_min<'a>(alloc: Global, text: &[u8], tokens: &'a [Token]) -> Read<'a, R
     }
 }
 
-/// Reads what stands behind an end.
+/// Reads what comes after an end of a range.
 #[tactic(auto, unfolding(crate::specs::ConstraintReading::behind_end_at))]
 fn behind_end<'a>(
     alloc: Global,
@@ -257,7 +257,7 @@ impl<'t> Part<'t> for OneRange {
     }
 }
 
-/// Reads an extension marker behind a comma, if a comma stands here: `, ...`.
+/// Reads a comma and an extension marker, `, ...`, if a comma comes next.
 #[tactic(auto, unfolding(crate::specs::ConstraintReading::marker_at, crate::specs::ConstraintReading::ellipsis_at))]
 fn marker<'a>(text: &[u8], tokens: &'a [Token]) -> Read<'a, bool>
     requires tokens { AreTokens text.now tokens.now }
@@ -271,7 +271,7 @@ fn marker<'a>(text: &[u8], tokens: &'a [Token]) -> Read<'a, bool>
     }
 }
 
-/// Reads values and ranges with `|` or `UNION` between them, and the marker behind them.
+/// Reads values and ranges with `|` or `UNION` between them, and the marker after them.
 #[tactic(auto, unfolding(crate::specs::ConstraintReading::ranges_at), using(crate::proofs::ConstraintParts::range_short))]
 fn ranges<'a>(alloc: Global, text: &[u8], tokens: &'a [Token]) -> Read<'a, RangesSyntax>
     requires tokens { AreTokens text.now tokens.now }
@@ -283,7 +283,7 @@ fn ranges<'a>(alloc: Global, text: &[u8], tokens: &'a [Token]) -> Read<'a, Range
     Ok((RangesSyntax { ranges, marker }, rest))
 }
 
-/// Reads `SIZE` and the sizes behind it: the size before `OF`, or what stands in the parentheses of a constraint.
+/// Reads `SIZE` and the sizes after it: the size before `OF`, or what is in the parentheses of a constraint.
 #[tactic(auto, unfolding(crate::specs::ConstraintReading::size_at, grammar::specs::Reading::parens_at))]
 pub fn size<'a>(alloc: Global, text: &[u8], tokens: &'a [Token]) -> Read<'a, ConstraintSyntax>
     requires tokens { AreTokens text.now tokens.now }
@@ -302,7 +302,7 @@ pub fn size<'a>(alloc: Global, text: &[u8], tokens: &'a [Token]) -> Read<'a, Con
     }
 }
 
-/// Reads what stands in the parentheses of a constraint.
+/// Reads what is in the parentheses of a constraint.
 #[tactic(auto, unfolding(crate::specs::ConstraintReading::inside_at, crate::specs::ConstraintReading::from_in_at, crate::specs::ConstraintReading::values_in_at))]
 fn inside<'a>(alloc: Global, text: &[u8], tokens: &'a [Token]) -> Read<'a, ConstraintForm>
     requires tokens { AreTokens text.now tokens.now }

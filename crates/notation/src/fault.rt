@@ -1,4 +1,4 @@
-//! What is wrong with what is written.
+//! What is wrong with a text of the notation.
 
 ghost use Rattle.std.specs.Prelude.{◌≡◌};
 ghost use Rattle.notation.specs.declared.fault.SyntaxFault.TheVariants as faults;
@@ -7,19 +7,20 @@ use kernel::Limit;
 use std::alloc::{AllocError, AllocFailed};
 use thiserror::Error;
 
-/// What is wrong, and at which token, counted from 0; the number of tokens stands for their end.
+/// What is wrong, and at which token, counted from 0. The number of tokens is the place of their end.
 #[derive(Debug, Drop, Error)]
 pub enum SyntaxFault {
     /// There was not enough memory.
     #[error("1 Memory")]
     Memory,
-    /// At this token a limit is passed.
+    /// A limit is passed at this token.
     #[error("2 Limit({0:?}) at token {1}")]
     Limit(Limit, usize),
-    /// Nothing that begins with the tokens up to this one is right.
+    /// Nothing valid begins with the tokens up to this one.
     #[error("20 Unexpected at token {0}")]
     Unexpected(usize),
-    /// The same, where the token is a word or mark of a construct that this compiler leaves out.
+    /// Nothing valid begins with the tokens up to this one, which is a word or mark of a construct that this compiler
+    /// leaves out.
     #[error("21 OutOfProfile at token {0}")]
     OutOfProfile(usize),
 }

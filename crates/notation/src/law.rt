@@ -1,4 +1,4 @@
-//! Laws on values and constraints as they are written.
+//! Laws on values and constraints in their notation.
 
 ghost use Rattle.std.specs.Prelude.{◌≡◌, ◌≤◌, ℕ, Bool, true, List, length};
 ghost use Rattle.text.specs.declared.token.Token.{Token};
@@ -42,7 +42,7 @@ pub fn one_size()
         → v ≡ w }
 {}
 
-/// One fault at most stands where a value is read, want of memory apart.
+/// At most one fault is right where a value is read, apart from `Memory`.
 pub fn one_value_fault()
     ensures { (ts : List Lexeme) (start n : ℕ) → start ≤ length ts → (f g : Fault)
         → (f ≡ faults.Memory → ⊥)
@@ -52,7 +52,7 @@ pub fn one_value_fault()
         → f ≡ g }
 {}
 
-/// One fault at most stands where a constraint is read, want of memory apart.
+/// At most one fault is right where a constraint is read, apart from `Memory`.
 pub fn one_constraint_fault()
     ensures { (ts : List Lexeme) (start : ℕ) → start ≤ length ts → (f g : Fault)
         → (f ≡ faults.Memory → ⊥)
@@ -62,7 +62,7 @@ pub fn one_constraint_fault()
         → f ≡ g }
 {}
 
-/// One fault at most stands where a size is read, want of memory apart.
+/// At most one fault is right where a size is read, apart from `Memory`.
 pub fn one_size_fault()
     ensures { (ts : List Lexeme) (start : ℕ) → start ≤ length ts → (f g : Fault)
         → (f ≡ faults.Memory → ⊥)
@@ -93,7 +93,7 @@ pub fn values_are_read()
     ensures { ValueLaws }
 {}
 
-/// What the lexer gives are tokens of their text, each within it, with no number past the limit.
+/// What the lexer returns are tokens of its text: each is within the text, and no number passes the limit.
 pub fn lexed_tokens()
     ensures { (x : List ℕ) (ts : List Token) → IsLexed x ts → AreTokens x ts }
 {

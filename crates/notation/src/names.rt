@@ -1,4 +1,4 @@
-//! The names of the notation, with where they are written.
+//! The names of the notation, with their offsets in the text.
 
 ghost use Rattle.std.specs.Prelude.{◌≡◌, None, IfOk};
 ghost use Rattle.text.specs.declared.token.TokenKind.TheVariants as kinds;
@@ -26,7 +26,7 @@ pub fn bare(alloc: Global, text: &[u8], token: Token) -> Result<Reference, Alloc
     })
 }
 
-/// Reads the dot and the name of a value that stand behind a module's name.
+/// Reads the dot and the name of a value that come after a module's name.
 #[tactic(auto, unfolding(crate::specs::Reading::ref_dot_at, crate::specs::Reading::ref_name_at))]
 pub fn qualified<'a>(
     alloc: Global,

@@ -10,7 +10,8 @@ use kernel::decode::{number_of, small_number};
 use kernel::{Limit, ReadError};
 use text::Token;
 
-/// The number that a token is where no minus stands before it, with `left` tokens from it on, if no limit is passed.
+/// The number that a token is, if no minus comes before it and no limit is passed. The error counts `left`, the number
+/// of tokens from this one on.
 pub fn positive(text: &[u8], token: Token, left: usize) -> Result<i128, ReadError>
     requires token { IsTokenOf text.now token }
     requires number { token.kind ≡ kinds.Number }
@@ -26,7 +27,7 @@ pub fn positive(text: &[u8], token: Token, left: usize) -> Result<i128, ReadErro
     }
 }
 
-/// The number that a token is behind a minus.
+/// The number that a token is after a minus.
 pub fn negative(text: &[u8], token: Token) -> i128
     requires token { IsTokenOf text.now token }
     requires number { token.kind ≡ kinds.Number }

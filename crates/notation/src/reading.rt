@@ -21,7 +21,7 @@ use text::reserved::Word;
 use text::{Mark, Token, TokenKind, kind, mark};
 use trees::{ValueForm, ValueSyntax};
 
-/// The values, as a production that reads itself again.
+/// The values, as a production that reads itself again inside.
 pub struct Values;
 
 impl Production for Values {
@@ -38,7 +38,7 @@ impl Production for Values {
     ghost reader = { value_at small };
 }
 
-/// Reads the number behind a minus, which stands at a place.
+/// Reads the number after a minus, whose offset is `at`.
 #[tactic(auto, unfolding(crate::specs::Reading::negative_at))]
 fn negative_value<'a>(text: &[u8], at: usize, tokens: &'a [Token]) -> Read<'a, ValueSyntax>
     requires tokens { AreTokens text.now tokens.now }
@@ -54,7 +54,7 @@ fn negative_value<'a>(text: &[u8], at: usize, tokens: &'a [Token]) -> Read<'a, V
     }
 }
 
-/// Reads what stands behind an identifier: the value of an alternative, or nothing.
+/// Reads what comes after an identifier: the value of an alternative, or nothing.
 #[tactic(auto, unfolding(crate::specs::Reading::alternative_at))]
 #[cycle(value)]
 fn alternative<'a>(
@@ -89,7 +89,7 @@ fn alternative<'a>(
     }
 }
 
-/// Reads a value, where so many more braces and alternatives may be open.
+/// Reads a value, in which `depth` more braces and alternatives may be open.
 #[tactic(auto, using(crate::proofs::Loop::value_step))]
 #[cycle(value)]
 pub fn value<'a>(
@@ -143,7 +143,7 @@ fn step<'a>(alloc: Global, text: &[u8], tokens: &'a [Token], depth: usize) -> Re
     Ok((ValueSyntax { at, form }, rest))
 }
 
-/// Reads what stands behind an open brace, which stands at a place.
+/// Reads what comes after an open brace, whose offset is `at`.
 #[tactic(auto, unfolding(crate::specs::Reading::braced_at, crate::specs::Reading::by_number_at, crate::specs::Reading::by_name_at, crate::specs::Reading::follows_name))]
 #[cycle(value)]
 fn braced<'a>(
@@ -179,7 +179,7 @@ fn braced<'a>(
     }
 }
 
-/// Reads values with commas between them, plain or each behind a name, and the brace behind them.
+/// Reads values with commas between them, plain or each after a name, and the closing brace after them.
 #[tactic(auto, unfolding(crate::specs::Reading::by_name_at, crate::specs::Reading::items_at, crate::specs::Reading::fields_at), using(crate::proofs::Loop::fields_tree, crate::proofs::Loop::value_short))]
 #[cycle(value)]
 fn listed<'a>(
@@ -217,7 +217,7 @@ fn listed<'a>(
     }
 }
 
-/// The number that comes next, and the tokens behind it, if one comes.
+/// The number that comes next, and the tokens after it, if one comes.
 #[tactic(auto, unfolding(crate::specs::Reading::next_number))]
 fn next_number<'a>(text: &[u8], tokens: &'a [Token]) -> Option<(Token, &'a [Token])>
     requires tokens { AreTokens text.now tokens.now }
@@ -232,7 +232,7 @@ fn next_number<'a>(text: &[u8], tokens: &'a [Token]) -> Option<(Token, &'a [Toke
     }
 }
 
-/// Reads the numbers from here to the closing brace, behind the first two.
+/// Reads the numbers after the first two, and the closing brace.
 #[tactic(auto, unfolding(crate::specs::Reading::two_numbers_at))]
 fn two_numbers<'a>(
     alloc: Global,

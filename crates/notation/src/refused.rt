@@ -65,7 +65,7 @@ fn is_refused(kind: TokenKind) -> bool
     }
 }
 
-/// The fault of a place where no token goes on so, or where the tokens end.
+/// The fault if the token at a place is the first with which nothing can go on, or if the tokens end there.
 pub fn unexpected(tokens: &[Token], place: usize) -> SyntaxFault
     ensures { (x : List ℕ) → result ≡ unexpected (lexemes x tokens.now) place }
 {

@@ -10,7 +10,7 @@ use kernel::{Part, Read};
 use std::alloc::Global;
 use text::{Token, mark, word};
 
-/// The tokens behind `|` or `UNION`, if one of them is next.
+/// The tokens after `|` or `UNION`, if one of them is next.
 #[tactic(auto, unfolding(crate::specs::ConstraintReading::next_or))]
 fn or<'a>(text: &[u8], tokens: &'a [Token]) -> Option<&'a [Token]>
     requires tokens { AreTokens text.now tokens.now }

@@ -1,2 +1,3 @@
-pub mod Kept
-pub mod Within
+mod Kept
+mod PutBack
+mod Within

@@ -5,6 +5,7 @@ ghost use Rattle.encodings.specs.Account.{Account as Account'};
 ghost use Rattle.octet_account.specs.Flat.{AreRows};
 ghost use Rattle.octet_account.specs.Seen.{flat};
 
+use crate::ends::with_ends;
 use crate::row::Row;
 use std::marker::Model;
 
@@ -35,11 +36,12 @@ impl Model for Account {
 }
 
 impl Account {
-    /// The account whose rows these are. It takes no memory.
+    /// The account whose rows these are. It takes no memory, and time in line with the number of rows.
     pub fn of(rows: Vec<Row>) -> Self
         requires { (a : Account') × AreRows a (flat rows.items) }
         ensures { AreRows result (flat rows.items) }
     {
+        let rows = with_ends(rows);
         Account { rows }
     }
 

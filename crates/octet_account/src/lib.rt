@@ -2,5 +2,6 @@
 #![tactic(auto)]
 
 pub mod account;
+mod ends;
 pub mod law;
 pub mod row;

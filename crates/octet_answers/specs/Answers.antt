@@ -1,4 +1,4 @@
--- What a reader of octets answers to a question, and where it stands behind the answer (X.690, 8.1 to 8.14).
+-- What octets answer to a reader's question, and the state of the reader after the answer (X.690, 8.1 to 8.14).
 use Rattle.std.specs.Prelude.{◌≡◌, ◌⊎◌, ℕ, suc, ◌+◌, ◌<◌, Bool, true, false, List, [], ◌∷◌, ◌++◌, length, drop}
 use Rattle.std.specs.Prelude.{Option, Some, None}
 use Rattle.asn_base.specs.declared.tag.Tag.{Tag}
@@ -21,7 +21,7 @@ use Rattle.octet_answers.specs.States.{Window, State, component, chosen, telling
 use Rattle.octet_answers.specs.States.{held_at, marked}
 use Rattle.octet_answers.specs.Found.{IsChosen, is_extensible, last_steps, AreRead, Passes}
 
--- a value begins, of at most 64 levels
+-- a value of type t begins; at most 64 values are open inside each other, and a.room counts how many may still begin
 pub record Begins (a : State) (t : TypeId) (b : State) : Type 0 where
   pub left : ℕ
   pub has_room : a.room ≡ suc left
@@ -34,7 +34,8 @@ pub record Ends (a b : State) : Type 0 where
   pub is_open : a.values ≡ others ++ value ∷ []
   pub is : b ≡ ended_at a others
 
--- a header with this tag, constructed where it must be, of at most 400 levels; a string may be constructed too
+-- a header with this tag comes next, constructed if it must be, inside fewer than 400 open headers; a string may be
+-- constructed too
 pub record Opens (a : State) (h : Head) (b : State) : Type 0 where
   pub constructed : Bool
   pub count : ℕ
@@ -45,7 +46,7 @@ pub record Opens (a : State) (h : Head) (b : State) : Type 0 where
   pub few_levels : length a.outer < 400
   pub is : b ≡ opened_at a constructed count contents rest
 
--- contents are at their end
+-- the contents are read to their end
 pub record Closes (a b : State) : Type 0 where
   pub window : Window
   pub others : List Window
@@ -53,8 +54,8 @@ pub record Closes (a b : State) : Type 0 where
   pub is_open : a.outer ≡ others ++ window ∷ []
   pub is : b ≡ closed_at a window others
 
--- all that is left here are contents octets of a value that holds no others: its own ones, or those of a string in
--- segments, within the limit of 400 levels of headers
+-- all that is left here are the contents octets of a value that holds no others, within the limit of 400 levels of
+-- headers. They are its own octets, or those of a string in segments
 abbrev pub AreContents : Bool → LeafKind → AbstractValue → ℕ → Octets → Type 0
 AreContents false k v levels x = IsReadAs k v x
 AreContents true k v levels x = IsJoinedAs k v levels x
@@ -66,14 +67,14 @@ pub record Holds (a : State) (k : LeafKind) (b : State) : Type 0 where
   pub contents : AreContents a.here.constructed k value levels a.here.octets
   pub is : b ≡ held_at a k
 
--- the type of the value that is open innermost
+-- what is left of the contents are additions that the type of the innermost open value lacks; all are passed
 pub record Skips (a b : State) : Type 0 where
   pub value : TypeId
   pub others : List TypeId
   pub is_open : a.values ≡ others ++ value ∷ []
   pub pass : Passes a.schema (last_steps (routine_at a.schema value.index)) true a None b
 
--- the next tag can be the first one of the component
+-- the next tag can be the first one of component f
 pub record IsNext (a : State) (f : Field) (b : State) : Type 0 where
   pub tag : Tag
   pub constructed : Bool
@@ -84,7 +85,7 @@ pub record IsNext (a : State) (f : Field) (b : State) : Type 0 where
   pub first : First a.schema f.ty.index tag
   pub is : b ≡ telling a (component f.place)
 
--- another one stands next
+-- an encoding comes next whose tag can't be the first one of component f
 pub record IsOther (a : State) (f : Field) : Type 0 where
   pub tag : Tag
   pub constructed : Bool
@@ -94,13 +95,13 @@ pub record IsOther (a : State) (f : Field) : Type 0 where
   pub unit : UnitAt tag constructed count contents rest a.here.octets
   pub not_first : First a.schema f.ty.index tag → ⊥
 
--- nothing or another one stands next, and the component may be absent
+-- the contents are at their end, or another encoding comes next, and component f may be absent
 pub record IsAbsent (a : State) (f : Field) (b : State) : Type 0 where
   pub may_be : may_be_absent f.need ≡ true
   pub next : (a.here.octets ≡ []) ⊎ IsOther a f
   pub is : b ≡ a
 
--- an encoding stands next
+-- more octets are left in the contents
 pub record HasMore (a b : State) : Type 0 where
   pub some : 0 < length a.here.octets
   pub is : b ≡ a
@@ -109,7 +110,7 @@ pub record HasNoMore (a b : State) : Type 0 where
   pub none : a.here.octets ≡ []
   pub is : b ≡ a
 
--- behind additions that the type lacks a component of a SET stands, which was not read before
+-- after additions that the type lacks comes a component of a SET that was not read before
 pub record HasComponent (a : State) (ss : List Step) (t : TypeId) (b : State) : Type 0 where
   pub field : Field
   pub next : State
@@ -118,7 +119,7 @@ pub record HasComponent (a : State) (ss : List Step) (t : TypeId) (b : State) : 
   pub is_new : IsMember field.place (drop next.here.from next.marks) → ⊥
   pub is : b ≡ marked next field.place
 
--- or the contents are at their end, and all components that must stand were read
+-- or the contents are at their end, and all mandatory components were read
 pub record HasNoComponent (a : State) (ss : List Step) (b : State) : Type 0 where
   pub pass : Passes a.schema ss (is_extensible ss) a None b
   pub all_read : AreRead (drop b.here.from b.marks) ss
@@ -147,7 +148,7 @@ abbrev pub AmongNext : State → List Step → Option TypeId → State → Type 
 AmongNext a ss (Some t) b = HasComponent a ss t b
 AmongNext a ss None b = HasNoComponent a ss b
 
--- the answers
+-- an answer to any question, with the state after it
 abbrev pub Answers : State → Event → State → Type 0
 Answers a (begins t) b = Begins a t b
 Answers a ends b = Ends a b
@@ -160,7 +161,7 @@ Answers a (more t sorted there) b = MoreNext a there b
 Answers a (among ss t) b = AmongNext a ss t b
 Answers a (picks ss t) b = Chooses a ss t b
 
--- an answer to the question, and there is no other
+-- an answer to its question that is the only one
 pub record Takes (a : State) (e : Event) (b : State) : Type 0 where
   pub answer : Answers a e b
   pub only : (f : Event) (c : State) → Alike e f → Answers a f c → (e ≡ f) × (b ≡ c)

@@ -1,4 +1,4 @@
--- Which question an answer is one to.
+-- Which question an answer belongs to.
 use Rattle.codec_source.specs.Events.{Event, begins, ends, opens, closes, holds, skips, stands, more, among, picks}
 use Rattle.codec_source.specs.Events.{Question, to_begin, to_end, to_open, to_close, to_hold, to_skip}
 use Rattle.codec_source.specs.Events.{whether_stands, whether_more, which_stands, which_picked}

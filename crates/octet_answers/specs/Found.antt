@@ -1,4 +1,4 @@
--- Components and alternatives that are told by the next tag (X.680, 25.6.1, 27.3 and 29.3).
+-- Components and alternatives that the next tag identifies (X.680, 25.6.1, 27.3 and 29.3).
 use Rattle.std.specs.Prelude.{◌≡◌, ℕ, suc, ◌<◌, Bool, true, false, not, ◌||◌, if◌then◌else◌, List, [], ◌∷◌, length}
 use Rattle.std.specs.Prelude.{Option, Some, None}
 use Rattle.asn_base.specs.declared.tag.Tag.{Tag}
@@ -21,11 +21,11 @@ field_in (Field f) = Some f
 field_in (Ranked f r) = Some f
 field_in s = None
 
--- the step reads a component of which g can be the first tag
+-- the step reads a component whose first tag can be g
 abbrev pub CanBegin : List Resolved → Tag → Step → Type 0
 CanBegin s g p = (f : Field') × (field_in p ≡ Some f) × First s f.ty.index g
 
--- the first component, of those that the steps read, of which g can be the first tag
+-- the first component that these steps read and whose first tag can be g
 pub data IsFound (s : List Resolved) (g : Tag) : List Step → Field' → Type 0 where
   found : {p : Step} {ss : List Step} {f : Field'}
       → field_in p ≡ Some f
@@ -36,7 +36,7 @@ pub data IsFound (s : List Resolved) (g : Tag) : List Step → Field' → Type 0
       → IsFound s g ss f
       → IsFound s g (p ∷ ss) f
 
--- an alternative, of those that the calls are, of which g can be the first tag, and its number
+-- the first alternative, of those that the calls are, whose first tag can be g, with its number
 pub data IsChosen (s : List Resolved) (g : Tag) : List Step → ℕ → TypeId → Type 0 where
   chosen : {t : TypeId} {ss : List Step}
       → First s t.index g
@@ -51,27 +51,27 @@ abbrev pub is_rest : Step → Bool
 is_rest Rest = true
 is_rest s = false
 
--- one of the steps does
+-- one of the steps skips additions
 abbrev pub is_extensible : List Step → Bool
 is_extensible [] = false
 is_extensible (p ∷ ss) = is_rest p || is_extensible ss
 
--- the component must stand
+-- the step reads a component that must be present
 abbrev pub must_stand : Step → Bool
 must_stand (Field f) = not (may_be_absent f.need)
 must_stand (Ranked f r) = not (may_be_absent f.need)
 must_stand s = false
 
--- the steps behind the last of some that reads a component that must stand, or else the others
+-- the steps after the last one that reads a component that must be present; `others` if no step does
 abbrev pub last_from : List Step → List Step → List Step
 last_from others [] = others
 last_from others (p ∷ ss) = if must_stand p then last_from ss ss else last_from others ss
 
--- the steps behind the last component that must stand, or all where none must
+-- the steps after the last component that must be present, or all steps if no component must
 abbrev pub last_steps : List Step → List Step
 last_steps ss = last_from ss ss
 
--- each component that must stand was read
+-- each component that must be present was read
 pub data AreRead (marks : List ℕ) : List Step → Type 0 where
   are_read : AreRead marks []
   is_read : {p : Step} {ss : List Step}
@@ -79,9 +79,9 @@ pub data AreRead (marks : List ℕ) : List Step → Type 0 where
       → AreRead marks ss
       → AreRead marks (p ∷ ss)
 
--- Additions that the type lacks, as far as they stand: up to a component of which the next tag can be the first, or to
--- the end of the contents. Each is a header, and as many octets as it tells, which are not looked into; none stands in
--- a type that isn't extensible, nor below 400 levels of headers.
+-- Additions that the type lacks are passed, up to a component whose first tag can be the next tag, or to the end of the
+-- contents. Each addition is a header and as many octets as it promises, which are not inspected. None is passed in a
+-- type that isn't extensible, nor inside 400 levels of headers.
 pub data Passes (s : List Resolved) (ss : List Step) (extensible : Bool) : State → Option Field' → State → Type 0 where
   at_end_of_contents : {a : State} → a.here.octets ≡ [] → Passes s ss extensible a None a
   at_component : {a : State} {g : Tag} {c : Bool} {k : ℕ} {x rest : Octets} {f : Field'}

@@ -1,5 +1,5 @@
--- Where a question that has no answer leaves a reader of octets, and with which fault: one of them for each question
--- (X.690, 8.1 to 8.14).
+-- The state in which a question without an answer leaves a reader of octets, and the fault: exactly one for each
+-- question (X.690, 8.1 to 8.14).
 use Rattle.std.specs.Prelude.{◌≡◌, ◌⊎◌, ℕ, ◌+◌, ◌<◌, ◌≤◌, Bool, true, false, List, [], ◌∷◌, ◌++◌, length, drop}
 use Rattle.std.specs.Prelude.{Some, None}
 use Rattle.asn_base.specs.declared.tag.Tag.{Tag}
@@ -33,7 +33,7 @@ use Rattle.octet_answers.specs.States.{Window, State, passing}
 use Rattle.octet_answers.specs.Found.{IsFound, IsChosen, is_extensible, last_steps, AreRead, Passes}
 use Rattle.octet_answers.specs.Answers.{IsOther}
 
--- ---- faults of headers, of contents and of segments, as a reader tells them
+-- ---- faults of headers, of contents and of segments, as a reader returns them
 
 abbrev pub of_header : HeaderFault → ReadFault
 of_header headers.Truncated = Truncated
@@ -55,7 +55,7 @@ of_segments whys.TooDeep = TooDeep
 
 -- ---- places
 
--- behind so many of the octets
+-- the contents after n of their octets
 abbrev pub further : Window → ℕ → Window
 further w n = record { constructed = w.constructed; octets = drop n w.octets; at = w.at + n; from = w.from }
 
@@ -72,12 +72,12 @@ standing a n = record {
 
 -- ---- questions
 
--- the header is not the one that is asked for: it has another tag, or is primitive where it must be constructed
+-- the header is not the requested one: it has another tag, or is primitive where it must be constructed
 abbrev pub IsOtherHead : Head → Tag → Bool → Type 0
 IsOtherHead h g c = (g ≡ h.tag → ⊥) ⊎ ((h.constructed ≡ true) × (c ≡ false))
 
--- Additions that the type lacks can't be passed: behind those that are, octets are left that are no header with its
--- contents; or the tag of the header is none of a component, and 400 headers are open, or the type isn't extensible.
+-- Additions that the type lacks can't be passed. After those that are, the octets left may be no header with its
+-- contents. Or the header's tag is that of no component, and 400 headers are open or the type isn't extensible.
 pub data Blocks (s : List Resolved) (ss : List Step) (extensible : Bool) : State → State → ReadFault → Type 0 where
   no_encoding : {a : State} (f : HeaderFault)
       → 1 ≤ length a.here.octets
@@ -102,12 +102,13 @@ pub data Blocks (s : List Resolved) (ss : List Step) (extensible : Bool) : State
       → Blocks s ss extensible (passing a k x rest) b e
       → Blocks s ss extensible a b e
 
--- The question has no answer in the first state: it is refused with this fault, and leaves the reader in the second.
+-- The question has no answer in the first state: it is refused with this fault, and leaves the reader in the second
+-- state.
 pub data Leaves (a : State) : Question → State → ReadFault → Type 0 where
-  -- no more values may begin, or as many are open as may be
+  -- no more values may begin, or 64 are open
   no_room : {t : TypeId} → (a.room ≡ 0) ⊎ (64 ≤ length a.values) → Leaves a (to_begin t) a TooDeep
   no_value_open : a.values ≡ [] → Leaves a to_end a UnexpectedTag
-  -- no header stands next; or one too many; or another one
+  -- no header comes next; or it is one too many; or it is another one
   no_header : {h : Head} (f : HeaderFault) → Stands f a.here.octets → Leaves a (to_open h) a (of_header f)
   too_many_headers : {h : Head} {g : Tag} {c : Bool} {k : ℕ} {x rest : Octets}
       → UnitAt g c k x rest a.here.octets
@@ -118,10 +119,10 @@ pub data Leaves (a : State) : Question → State → ReadFault → Type 0 where
       → length a.outer < 400
       → IsOtherHead h g c
       → Leaves a (to_open h) a UnexpectedTag
-  -- contents are not at their end, or are no header's
+  -- the contents are not at their end, or belong to no header
   not_at_end : 1 ≤ length a.here.octets → Leaves a to_close a UnexpectedTag
   no_header_open : a.here.octets ≡ [] → a.outer ≡ [] → Leaves a to_close a UnexpectedTag
-  -- contents octets that are none of the kind, and segments, at the one that fails
+  -- contents octets are not those of a value of the kind; in segments the state is that at the segment that fails
   contents_too_deep : {k : LeafKind} → 400 < length a.outer → Leaves a (to_hold k) a TooDeep
   bad_primitive : {k : LeafKind} (f : LeafFault)
       → length a.outer ≤ 400
@@ -134,7 +135,7 @@ pub data Leaves (a : State) : Question → State → ReadFault → Type 0 where
       → Fails k room e n a.here.octets
       → n ≤ length a.here.octets
       → Leaves a (to_hold k) (standing a n) (of_segments e)
-  -- behind the last component that must stand something else than additions stands
+  -- something other than additions follows the last component that must be present
   nothing_to_skip_in : a.values ≡ [] → Leaves a to_skip a UnexpectedTag
   not_skipped : {b : State} {e : ReadFault} (t : TypeId) (others : List TypeId)
       → a.values ≡ others ++ t ∷ []
@@ -144,7 +145,7 @@ pub data Leaves (a : State) : Question → State → ReadFault → Type 0 where
       → a.values ≡ others ++ t ∷ []
       → Passes a.schema (last_steps (routine_at a.schema t.index)) true a (Some f) b
       → Leaves a to_skip b UnexpectedTag
-  -- a component that must stand in a SEQUENCE doesn't
+  -- a component of a SEQUENCE that must be present isn't
   nothing_stands : {f : Field}
       → may_be_absent f.need ≡ false
       → a.here.octets ≡ []
@@ -157,7 +158,7 @@ pub data Leaves (a : State) : Question → State → ReadFault → Type 0 where
       → may_be_absent f.need ≡ false
       → IsOther a f
       → Leaves a (whether_stands f) a UnexpectedTag
-  -- of a SET: no component stands next, or one that stood before, or not all that must were read
+  -- of a SET: no component comes next, or one that was read before, or not all were read that must be present
   no_component : {ss : List Step} {b : State} {e : ReadFault}
       → Blocks a.schema ss (is_extensible ss) a b e
       → Leaves a (which_stands ss) b e
@@ -169,7 +170,7 @@ pub data Leaves (a : State) : Question → State → ReadFault → Type 0 where
       → Passes a.schema ss (is_extensible ss) a None b
       → (AreRead (drop b.here.from b.marks) ss → ⊥)
       → Leaves a (which_stands ss) b Missing
-  -- no header stands next, or one of no alternative
+  -- no header comes next, or one of no alternative
   no_header_to_pick : {calls : List Step} (f : HeaderFault)
       → Stands f a.here.octets
       → Leaves a (which_picked calls) a (of_header f)

@@ -1,7 +1,7 @@
--- What octets answer to each question of a routine, by the basic rules: an encoding at the front (`Units`), where a
--- reader stands and what it was told (`States`), components and alternatives by the next tag (`Found`), the answers
--- (`Answers`), which question an answer is one to (`Asked`), and where a question without an answer leaves a reader
--- (`Left`).
+-- What octets answer to each question of a routine, by the basic rules. `Units` is an encoding at the start of octets,
+-- `States` the state of a reader with what it has read, and `Found` components and alternatives by the next tag.
+-- `Answers` has the answers, `Asked` which question an answer belongs to, and `Left` the state after a question without
+-- an answer.
 pub mod Units
 pub mod States
 pub mod Found

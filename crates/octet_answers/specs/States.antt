@@ -1,19 +1,19 @@
--- Where a reader of octets stands.
+-- The state of a reader of octets.
 use Rattle.std.specs.Prelude.{ℕ, ◌+◌, Bool, true, List, ◌∷◌, ◌++◌, [], length, take}
 use Rattle.asn_base.specs.declared.schema.TypeId.{TypeId}
 use Rattle.asn_base.specs.Types.{Resolved}
 use Rattle.encodings.specs.Header.{Octets}
 use Rattle.codec_code.specs.declared.step.LeafKind.{LeafKind}
 
--- Contents octets, constructed or not, as far as they are not read; the place in the message of the first of them; and
--- how many components of the SETs around them were read.
+-- Contents octets that are not read yet, and whether they are constructed. `at` is the place in the message of the
+-- first of them. `from` is how many components of the SETs around them were read.
 pub record Window : Type 0 where
   pub constructed : Bool
   pub octets : Octets
   pub at : ℕ
   pub from : ℕ
 
--- what was read: values in order, with all that stands in them
+-- what was read: values in order, with everything in them
 pub data Token : Type 0 where
   -- the component at a place follows, or the alternative with a number
   component : (place : ℕ) → Token
@@ -26,9 +26,9 @@ pub data Token : Type 0 where
   -- an addition that the type lacks was skipped
   passed : Token
 
--- The contents of the nearest open header, and what stands behind each of the open ones, the outermost first; the types
--- of the values that are open, the outermost first; the places of the components that were read of the SETs that are
--- open; what was read; and how many values may still begin.
+-- `here` are the contents of the innermost open header; `outer` are the contents after each of the open ones, the
+-- outermost first. `values` are the types of the open values, the outermost first. `marks` are the places of the
+-- components that were read of the open SETs. `told` is what was read, and `room` how many values may still begin.
 pub record State : Type 0 where
   pub schema : List Resolved
   pub here : Window
@@ -38,15 +38,15 @@ pub record State : Type 0 where
   pub told : List Token
   pub room : ℕ
 
--- behind a header of k octets and its contents
+-- the contents after a header of k octets and its contents x
 abbrev pub behind : Window → ℕ → Octets → Octets → Window
 behind w k x rest = record { constructed = w.constructed; octets = rest; at = w.at + (k + length x); from = w.from }
 
--- the contents behind a header of k octets; as many components of SETs were read as there are marks
+-- the contents x of a header of k octets; marks is how many components of SETs were read before
 abbrev pub inside : Window → Bool → ℕ → Octets → ℕ → Window
 inside w c k x marks = record { constructed = c; octets = x; at = w.at + k; from = marks }
 
--- behind all contents
+-- the end of the contents
 abbrev pub at_end : Window → Window
 at_end w = record { constructed = w.constructed; octets = []; at = w.at + length w.octets; from = w.from }
 
@@ -61,7 +61,7 @@ telling a t = record {
   room = a.room;
 }
 
--- behind an addition that the type lacks
+-- the state after an addition that the type lacks
 abbrev pub passing : State → ℕ → Octets → Octets → State
 passing a k x rest = record {
   schema = a.schema;
@@ -73,7 +73,7 @@ passing a k x rest = record {
   room = a.room;
 }
 
--- within a value of the type
+-- the state inside a value of type t
 abbrev pub begun_at : State → TypeId → ℕ → State
 begun_at a t left = record {
   schema = a.schema;
@@ -85,7 +85,7 @@ begun_at a t left = record {
   room = left;
 }
 
--- behind a value, with the others that are open
+-- the state after a value, with the others that are open
 abbrev pub ended_at : State → List TypeId → State
 ended_at a others = record {
   schema = a.schema;
@@ -97,7 +97,7 @@ ended_at a others = record {
   room = a.room;
 }
 
--- within contents
+-- the state inside the contents of a header
 abbrev pub opened_at : State → Bool → ℕ → Octets → Octets → State
 opened_at a c k x rest = record {
   schema = a.schema;
@@ -109,7 +109,7 @@ opened_at a c k x rest = record {
   room = a.room;
 }
 
--- behind contents
+-- the state after contents
 abbrev pub closed_at : State → Window → List Window → State
 closed_at a w others = record {
   schema = a.schema;
@@ -121,7 +121,7 @@ closed_at a w others = record {
   room = a.room;
 }
 
--- behind the contents octets of a value that holds no others
+-- the state after the contents octets of a value that holds no others
 abbrev pub held_at : State → LeafKind → State
 held_at a k = record {
   schema = a.schema;
@@ -133,7 +133,7 @@ held_at a k = record {
   room = a.room;
 }
 
--- before a component of a SET
+-- the state before a component of a SET
 abbrev pub marked : State → ℕ → State
 marked a place = record {
   schema = a.schema;
@@ -145,7 +145,7 @@ marked a place = record {
   room = a.room;
 }
 
--- at the front of a message, where so many values may begin
+-- the state at the start of a message, in which room values may begin
 abbrev pub front : List Resolved → Octets → ℕ → State
 front s o room = record {
   schema = s;

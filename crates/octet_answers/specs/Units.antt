@@ -1,4 +1,4 @@
--- An encoding at the front of octets: a header, and as many octets of contents as it tells (X.690, 8.1.1).
+-- An encoding at the start of octets: a header, and as many octets of contents as it promises (X.690, 8.1.1).
 use Rattle.std.specs.Prelude.{◌≡◌, ℕ, ◌≤◌, Bool, ◌++◌, length}
 use Rattle.asn_base.specs.declared.tag.Tag.{Tag}
 use Rattle.encodings.specs.Header.{Octets, Header}

@@ -15,7 +15,7 @@ use leaf_readings::law::one_reading;
 use octets::law::one_front;
 use segmented_strings::law::one_joining;
 
-/// Octets answer a question in one way at most, behind which they are read as far.
+/// Octets answer a question in at most one way, with one state after it.
 pub fn one_answer()
     ensures once { (a b c : State) (e f : Event)
         → Alike e f
@@ -27,7 +27,7 @@ pub fn one_answer()
     header_laws();
 }
 
-/// One encoding at most stands at the front of octets, and none where there are no octets.
+/// At most one encoding is at the start of octets, and none if there are no octets.
 pub fn one_unit()
     ensures once { (g f : Tag) (c d : Bool) (k j : ℕ) (x y r s o : List ℕ)
         → UnitAt g c k x r o
@@ -38,8 +38,8 @@ pub fn one_unit()
     header_laws();
 }
 
-/// A question is refused with one fault at most, which leaves a reader at one place, and never where it has an answer.
-/// No more octets are left than a message has.
+/// A question is refused with at most one fault, which leaves a reader in one state, and never if it has an answer. The
+/// octets left are no more than a message has.
 pub fn one_refusal()
     ensures once { (a b c : State) (q : Question) (e f : ReadFault)
         → length a.here.octets ≤ 16777216

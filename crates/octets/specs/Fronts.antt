@@ -1,4 +1,4 @@
--- A header at the front of octets, or why none stands there (X.690, 8.1.2 and 8.1.3).
+-- A header at the start of octets, or why none is there (X.690, 8.1.2 and 8.1.3).
 use Rattle.std.specs.Prelude.{◌≡◌, ℕ, ◌+◌, ◌<◌, ◌≤◌, ◌^◌, Bool, ◌∷◌, ◌++◌, length, map}
 use Rattle.std.specs.Int.Digits.{number_from_digits, AllBelowBase}
 use Rattle.asn_base.specs.declared.tag.Class.{Class}
@@ -8,7 +8,8 @@ use Rattle.encodings.specs.Header.{Octets, class_bits, form_bit, identifier, Len
 use Rattle.octets.specs.declared.fault.HeaderFault.{HeaderFault}
 use Rattle.octets.specs.declared.fault.HeaderFault.TheVariants as faults
 
--- a header of k octets stands at the front; it tells no more octets of contents than a message has, and they follow it
+-- a header of k octets is at the start; it promises n octets of contents, no more than a message has, and they follow
+-- it
 pub record HeaderAt (t : Tag) (c : Bool) (n k : ℕ) (o : Octets) : Type 0 where
   pub header : Octets
   pub rest : Octets
@@ -18,7 +19,7 @@ pub record HeaderAt (t : Tag) (c : Bool) (n k : ℕ) (o : Octets) : Type 0 where
   pub whole : o ≡ header ++ rest
   pub follow : n ≤ length rest
 
--- octets end within a header, or before the contents that it tells
+-- octets end within a header, or before the contents that it promises
 pub data EndsEarly (o : Octets) : Type 0 where
   in_header : {t : Tag} {c : Bool} {n : ℕ} {header : Octets} (missing : Octets)
       → Header t c n header
@@ -32,14 +33,14 @@ pub data EndsEarly (o : Octets) : Type 0 where
       → length rest < n
       → EndsEarly o
 
--- behind the identifier stands the indefinite form (8.1.3.6)
+-- the indefinite form follows the identifier octets (8.1.3.6)
 pub record IsIndefinite (o : Octets) : Type 0 where
   pub tag : Tag
   pub constructed : Bool
   pub rest : Octets
   pub whole : o ≡ identifier tag.class tag.number constructed ++ (128 ∷ rest)
 
--- behind the identifier stands a length that isn't one, or that no message has
+-- octets that are no length, or a length that no message has, follow the identifier octets
 pub data HasBadLength (o : Octets) : Type 0 where
   reserved : (t : Tag) (c : Bool) (rest : Octets)
       → o ≡ identifier t.class t.number c ++ (255 ∷ rest)  -- 8.1.3.5 c
@@ -54,7 +55,7 @@ pub data HasBadLength (o : Octets) : Type 0 where
 abbrev pub leading : Class → Bool → ℕ
 leading class c = class_bits class + form_bit c + 31
 
--- what begins an identifier is that of no tag
+-- the first octets are an identifier of no tag, or can't be completed to one of a tag
 pub data HasBadTag (o : Octets) : Type 0 where
   of_number_0 : (c : Bool) (rest : Octets)
       → o ≡ (class_bits Universal + form_bit c) ∷ rest
@@ -66,7 +67,8 @@ pub data HasBadTag (o : Octets) : Type 0 where
   zeros_first : (class : Class) (c : Bool) (rest : Octets)
       → o ≡ leading class c ∷ 128 ∷ rest  -- 8.1.2.4.2 c
       → HasBadTag o
-  -- with one septet more, and there is one more, the number is 2^31 or greater
+  -- These septets are worth 2^24 or more, and each says that one more follows. With that one the number is 2^31 or
+  -- greater.
   from_2_31 : (class : Class) (c : Bool) (ds rest : Octets)
       → AllBelowBase 128 ds
       → 2 ^ 24 ≤ number_from_digits 128 ds

@@ -1,4 +1,4 @@
--- The parts of a header at the front of octets, and why a part doesn't stand there.
+-- The parts of a header at the start of octets, and why a part isn't there.
 use Rattle.std.specs.Prelude.{◌≡◌, ℕ, ◌+◌, ◌*◌, ◌<◌, ◌≤◌, ◌^◌, Bool, List, [], ◌∷◌, ◌++◌, length, map}
 use Rattle.std.specs.Int.Digits.{number_from_digits_after, AllBelowBase}
 use Rattle.asn_base.specs.declared.tag.Tag.{Tag}
@@ -7,7 +7,8 @@ use Rattle.octets.specs.declared.fault.HeaderFault.{HeaderFault}
 use Rattle.octets.specs.declared.fault.HeaderFault.TheVariants as faults
 use Rattle.octets.specs.Fronts.{HasBadTag}
 
--- septets, behind some that are worth `high`, are worth n, to the first without the top bit; what follows them
+-- septets that come after some that are worth `high` are worth n, up to the first without the top bit; then what
+-- follows them
 pub data Septets : ℕ → Octets → ℕ → Octets → Type 0 where
   last_septet : {high x n : ℕ} {rest : Octets} → x < 128 → n ≡ high * 128 + x → Septets high (x ∷ rest) n rest
   more_septets : {high x y n : ℕ} {o rest : Octets}
@@ -16,7 +17,7 @@ pub data Septets : ℕ → Octets → ℕ → Octets → Type 0 where
       → Septets (high * 128 + x) o n rest
       → Septets high (y ∷ o) n rest
 
--- septets with the top bit stand first, worth m with those before them; what follows them
+-- septets with the top bit come first, worth m together with those before them; then what follows them
 pub record Goes (high m : ℕ) (o rest : Octets) : Type 0 where
   pub digits : List ℕ
   pub below : AllBelowBase 128 digits
@@ -39,7 +40,7 @@ pub data NoNumber (o : Octets) : HeaderFault → Type 0 where
   zero_first : (rest : Octets) → o ≡ 128 ∷ rest → NoNumber o faults.BadTag
   endless_number : {m : ℕ} (rest : Octets) → Goes 0 m o rest → 2 ^ 24 ≤ m → NoNumber o faults.BadTag
 
--- identifier octets at the front, and what follows them
+-- identifier octets at the start, and what follows them
 pub record IdentifierAt (t : Tag) (c : Bool) (rest o : Octets) : Type 0 where
   pub whole : o ≡ identifier t.class t.number c ++ rest
 
@@ -50,7 +51,7 @@ pub data NoIdentifier (o : Octets) : HeaderFault → Type 0 where
       → NoIdentifier o faults.Truncated
   bad_identifier : HasBadTag o → NoIdentifier o faults.BadTag
 
--- length octets at the front, of a length that a message has, and what follows them
+-- length octets at the start, of a length that a message has, and what follows them
 pub record SizeAt (n : ℕ) (rest o : Octets) : Type 0 where
   pub size : Octets
   pub is_size : LengthOf n size

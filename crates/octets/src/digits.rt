@@ -1,4 +1,4 @@
-//! Numbers in octets, and in seven bits an octet, the greatest first.
+//! Numbers in octets of eight and of seven bits, the most significant first.
 
 ghost use Rattle.encodings.specs.Header.{septets};
 ghost use Rattle.std.specs.Int.Digits.{digits_of};
@@ -7,7 +7,7 @@ ghost use Rattle.std.specs.Prelude.{◌≡◌, ◌+◌, ◌≤◌, ◌++◌, IfO
 use crate::fault::Fault;
 use std::alloc::{AllocError, Global};
 
-/// The octets of a number, the greatest first, and none for 0.
+/// The octets of a number, the most significant first, and none for 0.
 pub fn octets_of(alloc: Global, number: u128) -> Result<Vec<u8>, Fault>
     ensures { IfOk result (λ o. o.items ≡ digits_of 256 number) }
 {
@@ -16,7 +16,7 @@ pub fn octets_of(alloc: Global, number: u128) -> Result<Vec<u8>, Fault>
     Ok(out)
 }
 
-/// Adds the octets of a number, the greatest first, and none for 0. An `Err` may have added some.
+/// Adds the octets of a number, the most significant first, and none for 0. An `Err` may have added some.
 #[tactic(auto, using(crate::proofs::DigitSteps::step_256))]
 pub fn push_octets(out: &mut Vec<u8>, number: u128) -> Result<(), AllocError>
     ensures { OnOk result (out.new.items ≡ out.old.items ++ digits_of 256 number) }
@@ -42,7 +42,7 @@ pub fn octet_count(number: u64) -> usize
     }
 }
 
-/// Adds a number's digits in base 128, the greatest first, each with the top bit set, and none for 0.
+/// Adds a number's digits in base 128, the most significant first, each with the top bit set, and none for 0.
 #[tactic(auto, using(crate::proofs::DigitSteps::step_128))]
 pub fn push_high_septets(out: &mut Vec<u8>, number: u32) -> Result<(), AllocError>
     ensures { OnOk result (out.new.items ≡ out.old.items ++ map (λ d. 128 + d) (digits_of 128 number)) }
@@ -55,7 +55,7 @@ pub fn push_high_septets(out: &mut Vec<u8>, number: u32) -> Result<(), AllocErro
     Ok(())
 }
 
-/// How many octets of seven bits each a number takes.
+/// How many septets a number takes.
 #[tactic(auto, using(crate::proofs::Lengths::septets_short, crate::proofs::Lengths::septets_step, crate::proofs::Lengths::septets_most))]
 pub fn septet_count(number: u32) -> usize
     ensures count { result ≡ length (septets number) }

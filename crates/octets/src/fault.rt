@@ -6,7 +6,7 @@ ghost use Rattle.std.specs.Prelude.{◌≡◌};
 use std::alloc::{AllocError, AllocFailed};
 use thiserror::Error;
 
-/// Why octets were not written: `Memory`, where more memory was asked for and refused.
+/// Why octets were not written: `Memory`, if there was not enough memory.
 #[derive(Clone, Copy, Debug, PartialEq, Eq, Error)]
 pub enum Fault {
     #[error("1 Memory")]
@@ -29,20 +29,20 @@ impl<T: Drop> From<AllocFailed<T>> for Fault {
     }
 }
 
-/// Why no header stands at the front of octets.
+/// Why no header is at the start of octets.
 #[derive(Clone, Copy, Debug, PartialEq, Eq, Error)]
 pub enum HeaderFault {
-    /// The octets end within a header, or before the contents that it tells.
+    /// The octets end within a header, or before the contents that it promises.
     #[error("80 Truncated")]
     Truncated,
     /// The length is in the indefinite form.
     #[error("81 Indefinite")]
     Indefinite,
-    /// The first length octet is `FF`, or the length is greater than a message's.
+    /// The first length octet is `FF`, or the length is greater than 16,777,216, the limit of a message.
     #[error("82 BadLength")]
     BadLength,
-    /// The identifier is that of no tag: universal number 0, a number from 2^31, or septets for a number to 30 or with
-    /// zeros first.
+    /// The identifier octets are those of no tag: universal number 0, a number from 2^31, or a number to 30, or with
+    /// leading zeros, in the long form.
     #[error("83 BadTag")]
     BadTag,
 }

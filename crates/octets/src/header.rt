@@ -14,18 +14,18 @@ use asn_base::tag::{Class, Tag};
 use encodings::header_laws;
 use std::alloc::{AllocError, Global};
 
-/// How many octets the shortest header has that tells `contents` octets of contents (X.690, 8.1.2, 8.1.3 and 10.1). It
-/// is the same in either form, and takes no memory.
+/// How many octets the shortest header has that promises `contents` octets of contents (X.690, 8.1.2, 8.1.3 and 10.1).
+/// The number is the same in either form. The call takes no memory.
 pub fn header_len(tag: Tag, contents: u64) -> usize
     ensures shortest { (c : Bool) → length (shortest_header tag c contents) ≡ result }
-    // No header has fewer.
+    // No header of this tag and length has fewer octets.
     ensures least { (r : Rules) (c : Bool) (h : List ℕ) → HeaderBy r tag c contents h → result ≤ length h }
 {
     header_laws();
     identifier_len(tag) + size_len(contents)
 }
 
-/// How many octets the identifier has.
+/// How many identifier octets a tag has.
 #[tactic(auto, using(crate::proofs::Lengths::identifier_length))]
 fn identifier_len(tag: Tag) -> usize
     ensures count { (c : Bool) → length (identifier tag.class tag.number c) ≡ result }
@@ -38,7 +38,7 @@ fn identifier_len(tag: Tag) -> usize
     }
 }
 
-/// How many octets the length has.
+/// How many length octets the shortest form has.
 #[tactic(auto, using(crate::proofs::Lengths::size_length))]
 fn size_len(contents: u64) -> usize
     ensures count { length (shortest_size contents) ≡ result }
@@ -51,10 +51,10 @@ fn size_len(contents: u64) -> usize
     }
 }
 
-/// Adds the one header with the fewest octets that tells the tag, the form and `contents` octets of contents
+/// Adds the one header with the fewest octets that has the tag and the form and promises `contents` octets of contents
 /// (X.690, 8.1.2, 8.1.3 and 10.1).
 ///
-/// An `Err` is `Memory`, and adds nothing.
+/// The error is `Memory`; then nothing is added.
 #[tactic(auto, unfolding(encodings::specs::Fewest::shortest_header))]
 pub fn write_header(
     alloc: Global,
@@ -63,9 +63,9 @@ pub fn write_header(
     contents: u64,
     out: &mut Vec<u8>,
 ) -> Result<(), Fault>
-    // One header by the distinguished rules: no header of this tag, form and length has fewer octets.
+    // One header by the distinguished rules is added: no header of this tag, form and length has fewer octets.
     ensures adds { OnOk result (AddsHeader tag (is_constructed form) contents out.old.items out.new.items) }
-    // It is this one.
+    // That header is this one.
     ensures exact { OnOk result (out.new.items ≡ out.old.items ++ shortest_header tag (is_constructed form) contents) }
     ensures err { OnErr result (out.new.items ≡ out.old.items) }
 {

@@ -1,4 +1,4 @@
-//! The laws of the shortest header (X.690, 10.1), and of what stands at the front of octets.
+//! The laws of the shortest header (X.690, 10.1), and of the start of octets.
 
 ghost use Rattle.asn_base.specs.declared.tag.Tag.{Tag};
 ghost use Rattle.encodings.specs.Header.{Header, HeaderBy};
@@ -21,7 +21,7 @@ pub fn shortest_headers()
     header_laws();
 }
 
-/// One header at most stands at the front of octets, or else one fault of a header, and never both.
+/// At most one header is at the start of octets, or else one fault of a header, and never both.
 pub fn one_front()
     ensures header { (t u : Tag) (c d : Bool) (n m k j : ℕ) (o : List ℕ)
         → HeaderAt t c n k o

@@ -1,4 +1,4 @@
-//! The header at the front of octets.
+//! The header at the start of octets.
 
 ghost use Rattle.encodings.specs.Header.{Octets, class_bits, form_bit, septets};
 ghost use Rattle.octets.specs.Forms.{is_constructed};
@@ -15,8 +15,8 @@ use crate::law::one_front;
 use asn_base::tag::{Class, Tag};
 use limits::MAX_LENGTH;
 
-/// What a header tells: the tag, the form, and how many octets of contents follow it; and how many octets it has
-/// itself.
+/// What a header says: the tag, the form, and `contents`, how many octets of contents follow it; and `octets`, how many
+/// octets it has itself.
 #[derive(Clone, Copy, Debug, PartialEq, Eq)]
 pub struct Header {
     pub tag: Tag,
@@ -25,17 +25,17 @@ pub struct Header {
     pub octets: usize,
 }
 
-/// Reads the header at the front of octets, in any of its definite forms (X.690, 8.1.2 and 8.1.3). It takes no memory,
-/// and reads nothing behind the header.
+/// Reads the header at the start of octets, in any of its definite forms (X.690, 8.1.2 and 8.1.3). The call takes no
+/// memory, and reads nothing after the header.
 ///
-/// `BadTag` is told where the octets begin with what is no tag's identifier. Behind an identifier `Indefinite` is told
-/// of the octet `80`, and `BadLength` of the octet `FF` and of a length above 16,777,216, once its octets are there.
-/// `Truncated` is told where the octets end within a header, or before the contents that it tells.
+/// `BadTag`: the first octets are no tag's identifier octets. After identifier octets come `Indefinite`, for the octet
+/// `80`, and `BadLength`, for the octet `FF` or a length above 16,777,216 whose octets are there. `Truncated`: the
+/// octets end within a header, or before the contents that it promises.
 #[inline(always)]
 pub fn read_header(octets: &[u8]) -> Result<Header, HeaderFault>
     ensures ok { IfOk result (λ h. HeaderAt h.tag (is_constructed h.form) h.contents h.octets octets.now) }
     ensures err { IfErr result (λ e. Stands e octets.now) }
-    // It is read wherever it stands, and each fault is told just where it does.
+    // A header that is there is read, and each fault that is there is the error.
     ensures only { (t : Tag') (c : Bool) (n k : ℕ) → HeaderAt t c n k octets.now → IsOk result }
     ensures just { (e : Fault') → Stands e octets.now → result ≡ Err e }
 {
@@ -43,7 +43,7 @@ pub fn read_header(octets: &[u8]) -> Result<Header, HeaderFault>
     header_at(octets)
 }
 
-/// The header at the front of octets, or why none stands there.
+/// The header at the start of octets, or why none is there.
 #[inline(always)]
 fn header_at(octets: &[u8]) -> Result<Header, HeaderFault>
     ensures ok { IfOk result (λ h. HeaderAt h.tag (is_constructed h.form) h.contents h.octets octets.now) }
@@ -112,7 +112,7 @@ fn read_identifier(octets: &[u8]) -> Result<(Tag, Form, &[u8]), HeaderFault>
     Ok((Tag::of(class, number), form, rest))
 }
 
-/// Reads the number of a tag in septets: one above 30, without zeros first.
+/// Reads the number of a tag in septets (the long form): a number above 30, without leading zeros.
 fn read_number(octets: &[u8]) -> Result<(u32, &[u8]), HeaderFault>
     ensures above { IfOk result (λ r. 31 ≤ r.0) }
     ensures below { IfOk result (λ r. r.0 < 2147483648) }
@@ -132,7 +132,7 @@ fn read_number(octets: &[u8]) -> Result<(u32, &[u8]), HeaderFault>
     Ok((number, rest))
 }
 
-/// Whether the first octet is a septet of zeros with the top bit.
+/// Whether the first octet is a septet of zeros with the top bit set.
 fn has_zeros_first(octets: &[u8]) -> bool
     ensures yes { IsTrue result → (rest : List ℕ) × (octets.now ≡ 128 ∷ rest) }
     ensures no { (rest : List ℕ) → octets.now ≡ 128 ∷ rest → IsTrue result }
@@ -143,7 +143,7 @@ fn has_zeros_first(octets: &[u8]) -> bool
     }
 }
 
-/// Reads septets behind some that are worth `high`.
+/// Reads septets after some that are worth `high`.
 #[tactic(auto, using(crate::proofs::Septets::one_last, crate::proofs::Septets::one_more, crate::proofs::Septets::no_more, crate::proofs::Septets::none_behind, crate::proofs::Septets::too_many))]
 fn read_septets(octets: &[u8], high: u32) -> Result<(u32, &[u8]), HeaderFault>
     requires { high < 16777216 }
@@ -196,7 +196,7 @@ fn read_size(octets: &[u8]) -> Result<(usize, &[u8]), HeaderFault>
     }
 }
 
-/// The number that octets tell behind some that are worth `high`, where a message has as many octets.
+/// The number that `high` and the octets after it are, in base 256, or None if it is above 16,777,216.
 fn number_of(octets: &[u8], high: usize) -> Option<usize>
     requires { high ≤ 16777216 }
     ensures some { IfSome result (λ n. (n ≡ number_from_digits_after 256 high octets.now) × (n ≤ 16777216)) }

@@ -1,5 +1,5 @@
--- What a packed routine writes of a value, step by step: the bits of a component, an element or an alternative are those
--- of the value that it is.
+-- What a packed routine writes of a value, step by step: the bits of a component, an element or an alternative are
+-- those of its value.
 use Rattle.std.specs.Prelude.{ℕ, zero, suc, ◌-◌, ℤ, ◌-ℤ◌, nat_abs, Bool, true, false, ◌||◌, if◌then◌else◌, List, []}
 use Rattle.std.specs.Prelude.{◌∷◌, ◌++◌, Option, Some, slice_get}
 use Rattle.bits.specs.Words.{word}
@@ -18,7 +18,7 @@ use Rattle.packed_code.specs.declared.step.PackedStep.TheVariants as steps
 
 -- ---- components
 
--- the components of a value of type t, with the bits of those that are written: present, and not the same as a DEFAULT
+-- the components of a value of type t, with the bits of those that are written: present, and different from a DEFAULT
 abbrev pub members_of : List Resolved → TypeNumber → AbstractValue → List (Member Bits)
 members_of s t (fields ws) = members_by (is_default s) s ws (components (kind_at s t))
 members_of s t v = []
@@ -35,7 +35,7 @@ bits_at (missing c ∷ ms) zero = []
 bits_at (standing c x ∷ ms) zero = x
 bits_at (m ∷ ms) (suc i) = bits_at ms i
 
--- a component from this place on is present
+-- a component at this place or after it is present
 abbrev pub any_from : ℕ → Row → Bool
 any_from i end = false
 any_from zero (absent ws) = any_from zero ws
@@ -107,7 +107,7 @@ abbrev pub number_bits : ℤ → ℕ → AbstractValue → Bits
 number_bits l n (integer z) = word n (nat_abs (z -ℤ l))
 number_bits l n v = []
 
--- the bits of one step of type t's routine, before other steps
+-- the bits of one step of type t's routine, which comes before other steps
 abbrev pub step_bits : List Resolved → TypeNumber → AbstractValue → PackedStep → List PackedStep → Bits
 step_bits s t v steps.Bit ss = leaf_bits (kind_at s t) v
 step_bits s t v (steps.Number l n) ss = number_bits l n v

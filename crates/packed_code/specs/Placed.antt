@@ -1,4 +1,4 @@
--- Components with their places, without where they lie in memory.
+-- Components with their places, without their addresses in memory.
 use Rattle.std.specs.Prelude.{ℕ}
 use Rattle.asn_base.specs.Seen.{component_of}
 use Rattle.packed_encodings.specs.Orders.{Member, standing}

@@ -56,15 +56,15 @@ addition_steps [] = []
 addition_steps (alone m ∷ ds) = steps.Added (field_at m) ∷ addition_steps ds
 addition_steps (bracketed ms ∷ ds) = steps.Group (length ms) ∷ (member_steps ms ++ addition_steps ds)
 
--- before the root of an extensible type, which has n components
+-- the step before the root of an extensible type whose root has n components
 abbrev pub mark_if : Bool → ℕ → List PackedStep
 mark_if e n = if e then steps.Mark n ∷ [] else []
 
--- after it
+-- the steps after the root of an extensible type
 abbrev pub rest_if : Bool → List (Addition ℕ) → List PackedStep
 rest_if e ds = if e then steps.Bitmap (length ds) ∷ (addition_steps ds ++ steps.Rest ∷ []) else []
 
--- by the components of the root in the order in which they are encoded, and all components
+-- the steps of a SEQUENCE or SET, from its root's components in the order in which they are encoded, and all components
 abbrev pub structure : Bool → (root all : List (Member ℕ)) → List PackedStep
 structure e root all =
     mark_if e (length (root_of all))
@@ -99,7 +99,7 @@ routine_of s (a_choice root e more) =
     steps.Pick (length root + length more) ∷ (root_calls s e root root ++ more_calls 0 more)
 routine_of s k = steps.Leaf ∷ []
 
--- the routine of a type, and none where there is no such type
+-- the routine of a type; no steps if there is no such type
 abbrev pub routine_at : List Resolved → TypeNumber → List PackedStep
 routine_at s t = elim (slice_get s t) [ None ↦ [] | Some r ↦ routine_of s r.kind ]
 
@@ -109,7 +109,7 @@ routine_at s t = elim (slice_get s t) [ None ↦ [] | Some r ↦ routine_of s r.
 abbrev pub table_of : List Resolved → List PackedStep
 table_of s = flat_map (λ r. routine_of s r.kind) s
 
--- where the routines of some types begin after n steps, and where the last one ends
+-- the index at which the routine of each of some types begins, after n steps, and the index at which the last one ends
 abbrev pub starts_from : List Resolved → ℕ → List Resolved → List ℕ
 starts_from s n [] = n ∷ []
 starts_from s n (r ∷ rs) = n ∷ starts_from s (n + length (routine_of s r.kind)) rs

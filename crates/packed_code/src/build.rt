@@ -11,14 +11,14 @@ use crate::step::PackedStep;
 use asn_base::schema::{Resolved, Schema};
 use std::alloc::Global;
 
-/// All routines in one table, and where each begins.
+/// All routines in one table, and the index at which each begins.
 #[derive(Drop)]
 pub(crate) struct Table {
     pub steps: Vec<PackedStep>,
     pub starts: Vec<usize>,
 }
 
-/// The packed routines of a schema's types. `Memory`: more memory was asked for and refused; nothing else is refused.
+/// The packed routines of a schema's types. The only error is `Memory`: there is not enough memory.
 pub fn compile_packed(alloc: Global, schema: &Schema) -> Result<PackedCode, Fault>
     ensures { IfOk result (λ code. code ≡ schema.now) }
 {

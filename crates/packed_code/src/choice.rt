@@ -12,7 +12,7 @@ use crate::step::{PackedStep, RootCall};
 use crate::width::fewest;
 use asn_base::schema::{Alternative, Alternatives, Resolved};
 
-/// The bits that a place among so many takes.
+/// How many bits the place of one of `count` items takes.
 pub fn width_of_place(count: usize) -> usize
     ensures { result ≡ place_width count }
 {
@@ -23,7 +23,7 @@ pub fn width_of_place(count: usize) -> usize
     }
 }
 
-/// An alternative for each, the root's first.
+/// Adds the choice and a step for each alternative, those of the root first.
 pub(crate) fn push_choice(
     out: &mut Vec<PackedStep>,
     types: &[Resolved],
@@ -53,7 +53,8 @@ fn push_pick(
     Ok(())
 }
 
-/// The alternatives of the root. They are at most 256, so that counting those before each takes few steps.
+/// Adds a step for each alternative of the root. There are at most 256, so counting those before each one takes few
+/// steps.
 fn push_root(
     out: &mut Vec<PackedStep>,
     types: &[Resolved],

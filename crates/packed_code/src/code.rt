@@ -56,35 +56,35 @@ impl PackedCode {
         }
     }
 
-    /// What the types of its schema keep.
+    /// What is true of the types of the code's schema.
     pub fn accepted(&self)
         ensures { IsSchema self.now }
     {
         self.schema.accepted();
     }
 
-    /// Its schema.
+    /// The schema of the code.
     pub fn schema(&self) -> &Schema
         ensures { result.now ≡ self.now }
     {
         &self.schema
     }
 
-    /// Whether it has the type.
+    /// Whether the schema has the type.
     pub fn has(&self, id: TypeId) -> bool
         ensures { IsTrue result ↔ id.index < length self.now }
     {
         self.schema.has(id)
     }
 
-    /// How many types it has.
+    /// How many types the schema has.
     pub(crate) fn count(&self) -> usize
         ensures { result ≡ length self.now }
     {
         self.schema.types().len()
     }
 
-    /// The packed routine of the type. There are no steps where there is no such type.
+    /// The packed routine of the type. There are no steps if there is no such type.
     pub fn steps(&self, id: TypeId) -> &[PackedStep]
         ensures { result.now ≡ routine_at self.now id.index }
     {
@@ -97,7 +97,7 @@ impl PackedCode {
     }
 }
 
-/// The routine of the type, in the table.
+/// The routine of the type, a slice of the table.
 #[tactic(auto, using(crate::proofs::Table::is_order, crate::proofs::Table::is_within, crate::proofs::Table::is_routine, crate::proofs::Table::no_start, crate::proofs::Table::no_end))]
 fn routine<'a>(
     schema: &Schema,

@@ -6,7 +6,7 @@ ghost use Rattle.std.specs.Prelude.{◌≡◌};
 use std::alloc::{AllocError, AllocFailed};
 use thiserror::Error;
 
-/// Why a schema was not compiled: `Memory`, where more memory was asked for and refused.
+/// Why a schema was not compiled: `Memory`, if there was not enough memory.
 #[derive(Clone, Copy, Debug, PartialEq, Eq, Error)]
 pub enum Fault {
     #[error("1 Memory")]

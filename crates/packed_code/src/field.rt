@@ -127,7 +127,7 @@ pub(crate) fn first_of<'a, 'b>(placed: &'b [Placed<'a>]) -> Option<(Placed<'a>, 
     }
 }
 
-/// The components after so many.
+/// The components after the first `count` ones.
 pub(crate) fn after<'a, 'b>(placed: &'b [Placed<'a>], count: usize) -> &'b [Placed<'a>]
     requires { count ≤ length placed.now }
     ensures { result.now ≡ drop count placed.now }
@@ -135,7 +135,7 @@ pub(crate) fn after<'a, 'b>(placed: &'b [Placed<'a>], count: usize) -> &'b [Plac
     &placed[count..]
 }
 
-/// The place of a component among others that are in the canonical order of their tags.
+/// The index at which a component belongs among others that are in the canonical order of their tags.
 #[tactic(auto, using(crate::proofs::Runs::placed_none, crate::proofs::Runs::placed_here, crate::proofs::Runs::placed_further))]
 fn place_for(types: &[Resolved], placed: Placed<'_>, others: &[Placed<'_>]) -> usize
     ensures at_most { result ≤ length others.now }
@@ -152,7 +152,7 @@ fn place_for(types: &[Resolved], placed: Placed<'_>, others: &[Placed<'_>]) -> u
     }
 }
 
-/// The components in the canonical order of their tags. They are at most 256, so that it takes few steps.
+/// The components in the canonical order of their tags. There are at most 256, so sorting them takes few steps.
 pub(crate) fn in_order<'a>(
     alloc: Global,
     types: &[Resolved],
@@ -180,7 +180,7 @@ fn is_of_group(group: usize, component: &Component) -> bool
     }
 }
 
-/// How many members of the group come first.
+/// How many of these components, from the first on, are members of the group.
 pub(crate) fn run_of(group: usize, placed: &[Placed<'_>]) -> usize
     ensures at_most { result ≤ length placed.now }
     ensures is { result ≡ run group (map placed_of placed.now) }

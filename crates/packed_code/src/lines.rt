@@ -6,8 +6,8 @@ use crate::step::{PackedField, PackedStep, RootCall};
 use asn_base::schema::TypeId;
 use std::alloc::{AllocError, Global};
 
-/// The packed routines of all types, a line for each type and one for each step. `Memory`: more memory was asked for and
-/// refused.
+/// The packed routines of all types as text, a line for each type and one for each step. `Memory`: there is not enough
+/// memory.
 pub fn packed_listing(alloc: Global, code: &PackedCode) -> Result<String, Fault> {
     let mut out = String::new(alloc);
     for index in 0..code.count() {

@@ -8,7 +8,7 @@ ghost use Rattle.std.specs.Prelude.{◌≡◌, length, map};
 use asn_base::schema::{Alternative, Resolved, TypeId};
 use asn_base::tag::{Class, Tag};
 
-/// The place of a class among the others.
+/// The place of a class in the canonical order of classes.
 fn class_place(class: Class) -> u8
     ensures { result ≡ class_rank class }
 {
@@ -29,7 +29,7 @@ fn tag_before(first: Tag, second: Tag) -> bool
     one < two || one == two && first.number < second.number
 }
 
-/// The outermost tag of a type, None where it has none.
+/// The outermost tag of a type, or None if it has none.
 fn outermost_of(types: &[Resolved], id: TypeId) -> Option<Tag>
     ensures { result ≡ tag_at (types_of types.now) id.index }
 {

@@ -17,7 +17,7 @@ use crate::width::{fewest, span};
 use asn_base::constraint::Bounds;
 use asn_base::schema::{Component, Core, Resolved};
 
-/// The steps of a type after those that are there.
+/// Adds the steps of a type after the steps that are there.
 #[tactic(auto, unfolding(crate::specs::Routines::routine_of))]
 pub(crate) fn push_routine(
     out: &mut Vec<PackedStep>,
@@ -109,7 +109,7 @@ fn push_set(
     push_rest(out, extensible, components)
 }
 
-/// The components of the root, in the order in which they are encoded.
+/// Adds the components of the root, in the order in which they are encoded.
 fn push_root(
     out: &mut Vec<PackedStep>,
     extensible: bool,
@@ -135,7 +135,7 @@ fn push_fields(out: &mut Vec<PackedStep>, root: &[Placed<'_>]) -> Result<(), Fau
     Ok(())
 }
 
-/// The additions of an extensible type.
+/// Adds the additions of an extensible type.
 fn push_rest(
     out: &mut Vec<PackedStep>,
     extensible: bool,
@@ -154,7 +154,7 @@ fn push_rest(
     push_one(out, PackedStep::Rest)
 }
 
-/// How many additions there are, those of one group counted as one.
+/// How many additions there are; the additions of one group are counted as one.
 #[tactic(auto, using(crate::proofs::Runs::alone_count))]
 fn count_of(additions: &[Placed<'_>]) -> usize
     ensures at_most { result ≤ length additions.now }
@@ -197,7 +197,7 @@ fn push_additions(out: &mut Vec<PackedStep>, additions: &[Placed<'_>]) -> Result
     }
 }
 
-/// A group with its members.
+/// Adds a group with its members.
 fn push_group(
     out: &mut Vec<PackedStep>,
     first: Placed<'_>,

@@ -12,7 +12,7 @@ ghost use Rattle.std.specs.Prelude.{◌≡◌, ℕ, List};
 
 use packed_encodings::computing_laws;
 
-/// The routine of each type writes its values: the bits of a value of the type, which are its only ones
+/// The routine of each type writes its values: the bits that it writes are the only bits of the value
 /// (`packed_encodings::writing_laws`).
 pub fn routine_laws()
     ensures bits { (s : List Resolved) (t : ℕ) (v : AbstractValue)

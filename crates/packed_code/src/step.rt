@@ -2,8 +2,8 @@
 
 use asn_base::schema::TypeId;
 
-/// A component: its place in order of definition, from 0; whether a bit says if it is present; whether it has a DEFAULT;
-/// and its type.
+/// A component: its place in order of definition, from 0; whether a bit says that it is present; whether it has a
+/// DEFAULT; and its type.
 #[derive(Clone, Copy, PartialEq, Eq, Debug)]
 pub struct PackedField {
     pub place: usize,
@@ -12,8 +12,8 @@ pub struct PackedField {
     pub ty: TypeId,
 }
 
-/// An alternative of the root: whether the CHOICE is extensible, in how many bits its place is written, its place in the
-/// canonical order of tags, and its type.
+/// An alternative of the root: whether the CHOICE is extensible, in how many bits the alternative's place is written,
+/// its place in the canonical order of tags, and its type.
 #[derive(Clone, Copy, PartialEq, Eq, Debug)]
 pub struct RootCall {
     pub extensible: bool,
@@ -27,35 +27,39 @@ pub struct RootCall {
 pub enum PackedStep {
     /// A BOOLEAN: one bit.
     Bit,
-    /// An INTEGER with both bounds and without a marker: the number minus the least one, in so many bits.
+    /// An INTEGER with both bounds and without a marker: the number minus the least one, in as many bits as the second
+    /// field says.
     Number(i128, usize),
-    /// Any other value that holds no others, as its type says.
+    /// Any other value that holds no others, in the form that its type gives it.
     Leaf,
-    /// Of an extensible SEQUENCE or SET: a bit, 1 where a component from this place on is present. Those are its
+    /// A bit of an extensible SEQUENCE or SET: 1 if a component at this place or after it is present. Those are the
     /// additions.
     Mark(usize),
-    /// A bit for each of so many next fields that have one: 1 where the component is written.
+    /// A bit for each of the next fields that has one: 1 if the component is written. The number says how many fields
+    /// there are.
     Map(usize),
     /// A component of the root.
     Field(PackedField),
-    /// Where an addition is present: how many additions there are, and a bit for each of them.
+    /// If an addition is present: how many additions there are, and a bit for each of them.
     Bitmap(usize),
     /// An addition by itself, as an open type.
     Added(PackedField),
-    /// So many next members of a group, where one of them is present: as an open type, their bits first.
+    /// The next members, which are a group, as an open type, with their bits first, if one of them is present. The
+    /// number says how many members there are.
     Group(usize),
     /// A member of the group before it, which the step of the group writes.
     Member(PackedField),
-    /// Additions that the type lacks are skipped when bits are read; none are written.
+    /// Skips additions that the type lacks when bits are read; nothing is written.
     Rest,
     /// The elements after their number, each by the routine of this type.
     Each(TypeId),
-    /// The same in ascending order of their encodings.
+    /// The same as `Each`, with the elements in ascending order of their encodings.
     EachSorted(TypeId),
-    /// One of so many next alternatives, by the number of the alternative.
+    /// One of the next alternatives, by the number of the alternative. The field says how many alternatives there are.
     Pick(usize),
-    /// An alternative of the root after its place among them.
+    /// An alternative of the root, after its place among the alternatives of the root.
     Root(RootCall),
-    /// An alternative after the marker, as an open type after its place among those.
+    /// An alternative after the marker: its place among those after the marker, and then the alternative as an open
+    /// type.
     More(usize, TypeId),
 }

@@ -3,7 +3,7 @@
 ghost use Rattle.packed_encodings.specs.Lengths.{fewest_bits};
 ghost use Rattle.std.specs.Prelude.{◌≡◌, ◌-ℤ◌, ◌≤◌, nat_abs};
 
-/// The fewest bits for the numbers from 0 to this one, at most 128.
+/// The fewest bits in which each number from 0 to `greatest` can be written, at most 128.
 #[tactic(auto, using(crate::proofs::Widths::halved, crate::proofs::Widths::at_most))]
 pub fn fewest(greatest: u128) -> usize
     ensures is { result ≡ fewest_bits greatest }
@@ -16,7 +16,7 @@ pub fn fewest(greatest: u128) -> usize
     }
 }
 
-/// How far two numbers are apart.
+/// The distance between two numbers.
 pub fn span(least: i128, greatest: i128) -> u128
     ensures { result ≡ nat_abs (greatest -ℤ least) }
 {

@@ -25,11 +25,11 @@ use Rattle.packed_encodings.specs.Packing.{any_set}
 
 -- ---- items after their number
 
--- the next fragment has so many times 16,384 items
+-- how many times 16,384 items the next fragment has
 abbrev pub times : Items → ℕ
 times xs = min 4 (length xs / 16384)
 
--- with fuel for the fragments
+-- items after their number; fuel limits the number of fragments
 abbrev pub counted_with : ℕ → Items → Bits
 counted_with zero xs = []
 counted_with (suc fuel) xs =
@@ -78,7 +78,7 @@ abbrev pub at_least_one : List ℕ → List ℕ
 at_least_one [] = 0 ∷ []
 at_least_one (d ∷ ds) = d ∷ ds
 
--- with a zero octet before them where the first one would mean a negative number
+-- the octets, with a zero octet before them if the first one would mean a negative number
 abbrev pub with_sign : List ℕ → List ℕ
 with_sign [] = 0 ∷ []
 with_sign (d ∷ ds) = cond (nat_lt d 128) (d ∷ ds) (0 ∷ d ∷ ds)
@@ -127,12 +127,12 @@ abbrev pub character_bits : List ℕ → ℕ → Bits
 character_bits a c =
     place_bits (length a) (if codes_below (2 ^ place_width (length a)) a then c else code_place a c)
 
--- a bit before others, and none where it would be a last zero bit
+-- a bit before others; no bits if it would be a trailing zero bit
 abbrev pub with_bit : Bool → Bits → Bits
 with_bit b [] = if b then true ∷ [] else []
 with_bit b (c ∷ cs) = b ∷ (c ∷ cs)
 
--- without its trailing zeros
+-- the bits without trailing zeros
 abbrev pub trimmed : Bits → Bits
 trimmed [] = []
 trimmed (b ∷ bs) = with_bit b (trimmed bs)
@@ -152,14 +152,14 @@ leaf_bits k v = []
 
 -- ---- open types
 
--- the number that eight bits are
+-- the number that eight bits are, the first one the most significant
 abbrev pub octet_of : Bits → ℕ
 octet_of (a ∷ b ∷ c ∷ d ∷ e ∷ f ∷ g ∷ h ∷ bs) =
     128 * cond a 1 0 + 64 * cond b 1 0 + 32 * cond c 1 0 + 16 * cond d 1 0 + 8 * cond e 1 0 + 4 * cond f 1 0
     + 2 * cond g 1 0 + cond h 1 0
 octet_of bs = 0
 
--- whole octets, the last one filled with zero bits
+-- the bits as whole octets, the last one filled with zero bits
 abbrev pub octets_from : Bits → List ℕ
 octets_from [] = []
 octets_from (a ∷ b ∷ c ∷ d ∷ e ∷ f ∷ g ∷ h ∷ bs) =
@@ -173,7 +173,7 @@ padded_octets (b ∷ bs) = octets_from (b ∷ bs)
 abbrev pub open_bits : Bits → Bits
 open_bits x = octets_bits (padded_octets x)
 
--- ---- sameness, with fuel for the levels, those of defaults too
+-- ---- sameness, with fuel for the levels of values, and of defaults too
 
 abbrev pub is_default_by : (TypeNumber → AbstractValue → AbstractValue → Bool) → Component → AbstractValue → Bool
 is_default_by same c w =
@@ -192,7 +192,7 @@ elements_same same end end = true
 elements_same same (present v vs) (present w ws) = same v w && elements_same same vs ws
 elements_same same vs ws = false
 
--- the row without the first member of which the test holds
+-- the row without the first member that passes the test
 abbrev pub taken_out : (AbstractValue → Bool) → Row → Option Row
 taken_out test end = None
 taken_out test (absent ws) = None
@@ -241,7 +241,7 @@ abbrev pub same_within : ℕ → List Resolved → TypeNumber → AbstractValue 
 same_within zero s t v w = false
 same_within (suc n) s t v w = same_by (same_within n s) (kind_at s t) v w
 
--- a value has at most 64 levels
+-- the value is the same as the component's DEFAULT; 64 is the most levels that a value has
 abbrev pub is_default : List Resolved → Component → AbstractValue → Bool
 is_default s c w = is_default_by (same_within 64 s) c w
 
@@ -276,7 +276,7 @@ extended_bits e r q d =
     then true ∷ (r ++ (false ∷ (word 6 (length q - 1) ++ (q ++ d))))
     else root_bit e ++ r
 
--- by the root's members in the order in which they are encoded, and all members
+-- the bits of a SEQUENCE or SET, from its root's members in the order in which they are encoded, and all members
 abbrev pub fields_bits : Bool → (root all : List (Member Bits)) → Bits
 fields_bits e root all =
     extended_bits e (presence_bits root ++ member_bits root) (addition_map (additions (behind_marker all)))
@@ -289,7 +289,7 @@ structure_bits s k ms = []
 
 -- ---- lists and alternatives
 
--- the first is below the second, where the shorter one is filled with zeros
+-- the first bits are below the second ones, after the shorter ones are filled with zeros
 abbrev pub is_below : Bits → Bits → Bool
 is_below [] [] = false
 is_below [] (y ∷ ys) = y || is_below [] ys

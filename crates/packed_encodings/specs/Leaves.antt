@@ -1,4 +1,4 @@
--- Values of the kinds that hold no others (X.691, 12 to 14, 16 to 18, 24, 25 and 30).
+-- Values, in bits, of the kinds that hold no others (X.691, clauses 12 to 14, 16 to 18, 24, 25 and 30).
 use Rattle.std.specs.Prelude.{◌≡◌, ℕ, ◌-◌, ◌^◌, ◌<◌, ℤ, Bool, true, false, List, [], ◌∷◌, ◌++◌, length, map, flat_map}
 use Rattle.std.specs.Prelude.{Some, slice_get}
 use Rattle.std.specs.List.{AllByRecursion}
@@ -17,20 +17,21 @@ use Rattle.encodings.specs.Header.{Octets, septets}
 use Rattle.packed_encodings.specs.Lengths.{Bits, Items, fewest_bits, Counted, Sized, CountedOctets}
 use Rattle.packed_encodings.specs.Numbers.{Integer}
 
--- as many bits as a place among n takes
+-- how many bits the place of one of n items takes (X.691, clause 11.5.6)
 abbrev pub place_width : ℕ → ℕ
 place_width n = fewest_bits (n - 1)
 
--- the place i, from 0, among n
+-- the bits of place i, from 0, among n items (X.691, clause 11.5.6)
 abbrev pub place_bits : ℕ → ℕ → Bits
 place_bits n i = word (place_width n) i
 
--- a type with a marker has a bit 0 before what is of its root
+-- the bit 0 before a value of the root of an extensible type, which the flag says, and no bit for another type
 abbrev pub root_bit : Bool → Bits
 root_bit false = []
 root_bit true = false ∷ []
 
--- the item with this number: its place among those of the root, or among those after the marker
+-- The bits are the place of the item with this number, among those of the root, or among those after the marker (X.691,
+-- clause 14).
 pub data ItemBits (root : List Item) (e : Bool) (more : List Item) : ℤ → Bits → Type 0 where
   root_item : {z : ℤ} (i : ℕ) (x : Item)
       → slice_get root i ≡ Some x
@@ -43,11 +44,12 @@ pub data ItemBits (root : List Item) (e : Bool) (more : List Item) : ℤ → Bit
       → i < 64
       → ItemBits root e more z (true ∷ (false ∷ word 6 i))  -- 14.3, 11.6.1
 
--- each code of the alphabet fits into the bits of a place in it (30.5.4)
+-- each code of the alphabet fits in as many bits as a place in the alphabet takes (X.691, clause 30.5.4)
 abbrev pub CodesFit : List ℕ → Type 0
 CodesFit a = AllByRecursion (λ c. c < 2 ^ place_width (length a)) a
 
--- a character of an alphabet: its code where all codes fit, else its place
+-- the bits are the code of this character of alphabet a, if all codes fit, else its place in the alphabet (X.691,
+-- clause 30.5.4)
 pub data Character (a : List ℕ) : ℕ → Bits → Type 0 where
   by_code : {c : ℕ}
       → CodesFit a
@@ -58,7 +60,7 @@ pub data Character (a : List ℕ) : ℕ → Bits → Type 0 where
       → slice_get a i ≡ Some c
       → Character a c (place_bits (length a) i)  -- 30.5.4
 
--- characters one by one
+-- the items are the bits of these characters of alphabet a, one item for each
 pub data Characters (a : List ℕ) : List ℕ → Items → Type 0 where
   no_character : Characters a [] []
   character : {c : ℕ} {cs : List ℕ} {x : Bits} {xs : Items}
@@ -66,11 +68,12 @@ pub data Characters (a : List ℕ) : List ℕ → Items → Type 0 where
       → Characters a cs xs
       → Characters a (c ∷ cs) (x ∷ xs)
 
--- bits one by one
+-- an item of one bit for each bit
 abbrev pub singly : Bits → Items
 singly = map (λ b. b ∷ [])
 
--- the bits of a value of a kind that holds no others; under named bits it has no trailing zero bit (16.2)
+-- The bits are those of a value of this kind, which holds no others (X.691, clauses 12 to 14, 16 to 18, 24, 25 and 30).
+-- A value with named bits has no trailing zero bit (16.2).
 pub data Leaf : Kind → AbstractValue → Bits → Type 0 where
   of_boolean : {b : Bool} → Leaf a_boolean (boolean b) (b ∷ [])  -- 12.1
   of_integer : {c : Constraint} {z : ℤ} {b : Bits}
@@ -99,7 +102,7 @@ pub data Leaf : Kind → AbstractValue → Bits → Type 0 where
       → IsRelativeOid ns
       → CountedOctets (flat_map septets ns) b  -- 25
       → Leaf a_relative_oid (relative_oid ns) b
-  -- a SIZE makes no difference here
+  -- the SIZE of a UTF8String makes no difference to the bits
   of_utf8 : {c : Constraint} {o : Octets} {b : Bits}
       → CountedOctets o b  -- 30.6
       → Leaf (a_utf8_string c) (text o) b

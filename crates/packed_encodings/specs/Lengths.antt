@@ -1,4 +1,4 @@
--- Items after their number (X.691, 11.9).
+-- Items after their number (X.691, clauses 11.5.6 and 11.9).
 use Rattle.std.specs.Prelude.{◌≡◌, ℕ, ◌+◌, ◌*◌, ◌<◌, ◌≤◌, ◌⊎◌, ℤ, pos, Bool, true, false, List, [], ◌∷◌, ◌++◌, length}
 use Rattle.std.specs.Prelude.{map, Option, Some}
 use Rattle.std.specs.Int.Digits.{digits_of, AllBelowBase}
@@ -6,10 +6,11 @@ use Rattle.asn_base.specs.Types.{Bounds}
 use Rattle.asn_base.specs.Typed.{IsInRange}
 use Rattle.bits.specs.Words.{word}
 
+-- a list of bits, in the order in which they are sent
 abbrev pub Bits : Type 0
 Bits = List Bool
 
--- items, each of some bits
+-- a list of items, each of some bits, that are counted together
 abbrev pub Items : Type 0
 Items = List Bits
 
@@ -18,12 +19,13 @@ abbrev pub all_bits : Items → Bits
 all_bits [] = []
 all_bits (x ∷ xs) = x ++ all_bits xs
 
--- the fewest bits for the numbers from 0 to m (11.5.6)
+-- the fewest bits in which each number from 0 to m can be written (X.691, clause 11.5.6)
 abbrev pub fewest_bits : ℕ → ℕ
 fewest_bits m = length (digits_of 2 m)
 
--- Items after their number, whatever it is. From 16,384 on they are cut into fragments of 16,384 items or twice, three
--- or four times as many, each the greatest possible; after the last fragment come fewer than 16,384, maybe none.
+-- The bits are the items after their number, whatever it is (X.691, clause 11.9.3). From 16,384 items on they are cut
+-- into fragments of 16,384 items or twice, three or four times as many, each the greatest possible. After the last
+-- fragment come fewer than 16,384, maybe none.
 pub data Counted : Items → Bits → Type 0 where
   short : {xs : Items}
       → length xs < 128
@@ -40,17 +42,18 @@ pub data Counted : Items → Bits → Type 0 where
       → Counted ys b
       → Counted (xs ++ ys) (true ∷ (true ∷ (word 6 m ++ (all_bits xs ++ b))))  -- 11.9.3.8
 
--- the number is one of the root
+-- number v is from the least to the greatest number of the root with bounds z (X.691, clause 10.3)
 abbrev pub IsInRoot : Bounds → ℤ → Type 0
 IsInRoot z v = IsInRange v (record { least = z.least; greatest = z.greatest })
 
--- an upper bound with which the number of items takes the fewest bits (11.9.4.1)
+-- an upper bound below 65,536, with which the number of items takes the fewest bits (X.691, clause 11.9.4.1)
 abbrev pub IsNarrow : Option ℤ → Type 0
 IsNarrow (Some (pos u)) = u < 65536
 IsNarrow g = ⊥
 
--- items after their number, which is one of the root
+-- The bits are the items after their number, which is one of the root with bounds z.
 pub data CountedInRoot (z : Bounds) : Items → Bits → Type 0 where
+  -- the bounds are l and l + m, and there are l + n items
   narrow : {xs : Items} (l m n : ℕ)
       → z.least ≡ Some (pos l)
       → z.greatest ≡ Some (pos (l + m))
@@ -58,14 +61,15 @@ pub data CountedInRoot (z : Bounds) : Items → Bits → Type 0 where
       → n ≤ m
       → length xs ≡ l + n
       → CountedInRoot z xs (word (fewest_bits m) n ++ all_bits xs)  -- 11.9.4.1
+  -- the upper bound is 65,536 or more, or there is none
   wide : {xs : Items} {b : Bits}
       → (IsNarrow z.greatest → ⊥)
       → IsInRoot z (pos (length xs))
       → Counted xs b
       → CountedInRoot z xs b  -- 11.9.4.2
 
--- Items after their number, as SIZE bounds it. Where SIZE is extensible a bit comes first: 0 where the number is one of
--- the root, else 1 (16.6, 17.3, 20.4).
+-- The bits are the items after their number, in the form that SIZE with bounds z gives it (X.691, clauses 16.6, 17.3
+-- and 20.4). If SIZE is extensible a bit comes first: 0 if the number is one of the root, else 1.
 pub data Sized (z : Bounds) : Items → Bits → Type 0 where
   sized : {xs : Items} {b : Bits}
       → z.extensible ≡ false
@@ -81,7 +85,7 @@ pub data Sized (z : Bounds) : Items → Bits → Type 0 where
       → Counted xs b
       → Sized z xs (true ∷ b)
 
--- octets after their number
+-- bits b are octets o, each below 256, after their number (X.691, clause 11.9.3)
 pub record CountedOctets (o : List ℕ) (b : Bits) : Type 0 where
   pub octets : AllBelowBase 256 o
   pub counted : Counted (map (word 8) o) b

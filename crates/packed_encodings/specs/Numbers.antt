@@ -1,4 +1,4 @@
--- Whole numbers (X.691, 11.3 to 11.8 and 13).
+-- Whole numbers in bits (X.691, clauses 11.3 to 11.8 and 13).
 use Rattle.std.specs.Prelude.{◌≡◌, ℕ, ◌≤◌, ℤ, pos, ◌+ℤ◌, ◌≤ℤ◌, true, false, ◌∷◌, length, Some, None, IfSome}
 use Rattle.std.specs.Int.Digits.{number_from_digits, AllBelowBase}
 use Rattle.asn_base.specs.Types.{Bounds}
@@ -7,27 +7,27 @@ use Rattle.encodings.specs.Contents.{Number}
 use Rattle.encodings.specs.Header.{Octets}
 use Rattle.packed_encodings.specs.Lengths.{Bits, fewest_bits, IsInRoot, CountedOctets}
 
--- octets, at least one, that are a number that isn't negative (11.3)
+-- octets o, at least one, are the number n, which isn't negative (X.691, clause 11.3)
 pub record Unsigned (n : ℕ) (o : Octets) : Type 0 where
   pub some : 1 ≤ length o
   pub octets : AllBelowBase 256 o
   pub worth : number_from_digits 256 o ≡ n
 
--- the fewest of them (11.3.6)
+-- octets o are the number n, and no fewer octets are (X.691, clause 11.3.6)
 pub record FewestUnsigned (n : ℕ) (o : Octets) : Type 0 where
   pub is : Unsigned n o
   pub fewest : (p : Octets) → Unsigned n p → length o ≤ length p
 
--- a number of the root
+-- the bits are those of a number of the root with bounds z (X.691, clause 13.2)
 pub data IntegerInRoot (z : Bounds) : ℤ → Bits → Type 0 where
-  -- from l to l + m, it is l + n
+  -- the root is from l to l + m, and the number is l + n
   between : {v : ℤ} (l : ℤ) (m n : ℕ)
       → z.least ≡ Some l
       → z.greatest ≡ Some (l +ℤ pos m)
       → n ≤ m
       → v ≡ l +ℤ pos n
       → IntegerInRoot z v (word (fewest_bits m) n)  -- 11.5
-  -- from l on, it is l + n
+  -- the root is from l on, and the number is l + n
   from_least : {v : ℤ} (l : ℤ) (n : ℕ) {o : Octets} {b : Bits}
       → z.least ≡ Some l
       → z.greatest ≡ None
@@ -35,7 +35,7 @@ pub data IntegerInRoot (z : Bounds) : ℤ → Bits → Type 0 where
       → FewestUnsigned n o
       → CountedOctets o b
       → IntegerInRoot z v b  -- 11.7
-  -- with no least number
+  -- the root has no least number
   unbounded : {v : ℤ} {o : Octets} {b : Bits}
       → z.least ≡ None
       → IfSome z.greatest (λ g. v ≤ℤ g)
@@ -43,8 +43,8 @@ pub data IntegerInRoot (z : Bounds) : ℤ → Bits → Type 0 where
       → CountedOctets o b
       → IntegerInRoot z v b  -- 11.8
 
--- A number as its constraint bounds it. Where the constraint is extensible a bit comes first: 0 where the number is one
--- of the root, else 1 (13.1).
+-- The bits are those of a number in the form that a constraint with bounds z gives it (X.691, clause 13). If the
+-- constraint is extensible a bit comes first: 0 if the number is one of the root, else 1 (13.1).
 pub data Integer (z : Bounds) : ℤ → Bits → Type 0 where
   integer_bounded : {v : ℤ} {b : Bits}
       → z.extensible ≡ false

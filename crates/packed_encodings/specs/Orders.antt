@@ -1,4 +1,5 @@
--- Members of SEQUENCE and SET, their order, and additions after the marker (X.680, 8.6 and 25; X.691, 19 to 22).
+-- Members of SEQUENCE and SET, their order, and additions after the marker (X.680, clauses 8.6 and 25; X.691, clauses
+-- 19 to 23).
 use Rattle.std.specs.Prelude.{◌≡◌, ℕ, ◌+◌, ◌==◌, nat_lt, Bool, true, false, ◌||◌, ◌&&◌, if◌then◌else◌, List, [], ◌∷◌}
 use Rattle.std.specs.Prelude.{Option, Some, None, slice_get}
 use Rattle.asn_base.specs.declared.tag.Tag.{Tag}
@@ -12,52 +13,60 @@ use Rattle.packed_encodings.specs.Lengths.{Bits, Items}
 
 -- ---- tags
 
--- the canonical order of tags, decided (X.680, 8.6)
+-- whether tag g comes before tag f in the canonical order of tags (X.680, clause 8.6)
 abbrev pub before : Tag → Tag → Bool
 before g f =
     nat_lt (class_rank g.class) (class_rank f.class)
     || ((class_rank g.class == class_rank f.class) && nat_lt g.number f.number)
 
+-- the first of the tags, None if there are none
 abbrev pub outermost : List Tag → Option Tag
 outermost [] = None
 outermost (g ∷ gs) = Some g
 
+-- the outermost tag of type t of schema s, None if it has none
 abbrev pub tag_at : List Resolved → TypeNumber → Option Tag
 tag_at s t = elim (slice_get s t) [ None ↦ None | Some r ↦ outermost r.tags ]
 
+-- whether both tags are there and the first comes before the second in the canonical order (X.680, clause 8.6)
 abbrev pub both_before : Option Tag → Option Tag → Bool
 both_before (Some g) (Some f) = before g f
 both_before g f = false
 
--- the outermost tag of the first type is before that of the second
+-- whether the outermost tag of type t of schema s comes before that of type u in the canonical order (X.680, clause
+-- 8.6)
 abbrev pub stands_before : List Resolved → TypeNumber → TypeNumber → Bool
 stands_before s t u = both_before (tag_at s t) (tag_at s u)
 
--- the place of type t among alternatives in the canonical order of tags: so many are before it (23.4)
+-- how many alternatives are before type t in the canonical order of tags, which is its place among them (X.691, clause
+-- 23.4)
 abbrev pub rank : List Resolved → List Alternative → TypeNumber → ℕ
 rank s [] t = 0
 rank s (a ∷ as') t = (if stands_before s a.type t then 1 else 0) + rank s as' t
 
 -- ---- members
 
--- a component that is absent, or one that is present with its value, or with the bits of its value
+-- a component of a SEQUENCE or SET that is absent, or present with its value or with the bits of its value
 pub data Member (X : Type 0) : Type 0 where
   missing : Component → Member X
   standing : Component → X → Member X
 
+-- the definition of the component that a member is one of
 abbrev pub component : {X : Type 0} → Member X → Component
 component (missing c) = c
 component (standing c x) = c
 
+-- whether the member, a component, is present
 abbrev pub stands : {X : Type 0} → Member X → Bool
 stands (missing c) = false
 stands (standing c x) = true
 
+-- whether one of the components is present
 abbrev pub any_stands : {X : Type 0} → List (Member X) → Bool
 any_stands [] = false
 any_stands (m ∷ ms) = stands m || any_stands ms
 
--- each component, in order of definition, with the value that it has in a row
+-- the members are the components, in order of definition, each with the value that it has in the row
 pub data Beside : List Component → Row → List (Member AbstractValue) → Type 0 where
   beside_none : Beside [] end []
   beside_absent : {c : Component} {cs : List Component} {ws : Row} {ms : List (Member AbstractValue)}
@@ -68,28 +77,29 @@ pub data Beside : List Component → Row → List (Member AbstractValue) → Typ
       → Beside cs ws ms
       → Beside (c ∷ cs) (present w ws) (standing c w ∷ ms)
 
--- those of the root
+-- the members whose components are in the root, in order
 abbrev pub root_of : {X : Type 0} → List (Member X) → List (Member X)
 root_of [] = []
 root_of (m ∷ ms) = if is_addition (component m) then root_of ms else m ∷ root_of ms
 
--- those after the marker
+-- the members whose components come after the extension marker, in order
 abbrev pub behind_marker : {X : Type 0} → List (Member X) → List (Member X)
 behind_marker [] = []
 behind_marker (m ∷ ms) = if is_addition (component m) then m ∷ behind_marker ms else behind_marker ms
 
--- the member in its place among others: after those whose tags are before its own
+-- the members with m put in its place, directly after the first ones, whose tags are before its own
 abbrev pub placed : {X : Type 0} → List Resolved → Member X → List (Member X) → List (Member X)
 placed s m [] = m ∷ []
 placed s m (n ∷ ns) =
     if stands_before s (component n).type (component m).type then n ∷ placed s m ns else m ∷ (n ∷ ns)
 
--- members in the canonical order of their tags (21.1)
+-- the members in the canonical order of their tags (X.691, clause 21.1)
 abbrev pub canonical : {X : Type 0} → List Resolved → List (Member X) → List (Member X)
 canonical s [] = []
 canonical s (m ∷ ms) = placed s m (canonical s ms)
 
--- a component that may be absent where others are present has a bit: 1 where it is present (19.2, 19.9)
+-- whether a component of this presence is OPTIONAL or has a DEFAULT, and so has a bit, 1 if it is present (X.691,
+-- clauses 19.2 and 19.9)
 abbrev pub has_bit : Presence → Bool
 has_bit mandatory = false
 has_bit optional = true
@@ -98,28 +108,31 @@ has_bit (addition o g) = o
 
 -- ---- additions
 
--- what the definition has after the marker: a component by itself, or those in version brackets (X.680, 25)
+-- a component by itself after the marker, or the components in version brackets (X.680, clause 25)
 pub data Addition (X : Type 0) : Type 0 where
   alone : Member X → Addition X
   bracketed : List (Member X) → Addition X
 
+-- whether the component is in the version brackets with number g (X.680, clause 25)
 abbrev pub is_of_group : {X : Type 0} → ℕ → Member X → Bool
 is_of_group g m = elim (group_of (component m).presence) [ None ↦ false | Some h ↦ g == h ]
 
--- a member in front of additions: by itself, in its group, which is the first there, or in one that begins with it
+-- The additions with one more component in front, which is in the version brackets with this number, if in any. It
+-- joins the first addition if that has the same brackets.
 abbrev pub in_front : {X : Type 0} → Option ℕ → Member X → List (Addition X) → List (Addition X)
 in_front None m ds = alone m ∷ ds
 in_front (Some g) m (bracketed (n ∷ ns) ∷ ds) =
     if is_of_group g n then bracketed (m ∷ (n ∷ ns)) ∷ ds else bracketed (m ∷ []) ∷ (bracketed (n ∷ ns) ∷ ds)
 in_front (Some g) m ds = bracketed (m ∷ []) ∷ ds
 
+-- the components after the marker as additions, with those in the same version brackets as one (X.680, clause 25)
 abbrev pub additions : {X : Type 0} → List (Member X) → List (Addition X)
 additions [] = []
 additions (m ∷ ms) = in_front (group_of (component m).presence) m (additions ms)
 
 -- ---- the order in a SET OF
 
--- the first bits are at most the second, where the shorter ones are filled with zeros (22.1)
+-- The first bits are at most the second ones, after the shorter ones are filled with zeros (X.691, clause 22.1).
 abbrev pub AtMost : Bits → Bits → Type 0
 AtMost [] ys = Unit {0}
 AtMost (x ∷ xs) [] = (x ≡ false) × AtMost xs []
@@ -128,7 +141,7 @@ AtMost (true ∷ xs) (false ∷ ys) = ⊥
 AtMost (false ∷ xs) (false ∷ ys) = AtMost xs ys
 AtMost (true ∷ xs) (true ∷ ys) = AtMost xs ys
 
--- each is at most the next
+-- the bits of each item are at most those of the next (X.691, clause 22.1)
 pub data Ascending : Items → Type 0 where
   ascending_none : Ascending []
   ascending_one : {x : Bits} → Ascending (x ∷ [])

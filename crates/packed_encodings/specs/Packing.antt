@@ -1,4 +1,4 @@
--- What bits say: the canonical unaligned packed encodings of a value (X.691, 19 to 23).
+-- The canonical unaligned packed encodings of a value, in bits (X.691, clauses 19 to 23).
 use Rattle.std.specs.Prelude.{◌≡◌, ℕ, ◌+◌, ◌-◌, ◌<◌, ◌≤◌, ◌⊎◌, Bool, true, false, ◌||◌, List, [], ◌∷◌, ◌++◌}
 use Rattle.std.specs.Prelude.{length, replicate, Some, slice_get}
 use Rattle.asn_base.specs.declared.tag.Tag.{Tag}
@@ -16,29 +16,34 @@ use Rattle.packed_encodings.specs.Orders.{rank, Member, missing, standing, any_s
 use Rattle.packed_encodings.specs.Orders.{canonical, has_bit, Addition, alone, bracketed, additions, Ascending}
 use Rattle.packed_encodings.specs.Padding.{Padded, Open, Unknown}
 
--- What is written, and what is read: a reader takes what another version of the type writes too, with fewer additions
--- or with more of them.
+-- The form that is written, or the form that is read (X.691, clause 19). A reader also takes what another version of
+-- the type writes, with fewer additions or with more of them.
 pub data Form : Type 0 where
   exact : Form
   lenient : Form
 
+-- whether one of the bits is 1
 abbrev pub any_set : Bits → Bool
 any_set [] = false
 any_set (b ∷ bs) = b || any_set bs
 
--- The bits m say which additions are present; q are those of the type's additions, u those of further ones. What is
--- written has the type's own. What is read may lack the last of them, which are absent then, or have more (19.8).
+-- In form f the bits m say which additions are present (X.691, clause 19.8), with q for the type's additions and u for
+-- further ones. Written bits have the type's own additions. Bits that are read may lack the last of them, which are
+-- then absent, or have more.
 abbrev pub TellAdditions : Form → Bits → Bits → Bits → Type 0
 TellAdditions exact q u m = (m ≡ q) × (u ≡ [])
 TellAdditions lenient q u m = (m ≡ q ++ u) ⊎ ((u ≡ []) × (n : ℕ) × (q ≡ m ++ replicate n false))
 
--- The root r with additions after it: q says which of the type's are present, d are their open types, and x those of k
--- additions that the type lacks.
+-- The last bits are the bits r of the root with additions after them, if the type has an extension marker, as the flag
+-- says (X.691, clause 19). The bits q say which of the type's additions are present, and d are their open types. There
+-- are k additions that the type lacks.
 pub data Extended (f : Form) : Bool → Bits → Bits → Bits → ℕ → Bits → Type 0 where
   no_marker : {r : Bits} → Extended f false r [] [] 0 r
+  -- no addition is present
   none_stands : {r q : Bits}
       → any_set q ≡ false
       → Extended f true r q [] 0 (false ∷ r)  -- 19.1
+  -- additions are present; x are the open types of those that the type lacks, and u their bits
   some_stand : {r q d u x : Bits} {k : ℕ} (m : Bits)
       → TellAdditions f q u m
       → any_set m ≡ true  -- 19.1
@@ -47,14 +52,14 @@ pub data Extended (f : Form) : Bool → Bits → Bits → Bits → ℕ → Bits 
       → Extended f true r q d k (true ∷ (r ++ (false ∷ (word 6 (length m - 1) ++ (m ++ (d ++ x))))))  -- 19.7 to 19.9
 
 mutual
-  -- the bits say a value of type t as it stands, with n additions that the type lacks
+  -- in form f the bits encode exactly w, a value of type t of schema s, with n additions in it that the type lacks
   pub data Says (s : List Resolved) (f : Form) : TypeNumber → AbstractValue → ℕ → Bits → Type 0 where
     says : {t n : ℕ} {tags : List Tag} {k : Kind} {w : AbstractValue} {b : Bits}
         → Is s t tags k
         → Holds s f k w n b
         → Says s f t w n b
 
-  -- the same for a value of this kind
+  -- in form f the bits encode exactly w, a value of kind k of schema s, with n additions in it that the type lacks
   pub data Holds (s : List Resolved) (f : Form) : Kind → AbstractValue → ℕ → Bits → Type 0 where
     leaf : {k : Kind} {w : AbstractValue} {b : Bits} → Leaf k w b → Holds s f k w 0 b
     -- in order of definition
@@ -65,7 +70,7 @@ mutual
         → Additions s f (additions (behind_marker ms)) j q d
         → Extended f e (p ++ b) q d k x
         → Holds s f (a_sequence e cs) (fields ws) (i + (j + k)) x  -- 19
-    -- the root in the canonical order of its tags, additions in order of definition
+    -- the root is in the canonical order of its tags, and additions are in order of definition
     set : {i j k : ℕ} {e : Bool} {cs : List Component} {ws : Row} {ms : List (Member AbstractValue)}
         {p b q d x : Bits}
         → Beside cs ws ms
@@ -77,7 +82,7 @@ mutual
         → Elements s f u ws n xs
         → Sized c.visible xs b
         → Holds s f (a_sequence_of c u) (list ws) n b  -- 20
-    -- in order of the value as it stands, sorted by their bits
+    -- the elements in the order of the value, which is that of their bits
     set_of : {u n : ℕ} {c : Constraint} {ws : Row} {xs : Items} {b : Bits}
         → Elements s f u ws n xs
         → Ascending xs  -- 22.1
@@ -89,7 +94,7 @@ mutual
         → Says s f a.type w n x
         → Holds s f (a_choice root e more) (alternative i w) n
         (root_bit e ++ (place_bits (length root) (rank s root a.type) ++ x))  -- 23.4 to 23.7
-    -- one of those after the marker as an open type, after its place among them
+    -- an alternative after the marker as an open type, after its place among those
     added_choice : {i n : ℕ} {root more : List Alternative} {a : Alternative} {w : AbstractValue} {x y : Bits} (j : ℕ)
         → i ≡ length root + j
         → slice_get more j ≡ Some a
@@ -98,15 +103,18 @@ mutual
         → Open x y
         → Holds s f (a_choice root true more) (alternative i w) n (true ∷ (false ∷ (word 6 j ++ y)))  -- 23.8
 
-  -- Components: p says which of those that may be absent are present, b are the encodings. None that is present is the
-  -- same as its DEFAULT, unless additions were skipped within it.
+  -- The bits p say which components of those that may be absent are present, and the bits b are the encodings of the
+  -- present ones (X.691, clauses 19 and 21). No component that is present is the same as its DEFAULT (19.5), unless
+  -- additions were skipped within it (own rule).
   pub data Members (s : List Resolved) (f : Form) : List (Member AbstractValue) → ℕ → Bits → Bits → Type 0 where
     no_member : Members s f [] 0 [] []
+    -- a component that has no bit is present
     must_stand : {c : Component} {w : AbstractValue} {ms : List (Member AbstractValue)} {j n : ℕ} {x p b : Bits}
         → has_bit c.presence ≡ false
         → Says s f c.type w j x
         → Members s f ms n p b
         → Members s f (standing c w ∷ ms) (j + n) p (x ++ b)  -- 19.4
+    -- a component that has a bit is present
     may_stand : {c : Component} {w : AbstractValue} {ms : List (Member AbstractValue)} {j n : ℕ} {x p b : Bits}
         → has_bit c.presence ≡ true
         → Says s f c.type w j x
@@ -118,8 +126,8 @@ mutual
         → Members s f ms n p b
         → Members s f (missing c ∷ ms) n (false ∷ p) b  -- 19.2
 
-  -- Additions: q says of each component and each group whether it is present, d are the open types of those that are.
-  -- A group is encoded as a SEQUENCE.
+  -- The bits q say whether each addition is present, and the bits d are the open types of those that are (X.691, clause
+  -- 19.9). The components in version brackets are one addition, which is encoded as a SEQUENCE.
   pub data Additions (s : List Resolved) (f : Form) : List (Addition AbstractValue) → ℕ → Bits → Bits → Type 0 where
     no_addition : Additions s f [] 0 [] []
     added : {c : Component} {w : AbstractValue} {as' : List (Addition AbstractValue)} {j n : ℕ} {x y q d : Bits}
@@ -130,18 +138,20 @@ mutual
     not_added : {c : Component} {as' : List (Addition AbstractValue)} {n : ℕ} {q d : Bits}
         → Additions s f as' n q d
         → Additions s f (alone (missing c) ∷ as') n (false ∷ q) d
+    -- a component in version brackets is present
     group : {ms : List (Member AbstractValue)} {as' : List (Addition AbstractValue)} {j n : ℕ} {p b y q d : Bits}
         → any_stands ms ≡ true
         → Members s f ms j p b
         → Open (p ++ b) y
         → Additions s f as' n q d
         → Additions s f (bracketed ms ∷ as') (j + n) (true ∷ q) (y ++ d)  -- 19.9
+    -- all components in version brackets are absent
     no_group : {ms : List (Member AbstractValue)} {as' : List (Addition AbstractValue)} {n : ℕ} {q d : Bits}
         → any_stands ms ≡ false
         → Additions s f as' n q d
         → Additions s f (bracketed ms ∷ as') n (false ∷ q) d  -- 19.9
 
-  -- the encodings of the elements
+  -- the items are the bits of the elements, all of type u, in the order of the row (X.691, clauses 20 and 22)
   pub data Elements (s : List Resolved) (f : Form) : TypeNumber → Row → ℕ → Items → Type 0 where
     no_element : {u : TypeNumber} → Elements s f u end 0 []
     element : {u : TypeNumber} {w : AbstractValue} {ws : Row} {j n : ℕ} {x : Bits} {xs : Items}
@@ -149,15 +159,16 @@ mutual
         → Elements s f u ws n xs
         → Elements s f u (present w ws) (j + n) (x ∷ xs)
 
--- bits encode v: they are those of a value that is the same, as it is written
+-- The bits are the written bits of a value that is the same as v, of type t of schema s.
 abbrev pub Packed : List Resolved → TypeNumber → AbstractValue → Bits → Type 0
 Packed s t v b = (w : AbstractValue) × Same s t v w × Says s exact t w 0 b
 
--- the bits of some value of the type, as it is written
+-- bits b are the written bits of some value of type t of schema s
 abbrev pub IsEncoding : List Resolved → TypeNumber → Bits → Type 0
 IsEncoding s t b = (w : AbstractValue) × Says s exact t w 0 b
 
--- a message: octets, filled up, that say w as it stands, a value of the type, with k additions that the type lacks
+-- Octets o are a message of w, a value of type t of schema s, with k additions that the type lacks (X.691, clause
+-- 11.1). They are bits of w in the form that is read, filled to octets.
 pub record Reads (s : List Resolved) (t : TypeNumber) (w : AbstractValue) (k : ℕ) (o : Octets) : Type 0 where
   pub value : IsValue s t w
   pub bits : Bits

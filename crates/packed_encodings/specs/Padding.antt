@@ -1,11 +1,12 @@
--- Bits filled to octets, and open types (X.691, 11.1 and 11.2).
+-- Bits filled to octets, and open types (X.691, clauses 11.1 and 11.2).
 use Rattle.std.specs.Prelude.{◌≡◌, ℕ, suc, ◌<◌, ◌≤◌, true, false, [], ◌∷◌, ◌++◌, length, replicate}
 use Rattle.std.specs.Int.Digits.{AllBelowBase}
 use Rattle.bits.specs.Words.{octet_bits}
 use Rattle.encodings.specs.Header.{Octets}
 use Rattle.packed_encodings.specs.Lengths.{Bits, CountedOctets}
 
--- bits as octets: zero bits fill the last one, and no bits are one octet 0
+-- the octets are the bits and zero bits that fill the last octet, or one octet 0 if there are no bits (X.691, clause
+-- 11.1)
 pub data Padded : Bits → Octets → Type 0 where
   padded_none : Padded [] (0 ∷ [])  -- 11.1.3
   padded : {b : Bits} {o : Octets} (n : ℕ)
@@ -15,14 +16,16 @@ pub data Padded : Bits → Octets → Type 0 where
       → octet_bits o ≡ b ++ replicate n false
       → Padded b o  -- 11.1
 
--- an open type: a whole encoding x, filled to octets, after their number
+-- the bits y are an open type that holds a whole encoding x, filled to octets, after the number of these octets (X.691,
+-- clause 11.2)
 pub data Open : Bits → Bits → Type 0 where
   open_type : {x y : Bits} {o : Octets}
       → Padded x o  -- 11.2.1
       → CountedOctets o y  -- 11.2.2
       → Open x y
 
--- open types of additions that the type lacks, any octets in each: one for each bit that is set
+-- The last bits are the open types of k additions that the type lacks, with any octets in each: one for each of the
+-- first bits that is set.
 pub data Unknown : Bits → ℕ → Bits → Type 0 where
   no_bit : Unknown [] 0 []
   clear_bit : {u : Bits} {k : ℕ} {b : Bits}

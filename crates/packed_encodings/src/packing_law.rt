@@ -22,9 +22,11 @@ ghost use Rattle.std.specs.Prelude.{◌≡◌, ◌⊎◌, ◌<◌, ◌^◌, ℕ,
 use asn_base::law::{alike_values, sameness};
 use encodings::leaf_laws;
 
-/// Bits say one value, and no encoding of a type begins another one, by what is written and by what is read.
+/// Bits mean one value, and no encoding of a type is the start of another one, in the form that is written and in the
+/// form that is read.
 pub fn reading_laws()
-    // Whatever follows two encodings of a type: where they begin alike, they are one, of one value.
+    // If two sequences of bits are equal and each begins with an encoding of the type, the two encodings are one, of
+    // one value.
     ensures none_begins_another { (s : List Resolved) (f : Form) (t j k : ℕ) (v w : AbstractValue)
         (x y p q : List Bool)
         → IsSchema s
@@ -32,7 +34,7 @@ pub fn reading_laws()
         → Says s f t w k y
         → x ++ p ≡ y ++ q
         → (v ≡ w) × (j ≡ k) × (x ≡ y) × (p ≡ q) }
-    // What is written is read, with no additions that the type lacks.
+    // Written bits are read, with no additions that the type lacks.
     ensures written_is_read { (s : List Resolved) (t k : ℕ) (w : AbstractValue) (x : List Bool)
         → Says s exact t w k x
         → Says s lenient t w k x }
@@ -41,8 +43,8 @@ pub fn reading_laws()
         → k ≡ 0 }
 {}
 
-/// The parts of encodings: leaves, items and octets after their number, and open types. Each has one list of bits, and
-/// none begins another. An open type and a count of octets exist for any contents.
+/// The parts of encodings: leaves, items and octets after their number, and open types. Each part has one list of bits,
+/// and no part is the start of another. An open type and a count of octets exist for any contents.
 pub fn part_laws()
     ensures one_leaf { (s : List Resolved) (k : Kind) (v w : AbstractValue) (a b : List Bool)
         → IsSound s k
@@ -68,8 +70,8 @@ pub fn part_laws()
     ensures some_filling { (x : List Bool) → (o : List ℕ) × Padded x o }
 {}
 
-/// The place of an alternative of the root in the canonical order of tags tells it, is below their number, and fits into
-/// the bits of a place among so many (X.691, 23.4 to 23.6).
+/// The place of an alternative of the root in the canonical order of tags identifies it. The place is below the number
+/// of alternatives, and fits in the bits of a place among them (X.691, 23.4 to 23.6).
 pub fn place_laws()
     ensures one { (s : List Resolved) (t i j : ℕ) (tags : List Tag) (root more : List Alternative) (e : Bool)
         (a b : Alternative)
@@ -88,7 +90,7 @@ pub fn place_laws()
     ensures fits { (n i : ℕ) → i < n → i < 2 ^ place_width n }
 {}
 
-/// Two lists that ascend and hold the same encodings of one type are one list.
+/// Two lists that ascend and contain the same encodings of one type are one list.
 pub fn order_laws()
     ensures either { (x y : List Bool) → AtMost x y ⊎ AtMost y x }
     ensures joined { (x y z : List Bool) → AtMost x y → AtMost y z → AtMost x z }
@@ -101,7 +103,7 @@ pub fn order_laws()
         → x ≡ y }
 {}
 
-/// A message is read as one value, and none begins another.
+/// A message is read as one value, and no message is the start of another one.
 pub fn message_laws()
     ensures one_value { (s : List Resolved) (t j k : ℕ) (v w : AbstractValue) (o : List ℕ)
         → IsSchema s
@@ -113,21 +115,21 @@ pub fn message_laws()
         → Reads s t v j o
         → Reads s t w k (o ++ r)
         → r ≡ [] }
-    // Octets whose bits begin with an encoding are read only where they are that encoding, filled: no octet more, and no
-    // filling bit 1.
+    // Octets whose bits begin with an encoding are read only if they are that encoding, filled. They have no further
+    // octet, and no filling bit 1.
     ensures only_filled { (s : List Resolved) (t j k : ℕ) (v w : AbstractValue) (x p : List Bool) (o : List ℕ)
         → IsSchema s
         → Says s lenient t v j x
         → octet_bits o ≡ x ++ p
         → Reads s t w k o
         → Padded x o × (w ≡ v) × (k ≡ j) }
-    // Bits are filled to one list of octets.
+    // Bits are filled to only one list of octets.
     ensures one_filling { (x : List Bool) (o r : List ℕ) → Padded x o → Padded x r → r ≡ o }
 {}
 
-/// Values that are the same have one list of bits, which is that of no other values.
+/// Values that are the same have one list of bits, and other values have other bits.
 pub fn writing_laws()
-    // What is written of a value as it stands is its bits.
+    // The bits that are written of a value are bits that encode it.
     ensures packed { (s : List Resolved) (t : ℕ) (v : AbstractValue) (x : List Bool)
         → IsValueWithoutNodes s t v
         → Says s exact t v 0 x
@@ -143,7 +145,7 @@ pub fn writing_laws()
         → Packed s t v x
         → Packed s t w x
         → Same s t v w }
-    // A message of a value is read as one that is the same, with no additions that the type lacks.
+    // A message of a value is read as a value that is the same, with no additions that the type lacks.
     ensures message { (s : List Resolved) (t : ℕ) (v : AbstractValue) (x : List Bool) (o : List ℕ)
         → IsValue s t v
         → Packed s t v x
@@ -170,7 +172,7 @@ pub fn existence_laws()
     writing_laws();
 }
 
-/// A function computes the bits of a value by any test of defaults that is right, and there is a test that computes.
+/// A function computes the bits of a value with any right test of defaults, and `is_default` is such a test.
 pub fn computing_laws()
     ensures only { (s : List Resolved) (test : DefaultTest) (t : ℕ) (v : AbstractValue) (x : List Bool)
         → IsSchema s
@@ -188,8 +190,8 @@ pub fn computing_laws()
     existence_laws();
 }
 
-/// What the functions compute of the parts of an encoding, they are: leaves, items after their number, open types,
-/// filled octets, the octets of a number that isn't negative, and the order in a SET OF.
+/// The functions compute the parts of an encoding as the definitions have them. The parts are leaves, items after their
+/// number, open types, filled octets, the octets of a number that isn't negative, and the order in a SET OF.
 pub fn function_laws()
     ensures leaf { (s : List Resolved) (k : Kind) (v w : AbstractValue) (b : List Bool)
         → IsSound s k
@@ -201,7 +203,7 @@ pub fn function_laws()
     ensures open_type { (x y : List Bool) → Open x y → open_bits x ≡ y }
     ensures filled { (x : List Bool) → Padded x (padded_octets x) }
     ensures fewest { (n : ℕ) → FewestUnsigned n (at_least_one (digits_of 256 n)) }
-    // The same encodings of one type in ascending order.
+    // The function sorts encodings of one type in ascending order.
     ensures sorted { (s : List Resolved) (t : ℕ) (xs ys : List (List Bool))
         → IsSchema s
         → AllByRecursion (IsEncoding s t) xs

@@ -1,4 +1,4 @@
--- What calls do to lists.
+-- What calls add to lists.
 use Rattle.std.specs.Prelude.{◌≡◌, ℕ, suc, ◌<◌, ◌≤◌, List, ◌++◌, length, replicate, Option, None, Bool, false, ℤ, pos, ◌+ℤ◌}
 use Rattle.asn_base.specs.Abstract.{AbstractValue}
 use Rattle.asn_base.specs.Seen.{constraint_of}
@@ -22,7 +22,7 @@ use Rattle.packed_readings.specs.Counts.{Count, last, part, Several, several_oct
 use Rattle.packed_readings.specs.Leaves.{character_from, root_number, other_number, signed_number, unsigned_number}
 use Rattle.packed_readings.specs.Leaves.{arcs_after, object_identifier, relative_identifier}
 
--- what is found was added to the end
+-- the values that are found were added at the end of the list
 pub record Gained {X : Type 0} (o : Outcome (List X)) (old new : List X) (rest : Bits) : Type 0 where
   pub values : List X
   pub is : o ≡ found values rest
@@ -33,17 +33,17 @@ abbrev pub several_of : Form → Several ℕ
 several_of forms.Octets = several_octets
 several_of (forms.Characters a) = each_from (character_from a.now)
 
--- what the number of all items is judged by
+-- the test that the number of all items must pass
 abbrev pub test_of : Total → ℕ → Option Refusal
 test_of totals.Any = any_total
 test_of (totals.Sized c o) = size_fault (constraint_of c.now) o
 
--- so many at most come with one number
+-- the limit on how many items can come with one number
 abbrev pub IsFew : Count → Type 0
 IsFew (last n) = n < 16384
 IsFew (part m) = m ≤ 4
 
--- what was read of the items of one number, after those before
+-- the list after the items of one number were read, which were added to those before
 abbrev pub IsStep : {X : Type 0} → (ℕ → Option Refusal) → Several X → Bool → (before after : List X) → Next → (b r : Bits)
     → Type 0
 IsStep test items full before after nexts.Nothing b r =
@@ -53,7 +53,7 @@ IsStep test items full before after (nexts.More f) b r =
 
 -- ---- numbers
 
--- octets of a number that is given as one of the root, as one outside, and as so far above the least one
+-- the number that octets encode as one of the root; then as one outside it, and by its distance above the least one
 abbrev pub root_judge : Constraint → Octets → Judged AbstractValue
 root_judge c o = and_then (signed_number o) (root_number c)
 
@@ -77,14 +77,14 @@ judge_relative o = relative_identifier (arcs_after None o)
 
 -- ---- bits in octets
 
--- what is found was added to whole octets, and the last `unused` bits of the last one are zeros
+-- the bits that are found were added to whole octets, and the last `unused` bits of the last octet are zeros
 pub record GainedBits (o : Outcome Bits) (old new : List ℕ) (unused : ℕ) (rest : Bits) : Type 0 where
   pub values : Bits
   pub is : o ≡ found values rest
   pub few : unused < 8
   pub joined : octet_bits new ≡ octet_bits old ++ (values ++ replicate unused false)
 
--- what was read of the bits of one number, after those of whole octets
+-- the octets after the bits of one number were read, which were added to those of whole octets
 abbrev pub IsBitStep : (ℕ → Option Refusal) → Bool → (before after : List ℕ) → NextBits → (b r : Bits) → Type 0
 IsBitStep test full before after (next_bits.Nothing u) b r =
     (v : Bits)

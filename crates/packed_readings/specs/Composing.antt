@@ -1,4 +1,5 @@
--- Readings one after the other, and judged, are readings. What is proved here needs no search, so that it can be cited.
+-- Readings one after the other, and checked readings, are readings. The proofs here need no search, so they can be
+-- cited.
 use Rattle.std.proofs.Common.{◌≡◌, [], ◌++◌, refl, sym, ap, subst, ◌∙◌, append_assoc}
 use Rattle.packed_encodings.specs.Lengths.{Bits}
 use Rattle.packed_readings.specs.declared.refusal.Refusal.{Refusal}
@@ -49,7 +50,7 @@ pub record Sound {X : Type 0} (P : X → Bits → Type 0) (f : Bits → Outcome 
 pub record Inside {X : Type 0} (f : Bits → Outcome X) : Type 0 where
   pub is : (b r : Bits) (e : Refusal) → f b ≡ stops e r → (x : Bits) × (b ≡ x ++ r)
 
--- what f answers, but Truncated, g answers with more bits behind
+-- g returns, with more bits at the end, what f returns, except Truncated
 pub record Grows {X : Type 0} (f g : Bits → Outcome X) : Type 0 where
   pub finds : (b r m : Bits) (v : X) → f b ≡ found v r → g (b ++ m) ≡ found v (r ++ m)
   pub stays : (b r m : Bits) (e : Refusal) → f b ≡ stops e r → (e ≡ Truncated → ⊥) → g (b ++ m) ≡ stops e (r ++ m)

@@ -29,7 +29,7 @@ told_count b =
     else onward (field_from 14 s) (λ n t. found (in_14_bits n) t))  -- 11.9.3.7
     else onward (field_from 7 r) (λ n s. found (in_7_bits n) s))  -- 11.9.3.6
 
--- Where `full` holds a part may come: as the first one, and after a part of four times 16,384 items.
+-- If `full` is true a part may come: as the first one, and after a part of four times 16,384 items.
 abbrev pub canonical_count : Bool → ToldCount → Judged Count
 canonical_count full (in_7_bits n) = good (last n)
 canonical_count full (in_14_bits n) = if nat_lt n 128 then bad NotCanonical else good (last n)
@@ -38,7 +38,7 @@ canonical_count full (in_parts m) = if full && (nat_lt 0 m && nat_lt m 5) then g
 abbrev pub count_from : Bool → Bits → Outcome Count
 count_from full = judging (canonical_count full) told_count
 
--- the bits of such a number
+-- the bits of a number of items in its canonical form
 pub data IsCount : Bool → Count → Bits → Type 0 where
   short_count : {full : Bool} {n : ℕ}
       → n < 128
@@ -52,7 +52,7 @@ pub data IsCount : Bool → Count → Bits → Type 0 where
       → m ≤ 4
       → IsCount true (part m) (true ∷ (true ∷ word 6 m))  -- 11.9.3.8
 
--- items with their numbers, part by part; where `full` is true, they are what is counted as a whole
+-- items with their numbers, part by part; if `full` is true, the items are all that are counted
 pub data InParts : Bool → Items → Bits → Type 0 where
   last_items : {full : Bool} {h : Bits} (xs : Items)
       → IsCount full (last (length xs)) h
@@ -80,7 +80,7 @@ pub record AreSeveral {X : Type 0} (P : X → Bits → Type 0) (n : ℕ) (vs : L
   pub many : length items ≡ n
   pub whole : b ≡ all_bits items
 
--- values after their number, of which a test doesn't say that it is refused
+-- values after their number, which passes a test
 pub record AreCounted {X : Type 0} (P : X → Bits → Type 0) (test : ℕ → Option Refusal) (vs : List X) (b : Bits)
     : Type 0 where
   pub items : Items
@@ -88,22 +88,22 @@ pub record AreCounted {X : Type 0} (P : X → Bits → Type 0) (test : ℕ → O
   pub passed : test (length items) ≡ None
   pub counted : Counted items b
 
--- reads so many items
+-- a function that reads n items
 abbrev pub Several : Type 0 → Type 0
 Several X = ℕ → Bits → Outcome (List X)
 
--- the number of all items is judged where the last number tells it; so many were before
+-- the number of all items is tested once the last number is read; `before` items came before
 abbrev pub total : (ℕ → Option Refusal) → ℕ → Count → Judged Count
 total test before (part m) = good (part m)
 total test before (last n) = elim (test (before + n)) [ None ↦ good (last n) | Some e ↦ bad e ]
 
--- the items of one number, after those before; others follow a part
+-- the items of one number, after those before; more items follow a part
 abbrev pub items_of : {X : Type 0} → Several X → (before : List X) → Count → Bits
     → (Bool → List X → Bits → Outcome (List X)) → Outcome (List X)
 items_of items before (last n) r next = onward (items n r) (λ xs s. found (before ++ xs) s)
 items_of items before (part m) r next = onward (items (16384 * m) r) (λ xs s. next (m == 4) (before ++ xs) s)
 
--- with fuel for the numbers, each of which takes some bits
+-- items part by part; fuel limits the number of parts, each of which takes some bits
 abbrev pub parts_from : {X : Type 0} → ℕ → (ℕ → Option Refusal) → Several X → Bool → (before : List X) → Bits
     → Outcome (List X)
 parts_from zero test items full before b = stops Truncated b
@@ -111,7 +111,7 @@ parts_from (suc fuel) test items full before b =
     onward (judging (total test (length before)) (count_from full) b) (λ c r.
     items_of items before c r (λ f xs s. parts_from fuel test items f xs s))
 
--- items after their number; those of which a test tells so are refused for their number
+-- items after their number, refused if the number fails a test
 abbrev pub counted_from : {X : Type 0} → (ℕ → Option Refusal) → Several X → Bits → Outcome (List X)
 counted_from test items b = parts_from (suc (length b)) test items true [] b
 
@@ -133,7 +133,7 @@ several_bits n = block_from n (λ x. x)
 abbrev pub IsOctet : ℕ → Bits → Type 0
 IsOctet = IsField 8
 
--- octets after their number, as those of an open type
+-- octets after their number, such as those of an open type
 abbrev pub octets_from : Bits → Outcome (List ℕ)
 octets_from = counted_from any_total several_octets
 
@@ -146,11 +146,11 @@ abbrev pub is_in_some : ℤ → List Range → Bool
 is_in_some z [] = false
 is_in_some z (r ∷ rs) = if is_in_range z r then true else is_in_some z rs
 
--- the constraint allows the number in a value
+-- the constraint allows the number as a value
 abbrev pub is_allowed : Constraint → ℤ → Bool
 is_allowed c z = elim c.allowed [ None ↦ true | Some rs ↦ is_in_some z rs ]
 
--- from l to l + m
+-- the size l + n, from the least l to the greatest l + m
 abbrev pub size_of : Constraint → (l m n : ℕ) → Judged Sizing
 size_of c l m n =
     if nat_lt m n
@@ -164,7 +164,7 @@ root_size c (Some (pos l)) (Some (pos u)) b =
     else found (counted false) b
 root_size c l u b = found (counted false) b  -- 11.9.4.2
 
--- with a bit 1 before what is outside an extensible root (16.6, 17.3, 20.4)
+-- the size of an extensible SIZE comes after a bit, 1 if it is outside the root (16.6, 17.3, 20.4)
 abbrev pub size_from : Constraint → Bits → Outcome Sizing
 size_from c b =
     if c.visible.extensible
@@ -173,7 +173,7 @@ size_from c b =
     else root_size c c.visible.least c.visible.greatest r)
     else root_size c c.visible.least c.visible.greatest b
 
--- why a number of items is refused where it is given as one of the root, or as one outside
+-- why a number of items is refused that is given as one of the root, or as one outside it
 abbrev pub size_fault : Constraint → Bool → ℕ → Option Refusal
 size_fault c outside n =
     if is_in_root c.visible (pos n)
@@ -184,11 +184,11 @@ abbrev pub after_size : {X : Type 0} → Constraint → Several X → Sizing →
 after_size c items (at_once n) b = items n b
 after_size c items (counted outside) b = counted_from (size_fault c outside) items b
 
--- items after their number as SIZE bounds it
+-- items after their number, in the form that SIZE gives it
 abbrev pub sized_from : {X : Type 0} → Constraint → Several X → Bits → Outcome (List X)
 sized_from c items b = onward (size_from c b) (λ z r. after_size c items z r)
 
--- the bits of such a size, before items
+-- the bits of a size, before items
 pub data IsSizing (c : Constraint) : Sizing → Bits → Type 0 where
   narrow_size : (l m n : ℕ)
       → c.visible.least ≡ Some (pos l)
@@ -202,7 +202,7 @@ pub data IsSizing (c : Constraint) : Sizing → Bits → Type 0 where
   outside_size : c.visible.extensible ≡ true
       → IsSizing c (counted true) (true ∷ [])  -- 16.6, 17.3, 20.4
 
--- items with what SIZE tells before them: at once, or part by part
+-- items after the bits of their size: at once, or part by part
 pub data InSize (c : Constraint) : Items → Bits → Type 0 where
   items_at_once : {h : Bits} (xs : Items)
       → IsSizing c (at_once (length xs)) h
@@ -213,7 +213,7 @@ pub data InSize (c : Constraint) : Items → Bits → Type 0 where
       → InParts true xs b
       → InSize c xs (h ++ b)
 
--- values as many as SIZE allows, as it bounds them
+-- as many values as SIZE allows, in the form that SIZE gives them
 pub record AreSized {X : Type 0} (P : X → Bits → Type 0) (c : Constraint) (vs : List X) (b : Bits) : Type 0 where
   pub items : Items
   pub are : EachHas P vs items

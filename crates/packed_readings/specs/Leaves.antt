@@ -1,4 +1,4 @@
--- Values of the kinds that hold no others, read from the front of bits (X.691, 12 to 14, 16 to 18, 24, 25 and 30).
+-- Values of the kinds that hold no others, read from the start of bits (X.691, 12 to 14, 16 to 18, 24, 25 and 30).
 use Rattle.std.specs.Prelude.{ℕ, ◌+◌, ◌-◌, ◌*◌, ◌/◌, ◌%◌, ◌^◌, ◌==◌, nat_lt, ℤ, pos, negsuc, ◌+ℤ◌, ◌-ℤ◌}
 use Rattle.std.specs.Prelude.{nat_abs, Bool, true, false, not, ◌&&◌, ◌||◌, if◌then◌else◌, List, [], ◌∷◌, length, map}
 use Rattle.std.specs.Prelude.{Option, Some, None, option_map, slice_get, chars}
@@ -23,7 +23,7 @@ use Rattle.packed_readings.specs.Counts.{sized_from}
 
 -- ---- numbers
 
--- from -2^127 to 2^127 - 1
+-- the number is from -2^127 to 2^127 - 1
 abbrev pub is_within_limit : ℤ → Bool
 is_within_limit (pos n) = nat_lt n (2 ^ 127)
 is_within_limit (negsuc n) = nat_lt n (2 ^ 127)
@@ -35,7 +35,7 @@ root_number c z =
     then (if is_in_root c.visible z && is_allowed c z then good (integer z) else bad why.Outside)
     else bad why.IntegerLimit
 
--- one that is given as outside the root
+-- a number that is given as one outside the root
 abbrev pub other_number : Constraint → ℤ → Judged AbstractValue
 other_number c z =
     if is_within_limit z
@@ -44,7 +44,7 @@ other_number c z =
     else (if is_allowed c z then good (integer z) else bad why.Outside))
     else bad why.IntegerLimit
 
--- the number that octets are in two's complement
+-- the number that octets encode in two's complement
 abbrev pub signed_worth : Octets → ℤ
 signed_worth [] = pos 0
 signed_worth (x ∷ o) =
@@ -52,7 +52,7 @@ signed_worth (x ∷ o) =
     then pos (number_from_digits 256 (x ∷ o))
     else negsuc (number_from_digits 256 (map (λ d. 255 - d) (x ∷ o)))
 
--- in the fewest octets (11.4)
+-- the number that octets encode in two's complement, if no fewer octets are enough (11.4)
 abbrev pub signed_number : Octets → Judged ℤ
 signed_number [] = bad why.Outside
 signed_number (x ∷ []) = good (signed_worth (x ∷ []))
@@ -61,13 +61,13 @@ signed_number (x ∷ y ∷ o) =
     then bad why.NotCanonical
     else good (signed_worth (x ∷ y ∷ o))
 
--- a number without sign, in the fewest octets (11.3)
+-- the number without a sign that octets encode, if no fewer octets are enough (11.3)
 abbrev pub unsigned_number : Octets → Judged ℕ
 unsigned_number [] = bad why.Outside
 unsigned_number (x ∷ []) = good x
 unsigned_number (x ∷ y ∷ o) = if x == 0 then bad why.NotCanonical else good (number_from_digits 256 (x ∷ y ∷ o))
 
--- from l to l + m
+-- the number l + n, from the least l to the greatest l + m
 abbrev pub number_between : Constraint → (l : ℤ) → (m n : ℕ) → Judged AbstractValue
 number_between c l m n = if nat_lt m n then bad why.Outside else root_number c (l +ℤ pos n)
 
@@ -109,7 +109,7 @@ abbrev pub is_code : List ℕ → ℕ → Bool
 is_code [] c = false
 is_code (d ∷ ds) c = if d == c then true else is_code ds c
 
--- by its code where all codes of the alphabet fit, else by its place (30.5.4)
+-- a character by its code if all codes of the alphabet fit, else by its place (30.5.4)
 abbrev pub character_of : List ℕ → ℕ → Judged ℕ
 character_of a n =
     if codes_below (2 ^ place_width (length a)) a
@@ -126,11 +126,11 @@ ends_in_zero [] = false
 ends_in_zero (b ∷ []) = not b
 ends_in_zero (b ∷ c ∷ bs) = ends_in_zero (c ∷ bs)
 
--- bits under names, without trailing zeros (16.2)
+-- a value with named bits, without trailing zeros (16.2)
 abbrev pub named_bits : Bits → Judged AbstractValue
 named_bits v = if ends_in_zero v then bad why.NotCanonical else good (bits v)
 
--- Numbers in septets (X.690, 8.19.2); `high` is the worth of those of a number that goes on.
+-- Numbers in septets (X.690, 8.19.2); `high` is the worth of the septets so far of a number that goes on.
 abbrev pub arcs_after : (high : Option ℕ) → Octets → Option (List ℕ)
 arcs_after None [] = Some []
 arcs_after (Some h) [] = None
@@ -189,7 +189,7 @@ leaf_from (a_restricted_string k a c) b =
 -- a kind that holds others
 leaf_from k b = stops why.Outside b
 
--- the bits of a value of the kind, of those that the kind's constraints allow
+-- the bits of a value of the kind that the kind's constraints allow
 pub record IsLeafOf (k : Kind) (w : AbstractValue) (b : Bits) : Type 0 where
   pub leaf : Leaf k w b
   pub fits : Fits k w

@@ -54,7 +54,7 @@ fn relative_arcs(alloc: Global, octets: &[u8]) -> Result<Vec<u64>, AllocError>
     Ok(arcs)
 }
 
-/// The numbers of an OBJECT IDENTIFIER with these contents octets, whose first two are one number there.
+/// The numbers of an OBJECT IDENTIFIER with these contents octets, which encode the first two numbers as one.
 fn object_arcs(alloc: Global, octets: &[u8]) -> Result<Vec<u64>, AllocError>
     requires { (ns : List ℕ) × IsObjectIdentifier ns × (octets.now ≡ flat_map septets (joined ns)) }
     ensures { (ns : List ℕ)
@@ -76,7 +76,7 @@ fn object_arcs(alloc: Global, octets: &[u8]) -> Result<Vec<u64>, AllocError>
     }
 }
 
-/// The two numbers that one stands for (8.19.4).
+/// The two numbers that one encodes (8.19.4).
 fn parted(number: u128) -> (u64, u64)
     requires { number < 2 ^ 64 + 80 }
     ensures { (x y : ℕ)
@@ -95,7 +95,7 @@ fn parted(number: u128) -> (u64, u64)
     (2, (number - 80) as u64)
 }
 
-/// Whether octets are those of an OBJECT IDENTIFIER.
+/// Checks that octets are those of an OBJECT IDENTIFIER.
 #[tactic(auto, using(crate::proofs::Septets::oid_there, crate::proofs::Septets::oid_outside, crate::proofs::Septets::oid_limit, crate::proofs::Septets::oid_never))]
 fn judge_object_identifier(octets: &[u8]) -> Result<(), Refusal>
     ensures ok { OnOk result ((ns : List ℕ) × IsObjectIdentifier ns × (octets.now ≡ flat_map septets (joined ns))) }
@@ -110,7 +110,7 @@ fn judge_object_identifier(octets: &[u8]) -> Result<(), Refusal>
     }
 }
 
-/// Whether octets are those of a RELATIVE-OID.
+/// Checks that octets are those of a RELATIVE-OID.
 #[tactic(auto, using(crate::proofs::Septets::relative_there, crate::proofs::Septets::relative_outside, crate::proofs::Septets::relative_limit, crate::proofs::Septets::relative_never))]
 fn judge_relative_oid(octets: &[u8]) -> Result<(), Refusal>
     ensures ok { OnOk result ((ns : List ℕ) × IsRelativeOid ns × (octets.now ≡ flat_map septets ns)) }
@@ -125,11 +125,11 @@ fn judge_relative_oid(octets: &[u8]) -> Result<(), Refusal>
     }
 }
 
-/// Takes an OBJECT IDENTIFIER (X.691, 24), and answers its numbers.
+/// Takes an OBJECT IDENTIFIER (X.691, 24), and returns its numbers.
 ///
-/// `Outside`: the octets are no numbers. `OidLimit`: they are more than 64, or one is 2^64 or greater, or the first two
-/// are none. Further faults are those of `read_octets`. The cursor is then at the place of the fault. `Memory`: more
-/// memory was asked for and refused, and the cursor may have moved on.
+/// `Outside`: the octets are no numbers. `OidLimit`: there are more than 64 numbers, or one is 2^64 or greater, or the
+/// one that encodes the first two is 2^64 + 80 or greater. Further faults are those of `read_octets`. The cursor is
+/// then at the place of the fault. `Memory`: there is not enough memory; the cursor may have moved on.
 pub fn read_object_identifier(alloc: Global, bits: &mut Bits<'_>) -> Result<Vec<u64>, PackedFault>
     ensures ok { IfOk result
         (λ v. judging judge_oid octets_from (bits_left bits.old) ≡ found (oid v.items) (bits_left bits.new)) }
@@ -154,7 +154,7 @@ pub fn read_object_identifier(alloc: Global, bits: &mut Bits<'_>) -> Result<Vec<
     }
 }
 
-/// Takes a RELATIVE-OID (X.691, 25), and answers its numbers. The faults are those of `read_object_identifier`.
+/// Takes a RELATIVE-OID (X.691, 25), and returns its numbers. The faults are those of `read_object_identifier`.
 pub fn read_relative_oid(alloc: Global, bits: &mut Bits<'_>) -> Result<Vec<u64>, PackedFault>
     ensures ok { IfOk result
         (λ v. judging judge_relative octets_from (bits_left bits.old)

@@ -21,7 +21,7 @@ use asn_base::value::BitString;
 use bits::cursor::Bits;
 use std::alloc::Global;
 
-/// The bits of a number that has `count` bits, as the first ones of an octet.
+/// A number of `count` bits, as the first bits of an octet.
 fn first_bits(number: u64, count: usize) -> u8
     requires some { 1 ≤ count }
     requires few { count < 8 }
@@ -39,7 +39,7 @@ fn first_bits(number: u64, count: usize) -> u8
     }
 }
 
-/// Takes so many bits, and adds the octets that they fill: the answer is how many bits of the last one are unused.
+/// Takes `count` bits, and adds the octets that they fill. The result is how many bits of the last octet are unused.
 fn read_bits(count: usize, bits: &mut Bits<'_>, out: &mut Vec<u8>) -> Result<u8, PackedFault>
     ensures ok { IfOk result
         (λ u. GainedBits (several_bits count (bits_left bits.old)) out.old.items out.new.items u (bits_left bits.new)) }
@@ -63,8 +63,8 @@ fn read_bits(count: usize, bits: &mut Bits<'_>, out: &mut Vec<u8>) -> Result<u8,
     }
 }
 
-/// What follows the bits of one number: nothing, where so many bits of the last octet are unused; or those of a further
-/// number, which may be a part or not.
+/// What follows the bits of one number. `Nothing` has the number of unused bits of the last octet. `More` announces a
+/// further number; it is true if that number may be a part.
 #[derive(Clone, Copy)]
 pub(crate) enum NextBits {
     Nothing(u8),
@@ -129,7 +129,7 @@ fn read_counted_bits(
     Ok(BitString::of(out, unused))
 }
 
-/// Takes so many bits as a string.
+/// Takes `count` bits as a string.
 fn read_bits_at_once(
     alloc: Global,
     count: usize,
@@ -173,7 +173,7 @@ pub fn read_bit_string(
     }
 }
 
-/// The bit of an octet before so many last ones.
+/// The bit of an octet before its last `count` bits.
 fn bit_before(octet: u8, count: u8) -> bool
     requires { count < 8 }
     ensures { result ≡ (octet / 2 ^ count % 2 == 1) }
@@ -190,7 +190,7 @@ fn bit_before(octet: u8, count: u8) -> bool
     }
 }
 
-/// Whether the last bit is 0.
+/// Whether the last bit of the string is 0.
 fn ends_in_zero(octets: &[u8], unused: u8) -> bool
     requires { unused < 8 }
     ensures { result ≡ ends_in_zero (take (8 * length octets.now - unused) (flat_map bits_of_octet octets.now)) }
@@ -202,8 +202,8 @@ fn ends_in_zero(octets: &[u8], unused: u8) -> bool
     }
 }
 
-/// Takes a BIT STRING with named bits (X.691, 16.2 and 16.11). `NotCanonical`: its last bit is 0, and the cursor is
-/// where it was. Further faults are those of `read_octets`.
+/// Takes a BIT STRING with named bits (X.691, 16.2 and 16.11). `NotCanonical`: its last bit is 0; the cursor stays at
+/// the start of the string. Further faults are those of `read_octets`.
 pub fn read_named_bits(alloc: Global, bits: &mut Bits<'_>) -> Result<BitString, PackedFault>
     ensures ok { IfOk result
         (λ b. judging named_bits (counted_from any_total several_bits) (bits_left bits.old)

@@ -15,7 +15,7 @@ use crate::refusal::{PackedFault, Refusal};
 use crate::width::width_of_place;
 use bits::cursor::Bits;
 
-/// Whether the code is in the alphabet, where its codes ascend. Of others it may answer false.
+/// Whether the code is in an alphabet whose codes ascend. In another alphabet, the code may be missed.
 fn finds_code(alphabet: &[u8], code: u64) -> bool
     ensures { IsTrue result → IsMember code alphabet.now }
 {
@@ -38,7 +38,7 @@ fn has_code(alphabet: &[u8], code: u64) -> bool
     false
 }
 
-/// Whether the code is in the alphabet, each code of which is looked at only where it isn't: codes ascend.
+/// Whether the code is in the alphabet. A binary search comes first; all codes are compared only if it fails.
 fn is_among(alphabet: &[u8], code: u64) -> bool
     ensures { IsTrue result ↔ IsMember code alphabet.now }
 {
@@ -53,7 +53,7 @@ fn is_code(alphabet: &[u8], code: u64) -> bool
     is_among(alphabet, code)
 }
 
-/// They are octets.
+/// Each item of a slice of octets is below 256.
 pub(crate) fn are_octets(octets: &[u8])
     ensures { AllBelowBase 256 octets.now }
 {}
@@ -68,7 +68,7 @@ fn are_below(alphabet: &[u8], limit: u128) -> bool
     }
 }
 
-/// Whether all codes have the bits of a place among them.
+/// Whether all codes fit in as many bits as a place in the alphabet takes.
 fn is_by_code(alphabet: &[u8], width: usize) -> bool
     requires { width ≤ 64 }
     ensures { result ≡ codes_below (2 ^ width) alphabet.now }
@@ -76,7 +76,7 @@ fn is_by_code(alphabet: &[u8], width: usize) -> bool
     are_below(alphabet, 1u128 << width)
 }
 
-/// The character with this code, or at this place.
+/// The character with this code, if `by_code` is true, or at this place.
 #[tactic(auto, using(crate::proofs::Items::code_octet))]
 fn character(alphabet: &[u8], by_code: bool, number: u64) -> Result<u8, Refusal>
     requires { by_code ≡ codes_below (2 ^ place_width (length alphabet.now)) alphabet.now }
@@ -122,7 +122,7 @@ fn read_character(
     }
 }
 
-/// Takes so many characters, and adds their codes.
+/// Takes `count` characters, and adds their codes.
 pub(crate) fn read_characters(
     alphabet: &[u8],
     count: usize,

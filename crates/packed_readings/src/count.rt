@@ -11,7 +11,8 @@ use crate::field::{read_bit, read_field};
 use crate::refusal::Refusal;
 use bits::cursor::Bits;
 
-/// How many items come next: so many, and none after them; or so many times 16,384, and others after a further number.
+/// How many items come next: this many, and none after them (`Last`); or this many times 16,384, and more after a
+/// further number (`Part`).
 #[derive(Clone, Copy, Debug, PartialEq, Eq)]
 pub enum Count {
     Last(usize),
@@ -40,7 +41,7 @@ fn read_told(bits: &mut Bits<'_>) -> Result<ToldCount, Refusal>
     }
 }
 
-/// The same after its first bit 1.
+/// Takes the rest of a number of items whose first bit is 1.
 fn read_longer(bits: &mut Bits<'_>) -> Result<ToldCount, Refusal>
     ensures { told_count (true ∷ bits_left bits.old) ≡ outcome result (bits_left bits.new) }
 {
@@ -79,11 +80,11 @@ fn canonical(told: ToldCount, full: bool) -> Result<Count, Refusal>
     }
 }
 
-/// Takes the number of the next items. Only where `full` holds they may be a part, after which others follow: before
-/// any item, and after a part of four times 16,384 items.
+/// Takes the number of the next items. The items may be a part, after which others follow, only if `full` is true:
+/// before any item, and after a part of four times 16,384 items.
 ///
-/// `NotCanonical`: eight bits would be enough, or there is such a part where none may be, or one of no items or of more
-/// than four times 16,384. No bit is taken then. `Truncated`: the bits end before.
+/// `NotCanonical`: eight bits would be enough; or there is a part where none may be, or one of no items or of more than
+/// four times 16,384. No bit is taken then. `Truncated`: the bits end before.
 pub fn read_count(bits: &mut Bits<'_>, full: bool) -> Result<Count, Refusal>
     ensures few { IfOk result IsFew }
     ensures is { count_from full (bits_left bits.old) ≡ outcome result (bits_left bits.new) }

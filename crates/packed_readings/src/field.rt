@@ -18,8 +18,8 @@ pub fn read_bit(bits: &mut Bits<'_>) -> Result<bool, Refusal>
     Ok(number == 1)
 }
 
-/// Takes the next `width` bits, of which there are at most 64, as a number, the highest first. `Truncated`: fewer are
-/// left, and none is taken.
+/// Takes the next `width` bits, at most 64, as a number, the most significant bit first. `Truncated`: fewer are left,
+/// and none is taken.
 pub fn read_field(bits: &mut Bits<'_>, width: usize) -> Result<u64, Refusal>
     requires { width ≤ 64 }
     ensures is { field_from width (bits_left bits.old) ≡ outcome result (bits_left bits.new) }
@@ -31,8 +31,8 @@ pub fn read_field(bits: &mut Bits<'_>, width: usize) -> Result<u64, Refusal>
     Ok(bits.take(width))
 }
 
-/// Takes a small number (X.691, 11.6.1): a bit 0, and six bits. Where the first bit is 1, it is refused for the reason
-/// that is handed in, and no bit is taken. `Truncated`: the bits end before.
+/// Takes a small number (X.691, 11.6.1): a bit 0, and six bits. If the first bit is 1, the error is `refusal`, and no
+/// bit is taken. `Truncated`: the bits end before.
 pub fn read_small(bits: &mut Bits<'_>, refusal: Refusal) -> Result<u64, Refusal>
     ensures is { small_from refusal (bits_left bits.old) ≡ outcome result (bits_left bits.new) }
     ensures small { IfOk result (λ n. n < 64) }
@@ -48,7 +48,7 @@ pub fn read_small(bits: &mut Bits<'_>, refusal: Refusal) -> Result<u64, Refusal>
     }
 }
 
-/// The same of at most 128 bits.
+/// The same as `read_field` for at most 128 bits.
 pub(crate) fn read_wide(bits: &mut Bits<'_>, width: usize) -> Result<u128, Refusal>
     requires { width ≤ 128 }
     ensures { field_from width (bits_left bits.old) ≡ outcome result (bits_left bits.new) }

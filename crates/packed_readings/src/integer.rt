@@ -1,4 +1,4 @@
-//! Whole numbers as their constraint bounds them (X.691, 13).
+//! Whole numbers in the form that their constraint gives them (X.691, 13).
 
 ghost use Rattle.asn_base.specs.Abstract.{integer};
 ghost use Rattle.asn_base.specs.Seen.{constraint_of};
@@ -21,7 +21,7 @@ use asn_base::law::integer_within_limit;
 use bits::cursor::Bits;
 use std::alloc::Global;
 
-/// What a number is given as, in octets: so far above the least one, one of the root, or one outside.
+/// How octets encode a number: by its distance above this least one, as a number of the root, or as one outside it.
 #[derive(Clone, Copy)]
 pub(crate) enum Told {
     Above(i128),
@@ -37,7 +37,7 @@ fn within_limit(number: i128)
     integer_within_limit(number);
 }
 
-/// The number, where it is one of the root and is allowed.
+/// The number, if it is one of the root and is allowed.
 fn in_root(constraint: &Constraint, number: i128) -> Result<i128, Refusal>
     ensures ok { IfOk result (λ z. root_number (constraint_of constraint.now) number ≡ good (integer z)) }
     ensures err { IfErr result (λ e. root_number (constraint_of constraint.now) number ≡ bad e) }
@@ -51,7 +51,7 @@ fn in_root(constraint: &Constraint, number: i128) -> Result<i128, Refusal>
     Err(Refusal::Outside)
 }
 
-/// The number, where it is outside the root and is allowed.
+/// The number, if it is outside the root and is allowed.
 fn outside_root(constraint: &Constraint, number: i128) -> Result<i128, Refusal>
     ensures ok { IfOk result (λ z. other_number (constraint_of constraint.now) number ≡ good (integer z)) }
     ensures err { IfErr result (λ e. other_number (constraint_of constraint.now) number ≡ bad e) }
@@ -68,7 +68,7 @@ fn outside_root(constraint: &Constraint, number: i128) -> Result<i128, Refusal>
     Err(Refusal::Outside)
 }
 
-/// The number so far above the least one.
+/// The number that is `over` above the least one.
 #[tactic(auto, using(crate::proofs::Judging::sum_past))]
 fn above(constraint: &Constraint, least: i128, over: u128) -> Result<i128, Refusal>
     ensures ok { IfOk result (λ z. root_number (constraint_of constraint.now) (least +ℤ pos over) ≡ good (integer z)) }
@@ -80,7 +80,7 @@ fn above(constraint: &Constraint, least: i128, over: u128) -> Result<i128, Refus
     }
 }
 
-/// What octets are that were told as one of the root.
+/// The number that octets encode as one of the root.
 #[tactic(auto, using(crate::proofs::Judging::root_read, crate::proofs::Judging::root_refused, crate::proofs::Judging::root_none))]
 fn judge_root(constraint: &Constraint, octets: &[u8]) -> Result<i128, Refusal>
     ensures ok { IfOk result (λ z. root_judge (constraint_of constraint.now) octets.now ≡ good (integer z)) }
@@ -92,7 +92,7 @@ fn judge_root(constraint: &Constraint, octets: &[u8]) -> Result<i128, Refusal>
     }
 }
 
-/// What octets are that were told as a number outside the root.
+/// The number that octets encode as one outside the root.
 #[tactic(auto, using(crate::proofs::Judging::other_read, crate::proofs::Judging::other_refused, crate::proofs::Judging::other_none))]
 fn judge_outside(constraint: &Constraint, octets: &[u8]) -> Result<i128, Refusal>
     ensures ok { IfOk result (λ z. outside_judge (constraint_of constraint.now) octets.now ≡ good (integer z)) }
@@ -104,7 +104,7 @@ fn judge_outside(constraint: &Constraint, octets: &[u8]) -> Result<i128, Refusal
     }
 }
 
-/// What octets are that were told as so far above the least number.
+/// The number that octets encode by its distance above the least one.
 #[tactic(auto, using(crate::proofs::Judging::above_read, crate::proofs::Judging::above_past, crate::proofs::Judging::above_none))]
 fn judge_above(constraint: &Constraint, least: i128, octets: &[u8]) -> Result<i128, Refusal>
     ensures ok { IfOk result (λ z. above_judge (constraint_of constraint.now) least octets.now ≡ good (integer z)) }
@@ -117,7 +117,7 @@ fn judge_above(constraint: &Constraint, least: i128, octets: &[u8]) -> Result<i1
     }
 }
 
-/// What octets are that were told as this.
+/// The number that octets encode in the way that `told` gives.
 fn judge(told: Told, constraint: &Constraint, octets: &[u8]) -> Result<i128, Refusal>
     ensures ok { IfOk result (λ z. judge_told told (constraint_of constraint.now) octets.now ≡ good (integer z)) }
     ensures err { IfErr result (λ e. judge_told told (constraint_of constraint.now) octets.now ≡ bad e) }
@@ -129,7 +129,7 @@ fn judge(told: Told, constraint: &Constraint, octets: &[u8]) -> Result<i128, Ref
     }
 }
 
-/// Takes octets after their number that were told as this.
+/// Takes octets, after their number, that encode a number in the way that `told` gives.
 fn read_told(
     alloc: Global,
     told: Told,
@@ -157,7 +157,7 @@ fn read_told(
     }
 }
 
-/// Takes a number between two.
+/// Takes a number between two numbers.
 fn read_between(
     constraint: &Constraint,
     least: i128,
@@ -184,7 +184,7 @@ fn read_between(
     }
 }
 
-/// The number so far above the least one, where it isn't too far.
+/// The number that is `over` above the least one, if `over` is at most `span`.
 fn between(constraint: &Constraint, least: i128, span: u128, over: u128) -> Result<i128, Refusal>
     ensures ok { IfOk result (λ z. number_between (constraint_of constraint.now) least span over ≡ good (integer z)) }
     ensures err { IfErr result (λ e. number_between (constraint_of constraint.now) least span over ≡ bad e) }
@@ -221,12 +221,12 @@ fn read_root_integer(
     }
 }
 
-/// Takes an INTEGER as its constraint bounds it (X.691, 13).
+/// Takes an INTEGER in the form that its constraint gives it (X.691, 13).
 ///
-/// `NotCanonical`: more octets than needed, or a number of the root that is given as outside. `Outside`: the constraint
-/// doesn't allow the number, or there are no octets. `IntegerLimit`: the number is none from -2^127 to 2^127 - 1.
-/// Further faults are those of `read_octets`. The cursor is then at the place of the fault. `Memory`: more memory was
-/// asked for and refused, and the cursor may have moved on.
+/// `NotCanonical`: more octets than needed, or a number of the root that is given as one outside. `Outside`: the
+/// constraint doesn't allow the number, or there are no octets. `IntegerLimit`: the number is outside the range from
+/// -2^127 to 2^127 - 1. Further faults are those of `read_octets`. The cursor is then at the place of the fault.
+/// `Memory`: there is not enough memory; the cursor may have moved on.
 pub fn read_integer(
     alloc: Global,
     constraint: &Constraint,

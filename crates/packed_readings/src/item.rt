@@ -14,7 +14,7 @@ use crate::width::width_of_place;
 use asn_base::schema::{Item, Items};
 use bits::cursor::Bits;
 
-/// The number of the item at a place, or the refusal that is handed in where there is none.
+/// The number of the item at a place, or the error `refusal` if there is none.
 fn number_at(items: &[Item], place: u64, refusal: Refusal) -> Result<i128, Refusal>
     ensures ok { IfOk result (λ z. item_at refusal (map item_of items.now) place ≡ good (enumerated z)) }
     ensures err { IfErr result (λ e. item_at refusal (map item_of items.now) place ≡ bad e) }
@@ -65,10 +65,10 @@ fn read_added_item(items: &[Item], bits: &mut Bits<'_>) -> Result<i128, Refusal>
     }
 }
 
-/// Takes an ENUMERATED (X.691, 14), and answers the number of its item.
+/// Takes an ENUMERATED (X.691, 14), and returns the number of its item.
 ///
-/// `Outside`: the root has no item at the place. `UnknownEnumeration`: there is none after the marker. The cursor is
-/// then at the place of the fault. `Truncated`: the bits end before.
+/// `Outside`: the root has no item at the place. `UnknownEnumeration`: the type has no item at the place after the
+/// marker. The cursor is then at the place of the fault. `Truncated`: the bits end before.
 pub fn read_item(items: &Items, bits: &mut Bits<'_>) -> Result<i128, Refusal>
     ensures { item_from (map item_of items.now.root.items)
         items.now.extensible (map item_of items.now.additions.items) (bits_left bits.old)

@@ -1,4 +1,4 @@
-//! Laws of what the front of bits is read as.
+//! Laws of what is read from the start of bits.
 
 ghost use Rattle.asn_base.specs.Schemas.{AreBounds, IsSize, IsSound};
 ghost use Rattle.asn_base.specs.Typed.{IsAllowedSize};
@@ -10,14 +10,14 @@ ghost use Rattle.packed_readings.specs.Leaves.{IsLeafOf, leaf_from};
 ghost use Rattle.packed_readings.specs.Outcome.{IsBit, IsField, IsReading, IsSmall, bit_from, field_from, small_from};
 ghost use Rattle.std.specs.Prelude.{ℕ, Bool, List, length, true};
 
-/// Bits, numbers of some bits and small numbers are read as they stand.
+/// Bits, numbers of some bits and small numbers are read exactly.
 pub fn field_laws()
     ensures bit { IsReading IsBit bit_from }
     ensures field { (n : ℕ) → IsReading (IsField n) (field_from n) }
     ensures small { (e : Refusal) → IsReading IsSmall (small_from e) }
 {}
 
-/// Numbers of items are read as they stand. Items after their number come part by part, and what SIZE tells is before
+/// Numbers of items are read exactly. Items after their number come part by part, and the bits of a size come before
 /// them.
 pub fn count_laws()
     ensures count { (full : Bool) → IsReading (IsCount full) (count_from full) }
@@ -33,12 +33,12 @@ pub fn count_laws()
         → Sized c.visible xs b × IsAllowedSize c (length xs) }
 {}
 
-/// Octets after their number, as those of an open type, are read as they stand.
+/// Octets after their number, such as those of an open type, are read exactly.
 pub fn octets_laws()
     ensures { IsReading CountedOctets octets_from }
 {}
 
-/// A value of a kind that holds no others is read as it stands, if the kind's constraints allow it.
+/// A value of a kind that holds no others is read exactly, if the kind's constraints allow it.
 pub fn leaf_laws()
     ensures { (s : List Resolved) (k : Kind) → IsSound s k → IsReading (IsLeafOf k) (leaf_from k) }
 {}

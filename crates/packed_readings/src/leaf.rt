@@ -193,13 +193,13 @@ fn as_restricted(
     }
 }
 
-/// Takes a value of a kind that holds no others (X.691, 12 to 14, 16 to 18, 24, 25 and 30). What the kind keeps is what
-/// it keeps in a schema. Memory grows with what is read; only the characters of an alphabet of one take no bits.
+/// Takes a value of a kind that holds no others (X.691, 12 to 14, 16 to 18, 24, 25 and 30). The kind must be one that a
+/// schema can have. Memory grows with what is read; only the characters of an alphabet of one take no bits.
 ///
-/// The value is one that the kind's constraints allow. A refusal is the first fault from the front, and the cursor is
-/// at its place: `Truncated` where the bits end before; `NotCanonical`, `Outside`, `UnknownEnumeration`, `IntegerLimit`
-/// and `OidLimit` as the functions of each kind say. `Outside`: the kind holds others. `Memory`: more memory was asked
-/// for and refused, and the cursor may have moved on.
+/// The value is one that the kind's constraints allow. A refusal is the first fault, and the cursor is at its place.
+/// `Truncated`: the bits end before. `NotCanonical`, `Outside`, `UnknownEnumeration`, `IntegerLimit` and `OidLimit`
+/// come as the functions of each kind say. `Outside` comes also if the kind holds others. `Memory`: there is not enough
+/// memory; the cursor may have moved on.
 pub fn read_leaf(alloc: Global, core: &Core, bits: &mut Bits<'_>) -> Result<Value, PackedFault>
     requires { (s : List Resolved) × IsSound s (kind_of core.now) }
     ensures ok { IfOk result

@@ -1,4 +1,4 @@
-//! What the front of some bits is read as, in the packed encodings: numbers of items, octets after their number, and
+//! What is read from the start of some bits, in the packed encodings: numbers of items, octets after their number, and
 //! values of the kinds that hold no others. Each function of `specs` computes what is found, or the first fault.
 #![tactic(auto)]
 

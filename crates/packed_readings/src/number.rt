@@ -9,8 +9,8 @@ ghost use Rattle.std.specs.Prelude.{◌≡◌, ◌<◌, ◌≤◌, ◌^◌, ◌�
 use crate::character::are_octets;
 use crate::refusal::Refusal;
 
-/// The number that octets are in two's complement, in the fewest octets. `Outside`: there are none. `NotCanonical`:
-/// fewer are enough. `IntegerLimit`: the number is none from -2^127 to 2^127 - 1.
+/// The number that octets encode in two's complement, if no fewer octets are enough. `Outside`: there are no octets.
+/// `NotCanonical`: fewer are enough. `IntegerLimit`: the number is outside the range from -2^127 to 2^127 - 1.
 pub(crate) fn signed(octets: &[u8]) -> Result<i128, Refusal>
     ensures ok { IfOk result (λ z. limited (signed_number octets.now) ≡ good z) }
     ensures err { IfErr result (λ e. limited (signed_number octets.now) ≡ bad e) }
@@ -28,7 +28,7 @@ pub(crate) fn signed(octets: &[u8]) -> Result<i128, Refusal>
     Ok(number_of(octets))
 }
 
-/// Whether there are octets, the first nine bits of which aren't all alike.
+/// Whether there are octets whose first nine bits aren't all alike.
 fn is_shortest(octets: &[u8]) -> bool
     ensures { IsTrue result ↔ IsShort octets.now }
 {
@@ -44,7 +44,7 @@ fn is_shortest(octets: &[u8]) -> bool
     *first < 255 || *second < 128
 }
 
-/// The number that octets are in two's complement.
+/// The number that octets encode in two's complement.
 fn number_of(octets: &[u8]) -> i128
     requires short { IsShort octets.now }
     requires few { length octets.now ≤ 16 }
@@ -58,7 +58,7 @@ fn number_of(octets: &[u8]) -> i128
     }
 }
 
-/// The number itself.
+/// The number itself, with a sign.
 fn not_negative(number: u128) -> i128
     requires { number < 2 ^ 127 }
     ensures { result ≡ pos number }
@@ -66,7 +66,7 @@ fn not_negative(number: u128) -> i128
     number as i128
 }
 
-/// One less than the negated number.
+/// The negated number, less one.
 fn negative(number: u128) -> i128
     requires { number < 2 ^ 127 }
     ensures { result ≡ negsuc number }
@@ -74,7 +74,7 @@ fn negative(number: u128) -> i128
     -1 - number as i128
 }
 
-/// What octets are worth after some that are worth `high`.
+/// The number that `high` and the octets after it are, in base 256.
 #[tactic(auto, using(crate::proofs::Shortest::worth_fits, crate::proofs::Shortest::worth_small, crate::proofs::Shortest::worth_step, crate::proofs::Shortest::worth_none))]
 fn worth(octets: &[u8], high: u128) -> u128
     requires { number_from_digits_after 256 high octets.now < 2 ^ 128 }
@@ -86,7 +86,7 @@ fn worth(octets: &[u8], high: u128) -> u128
     worth(others, high * 256 + *octet as u128)
 }
 
-/// The same of the octets with each bit turned.
+/// The number that `high` and the octets after it, each bit of these inverted, are in base 256.
 #[tactic(auto, using(crate::proofs::Shortest::turned_fits, crate::proofs::Shortest::turned_small, crate::proofs::Shortest::turned_step, crate::proofs::Shortest::turned_none))]
 fn turned_worth(octets: &[u8], high: u128) -> u128
     requires { turned_after high octets.now < 2 ^ 128 }
@@ -111,8 +111,8 @@ fn has_zero_first(octets: &[u8]) -> bool
     *first == 0
 }
 
-/// The number without a sign that octets are, in the fewest octets; None where it is 2^128 or greater. `Outside`: there
-/// are none. `NotCanonical`: fewer are enough.
+/// The number without a sign that octets encode, if no fewer octets are enough; None if it is 2^128 or greater.
+/// `Outside`: there are no octets. `NotCanonical`: fewer are enough.
 pub(crate) fn unsigned(octets: &[u8]) -> Result<Option<u128>, Refusal>
     ensures some { IfOk result (λ o. IfSome o (λ n. unsigned_number octets.now ≡ good n)) }
     ensures none { IfOk result (λ o. IfNone o ((n : ℕ) × (2 ^ 128 ≤ n) × (unsigned_number octets.now ≡ good n))) }

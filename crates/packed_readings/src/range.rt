@@ -48,7 +48,7 @@ fn is_in_range(range: &Range, number: i128) -> bool
     is_from(range.least, number) && is_to(range.greatest, number)
 }
 
-/// Whether the number is in one of the ranges, where these ascend. Of others it may answer false.
+/// Whether the number is in one of some ranges that ascend. In other ranges, the number may be missed.
 fn finds_range(ranges: &[Range], number: i128) -> bool
     ensures { IsTrue result → IsInSome number (map range_of ranges.now) }
 {
@@ -74,7 +74,7 @@ fn is_in_some(ranges: &[Range], number: i128) -> bool
     false
 }
 
-/// Whether one of the ranges has the number. Where they ascend, only a number that none has is looked for in each.
+/// Whether one of the ranges has the number. A binary search comes first; all ranges are tried only if it fails.
 fn is_among_ranges(ranges: &[Range], number: i128) -> bool
     ensures { IsTrue result ↔ IsInSome number (map range_of ranges.now) }
 {

@@ -1,4 +1,4 @@
-//! Why bits are not read.
+//! Why bits can't be read.
 
 ghost use Rattle.packed_readings.specs.declared.refusal.PackedFault.TheVariants.{Memory};
 ghost use Rattle.std.specs.Prelude.{◌≡◌};
@@ -6,50 +6,50 @@ ghost use Rattle.std.specs.Prelude.{◌≡◌};
 use std::alloc::{AllocError, AllocFailed};
 use thiserror::Error;
 
-/// Why bits are not read: a fault of the bits, by their first one.
+/// Why bits can't be read: the first fault in them.
 #[derive(Clone, Copy, Debug, PartialEq, Eq, Error)]
 pub enum Refusal {
     /// The bits end within what is read.
     #[error("90 Truncated")]
     Truncated,
-    /// Another form than the one that a canonical encoding has.
+    /// The bits have another form than that of a canonical encoding.
     #[error("91 NotCanonical")]
     NotCanonical,
-    /// A number, a size or an index out of bounds, or contents that are no value of the kind.
+    /// A number, a size or an index is out of bounds, or contents are no value of the kind.
     #[error("92 OutsideConstraint")]
     Outside,
-    /// The index of an alternative after the marker that the type lacks.
+    /// The type lacks the alternative with this index after the marker.
     #[error("93 UnknownAlternative")]
     UnknownAlternative,
-    /// The index of an item after the marker that the type lacks.
+    /// The type lacks the item with this index after the marker.
     #[error("93 UnknownEnumeration")]
     UnknownEnumeration,
-    /// A bit 1 among those that fill an octet, or an octet too many.
+    /// A bit that fills an octet is 1, or there is an octet too many.
     #[error("94 Padding")]
     Padding,
-    /// More levels of values than the limit.
+    /// The levels of values pass the limit.
     #[error("95 TooDeep")]
     TooDeep,
-    /// More than 64 additions.
+    /// There are more than 64 additions.
     #[error("97 TooManyAdditions")]
     TooManyAdditions,
-    /// A number that is none from -2^127 to 2^127 - 1.
+    /// A number is outside the range from -2^127 to 2^127 - 1.
     #[error("2 Limit(Integer)")]
     IntegerLimit,
-    /// More than 64 numbers, or one that is 2^64 or greater.
+    /// There are more than 64 numbers, or one is 2^64 or greater.
     #[error("2 Limit(Oid)")]
     OidLimit,
-    /// More values than the limit.
+    /// The number of values passes the limit.
     #[error("2 Limit(Nodes)")]
     NodesLimit,
 }
 
-/// Why a value is not read. `Memory`: more memory was asked for and refused.
+/// Why a value can't be read. `Memory`: there is not enough memory.
 #[derive(Clone, Copy, Debug, PartialEq, Eq, Error)]
 pub enum PackedFault {
     #[error("1 Memory")]
     Memory,
-    /// A fault of the bits. The cursor that they were read from is at its place.
+    /// The bits have a fault. The cursor that they were read from is at the place of the fault.
     #[error("{0}")]
     Refused(Refusal),
 }

@@ -1,4 +1,4 @@
-//! Numbers of items as SIZE bounds them (X.691, 11.9.4, 16.6, 17.3 and 20.4).
+//! Numbers of items in the form that SIZE gives them (X.691, 11.9.4, 16.6, 17.3 and 20.4).
 
 ghost use Rattle.asn_base.specs.Schemas.{AreBounds, IsSize};
 ghost use Rattle.asn_base.specs.Seen.{constraint_of};
@@ -15,17 +15,17 @@ use crate::width::fewest;
 use asn_base::constraint::Constraint;
 use bits::cursor::Bits;
 
-/// What SIZE tells before items: so many come at once; or they come after their number, which is outside the root of
-/// SIZE or not.
+/// How items follow their size: this many come at once; or they come after their number, and the truth value says
+/// whether that number is outside the root of SIZE.
 #[derive(Clone, Copy, Debug, PartialEq, Eq)]
 pub enum Sizing {
     AtOnce(usize),
     Counted(bool),
 }
 
-/// Why so many items are refused that were told as outside the root of SIZE, or as a number of the root; None where
-/// they aren't. `NotCanonical`: the number is one of the root, and is given as outside. `Outside`: SIZE doesn't allow
-/// it, or it is outside the root, and is given as one of it.
+/// Why `count` items are refused that are given as a number outside the root of SIZE, or as one of it; None if they
+/// aren't refused. `NotCanonical`: the number is one of the root, and is given as outside. `Outside`: SIZE doesn't
+/// allow it, or it is outside the root, and is given as one of it.
 pub fn size_fault(constraint: &Constraint, outside: bool, count: u128) -> Option<Refusal>
     requires { count < 2 ^ 127 }
     ensures { result ≡ size_fault (constraint_of constraint.now) outside count }
@@ -46,7 +46,7 @@ pub fn size_fault(constraint: &Constraint, outside: bool, count: u128) -> Option
     Some(Refusal::Outside)
 }
 
-/// The size that is `over` more than the least one, where there are so many sizes above that.
+/// The size that is `over` above the least one, if `over` is at most `above`.
 fn size_over(
     constraint: &Constraint,
     least: usize,
@@ -99,7 +99,7 @@ fn read_narrow(
     }
 }
 
-/// Takes what the root of SIZE tells before items.
+/// Takes the size of items of the root of SIZE, as far as it comes before the items.
 fn read_root_size(constraint: &Constraint, bits: &mut Bits<'_>) -> Result<Sizing, Refusal>
     requires { AreBounds IsSize (constraint_of constraint.now) }
     ensures { root_size (constraint_of constraint.now)
@@ -118,10 +118,9 @@ fn read_root_size(constraint: &Constraint, bits: &mut Bits<'_>) -> Result<Sizing
     read_narrow(constraint, least as usize, greatest as usize, bits)
 }
 
-/// Takes what SIZE tells before items. What the constraint keeps is what it keeps in a schema.
+/// Takes the size of items, as far as it comes before the items. The constraint must be one that a schema can have.
 ///
-/// `Outside`: the number that is sent is none that SIZE allows. No bit of it is taken then. `Truncated`: the bits end
-/// before.
+/// `Outside`: SIZE doesn't allow the number that is sent. No bit of it is taken then. `Truncated`: the bits end before.
 pub fn read_size(constraint: &Constraint, bits: &mut Bits<'_>) -> Result<Sizing, Refusal>
     requires { AreBounds IsSize (constraint_of constraint.now) }
     ensures { size_from (constraint_of constraint.now) (bits_left bits.old) ≡ outcome result (bits_left bits.new) }

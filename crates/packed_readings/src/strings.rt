@@ -23,7 +23,7 @@ pub(crate) enum Form<'a> {
     Characters(&'a [u8]),
 }
 
-/// Takes so many octets.
+/// Takes `count` octets.
 fn read_block(count: usize, bits: &mut Bits<'_>, out: &mut Vec<u8>) -> Result<(), PackedFault>
     ensures ok { OnOk result
         (Gained (several_octets count (bits_left bits.old)) out.old.items out.new.items (bits_left bits.new)) }
@@ -41,7 +41,7 @@ fn read_block(count: usize, bits: &mut Bits<'_>, out: &mut Vec<u8>) -> Result<()
     }
 }
 
-/// Takes so many items.
+/// Takes `count` items.
 fn read_items(
     form: &Form<'_>,
     count: usize,
@@ -58,21 +58,23 @@ fn read_items(
     }
 }
 
-/// What the number of all items is judged by: any may be; or SIZE, where it is given as outside its root or not.
+/// The test that the number of all items must pass. `Any`: every number passes. `Sized`: SIZE must allow the number;
+/// the truth value says whether it is given as one outside the root.
 #[derive(Clone, Copy)]
 pub(crate) enum Total<'a> {
     Any,
     Sized(&'a Constraint, bool),
 }
 
-/// What follows the items of one number: nothing, or those of a further one, which may be a part or not.
+/// What follows the items of one number: nothing, or the items of a further number. `More` is true if that number may
+/// be a part.
 #[derive(Clone, Copy)]
 enum Next {
     Nothing,
     More(bool),
 }
 
-/// Why so many items are refused.
+/// Why `count` items are refused, or None.
 fn total_fault(total: &Total<'_>, count: u128) -> Option<Refusal>
     requires { count < 2 ^ 127 }
     ensures { result ≡ test_of total.now count }
@@ -83,7 +85,7 @@ fn total_fault(total: &Total<'_>, count: u128) -> Option<Refusal>
     }
 }
 
-/// Takes the number of the next items, where so many were before.
+/// Takes the number of the next items, after `before` items.
 pub(crate) fn read_total(
     total: &Total<'_>,
     before: u128,
@@ -109,7 +111,7 @@ pub(crate) fn read_total(
     }
 }
 
-/// The number, if that of all items is good.
+/// The number, if that of all items passes the test.
 fn judged(total: &Total<'_>, before: u128, count: Count) -> Result<Count, Refusal>
     requires before { before ≤ 2 ^ 100 }
     requires few { IsFew count }
@@ -182,7 +184,7 @@ pub(crate) fn read_counted(
     Ok(out)
 }
 
-/// Takes items as SIZE bounds their number.
+/// Takes items whose number SIZE bounds.
 pub(crate) fn read_sized(
     alloc: Global,
     constraint: &Constraint,
@@ -213,11 +215,11 @@ pub(crate) fn read_sized(
     }
 }
 
-/// Takes octets after their number (X.691, 11.9), as those of an open type. Memory grows by as many octets as are
+/// Takes octets after their number (X.691, 11.9), such as those of an open type. Memory grows by as many octets as are
 /// there.
 ///
-/// The faults are those of `read_count`, and `Truncated` where fewer octets are there than are said. The cursor is then
-/// at the place of the fault. `Memory`: more memory was asked for and refused, and the cursor may have moved on.
+/// The faults are those of `read_count`, and `Truncated` if there are fewer octets than the number promises. The cursor
+/// is then at the place of the fault. `Memory`: there is not enough memory; the cursor may have moved on.
 pub fn read_octets(alloc: Global, bits: &mut Bits<'_>) -> Result<Vec<u8>, PackedFault>
     ensures ok { IfOk result (λ v. octets_from (bits_left bits.old) ≡ found v.items (bits_left bits.new)) }
     ensures err { IfErr result (λ e. IsFault (octets_from (bits_left bits.old)) e (bits_left bits.new)) }
@@ -225,8 +227,8 @@ pub fn read_octets(alloc: Global, bits: &mut Bits<'_>) -> Result<Vec<u8>, Packed
     read_counted(alloc, &Total::Any, &Form::Octets, bits)
 }
 
-/// Takes an OCTET STRING of as many octets as SIZE bounds (X.691, 17). The faults are those of `read_octets`, of
-/// `read_size` and of `size_fault`.
+/// Takes an OCTET STRING of as many octets as SIZE bounds (X.691, 17). The faults are those of `read_octets`,
+/// `read_size` and `size_fault`.
 pub fn read_octet_string(
     alloc: Global,
     constraint: &Constraint,

@@ -17,26 +17,26 @@ use asn_base::constraint::Constraint;
 use bits::cursor::Bits;
 use std::alloc::Global;
 
-/// How many characters it has.
+/// How many characters a text has.
 fn character_count(text: &str) -> usize
     ensures { result ≡ length (chars text.now) }
 {
     text.chars().count()
 }
 
-/// Whether it has as many characters as are allowed.
+/// Whether SIZE allows the number of characters of a text.
 fn has_allowed_length(constraint: &Constraint, text: &str) -> bool
     ensures { result ≡ is_allowed (constraint_of constraint.now) (pos (length (chars text.now))) }
 {
     is_allowed(constraint, character_count(text) as i128)
 }
 
-/// It is UTF-8.
+/// A text is UTF-8.
 fn is_text(text: &str)
     ensures { IsUtf8 text.now }
 {}
 
-/// The text that octets are, if they are one.
+/// The text of octets, or None if they are not UTF-8.
 fn text_of(octets: Vec<u8>) -> Option<String>
     ensures some { IfSome result (λ s. (string_bytes s ≡ octets.items) × IsUtf8 octets.items) }
     ensures none { IfNone result (IsUtf8 octets.items → ⊥) }
@@ -50,7 +50,7 @@ fn text_of(octets: Vec<u8>) -> Option<String>
     }
 }
 
-/// The text that octets are, where it has as many characters as are allowed.
+/// The text of octets, if SIZE allows its number of characters.
 fn utf8(constraint: &Constraint, octets: Vec<u8>) -> Result<String, Refusal>
     ensures ok { IfOk result
         (λ s. utf8_text (constraint_of constraint.now) octets.items ≡ good (text (string_bytes s))) }
@@ -68,9 +68,9 @@ fn utf8(constraint: &Constraint, octets: Vec<u8>) -> Result<String, Refusal>
 
 /// Takes a UTF8String (X.691, 30.6): its octets after their number, whatever its SIZE.
 ///
-/// `Outside`: the octets are no UTF-8, or SIZE doesn't allow so many characters. Further faults are those of
-/// `read_octets`. The cursor is then at the place of the fault. `Memory`: more memory was asked for and refused, and
-/// the cursor may have moved on.
+/// `Outside`: the octets are no UTF-8, or SIZE doesn't allow this number of characters. Further faults are those of
+/// `read_octets`. The cursor is then at the place of the fault. `Memory`: there is not enough memory; the cursor may
+/// have moved on.
 pub fn read_utf8_string(
     alloc: Global,
     constraint: &Constraint,
@@ -97,7 +97,7 @@ pub fn read_utf8_string(
     }
 }
 
-/// The text that codes below 128 are.
+/// The text of codes below 128.
 fn ascii(codes: Vec<u8>) -> String
     requires { AllByRecursion (λ c. c < 128) codes.items }
     ensures { string_bytes result ≡ codes.items }
@@ -108,7 +108,7 @@ fn ascii(codes: Vec<u8>) -> String
 /// Takes a string of an alphabet, whose codes are in order (X.691, 30.5), with as many characters as SIZE bounds.
 ///
 /// `Outside`: no character has the code or the place. Further faults are those of `read_octet_string`. The cursor is
-/// then at the place of the fault. `Memory`: more memory was asked for and refused, and the cursor may have moved on.
+/// then at the place of the fault. `Memory`: there is not enough memory; the cursor may have moved on.
 pub fn read_restricted_string(
     alloc: Global,
     alphabet: &[u8],

@@ -4,7 +4,7 @@ ghost use Rattle.packed_encodings.specs.Leaves.{place_width};
 ghost use Rattle.packed_encodings.specs.Lengths.{fewest_bits};
 ghost use Rattle.std.specs.Prelude.{◌≡◌, ◌≤◌};
 
-/// The fewest bits for the numbers from 0 to this one, at most 128.
+/// The fewest bits in which each number from 0 to `greatest` can be written, at most 128.
 #[tactic(auto, using(crate::proofs::Widths::halved))]
 pub(crate) fn fewest(greatest: u128) -> usize
     ensures is { result ≡ fewest_bits greatest }
@@ -17,7 +17,7 @@ pub(crate) fn fewest(greatest: u128) -> usize
     }
 }
 
-/// The bits of a place among so many, at most 64.
+/// How many bits the place of one of `count` items takes, at most 64.
 #[tactic(auto, using(crate::proofs::Widths::few_places))]
 pub(crate) fn width_of_place(count: usize) -> usize
     ensures is { result ≡ place_width count }

@@ -18,7 +18,7 @@ abbrev pub nibbles : List ℕ → List ℕ
 nibbles [] = []
 nibbles (b ∷ o) = b / 16 ∷ b % 16 ∷ nibbles o
 
--- one number in braces is an item, more are numbers
+-- one number in braces is a value, more are numbers
 abbrev pub numbers_tree : List ℕ → Tree
 numbers_tree [] = nothing
 numbers_tree (n ∷ []) = items (trees (number (pos n) ∷ []))

@@ -24,7 +24,7 @@ pub fn printed_has_tokens()
         → (ts : List Token) × IsLexed (print s t v) ts }
 {}
 
-/// The tokens of a printed text are read as the value's tree, with nothing left.
+/// The tokens of a printed text are read as the value's tree, and none are left over.
 pub fn printed_is_read_back()
     ensures { (s : List Resolved) (t : ℕ) (v : AbstractValue) (ts : List Token)
         → IsSchema s

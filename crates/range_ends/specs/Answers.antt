@@ -1,4 +1,4 @@
--- What is answered of ends and ranges that are read in a module, where a type of kind k is constrained.
+-- What is returned for ends and ranges that are read in a module, for a constraint on a type of kind k.
 use Rattle.std.specs.Prelude.{◌≡◌, ◌↔◌, ℤ, List}
 use Rattle.asn_base.specs.Schemas.{IsNumber, IsSize}
 use Rattle.asn_base.specs.Types.{Range}
@@ -24,12 +24,12 @@ pub record StandsForOnly (p : Program) (k : Kind) (M : Name) (n : Tree) (z : ℤ
   pub stands : StandsFor p k M n z
   pub only_one : (w : ℤ) → StandsFor p k M n w → w ≡ z
 
--- why it stands for none
+-- why the notation stands for no number
 abbrev pub IsEndFault : Program → Kind → Name → Tree → EndFault → Type 0
 IsEndFault p k M n ends.Lost = IsLost p k M n
 IsEndFault p k M n (ends.Circular v) = ComesRound p k M n v
 
--- what the ends of a range may be
+-- the numbers that may be ends of a range
 abbrev pub IsOf : Counted → ℤ → Type 0
 IsOf Numbers z = IsNumber z
 IsOf Sizes z = IsSize z
@@ -45,13 +45,13 @@ pub record AreRangesOf (p : Program) (k : Kind) (M : Name) (of : Counted) (rs : 
   pub ranges : AreRanges p k M (IsOf of) rs
   pub same : (z : ℤ) → (IsInSome z ss ↔ (IsOf of z × IsWithinOne p k M rs z))
 
--- why there is none
+-- why the range has no meaning
 abbrev pub IsRangeFault : Program → Kind → Name → Counted → RangeTree → RangeFault → Type 0
 IsRangeFault p k M of r (faults.NoEnd at) = HasNoEnd p k M (IsOf of) r
 IsRangeFault p k M of r (faults.Reversed at) = IsReversed p k M (IsOf of) r
 IsRangeFault p k M of r (faults.Circular v) = GoesRound p k M v r
 
--- memory ran out, or one of the ranges has none
+-- memory ran out, or one of the ranges has no meaning
 abbrev pub AreRangesWrong : Program → Kind → Name → Counted → List RangeTree → RangesFault → Type 0
 AreRangesWrong p k M of rs wrong.Memory = Unit {0}
 AreRangesWrong p k M of rs (wrong.At f) = (r : RangeTree) × StandsIn rs r × IsRangeFault p k M of r f

@@ -9,8 +9,9 @@ use Rattle.names.specs.Sources.{Value}
 use Rattle.type_table.specs.Table.{Type', Kind, simple, IsCore}
 use Rattle.resolve.specs.Program.{Program, IsAssignment}
 
--- type i is of this kind behind its references and tags
+-- type i of the table is of this kind, once its references and tags are removed
 pub record IsOfKind (ts : List Type') (i : ℕ) (k : Kind) : Type 0 where
+  -- the number of the type that its references and tags lead to
   pub core : ℕ
   pub type : Type'
   pub leads : IsCore ts i core
@@ -22,42 +23,49 @@ pub record IsValueAt (p : Program) (i : ℕ) (M : Name) (n : Tree) : Type 0 wher
   pub value : Value
   pub there : slice_get p.values i ≡ Some value
   pub notation : value.notation ≡ n
+  -- the name that the value is assigned to, in module M
   pub assigns : Name
   pub stands : IsAssignment p value.assignment M assigns
 
--- the number that a name without a module's name before it has in the type
+-- the number that a name without a module's name before it has in a type of this kind (X.680, clause 19.9)
 abbrev pub named : Kind → Option Name → Name → Option ℤ
 named (simple (an_integer ns)) None x = under x ns
 named k q x = None
 
--- the number that a notation tells by itself: it is written, or is the name of a number of the type
+-- the number that a notation is by itself, for a constrained type of kind k: a written number, or a named number of
+-- that type
 abbrev pub told : Kind → Tree → Option ℤ
 told k (number z) = Some z
 told k (reference q x) = named k q x
 told k n = None
 
--- the notation, read in module M, is a name that stands for value i. A number of the type goes before a value.
+-- the notation, read in module M, is a name that means value i. A named number of the type takes precedence over a
+-- value.
 abbrev pub Means : Program → Kind → Name → Tree → ℕ → Type 0
 Means p k M (reference q x) i = (named k q x ≡ None) × Refers p.modules M q x (assigned.Value i)
 Means p k M n i = ⊥
 
--- notation n, read in module M, is notation l, read in module K, or stands for a value whose notation leads there
+-- notation n, read in module M, is notation l, read in module K, or means a value whose notation leads to l
 pub data LeadsTo (p : Program) (k : Kind) : (M : Name) (n : Tree) (K : Name) (l : Tree) → Type 0 where
+  -- the notation itself
   there : {M : Name} {n : Tree} → LeadsTo p k M n M n
+  -- a name that means value i, whose notation, read in the module of its assignment, leads to l
   onward : {M N K : Name} {n m l : Tree} (i : ℕ) →
       Means p k M n i →
       IsValueAt p i N m →
       LeadsTo p k N m K l →
       LeadsTo p k M n K l
 
--- Notation n, read in module M where a type of kind k is constrained, stands for number z: it leads to a notation that
--- tells the number.
+-- Notation n, read in module M in a constraint on a type of kind k, stands for number z: it leads to a notation that is
+-- the number by itself. At each step a name is first a named number of the constrained type, also where the value that
+-- is named is of another type.
 pub record StandsFor (p : Program) (k : Kind) (M : Name) (n : Tree) (z : ℤ) : Type 0 where
   pub within : Name
   pub notation : Tree
   pub leads : LeadsTo p k M n within notation
   pub tells : told k notation ≡ Some z
 
+-- the end of a range, in the form of the notation of a value
 abbrev pub notation_of : EndTree → Tree
 notation_of (number_end z) = number z
 notation_of (name_end q x) = reference q x
@@ -68,7 +76,7 @@ EndIs p k M e z = StandsFor p k M (notation_of e) z
 
 -- ---- what is wrong
 
--- the notation stands for no number: it leads to one that tells none and stands for no value
+-- the notation stands for no number: it leads to a notation that is no number by itself and means no value
 pub record IsLost (p : Program) (k : Kind) (M : Name) (n : Tree) : Type 0 where
   pub nothing : (z : ℤ) → StandsFor p k M n z → ⊥
   pub within : Name

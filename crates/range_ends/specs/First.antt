@@ -1,6 +1,6 @@
 -- Which of several faults of ranges is reported, and where in the text: that of the first range at fault. In a range
--- the lower end goes before the upper one, and both before their order. Ends are read in module M, where a type of kind
--- k is constrained.
+-- the lower end goes before the upper one, and both before their order. Ends are read in module M, in a constraint on a
+-- type of kind k.
 use Rattle.std.specs.Prelude.{◌≡◌, ◌⊎◌, ◌<◌, ℕ, ℤ, List, Some, None, map, slice_get}
 use Rattle.trees.specs.declared.constraint.EndSyntax.{EndSyntax}
 use Rattle.trees.specs.declared.constraint.EndSyntax.TheVariants as written
@@ -21,12 +21,12 @@ use Rattle.range_ends.specs.declared.ranges.RangeFault.TheVariants as faults
 use Rattle.range_ends.specs.declared.ranges.RangesFault.{RangesFault}
 use Rattle.range_ends.specs.declared.ranges.RangesFault.TheVariants as wrong
 
--- where an end is written: the place of its number, or of its name
+-- the offset of an end in the text: that of its number or of its name
 abbrev pub end_place : EndSyntax → ℕ
 end_place (written.Number n) = n.at
 end_place (written.Reference r) = r.at
 
--- the end stands for no number, or for one that may not be an end: this is reported at the end
+-- the end stands for no number, or for one that may not be an end; the fault has the offset of the end
 abbrev pub IsEndWrong : Program → Kind → Name → Counted → EndSyntax → RangeFault → Type 0
 IsEndWrong p k M of e (faults.NoEnd at) =
     (at ≡ end_place e)
@@ -34,7 +34,7 @@ IsEndWrong p k M of e (faults.NoEnd at) =
 IsEndWrong p k M of e (faults.Circular v) = ComesRound p k M (notation_of (end_of e)) v
 IsEndWrong p k M of e (faults.Reversed at) = ⊥
 
--- the lower end is above the upper one: this is reported at the lower end
+-- the lower end is above the upper one; the fault has the offset of the lower end
 abbrev pub IsTurnedAt : Program → Kind → Name → Counted → EndSyntax → EndSyntax → RangeFault → Type 0
 IsTurnedAt p k M of a b (faults.Reversed at) =
     (at ≡ end_place a) × IsReversed p k M (IsOf of) (between (Some (end_of a)) (Some (end_of b)))
@@ -73,7 +73,7 @@ pub record IsFirstWrong (p : Program) (k : Kind) (M : Name) (of : Counted) (rs :
       slice_get (map range_of rs) n ≡ Some r →
       IsRange p k M (IsOf of) r
 
--- that fault, or that there was not enough memory
+-- the first fault of ranges, or that there was not enough memory
 abbrev pub IsFirst : Program → Kind → Name → Counted → List RangeSyntax → RangesFault → Type 0
 IsFirst p k M of rs wrong.Memory = Unit {0}
 IsFirst p k M of rs (wrong.At f) = IsFirstWrong p k M of rs f
@@ -82,7 +82,7 @@ IsFirst p k M of rs (wrong.At f) = IsFirstWrong p k M of rs f
 abbrev pub HaveOneMeaning : Program → Type 0
 HaveOneMeaning p = (M x : Name) (a b : Assigned) → Meaning p.modules M x a → Meaning p.modules M x b → a ≡ b
 
--- both report the same: of a circle of values any one may be named
+-- both faults report the same: any value of a circle may be named
 abbrev pub TellsSame : RangeFault → RangeFault → Type 0
 TellsSame (faults.NoEnd m) (faults.NoEnd n) = m ≡ n
 TellsSame (faults.Reversed m) (faults.Reversed n) = m ≡ n

@@ -1,7 +1,6 @@
--- What has to be believed: the numbers that ends stand for (`Ends`), the numbers that ranges allow (`Ranges`), the
--- characters that texts allow (`Characters`), what is answered of ranges (`Answers`), and which fault is told first and
--- where (`First`).
--- What stands in `proving` only contracts inside the crate and proofs speak of.
+-- What a reader has to believe: the numbers that ends stand for (`Ends`), the numbers that ranges allow (`Ranges`), and
+-- the characters that texts allow (`Characters`). What is returned for ranges (`Answers`), and which fault is reported
+-- first and where (`First`). Only contracts inside the crate, and proofs, speak of `proving`.
 pub mod Ends
 pub mod Ranges
 pub mod Characters

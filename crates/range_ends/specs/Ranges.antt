@@ -1,5 +1,5 @@
--- The numbers that ranges allow (X.680, clauses 50.1, 51.2, 51.4 and 51.5). Ends are read in module M, where a type of
--- kind k is constrained.
+-- The numbers that ranges allow (X.680, clauses 50.1, 51.2, 51.4 and 51.5). Ends are read in module M, in a constraint
+-- on a type of kind k.
 use Rattle.std.specs.Prelude.{◌≡◌, ◌⊎◌, ℕ, ℤ, ◌≤ℤ◌, ◌<ℤ◌, List, [], ◌∷◌, Option, Some, None}
 use Rattle.std.specs.List.{AllByRecursion}
 use Rattle.trees.specs.Values.{Name}
@@ -28,16 +28,16 @@ abbrev pub IsWithinOne : Program → Kind → Name → List RangeTree → ℤ �
 IsWithinOne p k M [] z = ⊥
 IsWithinOne p k M (r ∷ rs) z = IsWithin p k M r z ⊎ IsWithinOne p k M rs z
 
--- ---- what ranges need. P is what holds of the numbers that may be ends.
+-- ---- what ranges need; P is true of the numbers that may be ends
 
--- the end stands for one number, of which P holds
+-- the end stands for exactly one number, for which P is true
 pub record IsEnd (p : Program) (k : Kind) (M : Name) (P : ℤ → Type 0) (e : EndTree) : Type 0 where
   pub number : ℤ
   pub stands : EndIs p k M e number
   pub only_one : (z : ℤ) → EndIs p k M e z → z ≡ number
   pub such : P number
 
--- so does it, if it is there
+-- the end, if it is not MIN or MAX, stands for exactly one number, for which P is true
 abbrev pub IsEndIfAny : Program → Kind → Name → (ℤ → Type 0) → Option EndTree → Type 0
 IsEndIfAny p k M P None = Unit {0}
 IsEndIfAny p k M P (Some e) = IsEnd p k M P e
@@ -47,22 +47,23 @@ abbrev pub AreInOrder : Program → Kind → Name → Option EndTree → Option 
 AreInOrder p k M (Some a) (Some b) = (l g : ℤ) → EndIs p k M a l → EndIs p k M b g → l ≤ℤ g
 AreInOrder p k M a b = Unit {0}
 
--- the range has the ends that it needs, in order
+-- each end of the range stands for one number, for which P is true, and the lower one is not above the upper one
 abbrev pub IsRange : Program → Kind → Name → (ℤ → Type 0) → RangeTree → Type 0
 IsRange p k M P (only e) = IsEnd p k M P e
 IsRange p k M P (between a b) = IsEndIfAny p k M P a × IsEndIfAny p k M P b × AreInOrder p k M a b
 
+-- each of these ranges has the ends that it needs, in order
 abbrev pub AreRanges : Program → Kind → Name → (ℤ → Type 0) → List RangeTree → Type 0
 AreRanges p k M P rs = AllByRecursion (IsRange p k M P) rs
 
--- ---- what is wrong with them
+-- ---- what is wrong with ranges
 
 -- e is an end of the range
 abbrev pub IsEndOf : RangeTree → EndTree → Type 0
 IsEndOf (only a) e = a ≡ e
 IsEndOf (between a b) e = (a ≡ Some e) ⊎ (b ≡ Some e)
 
--- an end of the range stands for no number, or for one of which P doesn't hold
+-- an end of the range stands for no number, or for one for which P is false
 pub record HasNoEnd (p : Program) (k : Kind) (M : Name) (P : ℤ → Type 0) (r : RangeTree) : Type 0 where
   pub end : EndTree
   pub stands : IsEndOf r end
@@ -74,7 +75,7 @@ pub record GoesRound (p : Program) (k : Kind) (M : Name) (i : ℕ) (r : RangeTre
   pub stands : IsEndOf r end
   pub round : ComesRound p k M (notation_of end) i
 
--- both ends stand for numbers of which P holds, and the lower one is the greater one
+-- both ends stand for numbers for which P is true, and the lower one is the greater one
 pub record IsReversed (p : Program) (k : Kind) (M : Name) (P : ℤ → Type 0) (r : RangeTree) : Type 0 where
   pub lower : EndTree
   pub upper : EndTree

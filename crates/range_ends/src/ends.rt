@@ -21,13 +21,13 @@ use type_table::Shape;
 /// Why an end stands for no number.
 #[derive(Clone, Copy, Debug, PartialEq, Eq)]
 pub enum EndFault {
-    /// It is a name, or leads to one, that stands for no value; or it leads to a notation that is no number.
+    /// The end is a name, or leads to one, that means no value; or it leads to a notation that is no number.
     Lost,
-    /// It leads to this value, by its number, whose notation leads back to the value itself.
+    /// The end leads to this value, by its number, whose notation leads back to the value itself.
     Circular(usize),
 }
 
-/// The number of a name in a list.
+/// The number of a name in a list, or None if the list doesn't have it.
 fn number_under(numbers: &[NamedNumber], name: &str) -> Option<i128>
     ensures { result ≡ under name.now (map number_of numbers.now) }
 {
@@ -39,7 +39,7 @@ fn number_under(numbers: &[NamedNumber], name: &str) -> Option<i128>
     None
 }
 
-/// The number that a name has in a type.
+/// The number that a name has in a type, or None if the type doesn't have it.
 fn named(shape: &Shape, reference: &Reference) -> Option<i128>
     ensures { result
         ≡ named' (kind_of shape.now) (option_map string_bytes reference.now.module) (string_bytes reference.now.name) }
@@ -52,7 +52,7 @@ fn named(shape: &Shape, reference: &Reference) -> Option<i128>
     }
 }
 
-/// The number that a notation tells by itself.
+/// The number that a notation is by itself, or None.
 fn told(shape: &Shape, notation: &ValueSyntax) -> Option<i128>
     ensures { result ≡ told' (kind_of shape.now) (tree_of notation.now) }
 {
@@ -73,8 +73,8 @@ fn is_nameless(shape: &Shape) -> bool
     }
 }
 
-/// The number that a value stands for where a type without named numbers is constrained: that which is told where the
-/// references end.
+/// The number that a value stands for, in a constraint on a type without named numbers: the number at the end of the
+/// value's references.
 fn farthest_told(
     linked: &Linked,
     behind: &[Option<usize>],
@@ -102,8 +102,8 @@ fn farthest_told(
     }
 }
 
-/// The number that a value stands for where a type of a shape is constrained: that which is told at the first named
-/// number of the type, or at the end of the references.
+/// The number that a value stands for, in a constraint on a type of a shape. It is that of the first named number of
+/// the type among the value's references, or the number at their end.
 fn first_told(
     linked: &Linked,
     behind: &[Option<usize>],
@@ -131,7 +131,7 @@ fn first_told(
     Err(EndFault::Circular(at))
 }
 
-/// The number that a value stands for where a type of a shape is constrained.
+/// The number that a value stands for, in a constraint on a type of a shape.
 fn followed(
     linked: &Linked,
     behind: &[Option<usize>],
@@ -153,7 +153,7 @@ fn followed(
     }
 }
 
-/// The number that an end of a range stands for, read in a module, where a type of a shape is constrained.
+/// The number that an end of a range stands for, read in a module, in a constraint on a type of a shape.
 pub(crate) fn end_at(
     scope: &ReferenceTable<'_>,
     shape: &Shape,

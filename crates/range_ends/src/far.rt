@@ -1,4 +1,4 @@
-//! Where the references of all values end, found by doubling the steps.
+//! The value at the end of the references of each value, found by doubling the steps.
 
 ghost use Rattle.std.specs.Prelude.{ℕ, ◌≤◌, ◌≡◌, IfOk, length, ◌+◌};
 ghost use Rattle.type_table.specs.Walks.{IsWithin};
@@ -7,7 +7,7 @@ ghost use Rattle.range_ends.specs.proving.Far.{AreFar};
 
 use std::alloc::{AllocError, Global};
 
-/// The value behind each value, or itself where it refers to none.
+/// The value that each value refers to, or the value itself if it refers to none.
 fn one_step(alloc: Global, behind: &[Option<usize>]) -> Result<Vec<usize>, AllocError>
     ensures { IfOk result (λ v. AreFar behind.now 1 v.items) }
 {
@@ -22,7 +22,7 @@ fn one_step(alloc: Global, behind: &[Option<usize>]) -> Result<Vec<usize>, Alloc
     Ok(all)
 }
 
-/// Where as many steps more lead.
+/// The values that twice as many steps lead to.
 fn twice(
     alloc: Global,
     behind: &[Option<usize>],
@@ -41,7 +41,7 @@ fn twice(
     Ok(all)
 }
 
-/// Where each value leads in as many steps as there are values, or where its references end.
+/// The value that each value leads to in as many steps as there are values, or in fewer if its references end before.
 pub(crate) fn farthest(alloc: Global, behind: &[Option<usize>]) -> Result<Vec<usize>, AllocError>
     requires within { IsWithin (listed behind.now) (length behind.now) }
     ensures { IfOk result (λ v. AreFar behind.now (length behind.now) v.items) }

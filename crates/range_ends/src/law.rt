@@ -1,4 +1,4 @@
-//! What follows of faults of ranges. A caller calls a law to know it; it takes no memory and no time.
+//! What follows for faults of ranges. A caller calls a law to know it; the call takes no memory and no time.
 
 ghost use Rattle.std.specs.Prelude.{List, map};
 ghost use Rattle.trees.specs.Constraints.{range_of};
@@ -12,7 +12,7 @@ ghost use Rattle.range_ends.specs.Ranges.{AreRanges};
 ghost use Rattle.range_ends.specs.declared.ranges.Counted.{Counted};
 ghost use Rattle.range_ends.specs.declared.ranges.RangeFault.{RangeFault};
 
-/// Ranges have one first fault at most, at one place.
+/// Ranges have at most one first fault, at one place.
 pub fn one_fault()
     ensures { (p : Program) (k : Kind) (M : Name) (of : Counted) (rs : List RangeSyntax) (f g : RangeFault) →
         HaveOneMeaning p →
@@ -21,7 +21,7 @@ pub fn one_fault()
         TellsSame f g }
 {}
 
-/// Ranges with a first fault are not what ranges have to be.
+/// Ranges with a first fault have no meaning as ranges.
 pub fn no_fault()
     ensures { (p : Program) (k : Kind) (M : Name) (of : Counted) (rs : List RangeSyntax) (f : RangeFault) →
         IsFirstWrong p k M of rs f →

@@ -30,7 +30,7 @@ pub(crate) fn notation_at(linked: &Linked, number: usize) -> (&str, &ValueSyntax
     (home.module, &value.syntax)
 }
 
-/// The value that a name stands for in a module.
+/// The value that a name means in a module, or None if it means no value.
 pub(crate) fn named_value(linked: &Linked, within: &str, reference: &Reference) -> Option<usize>
     ensures means { (j : ℕ) → (result ≡ Some j
         ↔ MeansValue linked.now within.now
@@ -45,7 +45,7 @@ pub(crate) fn named_value(linked: &Linked, within: &str, reference: &Reference) 
     }
 }
 
-/// The value that the notation of a value refers to.
+/// The value that the notation of a value refers to, or None if it refers to none.
 pub(crate) fn referred(linked: &Linked, number: usize) -> Option<usize>
     requires inside { number < length linked.now.values }
     ensures refers { (j : ℕ) → (result ≡ Some j ↔ RefersTo linked.now number j) }

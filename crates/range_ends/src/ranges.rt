@@ -15,7 +15,7 @@ use std::alloc::Global;
 use trees::{EndSyntax, RangeSyntax};
 use type_table::Shape;
 
-/// What ranges are of.
+/// What the numbers in ranges are.
 #[derive(Clone, Copy, Debug, PartialEq, Eq)]
 pub enum Counted {
     /// Numbers.
@@ -27,9 +27,9 @@ pub enum Counted {
 /// Why a range has no meaning, at a place in the text.
 #[derive(Clone, Copy, Debug, PartialEq, Eq)]
 pub enum RangeFault {
-    /// The end at the place stands for no number, or, among sizes, for one below 0.
+    /// The end at this offset stands for no number, or, among sizes, for one below 0.
     NoEnd(usize),
-    /// The lower end, at the place, is above the upper one.
+    /// The lower end, at this offset, is above the upper one.
     Reversed(usize),
     /// An end leads to this value, by its number, whose notation leads back to the value itself.
     Circular(usize),
@@ -40,11 +40,11 @@ pub enum RangeFault {
 pub enum RangesFault {
     /// There was not enough memory.
     Memory,
-    /// One of the ranges has none.
+    /// One of the ranges has no meaning.
     At(RangeFault),
 }
 
-/// Where ends of ranges stand: in a module, where a type of a shape is constrained.
+/// What ends of ranges are read by: a module, and the shape of the type that is constrained.
 #[derive(Clone, Copy)]
 pub struct Site<'a> {
     pub scope: &'a ReferenceTable<'a>,
@@ -53,7 +53,7 @@ pub struct Site<'a> {
     pub of: Counted,
 }
 
-/// Where an end is written in the text.
+/// The offset of an end in the text.
 fn place(end: &EndSyntax) -> usize
     ensures { result ≡ end_place end.now }
 {
@@ -73,7 +73,7 @@ fn may_end(of: Counted, number: i128) -> bool
     }
 }
 
-/// What stands for MIN: the least size is 0.
+/// The least number that MIN means: the least size is 0.
 fn floor_of(of: Counted) -> Option<i128>
     ensures { result ≡ floor' of }
 {
@@ -131,7 +131,7 @@ fn between(site: &Site<'_>, first: &EndSyntax, last: &EndSyntax) -> Result<Range
     })
 }
 
-/// A range in numbers.
+/// A range as numbers.
 fn range_at(site: &Site<'_>, range: &RangeSyntax) -> Result<Range, RangeFault>
     ensures found { MatchResult result
         (λ r. IsRangeOf site.now.scope.now (kind_of site.now.shape.now) site.now.within.now site.now.of
@@ -171,10 +171,11 @@ fn range_at(site: &Site<'_>, range: &RangeSyntax) -> Result<Range, RangeFault>
     }
 }
 
-/// Ranges in numbers (X.680, clauses 50.1, 51.2 and 51.4), one for each: a number is in one of them just where the
-/// ranges as they are written allow it. The fault is that of the first range at fault: of its lower end before its upper
-/// one, and of each before their order; or it reports that there was not enough memory. `NoEnd` has the place of the end,
-/// `Reversed` that of the lower end.
+/// Ranges as numbers (X.680, clauses 50.1, 51.2 and 51.4), one for each: a number is in one of them exactly if the
+/// written ranges allow it.
+///
+/// The fault is that of the first range at fault: of its lower end before its upper one, and of each before their
+/// order. `NoEnd` has the offset of the end, `Reversed` that of the lower end. `Memory`: there is not enough memory.
 pub fn ranges_at(
     alloc: Global,
     site: &Site<'_>,

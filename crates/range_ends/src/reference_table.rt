@@ -1,4 +1,4 @@
-//! A linked program, and where the references of its values lead.
+//! A linked program, and the values that the references of its values lead to.
 
 ghost use Rattle.std.specs.Prelude.{◌≡◌, IfOk, length};
 ghost use Rattle.range_ends.specs.proving.Steps.{AreReferred};
@@ -10,8 +10,8 @@ use resolve::Linked;
 use std::alloc::{AllocError, Global};
 use std::marker::Model;
 
-/// A linked program, and of each value the one that it refers to, and where its references end. Both are found once, in
-/// time as n log n for n values.
+/// A linked program, and for each value the one that it refers to, and the one at the end of its references. Both are
+/// found once, in a time that grows as n log n for n values.
 #[derive(Drop)]
 pub struct ReferenceTable<'a> {
     linked: &'a Linked,
@@ -50,7 +50,7 @@ fn referred_by_all(alloc: Global, linked: &Linked) -> Result<Vec<Option<usize>>,
 }
 
 impl<'a> ReferenceTable<'a> {
-    /// The scope of a program.
+    /// The table of a program.
     pub fn of(alloc: Global, linked: &'a Linked) -> Result<ReferenceTable<'a>, AllocError>
         ensures { IfOk result (λ s. s ≡ linked.now) }
     {
@@ -71,7 +71,7 @@ impl<'a> ReferenceTable<'a> {
         self.linked
     }
 
-    /// The value that each value refers to, and where its references end.
+    /// The value that each value refers to, and the one at the end of its references.
     pub(crate) fn ways(&self) -> (&[Option<usize>], &[usize])
         ensures referred { AreReferred self.now result.0.now }
         ensures far { AreFar result.0.now (length result.0.now) result.1.now }

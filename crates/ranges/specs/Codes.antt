@@ -2,7 +2,7 @@
 use Rattle.std.specs.Prelude.{ℕ, zero, suc, ◌==◌, ◌-◌, List, [], ◌∷◌, if◌then◌else◌}
 use Rattle.std.specs.Int.{bit_at}
 
--- of the last n codes below 128, those whose bit of the number is set, in ascending order
+-- the codes among the last n below 128 whose bit of the number is set, in ascending order
 unfoldable pub codes_from : (n bits : ℕ) → List ℕ
 codes_from zero bits = []
 codes_from (suc n) bits =

@@ -1,5 +1,5 @@
--- What has to be believed: sets of numbers and of codes. What stands in `proving` only contracts inside this crate and
--- proofs speak of.
+-- What a reader has to believe: sets of numbers and of codes. Only contracts inside this crate, and proofs, speak of
+-- `proving`.
 pub mod Numbers
 pub mod Codes
 pub mod proving

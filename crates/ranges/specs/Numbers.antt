@@ -5,7 +5,7 @@ use Rattle.asn_base.specs.Types.{Range, Constraint}
 use Rattle.asn_base.specs.Typed.{IsInSome}
 use Rattle.asn_base.specs.Schemas.{IsSize}
 
--- the range holds a number: its least is not above its greatest
+-- the range contains a number: its least is not above its greatest
 abbrev pub HoldsSome : Range → Type 0
 HoldsSome r = IfSome r.least (λ l. IfSome r.greatest (λ g. l ≤ℤ g))
 
@@ -13,7 +13,7 @@ HoldsSome r = IfSome r.least (λ l. IfSome r.greatest (λ g. l ≤ℤ g))
 abbrev pub EndsBefore : Range → Range → Type 0
 EndsBefore r s = IsSomeAnd r.greatest (λ g. IsSomeAnd s.least (λ l. g <ℤ l))
 
--- each range holds a number, and ends before all ranges behind it begin
+-- each range contains a number, and ends before all ranges after it begin
 abbrev pub AreApart : List Range → Type 0
 AreApart [] = Unit {0}
 AreApart (r ∷ rs) = HoldsSome r × AllByRecursion (EndsBefore r) rs × AreApart rs
@@ -22,7 +22,7 @@ AreApart (r ∷ rs) = HoldsSome r × AllByRecursion (EndsBefore r) rs × AreApar
 abbrev pub AreSizes : List Range → Type 0
 AreSizes rs = (z : ℤ) → IsInSome z rs → IsSize z
 
--- the constraint has these ranges for its root: without a marker they are what is allowed, with one everything is
+-- these ranges are the root of the constraint: without a marker only they are allowed, with a marker everything is
 abbrev pub HasRoot : Constraint → List Range → Type 0
 HasRoot c rs =
     ((c.visible.extensible ≡ false) × (c.allowed ≡ Some rs)) ⊎ ((c.visible.extensible ≡ true) × (c.allowed ≡ None))

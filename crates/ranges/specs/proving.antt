@@ -1,4 +1,4 @@
--- How unions and meets come about, and what is searched for.
+-- How unions and intersections come about, and what is searched for.
 pub mod Joining
 pub mod Meeting
 pub mod Searching

@@ -12,7 +12,7 @@ use asn_base::strings::StringKind;
 use std::alloc::{AllocError, Global};
 use std::marker::Model;
 
-/// A set of character codes below 128, seen as those codes in ascending order. It takes no memory of its own.
+/// A set of character codes below 128, seen as those codes in ascending order. The set takes no memory of its own.
 #[derive(Drop)]
 pub struct Codes {
     bits: u128,
@@ -28,7 +28,7 @@ impl Model for Codes {
     ghost view = { λ c. codes_of c.bits };
 }
 
-/// Is the bit of a code below 128 set?
+/// Whether the bit of a code below 128 is set.
 fn is_set(bits: u128, code: u32) -> bool
     requires { code < 128 }
     ensures { result ≡ (bit_at bits code == 1) }
@@ -58,7 +58,7 @@ fn characters(kind: StringKind) -> u128
     }
 }
 
-/// Is no code set?
+/// Whether no code is set.
 fn none_set(bits: u128) -> bool
     ensures { MatchBool result (codes_of bits ≡ []) (0 < length (codes_of bits)) }
 {
@@ -92,7 +92,7 @@ fn list_set(alloc: Global, bits: u128) -> Result<Vec<u8>, AllocError>
 }
 
 impl Codes {
-    /// No code.
+    /// The empty set.
     pub fn none() -> Self
         ensures { result ≡ [] }
     {
@@ -108,8 +108,8 @@ impl Codes {
         }
     }
 
-    /// Puts the codes from the first to the last one into the set, as far as they are below 128; none where the first
-    /// is above the last.
+    /// Adds the codes from the first to the last one to the set, as far as they are below 128; none if the first is
+    /// above the last.
     pub fn add(&mut self, first: u32, last: u32)
         ensures { (c : ℕ) → IsMember c self.new ↔ (IsMember c self.old ⊎ (IsBetween first last c × (c < 128))) }
     {
@@ -127,14 +127,14 @@ impl Codes {
         }
     }
 
-    /// The same set once more.
+    /// A copy of the set.
     pub fn copy(&self) -> Self
         ensures { result ≡ self.now }
     {
         Codes { bits: self.bits }
     }
 
-    /// Is the code in the set?
+    /// Whether the code is in the set.
     pub fn has(&self, code: u32) -> bool
         ensures { result ≡ true ↔ IsMember code self.now }
     {
@@ -144,7 +144,7 @@ impl Codes {
         false
     }
 
-    /// Is no code in the set?
+    /// Whether no code is in the set.
     pub fn is_empty(&self) -> bool
         ensures { MatchBool result (self.now ≡ []) (0 < length self.now) }
     {
@@ -158,7 +158,7 @@ impl Codes {
         count_set(self.bits)
     }
 
-    /// The codes of the set in ascending order. Err where memory is wanting.
+    /// The codes of the set in ascending order. The error is that there is not enough memory.
     pub fn list(&self, alloc: Global) -> Result<Vec<u8>, AllocError>
         ensures { IfOk result (λ all. all.items ≡ self.now) }
     {

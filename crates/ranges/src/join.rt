@@ -10,7 +10,7 @@ ghost use Rattle.ranges.specs.proving.Joining.{holds_some as holds_some', joined
 use asn_base::constraint::Range;
 use std::alloc::{AllocError, Global};
 
-/// Does the range hold a number?
+/// Whether the range contains a number.
 pub(crate) fn holds_some(range: Range) -> bool
     ensures is { result ≡ holds_some' range.least range.greatest }
     ensures means { result ≡ true ↔ HoldsSome (range_of range) }
@@ -21,7 +21,7 @@ pub(crate) fn holds_some(range: Range) -> bool
     }
 }
 
-/// Does the first range end before the second one begins?
+/// Whether the first range ends before the second one begins.
 fn ends_before(first: Range, second: Range) -> bool
     ensures { result ≡ true ↔ EndsBefore (range_of first) (range_of second) }
 {
@@ -41,7 +41,7 @@ fn later(one: Option<i128>, other: Option<i128>) -> Option<i128>
     }
 }
 
-/// From the beginning of the first range to the later end.
+/// The range from the beginning of the first one to the later end of both.
 fn joined(first: Range, second: Range) -> Range
     ensures { range_of result ≡ joined' (range_of first) (range_of second) }
 {
@@ -51,7 +51,7 @@ fn joined(first: Range, second: Range) -> Range
     }
 }
 
-/// Joins a range and those behind it, in order of their least numbers.
+/// Joins a range and those after it, which are in order of their least numbers.
 fn join_sorted(alloc: Global, first: Range, others: &[Range]) -> Result<Vec<Range>, AllocError>
     ensures { IfOk result (λ all. Joins (range_of first) (map range_of others.now) (map range_of all.items)) }
 {
@@ -69,7 +69,7 @@ fn join_sorted(alloc: Global, first: Range, others: &[Range]) -> Result<Vec<Rang
     Ok(all)
 }
 
-/// The ranges that hold a number, in order of their least numbers.
+/// The ranges that contain a number, in order of their least numbers.
 fn sorted(ranges: Vec<Range>) -> Result<Vec<Range>, AllocError>
     ensures members { IfOk result (λ all. (z : ℤ) →
         IsInSome z (map range_of all.items) ↔ IsInSome z (map range_of ranges.items)) }
@@ -82,7 +82,7 @@ fn sorted(ranges: Vec<Range>) -> Result<Vec<Range>, AllocError>
     Ok(all)
 }
 
-/// Joins ranges in order of their least numbers.
+/// Joins ranges that are in order of their least numbers.
 fn join_all(alloc: Global, ranges: &[Range]) -> Result<Vec<Range>, AllocError>
     requires some { AllByRecursion HoldsSome (map range_of ranges.now) }
     requires order { AreAscending (map range_of ranges.now) }

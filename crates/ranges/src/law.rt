@@ -9,8 +9,8 @@ ghost use Rattle.asn_base.specs.Schemas.{IsLeast, IsGreatest, AreBounds, IsNumbe
 ghost use Rattle.asn_base.specs.declared.strings.StringKind.{StringKind};
 ghost use Rattle.ranges.specs.Numbers.{AreApart, AreSizes, HasRoot};
 
-/// Ranges that are apart hold a number where there is one of them; the least and the greatest of a root's numbers are
-/// a constraint's bounds, for numbers and for sizes; without a root all numbers and all sizes have their bounds.
+/// Ranges that are apart contain a number if there is at least one of them. The least and the greatest number of a root
+/// are a constraint's bounds, for numbers and for sizes. Without a root all numbers and all sizes have their bounds.
 pub fn bounds()
     ensures some { (rs : List Range)
         → AreApart rs

@@ -31,7 +31,7 @@ fn earlier_end(one: Option<i128>, other: Option<i128>) -> Option<i128>
     }
 }
 
-/// The range of what is in both, which may hold no number.
+/// The range of the numbers in both ranges, which may contain no number.
 fn common(one: Range, other: Range) -> Range
     ensures { range_of result ≡ common' (range_of one) (range_of other) }
 {
@@ -41,7 +41,7 @@ fn common(one: Range, other: Range) -> Range
     }
 }
 
-/// Does the one range end where the other does, or before?
+/// Whether the first range ends no later than the other one.
 fn ends_at_most(one: Range, other: Range) -> bool
     ensures yes { result ≡ true → EndsAtMost (range_of one).greatest (range_of other).greatest }
     ensures no { result ≡ false → EndsAtMost (range_of other).greatest (range_of one).greatest }
@@ -53,7 +53,7 @@ fn ends_at_most(one: Range, other: Range) -> bool
     }
 }
 
-/// Puts a range behind others where it holds a number.
+/// Adds a range after others, if it contains a number.
 fn keep(both: &mut Vec<Range>, part: Range) -> Result<(), AllocError>
     ensures { IfOk result (λ _. (rest : List Range') → IsPutBefore (range_of part) rest
         (map range_of both.old.items) (map range_of both.new.items ++ rest)) }
@@ -64,7 +64,7 @@ fn keep(both: &mut Vec<Range>, part: Range) -> Result<(), AllocError>
     Ok(())
 }
 
-/// The ranges of what is in both sets.
+/// The ranges of the numbers in both sets.
 pub(crate) fn meet(alloc: Global, left: &[Range], right: &[Range]) -> Result<Vec<Range>, AllocError>
     ensures { IfOk result (λ both.
         Meets (map range_of left.now) (map range_of right.now) (map range_of both.items)) }

@@ -13,7 +13,7 @@ use asn_base::constraint::Range;
 use std::alloc::{AllocError, Global};
 use std::marker::Model;
 
-/// Does the range end below the number?
+/// Whether the range ends below the number.
 fn ends_below(range: &Range, number: i128) -> bool
     ensures { result ≡ is_below number (range_of range.now).greatest }
 {
@@ -23,7 +23,7 @@ fn ends_below(range: &Range, number: i128) -> bool
     }
 }
 
-/// Is the number in the range?
+/// Whether the number is in the range.
 fn holds(range: &Range, number: i128) -> bool
     ensures { result ≡ true ↔ IsInRange number (range_of range.now) }
 {
@@ -34,7 +34,7 @@ fn holds(range: &Range, number: i128) -> bool
     from && !ends_below(range, number)
 }
 
-/// Is the number in one of the ranges?
+/// Whether the number is in one of the ranges.
 fn search(ranges: &[Range], number: i128) -> bool
     requires { AreApart (map range_of ranges.now) }
     ensures { result ≡ true ↔ IsInSome number (map range_of ranges.now) }
@@ -46,7 +46,7 @@ fn search(ranges: &[Range], number: i128) -> bool
     false
 }
 
-/// A set of numbers: ranges in ascending order, each of which holds a number and ends before the next one begins.
+/// A set of numbers: ranges in ascending order, each of which contains a number and ends before the next one begins.
 #[derive(Drop)]
 pub struct Ranges {
     items: Vec<Range>,
@@ -68,8 +68,9 @@ impl Model for Ranges {
 }
 
 impl Ranges {
-    /// The numbers that are in one of the ranges, which may stand in any order, overlap, or hold no number (one whose
-    /// least is above its greatest adds none). For n ranges it takes time as n log n. Err where memory is wanting.
+    /// The numbers that are in one of the ranges, which may be in any order and may overlap. A range whose least number
+    /// is above its greatest adds none. For n ranges the time grows as n log n. The error is that there is not enough
+    /// memory.
     pub fn union_of(alloc: Global, ranges: Vec<Range>) -> Result<Self, AllocError>
         ensures members { IfOk result (λ all. (z : ℤ) → IsInSome z all ↔ IsInSome z (map range_of ranges.items)) }
     {
@@ -77,7 +78,8 @@ impl Ranges {
         Ok(Ranges { items })
     }
 
-    /// The numbers that are in both sets, in time linear in the number of their ranges. Err where memory is wanting.
+    /// The numbers that are in both sets, in time linear in the number of their ranges. The error is that there is not
+    /// enough memory.
     pub fn meet(&self, alloc: Global, other: &Ranges) -> Result<Self, AllocError>
         ensures members { IfOk result (λ both. (z : ℤ) → IsInSome z both
             ↔ (IsInSome z self.now × IsInSome z other.now)) }
@@ -86,7 +88,7 @@ impl Ranges {
         Ok(Ranges { items })
     }
 
-    /// The same set once more. Err where memory is wanting.
+    /// A copy of the set. The error is that there is not enough memory.
     pub fn copy(&self, alloc: Global) -> Result<Self, AllocError>
         ensures { IfOk result (λ copy. copy ≡ self.now) }
     {
@@ -94,7 +96,7 @@ impl Ranges {
         Ok(Ranges { items })
     }
 
-    /// Is no number in the set?
+    /// Whether no number is in the set.
     pub fn is_empty(&self) -> bool
         ensures ranges { MatchBool result (self.now ≡ []) (0 < length self.now) }
         ensures members { result ≡ true ↔ ((z : ℤ) → IsInSome z self.now → ⊥) }
@@ -102,7 +104,7 @@ impl Ranges {
         self.items.as_slice().is_empty()
     }
 
-    /// The least number of a set that is not empty, None where there is no bound.
+    /// The least number of a set that is not empty, or None if there is no bound.
     pub fn least(&self) -> Option<i128>
         requires { 0 < length self.now }
         ensures { IsLeast (λ z. IsInSome z self.now) result }
@@ -110,7 +112,7 @@ impl Ranges {
         self.items[0].least
     }
 
-    /// The greatest number of a set that is not empty, None where there is no bound.
+    /// The greatest number of a set that is not empty, or None if there is no bound.
     pub fn greatest(&self) -> Option<i128>
         requires { 0 < length self.now }
         ensures { IsGreatest (λ z. IsInSome z self.now) result }
@@ -119,14 +121,14 @@ impl Ranges {
         ranges[ranges.len() - 1].greatest
     }
 
-    /// Is the number in the set? For n ranges it takes time as log n.
+    /// Whether the number is in the set. For n ranges the time grows as log n.
     pub fn has(&self, number: i128) -> bool
         ensures { result ≡ true ↔ IsInSome number self.now }
     {
         search(&self.items, number)
     }
 
-    /// The ranges of the set.
+    /// The ranges of the set, borrowed.
     pub fn ranges(&self) -> &[Range]
         ensures is { map range_of result.now ≡ self.now }
         ensures apart { AreApart self.now }
@@ -134,7 +136,7 @@ impl Ranges {
         &self.items
     }
 
-    /// The ranges of the set.
+    /// The ranges of the set, as their owner.
     pub fn into_ranges(self) -> Vec<Range>
         ensures is { map range_of result.items ≡ self }
         ensures apart { AreApart self }

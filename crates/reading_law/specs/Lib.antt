@@ -1,3 +1,3 @@
--- What octets say of what a routine reads (`Saying`), and what tokens show (`Shows`).
+-- What octets mean that a routine reads (`Saying`), and what tokens show (`Shows`).
 pub mod Shows
 pub mod Saying

@@ -1,4 +1,4 @@
--- What octets say of what a routine reads.
+-- What octets mean that a routine reads.
 use Rattle.std.specs.Prelude.{◌≡◌, ℕ, ◌≤◌, Bool, List, ◌++◌, length}
 use Rattle.asn_base.specs.Abstract.{AbstractValue}
 use Rattle.asn_base.specs.Types.{TypeNumber, Resolved}
@@ -14,9 +14,9 @@ use Rattle.octet_answers.specs.Answers.{Takes}
 use Rattle.octet_answers.specs.States.{State, front}
 use Rattle.reading_law.specs.Shows.{Shows, passed_in, StandIn}
 
--- A front of the octets says a value of the type as it stands, with so many unknown additions, by the basic rules; it
--- has at most 400 levels of headers, and what is left stands behind it. What was told shows the value, and as many
--- skipped additions; contents octets were told with their places.
+-- The octets begin with an encoding of a value of type t by the basic rules, and what is left follows it. The encoding
+-- has `count` unknown additions and at most 400 levels of headers. The tokens that were read show the value, and as
+-- many skipped additions. The contents octets in them have their places.
 pub record IsSaid (s : List Resolved) (t : TypeNumber) (o : Octets) (z : State) : Type 0 where
   pub value : AbstractValue
   pub count : ℕ
@@ -28,14 +28,14 @@ pub record IsSaid (s : List Resolved) (t : TypeNumber) (o : Octets) (z : State) 
   pub counted : passed_in z.told ≡ count
   pub stand : StandIn o z.told
 
--- From the front of a message, where so many values may begin, the type's routine reads the octets that stand first,
--- and no others.
+-- At the start of a message, where `room` values may begin, the type's routine reads the octets o that come first, and
+-- no others.
 pub record IsReadTo (s : List Resolved) (t : TypeId) (o rest : Octets) (room : ℕ) : Type 0 where
   pub last : State
   pub reads : Reads (λ u. routine_at s u) Takes t (front s (o ++ rest) room) last
   pub behind : last.here.octets ≡ rest
 
--- octets are one header, and as many octets of contents as it tells
+-- octets are one header, and as many octets of contents as it promises
 pub record AreUnit (o : Octets) : Type 0 where
   pub tag : Tag
   pub constructed : Bool

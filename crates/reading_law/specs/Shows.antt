@@ -1,4 +1,4 @@
--- What tokens show: values, as they were read.
+-- What tokens show: values that were read.
 use Rattle.std.specs.Prelude.{◌≡◌, ℕ, zero, suc, ◌≤◌, Bool, List, [], ◌∷◌, ◌++◌, length, replicate, Some, slice_get}
 use Rattle.asn_base.specs.declared.tag.Tag.{Tag}
 use Rattle.asn_base.specs.Abstract.{AbstractValue, fields, list, alternative, Row, end, absent, present}
@@ -10,12 +10,12 @@ use Rattle.codec_code.specs.Routines.{id_of, body}
 use Rattle.octet_answers.specs.States.{Token, component, chosen, begun, ended, held, passed}
 use Rattle.octet_answers.specs.Answers.{AreContents}
 
--- a row in which nothing is there yet
+-- a row of absent components
 abbrev pub blank : List Component → Row
 blank [] = end
 blank (c ∷ cs) = absent (blank cs)
 
--- the row with a value at a place where nothing was
+-- the row with a value at a place that was empty; the row itself if the place is taken or there is no such place
 abbrev pub with_at : Row → ℕ → AbstractValue → Row
 with_at end i w = end
 with_at (absent ws) zero w = present w ws
@@ -41,7 +41,7 @@ passed_in (ended ∷ ts) = passed_in ts
 passed_in (held k c x at ∷ ts) = passed_in ts
 
 mutual
-  -- a value of type t
+  -- these tokens show value w of type t
   pub data Shows (s : List Resolved) : TypeNumber → AbstractValue → List Token → Type 0 where
     shows : {t : TypeNumber} {tags : List Tag} {k : Kind} {w : AbstractValue} {ts all : List Token}
         → Is s t tags k
@@ -49,14 +49,14 @@ mutual
         → all ≡ begun (id_of t) ∷ (ts ++ ended ∷ [])
         → Shows s t w all
 
-  -- what stands between its begin and its end
+  -- what comes between the begin and the end of a value
   pub data ShowsOf (s : List Resolved) : Kind → AbstractValue → List Token → Type 0 where
     shows_leaf : {k : Kind} {lk : LeafKind} {w : AbstractValue} {c : Bool} {at : ℕ} {x : Octets} (levels : ℕ)
         → levels ≤ 400
         → body s k ≡ Leaf lk ∷ []
         → AreContents c lk w levels x
         → ShowsOf s k w (held lk c x at ∷ [])
-    -- components in order, and additions that the type lacks behind them
+    -- components in order, and additions that the type lacks after them
     shows_sequence : {e : Bool} {cs : List Component} {ws : Row} {ts all : List Token} (n : ℕ)
         → ShowsFields s 0 cs ws ts
         → all ≡ ts ++ replicate n passed
@@ -113,14 +113,14 @@ mutual
         → all ≡ xs ++ ts
         → ShowsElements s u (present w ws) all
 
--- octets that stand in a message, the first of them at a place
+-- octets of a message, the first of them at this place
 pub record IsSliceAt (message : Octets) (at : ℕ) (x : Octets) : Type 0 where
   pub before : Octets
   pub behind : Octets
   pub whole : message ≡ before ++ (x ++ behind)
   pub place : length before ≡ at
 
--- all contents octets stand at their places
+-- all contents octets are at their places in the message
 abbrev pub StandIn : Octets → List Token → Type 0
 StandIn message [] = Unit {0}
 StandIn message (held k c x at ∷ ts) = IsSliceAt message at x × StandIn message ts

@@ -1,4 +1,4 @@
-//! What a routine reads, the octets say, and what they say, it reads.
+//! A routine reads exactly what octets mean.
 
 ghost use Rattle.asn_base.specs.Schemas.{IsSchema};
 ghost use Rattle.asn_base.specs.declared.schema.TypeId.{TypeId};
@@ -23,8 +23,8 @@ ghost use Rattle.std.specs.Prelude.{◌≡◌, ◌<◌, ◌≤◌, List, length,
 use encodings::message_laws;
 use octet_answers::law::{one_answer, one_refusal};
 
-/// Whatever the routine of a type reads from the front of octets is what they say by the basic rules: a value as it
-/// stands, with so many unknown additions, within 400 levels of headers. What isn't read stands behind it.
+/// What the routine of a type reads from the start of octets is what they mean by the basic rules. That is a value,
+/// with some unknown additions, within 400 levels of headers. The octets that aren't read follow it.
 pub fn read_is_said()
     ensures { (s : List Resolved) (t : TypeId) (o : List ℕ) (room : ℕ) (z : State)
         → IsSchema s
@@ -34,8 +34,8 @@ pub fn read_is_said()
         → IsSaid s t.index o z }
 {}
 
-/// Whatever octets say of a value of a type by the basic rules, within 400 levels of headers, the routine of the type
-/// reads, whatever stands behind them, where as many values may begin as there are octets.
+/// The routine of a type reads every encoding of a value of the type by the basic rules, within 400 levels of headers,
+/// whatever follows it. As many values may begin as there are octets.
 pub fn said_is_read()
     ensures read { (s : List Resolved) (t : TypeId) (w : AbstractValue) (k : ℕ) (o rest : List ℕ) (room : ℕ)
         (d : Says s Basic t.index w k o)
@@ -45,7 +45,7 @@ pub fn said_is_read()
         → length o ≤ 16777216
         → length o ≤ room
         → IsReadTo s t o rest room }
-    // They are one header with its contents.
+    // An encoding is one header with its contents.
     ensures unit { (s : List Resolved) (t k : ℕ) (w : AbstractValue) (o : List ℕ)
         → IsSchema s
         → Says s Basic t w k o
@@ -55,8 +55,8 @@ pub fn said_is_read()
     message_laws();
 }
 
-/// Where the routine of a type stops at the front of octets, what isn't read of them stands at the place that is told,
-/// and contents octets that were read at theirs.
+/// If the routine of a type stops in octets, the octets that aren't read are at the place in the state. Contents octets
+/// that were read are at their places.
 pub fn stops_in_place()
     ensures stopped { (s : List Resolved) (t : TypeId) (o : List ℕ) (room : ℕ) (z : State) (e : ReadFault)
         → StopsReading (λ u. routine_at s u) Takes (λ a q b. Leaves a q b e) t (front s o room) z
@@ -66,8 +66,8 @@ pub fn stops_in_place()
         → IsSliceAt o z.here.at z.here.octets }
 {}
 
-/// From the front of a message the routine of a type stops with one fault at most, at one place; and where it stops, it
-/// reads no value. Where it reads one, it does in one way.
+/// From the start of a message the routine of a type stops with at most one fault, at one place; if it stops, it reads
+/// no value. If it reads a value, it does so in one way.
 pub fn stops_once()
     ensures once { (s : List Resolved) (t : TypeId) (o : List ℕ) (room : ℕ) (y z : State) (e f : ReadFault)
         → length o ≤ 16777216

@@ -1,4 +1,4 @@
-//! The law of reading: what a routine reads, the octets say (X.690, 8.1 to 8.14).
+//! The law of reading: a routine reads exactly what octets mean (X.690, 8.1 to 8.14).
 #![tactic(auto)]
 
 pub mod law;

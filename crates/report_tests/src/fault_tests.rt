@@ -1,5 +1,6 @@
-//! Faults apart from any text that has them.
+//! Faults, tested apart from any text that has them.
 
+use account_text::Stop;
 use additions::ExtFault;
 use codec_source::ReadFault;
 use command_line::{Given, Job, Verb};
@@ -17,7 +18,7 @@ use text::LexFault;
 use told_values::{Reason, ValueTold};
 use trees::Spot;
 
-/// Of each fault its number, the exit status, the line that is told of it, and what it prints.
+/// For each fault its number, the exit status, the line that reports it, and what it prints.
 const TOLD: &str = "\
 1 3 error 1 Memory: out of memory | error 1 Memory: out of memory
 3 3 error 3 File: w\\u{A}x could not be read | error 3 File: w
@@ -117,15 +118,20 @@ x
 96 1 error 96 NotDer: the octets encode a value, but not by the distinguished rules | error 96 NotDer at octet 17
 80 1 error 80 Truncated: at octet 17: the octets end within a header, or before the contents that one tells | error 80 Truncated at octet 17
 80 1 error 80 Truncated: at octet 17, in abcdefghijabcdefghijabcdefghijabcdefghijabcdefghijabcdefghij..: the octets end within a header, or before the contents that one tells | error 80 Truncated at octet 17
+100 1 error 100 NotAccount: a\\u{A}.json: at octet 7: found octets that are not UTF-8, expected text in JSON | error 100 NotAccount: at octet 7: found octets that are not UTF-8, expected text in JSON
+100 1 error 100 NotAccount: a\\u{A}.json: at octet 0: found no JSON array, expected an array of rows | error 100 NotAccount: at octet 0: found no JSON array, expected an array of rows
+100 1 error 100 NotAccount: a\\u{A}.json: at octet 41, in row 2: found no row, expected a kind and its numbers in an array | error 100 NotAccount: at octet 41, in row 2: found no row, expected a kind and its numbers in an array
+100 1 error 100 NotAccount: a\\u{A}.json: at octet 41: found more text after the rows, expected its end | error 100 NotAccount: at octet 41: found more text after the rows, expected its end
+100 1 error 100 NotAccount: a\\u{A}.json: found rows that are not those of one account, 3 of them, expected after each row as many members as it says, at most 400 deep | error 100 NotAccount: found rows that are not those of one account, 3 of them, expected after each row as many members as it says, at most 400 deep
 ";
 
 /// The module in the file m.asn.
 const TEXT: &str = "M DEFINITIONS ::= BEGIN T ::= INTEGER w T ::= 7 END";
 
-/// The place of the name w in it.
+/// The offset of the name w in the module.
 const PLACE: usize = 38;
 
-/// The faults of no text, by number.
+/// The faults of no text, by their numbers in this table.
 fn call_fault(number: usize, words: String) -> Option<Fault> {
     match number {
         0 => Some(Fault::Memory),
@@ -220,7 +226,7 @@ fn bound_fault(number: usize, spot: Spot) -> Option<BoundFault> {
     }
 }
 
-/// The faults of what stands behind markers, by number.
+/// The faults of what follows markers, by number.
 fn addition_fault(number: usize, spot: Spot) -> Option<ExtFault> {
     match number {
         53 => Some(ExtFault::Memory),
@@ -275,7 +281,7 @@ fn read_fault(number: usize) -> Option<ReadFault> {
     }
 }
 
-/// The part of a value that is told with a fault of octets: none with one of them, and a long one with another.
+/// The part of a value that a fault of octets has: empty for one number, long for another, and short for the rest.
 fn path_told(number: usize) -> &'static str {
     match number {
         89 => "",
@@ -284,7 +290,19 @@ fn path_told(number: usize) -> &'static str {
     }
 }
 
-/// A spot of the module.
+/// Where the text stops being an account, by number.
+fn stop(number: usize) -> Option<Stop> {
+    match number {
+        91 => Some(Stop::NotText(7)),
+        92 => Some(Stop::NotArray),
+        93 => Some(Stop::NotRow { row: 2, octet: 41 }),
+        94 => Some(Stop::Behind(41)),
+        95 => Some(Stop::NotOne(3)),
+        _ => None,
+    }
+}
+
+/// The spot of the name w in the module.
 fn here(alloc: Global) -> Result<Spot, AllocError> {
     spot(alloc, "M", "w", PLACE)
 }
@@ -312,8 +330,11 @@ fn front_fault(alloc: Global, number: usize) -> Result<Option<FrontFault>, Fail>
     }
 }
 
-/// The fault with a number below 91.
+/// The fault with a number below 96 in this table.
 fn fault_of(alloc: Global, number: usize) -> Result<Fault, Fail> {
+    if let Some(stop) = stop(number) {
+        return Ok(Fault::NotAccount(stop));
+    }
     if let Some(fault) = read_fault(number) {
         let path = String::from_str(alloc, path_told(number))?;
         let octet = 17;
@@ -337,13 +358,13 @@ fn fault_of(alloc: Global, number: usize) -> Result<Fault, Fail> {
     }
 }
 
-/// A job for the value w under the type T of the module M in the file m.asn.
+/// A job for the value w under the type T of the module M in the file m.asn, with an account.
 fn job(alloc: Global) -> Result<Job, AllocError> {
     Ok(Job {
         verb: Verb::Der,
         ty: String::from_str(alloc, "M.T")?,
         value: String::from_str(alloc, "M.w")?,
-        account: String::new(alloc),
+        account: String::from_str(alloc, "a\n.json")?,
         octets: Given::Nothing,
         raw: false,
         strict: false,
@@ -358,7 +379,7 @@ fn told_of_faults(rt: HostRuntime) -> Result<(), Fail> {
     let job = job(alloc)?;
     let texts = vec![in alloc; Vec::from_slice(alloc, TEXT.as_bytes())?]?;
     let mut told = String::new(alloc);
-    for index in 0..91 {
+    for index in 0..96 {
         let fault = fault_of(alloc, index)?;
         let line = report(alloc, &job, texts.as_slice(), &fault)?;
         let (number, status) = (number(&fault), status(&fault));

@@ -1,4 +1,4 @@
--- Where a fault stands: at an octet of a text, at a token of one, or at an octet of the text of a module that it names.
+-- Where a fault is: at an octet of a text, at a token of one, or at an octet of the text of a module that it names.
 use Rattle.std.specs.Prelude.{ℕ, Option, None, Some, option_map}
 use Rattle.trees.specs.declared.place.Spot.{Spot}
 use Rattle.text.specs.declared.fault.LexFault.{LexFault}
@@ -18,7 +18,7 @@ use Rattle.front_end.specs.declared.fault.FrontFault.TheVariants as fronts
 use Rattle.messages.specs.declared.fault.Fault.{Fault}
 use Rattle.messages.specs.declared.fault.Fault.TheVariants as faults
 
--- ---- the module, the name and the place that a fault tells
+-- ---- the module, the name and the place in a fault
 
 abbrev pub name_spot : NameFault → Option Spot
 name_spot names.Memory = None
@@ -97,7 +97,7 @@ abbrev pub front_octet : FrontFault → Option ℕ
 front_octet (fronts.Text k f) = lex_octet f
 front_octet fault = place_in (front_spot fault)
 
--- the octet of its text at which a fault stands that isn't one of tokens
+-- the octet of its text at which a fault is, if it isn't a fault of tokens
 abbrev pub octet_of : Fault → Option ℕ
 octet_of (faults.Front f) = front_octet f
 octet_of fault = place_in (spot_of fault)
@@ -112,7 +112,7 @@ abbrev pub front_token : FrontFault → Option ℕ
 front_token (fronts.Tree k f) = tree_token f
 front_token fault = None
 
--- the token of its text at which a fault of tokens stands
+-- the token of its text at which a fault of tokens is
 abbrev pub token_of : Fault → Option ℕ
 token_of (faults.Front f) = front_token f
 token_of fault = None

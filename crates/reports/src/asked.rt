@@ -1,18 +1,26 @@
-//! Names of the command line that mean nothing, and files that can't be read, in words.
+//! The words for names of the command line that mean nothing, and for files that can't be read.
 
 use crate::finding::{assigns, module_text, parts};
+use account_text::Stop;
 use hints::{did_you_mean, is_near, is_small};
-use shown_texts::{escaped, shown, spelled_at, tokens_in};
+use shown_texts::{escaped, on_one_line, shown, spelled_at, tokens_in};
 use std::alloc::{AllocError, Global};
 use text::reserved::Word;
 
-/// A file that can't be read.
+/// The words for a file that can't be read.
 pub(crate) fn of_file(alloc: Global, name: &str, what: &str) -> Result<String, AllocError> {
     let name = escaped(alloc, name)?;
     format!(in alloc; "{name} {what}")
 }
 
-/// The name of the first module that another name is near to, in words.
+/// What follows the name of the fault if a file holds no account.
+pub(crate) fn of_account(alloc: Global, name: &str, stop: &Stop) -> Result<String, AllocError> {
+    let name = escaped(alloc, name)?;
+    let line = format!(in alloc; ": {name}: {stop}")?;
+    on_one_line(alloc, line.as_str())
+}
+
+/// A question for the first module whose name is near another name: `; did you mean M?`. Empty if there is none.
 fn near_module(alloc: Global, texts: &[Vec<u8>], name: &str) -> Result<String, AllocError> {
     for text in texts {
         let tokens = tokens_in(alloc, text.as_slice())?;
@@ -25,7 +33,7 @@ fn near_module(alloc: Global, texts: &[Vec<u8>], name: &str) -> Result<String, A
     Ok(String::new(alloc))
 }
 
-/// The name of the first module that assigns a name, in words.
+/// The words for the first module that assigns a name. Empty if none does.
 fn other_module(
     alloc: Global,
     texts: &[Vec<u8>],
@@ -52,7 +60,7 @@ fn is_word(name: &str) -> bool {
     false
 }
 
-/// Where else a name is, or which one may have been meant.
+/// A hint: which other module has the name, or which name may have been meant.
 fn hint(alloc: Global, texts: &[Vec<u8>], name: &str, value: bool) -> Result<String, AllocError> {
     let other = other_module(alloc, texts, name, value)?;
     if !other.is_empty() {
@@ -61,7 +69,8 @@ fn hint(alloc: Global, texts: &[Vec<u8>], name: &str, value: bool) -> Result<Str
     did_you_mean(alloc, texts, "", name)
 }
 
-/// Why a name of the command line, as `Module.Name`, means nothing; `value` tells whether it had to be a value's.
+/// Why a name of the command line, as `Module.Name`, means nothing; `value` is whether it should be the name of a
+/// value.
 pub(crate) fn of_no_name(
     alloc: Global,
     texts: &[Vec<u8>],

@@ -1,4 +1,4 @@
-//! Where in the texts a fault stands.
+//! The text and the octet at which a fault is.
 
 use crate::spots::{octet_told, spot, text_told, token_told};
 use front_end::FrontFault;
@@ -17,7 +17,7 @@ pub(crate) fn parts(text: &str) -> (&str, &str) {
     }
 }
 
-/// The number of the text, from a number on, that is the module with this name.
+/// The number of the first text, from number `from` on, whose module has this name.
 pub(crate) fn module_text(
     alloc: Global,
     texts: &[Vec<u8>],
@@ -34,7 +34,7 @@ pub(crate) fn module_text(
     Ok(None)
 }
 
-/// Whether tokens assign a name: a type's, or else a value's.
+/// Whether tokens assign a name: that of a value if `value` is true, else that of a type.
 pub(crate) fn assigns(text: &[u8], tokens: &[Token], name: &str, value: bool) -> bool {
     for place in 0..tokens.len() {
         let next = place.saturating_add(1);
@@ -51,14 +51,14 @@ pub(crate) fn assigns(text: &[u8], tokens: &[Token], name: &str, value: bool) ->
     false
 }
 
-/// Whether a type that is one name, and the mark of an assignment, stand from a place on.
+/// Whether the tokens from a place on are a type of one name and the mark of an assignment.
 fn is_value_assigned(tokens: &[Token], place: usize) -> bool {
     let next = place.saturating_add(1);
     is_kind(tokens, next, TokenKind::Mark(Mark::Assign))
 }
 
-/// The number of the text in which something stands: that of its module; of two modules with one name the second, where
-/// the fault is that there are two.
+/// The number of the text that contains a spot: the text of its module. If the fault is that two modules have one name,
+/// it is the second of them.
 fn text_of_spot(
     alloc: Global,
     texts: &[Vec<u8>],
@@ -79,7 +79,7 @@ fn text_of_spot(
     }
 }
 
-/// The number of the text in which a fault stands.
+/// The number of the text that contains a fault.
 pub(crate) fn text_number(
     alloc: Global,
     texts: &[Vec<u8>],
@@ -100,7 +100,7 @@ pub(crate) fn text_number(
     }
 }
 
-/// The octet of its text at which a fault stands, where it stands at one.
+/// The octet of its text at which a fault is, if it is at one.
 pub(crate) fn octet_in(
     alloc: Global,
     text: &[u8],

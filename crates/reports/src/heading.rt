@@ -1,4 +1,4 @@
-//! How the line begins that a user is told.
+//! How the line begins that a user gets.
 
 ghost use Rattle.std.specs.Prelude.{◌≡◌, IfOk, string_bytes};
 ghost use Rattle.reports.specs.Heading.{heading_of};

@@ -1,4 +1,4 @@
-//! What a user is told of a fault: one line, and the line of a text that it stands in.
+//! What a user reads about a fault: one line, and the line of the text that contains it.
 #![tactic(auto)]
 
 mod asked;

@@ -7,7 +7,7 @@ use std::alloc::{AllocError, Global};
 use text::Token;
 use trees::Spot;
 
-/// A limit that is passed.
+/// The words for a limit that is passed.
 fn of_limit(limit: Limit) -> &'static str {
     match limit {
         Limit::Modules => "more than 256 modules are linked",
@@ -20,7 +20,7 @@ fn of_limit(limit: Limit) -> &'static str {
     }
 }
 
-/// What comes back where: a list through a DEFAULT in it, or a reference.
+/// The words for a type that comes back to itself: a list through a DEFAULT in it, or a reference.
 fn of_circle(alloc: Global, text: &[u8], spot: &Spot) -> Result<String, AllocError> {
     let name = shown(alloc, spot.name.as_str())?;
     match word_at(text, spot.at) {
@@ -37,7 +37,7 @@ fn of_circle(alloc: Global, text: &[u8], spot: &Spot) -> Result<String, AllocErr
     }
 }
 
-/// A name that means nothing.
+/// The words for a name that means nothing.
 fn of_unknown(alloc: Global, texts: &[Vec<u8>], spot: &Spot) -> Result<String, AllocError> {
     let module = shown(alloc, spot.module.as_str())?;
     let name = shown(alloc, spot.name.as_str())?;
@@ -45,7 +45,7 @@ fn of_unknown(alloc: Global, texts: &[Vec<u8>], spot: &Spot) -> Result<String, A
     format!(in alloc; "{name} has no meaning in the module {module} that it needs here{hint}")
 }
 
-/// The place of the token that begins at an octet; behind the last one where none does.
+/// The number of the token that begins at an octet, or the number of tokens if none does.
 fn place_of(tokens: &[Token], octet: usize) -> usize {
     tokens
         .iter()
@@ -53,8 +53,8 @@ fn place_of(tokens: &[Token], octet: usize) -> usize {
         .unwrap_or(tokens.len())
 }
 
-/// Whether an item at a place has a name of its own in the braces where it stands: a brace opens before it, and not the
-/// same name.
+/// Whether no item before this one has its name in the braces that contain it: going back from `place`, an opening
+/// brace comes before the same name.
 fn is_alone(text: &[u8], tokens: &[Token], place: usize) -> bool {
     let name = spelled_at(text, tokens, place);
     let mut depth: usize = 0;
@@ -71,7 +71,7 @@ fn is_alone(text: &[u8], tokens: &[Token], place: usize) -> bool {
     false
 }
 
-/// A name, or the number behind it, that is given twice.
+/// The words for a name that is given twice, or for a number that is.
 fn of_twice(alloc: Global, text: &[u8], spot: &Spot) -> Result<String, AllocError> {
     let name = shown(alloc, spot.name.as_str())?;
     let tokens = tokens_in(alloc, text)?;
@@ -82,7 +82,7 @@ fn of_twice(alloc: Global, text: &[u8], spot: &Spot) -> Result<String, AllocErro
     format!(in alloc; "the name {name} is given a second time here")
 }
 
-/// A fault of names.
+/// The words for a fault of names.
 pub(crate) fn of_names(
     alloc: Global,
     texts: &[Vec<u8>],

@@ -1,12 +1,12 @@
-//! Octets that are not read, in words.
+//! The words for octets that can't be read.
 
 use codec_source::ReadFault;
 use messages::Unread;
 use shown_texts::shown;
 use std::alloc::{AllocError, Global};
 
-/// Where octets are not read, the place of the octet from 0, in which part of the value, and why. Where they are no
-/// encoding by the distinguished rules alone, no octet is told.
+/// The words for octets that can't be read: the place of the octet from 0, the part of the value, and why. `NotDer` has
+/// no octet: the octets are a BER encoding that is not DER.
 pub(crate) fn of_unread(alloc: Global, unread: &Unread) -> Result<String, AllocError> {
     let words = of_reading(unread.fault);
     if unread.fault == ReadFault::NotDer {

@@ -1,4 +1,4 @@
-//! Faults of the octets and of the tokens of a text, in words.
+//! The words for faults of the octets and of the tokens of a text.
 
 use hints::wanted;
 use notation::SyntaxFault;
@@ -6,7 +6,7 @@ use shown_texts::{character, open_string, shown, spelled_at, tokens_in};
 use std::alloc::{AllocError, Global};
 use text::{LexFault, Limit, Token};
 
-/// A character that can't stand where it does.
+/// The words for a character that is not allowed where it is.
 fn of_character(alloc: Global, text: &[u8], place: usize) -> Result<String, AllocError> {
     let character = character(alloc, text, place)?;
     let hint = match text.get(place) {
@@ -16,7 +16,7 @@ fn of_character(alloc: Global, text: &[u8], place: usize) -> Result<String, Allo
     format!(in alloc; "found {character}, which stands in comments and quotes alone{hint}")
 }
 
-/// A fault of the octets of a text.
+/// The words for a fault of the octets of a text.
 pub(crate) fn of_octets(
     alloc: Global,
     text: &[u8],
@@ -36,7 +36,7 @@ pub(crate) fn of_octets(
     String::from_str(alloc, words)
 }
 
-/// The token at a place, in quotes, or that the text ends.
+/// The words for the token at a place, in quotes, or for the end of the text.
 pub(crate) fn found(
     alloc: Global,
     text: &[u8],
@@ -50,7 +50,7 @@ pub(crate) fn found(
     format!(in alloc; "found '{spelled}'")
 }
 
-/// The token with which a construct begins that is left out.
+/// The token with which a construct begins that this compiler leaves out. Empty for another fault.
 pub(crate) fn left_out(
     alloc: Global,
     text: &[u8],
@@ -65,7 +65,7 @@ pub(crate) fn left_out(
     }
 }
 
-/// A fault of the tokens of a text.
+/// The words for a fault of the tokens of a text.
 pub(crate) fn of_tokens(
     alloc: Global,
     text: &[u8],

@@ -1,4 +1,4 @@
-//! Faults of tags, of constraints and of what stands behind extension markers, in words.
+//! The words for faults of tags, of constraints and of what follows extension markers.
 
 use crate::of_values::found_at;
 use additions::ExtFault;
@@ -8,7 +8,7 @@ use std::alloc::{AllocError, Global};
 use tagging::{Limit, TagFault};
 use trees::Spot;
 
-/// What is found at a spot of a text, the assignment in which it is, and what was expected there.
+/// The words for what is at a spot of a text, the assignment that contains it, and what was expected there.
 fn of_spot(
     alloc: Global,
     text: &[u8],
@@ -21,7 +21,7 @@ fn of_spot(
     format!(in alloc; "{found} in {name}, {which}, expected {expected}")
 }
 
-/// A fault of tags.
+/// The words for a fault of tags.
 pub(crate) fn of_tags(alloc: Global, text: &[u8], fault: &TagFault) -> Result<String, AllocError> {
     let (spot, which, expected) = match fault {
         TagFault::Memory => return String::from_str(alloc, "out of memory"),
@@ -59,7 +59,7 @@ pub(crate) fn of_tags(alloc: Global, text: &[u8], fault: &TagFault) -> Result<St
     of_spot(alloc, text, spot, which, expected)
 }
 
-/// A fault of constraints.
+/// The words for a fault of constraints.
 pub(crate) fn of_bounds(
     alloc: Global,
     text: &[u8],
@@ -101,7 +101,7 @@ pub(crate) fn of_bounds(
     of_spot(alloc, text, spot, which, expected)
 }
 
-/// A fault of what stands behind extension markers.
+/// The words for a fault of what follows extension markers.
 pub(crate) fn of_additions(
     alloc: Global,
     text: &[u8],

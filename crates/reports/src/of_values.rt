@@ -1,4 +1,4 @@
-//! Faults of the notations of values, in words.
+//! The words for faults of the notations of values.
 
 use crate::of_texts::found;
 use hints::did_you_mean;
@@ -8,7 +8,7 @@ use text::reserved::Word;
 use text::{Mark, Token, TokenKind};
 use told_values::{Reason, ValueTold};
 
-/// The number of the first token that begins at an octet or behind it.
+/// The number of the first token that begins at an octet or after it.
 fn token_at(tokens: &[Token], octet: usize) -> usize {
     for place in 0..tokens.len() {
         if tokens[place].span.start >= octet {
@@ -18,20 +18,20 @@ fn token_at(tokens: &[Token], octet: usize) -> usize {
     tokens.len()
 }
 
-/// The token at an octet, in quotes, or that the text ends.
+/// The words for the token at an octet, in quotes, or for the end of the text.
 pub(crate) fn found_at(alloc: Global, text: &[u8], octet: usize) -> Result<String, AllocError> {
     let tokens = tokens_in(alloc, text)?;
     let place = token_at(tokens.as_slice(), octet);
     found(alloc, text, tokens.as_slice(), place)
 }
 
-/// Whether a component's value can stand behind a token, apart from the component's name.
+/// Whether a component's value can follow a token, apart from the component's name.
 fn begins_component(tokens: &[Token], place: usize) -> bool {
     is_kind(tokens, place, TokenKind::Mark(Mark::OpenBrace))
         || is_kind(tokens, place, TokenKind::Mark(Mark::Comma))
 }
 
-/// What the value is of whose notation begins with a token, as far as the tokens before it tell: a component, an
+/// What has the value whose notation begins with a token, as far as the tokens before it show: a component, an
 /// alternative, or a DEFAULT.
 fn whose(alloc: Global, text: &[u8], tokens: &[Token], place: usize) -> Result<String, AllocError> {
     let one = place.saturating_sub(1);
@@ -61,7 +61,7 @@ fn names_in(expected: &str) -> &str {
     }
 }
 
-/// What was found of a notation, with the name that is told; what the value there is of.
+/// The words for what was found of a notation, with the name in the fault; `whose` says what has the value.
 fn of_reason(
     alloc: Global,
     reason: Reason,
@@ -88,7 +88,7 @@ fn of_reason(
     }
 }
 
-/// The name that may have been meant for another one: the one that is told, or the one that stands there.
+/// The name for which another one may have been meant: that of the fault, or the one that is spelled in the text.
 fn meant<'a>(reason: Reason, name: &'a str, spelled: &'a str) -> &'a str {
     match reason {
         Reason::LostName | Reason::LostItem => name,
@@ -98,7 +98,7 @@ fn meant<'a>(reason: Reason, name: &'a str, spelled: &'a str) -> &'a str {
     }
 }
 
-/// A fault of a notation in words; `under` tells of the type that the notation is read under.
+/// The words for a fault of a notation; `under` is about the type that the notation is read under.
 pub(crate) fn of_value(
     alloc: Global,
     texts: &[Vec<u8>],

@@ -1,4 +1,4 @@
-//! Where a fault stands, as the fault tells it.
+//! The place of a fault, as the fault gives it.
 
 ghost use Rattle.std.specs.Prelude.{◌≡◌, option_map};
 ghost use Rattle.reports.specs.Spots.{addition_spot, bound_spot, front_octet, front_spot, front_text, front_token, lex_octet, name_spot, octet_of, spot_of, tag_spot, text_of, token_of, tree_token};
@@ -69,7 +69,7 @@ fn of_front(fault: &FrontFault) -> Option<&Spot>
     }
 }
 
-/// The module, the name and the place that a fault tells, where it tells them.
+/// The module, the name and the place in a fault, if it has them.
 pub(crate) fn spot(fault: &Fault) -> Option<&Spot>
     ensures { option_map (λ s. s.now) result ≡ spot_of fault.now }
 {
@@ -113,7 +113,7 @@ fn of_tokens(fault: &SyntaxFault) -> Option<usize>
     }
 }
 
-/// The octet of its text, counted from 0, at which a fault of the octets or of the names stands.
+/// The octet of its text, counted from 0, at which a fault of the octets or of the names is.
 pub(crate) fn octet_told(fault: &Fault) -> Option<usize>
     ensures { result ≡ octet_of fault.now }
 {
@@ -126,7 +126,7 @@ pub(crate) fn octet_told(fault: &Fault) -> Option<usize>
     }
 }
 
-/// The token of its text, counted from 0, at which a fault of the tokens stands.
+/// The token of its text, counted from 0, at which a fault of the tokens is.
 pub(crate) fn token_told(fault: &Fault) -> Option<usize>
     ensures { result ≡ token_of fault.now }
 {

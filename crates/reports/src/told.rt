@@ -1,9 +1,9 @@
-//! What a user is told of a fault.
+//! What a user reads about a fault.
 
 ghost use Rattle.std.specs.Prelude.{IfOk, string_bytes};
 ghost use Rattle.reports.specs.Heading.{heading_of, Begins};
 
-use crate::asked::{of_file, of_no_name};
+use crate::asked::{of_account, of_file, of_no_name};
 use crate::finding::{octet_in, text_number};
 use crate::heading::heading;
 use crate::of_names::of_names;
@@ -17,7 +17,7 @@ use messages::Fault;
 use shown_texts::{context, escaped, line_and_column, on_one_line};
 use std::alloc::{AllocError, Global};
 
-/// What stands behind the name of a fault: the construct that is left out.
+/// What follows the name of a fault: the construct that this compiler leaves out. Empty for another fault.
 fn construct(alloc: Global, text: &[u8], fault: &Fault) -> Result<String, AllocError> {
     let Fault::Front(FrontFault::Tree(_, inner)) = fault else {
         return Ok(String::new(alloc));
@@ -66,6 +66,7 @@ fn sentence(
         Fault::NoValue(name) => of_no_name(alloc, texts, name.as_str(), true),
         Fault::TooLong => String::from_str(alloc, "the encoding has more than 16777216 octets"),
         Fault::Unread(unread) => of_unread(alloc, unread),
+        Fault::NotAccount(stop) => stop.to_string(alloc),
         Fault::Memory => String::from_str(alloc, "out of memory"),
         Fault::Device(sent) => format!(in alloc; "the output took {sent} octets and then no more"),
         Fault::File(name) => of_file(alloc, name.as_str(), "could not be read"),
@@ -83,13 +84,16 @@ fn file_of(alloc: Global, job: &Job, number: usize) -> Result<String, AllocError
     }
 }
 
-/// What is told behind the number and the name of a fault.
+/// What follows the number and the name of a fault.
 fn told_behind(
     alloc: Global,
     job: &Job,
     texts: &[Vec<u8>],
     fault: &Fault,
 ) -> Result<String, AllocError> {
+    if let Fault::NotAccount(stop) = fault {
+        return of_account(alloc, job.account.as_str(), stop);
+    }
     let Some(number) = text_number(alloc, texts, fault)? else {
         let words = sentence(alloc, texts, &[], fault)?;
         let line = format!(in alloc; ": {words}")?;
@@ -115,12 +119,17 @@ fn told_behind(
     Ok(told)
 }
 
-/// One line that tells a user of a fault that a job met in the texts of its files, as
-/// `error 20 Unexpected: m.asn:3:14: found '}', expected a type`: the number and the name of the fault, the file, the
-/// line and the column of the place, both counted from 1, the column in characters, and what was found and expected
-/// there. Of octets that are not read, the place of the octet, from 0, and the part of the value that was being read, as
-/// `error 80 Truncated: at octet 17, in a.b[2].c: the octets end ..`. Where the job asks for the context and the fault stands at an octet of a text, its line and a line with a
-/// caret follow. Of the texts and of names at most 60 characters are shown at once.
+/// One line that reports a fault that a job met in the texts of its files.
+///
+/// An example is `error 20 Unexpected: m.asn:3:14: found '}', expected a type`. The parts are the number and the name
+/// of the fault, the file, the line and the column of the place, and what was found and expected there. Line and column
+/// are counted from 1, the column in characters. For octets that can't be read the line has the place of the octet,
+/// from 0, and the part of the value that was being read: `error 80 Truncated: at octet 17, in a.b[2].c: the octets end
+/// ..`. For an account it has the file, and the octet and the row at which the text stops being an account, both from
+/// 0.
+///
+/// If the job asks for the context and the fault is at an octet of a text, that line of the text and a line with a
+/// caret follow. At most 60 characters of a text or a name are shown at once.
 pub fn report(
     alloc: Global,
     job: &Job,

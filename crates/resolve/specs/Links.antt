@@ -1,4 +1,4 @@
--- Modules that are linked, and why modules can't be.
+-- Modules that are linked, and why modules can't be (X.680, clauses 13, 14, 16, 19, 20, 22, 25, 27 and 29).
 use Rattle.std.specs.Prelude.{◌≡◌, ◌≤◌, ◌⊎◌, List, length}
 use Rattle.trees.specs.Modules.{ModuleTree}
 use Rattle.names.specs.declared.fault.NameFault.{NameFault}
@@ -27,7 +27,9 @@ pub record Links (ms : List ModuleTree) (p : Program) : Type 0 where
   pub named : AreNamed ms
   pub few : AreFew ms
   pub program : IsProgramOf ms p
+  -- the program has at most 65,536 written types (own rule: a limit)
   pub types : length p.types ≤ 65536
+  -- references and tags lead from each type to one that is neither
   pub unfolds : AllUnfold p.types
   pub sound : IsSound p
 

@@ -1,4 +1,4 @@
--- What linked modules are seen as: their names, and their types and values by number.
+-- Linked modules as they are seen: their names, and their types and values by number; no clause.
 use Rattle.std.specs.Prelude.{◌≡◌, ◌<◌, ℕ, Some, List, map, slice_get, length}
 use Rattle.trees.specs.Values.{Name}
 use Rattle.trees.specs.declared.module.TagDefault.{TagDefault}
@@ -13,13 +13,17 @@ use Rattle.type_table.specs.declared.table.Written.{Written}
 use Rattle.type_table.specs.Seen.{types_of}
 use Rattle.type_table.specs.Table.{Type', IsLinked}
 
+-- linked modules, with all their assignments, types and values by number
 pub record Program : Type 0 where
+  -- what each module assigns, imports and exports, by the name of the module
   pub modules : List (Name × Module)
   -- the modules' names and tag defaults, in order
   pub headers : List (Name × TagDefault)
-  -- each with its module's number and its name
+  -- all assignments, each with its module's number and its name
   pub assignments : List (ℕ × Name)
+  -- all written types, by number
   pub types : List Type'
+  -- all value assignments, by number
   pub values : List Value
 
 -- the program that is seen of names, headers, assignments, types and values as they lie in memory
@@ -49,7 +53,7 @@ pub record IsWhole (p : Program) : Type 0 where
   pub typed : (i : ℕ) (t : Type') → slice_get p.types i ≡ Some t → t.assignment < length p.assignments
   pub placed : (i : ℕ) (a : ℕ × Name) → slice_get p.assignments i ≡ Some a → a.0 < length p.headers
 
--- the assignment of name x stands in module M
+-- the assignment with this number is that of name x in module M
 pub record IsAssignment (p : Program) (assignment : ℕ) (M x : Name) : Type 0 where
   pub owner : ℕ
   pub tags : TagDefault

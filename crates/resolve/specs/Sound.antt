@@ -1,4 +1,5 @@
--- What the lists in written types and the names in notations have to keep, and what faults say of programs that don't.
+-- What lists in written types and names in notations have to keep (X.680, clauses 14.6, 19, 20, 22, 25, 27 and 29), and
+-- what errors say of other programs.
 use Rattle.std.specs.Prelude.{◌≡◌, ◌⊎◌, ℕ, Some, slice_get}
 use Rattle.trees.specs.Values.{Name}
 use Rattle.names.specs.declared.fault.NameFault.{NameFault}
@@ -15,25 +16,27 @@ use Rattle.type_table.specs.Table.{Kind, Type'}
 use Rattle.resolve.specs.Program.{Program, IsAssignment, IsTypeIn, IsValueIn}
 use Rattle.resolve.specs.Qualified.{qualified, qualified_in, MeanValues}
 
--- names behind modules' names stand for values in types (X.680, clause 14.6)
+-- names after modules' names in the DEFAULTs and constraints of types mean values (X.680, clause 14.6)
 abbrev pub TypesMean : Program → Type 0
 TypesMean p = (i : ℕ) (t : Type') (M x : Name) →
     slice_get p.types i ≡ Some t →
     IsAssignment p t.assignment M x →
     MeanValues p.modules M (qualified_in t)
 
--- and in the values that are assigned
+-- names after modules' names in the values that are assigned mean values (X.680, clause 14.6)
 abbrev pub ValuesMean : Program → Type 0
 ValuesMean p = (i : ℕ) (v : Value) (M x : Name) →
     slice_get p.values i ≡ Some v →
     IsAssignment p v.assignment M x →
     MeanValues p.modules M (qualified v.notation)
 
--- lists and names in types and values are as they have to be
+-- the lists of a program, and the names in its types and values, are as is required of linked modules
 pub record IsSound (p : Program) : Type 0 where
+  -- the names and numbers of a list are distinct, and no limit is passed
   pub lists : AreSound p.types
   pub types : TypesMean p
   pub values : ValuesMean p
+  -- no type of a component with a DEFAULT leads back to its list (own rule)
   pub defaults : NoDefaultCircles p.types
 
 -- ---- faults

@@ -15,10 +15,10 @@ pub enum RowFault {
     /// The file is not UTF-8.
     #[error("the file is not UTF-8")]
     NotUtf8,
-    /// A row has no words, or a text stands outside a row.
+    /// A row has no words, or a text is outside a row.
     #[error("line {0}: no row")]
     NoRow(usize),
-    /// The line stands outside a text, and is no comment.
+    /// The line is outside a text, and is no comment.
     #[error("line {0}: no mark and no comment")]
     NoMark(usize),
     /// The text that begins here has a line without a number.

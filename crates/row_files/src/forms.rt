@@ -24,7 +24,7 @@ pub fn is_among(words: &[String], word: &str) -> bool
     words.iter().any(|other| other.as_str() == word)
 }
 
-/// How a row with these words has its texts read.
+/// The form in which the texts of a row with these words are read.
 pub fn form_of(words: &[String]) -> TextForm {
     TextForm {
         lines: is_among(words, "lines"),
@@ -33,7 +33,7 @@ pub fn form_of(words: &[String]) -> TextForm {
     }
 }
 
-/// Writes a piece with a number at each `#`, and a blank behind it.
+/// Writes a piece with a number in place of each `#`, and a space after it.
 fn put_copy(out: &mut String, piece: &str, number: usize) -> Result<(), AllocError> {
     let mut is_first = true;
     for part in piece.split('#') {
@@ -46,7 +46,7 @@ fn put_copy(out: &mut String, piece: &str, number: usize) -> Result<(), AllocErr
     out.push(' ')
 }
 
-/// Writes a piece so many times, with the copy's number, from 0, at each `#`.
+/// Writes a piece `times` times, with the copy's number, from 0, in place of each `#`.
 fn put_times(out: &mut String, piece: &str, times: usize) -> Result<(), AllocError> {
     for number in 0..times {
         put_copy(out, piece, number)?;
@@ -54,7 +54,7 @@ fn put_times(out: &mut String, piece: &str, times: usize) -> Result<(), AllocErr
     Ok(())
 }
 
-/// What lines of numbers and pieces stand for.
+/// The text that lines of numbers and pieces stand for.
 fn repeated(alloc: Global, text: &str, number: usize) -> Result<String, RowFault>
     ensures { IfErr result IsOfText }
 {
@@ -69,7 +69,7 @@ fn repeated(alloc: Global, text: &str, number: usize) -> Result<String, RowFault
     Ok(out)
 }
 
-/// The octets that hexadecimal digits tell.
+/// The octets of hexadecimal digits.
 fn octets_of_hex(alloc: Global, text: &str, number: usize) -> Result<Vec<u8>, RowFault>
     ensures { IfErr result IsOfText }
 {
@@ -96,7 +96,7 @@ fn octets_of(alloc: Global, form: TextForm, text: &str, number: usize) -> Result
     Ok(whole.into_bytes())
 }
 
-/// Puts a text, or each of its lines, behind the texts of a row.
+/// Adds a text, or each of its lines, after the texts of a row.
 pub fn put_texts(
     alloc: Global,
     texts: &mut Vec<RowText>,

@@ -1,17 +1,18 @@
-//! Files of rows: what is asked in a test, and the texts that it is asked of.
+//! Files of rows: what a test asks, and the texts that it asks about.
 //!
 //! A file is read line by line.
 //!
-//! - `=== WORD..` begins a row. The first word says what is asked, and any others how.
+//! - `=== WORD..` begins a row. The first word says what the row asks, and any others how.
 //! - `--- NAME` begins a text of that row. The lines up to the next mark are the text, without the last line end.
 //! - `===` alone ends a row.
-//! - Outside a text a line may be empty, be `#`, or begin with `# `: a comment, as where the answer comes from.
+//! - A line outside a text may be empty, be `#`, or begin with `# `. It is a comment, for example on the source of the
+//!   answer.
 //!
-//! Words of a row that change how its texts are read, in this order:
+//! These words of a row change how its texts are read, in this order:
 //!
 //! - `lines`: each line is a text of its own.
-//! - `repeat`: each line is `NUMBER TEXT`, and stands for so many times TEXT, each with a blank behind it, and with
-//!   its own number, from 0, in the place of each `#`. All of a text's lines stand one behind the other.
+//! - `repeat`: each line is `NUMBER TEXT`, and stands for NUMBER copies of TEXT, each with a space after it. Each copy
+//!   has its own number, from 0, in the place of each `#`. The copies of all lines of a text follow each other.
 //! - `hex`: the text is hexadecimal octets. White space is left out.
 #![tactic(auto)]
 

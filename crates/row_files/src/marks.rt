@@ -6,7 +6,7 @@ ghost use Rattle.row_files.specs.Rows.{IsOfText};
 use crate::fault::RowFault;
 use std::alloc::Global;
 
-/// A row as it is written.
+/// A row of the file, before its texts are read in their form.
 #[derive(Drop)]
 pub struct Block {
     pub line: usize,
@@ -14,7 +14,7 @@ pub struct Block {
     pub texts: Vec<Written>,
 }
 
-/// A text as it is written: its lines, each with its end.
+/// A text of the file, before it is read in its form: its lines, each with its end.
 #[derive(Drop)]
 pub struct Written {
     pub name: String,
@@ -22,7 +22,7 @@ pub struct Written {
     pub lines: String,
 }
 
-/// What a line is.
+/// What a line means by its mark.
 enum Line<'t> {
     Row(&'t str),
     End,
@@ -30,7 +30,7 @@ enum Line<'t> {
     Other(&'t str),
 }
 
-/// Where a line stands.
+/// The part of the file that a line is in.
 #[derive(Clone, Copy)]
 enum Place {
     Outside,
@@ -94,7 +94,7 @@ fn begin_text(
     Ok(())
 }
 
-/// Puts a line behind those of the last text.
+/// Adds a line after those of the last text.
 fn put_line(blocks: &mut Vec<Block>, line: &str) -> Result<(), RowFault>
     ensures { IfErr result IsOfText }
 {
@@ -107,7 +107,7 @@ fn put_line(blocks: &mut Vec<Block>, line: &str) -> Result<(), RowFault>
     Ok(())
 }
 
-/// Reads a line, and answers where the next one stands.
+/// Reads a line, and returns the part of the file that the next line is in.
 fn read_line(
     alloc: Global,
     blocks: &mut Vec<Block>,
@@ -137,7 +137,7 @@ fn read_line(
     }
 }
 
-/// The rows of a file, as they are written.
+/// The rows of a file, before their texts are read in their forms.
 pub fn blocks_of(alloc: Global, file: &str) -> Result<Vec<Block>, RowFault>
     ensures { IfErr result IsOfText }
 {

@@ -9,12 +9,12 @@ use crate::forms::{form_of, is_among, put_texts};
 use crate::marks::{Block, blocks_of};
 use std::alloc::Global;
 
-/// What is asked, and of which texts.
+/// What a row asks, and its texts.
 #[derive(Drop)]
 pub struct Row {
-    /// The line of its mark, counted from 1.
+    /// The line of the row's mark, counted from 1.
     pub line: usize,
-    /// The words behind its mark, one at least.
+    /// The words after the row's mark, at least one.
     pub words: Vec<String>,
     pub texts: Vec<RowText>,
 }
@@ -22,15 +22,15 @@ pub struct Row {
 /// A text of a row.
 #[derive(Drop)]
 pub struct RowText {
-    /// What stands behind its mark.
+    /// The words after the text's mark.
     pub name: String,
-    /// The line of its mark, or its own line where each line is a text.
+    /// The line of the text's mark, or the text's own line if each line is a text.
     pub line: usize,
     pub octets: Vec<u8>,
 }
 
 impl Row {
-    /// What is asked: the first word.
+    /// What the row asks: its first word.
     pub fn command(&self) -> &str
         ensures { result.now ≡ first_word (map string_bytes self.now.words.items) }
     {
@@ -66,7 +66,7 @@ fn row_of(alloc: Global, block: Block) -> Result<Row, RowFault>
 /// The rows of a file, in order.
 ///
 /// # Errors
-/// `NotUtf8` just where the file is not UTF-8, whatever else is wrong in it; else the first line that is wrong, as
+/// `NotUtf8` exactly if the file is not UTF-8, whatever else is wrong in it. Else the first line that is wrong, as
 /// `RowFault` says.
 pub fn rows(alloc: Global, file: &[u8]) -> Result<Vec<Row>, RowFault>
     ensures text { IfOk result (λ _. IsUtf8 file.now) }

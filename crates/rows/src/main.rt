@@ -2,7 +2,7 @@
 //! where it is another one than the row wants.
 //!
 //! The files that its words name are files of rows. A row's first word is a command and its second the row's own name:
-//! `line`, `asnc` and `job`, each described where it is answered and at the head of the files that use it. A text of a
+//! `line`, `asnc`, `job`, `octcheck`, `octjob` and `sweep`, each described where it is answered and at the head of the files that use it. A text of a
 //! row that is named `wanted` is the answer that it has to have, as `wanted` says; nothing of it is known here. The
 //! answers that the stored run compares, and what rows want, are written by hand or made by other tools, not taken from
 //! this program, but for those of `hints.rows` and lists of expected tokens, which were compared by hand with the
@@ -13,6 +13,7 @@
 mod programs;
 mod refusal;
 mod requests;
+mod sweeps;
 mod wanted;
 
 use crate::refusal::{Refusal, told};
@@ -26,8 +27,11 @@ use std::{env, fs, io};
 fn answer_of(alloc: Global, row: &Row) -> Result<String, Refusal> {
     match row.command() {
         "line" => programs::line(alloc, row),
-        "asnc" => programs::asnc(alloc, row),
-        "job" => programs::job_of(alloc, row),
+        "asnc" => programs::run(alloc, row, "asnc"),
+        "octcheck" => programs::run(alloc, row, "octcheck"),
+        "job" => programs::job_of(alloc, row, "asnc"),
+        "octjob" => programs::job_of(alloc, row, "octcheck"),
+        "sweep" => sweeps::sweep(alloc, row),
         _ => Err(told(alloc, &"no such command")),
     }
 }

@@ -1,10 +1,11 @@
-//! What the program asnc answers to its words and to texts.
+//! What the programs asnc and octcheck answer to their words and to texts.
 
 use crate::refusal::Refusal;
 use crate::requests::{asked, texts_of, word};
 use crate::wanted::is_wanted;
 use asnc::{Fault, Kit, Rules, status};
 use command_line::{Given, Job, Verb, job};
+use judging::{answer, judge};
 use reports::report;
 use row_files::{Row, RowText};
 use std::alloc::{AllocError, Global};
@@ -27,10 +28,15 @@ fn given_in(alloc: Global, row: &Row, given: &Given) -> Result<Vec<u8>, Fault> {
     match given {
         Given::Nothing => Ok(Vec::new(alloc)),
         Given::Octets(octets) => Ok(octets.clone()?),
-        Given::Path(file) => match row.texts.iter().find(|t| t.name.as_str() == file.as_str()) {
-            Some(text) => Ok(text.octets.clone()?),
-            None => Err(Fault::File(file.clone()?)),
-        },
+        Given::Path(file) => octets_of(row, file),
+    }
+}
+
+/// The octets of a file from a row's texts.
+fn octets_of(row: &Row, file: &String) -> Result<Vec<u8>, Fault> {
+    match row.texts.iter().find(|t| t.name.as_str() == file.as_str()) {
+        Some(text) => Ok(text.octets.clone()?),
+        None => Err(Fault::File(file.clone()?)),
     }
 }
 
@@ -43,8 +49,8 @@ fn value_of(alloc: Global, job: &Job, kit: &Kit, octets: &[u8]) -> Result<String
     Ok(text)
 }
 
-/// What a job asks for: octets, in hexadecimal, a value, or the listing.
-fn work(alloc: Global, job: &Job, texts: &[Vec<u8>], octets: &[u8]) -> Result<String, Fault> {
+/// What a job of asnc asks for: octets, in hexadecimal, a value, an account, or the listing.
+fn kit_work(alloc: Global, job: &Job, texts: &[Vec<u8>], octets: &[u8]) -> Result<String, Fault> {
     let kit = Kit::open(alloc, texts)?;
     match job.verb {
         Verb::Der => {
@@ -52,8 +58,29 @@ fn work(alloc: Global, job: &Job, texts: &[Vec<u8>], octets: &[u8]) -> Result<St
             Ok(hex::encode_upper(alloc, octets.as_slice())?)
         }
         Verb::Ber => value_of(alloc, job, &kit, octets),
-        Verb::List => kit.list(alloc),
+        Verb::Uper => {
+            let octets = kit.uper(alloc, job.ty.as_str(), job.value.as_str())?;
+            Ok(hex::encode_upper(alloc, octets.as_slice())?)
+        }
+        Verb::Account => kit.account(alloc, job.ty.as_str(), job.value.as_str()),
+        Verb::List | Verb::Check => kit.list(alloc),
     }
+}
+
+/// What a job asks for. The octets are those that it gives, and the account's text is what its account's file holds.
+fn work(
+    alloc: Global,
+    job: &Job,
+    texts: &[Vec<u8>],
+    octets: &[u8],
+    account: &[u8],
+) -> Result<String, Fault> {
+    if job.verb != Verb::Check {
+        return kit_work(alloc, job, texts, octets);
+    }
+    let (ty, value) = (job.ty.as_str(), job.value.as_str());
+    let verdict = judge(alloc, texts, ty, value, octets, account)?;
+    Ok(String::from_str(alloc, answer(verdict))?)
 }
 
 /// What is told of a job: what it asks for, or the line of its fault.
@@ -62,8 +89,9 @@ fn outcome(
     job: &Job,
     texts: &[Vec<u8>],
     octets: &[u8],
+    account: &[u8],
 ) -> Result<String, AllocError> {
-    match work(alloc, job, texts, octets) {
+    match work(alloc, job, texts, octets, account) {
         Ok(told) => Ok(told),
         Err(fault) => {
             let line = report(alloc, job, texts, &fault)?;
@@ -117,49 +145,91 @@ pub fn line(alloc: Global, row: &Row) -> Result<String, Refusal> {
         files: names_of(alloc, row.texts.as_slice())?,
     };
     let texts = texts_of(alloc, row)?;
-    Ok(outcome(alloc, &job, texts.as_slice(), &[])?)
+    Ok(outcome(alloc, &job, texts.as_slice(), &[], &[])?)
 }
 
-/// The words of a command line: those behind the row's name. `\n` stands for a line end.
-fn command_line(alloc: Global, row: &Row) -> Result<Vec<String>, AllocError> {
+/// The words of a program's command line: those behind the row's name. `\n` stands for a line end.
+fn command_line(alloc: Global, row: &Row, program: &str) -> Result<Vec<String>, AllocError> {
     let mut words = Vec::new(alloc);
-    words.push(String::from_str(alloc, "asnc")?)?;
+    words.push(String::from_str(alloc, program)?)?;
     for word in &asked(alloc, row)? {
         words.push(word.replace(alloc, "\\n", "\n")?)?;
     }
     Ok(words)
 }
 
-/// The job of a row's command line.
-fn job_in(alloc: Global, row: &Row) -> Result<Job, Refusal> {
-    let words = command_line(alloc, row)?;
+/// The job of a row's command line for a program.
+fn job_in(alloc: Global, row: &Row, program: &str) -> Result<Job, Refusal> {
+    let words = command_line(alloc, row, program)?;
     match job(alloc, words.as_slice()) {
         Ok(job) => Ok(job),
         Err(fault) => Err(refused(alloc, &fault)),
     }
 }
 
-/// `asnc NAME WORD..`: what the program prints for these words, with the row's texts as its files.
-pub fn asnc(alloc: Global, row: &Row) -> Result<String, Refusal> {
-    let job = job_in(alloc, row)?;
-    let octets = match given_in(alloc, row, &job.octets) {
-        Ok(octets) => octets,
-        Err(fault) => return Err(refused(alloc, &fault)),
-    };
-    let texts = match octets_in(alloc, row, job.files.as_slice()) {
-        Ok(texts) => texts,
-        Err(fault) => return Err(refused(alloc, &fault)),
-    };
-    Ok(outcome(alloc, &job, texts.as_slice(), octets.as_slice())?)
+/// What a row's job hands in, from the row's texts.
+#[derive(Drop)]
+pub struct Asked {
+    pub job: Job,
+    pub octets: Vec<u8>,
+    pub account: Vec<u8>,
+    pub texts: Vec<Vec<u8>>,
 }
 
-/// `job NAME WORD..`: what these words ask for, a line each.
-pub fn job_of(alloc: Global, row: &Row) -> Result<String, Refusal> {
-    let job = job_in(alloc, row)?;
+/// What a row's job names, in the order of its words.
+fn named_in(alloc: Global, row: &Row, job: Job) -> Result<Asked, Fault> {
+    let octets = given_in(alloc, row, &job.octets)?;
+    let account = if job.account.is_empty() {
+        Vec::new(alloc)
+    } else {
+        octets_of(row, &job.account)?
+    };
+    let texts = octets_in(alloc, row, job.files.as_slice())?;
+    Ok(Asked {
+        job,
+        octets,
+        account,
+        texts,
+    })
+}
+
+/// What the words of a row's command line for a program name.
+pub fn asked_in(alloc: Global, row: &Row, program: &str) -> Result<Asked, Refusal> {
+    let job = job_in(alloc, row, program)?;
+    match named_in(alloc, row, job) {
+        Ok(asked) => Ok(asked),
+        Err(fault) => Err(refused(alloc, &fault)),
+    }
+}
+
+/// `asnc NAME WORD..` and `octcheck NAME WORD..`: what the program prints for these words, with the row's texts as its
+/// files.
+pub fn run(alloc: Global, row: &Row, program: &str) -> Result<String, Refusal> {
+    let Asked {
+        job,
+        octets,
+        account,
+        texts,
+    } = asked_in(alloc, row, program)?;
+    Ok(outcome(
+        alloc,
+        &job,
+        texts.as_slice(),
+        octets.as_slice(),
+        account.as_slice(),
+    )?)
+}
+
+/// `job NAME WORD..` and `octjob NAME WORD..`: what these words of asnc, or of octcheck, ask for, a line each.
+pub fn job_of(alloc: Global, row: &Row, program: &str) -> Result<String, Refusal> {
+    let job = job_in(alloc, row, program)?;
     let verb = match job.verb {
         Verb::Der => "der",
         Verb::Ber => "ber",
+        Verb::Uper => "uper",
+        Verb::Account => "account",
         Verb::List => "list",
+        Verb::Check => "check",
     };
     let octets = match job.octets {
         Given::Nothing => "nothing",

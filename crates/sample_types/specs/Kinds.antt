@@ -1,4 +1,4 @@
--- The types of the schema: the numbers of their tags, and what they hold.
+-- The types of the schema: the numbers of their tags, and their kinds.
 use Rattle.std.specs.Prelude.{◌≡◌, ℕ, pos, negsuc, true, false, List, [], ◌∷◌, Some, None}
 use Rattle.asn_base.specs.declared.tag.Tag.{Tag}
 use Rattle.asn_base.specs.declared.strings.StringKind.TheVariants.{Numeric}
@@ -8,12 +8,12 @@ use Rattle.asn_base.specs.Types.{a_named_bit_string, an_octet_string, a_null, an
 use Rattle.asn_base.specs.Types.{a_utf8_string, a_restricted_string, a_sequence, a_set, a_sequence_of, a_set_of, a_choice}
 use Rattle.asn_base.specs.Types.{Alternative, Component, mandatory, optional, default, addition, Resolved}
 
--- the numbers of a type's tags, and what it holds
+-- the numbers of a type's tags, and its kind
 pub record Told : Type 0 where
   pub numbers : List ℕ
   pub kind : Kind
 
--- a type of one tag
+-- a type with one tag
 abbrev pub told : ℕ → Kind → Told
 told n k = record { numbers = n ∷ []; kind = k }
 
@@ -69,7 +69,7 @@ grouped =
     ∷ record { name = 99 ∷ []; type = 7; presence = addition true (Some 0) }
     ∷ []
 
--- {a INTEGER, n NULL}, and {b-c .., ..., d BOOLEAN} of the one before
+-- {a INTEGER, n NULL}, and {b-c .., ..., d BOOLEAN}, where b-c is of that CHOICE
 abbrev pub inner : List Alternative
 inner = record { name = 97 ∷ []; type = 1 } ∷ record { name = 110 ∷ []; type = 7 } ∷ []
 
@@ -93,7 +93,7 @@ just_three = record {
   visible = record { least = Some (pos 3); greatest = Some (pos 3); extensible = false };
 }
 
--- 1 to 2, and a marker: so any
+-- 1 to 2, and a marker: so every size is allowed
 abbrev pub one_or_more : Constraint
 one_or_more = record { allowed = None; visible = record { least = Some (pos 1); greatest = Some (pos 2); extensible = true } }
 
@@ -142,7 +142,7 @@ optional_first =
     ∷ record { name = 98 ∷ []; type = 33; presence = mandatory }
     ∷ []
 
--- {a [0] INTEGER, ..., b [1] BOOLEAN}, and {s .. DEFAULT {a 1}} of it
+-- {a [0] INTEGER, ..., b [1] BOOLEAN}, and {s .. DEFAULT {a 1}}, where s is of that SEQUENCE
 abbrev pub newer : List Component
 newer =
     record { name = 97 ∷ []; type = 37; presence = mandatory }
@@ -166,7 +166,7 @@ mixed =
     ∷ record { name = 100 ∷ []; type = 28; presence = addition false None }
     ∷ []
 
--- {a [0] NULL}, and with OPTIONAL
+-- {a [0] NULL}, and the same with OPTIONAL
 abbrev pub one_null : List Component
 one_null = record { name = 97 ∷ []; type = 50; presence = mandatory } ∷ []
 
@@ -203,7 +203,7 @@ nested = record { name = 97 ∷ []; type = 42; presence = mandatory } ∷ []
 abbrev pub newer_or_truth : List Alternative
 newer_or_truth = record { name = 97 ∷ []; type = 42 } ∷ record { name = 98 ∷ []; type = 28 } ∷ []
 
--- all of them by their number
+-- all types, in order of their numbers
 abbrev pub all_told : List Told
 all_told =
     told 1 a_boolean  -- 0
@@ -273,7 +273,7 @@ abbrev pub numbers_of : List Tag → List ℕ
 numbers_of [] = []
 numbers_of (g ∷ gs) = g.number ∷ numbers_of gs
 
--- types are as they are told, each at its number
+-- the types of a schema have these tags and kinds, in order of their numbers
 abbrev pub AreTold : List Told → List Resolved → Type 0
 AreTold [] [] = Unit {0}
 AreTold [] (r ∷ rs) = ⊥

@@ -1,4 +1,4 @@
-//! A schema with types of each kind, for rows and tests of the crates that stand on schemas.
+//! A schema with types of each kind, for rows and tests of the crates that use schemas.
 #![tactic(auto)]
 
 mod types;

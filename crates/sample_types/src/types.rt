@@ -45,7 +45,7 @@ fn application(alloc: Global, number: u32) -> Result<Vec<Tag>, AllocError>
     Ok(vec![in alloc; Tag::of(Class::Application, number)]?)
 }
 
-/// Adds a type behind those that are there, at its number.
+/// Adds a type after those that are there, with its number.
 fn add(
     alloc: Global,
     types: &mut Vec<Resolved>,
@@ -302,7 +302,7 @@ fn due() -> Addition
     }
 }
 
-/// a [0] BOOLEAN, and behind the marker b [1] INTEGER (0..7), c [2] NULL.
+/// a [0] BOOLEAN, and after the marker b [1] INTEGER (0..7), c [2] NULL.
 fn added_members(alloc: Global) -> Result<Vec<Component>, AllocError>
     ensures { IfOk result (λ cs. map component_of cs.items ≡ two_additions) }
 {
@@ -339,7 +339,7 @@ fn optional_members(alloc: Global) -> Result<Vec<Component>, AllocError>
     Ok(vec![in alloc; a, b]?)
 }
 
-/// a [0] INTEGER, and behind the marker b [1] BOOLEAN.
+/// a [0] INTEGER, and after the marker b [1] BOOLEAN.
 fn newer_members(alloc: Global) -> Result<Vec<Component>, AllocError>
     ensures { IfOk result (λ cs. map component_of cs.items ≡ newer) }
 {
@@ -348,7 +348,7 @@ fn newer_members(alloc: Global) -> Result<Vec<Component>, AllocError>
     Ok(vec![in alloc; a, b]?)
 }
 
-/// s of these members DEFAULT {a 1}.
+/// s of these members, with DEFAULT {a 1}.
 fn newer_member(alloc: Global) -> Result<Vec<Component>, AllocError>
     ensures { IfOk result (λ cs. map component_of cs.items ≡ with_newer) }
 {
@@ -363,7 +363,7 @@ fn newer_member(alloc: Global) -> Result<Vec<Component>, AllocError>
     Ok(vec![in alloc; s]?)
 }
 
-/// a [2] NULL OPTIONAL, b SET OF SET OF INTEGER, c [0] INTEGER DEFAULT 5, and behind the marker d [1] BOOLEAN.
+/// a [2] NULL OPTIONAL, b SET OF SET OF INTEGER, c [0] INTEGER DEFAULT 5, and after the marker d [1] BOOLEAN.
 fn mixed_members(alloc: Global) -> Result<Vec<Component>, AllocError>
     ensures { IfOk result (λ cs. map component_of cs.items ≡ mixed) }
 {
@@ -451,7 +451,7 @@ fn inner_alternatives(alloc: Global) -> Result<Vec<Alternative>, AllocError>
     Ok(vec![in alloc; a, n]?)
 }
 
-/// b-c of the CHOICE before.
+/// b-c of the CHOICE of `inner_alternatives`.
 fn outer_alternatives(alloc: Global) -> Result<Vec<Alternative>, AllocError>
     ensures { IfOk result (λ v. map alternative_of v.items ≡ outer) }
 {
@@ -692,7 +692,7 @@ fn earlier_types(alloc: Global, types: &mut Vec<Resolved>) -> Result<(), AllocEr
     add(alloc, types, 60, universal(alloc, 16)?, optional)
 }
 
-/// The schema of all these types, or `AllocError` for want of memory alone.
+/// The schema of all these types. The error is that there is not enough memory.
 #[tactic(auto, using(crate::proofs::Lawful::lawful))]
 pub fn schema(alloc: Global) -> Result<Schema, AllocError>
     ensures { IfOk result (λ s. AreTold all_told s) }
@@ -724,7 +724,7 @@ const NAMES: &str = "\
     two-numbers two-strings one-truth set-of-one-truth nested newer-or-truth newer-elements \
     optional-number none-such";
 
-/// The number of the type with this name; `none-such` is the number behind the last one.
+/// The number of the type with this name; `none-such` has the number after the last type.
 pub fn type_named(name: &str) -> Option<TypeId> {
     let index = NAMES.split(' ').position(|other| other == name)?;
     Some(TypeId { index })

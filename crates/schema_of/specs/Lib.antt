@@ -1,2 +1,2 @@
--- What has to be believed: when the types of a schema are those of a program (`SchemaOf`).
+-- What a reader has to believe: when the types of a schema are those of a program (`SchemaOf`).
 pub mod SchemaOf

@@ -1,6 +1,6 @@
--- When resolved types are those of a program: type i of the schema is what the written type i is behind its references
--- and tags, with the same names, numbers and parts (X.680, clauses 17 to 33 and 41). What constraints allow is a
--- parameter, as in the values of types.
+-- When resolved types are those of a program (X.680, clauses 17 to 33 and 41). Type i of the schema is the written type
+-- i after its references and tags, with the same names, numbers and parts. What constraints allow is a parameter, as in
+-- the values of types.
 use Rattle.std.specs.Prelude.{◌≡◌, ◌↔◌, ℕ, ◌<◌, ◌≤◌, ℤ, pos, Bool, true, false, List, [], ◌∷◌, length, map}
 use Rattle.std.specs.Prelude.{Option, Some, None, slice_get}
 use Rattle.asn_base.specs.declared.strings.StringKind.{StringKind}
@@ -24,24 +24,26 @@ use Rattle.value_notations.specs.Notations.{Notation}
 
 -- ---- items and bits
 
+-- the named bit of a schema with the name and the place of a written one
 abbrev pub named_bit : Name × ℕ → NamedBit
 named_bit b = record { name = b.0; place = b.1 }
 
+-- the item of a schema with name x and number z
 abbrev pub numbered_item : Name → ℤ → types.Item
 numbered_item x z = record { name = x; number = z }
 
--- the item stands in the root
+-- item x of a written enumeration, with number z, is in the root
 pub record IsRootItem (root more : List Item) (x : Name) (z : ℤ) : Type 0 where
   pub item : IsItem root more x z
   pub in_root : item.place < length root
 
--- the item stands behind the marker
+-- item x of a written enumeration, with number z, is after the extension marker
 pub record IsAddedItem (root more : List Item) (x : Name) (z : ℤ) : Type 0 where
   pub item : IsItem root more x z
   pub behind : length root ≤ item.place
 
--- the items of an enumeration, each with its number, in any order: those of the root, and those behind the marker,
--- which is there or not
+-- The items in a schema are those of a written enumeration, each with its number, in any order (X.680, clause 20). They
+-- are those of the root, and those after the marker; the flag says whether there is a marker.
 pub record AreItemsOf (root : List Item) (more : Option (List Item)) (in_root : List types.Item) (marker : Bool)
     (added : List types.Item) : Type 0 where
   pub roots : (x : Name) (z : ℤ) → (IsMember (numbered_item x z) in_root ↔ IsRootItem root (additions_of more) x z)
@@ -50,8 +52,8 @@ pub record AreItemsOf (root : List Item) (more : Option (List Item)) (in_root : 
 
 -- ---- components and alternatives
 
--- whether component c of a list that is written in module M may be absent; a DEFAULT is the value that its notation
--- stands for
+-- The presence in a schema is that of component c of a list that is written in module M (X.680, clauses 25 and 27). A
+-- DEFAULT is the value that its notation stands for.
 pub data IsPresenceOf (p : Program) (M : Name) (c : Part) : Presence → Type 0 where
   is_mandatory :
       c.standing ≡ Root →
@@ -75,12 +77,13 @@ pub data IsPresenceOf (p : Program) (M : Name) (c : Part) : Presence → Type 0 
       c.presence ≡ optional →
       IsPresenceOf p M c (types.addition true g)
 
+-- component d of a schema has the name, the type and the presence of component c of a list that is written in module M
 pub record IsComponentOf (p : Program) (M : Name) (c : Part) (d : Component) : Type 0 where
   pub name : d.name ≡ c.name
   pub type : d.type ≡ c.ty
   pub presence : IsPresenceOf p M c d.presence
 
--- components in the order in which they are written
+-- the components of a schema are those of a list that is written in module M, in the order of the text
 pub data AreComponentsOf (p : Program) (M : Name) : List Part → List Component → Type 0 where
   no_component : AreComponentsOf p M [] []
   component_and : {c : Part} {cs : List Part} {d : Component} {ds : List Component} →
@@ -88,11 +91,13 @@ pub data AreComponentsOf (p : Program) (M : Name) : List Part → List Component
       AreComponentsOf p M cs ds →
       AreComponentsOf p M (c ∷ cs) (d ∷ ds)
 
+-- alternative a of a schema has the name and the type of the written alternative c
 pub record IsAlternativeOf (c : Part) (a : Alternative) : Type 0 where
   pub name : a.name ≡ c.name
   pub type : a.type ≡ c.ty
 
--- alternatives in the order in which they are written: those of the root, and those behind the marker
+-- the alternatives of a schema are the written ones, in the order of the text, first those of the root, then those
+-- after the marker (X.680, clause 29)
 pub data AreAlternativesOf : List Part → (root more : List Alternative) → Type 0 where
   no_alternative : AreAlternativesOf [] [] []
   root_and : {c : Part} {cs : List Part} {a : Alternative} {root more : List Alternative} →
@@ -106,7 +111,7 @@ pub data AreAlternativesOf : List Part → (root more : List Alternative) → Ty
       AreAlternativesOf cs [] more →
       AreAlternativesOf (c ∷ cs) [] (a ∷ more)
 
--- the alternative that is written at this place
+-- alternative a of a schema is the written one at place i of the list, from 0
 pub record IsChosenPart (cs : List Part) (i : ℕ) (a : Alternative) : Type 0 where
   pub part : Part
   pub there : slice_get cs i ≡ Some part
@@ -114,16 +119,16 @@ pub record IsChosenPart (cs : List Part) (i : ℕ) (a : Alternative) : Type 0 wh
 
 -- ---- kinds
 
--- the constraint allows the numbers that type i allows
+-- constraint c of a schema allows in a value exactly the numbers that type i allows
 abbrev pub AllowsNumbersOf : (ℕ → ℤ → Type 0) → ℕ → Constraint → Type 0
 AllowsNumbersOf Allows i c = (z : ℤ) → (IsAllowed c z ↔ Allows i z)
 
--- it allows the sizes that type i allows
+-- constraint c of a schema allows in a value exactly the sizes that type i allows
 abbrev pub AllowsSizesOf : (ℕ → ℤ → Type 0) → ℕ → Constraint → Type 0
 AllowsSizesOf Allows i c = (n : ℕ) → (IsAllowedSize c n ↔ Allows i (pos n))
 
--- Type i, whose core is of the first kind and is written in module M, is of the second kind in a schema. The types that
--- stand in it have the same numbers in both.
+-- Type i, whose core is of the first kind and is written in module M, is of the second kind in a schema. The types
+-- inside it have the same numbers in both.
 pub data IsKindOf (p : Program) (Allows : ℕ → ℤ → Type 0) (AllowsCode : ℕ → ℕ → Type 0) (i : ℕ) (M : Name)
     : Kind → types.Kind → Type 0 where
   boolean : IsKindOf p Allows AllowsCode i M (simple a_boolean) types.a_boolean
@@ -170,20 +175,22 @@ pub data IsKindOf (p : Program) (Allows : ℕ → ℤ → Type 0) (AllowsCode : 
 
 -- ---- types
 
--- what type i is behind its references and tags is of this kind in a schema
+-- type i of program p, after its references and tags, is of kind k in a schema
 pub record IsTypeOf (p : Program) (Allows : ℕ → ℤ → Type 0) (AllowsCode : ℕ → ℕ → Type 0) (i : ℕ) (k : types.Kind)
     : Type 0 where
+  -- the number of the type to which its references and tags lead
   pub core : ℕ
   pub type : Type'
   pub leads : IsCore p.types i core
   pub there : slice_get p.types core ≡ Some type
+  -- the module in which the core is written
   pub within : Name
   pub assigns : Name
   pub stands : IsAssignment p type.assignment within assigns
   pub kind : IsKindOf p Allows AllowsCode i within type.kind k
 
--- the schema has a type for each written type, by the same number; of its tags and of what the packed encoding sees
--- nothing is said here
+-- Schema s has a type for each written type of program p, with the same number. Nothing is said here about its tags,
+-- and about what the packed encoding sees.
 pub record IsSchemaOf (p : Program) (Allows : ℕ → ℤ → Type 0) (AllowsCode : ℕ → ℕ → Type 0) (s : List Resolved)
     : Type 0 where
   pub as_many : length s ≡ length p.types

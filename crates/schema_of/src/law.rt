@@ -33,7 +33,7 @@ pub fn same_values()
     value_notations::law::one_value();
 }
 
-/// What stands in a schema's type is written in the program's.
+/// The parts of a schema's type are written in the program's type.
 pub fn parts_are_written()
     ensures items { (root : List Item) (more : Option (List Item)) (in_root added : List types.Item)
         (marker : Bool) (x : Name) (z : ℤ)

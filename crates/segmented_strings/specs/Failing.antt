@@ -1,4 +1,4 @@
--- Where segments fail, and why: the first fault from the front.
+-- Where segments fail, and why: the first fault.
 use Rattle.std.specs.Prelude.{◌≡◌, ℕ, suc, ◌+◌, ◌%◌, ◌≤◌, Bool, true, false, List, [], length}
 use Rattle.asn_base.specs.declared.tag.Tag.{Tag}
 use Rattle.encodings.specs.Header.{Octets}
@@ -9,7 +9,7 @@ use Rattle.segmented_strings.specs.declared.fault.Why.{Why}
 use Rattle.segmented_strings.specs.declared.fault.Why.TheVariants as whys
 use Rattle.segmented_strings.specs.Within.{UnitAt, PiecesWithin, BitPiecesWithin}
 
--- at the front of octets no header stands with its contents, or one too deep, or one of another tag than a segment's
+-- octets don't start with a header and its contents, or the header is too deep, or has another tag than a segment's
 pub data NoSegment (tag : Tag) (room : ℕ) (o : Octets) : Why → Type 0 where
   no_header : {e : HeaderFault} → 1 ≤ length o → Stands e o → NoSegment tag room o (whys.Header e)
   too_deep : {g : Tag} {c : Bool} {n k : ℕ} → HeaderAt g c n k o → room ≡ 0 → NoSegment tag room o whys.TooDeep
@@ -19,14 +19,15 @@ pub data NoSegment (tag : Tag) (room : ℕ) (o : Octets) : Why → Type 0 where
       → (g ≡ tag → ⊥)
       → NoSegment tag room o whys.UnexpectedTag
 
--- a place in the contents of a segment with so long a header, and one behind it
+-- a place i in the contents of a segment, and a place i in what follows it, counted from the start of the segment's
+-- header
 abbrev pub within_segment : {g : Tag} {c : Bool} {x rest o : Octets} → UnitAt g c x rest o → ℕ → ℕ
 within_segment u i = length u.header + i
 
 abbrev pub behind_segment : {g : Tag} {c : Bool} {x rest o : Octets} → UnitAt g c x rest o → ℕ → ℕ
 behind_segment {x = x} u i = length u.header + (length x + i)
 
--- segments of octets fail with this fault at this place, where so many levels of headers may stand
+-- segments of octets fail with this fault at this place, within `room` levels of headers
 pub data OctetsFail : (room : ℕ) → Why → (at : ℕ) → Octets → Type 0 where
   no_octets : {room : ℕ} {e : Why} {o : Octets} → NoSegment octet_string_tag room o e → OctetsFail room e 0 o
   -- in a constructed segment
@@ -34,7 +35,7 @@ pub data OctetsFail : (room : ℕ) → Why → (at : ℕ) → Octets → Type 0 
       → OctetsFail room e i x
       → at ≡ within_segment u i
       → OctetsFail (suc room) e at o
-  -- behind a segment
+  -- after a segment
   behind_octets : {room i at : ℕ} {e : Why} {s : Octets} {c : Bool} {x rest o : Octets}
       (u : UnitAt octet_string_tag c x rest o)
       → PiecesWithin room s c x
@@ -42,12 +43,12 @@ pub data OctetsFail : (room : ℕ) → Why → (at : ℕ) → Octets → Type 0 
       → at ≡ behind_segment u i
       → OctetsFail (suc room) e at o
 
--- segments of bits fail
+-- segments of bits fail with this fault at this place, within `room` levels of headers
 pub data BitsFail : (room : ℕ) → Why → (at : ℕ) → Octets → Type 0 where
   no_bits : {room : ℕ} {e : Why} {o : Octets} → NoSegment bit_string_tag room o e → BitsFail room e 0 o
-  -- there is to be one (8.6.4)
+  -- there must be a segment (8.6.4)
   without_segments : {room : ℕ} {o : Octets} → o ≡ [] → BitsFail room whys.EmptySegments 0 o
-  -- contents of a primitive segment that are those of no bits (8.6.2)
+  -- the contents of a primitive segment are not those of bits (8.6.2)
   bad_bits : {room : ℕ} {x rest o : Octets}
       → UnitAt bit_string_tag false x rest o
       → ((s : List Bool) → WholeBits s x → ⊥)

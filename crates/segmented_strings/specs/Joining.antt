@@ -1,4 +1,4 @@
--- What constructed contents octets of each kind of string are read as, and why they are refused.
+-- The values as which constructed contents octets of each kind of string are read, and why they are refused.
 use Rattle.std.specs.Prelude.{◌≡◌, ℕ, ◌<◌, ◌≤◌, Bool, true, false, length, string_bytes}
 use Rattle.asn_base.specs.Abstract.{AbstractValue, bits, octets, text}
 use Rattle.encodings.specs.Header.{Octets}
@@ -16,30 +16,30 @@ use Rattle.segmented_strings.specs.declared.read.Joined.TheVariants as joined
 use Rattle.segmented_strings.specs.Within.{OctetsWithin}
 use Rattle.segmented_strings.specs.Failing.{OctetsFail, BitsFail}
 
--- the value that is handed over
+-- the value that a joined string is
 abbrev pub Tells : Joined → AbstractValue → Type 0
 Tells (joined.Bits n o) v = v ≡ bits (bits_but n o.items)
 Tells (joined.Octets o) v = v ≡ octets o.items
 Tells (joined.Text s) v = v ≡ text (string_bytes s)
 
--- x are constructed contents octets of v by the basic rules, with so many levels of headers in them at most
+-- x are constructed contents octets of v by the basic rules, with at most `room` levels of headers in them
 pub record IsJoinedAs (k : LeafKind) (v : AbstractValue) (room : ℕ) (x : Octets) : Type 0 where
   pub contents : Contents Basic (plain k) v true x
   pub suits : Suits k v
   pub few : leaf_levels contents ≤ room
 
--- constructed contents octets x of this kind are those of the value that is told
+-- constructed contents octets x of this kind are those of the value that the joined string is
 pub record Reads (k : LeafKind) (room : ℕ) (x : Octets) (j : Joined) : Type 0 where
   pub value : AbstractValue
   pub told : Tells j value
   pub is_joined : IsJoinedAs k value room x
 
--- less than eight bits are unused, and none where there are no octets
+-- fewer than eight bits are unused, and none if there are no octets
 abbrev pub HasFewUnused : Joined → Type 0
 HasFewUnused (joined.Bits n o) = (n < 8) × (length o.items ≡ 0 → n ≡ 0)
 HasFewUnused j = Unit {0}
 
--- what the segments of a kind of string hold
+-- what the segments of a kind of string contain
 pub data Holding : Type 0 where
   nothing : Holding
   some_bits : Holding
@@ -59,7 +59,7 @@ pub data Fails (k : LeafKind) (room : ℕ) : Why → ℕ → Octets → Type 0 w
   bits_fail : {i : ℕ} {e : Why} {x : Octets} → holding k ≡ some_bits → BitsFail room e i x → Fails k room e i x
   octets_fail : {i : ℕ} {e : Why} {x : Octets} → holding k ≡ some_octets → OctetsFail room e i x → Fails k room e i x
   text_fails : {i : ℕ} {e : Why} {x : Octets} → holding k ≡ some_text → OctetsFail room e i x → Fails k room e i x
-  -- the joined octets aren't UTF-8, or have a character that the type lacks (8.23.5, 8.23.10)
+  -- the joined octets aren't UTF-8, or have a character that the type doesn't have (8.23.5, 8.23.10)
   bad_text : {s x : Octets}
       → holding k ≡ some_text
       → OctetsWithin room s x

@@ -1,5 +1,5 @@
--- What contents octets of constructed strings hold (`Within`), where segments fail (`Failing`), and what is added and
--- which refusals are right (`Refusing`); and what each kind of string is read as (`Joining`).
+-- What contents octets of constructed strings contain (`Within`), and where segments fail (`Failing`). What is added,
+-- and which refusals are right (`Refusing`), and the values as which each kind of string is read (`Joining`).
 pub mod Within
 pub mod Failing
 pub mod Refusing

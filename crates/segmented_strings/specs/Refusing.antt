@@ -15,18 +15,18 @@ abbrev pub moved_by : ℕ → SegmentsFault → SegmentsFault
 moved_by n Memory = Memory
 moved_by n (At i e) = At (n + i) e
 
--- a fault that stands at its place, which is one of the octets or their end; want of memory may always be told
+-- a fault with its place, which is one of the octets or their end; `Memory` is always allowed
 pub data IsRefused (Fail : Why → ℕ → Octets → Type 0) : SegmentsFault → Octets → Type 0 where
   for_memory : {o : Octets} → IsRefused Fail Memory o
   at_place : {i : ℕ} {e : Why} {o : Octets} → Fail e i o → i ≤ length o → IsRefused Fail (At i e) o
 
--- octets gained the string that segments hold
+-- octets gained the string that segments contain
 pub record Joins (room : ℕ) (contents old new : Octets) : Type 0 where
   pub string : Octets
   pub holds : OctetsWithin room string contents
   pub joined : new ≡ old ++ string
 
--- octets gained the string of the segment at the front, behind which others stand
+-- octets gained the string of the first segment, which others follow
 pub record JoinsOne (room : ℕ) (octets behind old new : Octets) : Type 0 where
   pub below : ℕ
   pub constructed : Bool
@@ -37,8 +37,8 @@ pub record JoinsOne (room : ℕ) (octets behind old new : Octets) : Type 0 where
   pub holds : PiecesWithin below string constructed contents
   pub joined : new ≡ old ++ string
 
--- octets gained those of the bits that segments hold, as a primitive encoding would have them, behind the octet that
--- tells the unused ones
+-- octets gained those of the bits that segments contain, as a primitive encoding has them after its initial octet,
+-- which gives the number of unused bits
 pub record JoinsBits (room : ℕ) (contents old new : Octets) (unused : ℕ) : Type 0 where
   pub string : List Bool
   pub octets : Octets
@@ -58,7 +58,7 @@ pub record JoinsOneBits (room : ℕ) (front behind old new : Octets) (unused : �
   pub joined : new ≡ old ++ octets
   pub whole : WholeBits string (unused ∷ octets)
 
--- octets are how many unused bits there are, and then others
+-- the octets are the number of unused bits, and then the octets of bits
 pub record IsWhole (unused : ℕ) (rest o : Octets) : Type 0 where
   pub bits : List Bool
   pub is : o ≡ unused ∷ rest

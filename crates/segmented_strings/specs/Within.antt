@@ -1,23 +1,22 @@
--- Strings in segments, within so many levels of headers (X.690, 8.6.4, 8.7.3 and 8.23).
+-- Strings in segments, within a number of levels of headers (X.690, 8.6.4, 8.7.3 and 8.23).
 use Rattle.std.specs.Prelude.{◌≡◌, ℕ, ◌≤◌, Bool, List, ◌++◌, length}
 use Rattle.asn_base.specs.declared.tag.Tag.{Tag}
 use Rattle.encodings.specs.Header.{Octets, Header}
 use Rattle.encodings.specs.Strings.{Pieces, Segments, BitPieces, BitSegments}
 use Rattle.encodings.specs.Levels.{piece_levels, segment_levels, bit_piece_levels, bit_segment_levels}
 
--- at the front of o stands a header of tag g, constructed or not by c; x are the contents that it tells, and rest
--- stands behind them
+-- o starts with a header of tag g, constructed or not by c; x are the contents that it promises, and rest follows them
 pub record UnitAt (g : Tag) (c : Bool) (x rest o : Octets) : Type 0 where
   pub header : Octets
   pub is_header : Header g c (length x) header
   pub whole : o ≡ header ++ (x ++ rest)
 
--- contents x, constructed or not by c, hold the octets s, with so many levels of headers at most
+-- contents x, constructed or not by c, contain the octets s, with at most `room` levels of headers
 pub record PiecesWithin (room : ℕ) (s : Octets) (c : Bool) (x : Octets) : Type 0 where
   pub pieces : Pieces s c x
   pub few : piece_levels pieces ≤ room
 
--- segments hold the octets s
+-- segments contain the octets s, with at most `room` levels of headers
 pub record OctetsWithin (room : ℕ) (s o : Octets) : Type 0 where
   pub segments : Segments s o
   pub few : segment_levels segments ≤ room

@@ -19,7 +19,7 @@ fn bit_string() -> Tag
     Tag::of(Class::Universal, 3)
 }
 
-/// How many bits of the last octet are unused, and the octets behind the one that tells it (8.6.2).
+/// How many bits of the last octet are unused, and the octets after the initial octet, which has that number (8.6.2).
 #[tactic(auto, using(crate::proofs::BitSteps::are_bits, crate::proofs::BitSteps::no_bits_there, crate::proofs::BitSteps::many_unused, crate::proofs::BitSteps::unused_of_none))]
 fn whole_bits(octets: &[u8]) -> Option<(u8, &[u8])>
     ensures some { IfSome result (λ r. IsWhole r.0 r.1.now octets.now) }
@@ -39,8 +39,8 @@ fn whole_bits(octets: &[u8]) -> Option<(u8, &[u8])>
     Some((unused, behind))
 }
 
-/// Adds the octets of segments' bits, where so many levels of headers may stand, and answers how many bits of the last
-/// one are unused. A refused call may have added some.
+/// Adds the octets of segments' bits, within `room` levels of headers, and returns how many bits of the last one are
+/// unused. A refused call may have added some octets.
 #[cycle(bits)]
 pub(crate) fn add_bits(out: &mut Vec<u8>, contents: &[u8], room: usize) -> Result<u8, SegmentsFault>
     requires { length contents.now ≤ 16777216 }
@@ -67,8 +67,8 @@ pub(crate) fn add_bits(out: &mut Vec<u8>, contents: &[u8], room: usize) -> Resul
     }
 }
 
-/// Adds the octets of the bits of the segment at the front, and answers how many bits of the last one are unused, and
-/// what stands behind the segment.
+/// Adds the octets of the bits of the first segment, and returns how many bits of the last octet are unused, and what
+/// follows the segment.
 #[cycle(bits)]
 fn add_bit_segment<'a>(
     out: &mut Vec<u8>,

@@ -10,26 +10,26 @@ use thiserror::Error;
 /// What is wrong at a place.
 #[derive(Clone, Copy, Debug, PartialEq, Eq, Error)]
 pub enum Why {
-    /// No header stands there with its contents, which are to lie within those of the header round it.
+    /// No header is there with its contents, which must be within those of the header around it.
     #[error("{0}")]
     Header(HeaderFault),
-    /// A header of another tag than a segment's.
+    /// The header has another tag than a segment's.
     #[error("84 UnexpectedTag")]
     UnexpectedTag,
-    /// Contents of no bits; unused bits in a segment that isn't the last; or a joined string with a character that its
-    /// type lacks.
+    /// Contents are not those of bits; or a segment that isn't the last has unused bits; or a joined string has a
+    /// character that its type doesn't have.
     #[error("86 BadContents")]
     BadContents,
-    /// A constructed BIT STRING, or such a segment of one, without segments.
+    /// A constructed BIT STRING, or a constructed segment of one, has no segments.
     #[error("87 EmptySegments")]
     EmptySegments,
-    /// A header past the limit on levels.
+    /// A header passes the limit on levels.
     #[error("95 TooDeep")]
     TooDeep,
 }
 
-/// Why contents octets are no string in segments: more memory was asked for and refused, or what is wrong, and at which
-/// of the octets, counted from 0.
+/// Why contents octets are no string in segments: there is not enough memory, or what is wrong, and at which of the
+/// octets, counted from 0.
 #[derive(Clone, Copy, Debug, PartialEq, Eq, Error)]
 pub enum SegmentsFault {
     #[error("1 Memory")]

@@ -20,7 +20,7 @@ fn octet_string() -> Tag
     Tag::of(Class::Universal, 4)
 }
 
-/// The same fault, told of octets that stand behind so many others.
+/// The same fault, with its place counted from `before` octets earlier.
 pub(crate) fn moved(before: usize, fault: SegmentsFault) -> SegmentsFault
     requires { before + place_of fault < 2 ^ 64 }
     ensures { result ≡ moved_by before fault }
@@ -31,7 +31,7 @@ pub(crate) fn moved(before: usize, fault: SegmentsFault) -> SegmentsFault
     }
 }
 
-/// Adds the octets of segments, where so many levels of headers may stand. A refused call may have added some.
+/// Adds the octets of segments, within `room` levels of headers. A refused call may have added some.
 #[cycle(octets)]
 pub(crate) fn add_octets(
     out: &mut Vec<u8>,
@@ -53,7 +53,7 @@ pub(crate) fn add_octets(
     Ok(())
 }
 
-/// Adds the octets of the segment at the front, and answers what stands behind it.
+/// Adds the octets of the first segment, and returns what follows it.
 #[cycle(octets)]
 fn add_segment<'a>(
     out: &mut Vec<u8>,

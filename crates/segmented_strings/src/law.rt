@@ -9,8 +9,8 @@ ghost use Rattle.std.specs.Prelude.{◌≡◌, ◌≤◌, List, length, ℕ};
 use encodings::header_laws;
 use octets::law::one_front;
 
-/// Constructed contents octets of a kind, of at most 16,777,216 octets, are those of one value at most, or else one
-/// fault stands at one place, and never both.
+/// Constructed contents octets of a kind, of at most 16,777,216 octets, are those of at most one value, or else they
+/// have one fault at one place, and never both.
 pub fn one_joining()
     ensures value { (k : LeafKind) (v w : AbstractValue) (room : ℕ) (x : List ℕ)
         → IsJoinedAs k v room x

@@ -25,16 +25,17 @@ pub enum Joined {
     Text(String),
 }
 
-/// Reads the contents octets of a constructed string of this kind by the basic rules, where so many levels of headers
-/// may stand in them (X.690, 8.6.4, 8.7.3 and 8.23). Each segment is a BIT STRING, or else an OCTET STRING, which may
-/// be constructed again; of a BIT STRING's only the last may have unused bits. Time and memory grow with the octets,
-/// and no told length is trusted before it is seen to lie within them.
+/// Reads the contents octets of a constructed string of this kind by the basic rules, within `room` levels of headers
+/// (X.690, 8.6.4, 8.7.3 and 8.23). Each segment is a BIT STRING, or else an OCTET STRING, which may be constructed
+/// again. Only the last segment of a BIT STRING may have unused bits. Time and memory grow with the octets: a length in
+/// a header is checked against the octets that are there before it is used.
 ///
-/// The fault that stands first from the front is told, with its place among the octets: `Header` where no header stands
-/// with its contents within those of the header round it, then `TooDeep` of a header past the limit, `UnexpectedTag` of
-/// one of another tag; `EmptySegments` where a BIT STRING's first segment is to stand; `BadContents` at a segment of no
-/// bits, or with unused bits before another one, and at 0 of a joined string that isn't UTF-8 or has a character that
-/// its type lacks. A kind that isn't a string has no constructed form: `UnexpectedTag` at 0.
+/// The error is the first fault, with its place among the octets. For each header these are checked in order: `Header`:
+/// no header is there with its contents within those of the header around it; `TooDeep`: the header passes the limit;
+/// `UnexpectedTag`: it has another tag. `EmptySegments`: the first segment of a BIT STRING is missing. `BadContents`: a
+/// segment has contents of no bits, or has unused bits and isn't the last. `BadContents` at 0: a joined string isn't
+/// UTF-8, or has a character that its type doesn't have. `UnexpectedTag` at 0: the kind isn't a string, so it has no
+/// constructed form.
 pub fn read_segments(
     alloc: Global,
     kind: LeafKind,
@@ -45,7 +46,7 @@ pub fn read_segments(
     ensures ok { IfOk result (λ j. Reads kind room contents.now j) }
     ensures few_unused { IfOk result (λ j. HasFewUnused j) }
     ensures err { IfErr result (λ e. IsRefused (Fails kind room) e contents.now) }
-    // They are read wherever they are those of a value, and each fault is told just where it stands, memory apart.
+    // Octets that are those of a value are read, and each fault that they have is the error, unless memory runs out.
     ensures only { (v : AbstractValue) → IsJoinedAs kind v room contents.now → IfErr result (λ e. e ≡ Memory) }
     ensures just { (e : Why') (i : ℕ) → Fails kind room e i contents.now
         → (result ≡ Err (At i e)) ⊎ (result ≡ Err Memory) }
@@ -54,7 +55,7 @@ pub fn read_segments(
     read_kind(alloc, kind, contents, room)
 }
 
-/// The same, by the kind.
+/// The same as `read_segments`, by a function for each kind.
 fn read_kind(
     alloc: Global,
     kind: LeafKind,

@@ -1,4 +1,4 @@
-//! The segment at the front of octets.
+//! The segment at the start of octets.
 
 ghost use Rattle.octets.specs.Forms.{is_constructed};
 ghost use Rattle.segmented_strings.specs.Failing.{NoSegment};
@@ -11,7 +11,7 @@ use crate::fault::{SegmentsFault, Why};
 use asn_base::tag::Tag;
 use octets::{Form, read_header};
 
-/// A segment: its form, its contents, and what stands behind them.
+/// A segment: its form, its contents, and what follows them.
 #[derive(Clone, Copy, Drop)]
 pub(crate) struct Segment<'a> {
     pub(crate) form: Form,
@@ -19,7 +19,7 @@ pub(crate) struct Segment<'a> {
     pub(crate) behind: &'a [u8],
 }
 
-/// The segment of this tag at the front of octets, where so many levels of headers may stand.
+/// The segment of this tag at the start of octets, within `room` levels of headers.
 pub(crate) fn next_segment(tag: Tag, room: usize, octets: &[u8]) -> Result<Segment<'_>, Why>
     requires { 1 ≤ length octets.now }
     ensures room { IfOk result (λ r. 1 ≤ room) }
@@ -62,7 +62,7 @@ fn are_same(tag: Tag, other: Tag) -> bool
     tag.class == other.class && tag.number == other.number
 }
 
-/// They are octets.
+/// Each item of a slice of octets is below 256.
 pub(crate) fn are_octets(octets: &[u8])
     ensures { AllBelowBase 256 octets.now }
 {}

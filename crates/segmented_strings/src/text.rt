@@ -1,4 +1,4 @@
-//! Joined characters.
+//! Texts from joined octets.
 
 ghost use Rattle.asn_base.specs.Abstract.{text as text'};
 ghost use Rattle.leaf_readings.specs.Leaves.{Suits};
@@ -32,7 +32,7 @@ fn text_in(leaf: Leaf<'_>) -> Option<&str>
     }
 }
 
-/// A copy of the text that octets are, where they are UTF-8, or characters of the kind.
+/// A copy of the text of octets, if they are UTF-8, or characters of the kind.
 pub(crate) fn text_of(alloc: Global, kind: LeafKind, octets: &[u8]) -> Result<String, SegmentsFault>
     requires { holding kind ≡ some_text }
     ensures same { IfOk result (λ s. string_bytes s ≡ octets.now) }

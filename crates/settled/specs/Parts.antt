@@ -1,4 +1,4 @@
--- What is asked of a program, and of the tags of its settled schema, for the schema to be one that is accepted.
+-- What a program, and the tags of its settled schema, must fulfil for the schema to be accepted.
 use Rattle.std.specs.Prelude.{ℕ, Bool, List, ◌++◌}
 use Rattle.std.specs.List.{AllByRecursion}
 use Rattle.asn_base.specs.declared.tag.Tag.{Tag}
@@ -12,22 +12,22 @@ use Rattle.additions.specs.Additions.{KeepAdditions}
 use Rattle.spelled.specs.Spelled.{AreSpelled}
 use Rattle.settled.specs.Settled.{AreTypedDefaults}
 
--- what is asked of a program, its tags apart
+-- what a program must fulfil, apart from its tags
 pub record IsChecked (p : Program) : Type 0 where
-  -- it is linked, and no module imports a name that it assigns
+  -- the program is linked, and no module imports a name that it assigns
   pub whole : IsWhole p
   pub apart : IsApart p.modules
-  -- its lists and the names in them are as they have to be
+  -- the program's lists and the names in them fulfil their rules
   pub sound : IsSound p
   pub spelled : AreSpelled p.types
-  -- so is what stands behind markers
+  -- what follows markers fulfils its rules
   pub additions : KeepAdditions p.types
   -- each DEFAULT is a value of its type
   pub defaults : AreTypedDefaults p
 
--- what the tags of a schema keep: each type but a CHOICE has one, first tags tell members apart, a type has few, each
--- component of a SET and each alternative of a CHOICE has one of its own, and the alternatives behind a marker stand in
--- the order of tags (X.680, clauses 25.6, 27.3, 29.3 and 31.2)
+-- The rules on the tags of a schema. Each type but a CHOICE has one, first tags distinguish members, and a type has at
+-- most six. Each component of a SET and each alternative of a CHOICE has one of its own. The alternatives after a
+-- marker are in the order of their tags (X.680, clauses 25.6, 27.3, 29.3 and 31.2).
 pub record HasKeptTags (s : List Resolved) : Type 0 where
   pub tagged : AllTagged s
   pub tellable : AllTellable s

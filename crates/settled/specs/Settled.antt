@@ -1,5 +1,6 @@
--- When a schema is the one that a program's modules stand for: its types are the written ones by the same numbers, each
--- with the tags that stand before its contents, with what its constraints leave, and with its items in order.
+-- When a schema is the one that a program's modules stand for (X.680, clauses 20, 25, 27, 31 and 49 to 51). Its types
+-- are the written ones with the same numbers, each with the tags that come before its contents, with what its
+-- constraints allow, and with its items in order.
 use Rattle.std.specs.Prelude.{◌≡◌, ℕ, Bool, List, [], ◌∷◌, Some, map, slice_get}
 use Rattle.asn_base.specs.Schemas.{NumbersAscend}
 use Rattle.asn_base.specs.Types.{Resolved}
@@ -22,18 +23,19 @@ use Rattle.schema_of.specs.SchemaOf.{IsSchemaOf}
 
 -- ---- tags
 
+-- the tags without the outermost one
 abbrev pub without_first : List Label → List Label
 without_first [] = []
 without_first (l ∷ ls) = ls
 
--- the tags that stand before the contents of a type with these tags, the outermost first: an implicit one stands in the
--- place of the one behind it (X.680, clause 31.2.7; X.690, clause 8.14)
+-- The tags before the contents of a type with this path of tags, the outermost first (X.680, clause 31.2.7; X.690,
+-- clause 8.14). An implicit tag replaces the one after it.
 abbrev pub standing : Path → List Label
 standing [] = []
 standing ((l, Implicit) ∷ p) = l ∷ without_first (standing p)
 standing ((l, Explicit) ∷ p) = l ∷ standing p
 
--- resolved type r has the tags of type i
+-- resolved type r has the tags of type i of program p, the outermost first, without those that an implicit tag replaces
 pub record HasTags (p : Program) (i : ℕ) (r : Resolved) : Type 0 where
   pub path : Path
   pub tags : Tags p.types i path
@@ -41,7 +43,8 @@ pub record HasTags (p : Program) (i : ℕ) (r : Resolved) : Type 0 where
 
 -- ---- constraints and items
 
--- what a resolved type of this kind keeps of the constraints of type i, which is of kind k
+-- the constraints and the alphabet in a resolved type of this kind are what type i of program p, which is of kind k,
+-- allows (X.680, clauses 49 to 51)
 abbrev pub IsConstrained : Program → Kind → ℕ → types.Kind → Type 0
 IsConstrained p k i (types.an_integer c) = IsConstraintOf p k i c
 IsConstrained p k i (types.a_bit_string c) = IsConstraintOf p k i c
@@ -52,14 +55,14 @@ IsConstrained p k i (types.a_sequence_of c j) = IsConstraintOf p k i c
 IsConstrained p k i (types.a_set_of c j) = IsConstraintOf p k i c
 IsConstrained p k i r = Unit {0}
 
--- the items of an enumeration ascend by number, those of the root and those behind the marker
+-- if this kind is an enumeration, its items ascend by number, both those of the root and those after the marker
 abbrev pub ItemsAscend : types.Kind → Type 0
 ItemsAscend (types.an_enumerated root e more) = NumbersAscend root × NumbersAscend more
 ItemsAscend k = Unit {0}
 
 -- ---- schemas
 
--- resolved type r has the tags of type i, what its constraints leave, and its items in order
+-- resolved type r has the tags of type i of program p, what its constraints allow, and its items in order of number
 pub record IsSettledType (p : Program) (i : ℕ) (r : Resolved) : Type 0 where
   pub tags : HasTags p i r
   pub kind : Kind
@@ -67,21 +70,22 @@ pub record IsSettledType (p : Program) (i : ℕ) (r : Resolved) : Type 0 where
   pub constrained : IsConstrained p kind i r.kind
   pub items : ItemsAscend r.kind
 
--- the schema is that of the program
+-- schema s is that of program p: its types are the written ones, with their tags, constraints and items
 pub record IsSettled (p : Program) (s : List Resolved) : Type 0 where
   pub types : IsSchemaOf p (Allows p) (AllowsCode p) s
   pub each : (i : ℕ) (r : Resolved) → slice_get s i ≡ Some r → IsSettledType p i r
 
--- ---- values that are written
+-- ---- DEFAULTs in the notation
 
--- component c of a list that is written in module M has no DEFAULT, or one whose notation stands for a value of its
--- type
+-- Component c, in a list that is written in module M, has no DEFAULT, or one whose notation stands for a value of the
+-- component's type (X.680, clause 25).
 abbrev pub IsTypedDefault : Program → Name → Part → Type 0
 IsTypedDefault p M c = (n : Tree) →
     c.presence ≡ default n →
     (v : AbstractValue) × IsTyped p (Allows p) (AllowsCode p) M c.ty n v
 
--- so is each DEFAULT of a SEQUENCE or SET
+-- each DEFAULT of a SEQUENCE or SET of program p has a notation that stands for a value of its component's type (X.680,
+-- clauses 25 and 27)
 abbrev pub AreTypedDefaults : Program → Type 0
 AreTypedDefaults p = (i : ℕ) (t : Type') (M x : Name) (l : ListKind) (m : Bool) (cs : List Part) (c : Part) →
     slice_get p.types i ≡ Some t →

@@ -1,4 +1,4 @@
-//! Laws of settled schemas. A caller calls a law to know it; it takes no memory and no time.
+//! Laws of settled schemas. A caller calls a law to know it; the call takes no memory and no time.
 
 ghost use Rattle.std.specs.Prelude.{◌≡◌, ◌↔◌, ◌++◌, ℕ, Bool, List, Some, slice_get};
 ghost use Rattle.std.specs.List.{AllByRecursion};
@@ -17,8 +17,8 @@ ghost use Rattle.tagging.specs.First as tagging;
 ghost use Rattle.tagging.specs.Tagged.{IsTagged};
 ghost use Rattle.tagging.specs.Tags.{label};
 
-/// The tags that can stand first in a type of a settled schema are those that can in the program's type (X.680, clauses
-/// 25.6, 27.3 and 29.3), and two settled schemas of a program have the same tags.
+/// The tags that can be first in a type of a settled schema are those that can be in the program's type (X.680, clauses
+/// 25.6, 27.3 and 29.3). Two settled schemas of a program have the same tags.
 pub fn same_tags()
     ensures firsts { (p : Program) (s : List types.Resolved) (i : ℕ) (g : Tag)
         → IsSettled p s
@@ -34,11 +34,11 @@ pub fn same_tags()
     tagging::law::one_path();
 }
 
-/// The tags of a settled schema are as those of an accepted schema have to be, where the program's types bear their
-/// tags as X.680 asks: a type without a tag is a CHOICE (clause 31.2), components and alternatives are told apart by
-/// their first tags (clauses 25.6, 27.3 and 29.3), a type has at most six tags (a limit of this compiler), each
-/// component of a SET and each alternative of a CHOICE has one of its own (narrower than X.680), and behind the marker
-/// of a CHOICE the first tags ascend, where the program keeps what extension markers ask (clause 29).
+/// The tags of a settled schema fulfil the rules of an accepted schema, if the program's types bear their tags as X.680
+/// requires. A type without a tag is a CHOICE (clause 31.2). Components and alternatives are distinguished by their
+/// first tags (clauses 25.6, 27.3 and 29.3). A type has at most six tags (a limit of this compiler). Each component of
+/// a SET and each alternative of a CHOICE has one of its own (narrower than X.680). After the marker of a CHOICE the
+/// first tags ascend, if the program fulfils the rules on extension markers (clause 29).
 pub fn tags_are_kept()
     ensures tagged { (p : Program) (s : List types.Resolved)
         → IsSettled p s
@@ -75,10 +75,10 @@ pub fn tags_are_kept()
     schema_of::law::parts_are_written();
 }
 
-/// Each type of a settled schema keeps what a schema asks of it: its constraints have bounds, its items, bits,
-/// components and alternatives have distinct identifiers for names and stand where they may, the types in it are those
-/// of the schema, its defaults are values of their types, and no limit is passed (X.680, clauses 20, 22, 25, 27, 29, 41
-/// and 51).
+/// Each type of a settled schema fulfils what a schema requires of it (X.680, clauses 20, 22, 25, 27, 29, 41 and 51).
+/// Its constraints have bounds. Its items, bits, components and alternatives have distinct identifiers for names and
+/// are where they may be. The types in it are those of the schema, its defaults are values of their types, and no limit
+/// is passed.
 pub fn types_are_sound()
     ensures { (p : Program) (s : List Resolved) (t : ℕ) (tags : List Tag) (k : Kind)
         → IsChecked p
@@ -91,7 +91,7 @@ pub fn types_are_sound()
     value_notations::law::one_value();
 }
 
-/// In a settled schema no component with a DEFAULT has a type that leads back to the components among which it stands
+/// In a settled schema no component with a DEFAULT has a type that leads back to the list of which it is a component
 /// (X.680, clause 25.7).
 pub fn no_default_circles()
     ensures { (p : Program) (s : List Resolved) (t : ℕ)
@@ -102,7 +102,7 @@ pub fn no_default_circles()
         → ⊥ }
 {}
 
-/// A settled schema of a program that is as it has to be is one that is accepted, where its tags are kept.
+/// A settled schema of a program that fulfils its rules is accepted, if its tags fulfil theirs.
 pub fn settled_is_schema()
     ensures { (p : Program) (s : List Resolved)
         → IsChecked p

@@ -1,7 +1,7 @@
 -- Lines and columns of a text, both counted from 1; a column counts characters.
 use Rattle.std.specs.Prelude.{ℕ, zero, suc, ◌+◌, List, Bool, ◌==◌, ◌&&◌, ◌||◌, not, nat_lt, get_or, if◌then◌else◌}
 
--- whether a line ends with octet i: LF, or CR with no LF behind it
+-- whether a line ends with octet i: LF, or CR with no LF after it
 abbrev pub ends_line : List ℕ → ℕ → Bool
 ends_line x i = (get_or x i 0 == 10) || ((get_or x i 0 == 13) && not (get_or x (i + 1) 0 == 10))
 

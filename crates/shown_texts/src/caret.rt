@@ -1,9 +1,9 @@
-//! The line of a text in which a fault stands.
+//! The line of a text that contains a fault.
 
 use crate::line::on_one_line;
 use std::alloc::{AllocError, Global};
 
-/// How many octets a line shows before and behind a fault at most.
+/// The most octets of a line that are shown before a fault, and after it.
 const AROUND: usize = 100;
 
 /// Whether an octet ends a line.
@@ -16,7 +16,7 @@ fn begins_character(octet: u8) -> bool {
     octet < 128 || octet >= 192
 }
 
-/// The last octets of what stands before a fault on its line.
+/// The last octets before a fault on its line.
 fn before(text: &[u8], octet: usize) -> &[u8] {
     let front = text.get(..octet).unwrap_or(text);
     let mut first = front.len();
@@ -31,7 +31,7 @@ fn before(text: &[u8], octet: usize) -> &[u8] {
     front.get(first..).unwrap_or(&[])
 }
 
-/// The first octets of what stands behind the beginning of a fault on its line.
+/// The first octets from the beginning of a fault on, on its line.
 fn behind(text: &[u8], octet: usize) -> &[u8] {
     let rest = text.get(octet..).unwrap_or(&[]);
     for place in 0..rest.len() {
@@ -42,8 +42,8 @@ fn behind(text: &[u8], octet: usize) -> &[u8] {
     rest
 }
 
-/// The line in which an octet stands, as far as 100 octets before and behind it, and below it a caret at its place;
-/// each begins behind a line end. Control characters are shown as blanks.
+/// The line that contains an octet, as far as 100 octets before and after it, and below it a caret at its place. A line
+/// end comes before each of the two lines. Control characters are shown as spaces.
 pub fn context(alloc: Global, text: &[u8], octet: usize) -> Result<String, AllocError> {
     let front = std::str::from_utf8(before(text, octet)).unwrap_or("");
     let rest = std::str::from_utf8(behind(text, octet)).unwrap_or("");

@@ -1,4 +1,4 @@
-//! Characters and strings that a text may not hold.
+//! Characters and strings that a text may not contain.
 
 use std::alloc::{AllocError, Global};
 
@@ -15,7 +15,7 @@ fn character_at(text: &[u8], place: usize) -> Option<char> {
     None
 }
 
-/// What a character is called that is not told by itself.
+/// The name of a character that is not shown itself.
 fn called(c: char) -> &'static str {
     match c {
         '\u{FEFF}' => ", a byte order mark",
@@ -33,7 +33,7 @@ fn called(c: char) -> &'static str {
     }
 }
 
-/// A character as a message tells it: itself, where it is of ASCII and no control character, else by its code point.
+/// A character as a message shows it: itself if it is an ASCII character and no control character, else its code point.
 pub fn character(alloc: Global, text: &[u8], place: usize) -> Result<String, AllocError> {
     let Some(c) = character_at(text, place) else {
         return String::from_str(alloc, "no character");
@@ -46,7 +46,7 @@ pub fn character(alloc: Global, text: &[u8], place: usize) -> Result<String, All
     format!(in alloc; "U+{code:04X}{name}")
 }
 
-/// The octets of the line that goes on from a place.
+/// The octets of a line from an offset on.
 fn line_from(text: &[u8], from: usize) -> &[u8] {
     let rest = text.get(from..).unwrap_or(&[]);
     match rest
@@ -63,15 +63,16 @@ fn is_digit_or_space(octet: &u8) -> bool {
     octet.is_ascii_hexdigit() || octet.is_ascii_whitespace()
 }
 
-/// Which mistake digits have that are not those of a hexadecimal string.
+/// The mistake in digits that are not those of a hexadecimal string.
 fn wrong_hex(digits: &[u8]) -> &'static str {
     if digits.iter().all(is_digit_or_space) {
-        return "the digits A to F of a text with H behind it are written in upper case";
+        return "the digits A to F before H are in upper case";
     }
-    "a text with H behind it has the digits 0 to 9 and A to F alone"
+    "the digits before H are 0 to 9 and A to F"
 }
 
-/// Which mistake a string has that begins at a place with no token: a text in quotes, or digits between apostrophes.
+/// The mistake in a string that begins at an offset and gives no token: a text in quotes, or digits between
+/// apostrophes.
 pub fn open_string(text: &[u8], place: usize) -> &'static str {
     if text.get(place) == Some(&b'"') {
         return "these quotes are not closed on their line";
@@ -81,8 +82,8 @@ pub fn open_string(text: &[u8], place: usize) -> &'static str {
         return "this apostrophe is not closed on its line";
     };
     match digits.get(close.saturating_add(1)) {
-        Some(b'B') => "a text with B behind it has the digits 0 and 1 alone",
+        Some(b'B') => "the digits before B are 0 and 1",
         Some(b'H') => wrong_hex(digits.get(..close).unwrap_or(digits)),
-        _ => "neither B nor H stands behind these apostrophes",
+        _ => "neither B nor H follows these apostrophes",
     }
 }

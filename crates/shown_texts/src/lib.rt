@@ -1,5 +1,4 @@
-//! What a message shows of texts that others wrote: their tokens, names, lines and characters, and where in them it
-//! stands.
+//! What a message shows of texts that others wrote: their tokens, names, lines and characters, and where these are.
 #![tactic(auto)]
 
 mod caret;

@@ -1,8 +1,8 @@
-//! Texts that stand on one line.
+//! Texts on one line.
 
 use std::alloc::{AllocError, Global};
 
-/// Whether a character turns the direction of writing, or takes up no place: nobody sees where it stands.
+/// Whether a character changes the direction of writing, or takes up no room, so that nobody can see it.
 fn is_hidden(c: char) -> bool {
     let code = c as u32;
     (code >= 0x200B && code <= 0x200F)
@@ -13,7 +13,8 @@ fn is_hidden(c: char) -> bool {
         || code == 0xFEFF
 }
 
-/// The text with a space in place of each control character, line ends too, and of each that nobody sees.
+/// The text with a space in place of each control character, line ends included, and of each character that nobody
+/// sees.
 pub fn on_one_line(alloc: Global, text: &str) -> Result<String, AllocError> {
     let mut line = String::new(alloc);
     for c in text.chars() {
@@ -35,8 +36,8 @@ fn by_code(alloc: Global, c: char) -> Result<String, AllocError> {
     format!(in alloc; "\\u{{{code:X}}}")
 }
 
-/// A token or a name as a message shows it: its first 60 characters, with two dots behind them where it has more;
-/// control characters and those past ASCII by their code points.
+/// A token or a name as a message shows it: its first 60 characters, with two dots after them if it has more. Control
+/// characters and those past ASCII are shown by their code points.
 pub fn shown(alloc: Global, text: &str) -> Result<String, AllocError> {
     let mut line = String::new(alloc);
     let mut left = SHOWN;
@@ -55,7 +56,8 @@ pub fn shown(alloc: Global, text: &str) -> Result<String, AllocError> {
     Ok(line)
 }
 
-/// The name of a file as a message shows it: control characters, and those that nobody sees, by their code points.
+/// The name of a file as a message shows it: control characters, and those that nobody sees, are shown by their code
+/// points.
 pub fn escaped(alloc: Global, name: &str) -> Result<String, AllocError> {
     let mut line = String::new(alloc);
     for c in name.chars() {

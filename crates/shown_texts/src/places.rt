@@ -1,4 +1,4 @@
-//! Places in texts.
+//! Offsets and tokens in texts.
 
 ghost use Rattle.std.specs.Prelude.{◌≡◌, ◌<◌, ◌^◌, ◌-◌, length, min};
 ghost use Rattle.shown_texts.specs.Lines.{begins_character, column_of, ends_line, line_of};
@@ -11,7 +11,7 @@ pub fn spelling<'a>(text: &'a [u8], token: Token) -> &'a [u8] {
     text.get(token.span.start..token.span.end).unwrap_or(&[])
 }
 
-/// A token as it is written; empty behind the last token.
+/// The spelling of a token; empty after the last token.
 pub fn spelled_at<'a>(text: &'a [u8], tokens: &[Token], place: usize) -> &'a str {
     match tokens.get(place) {
         Some(token) => std::str::from_utf8(spelling(text, *token)).unwrap_or("?"),
@@ -19,7 +19,7 @@ pub fn spelled_at<'a>(text: &'a [u8], tokens: &[Token], place: usize) -> &'a str
     }
 }
 
-/// The octet at which a token begins; for a place behind the last token the end of the text.
+/// The offset at which a token begins; after the last token, the length of the text.
 pub fn start(text: &[u8], tokens: &[Token], place: usize) -> usize {
     match tokens.get(place) {
         Some(token) => token.span.start,
@@ -35,7 +35,7 @@ pub fn is_kind(tokens: &[Token], place: usize, kind: TokenKind) -> bool {
     }
 }
 
-/// The tokens of a text, none where it has none.
+/// The tokens of a text; empty if the text has a fault of its octets.
 pub fn tokens_in(alloc: Global, text: &[u8]) -> Result<Vec<Token>, AllocError> {
     match text::lex(alloc, text) {
         Ok(tokens) => Ok(tokens),
@@ -44,7 +44,7 @@ pub fn tokens_in(alloc: Global, text: &[u8]) -> Result<Vec<Token>, AllocError> {
     }
 }
 
-/// The name or the word that begins at an octet; empty where none does.
+/// The name or the word that begins at an offset; empty if none does.
 pub fn word_at(text: &[u8], octet: usize) -> &str {
     let rest = text.get(octet..).unwrap_or(&[]);
     let end = rest
@@ -54,7 +54,7 @@ pub fn word_at(text: &[u8], octet: usize) -> &str {
     std::str::from_utf8(rest.get(..end).unwrap_or(rest)).unwrap_or("")
 }
 
-/// Whether a line ends with the octet at a place: LF, or CR with no LF behind it.
+/// Whether a line ends with the octet at an offset: LF, or CR with no LF after it.
 fn ends_line_at(text: &[u8], place: usize) -> bool
     requires { place < length text.now }
     ensures { result ≡ ends_line text.now place }
@@ -77,8 +77,8 @@ fn is_begin(text: &[u8], place: usize) -> bool
     text[place] < 128 || text[place] >= 192
 }
 
-/// The line and the column of an octet, both from 1, the column in characters; those of the end of the text where the
-/// octet stands behind it.
+/// The line and the column of an octet, both from 1, the column in characters; those of the end of the text if the
+/// octet is after it.
 #[tactic(auto, unfolding(crate::specs::Lines::line_of, crate::specs::Lines::column_of))]
 pub fn line_and_column(text: &[u8], octet: usize) -> (usize, usize)
     ensures line { result.0 ≡ min (line_of text.now (min octet (length text.now))) (2 ^ 64 - 1) }

@@ -6,7 +6,7 @@ use crate::sink::Sink;
 use std::io;
 use std::io::Write;
 
-/// A sink over a writer: a call of `put` is one call of its `write`, and its octets are the writer's, where those are
+/// A sink over a writer. A call of `put` is one call of its `write`, and its octets are the writer's, if those are
 /// known.
 #[derive(Drop)]
 pub struct Counted<W: Write> {
@@ -26,7 +26,7 @@ impl<W: Write> Counted<W> {
         }
     }
 
-    /// The writer, as it stands.
+    /// The writer, after what the sink has written to it.
     pub fn into_writer(self) -> W
         ensures { result ≡ self.writer }
     {

@@ -1,4 +1,4 @@
-//! Where octets go: sinks, which take octets and count the calls that failed.
+//! Sinks take octets and count the calls that failed.
 #![tactic(auto)]
 
 mod counted;

@@ -6,8 +6,7 @@ use crate::sink::Sink;
 use std::io;
 use std::io::ErrorKind;
 
-/// A sink that keeps octets in a list. A call of `put` takes all its octets, or none, where more memory was asked for
-/// and refused.
+/// A sink that keeps octets in a list. A call of `put` takes all its octets, or none if there is not enough memory.
 #[derive(Drop)]
 pub struct InMemory {
     octets: Vec<u8>,
@@ -15,7 +14,7 @@ pub struct InMemory {
 }
 
 impl InMemory {
-    /// A sink behind the octets of a list, of which no call has failed.
+    /// A sink that adds to the octets of a list, and of which no call has failed.
     pub fn of(octets: Vec<u8>) -> Self
         ensures octets { result.octets ≡ octets }
         ensures failures { result.failures ≡ 0 }
@@ -26,7 +25,7 @@ impl InMemory {
         }
     }
 
-    /// The octets.
+    /// The octets of the list.
     pub fn into_octets(self) -> Vec<u8>
         ensures { result ≡ self.octets }
     {

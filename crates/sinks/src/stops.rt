@@ -6,7 +6,7 @@ use crate::sink::Sink;
 use std::io;
 use std::io::ErrorKind;
 
-/// A sink for tests: it keeps octets in a list, takes at most `most` of them a call, and fails where it holds `limit`
+/// A sink for tests. It keeps octets in a list, takes at most `most` of them in a call, and fails once it has `limit`
 /// of them, by an error or by taking none.
 #[derive(Drop)]
 pub struct Stops {
@@ -18,8 +18,8 @@ pub struct Stops {
 }
 
 impl Stops {
-    /// A sink that takes `limit` octets, at most `most` of them a call, and then fails: by taking none, where it is
-    /// silent, and by an error, where it isn't.
+    /// A sink that takes `limit` octets, at most `most` of them in a call, and then fails: by taking none if it is
+    /// silent, else by an error.
     pub fn at(octets: Vec<u8>, limit: usize, most: usize, silent: bool) -> Self
         ensures octets { result.octets ≡ octets }
         ensures limit { result.limit ≡ limit }
@@ -36,14 +36,14 @@ impl Stops {
         }
     }
 
-    /// The octets that it holds.
+    /// The octets that the sink has taken.
     pub fn octets(&self) -> &[u8]
         ensures { result.now ≡ self.now.octets.items }
     {
         self.octets.as_slice()
     }
 
-    /// How many of so many octets it takes now.
+    /// How many of `octets` octets the sink takes now.
     fn room(&self, octets: usize) -> usize
         ensures { result ≤ octets }
     {
@@ -51,7 +51,7 @@ impl Stops {
         left.min(self.most).min(octets)
     }
 
-    /// Counts a failure and tells it.
+    /// Counts a failure and returns it.
     fn fail(&mut self) -> io::Result<usize>
         requires { self.old.failures < u64.MAX }
         ensures octets { self.new.octets ≡ self.old.octets }

@@ -1,3 +1,3 @@
--- What has to be believed: how types are spelled as they are written (`Written`), and in a table (`Spelled`).
+-- What a reader has to believe: how types are spelled in the notation (`Written`), and in a table (`Spelled`).
 pub mod Written
 pub mod Spelled

@@ -1,5 +1,5 @@
--- How the types of a table are spelled, as the notation has them: the names of components, alternatives, items, bits
--- and numbers are identifiers, and an enumeration and a CHOICE have an item or an alternative before the marker.
+-- How the types of a table are spelled. The names of components, alternatives, items, bits and numbers are identifiers,
+-- and an enumeration and a CHOICE have an item or an alternative before the marker.
 use Rattle.std.specs.Prelude.{◌≡◌, ℕ, Some, List, map, slice_get}
 use Rattle.std.specs.List.{AllByRecursion}
 use Rattle.asn_base.specs.Names.{IsIdentifier}

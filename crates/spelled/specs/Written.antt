@@ -1,6 +1,6 @@
--- How the types of modules are spelled, as the notation has them: the names of components, alternatives, items, bits
--- and numbers are identifiers (X.680, clauses 19.1, 20.1, 22.1, 25.1, 27.1 and 29.1, with 12.3), and an enumeration and
--- a CHOICE have an item or an alternative before the marker (X.680, clauses 20.1 and 29.1).
+-- How the types of modules are spelled. The names of components, alternatives, items, bits and numbers are identifiers
+-- (X.680, clauses 19.1, 20.1, 22.1, 25.1, 27.1 and 29.1, with 12.3). An enumeration and a CHOICE have an item or an
+-- alternative before the marker (X.680, clauses 20.1 and 29.1).
 use Rattle.std.specs.Prelude.{◌≤◌, ◌+◌, ℕ, ◌++◌, length, map}
 use Rattle.std.specs.List.{AllByRecursion}
 use Rattle.asn_base.specs.Names.{IsIdentifier}
@@ -22,19 +22,19 @@ IsSpelledPlain (an_enumerated root more) =
     × AllByRecursion IsIdentifier (map (λ i. i.0) (root ++ additions_of more))
 IsSpelledPlain k = Unit {0}
 
--- how many of these members stand before the marker
+-- how many of these members come before the marker
 abbrev pub roots_in : TypeMembers → ℕ
 roots_in no_member = 0
 roots_in (member_and x t o g ms) = in_root g + roots_in ms
 
--- a CHOICE has an alternative before the marker, where n of its alternatives stand there
+-- a CHOICE with n alternatives before the marker has one there
 abbrev pub HasRoot : ListKind → ℕ → Type 0
 HasRoot Choice n = 1 ≤ n
 HasRoot Sequence n = Unit {0}
 HasRoot Set n = Unit {0}
 
 abbrev mutual
-  -- a type, and all types that stand in it
+  -- a type, and all types inside it
   pub IsSpelledTree : TypeTree → Type 0
   IsSpelledTree (a_type f cs) = IsSpelledForm f
 

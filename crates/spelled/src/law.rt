@@ -1,4 +1,4 @@
-//! Laws on how what is read is spelled. A caller calls a law to know it; it takes no memory and no time.
+//! Laws on the spelling of what is read. A caller calls a law to know it; the call takes no memory and no time.
 
 ghost use Rattle.std.specs.Prelude.{ℕ, List, map};
 ghost use Rattle.std.specs.List.{All};
@@ -19,8 +19,8 @@ ghost use Rattle.type_table.specs.Lists.{AreSound};
 use names::law::apart;
 use text::law::tokens_known;
 
-/// The module that a text's tokens are is spelled as the notation asks, whatever the limits: [`syntax::parse`] answers
-/// such modules alone.
+/// The module that a text's tokens are is spelled as the notation requires, whatever the limits. [`syntax::parse`]
+/// returns only such modules.
 pub fn modules_are_spelled()
     ensures { (text : List ℕ) (tokens : List Token) (limits : Limits) (m : ModuleTree) →
         IsLexed text tokens →
@@ -30,7 +30,8 @@ pub fn modules_are_spelled()
     tokens_known();
 }
 
-/// The types of linked modules are spelled so where the modules are: of trees, and of modules in memory.
+/// The types of linked modules are spelled as required if the modules are: both modules as trees, and modules in
+/// memory.
 pub fn types_are_spelled()
     ensures trees { (ms : List ModuleTree) (p : Program) →
         Links ms p →
@@ -42,8 +43,8 @@ pub fn types_are_spelled()
         AreSpelled p.types }
 {}
 
-/// What laws on linked modules ask besides: no module imports a name that it assigns, and the names and numbers of each
-/// list are distinct.
+/// What laws on linked modules require besides: no module imports a name that it assigns, and the names and numbers of
+/// each list are distinct.
 pub fn linked_are_sound()
     ensures apart { (ms : List ModuleTree) (p : Program) → Links ms p → IsApart p.modules }
     ensures sound { (ms : List ModuleTree) (p : Program) → Links ms p → AreSound p.types }

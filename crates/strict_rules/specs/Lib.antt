@@ -1,5 +1,5 @@
--- Encodings one behind the other (`Units`), headers of the distinguished rules (`Heads`), the order of a SET's
--- components (`Sets`) and where they stand (`Places`), and what is decided (`Strict`).
+-- Encodings one after the other (`Units`), headers of the distinguished rules (`Heads`), and the order of a SET's
+-- components (`Sets`). Where the encodings of these are (`Places`), and what is decided (`Strict`).
 pub mod Units
 pub mod Heads
 pub mod Sets

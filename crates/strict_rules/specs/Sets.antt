@@ -18,16 +18,16 @@ pub data Reads : List Component → ℕ → List Step → Type 0 where
       → Reads cs (suc i) ss
       → Reads (c ∷ cs) i (p ∷ ss)
 
--- the tag can be the first one of a component
+-- the tag can be the first one of one of the components
 pub data IsOfOne (s : List Resolved) (g : Tag) : List Component → Type 0 where
   of_first : {c : Component} {cs : List Component} → First s c.type g → IsOfOne s g (c ∷ cs)
   of_later : {c : Component} {cs : List Component} → IsOfOne s g cs → IsOfOne s g (c ∷ cs)
 
--- of none
+-- the tag can be the first one of none of the components
 abbrev pub IsOfNone : List Resolved → Tag → List Component → Type 0
 IsOfNone s g cs = AllByRecursion (λ c. First s c.type g → ⊥) cs
 
--- encodings are those of components, and others, each in their order
+-- encodings are split into those of components and the others, each in their order
 pub data Parted (s : List Resolved) (cs : List Component) : Encodings → Encodings → Encodings → Type 0 where
   parted_none : Parted s cs [] [] []
   parted_known : {g : Tag} {y : Octets} {ys zs us : Encodings}
@@ -41,12 +41,14 @@ pub data Parted (s : List Resolved) (cs : List Component) : Encodings → Encodi
       → Parted s cs ys zs us
       → Parted s cs (y ∷ ys) zs (y ∷ us)
 
--- the tag stands behind the last one, if there is one
+-- the tag comes after the last one, if there is one
 abbrev pub IsBehind : Option Tag → Tag → Type 0
 IsBehind None g = Unit {0}
 IsBehind (Some f) g = TagBefore f g
 
--- what a component's encoding does with the last tag: it is the last one, behind the one before; others leave it
+-- The last tag of a component's encoding after one more encoding, and whether that one is a component's. The tag of a
+-- component's encoding becomes the last one, if it comes after the one before; other encodings leave the last tag as it
+-- is.
 pub data Climbs (s : List Resolved) (cs : List Component) (g : Tag) (last : Option Tag) : Option Tag → Bool → Type 0 where
   climbs : IsOfOne s g cs → IsBehind last g → Climbs s cs g last (Some g) Bool.true
   passes : IsOfNone s g cs → Climbs s cs g last last Bool.false

@@ -1,5 +1,5 @@
--- What is decided of octets that say a value by the basic rules: whether they do by the distinguished ones, and if so
--- whether additions were skipped.
+-- What is decided about octets that encode a value by the basic rules: whether they do so by the distinguished ones,
+-- and if so whether additions were skipped.
 use Rattle.std.specs.Prelude.{◌≡◌, ℕ, ◌+◌, ◌≤◌, ◌++◌, ◌↔◌, Bool, true, false, List, [], ◌∷◌, length, Option, Some, None, slice_get, IsTrue, MatchOption}
 use Rattle.asn_base.specs.declared.tag.Tag.{Tag}
 use Rattle.asn_base.specs.Abstract.{AbstractValue, row_of_options, row_of_list}
@@ -17,7 +17,7 @@ use Rattle.strict_rules.specs.Units.{IsUnit, AreUnits}
 use Rattle.strict_rules.specs.Sets.{Reads, Parted}
 use Rattle.strict_rules.specs.Places.{IsOnly, ArePlaced}
 
--- there is a number of additions of which P holds, and it is told whether it is 0; or there is none
+-- P is true of a number of additions, and the answer says whether it is 0; None if P is true of no number
 abbrev pub Decides : (ℕ → Type 0) → Option Bool → Type 0
 Decides P r = MatchOption r ((j : ℕ) → P j → ⊥) (λ b. (j : ℕ) × P j × (IsTrue b ↔ (j ≡ 0)))
 
@@ -38,7 +38,7 @@ element_type (Each u ∷ ss) = Some (u, false)
 element_type (EachSorted u ∷ ss) = Some (u, true)
 element_type (p ∷ ss) = None
 
--- octets of a message say a value of at most n levels by the basic rules
+-- octets of a message are an encoding of a value of at most n levels by the basic rules
 pub record ValueGiven (s : List Resolved) (t : TypeNumber) (n : ℕ) (v : AbstractValue) (o : Octets) : Type 0 where
   pub few : n ≤ 64
   pub value : ValueIn s n t v
@@ -46,7 +46,7 @@ pub record ValueGiven (s : List Resolved) (t : TypeNumber) (n : ℕ) (v : Abstra
   pub says_it : Says s Basic t v count o
   pub short : length o ≤ 16777216
 
--- contents hold a value of this kind by the basic rules, and these are the steps that read them
+-- contents are those of a value of this kind by the basic rules, and these are the steps that read them
 pub record ContentsGiven (s : List Resolved) (t : TypeNumber) (n : ℕ) (ss : List Step) (v : AbstractValue) (k : Kind) (x : Octets)
     : Type 0 where
   pub few : n ≤ 64
@@ -59,7 +59,7 @@ pub record ContentsGiven (s : List Resolved) (t : TypeNumber) (n : ℕ) (ss : Li
   pub holds_it : Holds s Basic k v count (form_of k) x
   pub short : length x ≤ 16777216
 
--- the same of elements, whose encodings are told
+-- the same of elements, with their encodings
 pub record ElementsGiven (s : List Resolved) (t : TypeNumber) (n : ℕ) (vs : List AbstractValue) (xs : Encodings) (o : Octets)
     : Type 0 where
   pub few : n ≤ 64
@@ -73,7 +73,7 @@ pub record StepsGiven (s : List Resolved) (t : TypeNumber) (ss : List Step) (cs 
   pub reads : Reads cs 0 ss
   pub placed : (i : ℕ) (c : Component) → slice_get cs i ≡ Some c → component_in s t i ≡ Some c
 
--- the same of components, whose encodings are told, and those of some additions behind them
+-- the same of components, with their encodings and those of some additions after them
 pub record SequenceGiven (s : List Resolved) (t : TypeNumber) (n : ℕ) (ss : List Step) (os : List (Option AbstractValue))
     (cs : List Component) (xs us : Encodings) (o : Octets) : Type 0 where
   pub few : n ≤ 64
@@ -83,7 +83,7 @@ pub record SequenceGiven (s : List Resolved) (t : TypeNumber) (n : ℕ) (ss : Li
   pub says_them : Members s Basic cs (row_of_options os) count xs
   pub units : AreUnits (xs ++ us) o
 
--- of a SET, where encodings are those of components, and others
+-- the same of a SET, whose encodings are those of components and others
 pub record SetGiven (s : List Resolved) (t : TypeNumber) (n : ℕ) (ss : List Step) (os : List (Option AbstractValue))
     (cs : List Component) (xs zs us ys : Encodings) (o : Octets) : Type 0 where
   pub few : n ≤ 64
@@ -95,7 +95,7 @@ pub record SetGiven (s : List Resolved) (t : TypeNumber) (n : ℕ) (ss : List St
   pub parted : Parted s cs ys zs us
   pub places : ArePlaced s ys cs (row_of_options os) xs
 
--- of the component at a place
+-- the same of the component at place i
 pub record MemberGiven (s : List Resolved) (t : TypeNumber) (n : ℕ) (ss : List Step) (v : AbstractValue) (i : ℕ) (c : Component)
     (x : Octets) : Type 0 where
   pub all : List Component
@@ -103,8 +103,8 @@ pub record MemberGiven (s : List Resolved) (t : TypeNumber) (n : ℕ) (ss : List
   pub stands : slice_get all i ≡ Some c
   pub given : ValueGiven s c.type n v x
 
--- octets say the component's value by the distinguished rules, and it isn't the same as its DEFAULT, unless additions
--- were skipped within it (X.690, 11.5)
+-- octets are an encoding of the component's value by the distinguished rules, and the value isn't the same as its
+-- DEFAULT, unless additions were skipped within it (X.690, 11.5)
 pub record MemberBy (s : List Resolved) (c : Component) (v : AbstractValue) (x : Octets) (j : ℕ) : Type 0 where
   pub says_it : Says s Distinguished c.type v j x
   pub no_default : j ≡ 0 → IsDefault s c v → ⊥
@@ -118,24 +118,24 @@ abbrev pub PartBy : List Resolved → Component → Option AbstractValue → Oct
 PartBy s c None x j = j ≡ 0
 PartBy s c (Some v) x j = MemberBy s c v x j
 
--- its encoding stands at the front of octets
+-- the component's encoding comes first in the octets, and r follows it; r are all the octets if the component is absent
 abbrev pub StandsFirst : Option AbstractValue → Octets → Octets → Octets → Type 0
 StandsFirst None x r o = o ≡ r
 StandsFirst (Some v) x r o = (o ≡ x ++ r) × (length o ≤ 16777216) × ((g : Tag) × IsUnit g x)
 
--- or among some encodings
+-- the component's encoding is among some encodings, if the component is present
 abbrev pub StandsAmong : List Resolved → Component → Option AbstractValue → Octets → Octets → Type 0
 StandsAmong s c None x o = Unit {0}
 StandsAmong s c (Some v) x o = (ys : Encodings) × AreUnits ys o × IsOnly s c.type ys x
 
--- the components, with as many others
+-- the components have these encodings by the distinguished rules, with j unknown additions, those after them included
 pub record SequenceBy (s : List Resolved) (os : List (Option AbstractValue)) (cs : List Component) (xs us : Encodings) (j : ℕ)
     : Type 0 where
   pub count : ℕ
   pub says_them : Members s Distinguished cs (row_of_options os) count xs
   pub counted : j ≡ count + length us
 
--- of a SET, in order of their tags
+-- the same of a SET, in order of the components' tags
 pub record SetBy (s : List Resolved) (os : List (Option AbstractValue)) (cs : List Component) (xs zs us : Encodings) (j : ℕ)
     : Type 0 where
   pub count : ℕ

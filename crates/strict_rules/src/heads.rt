@@ -13,7 +13,7 @@ use next_tags::{next_unit, same_tag};
 use octets::law::shortest_headers;
 use octets::{Form, header_len};
 
-/// Whether the form is the one told.
+/// Whether the form is constructed, if `constructed` is true, or else primitive.
 fn is_form(form: Form, constructed: bool) -> bool
     ensures yes { result ≡ true → is_constructed form ≡ constructed }
     ensures no { result ≡ false → is_constructed form ≡ constructed → ⊥ }
@@ -24,7 +24,7 @@ fn is_form(form: Form, constructed: bool) -> bool
     }
 }
 
-/// The contents of octets that are one header and its contents, with this tag and form and the fewest octets.
+/// The contents of octets that are one header, with this tag and form and the fewest octets, and its contents.
 fn inside(head: Head, octets: &[u8]) -> Option<&[u8]>
     ensures some { IfSome result (λ x. IsInside head x.now octets.now) }
     ensures none { IfNone result ((x : List ℕ) → IsInside head x octets.now → length octets.now ≤ 16777216 → ⊥) }
@@ -49,7 +49,8 @@ fn inside(head: Head, octets: &[u8]) -> Option<&[u8]>
     Some(unit.contents)
 }
 
-/// The steps behind the headers that steps begin with, and the contents within such headers of the octets.
+/// The steps after the headers that steps begin with, and the contents that the octets have within these headers. None
+/// if the octets don't have these headers by the distinguished rules.
 pub(crate) fn within_heads<'s, 'o>(
     steps: &'s [Step],
     octets: &'o [u8],

@@ -33,7 +33,7 @@ fn leaf_of(steps: &[Step]) -> Option<LeafKind>
     }
 }
 
-/// Whether primitive contents of the kind that the steps begin with keep the distinguished rules, where they keep the
+/// Whether primitive contents of the kind that the steps begin with fulfil the distinguished rules, if they fulfil the
 /// basic ones.
 pub(crate) fn is_strict_leaf(steps: &[Step], contents: &[u8]) -> bool
     ensures { (k : LeafKind') (ss : List Step') (v : AbstractValue)

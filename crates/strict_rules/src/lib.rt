@@ -1,4 +1,4 @@
-//! Whether octets that encode a value by the basic rules keep the distinguished ones too (X.690, 10 and 11).
+//! Whether octets that encode a value by the basic rules fulfil the distinguished ones too (X.690, 10 and 11).
 #![tactic(auto)]
 
 mod heads;

@@ -7,14 +7,14 @@ ghost use Rattle.strict_rules.specs.Units.{AreUnits};
 use crate::units::next_encoding;
 use encodings::header_laws;
 
-/// The octet at a place, 0 past the end.
+/// The octet at an index, or 0 after the end.
 fn octet_at(octets: &[u8], i: usize) -> u8
     ensures { result ≡ slice_index octets.now i }
 {
     if i < octets.len() { octets[i] } else { 0 }
 }
 
-/// Whether the first octets are at most the second, where the shorter ones are filled with zeros.
+/// Whether the first octets are at most the second ones, after the shorter ones are filled with zeros.
 fn is_at_most(first: &[u8], second: &[u8]) -> bool
     ensures { IsTrue result ↔ AtMost first.now second.now }
 {

@@ -1,4 +1,4 @@
-//! The order of a SET's components, and where each stands.
+//! The order of a SET's components, and the encoding of each.
 
 ghost use Rattle.asn_base.specs.Tags.{TagBefore, class_rank};
 ghost use Rattle.asn_base.specs.Types.{Component};
@@ -35,7 +35,7 @@ fn field_in(step: Step) -> Option<Field>
     }
 }
 
-/// The component at this place of those that the steps read.
+/// The component at this place, of those that the steps read.
 pub(crate) fn field_at(steps: &[Step], place: usize) -> Option<Field>
     ensures { (cs : List Component) (c : Component)
         → Reads cs 0 steps.now
@@ -72,7 +72,7 @@ fn class_place(class: Class) -> u8
     }
 }
 
-/// Whether the first tag stands before the second in the canonical order.
+/// Whether the first tag comes before the second in the canonical order.
 fn is_before(first: Tag, second: Tag) -> bool
     ensures { IsTrue result ↔ TagBefore first second }
 {
@@ -87,7 +87,7 @@ fn is_before(first: Tag, second: Tag) -> bool
     first.number < second.number
 }
 
-/// Whether the tag stands behind the last one, if there is one.
+/// Whether the tag comes after the last one, if there is one.
 fn is_behind(last: Option<Tag>, tag: Tag) -> bool
     ensures { IsTrue result ↔ IsBehind last tag }
 {
@@ -97,8 +97,8 @@ fn is_behind(last: Option<Tag>, tag: Tag) -> bool
     }
 }
 
-/// The last tag of a component's encoding, behind an encoding of this tag, and whether that is a component's: None
-/// where it is one, and out of order.
+/// The last tag of a component's encoding, once an encoding of this tag is added, and whether that one is a
+/// component's. None if it is a component's, and out of order.
 fn next_last(
     code: &Code,
     steps: &[Step],
@@ -121,7 +121,7 @@ fn next_last(
     Some((Some(tag), true))
 }
 
-/// Whether the encodings of components ascend by their tags, and if so, whether no others stand there.
+/// Whether the encodings of components ascend by their tags, and if so, whether there are no others among them.
 pub(crate) fn do_climb(code: &Code, steps: &[Step], contents: &[u8]) -> Option<bool>
     ensures { (cs : List Component) (ys zs us : List (List ℕ))
         → Reads cs 0 steps.now
@@ -148,7 +148,7 @@ pub(crate) fn do_climb(code: &Code, steps: &[Step], contents: &[u8]) -> Option<b
     Some(whole)
 }
 
-/// The encoding that begins with a first tag of the type.
+/// The encoding whose tag can be the first one of the type, or None if there is none.
 pub(crate) fn find_first<'a>(code: &Code, id: TypeId, contents: &'a [u8]) -> Option<&'a [u8]>
     ensures { (ys : List (List ℕ)) (x : List ℕ)
         → AreUnits ys contents.now

@@ -1,4 +1,4 @@
-//! Encodings, one behind the other.
+//! Encodings, one after the other.
 
 ghost use Rattle.asn_base.specs.declared.tag.Tag.{Tag as Tag'};
 ghost use Rattle.std.specs.Prelude.{◌≡◌, ◌↔◌, ◌++◌, ◌≤◌, IfNone, IfSome, IsTrue, List, length, ℕ};
@@ -7,7 +7,7 @@ ghost use Rattle.strict_rules.specs.Units.{IsUnit};
 use asn_base::tag::Tag;
 use next_tags::next_unit;
 
-/// The encoding at the front of octets, with its outermost tag, and what follows it.
+/// The encoding at the start of octets, with its outermost tag, and what follows it.
 #[derive(Clone, Copy)]
 pub(crate) struct Next<'a> {
     pub tag: Tag,
@@ -15,7 +15,7 @@ pub(crate) struct Next<'a> {
     pub rest: &'a [u8],
 }
 
-/// The encoding at the front of octets, whatever its rules. It takes no memory.
+/// The encoding at the start of octets, whatever its rules. The call takes no memory.
 pub(crate) fn next_encoding(octets: &[u8]) -> Option<Next<'_>>
     ensures whole { IfSome result (λ n. octets.now ≡ n.octets.now ++ n.rest.now) }
     ensures unit { IfSome result (λ n. IsUnit n.tag n.octets.now) }
@@ -38,7 +38,7 @@ pub(crate) fn next_encoding(octets: &[u8]) -> Option<Next<'_>>
     }
 }
 
-/// Whether both hold.
+/// Whether both are true.
 pub(crate) fn both(one: bool, other: bool) -> bool
     ensures { IsTrue result ↔ (IsTrue one × IsTrue other) }
 {

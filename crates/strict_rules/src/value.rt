@@ -98,7 +98,7 @@ fn alternative_at(steps: &[Step], index: usize) -> Option<TypeId>
     }
 }
 
-/// Contents of a value that holds no others.
+/// Whether contents of a value that holds no others fulfil the distinguished rules.
 fn strict_leaf(steps: &[Step], contents: &[u8]) -> Option<bool>
     ensures { (k : LeafKind') (ss : List Step') (v : AbstractValue)
         → steps.now ≡ Leaf k ∷ ss
@@ -112,7 +112,7 @@ fn strict_leaf(steps: &[Step], contents: &[u8]) -> Option<bool>
     }
 }
 
-/// Whether the encodings ascend, if they are to.
+/// Whether the encodings ascend, if they must.
 fn are_in_order(sorted: bool, contents: &[u8]) -> bool
     ensures { (ys : List (List ℕ))
         → AreUnits ys contents.now
@@ -121,15 +121,15 @@ fn are_in_order(sorted: bool, contents: &[u8]) -> bool
     !sorted || do_ascend(contents)
 }
 
-/// Whether the value is the same as the DEFAULT of the component at this place, without additions that were skipped.
+/// Whether the value is the same as the DEFAULT of the component at this place, and no additions were skipped in it.
 fn is_default(code: &Code, id: TypeId, place: usize, value: &Value, whole: bool) -> bool
     ensures { IsTrue result ↔ (IsTrue whole × IsDefaultAt code.now id.index place (abstract value.now)) }
 {
     whole && code.is_default(id, place, value)
 }
 
-/// Whether octets that say a value of the type by the basic rules do by the distinguished ones, and if so, whether no
-/// additions were skipped.
+/// Whether octets that encode a value of the type by the basic rules do so by the distinguished ones, and if so,
+/// whether no additions were skipped. None if they don't.
 #[cycle(strict)]
 fn strict_value(code: &Code, id: TypeId, levels: u8, value: &Value, octets: &[u8]) -> Option<bool>
     ensures { ValueGiven code.now id.index levels (abstract value.now) octets.now
@@ -146,7 +146,7 @@ fn strict_value(code: &Code, id: TypeId, levels: u8, value: &Value, octets: &[u8
     }
 }
 
-/// The same of contents, and the steps that read them.
+/// The same of contents, which these steps read.
 #[cycle(strict)]
 fn strict_contents(
     code: &Code,
@@ -187,7 +187,7 @@ fn strict_contents(
     }
 }
 
-/// The same of contents of a SEQUENCE or SET.
+/// The same as `strict_value` of contents of a SEQUENCE or SET.
 #[cycle(strict)]
 fn strict_fields(
     code: &Code,
@@ -212,7 +212,7 @@ fn strict_fields(
     }
 }
 
-/// Components in order, and additions that the type lacks behind them.
+/// The same of components in order, and additions that the type lacks after them.
 #[cycle(strict)]
 fn strict_sequence(
     code: &Code,
@@ -239,7 +239,7 @@ fn strict_sequence(
     Some(both(whole, rest.is_empty()))
 }
 
-/// The component at a place, at the front of octets, and what follows it.
+/// The same of the component at a place, which comes first in the octets, and what follows it.
 #[cycle(strict)]
 fn strict_next<'o>(
     code: &Code,
@@ -271,8 +271,8 @@ fn strict_next<'o>(
     }
 }
 
-/// Components in any order, those present in ascending order of their tags, and additions that the type lacks among
-/// them.
+/// The same of components in any order: those present must be in ascending order of their tags, and additions that the
+/// type lacks may be among them.
 #[cycle(strict)]
 fn strict_set(
     code: &Code,
@@ -300,7 +300,7 @@ fn strict_set(
     Some(both(whole, none_else))
 }
 
-/// The component at a place, where its tag stands.
+/// The same of the component at a place, which is found by its tag.
 #[cycle(strict)]
 fn strict_known(
     code: &Code,
@@ -328,8 +328,8 @@ fn strict_known(
     }
 }
 
-/// The value of the component at a place, which is not to be the same as its DEFAULT, unless additions were skipped
-/// within it.
+/// The same of the value of the component at a place. It must not be the same as its DEFAULT, unless additions were
+/// skipped within it.
 #[cycle(strict)]
 fn strict_member(
     code: &Code,
@@ -361,7 +361,7 @@ fn strict_member(
     Some(part)
 }
 
-/// The same of contents of a SEQUENCE OF or SET OF.
+/// The same as `strict_value` of contents of a SEQUENCE OF or SET OF.
 #[cycle(strict)]
 fn strict_list(
     code: &Code,
@@ -388,7 +388,7 @@ fn strict_list(
     strict_elements(code, element, levels, values, contents)
 }
 
-/// Elements, one behind the other.
+/// The same of elements, one after the other.
 #[cycle(strict)]
 fn strict_elements(
     code: &Code,
@@ -419,12 +419,14 @@ fn strict_elements(
     Some(whole)
 }
 
-/// Whether octets that encode the value by the basic rules, with additions that its type lacks or without, do so by the
-/// distinguished ones (X.690, 10 and 11): each header has the fewest octets, strings are whole, TRUE has all bits set,
-/// unused bits are zeros, named bits end in a one, a SET's components ascend by their tags and a SET OF's elements by
-/// their octets, and no component is the same as its DEFAULT, unless additions were skipped within it. Those additions,
-/// and where they stand in a SET, are not judged. It takes no memory, and time as many times that of the octets as
-/// values stand one in another.
+/// Whether octets that encode the value by the basic rules do so by the distinguished ones (X.690, 10 and 11). The
+/// octets may have additions that the value's type lacks.
+///
+/// Each header has the fewest octets, strings are primitive, TRUE has all bits set, unused bits are zeros, and named
+/// bits end in a one. A SET's components ascend by their tags, and a SET OF's elements by their octets. No component is
+/// the same as its DEFAULT, unless additions were skipped within it. Additions that the type lacks, and their places in
+/// a SET, are not checked. The call takes no memory. Its time grows as the number of octets times the number of levels
+/// of the value.
 pub fn is_strict(code: &Code, id: TypeId, value: &Value, octets: &[u8]) -> bool
     ensures { (k : ℕ)
         → Encodes code.now Basic id.index (abstract value.now) k octets.now

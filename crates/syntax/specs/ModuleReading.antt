@@ -6,7 +6,7 @@ use Rattle.module_head.specs.HeadReading.{head_at}
 use Rattle.syntax.specs.Syntax.{module_of}
 use Rattle.syntax.specs.Reading.{assignments_at}
 
--- fits: the test that numbers with no minus meet
+-- fits: the test that numbers without a minus must pass
 module _ (fits : ℕ → Bool) where
   unfoldable pub module_at : ℕ → Reader ModuleTree
   module_at n ts = head_at fits ts >>= λ h. assignments_at fits n h.1 >>= λ xs. Ok (module_of h.0 xs.0, xs.1)

@@ -16,16 +16,16 @@ begins_assignment (TypeRef x) = true
 begins_assignment (Ident x) = true
 begins_assignment t = false
 
--- behind the type of a value assignment
+-- what comes after the type of a value assignment
 abbrev pub typed_at : (ℕ → Bool) → ℕ → Reader (TypeTree × Tree)
 typed_at fits n ts = type_at fits n ts >>= λ t. then_at assign_at (value_at fits n) t.1 >>= λ v. Ok ((t.0, v.0), v.1)
 
--- behind the name of a type that is assigned
+-- what comes after the name of a type that is assigned
 abbrev pub type_assigned_at : (ℕ → Bool) → ℕ → List ℕ → Reader AssignmentTree
 type_assigned_at fits n x ts = then_at assign_at (type_at fits n) ts >>= λ t. Ok (assigns_type x t.0, t.1)
 
 module _ (fits : ℕ → Bool) where
-  -- behind the name of a value that is assigned
+  -- what comes after the name of a value that is assigned
   abbrev pub value_assigned_at : ℕ → List ℕ → Reader AssignmentTree
   value_assigned_at n x ts = typed_at fits n ts >>= λ p. Ok (assigns_value x p.0.0 p.0.1, p.1)
 
@@ -37,6 +37,6 @@ module _ (fits : ℕ → Bool) where
   abbrev pub many_assignments_at : ℕ → Reader (List AssignmentTree)
   many_assignments_at n ts = many_at begins_assignment (assignment_at n) (length ts) ts
 
-  -- behind the head of a module
+  -- what comes after the head of a module
   unfoldable pub assignments_at : ℕ → Reader (List AssignmentTree)
   assignments_at n ts = many_assignments_at n ts >>= λ xs. end_at xs.1 >>= λ e. Ok (xs.0, e.1)

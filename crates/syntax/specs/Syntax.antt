@@ -10,7 +10,7 @@ use Rattle.type_syntax.specs.TypeGrammar.{type}
 use Rattle.trees.specs.Modules.{AssignmentTree, assigns_type, assigns_value, ModuleTree}
 use Rattle.module_head.specs.Heading.{HeadTree, head}
 
--- a module, of its head and its assignments
+-- a module from its head and its assignments
 abbrev pub module_of : HeadTree → List AssignmentTree → ModuleTree
 module_of h xs = record {
   name = h.name;
@@ -20,15 +20,16 @@ module_of h xs = record {
   assignments = xs;
 }
 
--- A limit on numbers, or on the numbers of tags, is a test that they meet.
+-- An assignment of a type or of a value, in which n more parts may be open (X.680, clause 16). A limit on numbers, or
+-- on the numbers of tags, is a test that these must pass.
 abbrev pub assignment : (ℕ → Bool) → (ℕ → Bool) → ℕ → Grammar AssignmentTree
 assignment fits tags n =
     (token TypeRef ∙ behind (Mark Assign) (type fits tags n)) ⇒ (λ p. assigns_type p.0 p.1)
     ∣ (token Ident ∙ (type fits tags n ∙ behind (Mark Assign) (value fits n)))
     ⇒ (λ p. assigns_value p.0 p.1.0 p.1.1)
 
--- A module within limits that allow one or more things to be open at one place: where an object identifier's braces are
--- open, at the head, nothing else is.
+-- A module within limits (X.680, clause 13). The limit on nesting must allow at least one open brace: that of an object
+-- identifier in the head, inside which nothing else is open.
 abbrev pub module_text : Limited ModuleTree
 module_text a =
     (head a.number ∙ ((many (assignment a.number a.tag a.nesting) ∙ word End) ⇒ (λ p. p.0)))

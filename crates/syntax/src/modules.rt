@@ -20,7 +20,7 @@ use text::{Token, kind, word};
 use trees::{Assignment, Module, TypeAssignment, ValueAssignment};
 use type_syntax::types::type_syntax;
 
-/// Reads what stands behind the name of a type that is assigned.
+/// Reads what comes after the name of a type that is assigned.
 fn type_assignment<'a>(
     alloc: Global,
     text: &[u8],
@@ -41,7 +41,7 @@ fn type_assignment<'a>(
     Ok((Assignment::Type(TypeAssignment { name, syntax }), rest))
 }
 
-/// Reads what stands behind the name of a value that is assigned.
+/// Reads what comes after the name of a value that is assigned.
 fn value_assignment<'a>(
     alloc: Global,
     text: &[u8],
@@ -123,7 +123,7 @@ fn many<'a>(
     Ok((assignments, rest))
 }
 
-/// Reads the assignments of a module and its end.
+/// Reads the assignments of a module, and its END.
 #[tactic(auto, unfolding(crate::specs::Reading::assignments_at, grammar::specs::Single::end_at))]
 fn assignments<'a>(
     alloc: Global,
@@ -143,7 +143,7 @@ fn assignments<'a>(
     }
 }
 
-/// Reads a module, where so many things may be open at one place.
+/// Reads a module, in which at most `depth` braces, tags and lists may be nested in each other.
 #[tactic(auto, unfolding(crate::specs::ModuleReading::module_at))]
 pub fn module<'a>(alloc: Global, text: &[u8], tokens: &'a [Token], depth: usize) -> Read<'a, Module>
     requires tokens { AreTokens text.now tokens.now }

@@ -20,30 +20,29 @@ use trees::Module;
 
 /// Reads the module that a text is.
 ///
-/// In go a text and its tokens, as [`text::lex`] gives them. Out comes the module as it is written
-/// (X.680, clause 13.1): a name, behind it an object identifier or none, `DEFINITIONS`, a default for tags or none,
-/// `::=`, `BEGIN`, exports and imports if there are any, assignments of types and values,
-/// and `END`.
+/// The arguments are a text and its tokens, as [`text::lex`] gives them. The result is the module as it is written
+/// (X.680, clause 13.1). It has a name, an object identifier after it or none, `DEFINITIONS`, a tag default or none,
+/// `::=` and `BEGIN`. Exports and imports follow if there are any, then assignments of types and values, and `END`.
 ///
 /// # Errors
 /// The place of a fault is the first token with which no module within the limits can go on, or the end of the tokens.
-/// It is told there as
-/// - [`SyntaxFault::Limit`] where a module could go on if this one limit were higher: at the brace, bracket, `OF` or
-///   colon that opens more than 128 things, at a number of 2 to the 127 with no minus before it, one in an object
-///   identifier too, and at a tag's number of 2 to the 31;
-/// - [`SyntaxFault::Unexpected`] and [`SyntaxFault::OutOfProfile`] where none could under any limits; `OutOfProfile`
-///   where that token is a word or mark of a construct that is left out.
+/// The fault there is
+/// - [`SyntaxFault::Limit`] if a module could go on were this one limit higher. This happens at the brace, bracket,
+///   `OF` or colon that would be nested in 128 others, and at a tag's number of 2 to the 31 or more. It also happens at
+///   a number of 2 to the 127 or more without a minus before it, in an object identifier too;
+/// - [`SyntaxFault::Unexpected`] or [`SyntaxFault::OutOfProfile`] if none could under any limits; `OutOfProfile` if
+///   that token is a word or mark of a construct that this compiler leaves out.
 ///
-/// Besides, [`SyntaxFault::Memory`] is told if there is not enough memory.
+/// Besides, the error is [`SyntaxFault::Memory`] if there is not enough memory.
 pub fn parse(alloc: Global, text: &[u8], tokens: &[Token]) -> Result<Module, SyntaxFault>
     requires { IsLexed text.now tokens.now }
-    // What is answered is the module that the tokens are.
+    // The result is the module that the tokens are.
     ensures found { IfOk result (λ m.
         (module_text (bounded 128)).Is (module_tree_of m) (lexemes text.now tokens.now)) }
-    // The module that the tokens are is answered, unless memory runs out.
+    // The module that the tokens are is returned, unless memory runs out.
     ensures only { (m : ModuleTree) → (module_text (bounded 128)).Is m (lexemes text.now tokens.now)
         → MatchResult result (λ x. module_tree_of x ≡ m) (λ f. f ≡ SyntaxFault.Memory) }
-    // A fault stands at its place.
+    // A fault is the right one, with its place.
     ensures fault { IfErr result (Stands module_text (lexemes text.now tokens.now) 0 (bounded 128)) }
 {
     notation::law::lexed_tokens();
@@ -74,7 +73,7 @@ pub fn one_module()
     type_syntax::law::types_are_read();
 }
 
-/// One fault at most stands where a module is read, want of memory apart.
+/// At most one fault is right where a module is read, apart from `Memory`.
 pub fn one_fault()
     ensures { (ts : List Lexeme) (f g : SyntaxFault') → (f ≡ faults.Memory → ⊥)
         → (g ≡ faults.Memory → ⊥)

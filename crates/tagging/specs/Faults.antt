@@ -1,4 +1,4 @@
--- What faults say of linked modules: of a program p, whose written types are p.types. Names are lists of octets.
+-- What faults say of linked modules: program p has the written types p.types. Names are lists of octets.
 use Rattle.std.specs.Prelude.{◌≡◌, ℕ, List, Some, slice_get}
 use Rattle.trees.specs.declared.place.Spot.{Spot}
 use Rattle.type_table.specs.Table.{Type'}
@@ -21,7 +21,8 @@ pub record Somewhere (p : Program) (P : ℕ → Type 0) (s : Spot) : Type 0 wher
   pub has : P ty
   pub stands : IsWrittenIn p ty (module_told s) (name_told s)
 
--- the fault is one of this program, and stands in the module and under the name that it names; Memory says nothing
+-- the fault is one of this program: a type in the module and the assignment that it names has that fault. `Memory` says
+-- nothing
 abbrev pub Stands : Program → TagFault → Type 0
 Stands p Memory = Unit {0}
 Stands p (Limit Tags s) = Somewhere p (IsOverfull p.types) s

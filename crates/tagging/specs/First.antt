@@ -1,4 +1,5 @@
--- The tags that can stand outermost, and which types of a list have to differ in them.
+-- The tags that can be outermost in an encoding of a type, and which members of a list must differ in them (X.680,
+-- clauses 25, 27 and 29).
 use Rattle.std.specs.Prelude.{◌≡◌, ℕ, ◌<◌, ◌≤◌, Bool, true, false, ◌||◌, List, [], ◌∷◌, Option, Some, slice_get}
 use Rattle.trees.specs.declared.module.TagDefault.{TagDefault}
 use Rattle.trees.specs.declared.types.ListKind.{ListKind}
@@ -10,11 +11,13 @@ use Rattle.type_table.specs.Table.{Part, Type', members, Is, IsCore}
 use Rattle.tagging.specs.declared.path.TagForm.{TagForm}
 use Rattle.tagging.specs.Tags.{Path, Label, Tags}
 
--- tag t can stand outermost in an encoding of type i
+-- tag t can be the outermost one in an encoding of type i of the table of written types
 pub data First (ts : List Type') : ℕ → Label → Type 0 where
+  -- t is the first of the tags of the type
   outermost : {i : ℕ} {t : Label} {f : TagForm} {p : Path} →
       Tags ts i ((t, f) ∷ p) →
       First ts i t
+  -- the type is an untagged CHOICE, c its number after references, and t a first tag of its alternative n
   alternative : {i : ℕ} {t : Label} {d : TagDefault} {l : Option (ℕ × ℕ)}
       (c : ℕ) (marker : Bool) (cs : List Part) (n : ℕ) (a : Part) →
       Tags ts i [] →
@@ -24,25 +27,28 @@ pub data First (ts : List Type') : ℕ → Label → Type 0 where
       First ts a.ty t →
       First ts i t
 
--- no tag can stand first in both
+-- no tag can be first in an encoding of both types
 abbrev pub Apart : List Type' → ℕ → ℕ → Type 0
 Apart ts i j = (t : Label) → First ts i t → First ts j t → ⊥
 
+-- true for an addition to a SEQUENCE, SET or CHOICE, in version brackets or not; false for a member of the root (X.680,
+-- clauses 25, 27 and 29)
 abbrev pub is_addition : Standing → Bool
 is_addition Root = false
 is_addition (Addition g) = true
 
+-- OPTIONAL or DEFAULT comes after the type of a component with this presence (X.680, clause 25)
 abbrev pub is_optional : PresenceTree → Bool
 is_optional mandatory = false
 is_optional optional = true
 is_optional (default v) = true
 
--- a component may be absent where OPTIONAL or DEFAULT stands behind it (X.680, clause 25), and so may each addition (in
--- this compiler also where a later addition stands)
+-- a component may be absent if OPTIONAL or DEFAULT follows it (X.680, clause 25). Each addition may be absent too, in
+-- this compiler also when a later addition is there (own rule)
 abbrev pub may_be_absent : Part → Bool
 may_be_absent c = is_addition c.standing || is_optional c.presence
 
--- each member from place p to before place q may be absent
+-- each member from index p to before index q may be absent
 abbrev pub MayBeAbsent : List Part → ℕ → ℕ → Type 0
 MayBeAbsent cs p q = (r : ℕ) (c : Part) →
     p ≤ r →
@@ -50,14 +56,16 @@ MayBeAbsent cs p q = (r : ℕ) (c : Part) →
     slice_get cs r ≡ Some c →
     may_be_absent c ≡ true
 
--- the members at p and, later, q can be the next one that stands: in a SEQUENCE where all from p to before q may be
--- absent. So what follows the last component of the root that can't be absent takes in all additions
+-- The member at p and, later, the one at q can come next at the same point of an encoding. In a SEQUENCE they can if
+-- all from p to before q may be absent. So all additions may follow the last component of the root that can't be
+-- absent. Additions that later versions may have do not count.
 abbrev pub Together : ListKind → List Part → ℕ → ℕ → Type 0
 Together Sequence cs p q = MayBeAbsent cs p q
 Together Set cs p q = Unit {0}
 Together Choice cs p q = Unit {0}
 
--- the first tags of a list's members, of the root and additions, differ wherever they have to
+-- the first tags of two members of a list differ if both can come next (X.680, clauses 25, 27 and 29; for additions to
+-- a SEQUENCE an own rule)
 abbrev pub Distinct : List Type' → ListKind → List Part → Type 0
 Distinct ts k cs = (p q : ℕ) (c d : Part) →
     p < q →

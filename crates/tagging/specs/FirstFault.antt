@@ -1,6 +1,7 @@
--- Which of several faults of tags is reported, and where in the text: that of the first type, by its number, that breaks a
--- rule. Of a type the rules are asked in this order: how many tags are written on it, the number of its automatic tag,
--- and the word IMPLICIT; of a list its automatic tags, its members that need a tag, and whether first tags differ.
+-- Which of several faults of tags is reported, and where in the text: that of the first type, by its number, that
+-- breaks a rule. The rules are checked for a type in this order: how many tags are written on it, the number of its
+-- automatic tag, and the word IMPLICIT. For a list: its automatic tags, its members that need a tag, and whether first
+-- tags differ.
 use Rattle.std.specs.Prelude.{◌≡◌, ◌<◌, ℕ, true, List, [], Some, map, slice_get}
 use Rattle.trees.specs.declared.place.Spot.{Spot}
 use Rattle.trees.specs.declared.module.TagDefault.{TagDefault}
@@ -46,7 +47,7 @@ pub record IsBareAt (ts : List Type') (ms : List ListMember) (ty at : ℕ) : Typ
   pub untagged : Tags ts ty []
   pub before : (n : ℕ) (c : Part) → n < number → slice_get (map part_of ms) n ≡ Some c → Tags ts c.ty [] → ⊥
 
--- the first member that can begin with a tag with which an earlier one can begin too, where either can come next
+-- the first member that can begin with a tag with which an earlier member can begin too, if either can come next
 pub record IsClashingAt (ts : List Type') (k : ListKind) (ms : List ListMember) (at : ℕ) : Type 0 where
   pub number : ℕ
   pub member : ListMember
@@ -56,8 +57,8 @@ pub record IsClashingAt (ts : List Type') (k : ListKind) (ms : List ListMember) 
   pub clash : Clash ts k (map part_of ms) earlier number
   pub before : (m n : ℕ) → n < number → Clash ts k (map part_of ms) m n → ⊥
 
--- Where members need a tag, the first that has none is reported. Where all have what they need, type ty can be an
--- alternative, without a tag, of a CHOICE that a member is.
+-- If members need a tag, the first member without one is reported. If all have what they need, type ty can be an
+-- untagged alternative of a CHOICE that a member is.
 pub data IsUntaggedAt (ts : List Type') (k : ListKind) (ms : List ListMember) (ty at : ℕ) : Type 0 where
   own : IsBareAt ts ms ty at → IsUntaggedAt ts k ms ty at
   inner : BearTags ts k (map part_of ms) → IsUntagged ts ty → IsUntaggedAt ts k ms ty at
@@ -77,7 +78,7 @@ IsListFault ts i k d ms (At rules.TagClash ty at) =
     × IsClashingAt ts k ms at
 IsListFault ts i k d ms (At r ty at) = ⊥
 
--- the first fault of type i by what it is
+-- the first fault of type i that its shape can have
 abbrev pub IsShapeFault : List Type' → ℕ → ℕ → TagDefault → Shape → Fault → Type 0
 IsShapeFault ts i place d (shapes.Members k m ms) e = IsListFault ts i k d ms.items e
 IsShapeFault ts i place d (shapes.Tagged t w j) Memory = Unit {0}
@@ -85,7 +86,8 @@ IsShapeFault ts i place d (shapes.Tagged t w j) (At rules.ImplicitChoice ty at) 
     (ty ≡ i) × (at ≡ place) × IsImplicit ts i
 IsShapeFault ts i place d s e = ⊥
 
--- the first fault of type i, which is written so: what breaks the type as a whole is reported where it begins
+-- the first fault of type i, which is written so: a rule broken by the type as a whole is reported where the type
+-- begins
 abbrev pub IsTypeFault : List Type' → ℕ → Written → Fault → Type 0
 IsTypeFault ts i w Memory = Unit {0}
 IsTypeFault ts i w (At rules.Tags ty at) = (ty ≡ i) × (at ≡ w.at) × IsOverfull ts i
@@ -93,7 +95,7 @@ IsTypeFault ts i w (At rules.TagNumber ty at) = (ty ≡ i) × (at ≡ w.at) × H
 IsTypeFault ts i w (At r ty at) =
     HasFew ts i × IsNumbered ts i × IsShapeFault ts i w.at w.default w.shape (At r ty at)
 
--- of the types that are written so, this is the first fault: no type before that one breaks a rule
+-- the first fault of these written types: no type before that one breaks a rule
 pub record IsFirstFault (ts : List Type') (ws : List Written) (r : Rule) (ty at : ℕ) : Type 0 where
   pub number : ℕ
   pub written : Written
@@ -107,13 +109,13 @@ IsFirstOf ts ws (At r ty at) = IsFirstFault ts ws r ty at
 
 -- ---- faults by name
 
--- so is the fault at this spot, and it is reported with the module and the assignment in which that type is written
+-- the first fault is at this spot, reported with the module and the assignment in which its type is written
 pub record IsFirstAt (p : Program) (ws : List Written) (r : Rule) (s : Spot) : Type 0 where
   pub ty : ℕ
   pub first : IsFirstFault p.types ws r ty s.at
   pub stands : IsWrittenIn p ty (module_told s) (name_told s)
 
--- this fault of program p, whose types are written so, is the first; Memory says nothing
+-- this fault of program p, whose types are written so, is the first one; `Memory` says nothing
 abbrev pub IsFirst : Program → List Written → TagFault → Type 0
 IsFirst p ws faults.Memory = Unit {0}
 IsFirst p ws (faults.Limit limits.Tags s) = IsFirstAt p ws rules.Tags s
@@ -123,6 +125,6 @@ IsFirst p ws (faults.ImplicitChoice s) = IsFirstAt p ws rules.ImplicitChoice s
 IsFirst p ws (faults.UntaggedChoice s) = IsFirstAt p ws rules.UntaggedChoice s
 IsFirst p ws (faults.MixedAutomatic s) = IsFirstAt p ws rules.MixedAutomatic s
 
--- so is it for the types as they are written
+-- this fault is the first one for the program's types as they are written
 abbrev pub TellsFirst : Program → TagFault → Type 0
 TellsFirst p e = (ws : List Written) × (types_of ws ≡ p.types) × IsFirst p ws e

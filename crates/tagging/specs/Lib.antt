@@ -1,7 +1,7 @@
--- What has to be believed: the tags of types (`Tags`), the tags that can stand first and where they have to differ
--- (`First`), tables whose types have their tags, and how a type breaks that (`Tagged`), what faults say (`Faults`), and
--- which one is told first and where (`FirstFault`).
--- What stands in `proving` only contracts inside the crate and proofs speak of.
+-- What a reader has to believe: the tags of types (`Tags`), and the tags that can be first and where they must differ
+-- (`First`). Tables whose types have their tags, and how a type breaks that (`Tagged`). What faults say (`Faults`), and
+-- which fault is reported first and where (`FirstFault`). Only contracts inside the crate, and proofs, speak of
+-- `proving`.
 pub mod Tags
 pub mod First
 pub mod Tagged

@@ -1,4 +1,5 @@
--- Tables whose types have their tags as X.680 asks, and how a type breaks what it asks.
+-- Tables of types with the tags that are required, and how a type breaks a rule on tags (X.680, clauses 25, 27, 29 and
+-- 31, and own rules).
 use Rattle.std.specs.Prelude.{◌≡◌, ◌⊎◌, ℕ, ◌<◌, ◌≤◌, Bool, true, false, List, [], Option, Some, slice_get}
 use Rattle.asn_base.specs.declared.tag.Tag.{Tag}
 use Rattle.trees.specs.declared.types.Keyword.TheVariants.{Implicit}
@@ -12,12 +13,14 @@ use Rattle.tagging.specs.declared.check.Rule.TheVariants.{Tags as TagsRule, TagN
 use Rattle.tagging.specs.Tags.{Label, Tags, Written, TagCount, bears_tag, automatic, AreNumbered}
 use Rattle.tagging.specs.First.{First, is_addition, Together, Distinct}
 
--- no SET component and no CHOICE alternative, of the root or an addition, is an untagged CHOICE
+-- no SET component and no CHOICE alternative, of the root or an addition, is an untagged CHOICE (own rule); a SEQUENCE
+-- component may be one
 abbrev pub BearTags : List Type' → ListKind → List Part → Type 0
 BearTags ts Sequence cs = Unit {0}
 BearTags ts k cs = (n : ℕ) (c : Part) → slice_get cs n ≡ Some c → Tags ts c.ty [] → ⊥
 
--- one of these members bears a tag that is written in the list: of the additions, or of the root
+-- a member of this list bears a tag that is written in the list: an addition if `of_additions` is true, else one of the
+-- root
 pub record Bears (ts : List Type') (cs : List Part) (of_additions : Bool) : Type 0 where
   pub number : ℕ
   pub member : Part
@@ -25,37 +28,38 @@ pub record Bears (ts : List Type') (cs : List Part) (of_additions : Bool) : Type
   pub stands : is_addition member.standing ≡ of_additions
   pub bears : bears_tag (slice_get ts member.ty) ≡ true
 
--- what tagging asks of a table's types
+-- what the rules on tags require of a table's types
 pub record IsTagged (ts : List Type') : Type 0 where
-  -- at most four tags are written on a type, through references (a limit of this compiler)
+  -- at most four tags are written on a type, through references (own rule: a limit)
   pub few : (i n : ℕ) → TagCount ts i n → n ≤ 4
+  -- automatic tags have numbers below 2^31 (own rule: a limit)
   pub numbers : AreNumbered ts
-  -- the word IMPLICIT stands before no untagged CHOICE (X.680, clause 31.2)
+  -- the word IMPLICIT comes before no untagged CHOICE (X.680, clause 31.2)
   pub forms : (i j : ℕ) (t : Tag) (d : TagDefault) (p : Option (ℕ × ℕ)) →
       Is ts i (tagged t Implicit j) d p →
       Written ts j [] → ⊥
-  -- in an AUTOMATIC module a list whose additions bear written tags has them in its root too (X.680, clauses 25, 27,
-  -- 29)
+  -- a list in an AUTOMATIC module whose additions bear written tags has written tags in its root too (X.680, clauses
+  -- 25, 27 and 29)
   pub unmixed : (i : ℕ) (k : ListKind) (m : Bool) (cs : List Part) (p : Option (ℕ × ℕ)) →
       Is ts i (members k m cs) Automatic p →
       Bears ts cs true →
       Bears ts cs false
-  -- SET components and CHOICE alternatives have a tag of their own (narrower than X.680)
+  -- SET components and CHOICE alternatives have a tag of their own (own rule, narrower than X.680)
   pub bear : (i : ℕ) (k : ListKind) (m : Bool) (cs : List Part) (d : TagDefault) (p : Option (ℕ × ℕ)) →
       Is ts i (members k m cs) d p →
       BearTags ts k cs
-  -- first tags differ where they have to (X.680, clauses 25, 27 and 29)
+  -- first tags differ where they must (X.680, clauses 25, 27 and 29)
   pub distinct : (i : ℕ) (k : ListKind) (m : Bool) (cs : List Part) (d : TagDefault) (p : Option (ℕ × ℕ)) →
       Is ts i (members k m cs) d p →
       Distinct ts k cs
 
--- exactly one tag can stand first in type i
+-- exactly one tag can be first in type i
 pub record OneFirst (ts : List Type') (i : ℕ) : Type 0 where
   pub tag : Label
   pub stands : First ts i tag
   pub only : (t : Label) → First ts i t → t ≡ tag
 
--- that is so of each SET component and each CHOICE alternative
+-- each SET component and each CHOICE alternative has exactly one tag that can be first
 abbrev pub HaveOneFirst : List Type' → Type 0
 HaveOneFirst ts =
     (i : ℕ) (k : ListKind) (m : Bool) (cs : List Part) (d : TagDefault) (p : Option (ℕ × ℕ)) (n : ℕ) (c : Part) →
@@ -70,7 +74,7 @@ pub record IsOverfull (ts : List Type') (i : ℕ) : Type 0 where
   pub counts : TagCount ts i count
   pub many : 4 < count
 
--- the automatic tag of type i has too great a number
+-- the automatic tag of type i has too great a number: 2 to the 31 or more
 pub record IsTooGreat (ts : List Type') (i : ℕ) : Type 0 where
   pub number : ℕ
   pub is : automatic ts i ≡ Some number
@@ -101,7 +105,7 @@ pub record IsUntagged (ts : List Type') (i : ℕ) : Type 0 where
   pub at : member.ty ≡ i
   pub untagged : Tags ts i []
 
--- the members at p and q can be the next one that stands, and one tag can stand first in both
+-- an encoding can go on with either of the members at p and q, and one tag can be first in both
 pub record Clash (ts : List Type') (k : ListKind) (cs : List Part) (p q : ℕ) : Type 0 where
   pub first : Part
   pub second : Part
@@ -135,7 +139,7 @@ pub record IsMixed (ts : List Type') (i : ℕ) : Type 0 where
   pub additions : Bears ts cs true
   pub root : Bears ts cs false → ⊥
 
--- type i breaks the rule
+-- type i breaks this rule
 abbrev pub Breaks : List Type' → Rule → ℕ → Type 0
 Breaks ts TagsRule i = IsOverfull ts i
 Breaks ts TagNumber i = IsTooGreat ts i

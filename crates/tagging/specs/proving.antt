@@ -1,6 +1,6 @@
--- What only contracts inside the crate and proofs speak of: what is found once for all types, one step of the way
--- through references and tags, outermost tags, the first tags of a list as its check goes on, and what the check of one
--- type tells.
+-- What only contracts inside the crate, and proofs, speak of: what is found once for all types, and one step of the way
+-- through references and tags. Outermost tags, the first tags of a list during its check, and what the check of one
+-- type returns.
 pub mod Columns
 pub mod Step
 pub mod Heads

@@ -41,7 +41,7 @@ pub(crate) fn head(columns: &Columns<'_>, ty: usize) -> Option<Label>
     }
 }
 
-/// The tags of a type, the outermost first. Where there are at most four, it takes no memory.
+/// The tags of a type, the outermost first. If there are at most four, the call takes no memory.
 pub(crate) fn path_of(
     alloc: Global,
     columns: &Columns<'_>,

@@ -25,24 +25,24 @@ use std::alloc::Global;
 use trees::{Keyword, ListKind, Standing, TagDefault};
 use type_table::{ListMember, Shape, Written};
 
-/// What a type can break.
+/// A rule that a type can break.
 #[derive(Clone, Copy, Debug, PartialEq)]
 pub(crate) enum Rule {
     /// At most four tags are written on a type.
     Tags,
     /// The number of an automatic tag is below 2 to the 31.
     TagNumber,
-    /// First tags differ where they have to.
+    /// First tags differ where they must.
     TagClash,
-    /// IMPLICIT stands before no untagged CHOICE.
+    /// The word IMPLICIT comes before no untagged CHOICE.
     ImplicitChoice,
     /// SET components and alternatives have a tag.
     UntaggedChoice,
-    /// In an AUTOMATIC module, where additions of a list bear written tags, its root does.
+    /// A list of an AUTOMATIC module whose additions bear written tags has written tags in its root too.
     MixedAutomatic,
 }
 
-/// Why types can't be tagged: want of memory, or this type breaks a rule, at this place of its module's text.
+/// Why types can't be tagged: memory ran out, or this type breaks a rule, at this offset in its module's text.
 #[derive(Clone, Copy, Debug, PartialEq)]
 pub(crate) enum Fault {
     Memory,
@@ -83,7 +83,7 @@ fn is_addition(component: &ListMember) -> bool
     }
 }
 
-/// Whether a member is one of the additions, or of the root's members, and bears a tag that is written in the list.
+/// Whether a member is an addition, or one of the root, as asked, and bears a tag that is written in the list.
 fn bears(columns: &Columns<'_>, component: &ListMember, additions: bool) -> bool
     ensures { IsTrue result ↔ BearsHere columns.now.types (part_of component.now) additions }
 {
@@ -105,7 +105,7 @@ fn bearing(columns: &Columns<'_>, components: &[ListMember], additions: bool) ->
     None
 }
 
-/// In an AUTOMATIC module, where additions of a list bear written tags, its root has to.
+/// Checks that a list of an AUTOMATIC module has written tags in its root if its additions bear written tags.
 fn check_automatic(
     columns: &Columns<'_>,
     list: usize,
@@ -165,7 +165,7 @@ fn fault_of(fault: FrontFault) -> Fault
     }
 }
 
-/// First tags differ where they have to.
+/// Checks that first tags differ where they must.
 fn check_distinct(
     alloc: Global,
     columns: &Columns<'_>,
@@ -302,7 +302,8 @@ fn check_type(
     }
 }
 
-/// Whether all types of a table, which are written so, can be tagged, or the first one that breaks a rule.
+/// Checks whether all types of a table, which are written so, can be tagged; the fault is that of the first type that
+/// breaks a rule.
 pub(crate) fn check(alloc: Global, columns: &Columns<'_>, types: &[Written]) -> Result<(), Fault>
     requires linked { IsLinked columns.now.types }
     requires types { types_of types.now ≡ columns.now.types }

@@ -1,4 +1,4 @@
-//! What is found once for all types: where their references lead, and which lists are tagged automatically.
+//! What is found once for all types: the types that their references lead to, and which lists are tagged automatically.
 
 ghost use Rattle.std.specs.Prelude.{ℕ, ◌≡◌, ◌<◌, false, not, length, map, IfOk, MatchOption, Some, slice_get};
 ghost use Rattle.std.specs.List.{list_any};
@@ -29,8 +29,8 @@ fn referred(written: &Written) -> Option<usize>
     }
 }
 
-/// The first type, from one on through references, that is no reference. The way ends where it comes to a type for
-/// which that is noted.
+/// The first type, from `start` on through references, that is no reference. The search stops early at a type whose
+/// front is noted already.
 fn front_by(types: &[Written], fronts: &[usize], start: usize) -> usize
     requires linked { IsLinked (types_of types.now) }
     requires long { length fronts.now ≡ length types.now }
@@ -53,7 +53,8 @@ fn front_by(types: &[Written], fronts: &[usize], start: usize) -> usize
     at
 }
 
-/// Notes the front of a type for it and for all that it leads to through references, up to one for which it is noted.
+/// Notes the front of a type for it and for all types that it leads to through references, up to one whose front is
+/// noted already.
 fn note(types: &[Written], fronts: &mut [usize], start: usize, front: usize)
     requires linked { IsLinked (types_of types.now) }
     requires long { length fronts.old ≡ length types.now }
@@ -79,8 +80,8 @@ fn note(types: &[Written], fronts: &mut [usize], start: usize, front: usize)
     }
 }
 
-/// Notes the fronts of all types. No type is passed more than three times, so the time grows with the table alone,
-/// however its references are chained.
+/// Notes the fronts of all types. No type is passed more than three times, so the time grows with the table's length
+/// alone, however its references are chained.
 fn note_all(types: &[Written], fronts: &mut [usize])
     requires linked { IsLinked (types_of types.now) }
     requires long { length fronts.old ≡ length types.now }
@@ -118,7 +119,7 @@ fn any_tagged(types: &[Written], members: &[ListMember]) -> bool
     members.iter().any(|c| bears_tag_at(types, c.ty))
 }
 
-/// Whether the members of a type are tagged automatically; they are not where it is no list.
+/// Whether the members of a type are tagged automatically; false for a type that is no list.
 fn numbers(types: &[Written], written: &Written) -> bool
     ensures { result ≡ automatic_kind (types_of types.now) (kind_of written.now.shape) written.now.default }
 {
@@ -171,7 +172,7 @@ impl<'a> Model for Columns<'a> {
 }
 
 impl<'a> Columns<'a> {
-    /// Linked modules with what is found of their types.
+    /// Finds what `Columns` keeps of the types of linked modules.
     pub(crate) fn of(alloc: Global, linked: &'a Linked) -> Result<Columns<'a>, AllocError>
         ensures { IfOk result (λ c. c ≡ linked.now) }
     {
@@ -194,7 +195,7 @@ impl<'a> Columns<'a> {
         self.linked
     }
 
-    /// What every table of linked types keeps.
+    /// What is true of every table of linked types.
     pub(crate) fn whole(&self)
         ensures { IsLinked self.now.types }
     {
@@ -217,7 +218,7 @@ impl<'a> Columns<'a> {
         &self.linked.types()[ty]
     }
 
-    /// The first type, from one on through references, that is no reference.
+    /// The first type, from `ty` on through references, that is no reference.
     pub(crate) fn front(&self, ty: usize) -> usize
         requires { ty < length self.now.types }
         ensures front { Front self.now.types ty result }
@@ -226,7 +227,7 @@ impl<'a> Columns<'a> {
         self.fronts[ty]
     }
 
-    /// The type behind all references and tags of a type.
+    /// The type after all references and tags of a type.
     pub(crate) fn core(&self, ty: usize) -> usize
         requires { ty < length self.now.types }
         ensures core { IsCore self.now.types ty result }
@@ -235,7 +236,7 @@ impl<'a> Columns<'a> {
         self.linked.core(TypeId { index: ty }).index
     }
 
-    /// Whether the members of a type are tagged automatically; they are not where it is no list.
+    /// Whether the members of a type are tagged automatically; false for a type that is no list.
     pub(crate) fn numbers(&self, list: usize) -> bool
         ensures { result ≡ is_automatic self.now.types (slice_get self.now.types list) }
     {
@@ -252,7 +253,7 @@ impl<'a> Columns<'a> {
         bears_tag_at(self.linked.types(), ty)
     }
 
-    /// Where a type is written.
+    /// The module and the assignment in which a type is written.
     pub(crate) fn home(&self, ty: usize) -> Home<'_>
         requires { ty < length self.now.types }
         ensures { IsWrittenIn self.now ty result.module.now result.name.now }

@@ -17,39 +17,40 @@ use trees::Spot;
 /// A limit that is passed.
 #[derive(Clone, Copy, Debug, PartialEq, Eq)]
 pub enum Limit {
-    /// At most four tags are written on a type, those behind its references with them.
+    /// At most four tags are written on a type, together with those after its references.
     Tags,
     /// The number of a tag is less than 2 to the 31. An automatic tag has the number of a member, counted from 0.
     TagNumber,
 }
 
-/// What is wrong, with the module, the name of the assignment where it stands, and the place in the module's text.
+/// What is wrong, with the module, the name of the assignment that contains the fault, and its offset in the module's
+/// text.
 #[derive(Debug, Drop, Error)]
 pub enum TagFault {
     /// There was not enough memory.
     #[error("1 Memory")]
     Memory,
-    /// A limit is passed: of the type that begins at the place.
+    /// A limit is passed by the type that begins at this offset.
     #[error("2 Limit({0:?}): {1}")]
     Limit(Limit, Spot),
-    /// Members of a list could not be told apart: one tag can stand first in two of them where either can be the next
-    /// that stands (X.680, clauses 25, 27 and 29). At the place stands the later member.
+    /// Two members of a list can't be distinguished. One tag can be first in both, and either can come next at the same
+    /// point of an encoding (X.680, clauses 25, 27 and 29). The offset is that of the later member.
     #[error("40 TagClash: {0}")]
     TagClash(Spot),
-    /// The word IMPLICIT stands before an untagged CHOICE (X.680, clause 31.2), behind the tag at the place.
+    /// The word IMPLICIT comes before an untagged CHOICE (X.680, clause 31.2), after the tag at this offset.
     #[error("41 ImplicitChoice: {0}")]
     ImplicitChoice(Spot),
-    /// An untagged CHOICE is directly a component of a SET or an alternative of a CHOICE: the member at the place.
+    /// An untagged CHOICE is directly a component of a SET or an alternative of a CHOICE: the member at this offset.
     /// X.680 allows it; this compiler leaves it out.
     #[error("42 UntaggedChoice: {0}")]
     UntaggedChoice(Spot),
-    /// In an AUTOMATIC module additions of a list bear written tags, the first of them at the place, and its root bears
-    /// none.
+    /// Additions of a list in an AUTOMATIC module bear written tags, and its root bears none. The offset is that of the
+    /// first such addition.
     #[error("43 MixedAutomatic: {0}")]
     MixedAutomatic(Spot),
 }
 
-/// The fault that a type in this module, in the assignment of this name, breaks the rule.
+/// The fault of a type in this module, in the assignment of this name, that breaks the rule.
 pub(crate) fn fault_at(alloc: Global, rule: Rule, owner: &str, name: &str, at: usize) -> TagFault
     ensures stands { (p : Program) (i : ℕ) →
         Breaks p.types rule i →

@@ -1,4 +1,4 @@
-//! The tags that can stand first.
+//! The tags that can be first.
 
 ghost use Rattle.std.specs.Prelude.{ℕ, ◌≡◌, ◌<◌, length, map, IfErr, MatchResult, [], ◌∷◌};
 ghost use Rattle.type_table.specs.Seen.{kind_of, part_of};
@@ -13,7 +13,7 @@ use crate::path::Label;
 use std::alloc::Global;
 use type_table::{ListMember, Shape, Written};
 
-/// Why members have no outermost tags: want of memory, or this member is an untagged CHOICE, where it is written.
+/// Why members have no outermost tags: memory ran out, or this member, at this offset, is an untagged CHOICE.
 #[derive(Clone, Copy, Debug, PartialEq)]
 pub(crate) enum FrontFault {
     Memory,
@@ -39,7 +39,7 @@ fn single(alloc: Global, tag: Label) -> Result<Vec<Label>, FrontFault>
     }
 }
 
-/// The outermost tags of members, of which none is an untagged CHOICE, or the first one that is.
+/// The outermost tags of members. The error is the first member that is an untagged CHOICE.
 pub(crate) fn fronts(
     alloc: Global,
     columns: &Columns<'_>,
@@ -65,7 +65,7 @@ pub(crate) fn fronts(
     Ok(tags)
 }
 
-/// The tags that can stand first in a type.
+/// The tags that can be first in a type.
 pub(crate) fn first_tags(
     alloc: Global,
     columns: &Columns<'_>,

@@ -1,4 +1,5 @@
-//! What follows of tables whose types have their tags. A caller calls a law to know it; it takes no memory and no time.
+//! What follows for tables whose types have their tags. A caller calls a law to know it; the call takes no memory and
+//! no time.
 
 ghost use Rattle.std.specs.Prelude.{ℕ, ◌≡◌, ◌<◌, length, List};
 ghost use Rattle.type_table.specs.Table.{Type', IsLinked};
@@ -9,8 +10,8 @@ ghost use Rattle.tagging.specs.Faults.{Stands};
 ghost use Rattle.tagging.specs.declared.fault.TagFault.{TagFault};
 ghost use Rattle.tagging.specs.declared.fault.TagFault.TheVariants.{Memory};
 
-/// Modules in which a fault stands, other than want of memory, do not have their tags: so `tag` succeeds, memory apart,
-/// just where the modules have them.
+/// Modules that have a fault other than `Memory` do not have their tags. So `tag` succeeds exactly if the modules have
+/// them, unless memory runs out.
 pub fn no_other()
     ensures { (p : Program) (e : TagFault) → (e ≡ Memory → ⊥) → Stands p e → IsTagged p.types → ⊥ }
 {}
@@ -21,8 +22,7 @@ pub fn one_path()
     ensures unique { (ts : List Type') (i : ℕ) (p q : Path) → Tags ts i p → Tags ts i q → p ≡ q }
 {}
 
-/// Where the types have their tags, each SET component and each CHOICE alternative has exactly one tag that can stand
-/// first.
+/// If the types have their tags, each SET component and each CHOICE alternative has exactly one tag that can be first.
 pub fn one_first()
     ensures { (ts : List Type') → IsLinked ts → IsTagged ts → HaveOneFirst ts }
 {}

@@ -33,7 +33,7 @@ fn key(tag: Label) -> (u8, usize)
     (class_number(tag.0), tag.1)
 }
 
-/// Whether a component may be absent: OPTIONAL or DEFAULT stands behind it, or it is an addition (X.680, clause 25.6).
+/// Whether a component may be absent: OPTIONAL or DEFAULT follows it, or it is an addition (X.680, clause 25.6).
 fn may_be_absent(component: &ListMember) -> bool
     ensures { result ≡ Rattle.tagging.specs.First.may_be_absent (part_of component.now) }
 {
@@ -45,8 +45,8 @@ fn may_be_absent(component: &ListMember) -> bool
     }
 }
 
-/// Whether the member behind one can be the next that stands where this one could be: in a SEQUENCE where this one may
-/// be absent, else always.
+/// Whether the member after `member` can be the next of an encoding at a point where `member` could be: in a SEQUENCE
+/// if `member` may be absent, else always.
 fn passes(kind: ListKind, member: &ListMember) -> bool
     ensures { IsTrue result ↔ Passes kind (part_of member.now) }
 {
@@ -56,7 +56,7 @@ fn passes(kind: ListKind, member: &ListMember) -> bool
     }
 }
 
-/// One of these tags that is in a set.
+/// One of these tags that is in a set, if there is one.
 fn met(seen: &BTreeSet<(u8, usize)>, tags: &[Label]) -> Option<(u8, usize)>
     ensures { MatchOption result
         ((k : ℕ × ℕ) → HasKey tags.now k → IsIn seen.now.keys k → ⊥)
@@ -85,7 +85,8 @@ fn put_all(seen: &mut BTreeSet<(u8, usize)>, tags: &[Label]) -> Result<(), Alloc
     Ok(())
 }
 
-/// The tags that the member behind one can meet: those that this one could, and its own, or none where it has to stand.
+/// The tags that the member after `member` can meet: those that `member` could meet, and the tags of `member`; none if
+/// `member` must be present.
 fn behind(
     alloc: Global,
     kind: ListKind,
@@ -107,8 +108,8 @@ fn behind(
     Ok(BTreeSet::new(alloc))
 }
 
-/// The first member that clashes with one before it. The first tags of those before it which can be the next one
-/// together with it are held in order, so each tag is looked up once.
+/// The first member that clashes with one before it. The set holds the first tags of those earlier members that can
+/// come next at the same point as the current one. Its tags are in order, so each tag is looked up once.
 pub(crate) fn clash(
     alloc: Global,
     kind: ListKind,

@@ -17,12 +17,12 @@ use std::alloc::AllocError;
 use trees::{ElementsKind, Keyword, ListKind, Simple, TagDefault};
 use type_table::{Shape, Written};
 
-/// Whether a tag stands in place of the tag after it, or before it (X.680, clause 31.2).
+/// Whether a tag replaces the tag after it, or comes before it (X.680, clause 31.2).
 #[derive(Clone, Copy, Debug, PartialEq, Eq)]
 pub enum TagForm {
-    /// It stands in place of the tag after it.
+    /// It replaces the tag after it.
     Implicit,
-    /// It stands before the tag after it, or it is the last.
+    /// It comes before the tag after it, or it is the last one.
     Explicit,
 }
 
@@ -45,14 +45,14 @@ impl Default for FormedTag {
     }
 }
 
-/// Tags with their forms, the outermost first. Up to four lie in place and take no memory.
+/// Tags with their forms, the outermost first. Up to four are stored in place and take no memory.
 pub type TagPath = SmallVec<FormedTag, 4>;
 
 /// The class and the number of a tag.
 pub(crate) type Label = (Class, usize);
 
-/// What stands at a type behind its references: the end of its tags, with the universal one if there is one, or one
-/// more tag, with the word behind it, its module's tag default and the type that it stands before.
+/// What follows a type's references: the end of its tags, with the universal tag if there is one, or one more tag. That
+/// tag has its keyword, its module's tag default and the type that it is written before.
 #[derive(Clone, Copy)]
 pub(crate) enum Step {
     Ends(Option<Tag>),
@@ -107,7 +107,7 @@ fn own_tag(written: &Written) -> Option<Tag>
     }
 }
 
-/// What stands at a type behind its references.
+/// What follows a type's references.
 fn step_at(columns: &Columns<'_>, ty: usize) -> Step
     requires { ty < length columns.now.types }
     ensures { IsStep columns.now.types ty result }
@@ -125,7 +125,7 @@ fn label_of(tag: Tag) -> Label
     (tag.class, tag.number as usize)
 }
 
-/// The outermost of the tags that a type's notation has, and none for an untagged CHOICE.
+/// The outermost of the tags that a type's notation has, or None for an untagged CHOICE.
 pub(crate) fn written_outermost(columns: &Columns<'_>, ty: usize) -> Option<Label>
     requires { ty < length columns.now.types }
     ensures { Outermost columns.now.types ty result }
@@ -186,8 +186,8 @@ pub(crate) fn form_at(
     form_with(keyword, default, untagged)
 }
 
-/// These tags and then those that a type's notation has, the outermost first.
-/// Where there are at most four, it takes no memory.
+/// These tags and then those that a type's notation has, the outermost first. If there are at most four, the call takes
+/// no memory.
 pub(crate) fn with_written(
     before: TagPath,
     columns: &Columns<'_>,

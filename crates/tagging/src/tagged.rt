@@ -20,9 +20,9 @@ use std::alloc::{AllocError, Global};
 use std::marker::Model;
 use type_table::Written;
 
-/// Linked modules whose types have their tags as X.680 asks: every list is distinct, and each SET component and each
-/// CHOICE alternative has exactly one tag that can stand first. It borrows the modules, so the numbers of types are
-/// theirs.
+/// Linked modules whose types have their tags as X.680 requires. First tags differ in every list where they must. Each
+/// SET component and each CHOICE alternative has exactly one tag that can be first. A `Tagged` borrows the modules, so
+/// the numbers of types are theirs.
 #[derive(Drop)]
 pub struct Tagged<'a> {
     columns: Columns<'a>,
@@ -71,7 +71,8 @@ impl<'a> Tagged<'a> {
     }
 }
 
-/// The fault that this type breaks the rule, with the names of its module and of the assignment where it is written.
+/// The fault of this type, which breaks the rule, with the names of its module and of the assignment where it is
+/// written.
 fn named(alloc: Global, columns: &Columns<'_>, rule: Rule, ty: usize, at: usize) -> TagFault
     requires { Breaks columns.now.types rule ty }
     ensures stands { Stands columns.now result }
@@ -83,7 +84,8 @@ fn named(alloc: Global, columns: &Columns<'_>, rule: Rule, ty: usize, at: usize)
     fault_at(alloc, rule, home.module, home.name, at)
 }
 
-/// Whether types, which are written so, can be tagged, or the first fault of them with its names and its place.
+/// Checks whether types, which are written so, can be tagged; the error is the first fault of them, with its names and
+/// its offset.
 fn checked(alloc: Global, columns: &Columns<'_>, types: &[Written]) -> Result<(), TagFault>
     requires linked { IsLinked columns.now.types }
     requires types { types_of types.now ≡ columns.now.types }
@@ -97,10 +99,12 @@ fn checked(alloc: Global, columns: &Columns<'_>, types: &[Written]) -> Result<()
     }
 }
 
-/// Linked modules with their tags (X.680, clauses 25, 27, 29 and 31), or the first fault that stands in them, by the
-/// numbers of types, with its module, the name of the assignment and the place: `Limit(Tags)` where more than four tags
-/// are written on a type, those behind its references with them, `Limit(TagNumber)`, `ImplicitChoice`,
-/// `MixedAutomatic`, `UntaggedChoice` or `TagClash`, asked of each type in this order; or `Memory`.
+/// Linked modules with their tags (X.680, clauses 25, 27, 29 and 31).
+///
+/// # Errors The first fault, by the numbers of types, with its module, the name of the assignment and the offset. Each
+/// type is checked for these in order: `Limit(Tags)` if more than four tags are written on it, together with those
+/// after its references; `Limit(TagNumber)`; `ImplicitChoice`; `MixedAutomatic`; `UntaggedChoice`; `TagClash`.
+/// `Memory`: there is not enough memory.
 pub fn tag(alloc: Global, linked: &Linked) -> Result<Tagged<'_>, TagFault>
     ensures found { MatchResult result
         (λ t. (t ≡ linked.now) × IsTagged linked.now.types)
@@ -119,9 +123,9 @@ pub fn tag(alloc: Global, linked: &Linked) -> Result<Tagged<'_>, TagFault>
 }
 
 /// The tags of a type (X.680, clauses 8, 25, 27, 29 and 31): those that are written and the automatic one, the
-/// outermost first, each implicit or explicit, and last the universal tag of the type behind them, which counts as
-/// explicit; a CHOICE has no such tag. An implicit tag stands in place of the tag after it. Up to four tags take no
-/// memory; where there are more, the error tells that there was not enough.
+/// outermost first, each implicit or explicit. The last is the universal tag of the type after them, which counts as
+/// explicit; a CHOICE has none. An implicit tag replaces the tag after it. Up to four tags take no memory. The error,
+/// possible only with more tags, is that there is not enough memory.
 pub fn tags_of(alloc: Global, tagged: &Tagged<'_>, ty: TypeId) -> Result<TagPath, AllocError>
     requires { ty.index < length tagged.now.types }
     ensures ok { IfOk result (λ v. Tags tagged.now.types ty.index (path_of v.items)) }

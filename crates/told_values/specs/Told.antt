@@ -1,4 +1,4 @@
--- What a user is told of a fault of a value: the number, the reason, the module, the name and the place.
+-- What a user reads about a fault of a value: the number, the reason, the module, the name and the place.
 use Rattle.std.specs.Prelude.{◌≡◌, ℕ, Bool, true, false, List, [], Option, Some, None, string_bytes, slice_get}
 use Rattle.trees.specs.Values.{Name, name_at}
 use Rattle.trees.specs.declared.value.ValueSyntax.{ValueSyntax}
@@ -38,11 +38,11 @@ number_of reasons.Outside = 61
 abbrev pub form_of : ValueSyntax → ValueForm ValueSyntax
 form_of l = (out-ValueSyntax l).form
 
--- where it begins in its text
+-- the offset in its text at which a notation begins
 abbrev pub begins : ValueSyntax → ℕ
 begins l = (out-ValueSyntax l).at
 
--- the name that a notation is, empty where it is none
+-- the name that a notation is, or the empty name
 abbrev pub name_of : ValueForm ValueSyntax → Name
 name_of (Reference r) = string_bytes r.name
 name_of f = []
@@ -51,12 +51,12 @@ abbrev pub is_given : {A : Type 0} → Option A → Bool
 is_given None = false
 is_given (Some x) = true
 
--- whether the name of a module stands before it
+-- whether a module's name comes before the name that a notation is
 abbrev pub has_prefix : ValueForm ValueSyntax → Bool
 has_prefix (Reference r) = is_given r.module
 has_prefix f = false
 
--- a name that means nothing is told apart by whether a module's name stands before it
+-- the reason for a name that means nothing: LostName if a module's name comes before it, else LostItem
 abbrev pub lost_as : Bool → Reason
 lost_as true = reasons.LostName
 lost_as false = reasons.LostItem
@@ -74,7 +74,7 @@ abbrev pub field_name : ValueForm ValueSyntax → ℕ → Name
 field_name (Fields fs) i = name_in_field (slice_get fs.items i)
 field_name f i = []
 
--- the place of that name, which is the notation's where there is no such field
+-- the offset of that name, or n if there is no such field
 abbrev pub place_in : ℕ → ValueForm ValueSyntax → ℕ → ℕ
 place_in n (Fields fs) i = place_in_field n (slice_get fs.items i)
 place_in n f i = n
@@ -91,14 +91,14 @@ abbrev pub name_in_part : Option Part → Name
 name_in_part None = []
 name_in_part (Some c) = c.name
 
--- x is the name of member j of the list that type i is behind its references and tags
+-- x is the name of member j of the list that type i is, after its references and tags
 pub record IsComponentName (p : Program) (i j : ℕ) (x : Name) : Type 0 where
   pub kind : Kind
   pub is : IsOfKind p.types i kind
   pub name : x ≡ name_in_part (slice_get (parts_in kind) j)
 
--- What is told of what is wrong at a place: T holds of the reason, the module, the name and the place in its text. Want
--- of memory is never told so.
+-- T is true of the reason, the module, the name and the offset in the text that a fault's cause and place have. Memory
+-- has none of these.
 abbrev pub IsOf : (T : Reason → (M x : Name) → ℕ → Type 0) → Program → Place → Cause → Type 0
 IsOf T p a cause.Memory = ⊥
 IsOf T p a cause.Depth = T reasons.Depth a.within.now [] (begins a.notation.now)
@@ -116,13 +116,13 @@ IsOf T p a (cause.Behind j K l) = T reasons.Behind K.now (field_name (form_of l.
 IsOf T p a (cause.Missing j K l) =
     (x : Name) × IsComponentName p a.ty.index j x × T reasons.Missing K.now x (begins l.now)
 
--- the reason, the module, the name and the place are these
+-- the report has this reason, module, name and offset
 pub record TellsAs (t : ValueTold) (r : Reason) (M x : Name) (n : ℕ) : Type 0 where
   pub reason : t.reason ≡ r
   pub within : module_told t.spot ≡ M
   pub name : name_told t.spot ≡ x
   pub at : t.spot.at ≡ n
 
--- what is told of a fault
+-- the report of a fault has what the fault's cause and place have
 abbrev pub IsTold : Program → ValueFault → ValueTold → Type 0
 IsTold p f t = IsOf (TellsAs t) p f.at f.cause

@@ -1,2 +1,2 @@
--- What proofs need of what is pointed at.
+-- What proofs need about a reason with its name and offset.
 pub mod Pointed

@@ -1,4 +1,4 @@
-//! What is expected of a notation, in words.
+//! The words for what is expected of a notation.
 
 ghost use Rattle.std.specs.Prelude.{◌<◌, length};
 
@@ -12,10 +12,10 @@ use trees::{EnumeratedSyntax, ListKind, NamedBit, Simple, ValueSyntax};
 use type_table::{ListMember, Shape};
 use typed_values::{Cause, ValueFault};
 
-/// How many characters words in a row take up at most.
+/// The most characters of a list of words.
 const SHOWN: usize = 60;
 
-/// Words in a row, cut off where they get long.
+/// A list of words, cut off if it gets long.
 #[derive(Drop)]
 struct List {
     text: String,
@@ -32,7 +32,7 @@ impl List {
         }
     }
 
-    /// Adds a word, or two dots where there is no more room.
+    /// Adds a word, or two dots if there is no more room.
     fn add(&mut self, word: &str) -> Result<(), AllocError> {
         if self.full {
             return Ok(());
@@ -48,7 +48,7 @@ impl List {
     }
 }
 
-/// A name, or its first 60 characters with two dots behind them.
+/// A name, or its first 60 characters with two dots after them.
 fn shown(alloc: Global, name: &str) -> Result<String, AllocError> {
     match name.get(..SHOWN) {
         Some(front) if front.len() < name.len() => format!(in alloc; "{front}.."),
@@ -85,7 +85,7 @@ fn item_names(alloc: Global, given: &EnumeratedSyntax) -> Result<String, AllocEr
     Ok(list.text)
 }
 
-/// What a string type is called.
+/// The name of a string type.
 fn called(kind: StringKind) -> &'static str {
     match kind {
         StringKind::Numeric => "NumericString",
@@ -143,7 +143,7 @@ fn of_shape(alloc: Global, shape: &Shape) -> Result<String, AllocError> {
     }
 }
 
-/// A range of numbers, as a constraint has it.
+/// A range of numbers, in the notation of constraints.
 fn of_range(alloc: Global, range: &Range) -> Result<String, AllocError> {
     match (range.least, range.greatest) {
         (Some(least), Some(greatest)) if least == greatest => format!(in alloc; "{least}"),
@@ -154,7 +154,7 @@ fn of_range(alloc: Global, range: &Range) -> Result<String, AllocError> {
     }
 }
 
-/// What is allowed, as a constraint has it.
+/// The allowed ranges, in the notation of constraints.
 fn of_ranges(alloc: Global, ranges: &[Range]) -> Result<String, AllocError> {
     let mut list = List::new(alloc, " | ");
     for range in ranges {
@@ -164,7 +164,7 @@ fn of_ranges(alloc: Global, ranges: &[Range]) -> Result<String, AllocError> {
     Ok(list.text)
 }
 
-/// What the constraints of a type leave, in words: its numbers or its sizes, and that it may leave out characters.
+/// The words for what the constraints of a type allow: its numbers or its sizes, and that it may exclude characters.
 fn of_constraints(alloc: Global, bounded: &Bounded<'_>, ty: TypeId) -> Result<String, AllocError>
     requires { ty.index < length bounded.now.types }
 {
@@ -182,7 +182,7 @@ fn of_constraints(alloc: Global, bounded: &Bounded<'_>, ty: TypeId) -> Result<St
     }
 }
 
-/// The form of the values of the type that a type is behind its references and tags.
+/// The form of the values of a type, after its references and tags.
 fn of_type(alloc: Global, bounded: &Bounded<'_>, ty: TypeId) -> Result<String, AllocError>
     requires { ty.index < length bounded.now.types }
 {
@@ -191,7 +191,7 @@ fn of_type(alloc: Global, bounded: &Bounded<'_>, ty: TypeId) -> Result<String, A
     of_shape(alloc, &linked.types()[core.index].shape)
 }
 
-/// The order of a field and the one directly before it, in words.
+/// The words for the right order of a field and the one directly before it.
 fn of_order(alloc: Global, notation: &ValueSyntax, field: usize) -> Result<String, AllocError> {
     let (name, _) = field_at(notation, field);
     let (before, _) = field_at(notation, field.saturating_sub(1));
@@ -200,7 +200,7 @@ fn of_order(alloc: Global, notation: &ValueSyntax, field: usize) -> Result<Strin
     format!(in alloc; "{name} before {before}")
 }
 
-/// What was expected where a fault stands.
+/// The words for what was expected at the place of a fault.
 pub(crate) fn expected(
     alloc: Global,
     bounded: &Bounded<'_>,

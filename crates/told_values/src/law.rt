@@ -1,4 +1,4 @@
-//! Laws of what is told of faults. A caller calls a law to know it; it takes no memory and no time.
+//! Laws of what a user reads about faults. A caller calls a law to know it; the call takes no memory and no time.
 
 ghost use Rattle.std.specs.Prelude.{◌≡◌, ◌<◌, ℕ, List, length};
 ghost use Rattle.resolve.specs.Program.{Program};
@@ -8,7 +8,7 @@ ghost use Rattle.typed_values.specs.Faults.{Stands};
 ghost use Rattle.typed_values.specs.declared.fault.Cause.TheVariants as causes;
 ghost use Rattle.typed_values.specs.declared.fault.ValueFault.{ValueFault as ValueFault'};
 
-/// A fault that stands in a notation under a type of linked modules tells one of their types.
+/// A fault of a notation under a type of linked modules has one of their types, unless it is `Memory`.
 pub fn types_are_there()
     ensures { (p : Program) (levels left i : ℕ) (os : List ℕ) (M : Name) (n : Tree) (f : ValueFault')
         → IsLinked p.types

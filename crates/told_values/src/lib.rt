@@ -1,5 +1,5 @@
-//! What a user is told of a notation that stands for no value of its type: why, in which module, which name, at which
-//! place, and what was expected there.
+//! What a user reads about a notation that stands for no value of its type: why, in which module, which name, at which
+//! offset, and what was expected there.
 #![tactic(auto)]
 
 mod expected;

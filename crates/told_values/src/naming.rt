@@ -10,7 +10,7 @@ use resolve::Linked;
 use trees::{ValueForm, ValueSyntax};
 use type_table::Shape;
 
-/// The name that a notation is, empty where it is none.
+/// The name that a notation is, or the empty name.
 pub(crate) fn name_in(notation: &ValueSyntax) -> &str
     ensures { result.now ≡ name_of (form_of notation.now) }
 {
@@ -30,7 +30,8 @@ pub(crate) fn prefix_in(notation: &ValueSyntax) -> bool
     }
 }
 
-/// The name of a field of a notation, and where it stands; the notation's own place where there is no such field.
+/// The name of a field of a notation, and its offset; the empty name and the notation's own offset if there is no such
+/// field.
 pub(crate) fn field_at(notation: &ValueSyntax, field: usize) -> (&str, usize)
     ensures name { result.0.now ≡ field_name (form_of notation.now) field }
     ensures place { result.1 ≡ field_place notation.now field }
@@ -44,7 +45,7 @@ pub(crate) fn field_at(notation: &ValueSyntax, field: usize) -> (&str, usize)
     }
 }
 
-/// The name of a member of a list, empty where it has no such member.
+/// The name of a member of a list, or the empty name if the list has no such member.
 fn part_name(shape: &Shape, part: usize) -> &str
     ensures { result.now ≡ name_in_part (slice_get (parts_in (kind_of shape.now)) part) }
 {
@@ -57,7 +58,7 @@ fn part_name(shape: &Shape, part: usize) -> &str
     }
 }
 
-/// What a type is behind its references and tags.
+/// The shape of a type after its references and tags.
 fn core_of(linked: &Linked, ty: TypeId) -> &Shape
     requires { ty.index < length linked.now.types }
     ensures { IsOfKind linked.now.types ty.index (kind_of result.now) }
@@ -66,7 +67,7 @@ fn core_of(linked: &Linked, ty: TypeId) -> &Shape
     &linked.types()[core.index].shape
 }
 
-/// The name of a component of the list that a type is, empty where it has no such component.
+/// The name of a component of the list that a type is, or the empty name if it has no such component.
 pub(crate) fn component_name<'a>(linked: &'a Linked, ty: TypeId, component: usize) -> &'a str
     requires { ty.index < length linked.now.types }
     ensures { IsComponentName linked.now ty.index component result.now }

@@ -1,4 +1,4 @@
-//! A fault of a value, with names and places of its own.
+//! A fault of a value, with copies of names and with an offset.
 
 ghost use Rattle.std.specs.Prelude.{◌≡◌, ◌<◌, [], length, IfOk, MatchOption};
 ghost use Rattle.typed_values.specs.declared.fault.Cause.TheVariants.{Memory as Memory'};
@@ -18,16 +18,16 @@ use typed_values::{Cause, Place, ValueFault};
 /// Why a notation stands for no value of a type.
 #[derive(Clone, Copy, Debug, PartialEq, Eq, Error)]
 pub enum Reason {
-    /// It stands at more than 64 levels.
+    /// The notation is nested deeper than 64 levels.
     #[error("2 Limit(Depth)")]
     Depth,
     /// The value has more than 2^24 parts.
     #[error("2 Limit(Nodes)")]
     Nodes,
-    /// An object identifier, relative or not, has more than 64 numbers, or one from 2^64 on.
+    /// An object identifier, relative or not, has more than 64 numbers, or one of 2^64 or more.
     #[error("2 Limit(Oid)")]
     Oid,
-    /// A name behind the name of a module means no value.
+    /// A name after the name of a module means no value.
     #[error("31 UnknownName")]
     LostName,
     /// A name alone means neither something of the type nor a value.
@@ -42,7 +42,7 @@ pub enum Reason {
     /// A name in braces is no bit of the type.
     #[error("62 UnknownItem")]
     UnknownBit,
-    /// The CHOICE has no alternative of the name that is chosen.
+    /// The CHOICE has no alternative of the name that the notation chooses.
     #[error("62 UnknownItem")]
     UnknownAlternative,
     /// No component has this name.
@@ -51,10 +51,10 @@ pub enum Reason {
     /// A component has a value a second time.
     #[error("64 Repeated")]
     Repeated,
-    /// A component that has to be there has no value.
+    /// A component that must be present has no value.
     #[error("63 Missing")]
     Missing,
-    /// A component stands behind one that it goes before.
+    /// A component comes after one that it must come before.
     #[error("60 NotOfType")]
     Behind,
     /// The constraints of the type don't allow the value.
@@ -67,8 +67,8 @@ pub enum Reason {
 #[error("{reason}: {spot}, expected {expected}")]
 pub struct ValueTold {
     pub reason: Reason,
-    /// The module, the name that is wrong (empty where it is the notation itself), and the place in the module's text,
-    /// in octets counted from 0.
+    /// The module, the name that is wrong (empty if the notation itself is), and the offset in the module's text, in
+    /// octets from 0.
     pub spot: Spot,
     /// What was expected there.
     pub expected: String,
@@ -92,7 +92,7 @@ pub fn number(reason: Reason) -> u8
     }
 }
 
-/// The reason that a name which means nothing gives: whether a module's name stands before it.
+/// The reason for a name that means nothing: `LostName` if a module's name comes before it, else `LostItem`.
 fn lost(notation: &ValueSyntax) -> Reason
     ensures { result ≡ lost_as (has_prefix (form_of notation.now)) }
 {
@@ -103,7 +103,7 @@ fn lost(notation: &ValueSyntax) -> Reason
     }
 }
 
-/// What is told of a notation, or of a name in it.
+/// What is reported of a notation, or of a name in it.
 #[derive(Clone, Copy)]
 struct Pointed<'a> {
     reason: Reason,
@@ -154,7 +154,7 @@ fn of_field<'a>(
     }
 }
 
-/// What a fault points at: nothing where there was not enough memory, and only there.
+/// What a fault points at; None exactly if the fault is `Memory`.
 fn points_at<'a>(linked: &'a Linked, at: Place<'a>, cause: Cause<'a>) -> Option<Pointed<'a>>
     requires { at.ty.index < length linked.now.types }
     ensures { MatchOption result (cause.entry ≡ Memory') (λ q. IsOf (Points q) linked.now at.entry cause.entry) }
@@ -188,8 +188,8 @@ fn points_at<'a>(linked: &'a Linked, at: Place<'a>, cause: Cause<'a>) -> Option<
     }
 }
 
-/// What a user is told of a fault: the reason, the module, the name and the place are the fault's own; what was
-/// expected is put into words. The error tells that there was not enough memory, here or in the fault.
+/// What a user reads about a fault. The reason, the module, the name and the offset are the fault's own; what was
+/// expected is put into words. The error is that there was not enough memory, here or in the fault.
 pub fn told<'a>(
     alloc: Global,
     bounded: &Bounded<'a>,

@@ -1,4 +1,5 @@
--- The trees of constraints, without where they lie in memory or in the text. A name is the list of its octets.
+-- The trees of constraints: the form in which their notation is kept, without addresses in memory or places in the text
+-- (X.680, clauses 49 to 51). A name is the list of its octets.
 use Rattle.std.specs.Prelude.{ℕ, ℤ, Option, Bool, List, map, option_map, string_bytes}
 use Rattle.trees.specs.declared.constraint.EndSyntax.{EndSyntax}
 use Rattle.trees.specs.declared.constraint.EndSyntax.TheVariants as ends
@@ -10,25 +11,31 @@ use Rattle.trees.specs.declared.constraint.ConstraintSyntax.{ConstraintSyntax}
 use Rattle.trees.specs.declared.constraint.ConstraintForm.{ConstraintForm}
 use Rattle.trees.specs.declared.constraint.ConstraintForm.TheVariants as forms
 
+-- an end of a range, or a single value (X.680, clauses 51.2 and 51.4)
 pub data EndTree : Type 0 where
+  -- a number with its sign
   number_end : ℤ → EndTree
-  -- the module's name, if one is given, and the value's
+  -- the module's name, if one is given, and the name of a value or of a named number
   name_end : Option (List ℕ) → List ℕ → EndTree
 
+-- a single value or a range, of numbers or of sizes (X.680, clauses 51.2 and 51.4)
 pub data RangeTree : Type 0 where
   only : EndTree → RangeTree
-  -- no lower end is MIN, no upper end is MAX
+  -- the lower end is None for MIN, and the upper end is None for MAX
   between : Option EndTree → Option EndTree → RangeTree
 
--- ranges, and whether the extension marker stands behind them
+-- ranges, and whether the extension marker follows them (X.680, clause 50.1)
 pub record RangesTree : Type 0 where
   pub ranges : List RangeTree
   pub marker : Bool
 
+-- a constraint as it is written: of numbers, of sizes, or of characters (X.680, clauses 51.2, 51.4, 51.5 and 51.7)
 pub data ConstraintTree : Type 0 where
+  -- single values and ranges
   values_in : RangesTree → ConstraintTree
+  -- SIZE, with single values and ranges
   sizes_in : RangesTree → ConstraintTree
-  -- texts, or the first and last one of a range
+  -- FROM, with texts, or the first and the last one of a range
   chars_in : List (List ℕ × Option (List ℕ)) → ConstraintTree
 
 abbrev pub end_of : EndSyntax → EndTree

@@ -1,4 +1,5 @@
--- The trees of types, without where they lie in memory or in the text. A name is the list of its octets.
+-- The trees of types: the form in which their notation is kept, without addresses in memory or places in the text
+-- (X.680, clauses 17 to 33 and 41). A name is the list of its octets.
 use Rattle.std.specs.Prelude.{ℕ, ℤ, Bool, Option, List, [], ◌∷◌, map, option_map, string_bytes}
 use Rattle.asn_base.specs.declared.strings.StringKind.{StringKind}
 use Rattle.asn_base.specs.declared.strings.StringKind.TheVariants.{Numeric, Printable, Ia5, Visible}
@@ -23,7 +24,8 @@ use Rattle.trees.specs.declared.types.Standing.{Standing}
 use Rattle.trees.specs.Values.{Name, name_at, Tree, tree_of}
 use Rattle.trees.specs.Constraints.{ConstraintTree, constraint_of}
 
--- whether a member may be absent, and its value then
+-- whether a member may be absent, and its value if it is absent: nothing, OPTIONAL or DEFAULT after its type (X.680,
+-- clause 25)
 pub data PresenceTree : Type 0 where
   mandatory : PresenceTree
   optional : PresenceTree
@@ -40,19 +42,19 @@ pub data Plain : Type 0 where
   a_null : Plain
   an_object_identifier : Plain
   a_relative_oid : Plain
-  -- items, each with its number if one is given: those of the root, and those behind the marker if there is one
+  -- items, each with its number if one is given: those of the root, and those after the marker if there is one
   an_enumerated : (root : List (Name × Option ℤ)) → (additions : Option (List (Name × Option ℤ))) → Plain
   a_utf8_string : Plain
   a_restricted_string : StringKind → Plain
 
--- the universal tag number of one of four string types (X.680, clause 8.6)
+-- the universal tag number of one of four string types (X.680, clause 8, table 1)
 abbrev pub string_number : StringKind → ℕ
 string_number Numeric = 18
 string_number Printable = 19
 string_number Ia5 = 22
 string_number Visible = 26
 
--- the universal tag number of a type (X.680, clause 8.6)
+-- the universal tag number of a type that holds no other type (X.680, clause 8, table 1)
 abbrev pub universal : Plain → ℕ
 universal a_boolean = 1
 universal (an_integer ns) = 2
@@ -66,31 +68,38 @@ universal a_relative_oid = 13
 universal (a_restricted_string k) = string_number k
 
 mutual
+  -- a type as it is written, with the constraints after it (X.680, clauses 17 and 49)
   pub data TypeTree : Type 0 where
-    -- what the type is, and the constraints behind it, in order
+    -- the form of the type, and the constraints after it, in order
     a_type : FormTree → List ConstraintTree → TypeTree
 
+  -- a type as it is written, without the constraints after it (X.680, clause 17)
   pub data FormTree : Type 0 where
     a_simple : Plain → FormTree
-    -- the module's name, if one is given, and the type's
+    -- the module's name, if one is given, and the type's name
     a_reference : Option (List ℕ) → List ℕ → FormTree
     -- the kind of the list, whether it has an extension marker, and its members
     a_list : ListKind → Bool → TypeMembers → FormTree
-    -- the kind, and the element
+    -- the kind, and the type of the elements
     an_elements : ElementsKind → TypeTree → FormTree
+    -- the tag, the word IMPLICIT or EXPLICIT after it, if one is written, and the type that is tagged
     a_tagged : Tag → Keyword → TypeTree → FormTree
 
+  -- the members of a SEQUENCE, SET or CHOICE, of the root and additions, in the order of the text
   pub data TypeMembers : Type 0 where
     no_member : TypeMembers
+    -- the first member's name, its type, whether it may be absent, and whether it is of the root or an addition; and
+    -- the other members
     member_and : List ℕ → TypeTree → PresenceTree → Standing → TypeMembers → TypeMembers
 
--- a member: its name, its type, whether it may be absent, and where it stands in its list
+-- a member: its name, its type, whether it may be absent, and whether it is of the root or an addition
 pub record MemberTree : Type 0 where
   pub name : Name
   pub type : TypeTree
   pub presence : PresenceTree
   pub standing : Standing
 
+-- the members in this list, in the form in which the tree of a type holds them
 abbrev pub type_members : List MemberTree → TypeMembers
 type_members [] = no_member
 type_members (m ∷ ms) = member_and m.name m.type m.presence m.standing (type_members ms)
@@ -121,7 +130,7 @@ plain_of (simples.Enumerated e) = an_enumerated (map item_of e.root.items) (opti
 plain_of simples.Utf8String = a_utf8_string
 plain_of (simples.Restricted k) = a_restricted_string k
 
--- a member whose type is seen as a tree already
+-- a member whose type is a tree already
 abbrev pub member_layer : Member TypeTree → MemberTree
 member_layer m = record {
   name = name_at m.name;

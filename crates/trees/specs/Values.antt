@@ -1,4 +1,5 @@
--- The tree of a value, without where it lies in memory or in the text. A name is the list of its octets.
+-- The trees of values: the form in which their notation is kept, without addresses in memory or places in the text
+-- (X.680, clause 17). A name is the list of its octets.
 use Rattle.std.specs.Prelude.{ℕ, ℤ, Option, List, [], ◌∷◌, map, option_map, string_bytes, String}
 use Rattle.std.specs.Global.{Global}
 use Rattle.trees.specs.declared.place.At.{At}
@@ -9,43 +10,58 @@ use Rattle.trees.specs.declared.value.ValueForm.{ValueForm}
 use Rattle.trees.specs.declared.value.ValueForm.TheVariants.{True, False, Null, Number, BinaryString, HexString, CharacterString, Reference, Chosen, Empty, Numbers, Items, Fields}
 use Rattle.trees.specs.declared.value.ValueSyntax.TheFolds.{fold-ValueSyntax}
 
+-- the name of a module, type or value, or an identifier, as the list of its octets (X.680, clauses 12.2 to 12.5)
 abbrev pub Name : Type 0
 Name = List ℕ
 
--- the name that is written there
+-- a name, without its offset
 abbrev pub name_at : At (String Global) → Name
 name_at n = string_bytes n.it
 
 mutual
+  -- a value as it is written, before its type gives it a meaning (X.680, clause 17)
   pub data Tree : Type 0 where
+    -- TRUE, FALSE and NULL in turn
     yes : Tree
     no : Tree
     null : Tree
+    -- a number with its sign
     number : ℤ → Tree
-    -- the digits, each below 2 or 16
+    -- the digits of a binary string, each below 2
     binary : List ℕ → Tree
+    -- the digits of a hexadecimal string, each below 16
     hex : List ℕ → Tree
+    -- the octets of a character string, in which two quotes in a row are one
     chars : List ℕ → Tree
-    -- the module's name, if one is given, and the value's
+    -- the module's name, if one is given, and the name of a value, or an identifier of the value's type
     reference : Option (List ℕ) → List ℕ → Tree
+    -- an alternative's identifier, and the value after its colon
     chosen : List ℕ → Tree → Tree
+    -- empty braces
     nothing : Tree
+    -- numbers in braces, without commas, as those of an object identifier
     numbers : List ℕ → Tree
+    -- values in braces
     items : Trees → Tree
+    -- values in braces, each after its identifier
     fields : Members → Tree
 
+  -- the values in braces, in the order of the text
   pub data Trees : Type 0 where
     no_tree : Trees
     tree_and : Tree → Trees → Trees
 
+  -- the fields of a value's notation, each an identifier and a value, in the order of the text
   pub data Members : Type 0 where
     no_member : Members
     member_and : List ℕ → Tree → Members → Members
 
+-- the values in this list, in the form in which the tree of a value holds them
 abbrev pub trees : List Tree → Trees
 trees [] = no_tree
 trees (t ∷ ts) = tree_and t (trees ts)
 
+-- the fields in this list, in the form in which the tree of a value holds them
 abbrev pub members : List (Name × Tree) → Members
 members [] = no_member
 members (m ∷ ms) = member_and m.0 m.1 (members ms)

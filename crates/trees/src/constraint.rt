@@ -2,10 +2,10 @@
 
 use crate::place::{At, Reference};
 
-/// A constraint behind a type, or the size before the OF of a list type (X.680, clauses 49.6, 26.1 and 28.1).
+/// A constraint after a type, or the size before the OF of a list type (X.680, clauses 49.6, 26.1 and 28.1).
 #[derive(Drop)]
 pub struct ConstraintSyntax {
-    /// Where it begins.
+    /// The offset of its first octet in the module's text.
     pub at: usize,
     pub form: ConstraintForm,
 }
@@ -17,15 +17,16 @@ pub enum ConstraintForm {
     Values(RangesSyntax),
     /// `(SIZE (..))`: how many bits, octets, characters or elements there may be (X.680, clause 51.5).
     Size(RangesSyntax),
-    /// `(FROM (..))`: the characters and ranges of characters that are allowed, one at least (X.680, clause 51.7).
+    /// `(FROM (..))`: the characters and ranges of characters that are allowed, at least one (X.680, clause 51.7).
     From(Vec<CharsSyntax>),
 }
 
-/// Ranges with `|` or `UNION` between them, one at least, and behind them `, ...` or nothing (X.680, clauses 50.1 and 50.2).
+/// At least one range, with `|` or `UNION` between ranges, and after them `, ...` or nothing (X.680, clauses 50.1 and
+/// 50.2).
 #[derive(Drop)]
 pub struct RangesSyntax {
     pub ranges: Vec<RangeSyntax>,
-    /// Whether the extension marker stands behind the ranges.
+    /// Whether the extension marker follows the ranges.
     pub marker: bool,
 }
 
@@ -34,14 +35,14 @@ pub struct RangesSyntax {
 pub enum RangeSyntax {
     /// `7`
     Single(EndSyntax),
-    /// `0..7`. No lower end is `MIN`, no upper end is `MAX`.
+    /// `0..7`. The lower end is None for `MIN`, and the upper end is None for `MAX`.
     Between(Option<EndSyntax>, Option<EndSyntax>),
 }
 
 /// An end of a range.
 #[derive(Drop)]
 pub enum EndSyntax {
-    /// A number. Its place is that of its minus, where it has one.
+    /// A number. Its offset is that of its minus, if it has one.
     Number(At<i128>),
     /// The name of a value or of a number of the type.
     Reference(Reference),
@@ -50,8 +51,8 @@ pub enum EndSyntax {
 /// The characters of a text, or those from one character to another (X.680, clauses 51.4 and 51.7).
 #[derive(Drop)]
 pub struct CharsSyntax {
-    /// The octets of the text in UTF-8, two quotes in the notation being one in the text.
+    /// The octets of the text in UTF-8. Two quotes in the notation are one in the text.
     pub first: At<Vec<u8>>,
-    /// The text behind `..`, if there is one.
+    /// The text after `..`, if there is one.
     pub last: Option<At<Vec<u8>>>,
 }

@@ -1,4 +1,4 @@
-//! The trees of what is written: values, constraints, types and modules, with the places where they are written.
+//! The trees of the notation: values, constraints, types and modules, with their offsets in the text.
 #![tactic(auto)]
 
 pub mod constraint;

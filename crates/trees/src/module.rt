@@ -8,17 +8,18 @@ use crate::value::ValueSyntax;
 #[derive(Drop)]
 pub struct Module {
     pub name: At<String>,
-    /// What tags in the module are if nothing else stands behind them.
+    /// The tag default, which holds for tags without a keyword.
     pub tag_default: TagDefault,
-    /// The names that other modules may import; all that are assigned where none are listed (X.680, clause 13.7).
+    /// The names that other modules may import (X.680, clause 13.7). None if the module has no list of exports: then
+    /// all that it assigns is exported.
     pub exports: Option<Vec<At<String>>>,
-    /// The names from other modules, in the order in which they stand (X.680, clause 13.12).
+    /// The names from other modules, in the order of the text (X.680, clause 13.12).
     pub imports: Vec<Import>,
-    /// The assignments, in the order in which they stand.
+    /// The assignments, in the order of the text.
     pub assignments: Vec<Assignment>,
 }
 
-/// What stands before `TAGS` (X.680, clause 13.2).
+/// The tag default, given by the word before `TAGS` (X.680, clause 13.2).
 #[derive(Clone, Copy)]
 pub enum TagDefault {
     /// `EXPLICIT TAGS`, or nothing.
@@ -29,7 +30,7 @@ pub enum TagDefault {
     Automatic,
 }
 
-/// Names, one at least, and the module that they are imported from: `a, B FROM Module` (X.680, clause 13.13).
+/// Names, at least one, and the module that they are imported from: `a, B FROM Module` (X.680, clause 13.13).
 #[derive(Drop)]
 pub struct Import {
     pub names: Vec<At<String>>,

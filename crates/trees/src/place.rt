@@ -1,18 +1,18 @@
-//! Where things are written.
+//! Offsets of things in a module's text.
 
 ghost use Rattle.std.specs.Prelude.{Some, ◌++◌, codes, string_bytes};
 
 use std::fmt;
 
-/// Something where it is written: `at` is the place of its first octet in the module's text, counted from 0.
+/// Something with its offset: `at` is the place of its first octet in the module's text, counted from 0.
 #[derive(Drop)]
 pub struct At<T> {
     pub at: usize,
     pub it: T,
 }
 
-/// Where something is wrong: the name of the module, the name that is told, and the place in the module's text, in
-/// octets counted from 0.
+/// Where something is wrong: the name of the module, the name in question, and the offset in the module's text, in
+/// octets from 0.
 #[derive(Debug, Drop)]
 pub struct Spot {
     pub module: String,
@@ -20,7 +20,7 @@ pub struct Spot {
     pub at: usize,
 }
 
-/// As `Module.name`.
+/// Writes `Module.name`.
 impl fmt::Display for Spot {
     ghost output = { λ s. Some (string_bytes s.module ++ codes "." ++ string_bytes s.name) };
 
@@ -29,10 +29,10 @@ impl fmt::Display for Spot {
     }
 }
 
-/// A name, behind the name of a module if one is given: `Module.name` or `name` (X.680, clause 14.6).
+/// A name, after the name of a module if one is given: `Module.name` or `name` (X.680, clause 14.6).
 #[derive(Drop)]
 pub struct Reference {
-    /// Where the first of the two names is written.
+    /// The offset of the first of the two names.
     pub at: usize,
     pub module: Option<String>,
     pub name: String,

@@ -6,30 +6,30 @@ use crate::value::ValueSyntax;
 use asn_base::strings::StringKind;
 use asn_base::tag::Tag;
 
-/// A type as it is written (X.680, clause 17.1), with the constraints behind it, in order (X.680, clause 49.1).
-/// The size of a list type is its only constraint: `SEQUENCE SIZE (1..4) OF` says what a constraint behind the list
-/// would say. A tagged type has no constraints: they belong to the type behind the tag.
+/// A type as it is written (X.680, clause 17.1), with the constraints after it, in order (X.680, clause 49.1). The size
+/// of a list type is its only constraint: `SEQUENCE SIZE (1..4) OF` says what a constraint after the list would say. A
+/// tagged type has no constraints: they belong to the type after the tag.
 #[derive(Drop)]
 pub struct TypeSyntax {
-    /// Where it begins.
+    /// The offset of its first octet in the module's text.
     pub at: usize,
     pub form: TypeForm<TypeSyntax>,
     pub constraints: Vec<ConstraintSyntax>,
 }
 
-/// The forms of types. `T` is the type of types in a type.
+/// The forms of types. `T` is the type of the types inside a type.
 #[derive(Drop)]
 pub enum TypeForm<T> {
     /// A type that holds no other type.
     Simple(Simple),
     /// The name of a type.
     Reference(Reference),
-    /// SEQUENCE, SET or CHOICE, whether it has an extension marker, and its members: those of the root in order and
-    /// then the additions (X.680, clauses 25.1, 27.1 and 29.1).
+    /// SEQUENCE, SET or CHOICE, whether it has an extension marker, and its members. Those of the root come first, in
+    /// order, and then the additions (X.680, clauses 25.1, 27.1 and 29.1).
     List(ListKind, bool, Vec<Member<T>>),
     /// SEQUENCE OF or SET OF, and the type of the elements (X.680, clauses 26.1 and 28.1).
     Elements(ElementsKind, Box<T>),
-    /// A tag, which is not universal, the word behind it and the type (X.680, clause 31.2).
+    /// A tag, which is not universal, its keyword and the type after it (X.680, clause 31.2).
     Tagged(Tag, Keyword, Box<T>),
 }
 
@@ -75,10 +75,10 @@ pub enum ElementsKind {
     SetOf,
 }
 
-/// The word behind a tag (X.680, clause 31.2.1).
+/// The keyword after a tag (X.680, clause 31.2.1).
 #[derive(Clone, Copy, PartialEq, Eq)]
 pub enum Keyword {
-    /// Neither word.
+    /// No keyword.
     Absent,
     /// `IMPLICIT`
     Implicit,
@@ -100,8 +100,7 @@ pub struct NamedBit {
     pub place: u128,
 }
 
-/// The items of an enumeration: those of the root, one at least, and those behind the extension marker, if there is
-/// one.
+/// The items of an enumeration: those of the root, at least one, and those after the extension marker, if there is one.
 #[derive(Drop)]
 pub struct EnumeratedSyntax {
     pub root: Vec<EnumeratedItem>,
@@ -115,8 +114,8 @@ pub struct EnumeratedItem {
     pub number: Option<i128>,
 }
 
-/// A member of a SEQUENCE, a SET or a CHOICE (X.680, clauses 25.1 and 29.1): its name, its type, whether it may be
-/// absent (an alternative is mandatory), and where it stands in the list.
+/// A member of a SEQUENCE, a SET or a CHOICE (X.680, clauses 25.1 and 29.1). It has a name, a type, whether it may be
+/// absent, and whether it is of the root or an addition. An alternative is mandatory.
 #[derive(Drop)]
 pub struct Member<T> {
     pub name: At<String>,
@@ -125,7 +124,7 @@ pub struct Member<T> {
     pub standing: Standing,
 }
 
-/// What stands behind a member's type (X.680, clause 25.1).
+/// What follows a member's type (X.680, clause 25.1).
 #[derive(Drop)]
 pub enum PresenceSyntax {
     /// Nothing.
@@ -136,11 +135,12 @@ pub enum PresenceSyntax {
     Default(ValueSyntax),
 }
 
-/// Where a member stands in its list (X.680, clause 25.1).
+/// Whether a member is of the root of its list or an addition (X.680, clause 25.1).
 #[derive(Clone, Copy, PartialEq, Eq)]
 pub enum Standing {
-    /// Before the extension marker, or in a list without one.
+    /// The member comes before the extension marker, or the list has no marker.
     Root,
-    /// Behind the marker; within version brackets, the number of the brackets, counted from 0 in the list.
+    /// The member comes after the marker. If it is within version brackets, the number is that of the brackets, counted
+    /// from 0 in the list.
     Addition(Option<usize>),
 }

@@ -2,15 +2,15 @@
 
 use crate::place::{At, Reference};
 
-/// A value as it is written (X.680, clause 17.1). What it means depends on the type that it is of.
+/// A value as it is written (X.680, clause 17.1). Its meaning depends on its type.
 #[derive(Drop)]
 pub struct ValueSyntax {
-    /// Where it begins.
+    /// The offset of its first octet in the module's text.
     pub at: usize,
     pub form: ValueForm<ValueSyntax>,
 }
 
-/// The forms of values. `T` is the type of values in a value.
+/// The forms of values. `T` is the type of the values inside a value.
 #[derive(Drop)]
 pub enum ValueForm<T> {
     /// `TRUE`
@@ -25,7 +25,7 @@ pub enum ValueForm<T> {
     BinaryString(Vec<u8>),
     /// `'..'H`: the digits in order, each from 0 to 15.
     HexString(Vec<u8>),
-    /// `".."`: the octets of the text in UTF-8, two quotes in the notation being one in the text.
+    /// `".."`: the octets of the text in UTF-8. Two quotes in the notation are one in the text.
     CharacterString(Vec<u8>),
     /// The name of a value, of an item or of a number.
     Reference(Reference),
@@ -33,15 +33,15 @@ pub enum ValueForm<T> {
     Chosen(String, Box<T>),
     /// `{}`
     Empty,
-    /// Numbers in braces with no commas, two at least: `{1 2 840}`.
+    /// Numbers in braces without commas, at least two: `{1 2 840}`.
     Numbers(Vec<u128>),
-    /// Values in braces, one at least: `{1, 2}`.
+    /// Values in braces, at least one: `{1, 2}`.
     Items(Vec<T>),
-    /// Values with names in braces, one at least: `{a 1, b TRUE}`.
+    /// Values in braces, each after a name, at least one: `{a 1, b TRUE}`.
     Fields(Vec<Named<T>>),
 }
 
-/// Something behind its name.
+/// Something after its name.
 #[derive(Drop)]
 pub struct Named<T> {
     pub name: At<String>,

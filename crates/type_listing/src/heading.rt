@@ -1,4 +1,4 @@
-//! Where a type is written.
+//! The place where a type is written.
 
 use asn_base::schema::TypeId;
 use names::Place;
@@ -15,7 +15,7 @@ fn member_name(linked: &Linked, place: Place) -> Option<&str> {
     }
 }
 
-/// Whether a name is that of a value: those of types begin with a capital letter (X.680, clauses 12.2 and 12.4).
+/// Whether a name is that of a value: names of types begin with a capital letter (X.680, clauses 12.2 and 12.4).
 fn is_of_value(name: &str) -> bool {
     match name.as_bytes().first() {
         Some(first) => first.is_ascii_lowercase(),
@@ -23,7 +23,7 @@ fn is_of_value(name: &str) -> bool {
     }
 }
 
-/// A type that an assignment gives a name, or the type of a value that has one.
+/// Writes the line of a type that an assignment names, or of the type of a value that an assignment names.
 fn push_assigned(out: &mut String, index: usize, home: Home<'_>) -> Result<(), AllocError> {
     let (module, name) = (home.module, home.name);
     if is_of_value(name) {
@@ -33,7 +33,8 @@ fn push_assigned(out: &mut String, index: usize, home: Home<'_>) -> Result<(), A
     }
 }
 
-/// A type within another one: the member that it is, if it is one, and the assignment that it stands in.
+/// Writes the line of a type within another one: the member that it is, if it is one, and the assignment that contains
+/// it.
 fn push_part(
     out: &mut String,
     index: usize,
@@ -51,7 +52,7 @@ fn push_part(
     }
 }
 
-/// The line of a type: its number, and its name, or where it stands in a type that has one.
+/// Writes the line of a type: its number, and its name, or its place in a type that has a name.
 pub(crate) fn push_heading(
     out: &mut String,
     linked: &Linked,

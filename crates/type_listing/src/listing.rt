@@ -1,4 +1,4 @@
-//! All types, one behind the other.
+//! All types, one after the other.
 
 use crate::heading::push_heading;
 use crate::tags::push_tags;
@@ -7,8 +7,8 @@ use codec_code::{Code, Coding, listing};
 use resolve::Linked;
 use std::alloc::{AllocError, Global};
 
-/// A line of the routines' text: one that begins a type is told by what is known of the type, any other one stands as
-/// it is. Answers the number of the next type.
+/// Writes a line of the routines' text. The line that begins a type is replaced by the type's heading and tags; any
+/// other line stays as it is. Returns the number of the next type.
 fn push_line(
     out: &mut String,
     linked: &Linked,
@@ -27,9 +27,9 @@ fn push_line(
     Ok(next)
 }
 
-/// The types of linked modules, whose routines these are, in the order of their numbers. For each a line with its
-/// number and where it is written, a line with its tags, the outermost first, and a line for each step of its routine,
-/// as [`codec_code::listing`] writes it. Refused for want of memory alone.
+/// Lists the types of linked modules, whose routines these are, in the order of their numbers. Each type has a line
+/// with its number and the place where it is written, and a line with its tags, the outermost first. A line for each
+/// step of its routine follows, as [`codec_code::listing`] writes it. The error is that there is not enough memory.
 pub fn list(alloc: Global, linked: &Linked, code: &Code) -> Result<String, AllocError> {
     let Ok(routines) = listing(alloc, code) else {
         return Err(AllocError);

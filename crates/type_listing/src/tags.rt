@@ -4,7 +4,7 @@ use asn_base::tag::{Class, Tag};
 use codec_code::Step;
 use std::alloc::AllocError;
 
-/// A tag as it is written in modules (X.680, clause 31.2).
+/// Writes a tag in the notation of modules (X.680, clause 31.2).
 fn push_tag(out: &mut String, tag: Tag) -> Result<(), AllocError> {
     let number = tag.number;
     match tag.class {
@@ -15,7 +15,7 @@ fn push_tag(out: &mut String, tag: Tag) -> Result<(), AllocError> {
     }
 }
 
-/// The tags of the headers with which a routine begins.
+/// Writes the tags of the headers with which a routine begins.
 fn push_heads(out: &mut String, steps: &[Step]) -> Result<(), AllocError> {
     for i in 0..steps.len() {
         match steps[i] {
@@ -26,8 +26,8 @@ fn push_heads(out: &mut String, steps: &[Step]) -> Result<(), AllocError> {
     Ok(())
 }
 
-/// The line of a type's tags, the outermost first: those of the headers with which its routine begins. An untagged
-/// CHOICE has none.
+/// Writes the line of a type's tags, the outermost first: those of the headers with which its routine begins. An
+/// untagged CHOICE has none.
 pub(crate) fn push_tags(out: &mut String, steps: &[Step]) -> Result<(), AllocError> {
     out.push_str("  tags")?;
     match steps.first() {

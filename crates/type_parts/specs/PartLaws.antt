@@ -1,4 +1,4 @@
--- What is known of the values, constraints and sizes that stand in types.
+-- What is true of the readers of values, constraints and sizes inside types.
 use Rattle.std.specs.Prelude.{◌≡◌, ℕ, Bool, true}
 use Rattle.grammar.specs.Grows.{Grows}
 use Rattle.notation.specs.Laws.{ValueLaws}

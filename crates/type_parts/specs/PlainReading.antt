@@ -1,4 +1,4 @@
--- Reading what types are made of that holds no type, from left to right.
+-- Reading the parts of types that hold no type, from left to right.
 use Rattle.std.specs.Prelude.{◌≡◌, ◌<◌, ◌^◌, ℕ, ℤ, Bool, true, false, nat_lt, List, ◌∷◌, length, Option, Some, None, Ok, Err}
 use Rattle.std.proofs.Common.{refl, arith}
 use Rattle.std.proofs.lemmas.Bool.Decides.{nat_tests}
@@ -37,12 +37,12 @@ unfoldable pub one_word_at : Reader Plain
 one_word_at (Word w ∷ rest) = known (type_of_word w) (Word w ∷ rest) rest
 one_word_at ts = stop ts
 
--- behind a dot
+-- what comes after a dot
 unfoldable pub type_in_at : Name → Reader FormTree
 type_in_at m (TypeRef x ∷ rest) = Ok (a_reference (Some m) x, rest)
 type_in_at m ts = stop ts
 
--- behind a name
+-- what comes after a name
 unfoldable pub ref_at : Name → Reader FormTree
 ref_at x (Mark Dot ∷ rest) = type_in_at x rest
 ref_at x ts = Ok (a_reference None x, ts)
@@ -52,7 +52,7 @@ keyword_at (Word words.Implicit ∷ rest) = Ok (keywords.Implicit, rest)
 keyword_at (Word words.Explicit ∷ rest) = Ok (keywords.Explicit, rest)
 keyword_at ts = Ok (keywords.Absent, ts)
 
--- ---- what stands behind a member's type; value reads a value
+-- ---- what comes after a member's type; value reads a value
 
 unfoldable pub presence_at : Reader Tree → Reader PresenceTree
 presence_at value (Word words.Optional ∷ rest) = Ok (may_be_absent, rest)
@@ -64,7 +64,7 @@ presence_at value ts = Ok (mandatory, ts)
 pub below : (n : ℕ) → nat_lt n 2147483648 ≡ true → n < 2147483648
 below n e = grind (arith, nat_tests)
 
--- a number that is below 2 to the 31 or not
+-- a tag's number, which may be below 2 to the 31 or not
 abbrev pub by_limit : (unlimited : Bool) (n : ℕ) (small : Bool) → nat_lt n 2147483648 ≡ small → List Lexeme
     → Read TagNumber
 by_limit unlimited n true e rest = Ok ((n, below n e), rest)
@@ -75,7 +75,7 @@ unfoldable pub bracket_at : Reader (Unit {0})
 bracket_at (Mark CloseBracket ∷ rest) = Ok (tt, rest)
 bracket_at ts = stop ts
 
--- the numbers below 2 to the 31 alone
+-- only the numbers below 2 to the 31
 abbrev pub low : Bool → ℕ → List Lexeme → Read ℕ
 low true n rest = Ok (n, rest)
 low false n rest = Err (Beyond TagLimit (length (Number n ∷ rest)))
@@ -87,18 +87,17 @@ low_number_at ts = stop ts
 unfoldable pub low_end_at : Reader ℕ
 low_end_at ts = low_number_at ts >>= λ n. bracket_at n.1 >>= λ e. Ok (n.0, e.1)
 
--- the class of a tag, and what stands behind the word that names it
+-- the class of a tag, and what comes after the word that names it
 unfoldable pub class_at : List Lexeme → Free × List Lexeme
 class_at (Word words.Application ∷ rest) = (application, rest)
 class_at (Word words.Private ∷ rest) = (private, rest)
 class_at ts = (context, ts)
 
--- the numbers of tags that are no fault of a limit: those below 2 to the 31, and all
--- where numbers are not limited to 2 to the 127
+-- the numbers of tags that pass no limit: those below 2 to the 31, and all if numbers are not limited to 2 to the 127
 abbrev pub tag_fits : (ℕ → Bool) → ℕ → Bool
 tag_fits fits n = bor (nat_lt n 2147483648) (fits (2 ^ 127))
 
--- fits: the test that numbers with no minus meet
+-- fits: the test that numbers without a minus must pass
 module _ (fits : ℕ → Bool) where
   unfoldable pub tag_number_at : Reader TagNumber
   tag_number_at (Number n ∷ rest) = by_limit (fits (2 ^ 127)) n (nat_lt n 2147483648) refl rest
@@ -107,7 +106,7 @@ module _ (fits : ℕ → Bool) where
   unfoldable pub tag_end_at : Reader TagNumber
   tag_end_at ts = tag_number_at ts >>= λ n. bracket_at n.1 >>= λ e. Ok (n.0, e.1)
 
-  -- behind an open bracket
+  -- what comes after an open bracket
   unfoldable pub tag_at : Reader Tag
   tag_at ts = tag_end_at (class_at ts).1 >>= λ n. Ok (tag_of (class_at ts).0 n.0, n.1)
 
@@ -131,20 +130,20 @@ module _ (fits : ℕ → Bool) where
   abbrev pub item_at : Reader (Name × Option ℤ)
   item_at = named_at (perhaps is_open (parens_at signed_at))
 
-  -- behind INTEGER, where n more things may be open
+  -- what comes after INTEGER, if n more braces may be open
   unfoldable pub integer_at : ℕ → Reader Plain
   integer_at n ts =
       perhaps is_lbrace (braces_at n (listed_at named_number_at)) ts >>= λ ns. Ok (integer_with ns.0, ns.1)
 
-  -- behind BIT STRING
+  -- what comes after BIT STRING
   unfoldable pub bits_at : ℕ → Reader Plain
   bits_at n ts = perhaps is_lbrace (braces_at n (listed_at named_bit_at)) ts >>= λ bs. Ok (bits_with bs.0, bs.1)
 
-  -- behind BIT
+  -- what comes after BIT
   unfoldable pub bit_string_at : ℕ → Reader Plain
   bit_string_at n ts = string_at ts >>= λ s. bits_at n s.1
 
-  -- behind ENUMERATED
+  -- what comes after ENUMERATED
   unfoldable pub enumerated_at : ℕ → Reader Plain
   enumerated_at n ts = braces_at n (extensible_at item_at item_at) ts >>= λ e. Ok (enumerated_of e.0, e.1)
 
@@ -157,7 +156,7 @@ module _ (fits : ℕ → Bool) where
   simple_at n (Word words.Enumerated ∷ rest) = enumerated_at n rest
   simple_at n ts = one_word_at ts
 
-  -- the constraints behind a type, as many as there are
+  -- the constraints after a type, as many as there are
   unfoldable pub constraints_at : Reader (List ConstraintTree)
   constraints_at ts = many_at is_open (constraint_at fits) (length ts) ts
 

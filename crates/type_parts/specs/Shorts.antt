@@ -1,4 +1,4 @@
--- The readers of names with numbers leave no more than they are given, and what a name in memory stands for.
+-- The readers of names with numbers leave no more lexemes than they get. The type that a name in memory stands for.
 use Rattle.std.proofs.Common.{ℕ, ◌≤◌, Bool, List, [], ◌∷◌, length, Ok, arith}
 use Rattle.text.specs.declared.token.Mark.TheVariants.{Minus}
 use Rattle.grammar.specs.Lexeme.{Lexeme, Number, Mark}
@@ -12,7 +12,7 @@ use Rattle.trees.specs.declared.place.Reference.{Reference}
 use Rattle.trees.specs.Types.{FormTree, a_reference}
 use Rattle.type_parts.specs.PlainReading.{negative_at, signed_at, named_number_at, named_bit_at, item_at}
 
--- the type that is named so
+-- the type that is given by this name
 abbrev pub reference_of : Reference → FormTree
 reference_of r = a_reference (option_map string_bytes r.module) (string_bytes r.name)
 

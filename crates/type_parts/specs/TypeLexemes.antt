@@ -1,4 +1,4 @@
--- The words and marks that types are made of.
+-- The words and marks of which types consist.
 use Rattle.std.proofs.Common.{◌≡◌, ℕ, Bool, true, false, List, [], ◌∷◌, Ok, refl}
 use Rattle.text.specs.declared.token.Mark.TheVariants.{Dot, Minus, OpenBracket, CloseBracket}
 use Rattle.text.specs.declared.reserved.Word.TheVariants as words

@@ -1,4 +1,4 @@
--- What is owed for the parts of types that hold no type.
+-- What the readers of the parts of types that hold no type fulfil.
 use Rattle.std.proofs.Common.{◌≡◌, ℕ, ℤ, ◌+◌, ◌≤◌, Bool, true, false, List, [], ◌∷◌, Option, Ok, Err, refl, ap}
 use Rattle.text.specs.declared.token.Mark.TheVariants.{OpenBrace, Dot, Minus}
 use Rattle.text.specs.declared.reserved.Word.TheVariants as words
@@ -139,7 +139,7 @@ simple_ends : (t : Lexeme)
 simple_ends (Mark OpenBrace) e = absurd cc
 simple_ends t e = refl
 
--- which of them begins with a lexeme
+-- a lexeme begins only one of these types
 enumerated_no_bit : (t : Lexeme) → is_enumerated_word t ≡ true → is_bit_word t ≡ false
 enumerated_no_bit (Word words.Bit) e = absurd cc
 enumerated_no_bit t e = refl

@@ -1,4 +1,4 @@
--- What is owed for the words of types, and for the numbers of tags.
+-- What the readers of the words of types, and of the numbers of tags, fulfil.
 use Rattle.std.proofs.Common.{◌≡◌, ℕ, zero, suc, ◌<◌, ◌≤◌, ◌^◌, inl, inr, Bool, true, false, List, [], ◌∷◌, ◌++◌, length, Option, Some, None, Ok, Err, refl, sym, ap, subst, ◌∙◌ as ◌⋆◌, arith}
 use Rattle.std.proofs.Props.{props}
 use Rattle.std.proofs.lemmas.Bool.Decides.{nat_tests}
@@ -93,7 +93,7 @@ not_below n e h = grind (arith, nat_tests)
 true_false : (b : Bool) → b ≡ true → b ≡ false → ⊥
 true_false b p q = absurd (let e = sym p ⋆ q in cc)
 
--- What a reader whose test on numbers is fits owes a grammar whose test on the numbers of tags is this.
+-- What must be true of a reader whose test on numbers is fits, and of a grammar with this test on the numbers of tags.
 pub record TagRule (over : Limit → ℕ) (within : Limit → Type 0) (fits tags : ℕ → Bool) : Type 0 where
   pub grows : (n : ℕ) → tag_fits fits n ≡ true → tags n ≡ true
   pub past : Past (over TagLimit) ((n : ℕ) → tags n ≡ true)

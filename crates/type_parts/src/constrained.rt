@@ -1,4 +1,4 @@
-//! Reading the constraints behind a type, and the size of a list.
+//! Reading the constraints after a type, and the size of a list.
 
 ghost use Rattle.std.specs.Prelude.{◌≡◌, map, length, option_map, IfOk};
 ghost use Rattle.grammar.specs.Lexeme.{lexemes};
@@ -48,7 +48,7 @@ fn constraints<'a>(
     Ok((constraints, rest))
 }
 
-/// Reads the constraints behind a type (X.680, clause 49.1).
+/// Reads the constraints after a type (X.680, clause 49.1).
 #[tactic(auto, unfolding(crate::specs::PlainReading::constraints_at))]
 pub fn behind_type<'a>(
     alloc: Global,

@@ -1,8 +1,8 @@
-//! Laws on what stands in types.
+//! Laws on the parts of types.
 
 ghost use Rattle.type_parts.specs.PartLaws.{PartLaws};
 
-/// What is read as a value, a constraint or a size is one, and each of them is read.
+/// What is read as a value, a constraint or a size is one, and each of these is read.
 pub fn parts_are_read()
     ensures { PartLaws }
 {

@@ -1,4 +1,4 @@
-//! What types are made of that holds no type.
+//! The parts of types that hold no type.
 #![tactic(auto)]
 
 pub mod constrained;

@@ -132,7 +132,7 @@ impl<'t> Part<'t> for ItemPart {
     }
 }
 
-/// Reads what stands behind `INTEGER` (X.680, clause 19.1).
+/// Reads what comes after `INTEGER` (X.680, clause 19.1).
 #[tactic(auto, unfolding(crate::specs::PlainReading::integer_at))]
 pub fn integer<'t>(
     alloc: Global,
@@ -155,7 +155,7 @@ pub fn integer<'t>(
     }
 }
 
-/// Reads what stands behind `BIT STRING` (X.680, clause 22.1).
+/// Reads what comes after `BIT STRING` (X.680, clause 22.1).
 #[tactic(auto, unfolding(crate::specs::PlainReading::bits_at))]
 pub fn bits<'t>(alloc: Global, text: &[u8], tokens: &'t [Token], depth: usize) -> Read<'t, Simple>
     requires tokens { AreTokens text.now tokens.now }
@@ -173,7 +173,7 @@ pub fn bits<'t>(alloc: Global, text: &[u8], tokens: &'t [Token], depth: usize) -
     }
 }
 
-/// Reads what stands behind `ENUMERATED` (X.680, clause 20.1).
+/// Reads what comes after `ENUMERATED` (X.680, clause 20.1).
 #[tactic(auto, unfolding(crate::specs::PlainReading::enumerated_at))]
 pub fn enumerated<'t>(
     alloc: Global,

@@ -40,7 +40,7 @@ impl<'t> Part<'t> for Number {
     }
 }
 
-/// A number, behind a minus or alone.
+/// A number, after a minus or alone.
 #[derive(Drop)]
 pub struct Signed;
 

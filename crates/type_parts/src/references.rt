@@ -13,7 +13,7 @@ use std::alloc::Global;
 use text::{Token, kind, mark};
 use trees::Reference;
 
-/// Reads what stands behind a name (X.680, clause 14.1).
+/// Reads what comes after a name (X.680, clause 14.1).
 #[tactic(auto, unfolding(crate::specs::PlainReading::ref_at, crate::specs::PlainReading::type_in_at))]
 pub fn reference<'a>(
     alloc: Global,

@@ -16,7 +16,7 @@ use text::reserved::Word;
 use text::{Token, TokenKind, word};
 use trees::Simple;
 
-/// The tokens behind `STRING`.
+/// The tokens after `STRING`.
 #[tactic(auto, unfolding(crate::specs::PlainReading::string_at))]
 fn string<'a>(text: &[u8], tokens: &'a [Token]) -> Result<&'a [Token], ReadError>
     requires tokens { AreTokens text.now tokens.now }
@@ -68,7 +68,7 @@ fn one_word<'a>(text: &[u8], tokens: &'a [Token]) -> Read<'a, Simple>
     }
 }
 
-/// Reads what stands behind `BIT` (X.680, clause 22.1).
+/// Reads what comes after `BIT` (X.680, clause 22.1).
 #[tactic(auto, unfolding(crate::specs::PlainReading::bit_string_at))]
 fn bit_string<'a>(alloc: Global, text: &[u8], tokens: &'a [Token], depth: usize) -> Read<'a, Simple>
     requires tokens { AreTokens text.now tokens.now }
@@ -79,7 +79,7 @@ fn bit_string<'a>(alloc: Global, text: &[u8], tokens: &'a [Token], depth: usize)
     bits(alloc, text, rest, depth)
 }
 
-/// Reads a type that holds no type, where so many more things may be open (X.680, clause 17.1).
+/// Reads a type that holds no type, in which `depth` more braces may be open (X.680, clause 17.1).
 #[tactic(auto, unfolding(crate::specs::PlainReading::simple_at, crate::specs::PlainReading::one_word_at, crate::specs::PlainReading::identifier_at))]
 pub fn simple<'a>(alloc: Global, text: &[u8], tokens: &'a [Token], depth: usize) -> Read<'a, Simple>
     requires tokens { AreTokens text.now tokens.now }

@@ -1,4 +1,4 @@
-//! Reading a tag and the word behind it.
+//! Reading a tag and the keyword after it.
 
 ghost use Rattle.std.specs.Prelude.{◌≡◌, ◌<◌, IfOk};
 ghost use Rattle.asn_base.specs.declared.tag.Class.TheVariants as classes;
@@ -51,7 +51,7 @@ fn end<'a>(text: &[u8], tokens: &'a [Token]) -> Read<'a, u32>
     }
 }
 
-/// The class of a tag, and the tokens behind the word that names it.
+/// The class of a tag, and the tokens after the word that names it.
 #[tactic(auto, unfolding(crate::specs::PlainReading::class_at))]
 fn class<'a>(text: &[u8], tokens: &'a [Token]) -> (Class, &'a [Token])
     requires tokens { AreTokens text.now tokens.now }
@@ -67,7 +67,7 @@ fn class<'a>(text: &[u8], tokens: &'a [Token]) -> (Class, &'a [Token])
     }
 }
 
-/// Reads a tag behind its open bracket (X.680, clause 31.2.1).
+/// Reads a tag after its open bracket (X.680, clause 31.2.1).
 pub fn tag<'a>(text: &[u8], tokens: &'a [Token]) -> Read<'a, Tag>
     requires tokens { AreTokens text.now tokens.now }
     ensures read { ReadsAs (λ x. x) (tag_at small) text.now tokens.now result }
@@ -78,7 +78,7 @@ pub fn tag<'a>(text: &[u8], tokens: &'a [Token]) -> Read<'a, Tag>
     Ok((Tag { class, number }, rest))
 }
 
-/// Reads the word behind a tag, if there is one.
+/// Reads the keyword after a tag, if there is one.
 #[tactic(auto, unfolding(crate::specs::PlainReading::keyword_at))]
 pub fn keyword<'a>(text: &[u8], tokens: &'a [Token]) -> Read<'a, Keyword>
     requires tokens { AreTokens text.now tokens.now }

@@ -1,4 +1,4 @@
--- What is read of types, as it lies in memory.
+-- What is read of types, as it is in memory.
 use Rattle.std.specs.Prelude.{map, option_map, string_bytes}
 use Rattle.kernel.specs.declared.lists.Extensible.{Extensible}
 use Rattle.kernel.specs.declared.lists.Addition.{Addition}
@@ -21,7 +21,7 @@ named_component n = (name_at n.name, component_of n.value)
 abbrev pub listing_tree : Extensible (Named ComponentSyntax) (Addition (Named ComponentSyntax)) → Listing
 listing_tree l = extensible_of named_component (addition_of named_component) l
 
--- what a form holds
+-- the tree of a form
 abbrev pub form_tree : TypeForm TypeSyntax → FormTree
 form_tree (forms.Simple s) = a_simple (plain_of s)
 form_tree (forms.Reference r) = a_reference (option_map string_bytes r.module) (string_bytes r.name)

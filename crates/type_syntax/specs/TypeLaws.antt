@@ -1,4 +1,4 @@
--- What the reader of types keeps, for the grammars above that have types in them.
+-- What the reader of types fulfils, for the grammars above it that contain types.
 use Rattle.std.specs.Prelude.{◌≡◌, ℕ, suc, Bool, true, false}
 use Rattle.text.specs.declared.token.Mark.TheVariants.{OpenBrace, OpenParenthesis, Dot}
 use Rattle.grammar.specs.Lexeme.{Lexeme, Mark}
@@ -12,22 +12,22 @@ use Rattle.type_syntax.specs.TypeGrammar.{type}
 use Rattle.type_parts.specs.PlainReading.{tag_fits}
 use Rattle.type_syntax.specs.TypeReading.{type_at}
 
--- a type goes on with one of these: a brace of named numbers, a name behind a module's name, a constraint
+-- a type may go on with these: a brace of named numbers, a dot after a module's name, a constraint
 abbrev pub type_ends : Lexeme → Bool
 type_ends (Mark OpenBrace) = true
 type_ends (Mark Dot) = true
 type_ends (Mark OpenParenthesis) = true
 type_ends t = false
 
--- The limits b allow the numbers that the reader within a takes.
--- Its limit on the numbers of tags goes with that on numbers.
+-- The limits b allow the numbers that the reader within a takes. The reader's limit on the numbers of tags follows from
+-- its limit on numbers.
 pub record Allows (a b : Limits) : Type 0 where
   pub number : (n : ℕ) → a.number n ≡ true → b.number n ≡ true
   pub tag : (n : ℕ) → tag_fits a.number n ≡ true → b.tag n ≡ true
   pub own : (n : ℕ) → a.tag n ≡ true → tag_fits a.number n ≡ true
 
 pub record TypeLaws : Type 0 where
-  -- of the values that stand in types
+  -- the laws of the values inside types
   pub values : ValueLaws
   -- a type begins with one of these lexemes
   pub starts : Lexeme → Bool

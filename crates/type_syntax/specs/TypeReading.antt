@@ -27,22 +27,22 @@ bare_at read ts = read ts >>= λ t. Ok ((t.0, mandatory), t.1)
 abbrev pub is_listing : Lexeme → Bool
 is_listing = either is_ellipsis is_ident
 
--- fits: the test that numbers with no minus meet
+-- fits: the test that numbers without a minus must pass
 module _ (fits : ℕ → Bool) where
-  -- what stands in the braces of a SEQUENCE or SET; part reads a member
+  -- what is in the braces of a SEQUENCE or SET; part reads a member
   unfoldable pub listing_at : {A : Type 0} → Reader A → Reader (Option (List A × Option (List (A ⊎ List A))))
   listing_at part ts = perhaps is_listing (rootless_at part (addition_at fits part)) ts
 
-  -- n: how many more things may be open
+  -- n: how many more braces, tags and lists may be open
   unfoldable pub body_at : ℕ → Reader TypeTree → Reader Tree → Reader Listing
   body_at n read value ts =
       braces_at n (listing_at (named_at (component_at read value))) ts >>= λ l. Ok (listing_of l.0, l.1)
 
-  -- what stands in the braces of a CHOICE
+  -- what is in the braces of a CHOICE
   unfoldable pub alternatives_at : Reader TypeTree → Reader Listing
   alternatives_at read ts = extensible_at (named_at (bare_at read)) (addition_at fits (named_at (bare_at read))) ts
 
-  -- behind CHOICE
+  -- what comes after CHOICE
   unfoldable pub choice_at : ℕ → Reader TypeTree → Reader FormTree
   choice_at n read ts = braces_at n (alternatives_at read) ts >>= λ l. Ok (of_listing lists.Choice l.0, l.1)
 
@@ -59,13 +59,13 @@ module _ (fits : ℕ → Bool) where
   unfoldable pub plain_form_at : ℕ → Reader FormTree
   plain_form_at n ts = simple_at fits n ts >>= λ s. Ok (a_simple s.0, s.1)
 
-  -- what is no SEQUENCE and no SET
+  -- a type that is no SEQUENCE and no SET
   unfoldable pub one_type_at : ℕ → Reader TypeTree → Reader FormTree
   one_type_at n read (TypeRef x ∷ rest) = ref_at x rest
   one_type_at n read (Word words.Choice ∷ rest) = choice_at n read rest
   one_type_at n read ts = plain_form_at n ts
 
-  -- a form and the constraints behind it
+  -- a form and the constraints after it
   unfoldable pub with_constraints_at : FormTree → Reader TypeTree
   with_constraints_at f ts = constraints_at fits ts >>= λ cs. Ok (constrained (f, cs.0), cs.1)
 
@@ -76,16 +76,16 @@ module _ (fits : ℕ → Bool) where
   of_at n read (Word words.Of ∷ rest) = opened n (Word words.Of ∷ rest) (read rest)
   of_at n read ts = stop ts
 
-  -- a list type, behind SEQUENCE or SET
+  -- what comes after SEQUENCE or SET in a list type
   unfoldable pub list_at : ℕ → Reader TypeTree → Bool → Reader TypeTree
   list_at n read set ts = list_size_at fits ts >>= λ s. of_at n read s.1 >>= λ t. Ok (list_of set s.0 t.0, t.1)
 
-  -- members and what is behind them
+  -- members and the constraints after them
   unfoldable pub structure_at : ℕ → Reader TypeTree → Reader Tree → Bool → Reader TypeTree
   structure_at n read value set ts =
       body_at n read value ts >>= λ l. with_constraints_at (of_listing (list_kind set) l.0) l.1
 
-  -- behind SEQUENCE, or behind SET where set holds
+  -- what comes after SET if set is true, else after SEQUENCE
   unfoldable pub behind_at : ℕ → Reader TypeTree → Reader Tree → Bool → Reader TypeTree
   behind_at n read value set (Mark OpenBrace ∷ rest) = structure_at n read value set (Mark OpenBrace ∷ rest)
   behind_at n read value set ts = list_at n read set ts

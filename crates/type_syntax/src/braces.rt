@@ -1,4 +1,4 @@
-//! Reading what stands in the braces of a list of members.
+//! Reading what is in the braces of a list of members.
 
 ghost use Rattle.std.specs.Prelude.{◌≡◌, option_map, IfOk};
 ghost use Rattle.grammar.specs.Lexeme.{lexemes};
@@ -15,7 +15,7 @@ use kernel::{Added, Addition, Extensible, ExtensibleList, Part, Read, RootlessLi
 use std::alloc::Global;
 use text::{Token, kind, mark};
 
-/// Parts, one at least before an extension marker, with version brackets behind it.
+/// Reads parts, at least one before an extension marker, which version brackets may follow.
 fn rooted<'t, P: Part<'t>>(
     alloc: Global,
     text: &[u8],
@@ -33,7 +33,7 @@ fn rooted<'t, P: Part<'t>>(
     ExtensibleList { part, addition }.read(alloc, text, tokens)
 }
 
-/// The same, where the marker may stand at once.
+/// Reads parts as `rooted` does, but the marker may come first.
 fn rootless<'t, P: Part<'t>>(
     alloc: Global,
     text: &[u8],
@@ -51,14 +51,14 @@ fn rootless<'t, P: Part<'t>>(
     RootlessList { part, addition }.read(alloc, text, tokens)
 }
 
-/// Whether a list of members begins here.
+/// Whether the next token begins a list of members.
 fn begins(text: &[u8], tokens: &[Token]) -> bool
     ensures { result ≡ is_begun_by is_listing (lexemes text.now tokens.now) }
 {
     matches!(tokens, [kind!(Identifier) | mark!(Ellipsis), ..])
 }
 
-/// Reads alternatives as far as the closing brace, with an extension marker among them or not.
+/// Reads alternatives up to and with the closing brace, with an extension marker among them or not.
 #[tactic(auto, unfolding(grammar::specs::Reading::inside_at))]
 pub fn alternatives<'t, P: Part<'t>>(
     alloc: Global,
@@ -101,7 +101,7 @@ fn listing<'t, P: Part<'t>>(
     }
 }
 
-/// Reads members as far as the closing brace, if there are any, with an extension marker among them or not.
+/// Reads members up to and with the closing brace, if there are any, with an extension marker among them or not.
 #[tactic(auto, unfolding(grammar::specs::Reading::inside_at))]
 pub fn members<'t, P: Part<'t>>(
     alloc: Global,

@@ -1,4 +1,4 @@
-//! The members of a list in order, each with where it stands.
+//! The members of a list in order, each as one of the root or as an addition.
 
 ghost use Rattle.std.specs.Prelude.{◌≡◌, ◌++◌, map, IfOk};
 ghost use Rattle.kernel.specs.Parts.{addition_of};
@@ -17,10 +17,10 @@ pub struct ComponentSyntax {
     pub presence: PresenceSyntax,
 }
 
-/// Members as they are read: those of the root, and those behind an extension marker, if it is there.
+/// Members in the order of the text: those of the root, and those after an extension marker, if it is there.
 pub type Listing = Extensible<Named<ComponentSyntax>, Addition<Named<ComponentSyntax>>>;
 
-/// A member where it stands.
+/// A member, as one of the root or as an addition.
 fn member(part: Named<ComponentSyntax>, standing: Standing) -> Member<TypeSyntax>
     ensures { type_member_of result ≡ a_member standing (named_component part) }
 {
@@ -32,7 +32,7 @@ fn member(part: Named<ComponentSyntax>, standing: Standing) -> Member<TypeSyntax
     }
 }
 
-/// Puts members that stand so behind others.
+/// Adds members, all of the root or all additions, after others.
 fn put_parts(
     members: Vec<Member<TypeSyntax>>,
     parts: Vec<Named<ComponentSyntax>>,
@@ -49,7 +49,7 @@ fn put_parts(
     Ok(members)
 }
 
-/// Puts additions behind the members of the root.
+/// Adds additions after the members of the root.
 fn put_additions(
     members: Vec<Member<TypeSyntax>>,
     additions: Vec<Addition<Named<ComponentSyntax>>>,
@@ -73,7 +73,7 @@ fn put_additions(
     Ok(members)
 }
 
-/// All members, those of the root first, each with where it stands.
+/// All members, those of the root first, each as one of the root or as an addition.
 pub fn all_members(alloc: Global, list: Listing) -> Result<Vec<Member<TypeSyntax>>, AllocError>
     ensures { IfOk result (λ v. map type_member_of v.items ≡ all_members_of (listing_tree list)) }
 {

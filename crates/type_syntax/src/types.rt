@@ -28,7 +28,7 @@ use type_parts::references::reference;
 use type_parts::simple_types::simple;
 use type_parts::tags::{keyword, tag};
 
-/// The members of a SEQUENCE or SET behind their names, as a production that types read again.
+/// The members of a SEQUENCE or SET, after their names, as a production that types read again.
 pub struct Components;
 
 impl Production for Components {
@@ -47,7 +47,7 @@ impl Production for Components {
     ghost reader = { λ n. component_at (type_at small n) (value_at small n) };
 }
 
-/// The alternatives of a CHOICE behind their names.
+/// The alternatives of a CHOICE, after their names.
 pub struct Alternatives;
 
 impl Production for Alternatives {
@@ -65,7 +65,7 @@ impl Production for Alternatives {
     ghost reader = { λ n. bare_at (type_at small n) };
 }
 
-/// Where these tokens begin.
+/// The offset at which these tokens begin, or 0 if there are none.
 fn start(tokens: &[Token]) -> usize {
     match tokens.first() {
         Some(first) => first.span.start,
@@ -73,7 +73,7 @@ fn start(tokens: &[Token]) -> usize {
     }
 }
 
-/// A type, with the constraints behind it.
+/// A type, with the constraints after it.
 #[tactic(auto, using(crate::proofs::Loop::type_tree))]
 fn typed(at: usize, form: TypeForm<TypeSyntax>, constraints: Vec<ConstraintSyntax>) -> TypeSyntax
     ensures { type_tree_of result ≡ a_type (form_tree form) (map constraint_of constraints.items) }
@@ -85,7 +85,7 @@ fn typed(at: usize, form: TypeForm<TypeSyntax>, constraints: Vec<ConstraintSynta
     }
 }
 
-/// SET where `set` holds, and otherwise SEQUENCE.
+/// SET if `set` is true, and otherwise SEQUENCE.
 fn list_kind(set: bool) -> ListKind
     ensures { result ≡ list_kind_of set }
 {
@@ -96,7 +96,7 @@ fn list_kind(set: bool) -> ListKind
     }
 }
 
-/// SET OF where `set` holds, and otherwise SEQUENCE OF.
+/// SET OF if `set` is true, and otherwise SEQUENCE OF.
 fn elements_kind(set: bool) -> ElementsKind
     ensures { result ≡ elements_kind_of set }
 {
@@ -134,7 +134,7 @@ fn list_form(
     Ok(TypeForm::List(kind, marker, members))
 }
 
-/// Reads a type, where so many more things may be open.
+/// Reads a type, in which `depth` more braces, tags and lists may be open.
 #[tactic(auto, using(crate::proofs::Loop::type_stepped))]
 #[cycle(type_syntax)]
 pub fn type_syntax<'a>(
@@ -174,7 +174,7 @@ fn step<'a>(alloc: Global, text: &[u8], tokens: &'a [Token], depth: usize) -> Re
     }
 }
 
-/// Reads a tag and the type behind it.
+/// Reads a tag and the type after it.
 #[tactic(auto, unfolding(crate::specs::TypeReading::tagged_at))]
 #[cycle(type_syntax)]
 fn tagged<'a>(alloc: Global, text: &[u8], tokens: &'a [Token], depth: usize) -> Read<'a, TypeSyntax>
@@ -194,7 +194,7 @@ fn tagged<'a>(alloc: Global, text: &[u8], tokens: &'a [Token], depth: usize) -> 
     }
 }
 
-/// Reads what stands behind the bracket that opens a tag (X.680, clause 31.2.1).
+/// Reads what comes after the bracket that opens a tag (X.680, clause 31.2.1).
 #[tactic(auto, unfolding(crate::specs::TypeReading::inside_tag_at))]
 #[cycle(type_syntax)]
 fn inside_tag<'a>(
@@ -216,7 +216,7 @@ fn inside_tag<'a>(
     Ok((typed(at, form, Vec::new(alloc)), rest))
 }
 
-/// Reads what is no SEQUENCE and no SET, and the constraints behind it.
+/// Reads a type that is no SEQUENCE and no SET, and the constraints after it.
 #[tactic(auto, unfolding(crate::specs::TypeReading::plain_at, crate::specs::TypeReading::with_constraints_at))]
 #[cycle(type_syntax)]
 fn plain<'a>(alloc: Global, text: &[u8], tokens: &'a [Token], depth: usize) -> Read<'a, TypeSyntax>
@@ -230,7 +230,7 @@ fn plain<'a>(alloc: Global, text: &[u8], tokens: &'a [Token], depth: usize) -> R
     Ok((typed(start(tokens), form, constraints), rest))
 }
 
-/// Reads what is no SEQUENCE and no SET.
+/// Reads a type that is no SEQUENCE and no SET.
 #[tactic(auto, unfolding(crate::specs::TypeReading::one_type_at, crate::specs::TypeReading::plain_form_at))]
 #[cycle(type_syntax)]
 fn one_type<'a>(
@@ -257,7 +257,7 @@ fn one_type<'a>(
     }
 }
 
-/// Reads what stands behind `CHOICE` (X.680, clause 29.1).
+/// Reads what comes after `CHOICE` (X.680, clause 29.1).
 #[tactic(auto, unfolding(crate::specs::TypeReading::choice_at))]
 #[cycle(type_syntax)]
 fn choice<'a>(
@@ -300,7 +300,7 @@ fn choice_braces<'a>(
     }
 }
 
-/// Reads alternatives as far as the closing brace, with an extension marker among them or not.
+/// Reads alternatives up to and with the closing brace, with an extension marker among them or not.
 #[tactic(auto, unfolding(grammar::specs::Reading::inside_at, crate::specs::TypeReading::alternatives_at), using(crate::proofs::Loop::bare_short))]
 #[cycle(type_syntax)]
 fn inside_choice<'a>(
@@ -346,7 +346,7 @@ fn bare<'a>(
     Ok((ComponentSyntax { syntax, presence }, rest))
 }
 
-/// Reads what stands behind `SEQUENCE`, or behind `SET` where `set` holds.
+/// Reads what comes after `SET` if `set` is true, else after `SEQUENCE`.
 #[tactic(auto, unfolding(crate::specs::TypeReading::behind_at))]
 #[cycle(type_syntax)]
 fn behind<'a>(
@@ -369,7 +369,7 @@ fn behind<'a>(
     }
 }
 
-/// Reads members in braces and the constraints behind them.
+/// Reads members in braces and the constraints after them.
 #[tactic(auto, unfolding(crate::specs::TypeReading::structure_at, crate::specs::TypeReading::with_constraints_at))]
 #[cycle(type_syntax)]
 fn structure<'a>(
@@ -392,8 +392,7 @@ fn structure<'a>(
     Ok((typed(at, form, constraints), rest))
 }
 
-/// Reads what may stand in braces: members, with an extension marker among them or not, or nothing
-/// (X.680, clause 25.1).
+/// Reads what may be in braces: members, with an extension marker among them or not, or nothing (X.680, clause 25.1).
 #[tactic(auto, unfolding(crate::specs::TypeReading::body_at))]
 #[cycle(type_syntax)]
 fn body<'a>(alloc: Global, text: &[u8], tokens: &'a [Token], depth: usize) -> Read<'a, Listing>
@@ -441,7 +440,7 @@ fn list_braces<'a>(
     }
 }
 
-/// Reads members as far as the closing brace.
+/// Reads members up to and with the closing brace.
 #[tactic(auto, using(crate::proofs::Loop::component_short))]
 #[cycle(type_syntax)]
 fn inside_list<'a>(
@@ -489,7 +488,7 @@ fn component<'a>(
     Ok((ComponentSyntax { syntax, presence }, rest))
 }
 
-/// Reads a list type behind `SEQUENCE`, or behind `SET` where `set` holds (X.680, clauses 26.1 and 28.1).
+/// Reads a list type after `SET` if `set` is true, else after `SEQUENCE` (X.680, clauses 26.1 and 28.1).
 #[tactic(auto, unfolding(crate::specs::TypeReading::list_at))]
 #[cycle(type_syntax)]
 fn list<'a>(

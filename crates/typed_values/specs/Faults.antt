@@ -1,5 +1,5 @@
--- What is wrong with a notation that stands for no value of a type, and where: the first thing that is, as it is read
--- from its front (X.680, clauses 17 to 33 and 51; the limits are this project's).
+-- What is wrong with a notation that stands for no value of a type, and where. This is the first fault, in the order in
+-- which the notation is read (X.680, clauses 17 to 33 and 51; the limits are this project's).
 use Rattle.std.specs.Prelude.{◌≡◌, ℕ, suc, ◌+◌, ◌≤◌, Bool, List, [], ◌∷◌, ◌++◌, Option, Some, slice_get}
 use Rattle.asn_base.specs.Abstract.{AbstractValue, Row, list}
 use Rattle.asn_base.specs.Typed.{nodes, row_nodes}
@@ -26,7 +26,7 @@ use Rattle.typed_values.specs.declared.fault.Cause.{Cause}
 use Rattle.typed_values.specs.declared.fault.Cause.TheVariants as cause
 use Rattle.typed_values.specs.declared.fault.ValueFault.{ValueFault}
 
--- type i is of this kind behind its references and tags, and that is written in module M
+-- type i is of this kind, after its references and tags, and that type is written in module M
 pub record IsWritten (p : Program) (i : ℕ) (k : Kind) (M : Name) : Type 0 where
   pub core : ℕ
   pub type : Type'
@@ -36,14 +36,14 @@ pub record IsWritten (p : Program) (i : ℕ) (k : Kind) (M : Name) : Type 0 wher
   pub assigns : Name
   pub stands : IsAssignment p type.assignment M assigns
 
--- notation n, read in module M, is referred to a type of some kind, and P holds of the kind
+-- type i, after its references and tags, is of a kind for which P is true
 pub record HasKind (p : Program) (i : ℕ) (P : Kind → Type 0) : Type 0 where
   pub kind : Kind
   pub is : IsOfKind p.types i kind
   pub such : P kind
 
--- type i holds no other types, and P holds of it and of the notation behind the references of notation n, which is read
--- in module K
+-- type i holds no other types. The references of notation n lead to a notation that is read in module K, and P is true
+-- of the type and of that notation.
 pub record HasLeafIn (p : Program) (os : List ℕ) (M K : Name) (i : ℕ) (n : Tree) (P : Plain → Tree → Type 0) : Type 0 where
   pub plain : Plain
   pub is : IsOfKind p.types i (simple plain)
@@ -57,8 +57,8 @@ pub record HasLeaf (p : Program) (os : List ℕ) (M : Name) (i : ℕ) (n : Tree)
   pub within : Name
   pub leaf : HasLeafIn p os M within i n P
 
--- type i is a SEQUENCE or SET, l, which is read in module K, is the notation behind the references of notation n, and P
--- holds of the kind of list, of its components and of the names of the fields in braces
+-- Type i is a SEQUENCE or SET, and the references of notation n lead to notation l, which is read in module K. P is
+-- true of the kind of list, of its components and of the names of the fields in braces.
 pub record HasNames (p : Program) (os : List ℕ) (M K : Name) (i : ℕ) (n l : Tree)
     (P : ListKind → List Part → List Name → Type 0) : Type 0 where
   pub list : ListKind
@@ -72,7 +72,7 @@ pub record HasNames (p : Program) (os : List ℕ) (M K : Name) (i : ℕ) (n l : 
   pub in_braces : fields_in l ≡ Some fields
   pub such : P list parts (field_names fields)
 
--- type i is a CHOICE that has no alternative of the name that notation n has chosen
+-- type i is a CHOICE that has no alternative of the name that notation n chooses
 pub record HasNoAlternative (p : Program) (os : List ℕ) (M : Name) (i : ℕ) (n : Tree) : Type 0 where
   pub marked : Bool
   pub parts : List Part
@@ -84,25 +84,26 @@ pub record HasNoAlternative (p : Program) (os : List ℕ) (M : Name) (i : ℕ) (
   pub last : IsLast p (table.members Choice marked parts) os M n opened within (chosen name inner)
   pub none : StandsIn (part_names parts) name → ⊥
 
--- the elements of a list are values of their type, with fewer levels than these
+-- the elements of a list are values of their type, each with fewer levels than `levels`
 abbrev pub AreWithin : Program → (levels : ℕ) → Kind → AbstractValue → Type 0
 AreWithin p (suc levels) (elements k j) (list r) = AreElements p (Allows p) (AllowsCode p) levels j r
 AreWithin p levels k v = Unit {0}
 
--- notation n stands for a value that the constraints of type i leave out; what is wrong within it would be told first
+-- notation n stands for a value that the constraints of type i exclude; a fault within the value would be reported
+-- first
 pub record IsOutsideAlone (p : Program) (levels left : ℕ) (os : List ℕ) (M : Name) (i : ℕ) (n : Tree) : Type 0 where
   pub outside : IsOutside p (Allows p) (AllowsCode p) os M i n
   pub within : AreWithin p levels outside.kind outside.value
   pub few : nodes outside.value ≤ left
 
--- A level is asked for first, then a node: else nothing else is wrong with a notation.
+-- A level is needed first, then a node. Only if both are left can anything else be wrong with a notation.
 abbrev pub HasRoom : (levels left : ℕ) → Cause → Type 0
 HasRoom levels left cause.Memory = Unit {0}
 HasRoom levels left cause.Depth = Unit {0}
 HasRoom levels left cause.Nodes = levels ≡ 0 → ⊥
 HasRoom levels left c = (levels ≡ 0 → ⊥) × (left ≡ 0 → ⊥)
 
--- what is wrong with notation n itself, read in module M under type i, where so many levels and nodes are left
+-- what is wrong with notation n itself, read in module M under type i, if `levels` levels and `left` nodes are left
 abbrev pub IsCause : Program → (levels left : ℕ) → List ℕ → Name → ℕ → Tree → Cause → Type 0
 IsCause p levels left os M i n cause.Memory = Unit {0}
 IsCause p levels left os M i n cause.Depth = levels ≡ 0
@@ -125,9 +126,9 @@ IsCause p levels left os M i n (cause.Behind a K l) =
     HasNames p os M K.now i n (tree_of l.now) (λ k cs fs. IsBehind k cs fs a)
 IsCause p levels left os M i n cause.Outside = IsOutsideAlone p levels left os M i n
 
--- Notation n, read in module M under type i, has the fields fs, read in module K, of a SEQUENCE or SET that is written in
--- module N. Their names are arranged as those of the components, and the components before component c are read, each
--- one a value of its type with at most so many levels: of the nodes that were left with n, `rest` are left.
+-- Notation n, read in module M under type i, has the fields fs, read in module K, of a SEQUENCE or SET that is written
+-- in module N. Their names are arranged like those of the components. The components before component c are read, each
+-- as a value of its type with at most `levels` levels. Of the nodes that were left at n, `rest` are still left.
 pub record AreReadTo (p : Program) (levels left rest : ℕ) (os : List ℕ) (M : Name) (i : ℕ) (n : Tree)
     (ps : List ℕ) (K N : Name) (fs : List (Name × Tree)) (c : Part) : Type 0 where
   pub kind : ListKind
@@ -148,10 +149,11 @@ pub record AreReadTo (p : Program) (levels left rest : ℕ) (os : List ℕ) (M :
   pub values : AreComponents p (Allows p) (AllowsCode p) levels N before row
   pub counted : left ≡ suc (row_nodes row + rest)
 
--- A fault stands in notation n, which is read in module M under type i, where at most so many levels are left, and so
--- many nodes: something is wrong with the notation itself, or a fault stands in one that stands in it, and what stands
--- before that one stands for values that are allowed, whose nodes count. A DEFAULT of an absent component has no more
--- levels than one that is written, and 2^24 nodes. `os` are the values whose notations are being read already.
+-- Notation n, which is read in module M under type i, has this fault, if `levels` levels and `left` nodes are left.
+-- Either something is wrong with the notation itself, or a notation nested in it has the fault. In the second case
+-- everything before the nested notation stands for allowed values, whose nodes are counted. The DEFAULT of an absent
+-- component may have as many levels as a written value, and 2^24 nodes. `os` are the values whose notations are being
+-- read already.
 pub data Stands (p : Program) : (levels left : ℕ) (os : List ℕ) (M : Name) (i : ℕ) (n : Tree) → ValueFault → Type 0 where
   no_memory : {levels left : ℕ} {os : List ℕ} {M : Name} {i : ℕ} {n : Tree} {f : ValueFault} →
       f.cause ≡ cause.Memory →

@@ -1,4 +1,4 @@
--- What a table tells of the DEFAULTs of linked modules.
+-- What a table says of the DEFAULTs of linked modules.
 use Rattle.std.specs.Prelude.{◌≡◌, ◌<◌, ℕ, Bool, List, Some, slice_get}
 use Rattle.trees.specs.declared.types.ListKind.{ListKind}
 use Rattle.trees.specs.Values.{Name}
@@ -16,14 +16,14 @@ pub record AreListed (p : Program) (N : Name) (cs : List Part) : Type 0 where
   pub marked : Bool
   pub written : IsWritten p type (members kind marked cs) N
 
--- component c stands in such a list
+-- component c is in such a list
 pub record IsListed (p : Program) (N : Name) (c : Part) : Type 0 where
   pub parts : List Part
   pub listed : AreListed p N parts
   pub there : StandsIn parts c
 
--- Of each component the table has, by the number of its type, how many levels have to be left where it is absent: with
--- so many its DEFAULT stands for a value. 255 tells nothing.
+-- For each component the table has, by the number of its type, how many levels must be left if it is absent. Its
+-- DEFAULT then stands for a value with at most as many levels. 255 says nothing.
 abbrev pub AreKnown : Program → List ℕ → Type 0
 AreKnown p table = (N : Name) (c : Part) (l : ℕ) →
     IsListed p N c →

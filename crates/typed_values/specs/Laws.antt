@@ -1,4 +1,4 @@
--- What laws speak of besides faults.
+-- What laws need besides faults.
 use Rattle.std.specs.Prelude.{◌≡◌, ◌≤◌, ℕ, Bool, List, []}
 use Rattle.asn_base.specs.Abstract.{AbstractValue}
 use Rattle.asn_base.specs.Typed.{nodes}

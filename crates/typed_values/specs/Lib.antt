@@ -1,5 +1,5 @@
--- What has to be believed: what is wrong with a notation that stands for no value of a type, and where (`Faults`); what
--- a table tells of DEFAULTs (`Known`); values are those of the crates below.
+-- What a reader has to believe. `Faults`: what is wrong with a notation that stands for no value of a type, and where.
+-- `Known`: what a table says of DEFAULTs. Values are those of the crates below.
 pub mod Faults
 pub mod Known
 pub mod Laws

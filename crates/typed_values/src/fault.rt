@@ -33,43 +33,45 @@ pub struct Place<'a> {
 pub enum Cause<'a> {
     /// There was not enough memory.
     Memory,
-    /// It stands at more than 64 levels.
+    /// The notation is nested deeper than 64 levels.
     Depth,
-    /// The values before it, and those that hold it, are 2^24 already.
+    /// The values before the notation, and those that hold it, have 2^24 nodes already.
     Nodes,
-    /// It is, or leads to, this name, which is read in this module and means neither something of the type nor a value.
+    /// The notation is, or leads to, this name, which is read in this module and means neither something of the type
+    /// nor a value.
     Lost(&'a str, &'a ValueSyntax),
-    /// It is, or leads to, this name, which is read in this module and means the value of this number, whose notation
-    /// is being read already.
+    /// The notation is, or leads to, this name, which is read in this module. The name means the value of this number,
+    /// whose notation is being read already.
     Circular(usize, &'a str, &'a ValueSyntax),
-    /// It is of another form than the type's, or has a character that is none of the type's.
+    /// The notation is of another form than the type's, or has a character that the type doesn't have.
     NotOfType,
-    /// This name in its braces, which is read in this module, is no bit of the type.
+    /// This name in the notation's braces, which is read in this module, is no bit of the type.
     UnknownBit(&'a str, &'a ValueSyntax),
-    /// It stands for an object identifier, a relative one or not, of more than 64 numbers or with one from 2^64 on.
+    /// The notation stands for an object identifier, a relative one or not, with more than 64 numbers or with one of
+    /// 2^64 or more.
     Oid,
-    /// The CHOICE has no alternative of its name.
+    /// The CHOICE has no alternative of the notation's name.
     UnknownAlternative,
     /// No component has the name of this field of the notation, which is read in this module.
     UnknownField(usize, &'a str, &'a ValueSyntax),
     /// An earlier field of the notation, which is read in this module, has the name of this one.
     Repeated(usize, &'a str, &'a ValueSyntax),
-    /// This component has no field in the notation, which is read in this module, though it has to be there.
+    /// This component has no field in the notation, which is read in this module, though it must be present.
     Missing(usize, &'a str, &'a ValueSyntax),
-    /// This field of the notation, which is read in this module, stands behind one that it goes before.
+    /// This field of the notation, which is read in this module, comes after one that it must come before.
     Behind(usize, &'a str, &'a ValueSyntax),
-    /// It stands for a number, size or character that the constraints of the type don't allow.
+    /// The notation stands for a number, size or character that the constraints of the type don't allow.
     Outside,
 }
 
-/// The first notation with which something is wrong, and what.
+/// The first notation that is wrong, and what is wrong with it.
 #[derive(Clone, Copy)]
 pub struct ValueFault<'a> {
     pub at: Place<'a>,
     pub cause: Cause<'a>,
 }
 
-/// What is wrong where references lead to no notation.
+/// The cause of a fault in following the references of a notation.
 pub(crate) fn unfollowed<'a>(fault: FollowFault<'a>) -> Cause<'a>
     ensures { (p : Program) (levels left i : ℕ) (os : List ℕ) (M : Name) (n : Tree) (k : Kind)
         → IsOfKind p.types i k
@@ -83,7 +85,7 @@ pub(crate) fn unfollowed<'a>(fault: FollowFault<'a>) -> Cause<'a>
     }
 }
 
-/// What is wrong where a notation gives no value of a type that holds no others.
+/// The cause of a fault of a notation under a type that holds no others.
 pub(crate) fn no_leaf<'a>(fault: LeafFault<'a>, within: &'a str) -> Cause<'a>
     ensures { (p : Program) (levels left i : ℕ) (os ps : List ℕ) (M : Name) (n l : Tree) (k : Plain)
         → IsOfKind p.types i (simple k)
@@ -99,7 +101,7 @@ pub(crate) fn no_leaf<'a>(fault: LeafFault<'a>, within: &'a str) -> Cause<'a>
     }
 }
 
-/// What is wrong where names of fields are not arranged as those of components.
+/// The cause of a fault in the names of fields.
 pub(crate) fn unarranged<'a>(
     fault: NamesFault,
     within: &'a str,

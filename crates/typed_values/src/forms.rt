@@ -1,4 +1,4 @@
-//! What a notation holds by its form.
+//! What the form of a notation holds.
 
 ghost use Rattle.std.specs.Prelude.{◌≡◌, MatchOption, map, option_map};
 ghost use Rattle.trees.specs.Values.{Name, Tree, chosen, member_of, members, tree_of, trees};
@@ -6,7 +6,7 @@ ghost use Rattle.typed_values.specs.proving.Forms.{members_in, trees_in};
 
 use trees::{Named, ValueForm, ValueSyntax};
 
-/// The values in braces.
+/// The values in braces, or None if the notation is no such braces.
 pub(crate) fn values_in(notation: &ValueSyntax) -> Option<&[ValueSyntax]>
     ensures { option_map (λ vs. trees (map tree_of vs.now)) result ≡ trees_in (tree_of notation.now) }
 {
@@ -17,7 +17,7 @@ pub(crate) fn values_in(notation: &ValueSyntax) -> Option<&[ValueSyntax]>
     }
 }
 
-/// The values with names in braces.
+/// The values in braces, each after a name.
 pub(crate) fn fields_in(notation: &ValueSyntax) -> Option<&[Named<ValueSyntax>]>
     ensures { option_map (λ fs. members (map member_of fs.now)) result ≡ members_in (tree_of notation.now) }
 {

@@ -17,8 +17,8 @@ ghost use Rattle.typed_values.specs.Laws.{HaveFewNodes};
 
 use value_notations::law::{one_value, wrong_stand_for_none};
 
-/// In linked modules whose defaults have few nodes, a notation in which a fault stands, other than want of memory,
-/// stands for no value of its type that has at most so many levels and nodes.
+/// A notation with a fault other than `Memory`, in linked modules whose defaults have few nodes, stands for no value of
+/// its type within these limits. The limits are at most `levels` levels, and at most `left` nodes.
 pub fn faults_exclude()
     ensures { (p : Program) (levels left i : ℕ) (os : List ℕ) (M : Name) (n : Tree) (f : ValueFault') (v : AbstractValue)
         → IsApart p.modules

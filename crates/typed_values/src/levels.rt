@@ -11,15 +11,15 @@ use std::alloc::{AllocError, Global};
 use std::marker::Model;
 use type_table::ListMember;
 
-/// The levels of a DEFAULT that was not read yet.
+/// The entry of a DEFAULT that was not read yet.
 const UNREAD: u8 = 255;
 
 /// How many levels the values of the DEFAULTs of some modules have, as far as DEFAULTs were read already. One table
-/// serves all notations of the modules: a DEFAULT that is left out is read once, however often it is left out, and a
-/// second time to see that its value has so many levels.
+/// serves all notations of the modules. A DEFAULT is read once, however often its component is absent, and a second
+/// time to check that its value has that many levels.
 #[derive(Drop)]
 pub struct Defaults {
-    /// By the numbers of the components' types.
+    /// The levels, by the numbers of the components' types.
     levels: Vec<u8>,
     /// How many levels were left below the deepest value that was read.
     lowest: u8,
@@ -34,8 +34,8 @@ impl Model for Defaults {
 }
 
 impl Defaults {
-    /// The table of modules, of which no DEFAULT was read yet: an octet for each written type. An `Err` is want of
-    /// memory.
+    /// The table of modules of which no DEFAULT was read yet: an octet for each written type. The error is that there
+    /// is not enough memory.
     pub fn of(alloc: Global, bounded: &Bounded<'_>) -> Result<Self, AllocError>
         ensures { IfOk result (AreKnown bounded.now) }
     {
@@ -46,8 +46,8 @@ impl Defaults {
         })
     }
 
-    /// Whether the table tells that a component may be absent where so many levels are left. What is left below its
-    /// DEFAULT is noted.
+    /// Whether the table says that a component may be absent if `levels` levels are left. If it does, the levels that
+    /// are left below the component's DEFAULT are noted.
     pub(crate) fn allows(
         &mut self,
         bounded: &Bounded<'_>,
@@ -73,7 +73,7 @@ impl Defaults {
         true
     }
 
-    /// Notes that a component may be absent where so many levels are left.
+    /// Notes that a component may be absent if `levels` levels are left.
     pub(crate) fn note(
         &mut self,
         bounded: &Bounded<'_>,
@@ -93,7 +93,7 @@ impl Defaults {
         }
     }
 
-    /// So many levels are left below a value.
+    /// Notes that `levels` levels are left below a value.
     pub(crate) fn reach(&mut self, levels: u8)
         ensures { self.new ≡ self.old }
     {
@@ -102,7 +102,7 @@ impl Defaults {
         }
     }
 
-    /// Begins to count anew, where so many levels are left; answers what was counted before.
+    /// Starts a new count with `levels` levels left; returns the count before.
     pub(crate) fn begin(&mut self, levels: u8) -> u8
         ensures { self.new ≡ self.old }
     {
@@ -111,7 +111,7 @@ impl Defaults {
         before
     }
 
-    /// How many of so many levels the value has that was read since counting began.
+    /// How many of `levels` levels the value has that was read since the count started.
     pub(crate) fn used(&self, levels: u8) -> u8
         ensures { result ≤ levels }
     {

@@ -1,4 +1,4 @@
-//! The reading of a notation under a type, from its front.
+//! The reading of a notation under a type, from its beginning on.
 
 ghost use Rattle.std.specs.Prelude.{◌<◌, ◌≡◌, ◌+◌, ℕ, suc, Bool as 𝔹, List, [], true, false, IfErr, IfOk, OnOk, None, Some, length, map, option_map, slice_get};
 ghost use Rattle.asn_base.specs.Abstract.{abstract, row_of_list, row_of_options};
@@ -39,10 +39,10 @@ use value_notations::references::follow;
 use values::law::{groups_whole, stands_for_fields};
 use values::{alternative, arranged};
 
-/// A value has at most this many levels.
+/// The most levels that a value may have.
 const MOST_LEVELS: u8 = 64;
 
-/// Is it a CHOICE?
+/// Whether the list is a CHOICE.
 fn is_choice(kind: ListKind) -> bool
     ensures yes { result ≡ true → kind ≡ choice }
     ensures no { result ≡ false → kind ≡ choice → ⊥ }
@@ -54,8 +54,8 @@ fn is_choice(kind: ListKind) -> bool
     }
 }
 
-/// Reads a notation under a type, where so many levels and nodes are left. `opened` are the values whose notations are
-/// being read: those that a value leaves behind are taken away again.
+/// Reads a notation under a type, if `levels` levels and `left` nodes are left. `opened` are the values whose notations
+/// are being read; those that the reading of a value adds are removed again.
 #[cycle(reading)]
 fn read<'a>(
     alloc: Global,
@@ -116,7 +116,8 @@ fn read<'a>(
     }
 }
 
-/// Reads what stands behind the references of a notation, under what its type is behind references and tags.
+/// Reads the notation to which the references of a notation lead, under the shape of its type after references and
+/// tags.
 #[cycle(reading)]
 fn value_of<'a>(
     alloc: Global,
@@ -216,7 +217,7 @@ fn list<'a>(
     Ok(Value::List(values))
 }
 
-/// Reads the elements of a list, one behind the other.
+/// Reads the elements of a list, one after the other.
 #[cycle(reading)]
 fn all<'a>(
     alloc: Global,
@@ -433,7 +434,7 @@ fn all_fields<'a>(
     Ok(values)
 }
 
-/// Reads a component: its field, or none where it may be absent.
+/// Reads a component: its field, or nothing if it may be absent.
 #[cycle(reading)]
 fn field<'a>(
     alloc: Global,
@@ -517,7 +518,8 @@ fn default<'a>(
     }
 }
 
-/// Reads a DEFAULT, unless the table tells that it stands for a value of so few levels; then the table tells so.
+/// Reads a DEFAULT, unless the table says that it stands for a value of at most `levels` levels. After the reading the
+/// table says so.
 #[cycle(reading)]
 fn whole_default<'a>(
     alloc: Global,
@@ -593,8 +595,8 @@ fn read_default<'a>(
     }
 }
 
-/// The value that a notation stands for under a type (X.680, clause 17), as [`typed`] answers it, with a table that is
-/// lent: where many notations of the same modules are read, one table serves them all.
+/// The value that a notation stands for under a type (X.680, clause 17), as [`typed`] returns it, with a table that is
+/// lent. One table serves all notations of the same modules.
 pub fn typed_with<'a>(
     alloc: Global,
     bounded: &Bounded<'a>,
@@ -630,10 +632,11 @@ pub fn typed_with<'a>(
 }
 
 /// The value that a notation stands for under a type (X.680, clause 17): `ty` is the type, `within` the name of the
-/// module in which the notation is read. A value has at most 64 levels and 2^24 nodes, an absent component counting
-/// with the levels of its DEFAULT.
+/// module in which the notation is read. A value has at most 64 levels and 2^24 nodes; an absent component counts with
+/// the levels of its DEFAULT.
 ///
-/// An `Err` is the first thing that is wrong, as the notation is read from its front, and where: `Cause` says what.
+/// The error is the first fault, in the order in which the notation is read, with its place: `Cause` says what is
+/// wrong.
 pub fn typed<'a>(
     alloc: Global,
     bounded: &Bounded<'a>,

@@ -4,8 +4,8 @@ ghost use Rattle.std.specs.Prelude.{◌≡◌, []};
 
 use std::alloc::Global;
 
-/// An empty list with room for so many, so that it needs not grow; where there is not memory enough for them all, with
-/// none.
+/// An empty list with room for `count` items, so that it need not grow; without room if there is not enough memory for
+/// all.
 pub(crate) fn room_for<T>(alloc: Global, count: usize) -> Vec<T>
     ensures { result.items ≡ [] }
 {

@@ -1,4 +1,4 @@
-//! What a type is behind its references and tags.
+//! The shape of a type after its references and tags.
 
 ghost use Rattle.std.specs.Prelude.{◌<◌, ◌≡◌, length};
 ghost use Rattle.type_table.specs.Seen.{kind_of};
@@ -8,7 +8,7 @@ use asn_base::schema::TypeId;
 use resolve::Linked;
 use type_table::Shape;
 
-/// What a type is behind its references and tags, and the module where that is written.
+/// The shape of a type after its references and tags, and the module in which that shape is written.
 pub(crate) fn written(linked: &Linked, ty: TypeId) -> (&Shape, &str)
     requires { ty.index < length linked.now.types }
     ensures { IsWritten linked.now ty.index (kind_of result.0.now) result.1.now }

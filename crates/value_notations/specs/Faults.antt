@@ -1,5 +1,5 @@
--- What the faults of one notation tell: of following its references, and of a value that holds no others. Each holds
--- the notation at which something is wrong, whose place in the text is its own.
+-- What the faults of one notation say: the faults of following its references, and those of a value that holds no
+-- others. Each fault has the notation that is wrong, and so its place in the text.
 use Rattle.std.specs.Prelude.{◌≡◌, ℕ, List, Option, None}
 use Rattle.asn_base.specs.Abstract.{AbstractValue}
 use Rattle.trees.specs.Values.{Name, Tree, tree_of, reference}
@@ -24,7 +24,8 @@ pub record IsLostAt (p : Program) (k : Kind) (os : List ℕ) (M : Name) (n : Tre
   pub within : lost.within ≡ K
   pub notation : reference prefix name ≡ l
 
--- they lead to notation l, a name that is read in module K and means value i, whose notation is being read already
+-- the references of notation n lead to notation l, a name that is read in module K and means value i, whose notation is
+-- being read already
 pub record ComesRoundAt (p : Program) (k : Kind) (os : List ℕ) (M : Name) (n : Tree) (i : ℕ) (K : Name) (l : Tree)
     : Type 0 where
   pub round : ComesRound p k os M n i
@@ -54,11 +55,11 @@ IsLeafFault k n leaf.NotOfType = IsMisfit (simple k) n
 IsLeafFault k n (leaf.UnknownBit b) = IsUnknownBitAt k n (tree_of b.now)
 IsLeafFault k n leaf.Oid = StandsForPast k n
 
--- a value of the type but for its constraints
+-- a value of the type, apart from its constraints
 abbrev pub IsUnconstrained : Plain → AbstractValue → Type 0
 IsUnconstrained k v = IsPlainValue (λ i z. Unit {0}) (λ i c. Unit {0}) 0 k v
 
--- the notation stands for v, which is a value of the type but for its constraints
+-- the notation stands for v, which is a value of the type apart from its constraints
 pub record IsLeafValue (k : Plain) (n : Tree) (v : AbstractValue) : Type 0 where
   pub stands : IsLeaf k n v
   pub within : IsUnconstrained k v

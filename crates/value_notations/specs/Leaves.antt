@@ -13,21 +13,25 @@ use Rattle.names.specs.Modules.{StandsIn}
 use Rattle.names.specs.Names.{under}
 use Rattle.type_table.specs.Items.{Item, additions_of, numbers_of}
 
--- item x of an enumeration has number z
+-- item x of a written enumeration, in the root or after the marker, has number z (X.680, clauses 20.5 and 20.6)
 pub record IsItem (root more : List Item) (x : Name) (z : ℤ) : Type 0 where
+  -- its place, from 0, over root and additions
   pub place : ℕ
   pub item : Item
   pub there : slice_get (root ++ more) place ≡ Some item
   pub named : item.0 ≡ x
+  -- its number is the one written, or else the one that the rules of numbering give it
   pub numbered : slice_get (numbers_of root more) place ≡ Some z
 
--- the four bits of a hexadecimal digit, the highest first
+-- the four bits of a hexadecimal digit, the most significant first (X.680, clause 22)
 abbrev pub bits_of_digit : ℕ → List Bool
 bits_of_digit n = (n / 8 == 1) ∷ (n / 4 % 2 == 1) ∷ (n / 2 % 2 == 1) ∷ (n % 2 == 1) ∷ []
 
--- digits in groups of `most`, the last one filled with zeros, each an octet: its number, the first digit the highest
+-- Octets os are digits in groups of `most`, the last group filled with zeros (X.680, clause 23). Each group, its first
+-- digit the most significant, is the number of an octet.
 pub record AreOctets (base most : ℕ) (digits os : List ℕ) : Type 0 where
   pub digits_of : AllBelowBase base digits
+  -- how many zero digits fill the last group
   pub zeros : ℕ
   pub few : zeros < most
   pub long : length digits + zeros ≡ most * length os
@@ -35,7 +39,7 @@ pub record AreOctets (base most : ℕ) (digits os : List ℕ) : Type 0 where
       i < length os →
       slice_index os i ≡ number_from_digits base (take most (drop (most * i) (digits ++ replicate zeros 0)))
 
--- each notation is the name of a bit, and these are their places
+-- each notation is the name of a named bit, and these are the places of the bits (X.680, clause 22)
 pub data AreBitNames (bs : List (Name × ℕ)) : Trees → List ℕ → Type 0 where
   no_bit : AreBitNames bs no_tree []
   bit_and : {x : Name} {ts : Trees} {place : ℕ} {places : List ℕ} →
@@ -43,19 +47,21 @@ pub data AreBitNames (bs : List (Name × ℕ)) : Trees → List ℕ → Type 0 w
       AreBitNames bs ts places →
       AreBitNames bs (tree_and (reference None x) ts) (place ∷ places)
 
--- the bits at these places are set, and no others, up to the greatest of them
+-- in the bits s exactly those at these places are set, and s ends with the greatest of them
 pub record AreSetBits (places : List ℕ) (s : List Bool) : Type 0 where
   pub set : (i : ℕ) → (slice_get s i ≡ Some true ↔ StandsIn places i)
   pub greatest : (n : ℕ) → length s ≡ suc n → StandsIn places n
 
--- the first two numbers of an object identifier: 0 or 1 and at most 39, or 2 and any (X.680, 32; X.660)
+-- The numbers begin as an object identifier does, with 0 or 1 and at most 39, or with 2 and any (X.680, clause 32;
+-- X.660).
 pub data IsRooted : List ℕ → Type 0 where
   is_rooted : {x y : ℕ} {ns : List ℕ} →
       x ≤ 2 →
       (x < 2 → y < 40) →
       IsRooted (x ∷ y ∷ ns)
 
--- a notation that stands for a value of the type, without its constraints and limits
+-- The notation stands for a value of a type of this kind, which holds no other types. The type's constraints, and
+-- limits, are not asked about.
 pub data IsLeaf : Plain → Tree → AbstractValue → Type 0 where
   truth : IsLeaf a_boolean yes (boolean true)
   falsehood : IsLeaf a_boolean no (boolean false)
@@ -74,6 +80,7 @@ pub data IsLeaf : Plain → Tree → AbstractValue → Type 0 where
       AllBelowBase 16 ds →
       s ≡ flat_map bits_of_digit ds →
       IsLeaf (a_bit_string bs) (hex ds) (bits s)
+  -- `{}` is the value of a BIT STRING with named bits of which none is set
   no_named_bit : {bs : List (Name × ℕ)} →
       bs ≢ [] →
       IsLeaf (a_bit_string bs) nothing (bits [])
@@ -81,9 +88,11 @@ pub data IsLeaf : Plain → Tree → AbstractValue → Type 0 where
       AreBitNames bs ts places →
       AreSetBits places s →
       IsLeaf (a_bit_string bs) (items ts) (bits s)
+  -- eight binary digits are an octet
   octet_digits : {ds os : List ℕ} →
       AreOctets 2 8 ds os →
       IsLeaf an_octet_string (binary ds) (octets os)
+  -- two hexadecimal digits are an octet
   octet_hex : {ds os : List ℕ} →
       AreOctets 16 2 ds os →
       IsLeaf an_octet_string (hex ds) (octets os)

@@ -1,7 +1,7 @@
--- What has to be believed: which notations stand for which values under a type (`References`, `Leaves`, `Notations`),
--- what values of a type are (`Values`), why a notation stands for none (`Wrong`) or for none of the type (`Outside`),
--- and what faults tell of that (`Faults`): X.680, clauses 17 to 33, 41 and 51. What stands in `proving` only contracts
--- inside this crate and proofs speak of.
+-- What a reader has to believe: which notations stand for which values under a type (`References`, `Leaves`,
+-- `Notations`), and what values of a type are (`Values`). Why a notation stands for no value (`Wrong`), or for no value
+-- of the type (`Outside`), and what faults say about it (`Faults`): X.680, clauses 17 to 33, 41 and 51. Only contracts
+-- inside this crate, and proofs, speak of `proving`.
 pub mod References
 pub mod Leaves
 pub mod Notations

@@ -1,5 +1,5 @@
--- Why a notation that stands for a value of the type's form stands for no value of the type: what constraints and
--- limits leave out, and at which notation (X.680, clause 51; the limits are this project's).
+-- Why a notation that stands for a value of the type's form stands for no value of the type. Constraints and limits
+-- exclude the value; the notation at fault is given too (X.680, clause 51; the limits are this project's).
 use Rattle.std.specs.Prelude.{◌⊎◌, ℕ, ◌<◌, ◌^◌, ℤ, pos, List, [], length, chars}
 use Rattle.std.specs.List.{AllByRecursion}
 use Rattle.asn_base.specs.Abstract.{AbstractValue, integer, bits, octets, text, oid, relative_oid, list}
@@ -22,7 +22,7 @@ IsLeftOut Allows AllowsCode i (simple (a_restricted_string k)) (text o) =
 IsLeftOut Allows AllowsCode i (elements k j) (list r) = Allows i (pos (members r)) → ⊥
 IsLeftOut Allows AllowsCode i k v = ⊥
 
--- more than 64 numbers, or one from 2^64 on
+-- more than 64 numbers, or one of 2^64 or more
 abbrev pub ArePast : List ℕ → Type 0
 ArePast ns = (64 < length ns) ⊎ (AllByRecursion (λ n. n < 2 ^ 64) ns → ⊥)
 
@@ -31,7 +31,7 @@ HasPast (oid ns) = ArePast ns
 HasPast (relative_oid ns) = ArePast ns
 HasPast v = ⊥
 
--- a value that the constraints of its type leave out
+-- the notation stands for a value that the constraints of its type exclude
 pub record IsOutside (p : Program) (Allows : ℕ → ℤ → Type 0) (AllowsCode : ℕ → ℕ → Type 0) (os : List ℕ) (M : Name) (i : ℕ)
     (n : Tree) : Type 0 where
   pub kind : Kind

@@ -1,4 +1,4 @@
--- The values of types of a program: shape, constraints, items, components that have to be there, and the limits on
+-- The values of types of a program: shape, constraints, items, components that must be present, and the limits on
 -- values (X.680, clauses 18 to 33, 41 and 51). What constraints allow is a parameter: `Allows i z` says that type i
 -- allows number or size z, and `AllowsCode i c` that it allows the character of code c.
 use Rattle.std.specs.Prelude.{◌≡◌, ℕ, suc, ◌≤◌, ℤ, pos, Bool, List, [], ◌∷◌, length, map, Option, Some, slice_get, IsUtf8, chars}
@@ -19,7 +19,7 @@ use Rattle.type_table.specs.Table as table
 use Rattle.resolve.specs.Program.{Program, IsAssignment}
 use Rattle.value_notations.specs.Notations.{Notation, component_of}
 
--- a value of type i, which holds no other types
+-- Value v, in its form, number, size, characters and items, is one of type i, whose kind holds no other types.
 abbrev pub IsPlainValue : (ℕ → ℤ → Type 0) → (ℕ → ℕ → Type 0) → ℕ → Plain → AbstractValue → Type 0
 IsPlainValue Allows AllowsCode i a_boolean (boolean b) = Unit {0}
 IsPlainValue Allows AllowsCode i (an_integer ns) (integer z) = IsWithinLimit z × Allows i z
@@ -31,14 +31,14 @@ IsPlainValue Allows AllowsCode i an_octet_string (octets o) = AllBelowBase 256 o
 IsPlainValue Allows AllowsCode i a_null null = Unit {0}
 IsPlainValue Allows AllowsCode i an_object_identifier (oid ns) = IsObjectIdentifier ns
 IsPlainValue Allows AllowsCode i a_relative_oid (relative_oid ns) = IsRelativeOid ns
--- its size is in characters
+-- the size of a UTF8String is in characters
 IsPlainValue Allows AllowsCode i a_utf8_string (text o) = IsUtf8 o × Allows i (pos (length (chars o)))
 IsPlainValue Allows AllowsCode i (a_restricted_string k) (text o) =
     AllByRecursion (AllowsCode i) o × Allows i (pos (length o))
 IsPlainValue Allows AllowsCode i k v = ⊥
 
 mutual
-  -- v is a value of type i with at most n levels, without the limit on nodes
+  -- v is a value of type i of program p with at most n levels, without the limit on nodes
   pub data ValueIn (p : Program) (Allows : ℕ → ℤ → Type 0) (AllowsCode : ℕ → ℕ → Type 0)
       : (n i : ℕ) → AbstractValue → Type 0 where
     value_in : {n i core : ℕ} {t : Type'} {M x : Name} {v : AbstractValue} →
@@ -48,7 +48,8 @@ mutual
         ValueOf p Allows AllowsCode n i M t.kind v →
         ValueIn p Allows AllowsCode (suc n) i v
 
-  -- v is a value of type i, which is of this kind and is written in module M, whose members have at most n levels
+  -- v is a value of type i of program p, which is of this kind and is written in module M; its members have at most n
+  -- levels
   pub data ValueOf (p : Program) (Allows : ℕ → ℤ → Type 0) (AllowsCode : ℕ → ℕ → Type 0)
       : (n i : ℕ) (M : Name) → Kind → AbstractValue → Type 0 where
     of_leaf : {n i : ℕ} {M : Name} {k : Plain} {v : AbstractValue} →
@@ -68,8 +69,8 @@ mutual
         ValueIn p Allows AllowsCode n c.ty v →
         ValueOf p Allows AllowsCode n i M (table.members Choice e cs) (alternative a v)
 
-  -- A component of a list that is written in module M may be absent where it is OPTIONAL, an addition, or has a DEFAULT
-  -- whose notation stands for a value; that value's levels count.
+  -- A component of a list that is written in module M may be absent if it is OPTIONAL or an addition. It may also be
+  -- absent if it has a DEFAULT whose notation stands for a value of its type with at most n levels.
   pub data MayBeAbsent (p : Program) (Allows : ℕ → ℤ → Type 0) (AllowsCode : ℕ → ℕ → Type 0)
       : (n : ℕ) (M : Name) → Part → Type 0 where
     where_optional : {n : ℕ} {M : Name} {c : Part} →
@@ -85,7 +86,8 @@ mutual
         ValueIn p Allows AllowsCode n c.ty v →
         MayBeAbsent p Allows AllowsCode n M c
 
-  -- the row has a place for each component
+  -- The row has a place for each component of a list written in module M (X.680, clauses 25 and 27). The place has a
+  -- value of its type, or is absent where the component may be.
   pub data AreComponents (p : Program) (Allows : ℕ → ℤ → Type 0) (AllowsCode : ℕ → ℕ → Type 0)
       : (n : ℕ) (M : Name) → List Part → Row → Type 0 where
     no_component : {n : ℕ} {M : Name} → AreComponents p Allows AllowsCode n M [] end
@@ -98,7 +100,8 @@ mutual
         AreComponents p Allows AllowsCode n M cs r →
         AreComponents p Allows AllowsCode n M (c ∷ cs) (present v r)
 
-  -- the row has values of type j
+  -- each member of the row is a value of type j of program p with at most n levels, and none is absent (X.680, clauses
+  -- 26 and 28)
   pub data AreElements (p : Program) (Allows : ℕ → ℤ → Type 0) (AllowsCode : ℕ → ℕ → Type 0)
       : (n j : ℕ) → Row → Type 0 where
     no_element : {n j : ℕ} → AreElements p Allows AllowsCode n j end
@@ -107,13 +110,13 @@ mutual
         AreElements p Allows AllowsCode n j r →
         AreElements p Allows AllowsCode n j (present v r)
 
--- a value of type i: at most 64 levels and 2^24 nodes
+-- v is a value of type i of program p with at most 64 levels and 2^24 nodes (own rule)
 pub record IsValue (p : Program) (Allows : ℕ → ℤ → Type 0) (AllowsCode : ℕ → ℕ → Type 0) (i : ℕ) (v : AbstractValue)
     : Type 0 where
   pub shaped : ValueIn p Allows AllowsCode 64 i v
   pub few_nodes : nodes v ≤ 16777216
 
--- Notation n, read in module M under type i, stands for v, which is a value of the type.
+-- Notation n, read in module M under type i, stands for v, which is a value of the type (X.680, clauses 16 and 17).
 pub record IsTyped (p : Program) (Allows : ℕ → ℤ → Type 0) (AllowsCode : ℕ → ℕ → Type 0) (M : Name) (i : ℕ) (n : Tree)
     (v : AbstractValue) : Type 0 where
   pub stands : Notation p [] M i n v

@@ -1,5 +1,5 @@
--- Why a notation stands for no value under a type: what is wrong, and at which notation within it. Constraints and
--- limits are no part of it.
+-- Why a notation stands for no value under a type: what is wrong, and which notation within it is. Constraints and
+-- limits are no part of this.
 use Rattle.std.specs.Prelude.{◌≡◌, ℕ, ◌<◌, Bool, false, List, ◌∷◌, Option, Some, None, slice_get}
 use Rattle.asn_base.specs.Abstract.{AbstractValue}
 use Rattle.trees.specs.declared.types.ListKind.{ListKind}
@@ -18,9 +18,9 @@ use Rattle.value_notations.specs.References.{IsNamed, IsLast}
 use Rattle.value_notations.specs.Leaves.{IsLeaf}
 use Rattle.value_notations.specs.Notations.{values_in, fields_in, field_names, part_names, may_be_absent, IsPartOf}
 
--- what is wrong
+-- what is wrong with a notation
 pub data Trouble : Type 0 where
-  -- a name behind a module's name that means no value
+  -- a name after a module's name, which means no value
   unknown_name : Name → Trouble
   -- references lead to this value, which leads back to itself
   circular : ℕ → Trouble
@@ -28,11 +28,11 @@ pub data Trouble : Type 0 where
   not_of_type : Trouble
   -- a name that is neither a component, alternative, item or bit of the type nor a value
   unknown_item : Name → Trouble
-  -- a component that has to be there
+  -- a component that must be present
   missing : Name → Trouble
-  -- a component that stands twice
+  -- a component that is given twice
   repeated : Name → Trouble
-  -- components in another order: the first one has to stand before the second
+  -- components in another order: the first one must come before the second
   out_of_order : (first second : Name) → Trouble
 
 -- ---- references
@@ -80,7 +80,7 @@ pub data IsUnknownBit (bs : List (Name × ℕ)) (x : Name) : Trees → Type 0 wh
       IsUnknownBit bs x ts →
       IsUnknownBit bs x (tree_and (reference None y) ts)
 
--- name x is no bit of the type, and stands as one
+-- name x is in the place of a bit's name, and is no bit of the type
 pub record HasUnknownBit (k : Plain) (l : Tree) (x : Name) : Type 0 where
   pub bits : List (Name × ℕ)
   pub is : k ≡ a_bit_string bits
@@ -88,7 +88,7 @@ pub record HasUnknownBit (k : Plain) (l : Tree) (x : Name) : Type 0 where
   pub in_braces : l ≡ items names
   pub unknown : IsUnknownBit bits x names
 
--- the notation, which is no reference, has not the form of a value of the type
+-- the notation, which is no reference, doesn't have the form of a value of the type
 abbrev pub IsMisfit : Kind → Tree → Type 0
 IsMisfit (simple k) l = ((v : AbstractValue) → IsLeaf k l v → ⊥) × ((x : Name) → HasUnknownBit k l x → ⊥)
 IsMisfit (members Choice e cs) l = (x : Name) (m : Tree) → l ≡ chosen x m → ⊥
@@ -99,11 +99,11 @@ IsMisfit k l = ⊥
 
 -- ---- components
 
--- each name of one list stands in the other
+-- each name of the first list is in the second
 abbrev pub AreIn : List Name → List Name → Type 0
 AreIn xs ys = (x : Name) → StandsIn xs x → StandsIn ys x
 
--- a component of the name has no field, though it is one of the root that has to be there
+-- a component of this name has no field, though it is one of the root that must be present
 pub record IsMissing (cs : List Part) (fs : List Name) (x : Name) : Type 0 where
   pub part : Part
   pub there : StandsIn cs part
@@ -111,7 +111,7 @@ pub record IsMissing (cs : List Part) (fs : List Name) (x : Name) : Type 0 where
   pub needed : may_be_absent part ≡ false
   pub none : StandsIn fs x → ⊥
 
--- an addition of the name has no field, though it has to be there where another one of its group is, and one is
+-- an addition of this name has no field, though it must be present if another one of its group is, and one is
 pub record IsMissingInGroup (cs : List Part) (fs : List Name) (x : Name) : Type 0 where
   pub group : ℕ
   pub part : Part
@@ -125,7 +125,7 @@ pub record IsMissingInGroup (cs : List Part) (fs : List Name) (x : Name) : Type 
   pub other_standing : other.standing ≡ Addition (Some group)
   pub other_present : StandsIn fs other.name
 
--- name x stands before name y
+-- name x comes before name y
 pub record IsBefore (xs : List Name) (x y : Name) : Type 0 where
   pub first : ℕ
   pub second : ℕ
@@ -133,8 +133,8 @@ pub record IsBefore (xs : List Name) (x y : Name) : Type 0 where
   pub here : slice_get xs first ≡ Some x
   pub there : slice_get xs second ≡ Some y
 
--- What is wrong with the names of fields, which are sought in this order: one that no component has, one that stands
--- twice, one that is missing, and in a SEQUENCE their order.
+-- What is wrong with the names of fields. The checks come in this order: a name that no component has, one that is
+-- given twice, one that is missing, and in a SEQUENCE the order of names.
 pub data IsDisarranged : ListKind → List Part → List Name → Trouble → Type 0 where
   strange : {k : ListKind} {cs : List Part} {fs : List Name} {x : Name} →
       StandsIn fs x →
@@ -204,7 +204,7 @@ pub data IsWrongHere (p : Program) (os : List ℕ) (M : Name) (i : ℕ) (n : Tre
       IsDisarranged k cs (field_names fs) t →
       IsWrongHere p os M i n t
 
--- Notation m, read in module K under type j, is notation n, read in module M under type i, or stands in it.
+-- Notation m, read in module K under type j, is notation n, read in module M under type i, or is nested in it.
 pub data IsRead (p : Program)
     : (os : List ℕ) (M : Name) (i : ℕ) (n : Tree) (qs : List ℕ) (K : Name) (j : ℕ) (m : Tree) → Type 0 where
   itself : {os : List ℕ} {M : Name} {i : ℕ} {n : Tree} → IsRead p os M i n os M i n

@@ -1,4 +1,4 @@
--- What a notation tells by its form.
+-- What the form of a notation says.
 pub mod Forms
 pub mod Opened
 pub mod Next

@@ -41,7 +41,7 @@ fn fill(bits: &[bool], buffer: &mut BitBuf) -> Result<(), AllocError>
     Ok(())
 }
 
-/// Bits in octets, the last one filled with zeros.
+/// The bits in octets, the last one filled with zeros.
 pub(crate) fn packed(alloc: Global, bits: &[bool]) -> Result<BitString, AllocError>
     ensures { IfOk result (λ b. bits_of b ≡ bits.now) }
 {
@@ -65,7 +65,7 @@ fn binary_bits(alloc: Global, digits: &[u8]) -> Result<Vec<bool>, AllocError>
     Ok(bits)
 }
 
-/// The bits of hexadecimal digits, four a digit.
+/// The bits of hexadecimal digits, four for each digit.
 fn hex_bits(alloc: Global, digits: &[u8]) -> Result<Vec<bool>, AllocError>
     ensures { IfOk result (λ s. s.items ≡ flat_map bits_of_digit digits.now) }
 {
@@ -79,7 +79,7 @@ fn hex_bits(alloc: Global, digits: &[u8]) -> Result<Vec<bool>, AllocError>
     Ok(bits)
 }
 
-/// The place of a bit by its name.
+/// The place of a bit by its name, or None if the type has no bit of this name.
 fn bit_place(bits: &[NamedBit], name: &str) -> Option<u128>
     ensures { result ≡ under name.now (map bit_of bits.now) }
 {

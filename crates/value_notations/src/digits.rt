@@ -6,7 +6,7 @@ ghost use Rattle.value_notations.specs.Leaves.{AreOctets};
 
 use std::alloc::{AllocError, Global};
 
-/// The number that digits tell, the first one the highest, in eight bits.
+/// The number that these digits are, which fits in eight bits, the first digit the most significant.
 fn octet(digits: &[u8], base: u8) -> u8
     requires base { 0 < base }
     requires below { AllBelowBase base digits.now }
@@ -20,7 +20,7 @@ fn octet(digits: &[u8], base: u8) -> u8
     number
 }
 
-/// The octets of binary digits, eight an octet, the last ones filled with zeros.
+/// The octets of binary digits, eight in each octet, the last one filled with zeros.
 pub(crate) fn bit_octets(alloc: Global, digits: &[u8]) -> Result<Vec<u8>, AllocError>
     requires { AllBelowBase 2 digits.now }
     ensures { IfOk result (λ os. AreOctets 2 8 digits.now os.items) }
@@ -37,7 +37,7 @@ pub(crate) fn bit_octets(alloc: Global, digits: &[u8]) -> Result<Vec<u8>, AllocE
     Ok(octets)
 }
 
-/// The octets of hexadecimal digits, two an octet, an odd last one filled with a zero.
+/// The octets of hexadecimal digits, two in each octet, an odd last one filled with a zero.
 pub(crate) fn hex_octets(alloc: Global, digits: &[u8]) -> Result<Vec<u8>, AllocError>
     requires { AllBelowBase 16 digits.now }
     ensures { IfOk result (λ os. AreOctets 16 2 digits.now os.items) }

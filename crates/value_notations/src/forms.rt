@@ -1,4 +1,4 @@
-//! What a notation tells by its form.
+//! What the form of a notation says.
 
 ghost use Rattle.std.specs.Prelude.{◌≡◌, map, option_map};
 ghost use Rattle.trees.specs.Values.{tree_of, trees, items};
@@ -90,7 +90,7 @@ pub(crate) fn items_in(notation: &ValueSyntax) -> Option<&[ValueSyntax]>
     }
 }
 
-/// Is the notation `NULL`?
+/// Whether the notation is `NULL`.
 pub(crate) fn is_null(notation: &ValueSyntax) -> bool
     ensures { result ≡ is_null (tree_of notation.now) }
 {
@@ -100,7 +100,7 @@ pub(crate) fn is_null(notation: &ValueSyntax) -> bool
     }
 }
 
-/// Is the notation `{}`?
+/// Whether the notation is `{}`.
 pub(crate) fn is_nothing(notation: &ValueSyntax) -> bool
     ensures { result ≡ is_nothing (tree_of notation.now) }
 {
@@ -110,7 +110,7 @@ pub(crate) fn is_nothing(notation: &ValueSyntax) -> bool
     }
 }
 
-/// The number that the only one of some notations is.
+/// The number that some notations are, if there is only one and it is a number of 0 or more.
 fn only_number(values: &[ValueSyntax]) -> Option<u128>
     ensures { result ≡ alone_in (items (trees (map tree_of values.now))) }
 {

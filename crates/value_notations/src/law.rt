@@ -9,7 +9,7 @@ ghost use Rattle.resolve.specs.Program.{Program};
 ghost use Rattle.value_notations.specs.Notations.{Notation};
 ghost use Rattle.value_notations.specs.Wrong.{Trouble, IsRead, IsWrongHere};
 
-/// In linked modules a notation stands for at most one value under a type.
+/// A notation in linked modules stands for at most one value under a type.
 pub fn one_value()
     ensures { (p : Program) (os : List ℕ) (M : Name) (i : ℕ) (n : Tree) (v w : AbstractValue)
         → IsApart p.modules
@@ -19,7 +19,7 @@ pub fn one_value()
         → v ≡ w }
 {}
 
-/// In linked modules a notation stands for no value where something is wrong with it, or with one that stands in it.
+/// A notation in linked modules stands for no value if something is wrong with it, or with one that is nested in it.
 pub fn wrong_stand_for_none()
     ensures { (p : Program) (os qs : List ℕ) (M K : Name) (i j : ℕ) (n m : Tree) (t : Trouble) (v : AbstractValue)
         → IsApart p.modules

@@ -25,12 +25,12 @@ use ranges::law::characters_below_128;
 use std::alloc::{AllocError, AllocFailed, Global};
 use trees::{NamedNumber, ValueSyntax};
 
-/// Why numbers give no value.
+/// Why numbers give no object identifier.
 #[derive(Clone, Copy, Debug, PartialEq, Eq)]
 pub(crate) enum NumbersFault {
     /// There was not enough memory.
     Memory,
-    /// An object identifier has more than 64 numbers, or one from 2^64 on.
+    /// An object identifier has more than 64 numbers, or one of 2^64 or more.
     Oid,
 }
 
@@ -61,7 +61,7 @@ pub(crate) fn truth(notation: &ValueSyntax) -> Option<Value>
     }
 }
 
-/// The number of a name in a list.
+/// The number of a name in a list, or None if the list doesn't have it.
 pub(crate) fn number_under(numbers: &[NamedNumber], name: &str) -> Option<i128>
     ensures { result ≡ under name.now (map number_of numbers.now) }
 {
@@ -127,7 +127,7 @@ pub(crate) fn octet_string(
     }
 }
 
-/// Do numbers begin as an object identifier does (X.680, 32.3; X.660)?
+/// Whether numbers begin as an object identifier does (X.680, 32.3; X.660).
 fn is_rooted(numbers: &[u128]) -> bool
     ensures yes { result ≡ true → IsRooted numbers.now }
     ensures no { IsRooted numbers.now → result ≡ true }
@@ -139,7 +139,7 @@ fn is_rooted(numbers: &[u128]) -> bool
     }
 }
 
-/// The numbers, where they pass no limit.
+/// The numbers, or `Oid` if they pass a limit.
 fn within_limit(alloc: Global, numbers: &[u128]) -> Result<Vec<u64>, NumbersFault>
     ensures ok { IfOk result (λ all. all.items ≡ numbers.now) }
     ensures within { OnOk result (ArePastLimit numbers.now → ⊥) }
@@ -210,7 +210,7 @@ pub(crate) fn relative_identifier(
     }
 }
 
-/// The text of octets, where they are UTF-8 (X.680, 41.3).
+/// The text of octets, if they are UTF-8 (X.680, 41.3).
 pub(crate) fn utf8_text(alloc: Global, notation: &ValueSyntax) -> Result<Option<Value>, AllocError>
     ensures { IfOk result (Tells a_utf8_string (tree_of notation.now)) }
 {
@@ -224,7 +224,7 @@ pub(crate) fn utf8_text(alloc: Global, notation: &ValueSyntax) -> Result<Option<
     }
 }
 
-/// Are all octets characters of a string type (X.680, 41)?
+/// Whether all octets are characters of a string type (X.680, 41).
 fn are_characters(kind: StringKind, octets: &[u8]) -> bool
     ensures yes { result ≡ true → AllByRecursion (λ c. IsTrue (is_character kind c)) octets.now }
     ensures no { AllByRecursion (λ c. IsTrue (is_character kind c)) octets.now → result ≡ true }

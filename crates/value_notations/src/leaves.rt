@@ -31,11 +31,12 @@ use type_table::{NumberFault, item_numbers};
 pub enum LeafFault<'a> {
     /// There was not enough memory.
     Memory,
-    /// The notation is of another form than the type's, or has a character that is none of the type's.
+    /// The notation is of another form than the type's, or has a character that the type doesn't have.
     NotOfType,
     /// This name in braces is no bit of the type.
     UnknownBit(&'a ValueSyntax),
-    /// It stands for an object identifier, a relative one or not, of more than 64 numbers or with one from 2^64 on.
+    /// The notation stands for an object identifier, a relative one or not, with more than 64 numbers or with one of
+    /// 2^64 or more.
     Oid,
 }
 
@@ -168,7 +169,7 @@ fn item_value(number: i128) -> Value
     Value::Enum(number)
 }
 
-/// The number that stands at a place among those of an enumeration, if there is one.
+/// The number at a place among those of an enumeration, if there is one.
 fn number_at<'a>(
     alloc: Global,
     given: &EnumeratedSyntax,
@@ -250,10 +251,11 @@ fn bits_value<'a>(
 }
 
 /// The value that a notation stands for under a type that holds no other types (X.680, clauses 18 to 24, 32, 33 and
-/// 41), which is one of the type but for its constraints. The notation is no reference to a value: `follow` answers
-/// such. Numbers of an enumeration are counted anew, so it takes time by their number. Err: the notation is of another
-/// form or has a character that the type has not, a name in braces is no bit, an object identifier passes the limit, or
-/// memory is wanting.
+/// 41). It is a value of the type apart from its constraints. The notation is no reference to a value: `follow`
+/// resolves those. The numbers of an enumeration are counted anew, so the time grows with how many there are.
+///
+/// `NotOfType`: the notation is of another form, or has a character that the type doesn't have. `UnknownBit`: a name in
+/// braces is no bit. `Oid`: an object identifier passes the limit. `Memory`: there is not enough memory.
 pub fn leaf<'a>(
     alloc: Global,
     simple: &Simple,

@@ -9,7 +9,7 @@ use std::marker::Model;
 /// The numbers of the values whose notations are being read, the latest first.
 #[derive(Drop)]
 pub struct Opened {
-    /// The latest last.
+    /// The numbers in the order in which they were added: the latest last.
     numbers: Vec<usize>,
 }
 
@@ -22,7 +22,7 @@ impl Model for Opened {
 }
 
 impl Opened {
-    /// None. It takes no memory.
+    /// An empty list. The call takes no memory.
     pub fn new(alloc: Global) -> Self
         ensures { result ≡ [] }
     {
@@ -31,7 +31,7 @@ impl Opened {
         }
     }
 
-    /// How many there are.
+    /// How many values there are.
     #[tactic(auto, using(crate::proofs::Opening::counted))]
     pub fn count(&self) -> usize
         ensures { result ≡ length self.now }
@@ -39,7 +39,7 @@ impl Opened {
         self.numbers.len()
     }
 
-    /// Leaves the earliest ones, as many as are counted.
+    /// Keeps the `count` earliest values, and removes the others.
     #[tactic(auto, using(crate::proofs::Opening::closed))]
     pub fn close(&mut self, count: usize)
         ensures { (xs os : List ℕ) → self.old ≡ xs ++ os → length os ≡ count → self.new ≡ os }
@@ -47,7 +47,7 @@ impl Opened {
         self.numbers.truncate(count);
     }
 
-    /// Is a value among them?
+    /// Whether a value is among them.
     #[tactic(auto, using(crate::proofs::Opening::held, crate::proofs::Opening::not_held))]
     pub(crate) fn holds(&self, number: usize) -> bool
         ensures yes { result ≡ true → StandsIn self.now number }
@@ -56,7 +56,7 @@ impl Opened {
         self.numbers.as_slice().contains(&number)
     }
 
-    /// One more, the latest. An `Err` adds none.
+    /// Adds one more value, as the latest. An `Err` adds none.
     #[tactic(auto, using(crate::proofs::Opening::opened_more))]
     pub(crate) fn open(&mut self, number: usize) -> Result<(), AllocError>
         ensures ok { OnOk result (self.new ≡ number ∷ self.old) }

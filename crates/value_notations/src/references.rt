@@ -1,4 +1,4 @@
-//! What a notation is behind its references.
+//! The notation to which the references of a notation lead.
 
 ghost use Rattle.std.specs.Prelude.{IsUtf8, ◌≡◌, ◌<◌, ◌++◌, ℕ, List, length, map, true, false, IfOk, IfErr, IfSome, MatchOption, Some, slice_get, option_map, string_bytes};
 ghost use Rattle.trees.specs.Values.{tree_of};
@@ -22,7 +22,7 @@ use trees::{
 };
 use type_table::Shape;
 
-/// Why a notation leads to none that tells a value by itself.
+/// Why the references of a notation lead to no value.
 #[derive(Clone, Copy)]
 pub enum FollowFault<'a> {
     /// There was not enough memory.
@@ -35,20 +35,20 @@ pub enum FollowFault<'a> {
     Circular(usize, &'a str, &'a ValueSyntax),
 }
 
-/// What stands behind a notation.
+/// What a notation leads to.
 #[derive(Clone, Copy)]
 pub(crate) enum Next {
-    /// Nothing: it is no name, or one of the type's.
+    /// The notation itself: it is no name, or one of the type's names.
     Itself,
     /// The value of this number.
     Behind(usize),
-    /// Nothing, though it is a name.
+    /// Nothing, though the notation is a name.
     Nothing,
     /// The value of this number, which is being read already.
     Again(usize),
 }
 
-/// Where an item stands in a list.
+/// The place of an item in a list, or None if no item has this name.
 fn place_in(items: &[EnumeratedItem], name: &str) -> Option<usize>
     ensures { MatchOption result (StandsIn (names_of (map item_of items.now)) name.now → ⊥)
         (λ i. slice_get (names_of (map item_of items.now)) i ≡ Some name.now) }
@@ -61,7 +61,7 @@ fn place_in(items: &[EnumeratedItem], name: &str) -> Option<usize>
     None
 }
 
-/// Where an item stands among those of the root and then the additions.
+/// The place of an item among those of the root and then the additions, or None if no item has this name.
 pub(crate) fn item_place(given: &EnumeratedSyntax, name: &str) -> Option<usize>
     ensures { MatchOption result (StandsIn (names_of (root_of given.now ++ more_of given.now)) name.now → ⊥)
         (λ i. slice_get (names_of (root_of given.now ++ more_of given.now)) i ≡ Some name.now) }
@@ -79,7 +79,7 @@ pub(crate) fn item_place(given: &EnumeratedSyntax, name: &str) -> Option<usize>
     }
 }
 
-/// Is a name one of some numbers'?
+/// Whether a name is that of one of some numbers.
 fn has_number(numbers: &[NamedNumber], name: &str) -> bool
     ensures yes { result ≡ true → StandsIn (names_of (map number_of numbers.now)) name.now }
     ensures no { result ≡ false → StandsIn (names_of (map number_of numbers.now)) name.now → ⊥ }
@@ -90,7 +90,7 @@ fn has_number(numbers: &[NamedNumber], name: &str) -> bool
     }
 }
 
-/// Is a name one of the numbers or items of a type?
+/// Whether a name is one of the numbers or items of a type.
 fn is_named(shape: &Shape, reference: &Reference) -> bool
     ensures yes { result ≡ true → IsNamed (kind_of shape.now)
         (option_map string_bytes reference.now.module) (string_bytes reference.now.name) }
@@ -111,7 +111,7 @@ fn is_named(shape: &Shape, reference: &Reference) -> bool
     }
 }
 
-/// The value that a name stands for in a module.
+/// The value that a name means in a module, or None if it means no value.
 fn named_value(linked: &Linked, within: &str, reference: &Reference) -> Option<usize>
     ensures means { (j : ℕ) → result ≡ Some j → Refers linked.now.modules within.now
         (option_map string_bytes reference.now.module) (string_bytes reference.now.name) (AValue j) }
@@ -127,7 +127,7 @@ fn named_value(linked: &Linked, within: &str, reference: &Reference) -> Option<u
     }
 }
 
-/// What stands behind a notation that is read in a module under a type of a shape.
+/// What a notation leads to that is read in a module under a type of a shape.
 fn next_of(
     linked: &Linked,
     opened: &Opened,
@@ -177,11 +177,14 @@ fn notation_at(linked: &Linked, number: usize) -> (&str, &ValueSyntax)
     (home.module, &value.syntax)
 }
 
-/// The notation that a notation is behind its references, and the module that it is read in (X.680, clauses 13.2,
-/// 17.11,
-/// 19.10 and 20.8): the first that is no name, or is the name of a number or an item of the type. The notation is read
-/// in `within` under a type of this shape, which is no reference and no tag. `opened` are the values that are being
-/// read; those whose notations are passed become the latest of them. Each step looks through them all.
+/// The notation to which the references of a notation lead, and the module that it is read in (X.680, clauses 13.2,
+/// 17.11, 19.10 and 20.8). It is the first notation that is no name, or that is the name of a number or an item of the
+/// type. The notation is read in `within` under a type of this shape, which is no reference and no tag. `opened` are
+/// the values that are being read; those whose notations are passed are added to it. Each step looks through all of
+/// them.
+///
+/// `Lost`: a name means neither something of the type nor a value. `Circular`: a name means a value that is being read
+/// already. `Memory`: there is not enough memory.
 pub fn follow<'a>(
     linked: &'a Linked,
     opened: &mut Opened,

@@ -1,4 +1,4 @@
--- The text that a value is printed in: its value notation (X.680, 18 to 29, 32, 33 and 41).
+-- The text in which a value is printed: its value notation (X.680, clauses 18 to 29, 32, 33 and 41).
 use Rattle.std.specs.Prelude.{◌≡◌, String, string_bytes}
 use Rattle.std.specs.Prelude.{ℕ, ◌+◌, ◌-◌, ◌*◌, nat_le, ◌/◌, ◌%◌, ◌&&◌, ◌==◌, ℤ, Bool, List, [], ◌∷◌, ◌++◌}
 use Rattle.std.specs.Prelude.{length, take, flat_map, Option, Some, None, slice_get, codes, decimal, if◌then◌else◌}
@@ -15,93 +15,101 @@ use Rattle.asn_base.specs.Schemas.{components}
 abbrev pub Adds : {Z : Type 0} → String Z → String Z → List ℕ → Type 0
 Adds old new added = string_bytes new ≡ string_bytes old ++ added
 
--- ---- what stands in braces, apostrophes or quotes
+-- ---- texts in braces, apostrophes or quotes
 
+-- the octets x of a text between braces
 abbrev pub braced : List ℕ → List ℕ
 braced x = codes "{" ++ (x ++ codes "}")
 
+-- the notation TRUE or FALSE of a BOOLEAN (X.680, clause 18)
 abbrev pub truth_text : Bool → List ℕ
 truth_text b = if b then codes "TRUE" else codes "FALSE"
 
--- the bits of these octets but the last unused ones
+-- the bits of these octets without the last unused ones
 abbrev pub bits_in : (unused : ℕ) → List ℕ → List Bool
 bits_in unused os = take (8 * length os - unused) (flat_map bits_of_octet os)
 
--- a digit a bit
+-- the binary digits of bits, one for each, as octets of text
 abbrev pub bit_digits : List Bool → List ℕ
 bit_digits [] = []
 bit_digits (b ∷ bs) = (if b then 49 else 48) ∷ bit_digits bs
 
+-- the notation of bits, as in '01'B, with a binary digit for each bit (X.680, clauses 12.10 and 22)
 abbrev pub bit_text : List Bool → List ℕ
 bit_text bs = codes "'" ++ (bit_digits bs ++ codes "'B")
 
--- 0 to 9, and the capitals from A on
+-- the hexadecimal digit of a number below 16, as an octet of text: 0 to 9, and the capitals from A on
 abbrev pub hex_digit : ℕ → ℕ
 hex_digit n = if nat_le n 9 then 48 + n else (55 + n)
 
--- two digits an octet, the high one first
+-- the hexadecimal digits of octets, two for each, the high one first
 abbrev pub hex_digits : List ℕ → List ℕ
 hex_digits [] = []
 hex_digits (o ∷ os) = hex_digit (o / 16) ∷ hex_digit (o % 16) ∷ hex_digits os
 
+-- the notation of octets, as in '01AF'H, with two hexadecimal digits for each octet (X.680, clauses 12.12 and 23)
 abbrev pub hex_text : List ℕ → List ℕ
 hex_text o = codes "'" ++ (hex_digits o ++ codes "'H")
 
--- each quote twice
+-- the octets of a text with each quote in it twice (X.680, clause 12.14)
 abbrev pub doubled : List ℕ → List ℕ
 doubled [] = []
 doubled (c ∷ o) = if c == 34 then (34 ∷ 34 ∷ doubled o) else (c ∷ doubled o)
 
+-- the octets of a text between quotes, with each quote in it twice (X.680, clauses 12.14 and 41)
 abbrev pub quoted : List ℕ → List ℕ
 quoted o = codes "\"" ++ (doubled o ++ codes "\"")
 
--- LF, VT, FF and CR end a line (12.1.6)
+-- whether octet c of a value's text is LF, VT, FF or CR, which end a line (X.680, clause 12.1.6)
 abbrev pub is_line_end : ℕ → Bool
 is_line_end c = nat_le 10 c && nat_le c 13
 
--- a text, which stands on one line, or else its octets
+-- a text in quotes if no character in it ends a line, else the hexadecimal notation of its octets (own rule)
 abbrev pub string_text : List ℕ → List ℕ
 string_text o = if list_any is_line_end o then hex_text o else quoted o
 
--- numbers with a space between, and what stands before the first
+-- numbers in decimal with a space between, and the text `before` in front of the first one
 abbrev pub spaced : List ℕ → List ℕ → List ℕ
 spaced before [] = []
 spaced before (n ∷ ns) = before ++ (decimal n ++ spaced (codes " ") ns)
 
--- what stands before a member
+-- the text before a member: nothing if it is the first one, else a comma and a space
 abbrev pub comma_behind : (first : Bool) → List ℕ
 comma_behind first = if first then [] else codes ", "
 
--- ---- what the type tells
+-- ---- what the type says
 
+-- the kind of a resolved type, or that of NULL if there is no type
 abbrev pub kind_in : Option Resolved → Kind
 kind_in None = a_null
 kind_in (Some r) = r.kind
 
--- the kind of type t
+-- the kind of type t of schema s, or that of NULL if there is no such type
 abbrev pub kind_at : List Resolved → ℕ → Kind
 kind_at s t = kind_in (slice_get s t)
 
--- the items of an enumeration
+-- the items of an enumeration, root and additions, and none for another kind
 abbrev pub items_in : Kind → List Item
 items_in (an_enumerated root e more) = root ++ more
 items_in k = []
 
--- the identifier of the first item with the number
+-- the identifier of the first item with number z, None if no item has it
 abbrev pub name_with : List Item → ℤ → Option (List ℕ)
 name_with [] z = None
 name_with (i ∷ is) z = if int_eq i.number z then Some i.name else name_with is z
 
+-- the octets of an identifier, and no octets if there is none
 abbrev pub name_in : Option (List ℕ) → List ℕ
 name_in None = []
 name_in (Some x) = x
 
--- the type of the elements
+-- the number of the type of the elements of a SEQUENCE OF or SET OF, None for another kind
 abbrev pub element_in : Kind → Option ℕ
 element_in (a_sequence_of c u) = Some u
 element_in (a_set_of c u) = Some u
 element_in k = None
 
+-- the alternatives of a CHOICE, root and additions in order, and none for another kind
 abbrev pub alternatives_in : Kind → List Alternative
 alternatives_in (a_choice root e more) = root ++ more
 alternatives_in k = []
@@ -109,7 +117,7 @@ alternatives_in k = []
 -- ---- values
 
 abbrev mutual
-  -- the text of a value of type t
+  -- the value notation of v, a value of type t of schema s, in octets (X.680, clauses 18 to 29, 32, 33 and 41)
   pub print : List Resolved → ℕ → AbstractValue → List ℕ
   print s t (boolean b) = truth_text b
   print s t (integer z) = signed_decimal z
@@ -130,7 +138,8 @@ abbrev mutual
     | Some a ↦ a.name ++ (codes " : " ++ print s a.type v)
   ]
 
-  -- the components that are present, each with its name, and what stands before the first
+  -- The text of the components that are present, each after its name, in order of definition. The text `before` comes
+  -- in front of the first one, and a comma and a space between.
   pub print_fields : List Resolved → List Component → List ℕ → Row → List ℕ
   print_fields s [] before vs = []
   print_fields s (c ∷ cs) before end = []
@@ -138,7 +147,8 @@ abbrev mutual
   print_fields s (c ∷ cs) before (present v vs) =
       before ++ (c.name ++ (codes " " ++ (print s c.type v ++ print_fields s cs (codes ", ") vs)))
 
-  -- elements of type u
+  -- The text of the elements, all of type u, in order. The text `before` comes in front of the first one, and a comma
+  -- and a space between.
   pub print_elements : List Resolved → ℕ → List ℕ → Row → List ℕ
   print_elements s u before end = []
   print_elements s u before (absent vs) = print_elements s u before vs

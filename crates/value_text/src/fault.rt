@@ -6,8 +6,7 @@ ghost use Rattle.value_text.specs.declared.fault.Fault.TheVariants.{Memory};
 use std::alloc::AllocError;
 use thiserror::Error;
 
-/// Why a value was not printed: `Memory`, where more memory was asked for and refused; `NotOfType`, where it is no
-/// value of the type.
+/// Why a value was not printed. `Memory`: there was not enough memory. `NotOfType`: it is no value of the type.
 #[derive(Clone, Copy, Debug, PartialEq, Eq, Error)]
 pub enum Fault {
     #[error("1 Memory")]

@@ -1,5 +1,5 @@
-//! Values that hold no others, as text behind what stands in `out`. Each call is refused for want of memory alone; then
-//! what stands in `out` is of no more use.
+//! Values that hold no others, as text that is added to `out`. Each call fails only if there is not enough memory; then
+//! the text in `out` is of no more use.
 
 ghost use Rattle.asn_base.specs.Abstract.{bits_of_octet};
 ghost use Rattle.std.specs.Fmt.{signed_decimal};
@@ -9,7 +9,7 @@ ghost use Rattle.value_text.specs.Print.{hex_digits, hex_text, spaced, truth_tex
 
 use std::alloc::AllocError;
 
-/// The text is added.
+/// Adds the text.
 pub fn append(out: &mut String, text: &str) -> Result<(), AllocError>
     ensures { IfOk result (λ _. Adds out.old out.new text.now) }
 {
@@ -17,7 +17,7 @@ pub fn append(out: &mut String, text: &str) -> Result<(), AllocError>
     Ok(())
 }
 
-/// A comma and a space, but before the first member.
+/// Adds a comma and a space, unless the member after them is the first one.
 pub fn append_comma(out: &mut String, first: bool) -> Result<(), AllocError>
     ensures { IfOk result (λ _. Adds out.old out.new (comma_behind first)) }
 {
@@ -25,7 +25,7 @@ pub fn append_comma(out: &mut String, first: bool) -> Result<(), AllocError>
     Ok(())
 }
 
-/// TRUE or FALSE.
+/// Adds TRUE or FALSE.
 pub fn append_truth(out: &mut String, truth: bool) -> Result<(), AllocError>
     ensures { IfOk result (λ _. Adds out.old out.new (truth_text truth)) }
 {
@@ -33,7 +33,7 @@ pub fn append_truth(out: &mut String, truth: bool) -> Result<(), AllocError>
     Ok(())
 }
 
-/// A number in decimal.
+/// Adds a number in decimal.
 pub fn append_number(out: &mut String, number: i128) -> Result<(), AllocError>
     ensures { IfOk result (λ _. Adds out.old out.new (signed_decimal number)) }
 {
@@ -42,7 +42,7 @@ pub fn append_number(out: &mut String, number: i128) -> Result<(), AllocError>
     Ok(())
 }
 
-/// A digit 0 or 1 for each bit.
+/// Adds a digit 0 or 1 for each bit.
 fn append_bits(out: &mut String, bits: &[bool]) -> Result<(), AllocError>
     ensures { IfOk result (λ _. Adds out.old out.new (bit_digits bits.now)) }
 {
@@ -52,7 +52,7 @@ fn append_bits(out: &mut String, bits: &[bool]) -> Result<(), AllocError>
     Ok(())
 }
 
-/// The first bits of an octet, so many.
+/// Adds the first `count` bits of an octet.
 fn append_octet_bits(out: &mut String, octet: u8, count: usize) -> Result<(), AllocError>
     requires { count ≤ 8 }
     ensures { IfOk result (λ _. Adds out.old out.new (bit_digits (take count (bits_of_octet octet)))) }
@@ -71,7 +71,7 @@ fn append_octet_bits(out: &mut String, octet: u8, count: usize) -> Result<(), Al
     Ok(())
 }
 
-/// The bits of these octets but the last `unused` ones, in apostrophes.
+/// Adds the bits of these octets without the last `unused` ones, in apostrophes.
 pub fn append_bit_string(out: &mut String, octets: &[u8], unused: u8) -> Result<(), AllocError>
     requires few_unused { unused < 8 }
     ensures { IfOk result (λ _. Adds out.old out.new (bit_text (bits_in unused octets.now))) }
@@ -82,7 +82,7 @@ pub fn append_bit_string(out: &mut String, octets: &[u8], unused: u8) -> Result<
     Ok(())
 }
 
-/// The bits, those of the last octet without the unused ones.
+/// Adds the bits of these octets without the last `unused` ones.
 fn append_bits_of(out: &mut String, octets: &[u8], unused: u8) -> Result<(), AllocError>
     requires few_unused { unused < 8 }
     ensures { IfOk result (λ _. Adds out.old out.new (bit_digits (bits_in unused octets.now))) }
@@ -99,7 +99,7 @@ fn append_bits_of(out: &mut String, octets: &[u8], unused: u8) -> Result<(), All
     Ok(())
 }
 
-/// The hexadecimal digit, with a capital.
+/// The hexadecimal digit, as a capital from 10 on.
 fn hex_character(digit: u8) -> char
     requires { digit < 16 }
     ensures value { result ≡ hex_digit digit }
@@ -112,7 +112,7 @@ fn hex_character(digit: u8) -> char
     }
 }
 
-/// Two hexadecimal digits for each octet.
+/// Adds two hexadecimal digits for each octet.
 fn append_hex_digits(out: &mut String, octets: &[u8]) -> Result<(), AllocError>
     ensures { IfOk result (λ _. Adds out.old out.new (hex_digits octets.now)) }
 {
@@ -123,7 +123,7 @@ fn append_hex_digits(out: &mut String, octets: &[u8]) -> Result<(), AllocError>
     Ok(())
 }
 
-/// Octets as hexadecimal digits in apostrophes.
+/// Adds octets as hexadecimal digits in apostrophes.
 pub fn append_octets(out: &mut String, octets: &[u8]) -> Result<(), AllocError>
     ensures { IfOk result (λ _. Adds out.old out.new (hex_text octets.now)) }
 {
@@ -133,7 +133,7 @@ pub fn append_octets(out: &mut String, octets: &[u8]) -> Result<(), AllocError>
     Ok(())
 }
 
-/// Numbers in decimal with a space between.
+/// Adds numbers in decimal with a space between.
 fn append_spaced(out: &mut String, numbers: &[u64]) -> Result<(), AllocError>
     ensures { IfOk result (λ _. Adds out.old out.new (spaced [] numbers.now)) }
 {
@@ -145,7 +145,7 @@ fn append_spaced(out: &mut String, numbers: &[u64]) -> Result<(), AllocError>
     Ok(())
 }
 
-/// The numbers of an object identifier in braces.
+/// Adds the numbers of an object identifier in braces.
 pub fn append_arcs(out: &mut String, arcs: &[u64]) -> Result<(), AllocError>
     ensures { IfOk result (λ _. Adds out.old out.new (braced (spaced [] arcs.now))) }
 {

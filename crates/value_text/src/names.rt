@@ -1,4 +1,4 @@
-//! What a type tells of its values: names and the types of members.
+//! What a type says of its values: names and the types of members.
 
 ghost use Rattle.asn_base.specs.Schemas.{AreItems, IsSound, NumbersAscend, components};
 ghost use Rattle.asn_base.specs.Seen.{alternative_of, component_of, item_of, kind_of};
@@ -32,7 +32,7 @@ fn name_among(items: &[Item], number: i128) -> Option<&str>
     None
 }
 
-/// The name of the item with the number in items that ascend. It may be None where there is one, but then they don't.
+/// The name of the item with the number, in items that ascend. In items that don't ascend, the item may be missed.
 fn name_found(items: &[Item], number: i128) -> Option<&str>
     requires { NumbersAscend (map item_of items.now) }
     ensures { IfSome result (λ n. name_with (map item_of items.now) number ≡ Some n.now) }
@@ -50,7 +50,7 @@ fn name_found(items: &[Item], number: i128) -> Option<&str>
     }
 }
 
-/// The name of the first item with the number: each is looked at, those of the root first.
+/// The name of the first item with the number: each item is compared, those of the root first.
 fn name_of_any(items: &Items, number: i128) -> Option<&str>
     ensures { let name = name_with (map item_of items.now.root.items ++ map item_of items.now.additions.items) number in
         MatchOption result (name ≡ None) (λ n. name ≡ Some n.now) }
@@ -61,7 +61,7 @@ fn name_of_any(items: &Items, number: i128) -> Option<&str>
     }
 }
 
-/// The name of the item with the number. Only for a number that no item has each item is looked at.
+/// The name of the item with the number. All items are compared only if a binary search finds none.
 fn name_of(items: &Items, number: i128) -> Option<&str>
     requires { AreItems items.now.extensible
         (map item_of items.now.root.items)

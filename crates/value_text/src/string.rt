@@ -1,4 +1,4 @@
-//! Texts (X.680, 12.14 and 41), behind what stands in `out`.
+//! Texts (X.680, 12.14 and 41), added to `out`.
 
 ghost use Rattle.std.specs.List.{list_any};
 ghost use Rattle.std.specs.Prelude.{◌≡◌, IfOk};
@@ -7,7 +7,7 @@ ghost use Rattle.value_text.specs.Print.{Adds, doubled, is_line_end, quoted, str
 use crate::leaf::{append, append_octets};
 use std::alloc::AllocError;
 
-/// Whether a character stands there that ends a line: LF, VT, FF or CR.
+/// Whether a text has a character that ends a line: LF, VT, FF or CR.
 fn has_line_end(octets: &[u8]) -> bool
     ensures { result ≡ list_any is_line_end octets.now }
 {
@@ -19,7 +19,7 @@ fn has_line_end(octets: &[u8]) -> bool
     false
 }
 
-/// The text with each quote twice.
+/// Adds the text with each quote twice.
 fn append_doubled(out: &mut String, text: &str) -> Result<(), AllocError>
     ensures { IfOk result (λ _. Adds out.old out.new (doubled text.now)) }
 {
@@ -32,7 +32,7 @@ fn append_doubled(out: &mut String, text: &str) -> Result<(), AllocError>
     Ok(())
 }
 
-/// The text in quotes.
+/// Adds the text in quotes.
 fn append_quoted(out: &mut String, text: &str) -> Result<(), AllocError>
     ensures { IfOk result (λ _. Adds out.old out.new (quoted text.now)) }
 {
@@ -42,7 +42,7 @@ fn append_quoted(out: &mut String, text: &str) -> Result<(), AllocError>
     Ok(())
 }
 
-/// The text in quotes, or its octets as hexadecimal digits where a line ends in it.
+/// Adds the text in quotes, or its octets as hexadecimal digits if a line ends in it.
 pub fn append_string(out: &mut String, text: &str) -> Result<(), AllocError>
     ensures { IfOk result (λ _. Adds out.old out.new (string_text text.now)) }
 {

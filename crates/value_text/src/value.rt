@@ -20,7 +20,7 @@ use asn_base::schema::{Component, Core, Schema, TypeId};
 use asn_base::value::Value;
 use std::alloc::{AllocError, Global};
 
-/// The text of the value is added.
+/// Adds the text of the value.
 #[cycle(printing)]
 fn print_value(
     schema: &Schema,
@@ -68,7 +68,7 @@ fn print_value(
     }
 }
 
-/// The components that are present, each with its name, and commas between.
+/// Adds the components that are present, each with its name, and commas between them.
 #[cycle(printing)]
 fn print_fields(
     schema: &Schema,
@@ -99,7 +99,7 @@ fn print_fields(
     Ok(())
 }
 
-/// The elements with commas between.
+/// Adds the elements with commas between them.
 #[cycle(printing)]
 fn print_elements(
     schema: &Schema,
@@ -120,7 +120,7 @@ fn print_elements(
     Ok(())
 }
 
-/// The text of the value, its limits and its type apart: no memory is taken but for the text.
+/// The text of the value, without a check that it is one of the type. Only the text takes memory.
 fn text_of(alloc: Global, schema: &Schema, id: TypeId, value: &Value) -> Result<String, AllocError>
     requires there { id.index < length schema.now }
     ensures { IfOk result (λ s. string_bytes s ≡ print schema.now id.index (abstract value.now)) }
@@ -132,19 +132,20 @@ fn text_of(alloc: Global, schema: &Schema, id: TypeId, value: &Value) -> Result<
 
 /// A value of type `id` in value notation (X.680, 18 to 29, 32, 33 and 41).
 ///
-/// `TRUE`, `FALSE` and `NULL`; numbers in decimal; an item of an enumeration by its identifier; bits as `'01'B` and
-/// octets as `'01AF'H`; a text in `"` with each quote twice, or as the `'..'H` of its octets where LF, VT, FF or CR
-/// stands in it; `{1 2 840}`; `{a 1, b TRUE}` with the components that are present in order of definition, `{}` where
-/// none is; `{1, 2}`; `a : 1`. A comma is followed by one space. No memory is taken but for the text.
+/// `TRUE`, `FALSE` and `NULL` are printed so, and numbers in decimal; an item of an enumeration by its identifier. Bits
+/// are printed as `'01'B` and octets as `'01AF'H`. A text is in `"` with each quote twice; if it contains LF, VT, FF or
+/// CR it is printed as the `'..'H` of its octets. An object identifier is `{1 2 840}`. A SEQUENCE or SET is `{a 1, b
+/// TRUE}`, with the components that are present in order of definition, or `{}` if none is. Elements are `{1, 2}`, and
+/// an alternative is `a : 1`. A comma is followed by one space. Only the text takes memory.
 ///
-/// - `NotOfType`: just where it is no value of the type.
-/// - `Memory`: it is one, and more memory was asked for and refused.
+/// - `NotOfType`: exactly if it is no value of the type.
+/// - `Memory`: it is one, and there is not enough memory.
 #[tactic(auto, using(crate::proofs::Members::value_there))]
 pub fn print(alloc: Global, schema: &Schema, id: TypeId, value: &Value) -> Result<String, Fault>
-    // What is printed is a value of the type.
+    // Only a value of the type is printed.
     ensures value { IfOk result (λ s. IsValue schema.now id.index (abstract value.now)) }
     ensures text { IfOk result (λ s. string_bytes s ≡ print schema.now id.index (abstract value.now)) }
-    // It is refused as no value only where it is none, and for want of memory only where it is one.
+    // `NotOfType` comes only if it is no value of the type, and `Memory` only if it is one.
     ensures not_of_type { IsErrOf result Fault.NotOfType → IsValue schema.now id.index (abstract value.now) → ⊥ }
     ensures memory { IsErrOf result Fault.Memory → IsValue schema.now id.index (abstract value.now) }
 {

@@ -1,4 +1,4 @@
--- What constraints of a type allow, whatever the type is behind its references and tags.
+-- What the constraints of a type allow, whatever the type is after its references and tags (X.680, clauses 49 to 51).
 use Rattle.std.specs.Prelude.{ℕ, ℤ}
 use Rattle.asn_base.specs.declared.strings.StringKind.{StringKind}
 use Rattle.trees.specs.Types.{a_restricted_string}
@@ -7,10 +7,10 @@ use Rattle.resolve.specs.Program.{Program}
 use Rattle.range_ends.specs.Ends.{IsOfKind}
 use Rattle.constraints.specs.Allowed.{IsAllowed, IsInAlphabet}
 
--- type i allows number or size z
+-- the constraints of type i of program p allow number or size z in a value
 abbrev pub Allows : Program → ℕ → ℤ → Type 0
 Allows p i z = (k : Kind) → IsOfKind p.types i k → IsAllowed p k i z
 
--- it allows the character of code c
+-- type i of program p, if it is one of the four restricted string types, allows the character with code c
 abbrev pub AllowsCode : Program → ℕ → ℕ → Type 0
 AllowsCode p i c = (s : StringKind) → IsOfKind p.types i (simple (a_restricted_string s)) → IsInAlphabet p s i c

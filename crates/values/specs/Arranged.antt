@@ -1,5 +1,5 @@
--- When the names of fields in braces are arranged as those of components (X.680, clauses 25.18, 25.19 and 27.3), which
--- field each component has, and what faults say.
+-- When the names of fields in braces are arranged like those of components (X.680, clauses 25.18, 25.19 and 27.3),
+-- which field each component has, and what faults say.
 use Rattle.std.specs.Prelude.{◌≡◌, ◌<◌, ℕ, suc, List, [], ◌∷◌, Option, Some, None, cond, map, option_map, bytes_eq, slice_get, take}
 use Rattle.trees.specs.declared.types.ListKind.{ListKind}
 use Rattle.trees.specs.Values.{Name}
@@ -15,8 +15,8 @@ abbrev pub place_of : Name → List Name → Option ℕ
 place_of x [] = None
 place_of x (y ∷ ys) = cond (bytes_eq x y) (Some 0) (option_map suc (place_of x ys))
 
--- The names of fields are those of components as they have to be, none is missing, and these are the places of the
--- fields, in the order of components.
+-- The names of fields are arranged like those of components, none is missing, and these are the places of the fields,
+-- in the order of components.
 pub record IsArranged (k : ListKind) (cs : List Part) (fs : List Name) (ps : List (Option ℕ)) : Type 0 where
   pub arranged : AreArranged k (part_names cs) fs
   pub complete : (x : Name) → IsMissing cs fs x → ⊥
@@ -38,7 +38,7 @@ pub record IsRepeatedField (k : ListKind) (cs : List Part) (fs : List Name) (i :
   pub again : StandsIn (take i fs) name
   pub distinct_before : AreDistinct (take i fs)
 
--- P holds of the name of none of the first i components
+-- P is true of the name of none of the first i components
 abbrev pub NoneBefore : (Name → Type 0) → List Part → ℕ → Type 0
 NoneBefore P cs i = (j : ℕ) (c : Part) →
     j < i →
@@ -46,8 +46,8 @@ NoneBefore P cs i = (j : ℕ) (c : Part) →
     P c.name →
     ⊥
 
--- The component of this name, which is number i, is the first one that is missing: of those of the root, and where none
--- of these is, of the additions of groups.
+-- The component of this name, which is number i, is the first one that is missing. Components of the root are checked
+-- first, and then, if none of them is missing, the additions of groups.
 pub data IsFirstMissing (cs : List Part) (fs : List Name) (i : ℕ) (x : Name) : Type 0 where
   of_root :
       IsMissing cs fs x →
@@ -66,7 +66,7 @@ pub record IsMissingPart (k : ListKind) (cs : List Part) (fs : List Name) (i : �
   pub wrong : IsDisarranged k cs fs (missing part.name)
   pub first : IsFirstMissing cs fs i part.name
 
--- the name at this place is the first one that goes before the one that stands directly before it
+-- the name at this place is the first one that must come before the name directly before it
 pub record IsBehind (k : ListKind) (cs : List Part) (fs : List Name) (i : ℕ) : Type 0 where
   pub before : ℕ
   pub next : i ≡ suc before

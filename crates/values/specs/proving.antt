@@ -1,3 +1,3 @@
--- What only contracts inside the crate and proofs speak of.
+-- What only contracts inside the crate, and proofs, speak of.
 pub mod Arranging
 pub mod Judging

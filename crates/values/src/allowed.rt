@@ -1,4 +1,4 @@
-//! What constraints leave out of the values of types that hold no other types.
+//! The values of types that hold no other types, and which of them constraints exclude.
 
 ghost use Rattle.std.specs.Prelude.{◌≡◌, ◌<◌, ◌^◌, ◌↔◌, ℕ, ℤ, Bool as 𝔹, List, IsTrue, [], ◌∷◌, chars, length, map, option_map, pos};
 ghost use Rattle.std.specs.List.{AllByRecursion};
@@ -19,7 +19,7 @@ use asn_base::value::{BitString, Value};
 use constraints::{Bounded, allows_character, allows_number, allows_size};
 use trees::Simple;
 
-/// The number that a value is.
+/// The number that a value is, or None.
 fn integer_in(value: &Value) -> Option<i128>
     ensures { result ≡ integer_in' (abstract value.now) }
 {
@@ -30,7 +30,7 @@ fn integer_in(value: &Value) -> Option<i128>
     }
 }
 
-/// The bits that a value is.
+/// The bits that a value is, or None.
 fn bits_in(value: &Value) -> Option<&BitString>
     ensures { option_map (λ b. bits_of b.now) result ≡ bits_in' (abstract value.now) }
 {
@@ -41,7 +41,7 @@ fn bits_in(value: &Value) -> Option<&BitString>
     }
 }
 
-/// The octets that a value is.
+/// The octets that a value is, or None.
 fn octets_in(value: &Value) -> Option<&[u8]>
     ensures { option_map (λ o. o.now) result ≡ octets_in' (abstract value.now) }
 {
@@ -52,7 +52,7 @@ fn octets_in(value: &Value) -> Option<&[u8]>
     }
 }
 
-/// The text that a value is.
+/// The text that a value is, or None.
 fn text_in(value: &Value) -> Option<&str>
     ensures { option_map (λ o. o.now) result ≡ text_in' (abstract value.now) }
 {
@@ -63,7 +63,7 @@ fn text_in(value: &Value) -> Option<&str>
     }
 }
 
-/// How many bits it has.
+/// How many bits a bit string has.
 fn bit_count(bits: &BitString) -> u128
     ensures count { result ≡ length (bits_of bits.now) }
     ensures small { result < 2 ^ 127 }
@@ -72,14 +72,14 @@ fn bit_count(bits: &BitString) -> u128
     8 * octets - u128::from(bits.unused)
 }
 
-/// How many characters it has.
+/// How many characters a text has.
 fn character_count(text: &str) -> usize
     ensures { result ≡ length (chars text.now) }
 {
     text.chars().count()
 }
 
-/// Whether so many bits are allowed.
+/// Whether the size `count` is allowed.
 fn allows_count(bounded: &Bounded<'_>, ty: TypeId, count: u128) -> bool
     requires there { ty.index < length bounded.now.types }
     requires small { count < 2 ^ 127 }
@@ -165,8 +165,8 @@ fn allows_text(bounded: &Bounded<'_>, ty: TypeId, value: &Value) -> bool
 }
 
 /// Whether the constraints of a type allow a value of it: its number, its size in bits, octets or characters, and its
-/// characters (X.680, clause 51). The type is of this kind behind its references and tags, and the value is one of the
-/// kind. It takes no memory, and time that is linear in the value.
+/// characters (X.680, clause 51). The type is of this kind after its references and tags, and the value is one of the
+/// kind. The call takes no memory, and time that is linear in the value.
 pub fn is_allowed(bounded: &Bounded<'_>, ty: TypeId, simple: &Simple, value: &Value) -> bool
     requires there { ty.index < length bounded.now.types }
     requires is { IsOfKind bounded.now.types ty.index (simple' (plain_of simple.now)) }

@@ -14,7 +14,7 @@ use std::alloc::Global;
 use trees::{ListKind, Named, ValueSyntax};
 use type_table::ListMember;
 
-/// Why the names of fields are not those of components as they have to be. Fields and components are counted from 0.
+/// Why the names of fields are not arranged like those of components. Fields and components are counted from 0.
 #[derive(Clone, Copy, Debug, PartialEq, Eq)]
 pub enum NamesFault {
     /// There was not enough memory.
@@ -23,17 +23,18 @@ pub enum NamesFault {
     Unknown(usize),
     /// An earlier field has the name of this one.
     Repeated(usize),
-    /// This component has no field, though it has to be there, by itself or since another one of its group is.
+    /// This component has no field, though it must be present, by itself or since another one of its group is.
     Missing(usize),
-    /// This field of a SEQUENCE goes before the one that stands directly before it.
+    /// This field of a SEQUENCE must come before the field directly before it.
     Behind(usize),
 }
 
-/// For each component the place of its field, where the names of fields in braces are arranged as those of components:
-/// those of a SEQUENCE in the order of definition, those of a SET in any order, none twice, and none missing (X.680,
-/// clauses 25.18,
-/// 25.19 and 27.3). The cost is at most that of comparing each field's name with each component's and with each field's
-/// before it; a list with more fields than components has a fault among the first ones that are too many.
+/// For each component the place of its field, if the names of fields in braces are arranged like those of components.
+/// Fields of a SEQUENCE must be in the order of definition, those of a SET in any order, none twice, and none missing
+/// (X.680, clauses 25.18, 25.19 and 27.3).
+///
+/// Each field's name is compared at most with each component's name and with that of each field before it. A list with
+/// more fields than components has a fault among the first fields that are too many.
 pub fn arranged(
     alloc: Global,
     kind: ListKind,

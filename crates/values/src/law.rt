@@ -22,8 +22,8 @@ pub fn arranged_alone()
         → ⊥ }
 {}
 
-/// At most one fault of names stands, want of memory apart: which one is told, and at which field or component, is not
-/// left open.
+/// At most one fault of names is right, apart from `Memory`. So there is no choice which fault is reported, and at
+/// which field or component.
 pub fn one_names_fault()
     ensures { (k : ListKind) (cs : List Part) (fs : List Name) (f g : NamesFault)
         → AreDistinct (part_names cs)
@@ -34,8 +34,7 @@ pub fn one_names_fault()
         → f ≡ g }
 {}
 
-/// Where the names of fields are arranged, the groups of additions among the values of the fields are whole (X.680,
-/// clause
+/// If the names of fields are arranged, the groups of additions among the values of the fields are whole (X.680, clause
 /// 25.18).
 pub fn groups_whole()
     ensures { (p : Program) (os : List ℕ) (M : Name) (k : ListKind) (cs : List Part) (fs : List (Name × Tree))

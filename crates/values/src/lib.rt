@@ -1,4 +1,4 @@
-//! What notations of values in braces have to be, and which alternative a notation has chosen.
+//! The rules on notations of values in braces, and which alternative a notation chooses.
 #![tactic(auto)]
 
 mod allowed;

@@ -1,4 +1,4 @@
-//! Names of components and of fields, and which stands where.
+//! Names of components and of fields, and their places.
 
 ghost use Rattle.std.specs.Prelude.{◌≡◌, IfOk, MatchOption, Some, map, slice_get};
 ghost use Rattle.names.specs.Modules.{StandsIn};
@@ -12,7 +12,7 @@ use std::alloc::{AllocError, Global};
 use trees::{Named, ValueSyntax};
 use type_table::ListMember;
 
-/// The place of the first field of a name.
+/// The place of the first field of a name, or None.
 pub(crate) fn field_of(fields: &[Named<ValueSyntax>], name: &str) -> Option<usize>
     ensures { result ≡ place_of name.now (field_names (map member_of fields.now)) }
 {
@@ -24,7 +24,7 @@ pub(crate) fn field_of(fields: &[Named<ValueSyntax>], name: &str) -> Option<usiz
     None
 }
 
-/// The place of the first component of a name.
+/// The place of the first component of a name, or None.
 pub(crate) fn component_of(components: &[ListMember], name: &str) -> Option<usize>
     ensures { result ≡ place_of name.now (part_names (map part_of components.now)) }
 {
@@ -36,7 +36,7 @@ pub(crate) fn component_of(components: &[ListMember], name: &str) -> Option<usiz
     None
 }
 
-/// The place of a field whose name no component has.
+/// The place of the first field whose name no component has, or None.
 pub(crate) fn unknown(components: &[ListMember], fields: &[Named<ValueSyntax>]) -> Option<usize>
     ensures { IsUnknownAt (part_names (map part_of components.now)) (field_names (map member_of fields.now)) result }
 {
@@ -49,7 +49,7 @@ pub(crate) fn unknown(components: &[ListMember], fields: &[Named<ValueSyntax>]) 
     None
 }
 
-/// The place of a field whose name an earlier one has.
+/// The place of the first field whose name an earlier field has, or None.
 pub(crate) fn repeated(fields: &[Named<ValueSyntax>]) -> Option<usize>
     ensures { IsRepeatedAt (field_names (map member_of fields.now)) result }
 {
@@ -82,8 +82,8 @@ pub(crate) fn places(
     Ok(places)
 }
 
-/// The place of the alternative of a name, counted over root and additions (X.680, clause 29.11), if there is one. The
-/// cost is that of comparing the name with each alternative's.
+/// The place of the alternative of a name, counted over root and additions (X.680, clause 29.11), or None. The name is
+/// compared at most with each alternative's name.
 pub fn alternative(alternatives: &[ListMember], name: &str) -> Option<usize>
     ensures { MatchOption result
         (StandsIn (part_names (map part_of alternatives.now)) name.now → ⊥)

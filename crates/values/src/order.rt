@@ -30,7 +30,7 @@ pub(crate) fn may_be_absent(component: &ListMember) -> bool
     }
 }
 
-/// Whether a component that has to be there has no field.
+/// Whether a component that must be present has no field.
 fn is_missing(component: &ListMember, place: Option<usize>) -> bool
     ensures { IsTrue result ↔ (place ≡ None) × (may_be_absent' (part_of component.now) ≡ false) }
 {
@@ -40,7 +40,7 @@ fn is_missing(component: &ListMember, place: Option<usize>) -> bool
     }
 }
 
-/// The place of a component that has no field, though it has to be there.
+/// The place of the first component that has no field, though it must be present, or None.
 pub(crate) fn missing(components: &[ListMember], places: &[Option<usize>]) -> Option<usize>
     requires { length places.now ≡ length components.now }
     ensures { IsMissingAt (map part_of components.now) places.now result }
@@ -53,7 +53,7 @@ pub(crate) fn missing(components: &[ListMember], places: &[Option<usize>]) -> Op
     None
 }
 
-/// The group of an addition, if it stands in one.
+/// The group of an addition, if it is in one.
 fn group_of(component: &ListMember) -> Option<usize>
     ensures { result ≡ group_in (part_of component.now).standing }
 {
@@ -63,7 +63,7 @@ fn group_of(component: &ListMember) -> Option<usize>
     }
 }
 
-/// The group of an addition that has to be there wherever another one of the group is.
+/// The group of an addition that must be present if another one of the group is.
 fn needed_in(component: &ListMember) -> Option<usize>
     ensures { result ≡ needed_in' (part_of component.now).presence (part_of component.now).standing }
 {
@@ -101,7 +101,7 @@ fn has_other(group: usize, components: &[ListMember], places: &[Option<usize>]) 
     false
 }
 
-/// Whether a component has to be there, since another one of its group is.
+/// Whether a component must be present, since another one of its group is.
 fn is_due(component: &ListMember, components: &[ListMember], places: &[Option<usize>]) -> bool
     requires { length places.now ≡ length components.now }
     ensures { IsTrue result ↔ IsDue (part_of component.now) (map part_of components.now) places.now }
@@ -112,7 +112,7 @@ fn is_due(component: &ListMember, components: &[ListMember], places: &[Option<us
     }
 }
 
-/// Whether a component that has no field has to be there, since another one of its group is.
+/// Whether a component that has no field must be present, since another one of its group is.
 fn is_lacking(
     component: &ListMember,
     place: Option<usize>,
@@ -129,7 +129,8 @@ fn is_lacking(
     }
 }
 
-/// The place of an addition that has no field, though another one of its group has.
+/// The place of the first addition that has no field, though it must have one since another one of its group has, or
+/// None.
 pub(crate) fn missing_in_group(components: &[ListMember], places: &[Option<usize>]) -> Option<usize>
     requires { length places.now ≡ length components.now }
     ensures { IsMissingInGroupAt (map part_of components.now) places.now result }
@@ -142,7 +143,7 @@ pub(crate) fn missing_in_group(components: &[ListMember], places: &[Option<usize
     None
 }
 
-/// The place of a field which stands directly behind that of a later component.
+/// The place of the first field that comes directly after that of a later component, or None.
 pub(crate) fn jumbled(components: &[ListMember], fields: &[Named<ValueSyntax>]) -> Option<usize>
     requires known { AreIn (field_names (map member_of fields.now)) (part_names (map part_of components.now)) }
     requires distinct { AreDistinct (field_names (map member_of fields.now)) }

@@ -1,4 +1,4 @@
--- What a reader of an earlier version answers for an encoding of a later one (`Versions`), and what a value of the
+-- What a reader of an earlier version returns for an encoding of a later one (`Versions`), and what a value of the
 -- earlier version is under the later type (`Widened`).
 pub mod Versions
 pub mod Widened

@@ -1,4 +1,4 @@
--- What readers of two versions of a type owe each other (X.680, clauses 7, 25, 27 and 29).
+-- What is true of readers of two versions of a type (X.680, clauses 7, 25, 27 and 29).
 use Rattle.std.specs.Prelude.{ℕ, ◌≤◌, List}
 use Rattle.asn_base.specs.Abstract.{AbstractValue}
 use Rattle.asn_base.specs.Types.{TypeNumber, Resolved}
@@ -11,20 +11,21 @@ use Rattle.encodings.specs.Encoding.{Says}
 use Rattle.encodings.specs.Reading.{Encodes}
 use Rattle.later_versions.specs.Kept.{kept}
 
--- The earlier type knows the value of a later version: what it keeps of it, the additions that it lacks left out, is a
--- value of it. It isn't where an alternative or an item of an ENUMERATED stands there that only the later version has.
+-- The earlier type knows the value of a later version: what it keeps of the value, without the additions that it lacks,
+-- is a value of it. That is false if the value has an alternative, or an item of an ENUMERATED, that only the later
+-- version has.
 abbrev pub IsKnown : List Resolved → TypeNumber → AbstractValue → Type 0
 IsKnown s t v = IsValueWithoutNodes s t (kept s t v)
 
--- by the basic rules the octets encode some value that is the same as v, as it stands, with k unknown additions and at
--- most 400 levels of headers
+-- the octets encode, by the basic rules, a value that is the same as v, with k unknown additions and at most 400 levels
+-- of headers
 pub record IsReadAs (s : List Resolved) (t : TypeNumber) (v : AbstractValue) (k : ℕ) (o : Octets) : Type 0 where
   pub value : AbstractValue
   pub same : Same s t v value
   pub encodes : Encodes s Basic t value k o
   pub few : levels encodes.says_it ≤ 400
 
--- and by the distinguished rules, too
+-- the same by the distinguished rules, too
 pub record IsStrictlyReadAs (s : List Resolved) (t : ℕ) (v : AbstractValue) (k : ℕ) (o : Octets) : Type 0 where
   pub is : IsReadAs s t v k o
   pub strict : Says s Distinguished t is.value k o

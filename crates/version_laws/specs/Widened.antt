@@ -5,7 +5,7 @@ use Rattle.asn_base.specs.Abstract.{AbstractValue, fields, list, alternative, Ro
 use Rattle.asn_base.specs.Types.{Resolved}
 use Rattle.later_versions.specs.Kept.{members_of, member_of}
 
--- for each of these types a component that is absent
+-- an absent component for each of these types
 abbrev pub all_absent : List ℕ → Row
 all_absent [] = end
 all_absent (u ∷ us) = absent (all_absent us)
@@ -18,7 +18,8 @@ abbrev mutual
   widened s t (alternative i v) = alternative i (widened s (member_of s t i) v)
   widened s t v = v
 
-  -- what components are under these types; the types behind the last one are those of components that were appended
+  -- what components are under these types; the types after the last component are those of components that were
+  -- appended
   pub widened_row : List Resolved → List ℕ → Row → Row
   widened_row s us end = all_absent us
   widened_row s [] (absent vs) = end

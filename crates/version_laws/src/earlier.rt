@@ -21,14 +21,14 @@ use codec_code::Code;
 use codec_source::ReadFault;
 use std::alloc::Global;
 
-/// They are octets.
+/// Each item of a slice of octets is below 256.
 fn are_octets(octets: &[u8])
     ensures { AllBelowBase 256 octets.now }
 {}
 
-/// What `read_ber` answers, as the type of the earlier version, of the encoding by the distinguished rules of a value
-/// of a later one, of at most 16,777,216 octets: a value that is the same as what the earlier type keeps of it, and as
-/// many skipped additions as it leaves out. It is refused for want of memory alone.
+/// What `read_ber` returns, with the type of the earlier version, for an encoding of a value of a later one. The
+/// encoding is by the distinguished rules, and has at most 16,777,216 octets. The value is the same as what the earlier
+/// type keeps of it, and as many additions are skipped as the earlier type leaves out. The only error is `Memory`.
 pub fn read_of_later<'a>(
     alloc: Global,
     code: &Code,

@@ -22,9 +22,9 @@ use codec_code::Code;
 use codec_source::ReadFault;
 use std::alloc::Global;
 
-/// What `read_ber` answers, as a later type, of an encoding of a value of an earlier version, of at most 16,777,216
-/// octets: the value with the components that were appended absent, and no skipped additions. It is refused for want of
-/// memory alone.
+/// What `read_ber` returns, with a later type, for an encoding of a value of an earlier version, of at most 16,777,216
+/// octets. It is the value with the components that were appended absent, and no skipped additions. The only error is
+/// `Memory`.
 pub fn read_of_earlier<'a>(
     alloc: Global,
     code: &Code,
@@ -43,14 +43,14 @@ pub fn read_of_earlier<'a>(
         → Der s t v 0 octets.now
         → IsView r.view tree
         → Same code.now id.index (widened code.now id.index v) (value_of tree) × (r.skipped ≡ 0)) }
-    // So it is of each encoding by the basic rules without unknown additions, within 400 levels of headers.
+    // The same is true of each encoding by the basic rules without unknown additions, within 400 levels of headers.
     ensures basic { (s : List Resolved) (t : ℕ) (v : AbstractValue)
         → Later s t code.now id.index
         → id.index < length code.now
         → IsReadAs s t v 0 octets.now
         → length octets.now ≤ 16777216
         → IfErr result (λ e. e ≡ Memory) }
-    // The value that it says, as it stands, is read as it stands.
+    // The value that the octets encode is read exactly, widened to the later type.
     ensures stands { IfOk result (λ r. (s : List Resolved) (t : ℕ) (w : AbstractValue) (tree : Tree)
         → Later s t code.now id.index
         → id.index < length code.now
@@ -66,9 +66,9 @@ pub fn read_of_earlier<'a>(
     }
 }
 
-/// What `read_der` answers, as a later type, of the encoding by the distinguished rules of a value of an earlier
-/// version, of at most 16,777,216 octets: the value with the components that were appended absent, and no skipped
-/// additions. It is refused for want of memory alone.
+/// What `read_der` returns, with a later type, for the encoding by the distinguished rules of a value of an earlier
+/// version, of at most 16,777,216 octets. It is the value with the components that were appended absent, and no skipped
+/// additions. The only error is `Memory`.
 pub fn read_der_of_earlier<'a>(
     alloc: Global,
     code: &Code,
@@ -87,7 +87,7 @@ pub fn read_der_of_earlier<'a>(
         → Der s t v 0 octets.now
         → IsView r.view tree
         → Same code.now id.index (widened code.now id.index v) (value_of tree) × (r.skipped ≡ 0)) }
-    // Whatever else the octets are, what is read is what they encode by the distinguished rules.
+    // Whatever else the octets are, the value that is read is the one that they encode by the distinguished rules.
     ensures strict { IfOk result (λ r. IsStrictReading code.now id.index octets.now r) }
 {
     code.accepted();

@@ -1,4 +1,4 @@
-//! What is written of one version is read by the other.
+//! What is written of one version can be read by the other.
 
 ghost use Rattle.asn_base.specs.Abstract.{AbstractValue};
 ghost use Rattle.asn_base.specs.Same.{Same};
@@ -18,9 +18,9 @@ ghost use Rattle.version_laws.specs.Widened.{widened};
 use asn_base::law::{alike_values, sameness};
 use encodings::schema_laws;
 
-/// The encoding of a value of a later version by the distinguished rules is one by the basic rules of what the earlier
-/// type keeps of the value, with as many unknown additions as it leaves out; those are not looked into, so that what
-/// they lack or hold isn't counted.
+/// An encoding of a value of a later version by the distinguished rules is one by the basic rules of what the earlier
+/// type keeps of the value. It has as many unknown additions as the earlier type leaves out. Unknown additions are not
+/// inspected, so what they lack or contain isn't counted.
 pub fn earlier_reads()
     ensures { (s s' : List Resolved) (t t' : ℕ) (v : AbstractValue) (o : List ℕ)
         → IsSchema s'
@@ -35,8 +35,9 @@ pub fn earlier_reads()
     schema_laws();
 }
 
-/// A value of an earlier version is one of the later type, where the components that were appended are absent; values
-/// that are the same are so there. What the earlier type keeps of it is the value, and nothing is left out.
+/// A value of an earlier version is one of the later type, in which the components that were appended are absent.
+/// Values that are the same in the earlier version are the same in the later one. The earlier type keeps the whole
+/// value, and leaves nothing out.
 pub fn widening()
     ensures value { (s s' : List Resolved) (t t' : ℕ) (v : AbstractValue)
         → IsSchema s'
@@ -44,7 +45,7 @@ pub fn widening()
         → t' < length s'
         → IsValueWithoutNodes s t v
         → IsValueWithoutNodes s' t' (widened s' t' v) }
-    // With the limit on nodes, too: it has as many.
+    // The same is true with the limit on nodes: the value has as many nodes.
     ensures few_nodes { (s s' : List Resolved) (t t' : ℕ) (v : AbstractValue)
         → IsSchema s'
         → Later s t s' t'
@@ -68,8 +69,8 @@ pub fn widening()
     alike_values();
 }
 
-/// The encoding of a value of an earlier version is one of what it is under the later type, by the same rules, with no
-/// unknown additions.
+/// The encoding of a value of an earlier version encodes, by the same rules, what the value is under the later type,
+/// with no unknown additions.
 pub fn later_reads()
     ensures encodes { (s s' : List Resolved) (r : Rules) (t t' : ℕ) (v : AbstractValue) (o : List ℕ)
         → IsSchema s'
@@ -77,14 +78,15 @@ pub fn later_reads()
         → t' < length s'
         → EncodesBy r s t v 0 o
         → EncodesBy r s' t' (widened s' t' v) 0 o }
-    // As it stands, too.
+    // The same is true of the exact value.
     ensures stands { (s s' : List Resolved) (r : Rules) (t t' : ℕ) (w : AbstractValue) (o : List ℕ)
         → IsSchema s'
         → Later s t s' t'
         → t' < length s'
         → Encodes s r t w 0 o
         → Encodes s' r t' (widened s' t' w) 0 o }
-    // It has no more levels of headers there: at most 400 where it had, and by the distinguished rules always.
+    // The encoding has no more levels of headers under the later type: at most 400 if it had at most 400, and by the
+    // distinguished rules always.
     ensures basic { (s s' : List Resolved) (t t' : ℕ) (v : AbstractValue) (o : List ℕ)
         → IsSchema s'
         → Later s t s' t'

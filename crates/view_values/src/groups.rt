@@ -1,4 +1,4 @@
-//! Whether no component stands in version brackets.
+//! Whether no component is in version brackets.
 
 ghost use Rattle.asn_base.specs.Seen.{component_of};
 ghost use Rattle.asn_base.specs.Typed.{group_of};
@@ -7,7 +7,7 @@ ghost use Rattle.std.specs.Prelude.{◌≡◌, IsTrue, None, map};
 
 use asn_base::schema::{Component, Presence};
 
-/// Whether a component stands in no version brackets.
+/// Whether a component is in no version brackets.
 fn has_no_group(component: &Component) -> bool
     ensures { IsTrue result → group_of (component_of component.now).presence ≡ None }
 {
@@ -19,7 +19,7 @@ fn has_no_group(component: &Component) -> bool
     }
 }
 
-/// Whether none of the components stands in version brackets.
+/// Whether none of the components is in version brackets.
 pub(crate) fn have_no_groups(components: &[Component]) -> bool
     ensures { IsTrue result → AllByRecursion (λ c. group_of c.presence ≡ None) (map component_of components.now) }
 {

@@ -1,5 +1,5 @@
 //! Whether a string, or the numbers of an object identifier, are a value of a kind (X.680, 22 to 24, 32, 33, 41 and
-//! 51). Each test may answer false of a value that is one, where ranges or codes don't ascend.
+//! 51). Each test may return false for a value of the kind if ranges or codes don't ascend.
 
 ghost use Rattle.asn_base.specs.Abstract.{boolean, integer, null, bits as bits', octets as octets', oid as oid', relative_oid as relative_oid', text as text'};
 ghost use Rattle.asn_base.specs.Names.{IsMember};
@@ -34,7 +34,7 @@ fn is_in_range(range: &Range, number: i128) -> bool
     above && below
 }
 
-/// Whether the number stands in one of the ranges, where these ascend.
+/// Whether the number is in one of the ranges, if these ascend. In other ranges, the number may be missed.
 fn finds_range(ranges: &[Range], number: i128) -> bool
     ensures { IsTrue result → IsInSome number (map range_of ranges.now) }
 {
@@ -66,7 +66,7 @@ pub(crate) fn allows_size(constraint: &Constraint, size: u128) -> bool
     allows(constraint, size as i128)
 }
 
-/// Whether the code stands in the alphabet, where its codes ascend.
+/// Whether the code is in the alphabet, if its codes ascend. In another alphabet, the code may be missed.
 fn finds_code(alphabet: &[u8], code: u8) -> bool
     ensures { IsTrue result → IsMember code alphabet.now }
 {
@@ -77,7 +77,7 @@ fn finds_code(alphabet: &[u8], code: u8) -> bool
     }
 }
 
-/// Whether each octet stands in the alphabet.
+/// Whether each octet is in the alphabet.
 fn are_codes(alphabet: &[u8], octets: &[u8]) -> bool
     ensures { IsTrue result → AllByRecursion (λ x. IsMember x alphabet.now) octets.now }
 {
@@ -89,7 +89,7 @@ fn are_codes(alphabet: &[u8], octets: &[u8]) -> bool
     true
 }
 
-/// Whether the characters are codes of the alphabet, and as many as are allowed.
+/// Whether the characters are codes of the alphabet, and their number is allowed.
 fn is_string_of(alphabet: &[u8], size: &Constraint, text: &str) -> bool
     ensures codes { IsTrue result → AllByRecursion (λ x. IsMember x alphabet.now) text.now }
     ensures size { IsTrue result → IsAllowedSize (constraint_of size.now) (length text.now) }
@@ -98,7 +98,7 @@ fn is_string_of(alphabet: &[u8], size: &Constraint, text: &str) -> bool
     allows_size(size, octets.len() as u128) && are_codes(alphabet, octets)
 }
 
-/// Whether there are as many octets as are allowed.
+/// Whether the number of octets is allowed.
 fn has_allowed_octets(size: &Constraint, octets: &[u8]) -> bool
     ensures octets { AllBelowBase 256 octets.now }
     ensures size { IsTrue result → IsAllowedSize (constraint_of size.now) (length octets.now) }
@@ -106,14 +106,14 @@ fn has_allowed_octets(size: &Constraint, octets: &[u8]) -> bool
     allows_size(size, octets.len() as u128)
 }
 
-/// How many characters it has.
+/// How many characters a text has.
 fn character_count(text: &str) -> usize
     ensures { result ≡ length (chars text.now) }
 {
     text.chars().count()
 }
 
-/// Whether there are as many characters as are allowed.
+/// Whether the number of characters is allowed.
 fn has_allowed_characters(size: &Constraint, text: &str) -> bool
     ensures utf8 { IsUtf8 text.now }
     ensures size { IsTrue result → IsAllowedSize (constraint_of size.now) (length (chars text.now)) }
@@ -121,7 +121,7 @@ fn has_allowed_characters(size: &Constraint, text: &str) -> bool
     allows_size(size, character_count(text) as u128)
 }
 
-/// How many bits octets have of which so many are unused.
+/// How many bits octets have, without the `unused` ones of the last octet.
 fn bit_count(octets: &[u8], unused: u8) -> u128
     ensures is { result ≡ 8 * length octets.now - unused }
     ensures small { result < 2 ^ 127 }
@@ -195,7 +195,7 @@ fn is_in_first(constraint: &Constraint, number: i128) -> bool
     }
 }
 
-/// Whether a truth is shown.
+/// Whether the part shows a truth.
 #[inline(always)]
 fn shows_truth(part: &Part<'_, '_>) -> bool
     requires { (t : Tree) × IsPart part.now t }
@@ -207,7 +207,7 @@ fn shows_truth(part: &Part<'_, '_>) -> bool
     }
 }
 
-/// Whether a number is shown that the constraint's first range has.
+/// Whether the part shows a number that the constraint's first range has.
 #[inline(always)]
 fn shows_number(constraint: &Constraint, part: &Part<'_, '_>) -> bool
     requires { (t : Tree) × IsPart part.now t }
@@ -226,7 +226,7 @@ fn shows_number(constraint: &Constraint, part: &Part<'_, '_>) -> bool
 }
 
 /// Whether the part surely shows a truth, or a number that the constraint's first range has, and the kind is such a
-/// one: of most values that hold no others, it says so at once.
+/// one. For most values that hold no others, this test is enough.
 #[inline(always)]
 pub(crate) fn fits_at_once(core: &Core, part: &Part<'_, '_>) -> bool
     requires { (t : Tree) × IsPart part.now t }
@@ -249,7 +249,7 @@ pub(crate) fn fits_octets(core: &Core, octets: &[u8]) -> bool
     }
 }
 
-/// Whether the bits of octets, of which so many are unused, are a value of the kind.
+/// Whether the bits of octets, without the `unused` ones of the last octet, are a value of the kind.
 pub(crate) fn fits_bits(core: &Core, unused: u8, octets: &[u8]) -> bool
     ensures { IsTrue result → Fits (kind_of core.now) (bits' (bits_in unused octets.now)) }
 {

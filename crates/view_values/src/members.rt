@@ -7,8 +7,8 @@ ghost use Rattle.views.specs.Tree.{Members, Tree, component};
 
 use views::{Part, Parts};
 
-/// The component with a number, None where it is absent, and members among which those with greater numbers are found.
-/// Where it is the first of the members, as all are in the order of a SEQUENCE, it is found at once, else in time with
+/// The component with a number, None if it is absent, and members that contain those with greater numbers. If the
+/// component is the first of the members, as in the order of a SEQUENCE, it is found at once. Else the time grows with
 /// the number of the members.
 #[inline(always)]
 pub(crate) fn taken<'v, 'a>(

@@ -23,9 +23,10 @@ use limits::MAX_LEVELS;
 use value_text::names::alternative_at;
 use views::{Part, Parts, Shown};
 
-/// Whether the value that a part shows is surely one of the type, the limit on nodes apart: where it answers true, it
-/// is. Where it answers false, a copy has to be asked: it may be one of which a component stands in version brackets,
-/// or is absent and has a DEFAULT that holds others. It takes no memory, and time with the nodes.
+/// Whether the value that a part shows is surely one of the type, apart from the limit on nodes. If the result is true,
+/// the value is one. If the result is false, a copy of the value must be checked. The value may be one with a component
+/// in version brackets, or with an absent one whose DEFAULT holds others. The call takes no memory, and its time grows
+/// with the nodes.
 pub fn is_surely_value(part: &Part<'_, '_>, schema: &Schema, id: TypeId) -> bool
     requires { (t : Tree) × IsPart part.now t }
     ensures { (t : Tree) → IsPart part.now t → IsTrue result → IsValueWithoutNodes schema.now id.index (value_of t) }
@@ -40,7 +41,7 @@ fn is_small_value(value: &Value, schema: &Schema, id: TypeId) -> bool
     is_value_without_nodes(value, schema, id)
 }
 
-/// Whether it is surely one of the type with at most this many levels.
+/// Whether the part is surely a value of the type with at most `levels` levels.
 #[cycle(within)]
 #[inline(always)]
 fn is_within(part: &Part<'_, '_>, schema: &Schema, levels: u8, id: TypeId) -> bool
@@ -53,7 +54,7 @@ fn is_within(part: &Part<'_, '_>, schema: &Schema, levels: u8, id: TypeId) -> bo
     fits_at_once(schema.core(id), part) || is_any(part, schema, levels, id)
 }
 
-/// The same of a type that the schema has, whatever its kind.
+/// The same as `is_within`, for a type that the schema has, whatever its kind.
 #[cycle(within)]
 fn is_any(part: &Part<'_, '_>, schema: &Schema, levels: u8, id: TypeId) -> bool
     requires some { 0 < levels }
@@ -98,7 +99,7 @@ fn is_any(part: &Part<'_, '_>, schema: &Schema, levels: u8, id: TypeId) -> bool
     }
 }
 
-/// Whether these are surely the components of a value, none of which stands in version brackets.
+/// Whether these are surely the components of a value, none of which is in version brackets.
 #[cycle(within)]
 fn are_fields(
     components: &[Component],
@@ -152,7 +153,8 @@ fn are_components(
     true
 }
 
-/// Whether it is surely a value of the component, or none where that may be.
+/// Whether the part is surely a value of the component; or, if there is no part, whether the component surely may be
+/// absent.
 #[cycle(within)]
 #[inline(always)]
 fn is_component(
@@ -185,7 +187,7 @@ fn may_be_absent(presence: &Presence, schema: &Schema, levels: u8, id: TypeId) -
     }
 }
 
-/// Whether it holds no others, and is one of the type with at most this many levels.
+/// Whether the default holds no others, and is a value of the type with at most `levels` levels.
 fn is_small_default(default: &Value, schema: &Schema, levels: u8, id: TypeId) -> bool
     ensures { IsTrue result → ValueIn schema.now levels id.index (abstract default.now) }
 {
@@ -219,7 +221,7 @@ fn is_flat(value: &Value) -> bool
     }
 }
 
-/// Whether these are surely the elements of a value, as many as are allowed.
+/// Whether these are surely the elements of a value, and their number is allowed.
 #[cycle(within)]
 fn are_elements(
     size: &Constraint,

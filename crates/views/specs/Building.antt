@@ -1,42 +1,42 @@
--- A tree while it is built, from the front.
+-- A tree while it is built: nodes are added in the order of the message.
 use Rattle.std.specs.Prelude.{◌≡◌, ℕ, List, [], ◌∷◌, ◌++◌, length}
 use Rattle.views.specs.Tree.{AreBorrowed, Leaf, Tree, leaf, fields, list, alternative, Members, no_member, member, joined}
 use Rattle.views.specs.Nodes.{Told, some_fields, some_elements, an_alternative, Node, node, member_nodes}
 
--- what is open
+-- an open node: a row of size components, a list, or the alternative with an index
 pub data Header : Type 0 where
   open_fields : (size : ℕ) → Header
   open_list : Header
   open_alternative : (index : ℕ) → Header
 
--- a node that is open: the component that it is, and the members that stand before it
+-- an open node, with the number of the component that it is, and the members before it in the node that holds it
 pub record Waiting : Type 0 where
   pub number : ℕ
   pub header : Header
   pub before : Members
 
--- the members so far of the innermost open node, or of the whole where none is open; and the open nodes, the innermost
+-- the members so far of the innermost open node, or of the whole if no node is open; and the open nodes, the innermost
 -- first
 pub record Building : Type 0 where
   pub here : Members
   pub waits : List Waiting
 
--- nothing yet
+-- a tree of which nothing is built yet
 abbrev pub begun : Building
 begun = record { here = no_member; waits = [] }
 
--- one more member
+-- the same with one more member: the component with number k, tree t
 abbrev pub with_tree : ℕ → Tree → Building → Building
 with_tree k t b = record { here = joined b.here (member k t no_member); waits = b.waits }
 
 abbrev pub with_leaf : ℕ → Leaf → Building → Building
 with_leaf k l b = with_tree k (leaf l) b
 
--- one more node is open
+-- the same with one more open node: the component with number k
 abbrev pub opened : ℕ → Header → Building → Building
 opened k h b = record { here = no_member; waits = record { number = k; header = h; before = b.here } ∷ b.waits }
 
--- the tree of these members
+-- an open node with these members is this tree once it is closed; an alternative has exactly one member, number 0
 pub data Closes : Header → Members → Tree → Type 0 where
   closes_fields : {n : ℕ} {ms : Members} → Closes (open_fields n) ms (fields n ms)
   closes_list : {ms : Members} → Closes open_list ms (list ms)
@@ -48,13 +48,13 @@ pub record IsClosed (a : Building) (w : Waiting) (ws : List Waiting) (t : Tree) 
   pub tree : Closes w.header a.here t
   pub closed : b ≡ record { here = joined w.before (member w.number t no_member); waits = ws }
 
--- a node that is open tells no extent yet
+-- the header of an open node, with extent 0 as long as it is open
 abbrev pub told_open : Header → Told
 told_open (open_fields n) = some_fields n 0
 told_open open_list = some_elements 0
 told_open (open_alternative i) = an_alternative i 0
 
--- the nodes so far
+-- the nodes of the open nodes and of the members before each of them, in order
 abbrev pub waiting_nodes : List Waiting → List Node
 waiting_nodes [] = []
 waiting_nodes (w ∷ ws) = (waiting_nodes ws ++ member_nodes w.before) ++ node w.number (told_open w.header) ∷ []
@@ -62,12 +62,12 @@ waiting_nodes (w ∷ ws) = (waiting_nodes ws ++ member_nodes w.before) ++ node w
 abbrev pub built_nodes : Building → List Node
 built_nodes b = waiting_nodes b.waits ++ member_nodes b.here
 
--- where the open nodes stand, the outermost first
+-- the index of each open node in the list of nodes, the outermost first
 abbrev pub places : List Waiting → List ℕ
 places [] = []
 places (w ∷ ws) = places ws ++ length (waiting_nodes ws ++ member_nodes w.before) ∷ []
 
--- each string that is told with a place so far stands there in the message
+-- each string with a place, of the members before open nodes, is the message's octets at that place
 abbrev pub AreWaitingBorrowed : List ℕ → List Waiting → Type 0
 AreWaitingBorrowed message [] = Unit {0}
 AreWaitingBorrowed message (w ∷ ws) = AreBorrowed message w.before × AreWaitingBorrowed message ws

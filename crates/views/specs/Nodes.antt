@@ -1,8 +1,9 @@
--- The list of nodes that spells a tree: each node stands before those below it, and tells how many it is with them.
+-- The list of nodes that spells a tree: each node comes before those below it, and says how many nodes it has with
+-- them.
 use Rattle.std.specs.Prelude.{ℕ, ◌+◌, List, [], ◌∷◌, ◌++◌, length}
 use Rattle.views.specs.Tree.{Leaf, Tree, leaf, fields, list, alternative, Members, no_member, member}
 
--- what a node tells; one that holds others, also how many nodes it is with all below it
+-- what a node says; a node that holds others also says its extent: how many nodes it is with all below it
 pub data Told : Type 0 where
   a_leaf : Leaf → Told
   some_fields : (size extent : ℕ) → Told
@@ -29,14 +30,14 @@ abbrev mutual
   member_nodes no_member = []
   member_nodes (member k t ms) = nodes k t ++ member_nodes ms
 
--- how many nodes it is with those below it
+-- how many nodes it is with all below it
 abbrev pub extent : Told → ℕ
 extent (a_leaf l) = 1
 extent (some_fields size e) = e
 extent (some_elements e) = e
 extent (an_alternative index e) = e
 
--- the same with so many nodes
+-- the same with this extent; a leaf stays as it is
 abbrev pub with_extent : Told → ℕ → Told
 with_extent (a_leaf l) e = a_leaf l
 with_extent (some_fields size d) e = some_fields size e

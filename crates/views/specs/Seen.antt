@@ -1,4 +1,4 @@
--- Nodes in memory, as the nodes that they are; a builder and a view, as the trees that they hold.
+-- Nodes in memory, seen as nodes without addresses; a builder and a view, seen as trees.
 use Rattle.std.specs.Prelude.{◌≡◌, ℕ, ◌-◌, ◌<◌, ◌≤◌, List, length, map, drop, get_or, string_bytes, Option, Some, None}
 use Rattle.std.specs.List.{slice_range, AllByRecursion}
 use Rattle.std.specs.Prelude.{[]}
@@ -18,7 +18,7 @@ use Rattle.views.specs.Tree.{Members, member}
 use Rattle.views.specs.Nodes.{Told, a_leaf, some_fields, some_elements, an_alternative, Node, node, nodes, member_nodes}
 use Rattle.views.specs.Building.{Building, built_nodes, places}
 
--- what stands beside the nodes
+-- the lists beside the nodes: joined octets, joined texts, and the numbers of object identifiers
 pub record Beside : Type 0 where
   pub octets : List ℕ
   pub texts : List (List ℕ)
@@ -27,7 +27,7 @@ pub record Beside : Type 0 where
 abbrev pub beside_of : Lists → Beside
 beside_of l = record { octets = l.octets.items; texts = map string_bytes l.texts.items; arcs = l.arcs.items }
 
--- what a node tells, with its string or numbers
+-- what a node in memory says, with its string or numbers
 abbrev pub told_of : Beside → Told' → Told
 told_of b (told.Bool t) = a_leaf (boolean t)
 told_of b (told.Int z) = a_leaf (integer (number_of z))
@@ -51,12 +51,13 @@ node_of b n = node n.number (told_of b n.told)
 abbrev pub nodes_of : Beside → List Node' → List Node
 nodes_of b ns = map (node_of b) ns
 
--- a range within so many
+-- a range from one index to another, within a list of this length
 pub record IsWithin (from to many : ℕ) : Type 0 where
   pub ordered : from ≤ to
   pub within : to ≤ many
 
--- what a node names stands beside the nodes, and an octet has eight bits
+-- what a node refers to is within the lists beside the nodes; a BIT STRING has fewer than 8 unused bits, and none if it
+-- has no octets
 abbrev pub IsToldWithin : Beside → Told' → Type 0
 IsToldWithin b (told.Bool t) = Unit {0}
 IsToldWithin b (told.Int z) = Unit {0}
@@ -88,7 +89,7 @@ pub record AreBuilt (s : Beside) (ns : List Node') (hs : List ℕ) (b : Building
 abbrev pub Holds : Builder → Building → Type 0
 Holds a b = AreBuilt (beside_of a.lists) a.nodes.items a.headers.items b
 
--- nodes with what stands beside them spell a tree, which is the component with this number
+-- nodes, with the lists beside them, spell a tree, which is the component with this number
 pub record Spell (s : Beside) (ns : List Node') (k : ℕ) (t : Tree) : Type 0 where
   pub nodes : nodes_of s ns ≡ nodes k t
   pub within : AreWithin s ns
@@ -103,7 +104,7 @@ pub record Left (s : Beside) (ns : List Node') (at : ℕ) (left : Members) : Typ
   pub nodes : nodes_of s (drop at ns) ≡ member_nodes left
   pub within : AreWithin s ns
 
--- the first of them, whose nodes end before another place, with its number
+-- the first of the members left, with its number; its nodes end before index end
 pub record IsNext (s : Beside) (ns : List Node') (at number end : ℕ) (left : Members) : Type 0 where
   pub tree : Tree
   pub rest : Members
@@ -111,7 +112,7 @@ pub record IsNext (s : Beside) (ns : List Node') (at number end : ℕ) (left : M
   pub first : Spell s (slice_range ns at end) number tree
   pub behind : Left s ns end rest
 
--- what the first node tells of a tree, with the nodes below it
+-- what the first node of a tree says of it, with the nodes below it
 pub data TellsOf (s : Beside) (below : List Node') : Told → Tree → Type 0 where
   tells_leaf : {l : Leaf} → TellsOf s below (a_leaf l) (leaf l)
   tells_fields : {size e : ℕ} {ms : Members} → SpellMembers s below ms → TellsOf s below (some_fields size e) (fields size ms)
@@ -152,14 +153,14 @@ Shows t (shown.Fields size ps) = (ms : Members) × (t ≡ fields size ms) × Are
 Shows t (shown.List ps) = (ms : Members) × (t ≡ list ms) × AreParts ps ms
 Shows t (shown.Alternative i p) = (u : Tree) × (t ≡ alternative i u) × IsPart p u
 
--- what is shown below it has fewer nodes than so many
+-- what is shown below a part has fewer than n nodes
 abbrev pub IsBelow : ℕ → Shown → Type 0
 IsBelow n (shown.Fields size ps) = nodes_left ps < n
 IsBelow n (shown.List ps) = nodes_left ps < n
 IsBelow n (shown.Alternative i p) = nodes_in p < n
 IsBelow n _ = Unit {0}
 
--- the first of some members, and those behind it
+-- the first of some members with its number, and those after it
 pub record IsMember (ms : Members) (number : ℕ) (p : Part) (behind : Parts) : Type 0 where
   pub tree : Tree
   pub rest : Members

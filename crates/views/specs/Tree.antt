@@ -1,12 +1,12 @@
--- Values that are read from a message, as trees, without where they lie in memory.
+-- Values that are read from a message, as trees, without their addresses in memory.
 use Rattle.std.specs.Prelude.{◌≡◌, ℕ, zero, suc, ◌+◌, ◌*◌, ◌-◌, ◌==◌, ℤ, Bool, List, [], ◌∷◌, length, take, flat_map}
 use Rattle.std.specs.Prelude.{cond, Option, Some, None, true, false}
 use Rattle.std.specs.List.{slice_range}
 use Rattle.asn_base.specs.Abstract as value
 use Rattle.asn_base.specs.Abstract.{AbstractValue, Row, bits_of_octet, row_of_options}
 
--- a value that holds no others. A string is told with the place in the message of its first octet, counted from 0, or
--- None where it was joined from segments
+-- a value that holds no others. A string has the place in the message of its first octet, counted from 0, or None if it
+-- was joined from segments
 pub data Leaf : Type 0 where
   boolean : Bool → Leaf
   integer : ℤ → Leaf
@@ -19,7 +19,7 @@ pub data Leaf : Type 0 where
   relative_oid : List ℕ → Leaf
 
 mutual
-  -- a value: a row of so many components, of which some are there; elements; or the alternative with a number
+  -- a value: a row of size components, of which some are there; elements; or the alternative with a number
   pub data Tree : Type 0 where
     leaf : Leaf → Tree
     fields : (size : ℕ) → Members → Tree
@@ -31,7 +31,7 @@ mutual
     no_member : Members
     member : (number : ℕ) → Tree → Members → Members
 
--- the bits of these octets but the last unused ones
+-- the bits of these octets without the last ones, which are unused
 abbrev pub bits_in : ℕ → List ℕ → List Bool
 bits_in unused os = take (8 * length os - unused) (flat_map bits_of_octet os)
 
@@ -46,7 +46,7 @@ leaf_value null = value.null
 leaf_value (oid ns) = value.oid ns
 leaf_value (relative_oid ns) = value.relative_oid ns
 
--- a row of so many places: what stands at each
+-- a row of n places: place i has what f says of i
 abbrev pub placed : {A : Type 0} → ℕ → (ℕ → Option A) → List (Option A)
 placed zero f = []
 placed (suc n) f = f 0 ∷ placed n (λ i. f (i + 1))
@@ -59,7 +59,7 @@ abbrev mutual
   value_of (list ms) = value.list (element_values ms)
   value_of (alternative i t) = value.alternative i (value_of t)
 
-  -- the value of the component with the number, the first one if there are more
+  -- the value of the first component with the number, or None
   pub component_value : Members → ℕ → Option AbstractValue
   component_value no_member i = None
   component_value (member k t ms) i = cond (k == i) (Some (value_of t)) (component_value ms i)
@@ -68,7 +68,7 @@ abbrev mutual
   element_values no_member = value.end
   element_values (member k t ms) = value.present (value_of t) (element_values ms)
 
--- the member with the number, the first one if there are more
+-- the first member with the number, or None
 abbrev pub component : Members → ℕ → Option Tree
 component no_member i = None
 component (member k t ms) i = cond (k == i) (Some t) (component ms i)
@@ -78,12 +78,12 @@ abbrev pub count : Members → ℕ
 count no_member = 0
 count (member k t ms) = count ms + 1
 
--- members, and then some more
+-- the first members, and then the second ones
 abbrev pub joined : Members → Members → Members
 joined no_member ns = ns
 joined (member k t ms) ns = member k t (joined ms ns)
 
--- octets that are told with a place stand there in the message
+-- octets with a place are the message's octets at that place; octets without one may be any
 abbrev pub StandsAt : List ℕ → List ℕ → Option ℕ → Type 0
 StandsAt message os None = Unit {0}
 StandsAt message os (Some p) = slice_range message p (p + length os) ≡ os
@@ -100,7 +100,7 @@ IsBorrowedLeaf message (oid ns) = Unit {0}
 IsBorrowedLeaf message (relative_oid ns) = Unit {0}
 
 abbrev mutual
-  -- each string that is told with a place stands there in the message
+  -- each string with a place is the message's octets at that place
   pub IsBorrowed : List ℕ → Tree → Type 0
   IsBorrowed message (leaf l) = IsBorrowedLeaf message l
   IsBorrowed message (fields n ms) = AreBorrowed message ms
@@ -111,7 +111,7 @@ abbrev mutual
   AreBorrowed message no_member = Unit {0}
   AreBorrowed message (member k t ms) = IsBorrowed message t × AreBorrowed message ms
 
--- what a tree tells where it is of the kind, and None where it isn't
+-- the value of a tree of this kind, and None of another kind
 abbrev pub boolean_in : Tree → Option Bool
 boolean_in (leaf (boolean b)) = Some b
 boolean_in _ = None
@@ -120,7 +120,7 @@ abbrev pub integer_in : Tree → Option ℤ
 integer_in (leaf (integer z)) = Some z
 integer_in _ = None
 
--- the members that are there
+-- the members of a tree; none of a leaf or an alternative
 abbrev pub members_in : Tree → Members
 members_in (fields n ms) = ms
 members_in (list ms) = ms
@@ -139,17 +139,17 @@ abbrev pub null_in : Tree → Bool
 null_in (leaf null) = true
 null_in _ = false
 
--- the octets of an OCTET STRING, and where the first one stands in the message, None of a joined one
+-- the octets of an OCTET STRING, and the place in the message of the first one; the place is None if they were joined
 abbrev pub octets_in : Tree → Option (List ℕ × Option ℕ)
 octets_in (leaf (octets os at)) = Some (os, at)
 octets_in _ = None
 
--- the unused bits of a BIT STRING, its octets, and where the first one stands
+-- the unused bits of a BIT STRING, its octets, and the place of the first one
 abbrev pub bit_string_in : Tree → Option (ℕ × List ℕ × Option ℕ)
 bit_string_in (leaf (bits unused os at)) = Some (unused, os, at)
 bit_string_in _ = None
 
--- the UTF-8 octets of a character string, and where the first one stands
+-- the UTF-8 octets of a character string, and the place of the first one
 abbrev pub text_in : Tree → Option (List ℕ × Option ℕ)
 text_in (leaf (text os at)) = Some (os, at)
 text_in _ = None

@@ -1,4 +1,4 @@
-//! Views are built from the front.
+//! Views are built in the order of the message.
 
 ghost use Rattle.std.specs.Prelude.{◌≡◌, ◌<◌, ◌^◌, ◌∷◌, [], List, None, OnOk, Some, length, ℕ, string_bytes};
 ghost use Rattle.views.specs.Building.{Building, Header, IsClosed, Waiting, begun, opened, open_alternative, open_fields, open_list, told_open, with_leaf, with_tree};
@@ -11,9 +11,10 @@ use crate::node::{Lists, Node, Told};
 use crate::view::View;
 use std::alloc::{AllocError, Global};
 
-/// A view while its message is read, from the front. Each call that adds something may be refused for want of memory
-/// alone; then the builder is of no more use. Members are numbered: a component by its place in order of definition, in
-/// whatever order components arrive; an element, the value of a CHOICE and the whole by 0. What is absent is left out.
+/// A view while its message is read, from its first octet on. Each call that adds something fails only if there is not
+/// enough memory; then the builder is of no more use. Members are numbered: a component by its place in order of
+/// definition, in whatever order components arrive; an element, the value of a CHOICE and the whole by 0. An absent
+/// component is left out.
 #[derive(Drop)]
 pub struct Builder<'a> {
     pub(crate) nodes: Vec<Node<'a>>,
@@ -22,7 +23,7 @@ pub struct Builder<'a> {
 }
 
 impl<'a> Builder<'a> {
-    /// Nothing yet.
+    /// A builder with nothing in it.
     pub fn new(alloc: Global) -> Self
         ensures { Holds result begun }
     {
@@ -49,7 +50,7 @@ impl<'a> Builder<'a> {
         Ok(())
     }
 
-    /// A BOOLEAN.
+    /// Adds a BOOLEAN.
     pub fn push_bool(&mut self, number: u32, truth: bool) -> Result<(), AllocError>
         ensures { (b : Building)
             → Holds self.old b
@@ -59,7 +60,7 @@ impl<'a> Builder<'a> {
         Ok(())
     }
 
-    /// An INTEGER.
+    /// Adds an INTEGER.
     pub fn push_int(&mut self, number: u32, value: i128) -> Result<(), AllocError>
         ensures { (b : Building)
             → Holds self.old b
@@ -69,7 +70,7 @@ impl<'a> Builder<'a> {
         Ok(())
     }
 
-    /// An ENUMERATED, by the number of its item.
+    /// Adds an ENUMERATED, by the number of its item.
     pub fn push_enum(&mut self, number: u32, item: i128) -> Result<(), AllocError>
         ensures { (b : Building)
             → Holds self.old b
@@ -79,7 +80,7 @@ impl<'a> Builder<'a> {
         Ok(())
     }
 
-    /// A NULL.
+    /// Adds a NULL.
     pub fn push_null(&mut self, number: u32) -> Result<(), AllocError>
         ensures { (b : Building)
             → Holds self.old b
@@ -89,7 +90,7 @@ impl<'a> Builder<'a> {
         Ok(())
     }
 
-    /// An OCTET STRING that is borrowed: its octets, and the place of the first one in the message, from 0.
+    /// Adds an OCTET STRING that is borrowed: its octets, and the place of the first one in the message, from 0.
     pub fn push_octets(&mut self, number: u32, value: &'a [u8], at: usize) -> Result<(), AllocError>
         requires { at < 2 ^ 32 }
         ensures { (b : Building)
@@ -101,8 +102,9 @@ impl<'a> Builder<'a> {
         Ok(())
     }
 
-    /// A BIT STRING that is borrowed: how many bits of its last octet are unused, the octets behind the one that tells
-    /// so, and the place of the first of them in the message, from 0.
+    /// Adds a BIT STRING that is borrowed. `unused` is how many bits of its last octet are unused; `value` are its
+    /// octets after the initial octet (X.690, 8.6.2). `at` is the place of the first of these octets in the message,
+    /// from 0.
     pub fn push_bits(
         &mut self,
         number: u32,
@@ -129,7 +131,7 @@ impl<'a> Builder<'a> {
         Ok(())
     }
 
-    /// A character string that is borrowed, and the place of its first octet in the message, from 0.
+    /// Adds a character string that is borrowed, with the place of its first octet in the message, from 0.
     pub fn push_text(&mut self, number: u32, value: &'a str, at: usize) -> Result<(), AllocError>
         requires { at < 2 ^ 32 }
         ensures { (b : Building)
@@ -141,7 +143,7 @@ impl<'a> Builder<'a> {
         Ok(())
     }
 
-    /// An OCTET STRING whose octets were joined from segments: they are copied.
+    /// Adds an OCTET STRING whose octets were joined from segments. They are copied.
     pub fn push_joined_octets(&mut self, number: u32, value: &[u8]) -> Result<(), AllocError>
         ensures { (b : Building)
             → Holds self.old b
@@ -153,7 +155,7 @@ impl<'a> Builder<'a> {
         Ok(())
     }
 
-    /// A BIT STRING whose octets were joined from segments: they are copied.
+    /// Adds a BIT STRING whose octets were joined from segments. They are copied.
     pub fn push_joined_bits(
         &mut self,
         number: u32,
@@ -172,7 +174,7 @@ impl<'a> Builder<'a> {
         Ok(())
     }
 
-    /// A character string that was joined from segments.
+    /// Adds a character string that was joined from segments.
     pub fn push_joined_text(&mut self, number: u32, value: String) -> Result<(), AllocError>
         ensures { (b : Building)
             → Holds self.old b
@@ -183,7 +185,7 @@ impl<'a> Builder<'a> {
         Ok(())
     }
 
-    /// An OBJECT IDENTIFIER by its numbers, which are copied.
+    /// Adds an OBJECT IDENTIFIER by its numbers, which are copied.
     pub fn push_oid(&mut self, number: u32, arcs: &[u64]) -> Result<(), AllocError>
         ensures { (b : Building)
             → Holds self.old b
@@ -195,7 +197,7 @@ impl<'a> Builder<'a> {
         Ok(())
     }
 
-    /// A RELATIVE-OID by its numbers, which are copied.
+    /// Adds a RELATIVE-OID by its numbers, which are copied.
     pub fn push_relative_oid(&mut self, number: u32, arcs: &[u64]) -> Result<(), AllocError>
         ensures { (b : Building)
             → Holds self.old b
@@ -221,7 +223,7 @@ impl<'a> Builder<'a> {
         Ok(())
     }
 
-    /// Opens a SEQUENCE or SET of so many components: those that are there follow, then `close`.
+    /// Opens a SEQUENCE or SET of `size` components: those that are there follow, then `close`.
     pub fn open_fields(&mut self, number: u32, size: usize) -> Result<(), AllocError>
         ensures { (b : Building) → Holds self.old b
             → OnOk result (Holds self.new (opened number (open_fields size) b)) }
@@ -248,8 +250,8 @@ impl<'a> Builder<'a> {
         Ok(())
     }
 
-    /// Closes the innermost node that is open, with the members that were added since: a CHOICE has just one. It takes
-    /// no memory. Where nothing is open, nothing is done.
+    /// Closes the innermost node that is open, with the members that were added since: a CHOICE has just one. The call
+    /// takes no memory. If nothing is open, nothing is done.
     pub fn close(&mut self)
         ensures { (b c : Building) (w : Waiting) (ws : List Waiting) (t : Tree)
             → Holds self.old b
@@ -272,7 +274,7 @@ impl<'a> Builder<'a> {
         }
     }
 
-    /// The view of the one value that was added, as number 0, where nothing is open.
+    /// The view of the one value that was added, as number 0. No node may be open.
     pub fn finish(self) -> View<'a>
         ensures { (t : Tree) → Holds self.entry (record { here = member 0 t no_member; waits = [] }) → IsView result t }
     {

@@ -1,4 +1,4 @@
-//! Nodes are read from the front.
+//! Nodes are read from the first one on.
 
 ghost use Rattle.std.specs.List.{slice_range};
 ghost use Rattle.std.specs.Prelude.{◌≡◌, ◌+◌, ◌≤◌, ◌<◌, ℕ, drop, length};
@@ -7,7 +7,7 @@ ghost use Rattle.views.specs.Tree.{Members, Tree};
 
 use crate::node::{Lists, Node, Told};
 
-/// What the first node of a tree tells.
+/// What the first node of a tree says.
 #[inline(always)]
 pub(crate) fn first_of<'a>(lists: &Lists, nodes: &[Node<'a>]) -> Told<'a>
     requires { (k : ℕ) × (t : Tree) × Spell (beside_of lists.now) nodes.now k t }
@@ -28,7 +28,7 @@ pub(crate) fn below<'v, 'a>(nodes: &'v [Node<'a>]) -> &'v [Node<'a>]
     nodes.split_at(1).1
 }
 
-/// The number of the member whose first node stands at a place, and how many nodes it has.
+/// The number of the member whose first node is at an index, and how many nodes it has.
 fn span_of(lists: &Lists, nodes: &[Node<'_>], at: usize) -> (u32, usize)
     requires left { (ms : Members) × Left (beside_of lists.now) nodes.now at ms }
     requires there { at < length nodes.now }
@@ -42,7 +42,7 @@ fn span_of(lists: &Lists, nodes: &[Node<'_>], at: usize) -> (u32, usize)
     (node.number, node.told.extent())
 }
 
-/// The number of the member whose first node stands at a place, and where its nodes end.
+/// The number of the member whose first node is at an index, and the index at which its nodes end.
 #[inline(always)]
 pub(crate) fn next_of(lists: &Lists, nodes: &[Node<'_>], at: usize) -> (u32, usize)
     requires left { (ms : Members) × Left (beside_of lists.now) nodes.now at ms }
@@ -57,7 +57,7 @@ pub(crate) fn next_of(lists: &Lists, nodes: &[Node<'_>], at: usize) -> (u32, usi
     (number, at + extent)
 }
 
-/// The nodes from a place up to another one.
+/// The nodes from one index up to another one.
 #[inline(always)]
 pub(crate) fn between<'v, 'a>(nodes: &'v [Node<'a>], from: usize, to: usize) -> &'v [Node<'a>]
     requires ordered { from ≤ to }

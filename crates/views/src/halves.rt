@@ -1,4 +1,4 @@
-//! Numbers of 128 bits in two halves, which ask for no more than 8 octets' alignment.
+//! Numbers of 128 bits in two halves, which need an alignment of only 8 octets.
 
 ghost use Rattle.std.specs.Prelude.{◌≡◌};
 ghost use Rattle.views.specs.Halves.{number_of};

@@ -5,8 +5,8 @@ ghost use Rattle.std.specs.Prelude.{◌≡◌, ◌+◌, ℕ, List, [], Option, S
 ghost use Rattle.views.specs.Building.{Building, Header, IsBorrowedSoFar, IsClosed, Waiting, begun, opened, with_leaf};
 ghost use Rattle.views.specs.Tree.{AreBorrowed, IsBorrowed, IsBorrowedLeaf, Leaf, Members, Tree, alternative_in, bit_string_in, component, member, members_in, no_member, octets_in, text_in};
 
-/// A view borrows the message, where each string that was added with a place stands there in it: nothing is borrowed at
-/// the beginning, each call of a builder keeps it, and so it is of the tree that is finished.
+/// A view borrows the message: each string that was added with a place is the message's octets at that place. Nothing
+/// is borrowed at the beginning, and each call of a builder keeps this, so it is true of the finished tree.
 pub fn borrowed_while_built()
     ensures begun { (message : List ℕ) → IsBorrowedSoFar message begun }
     ensures with_leaf { (message : List ℕ) (number : ℕ) (l : Leaf) (b : Building)
@@ -25,8 +25,8 @@ pub fn borrowed_while_built()
         → IsBorrowed message t }
 {}
 
-/// What a view that borrows the message shows with a place is the message's octets from that place on; and so is what
-/// its parts show.
+/// What a view that borrows the message shows with a place is the message's octets from that place on. The same is true
+/// of its parts.
 pub fn borrowed_parts()
     ensures octets { (message os : List ℕ) (at : ℕ) (t : Tree)
         → IsBorrowed message t

@@ -11,7 +11,7 @@ use asn_base::law::abstract_values;
 use asn_base::value::{BitString, Value};
 use std::alloc::{AllocError, Global};
 
-/// The value of a leaf; of any other node a NULL.
+/// The value of a leaf. The value of any other node is a NULL.
 pub(crate) fn leaf_value(alloc: Global, lists: &Lists, told: Told<'_>) -> Result<Value, AllocError>
     requires { IsToldWithin (beside_of lists.now) told }
     ensures { (l : Leaf)

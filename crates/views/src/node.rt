@@ -1,4 +1,4 @@
-//! Nodes of a view, and the lists beside them.
+//! Nodes of a view, and the lists beside the nodes.
 
 ghost use Rattle.std.specs.Prelude.{◌≡◌, ◌<◌, ◌++◌, ◌∷◌, [], length, get_or, map, IfOk, string_bytes};
 ghost use Rattle.views.specs.Nodes.{extent as extent', with_extent};
@@ -8,9 +8,8 @@ ghost use Rattle.std.specs.List.{slice_range};
 use crate::halves::Halves;
 use std::alloc::AllocError;
 
-/// What a node tells. Strings are slices of the message with their place in it, or stand in the lists beside the nodes,
-/// where they were joined from segments. `extent` is how many nodes it is
-/// with all below it, which stand right behind it.
+/// What a node says. A string is a slice of the message with its place, or an entry of the lists beside the nodes if it
+/// was joined from segments. `extent` is how many nodes it is with all below it, which come right after it.
 #[derive(Clone, Copy)]
 pub(crate) enum Told<'a> {
     Bool(bool),
@@ -61,7 +60,7 @@ pub(crate) enum Told<'a> {
     },
 }
 
-/// A node, with the number of the component that it is: 0 where it is no component.
+/// A node, with the number of the component that it is, or 0 if it is no component.
 #[derive(Clone, Copy)]
 pub(crate) struct Node<'a> {
     pub number: u32,
@@ -71,7 +70,7 @@ pub(crate) struct Node<'a> {
 /// A node takes 32 octets.
 const _: () = prove!(size_of::<Node<'static>>() == 32);
 
-/// What stands beside the nodes: octets and texts joined from segments, and the numbers of object identifiers.
+/// The lists beside the nodes: octets and texts joined from segments, and the numbers of object identifiers.
 #[derive(Drop)]
 pub(crate) struct Lists {
     pub octets: Vec<u8>,
@@ -92,7 +91,7 @@ impl<'a> Told<'a> {
         }
     }
 
-    /// The same with so many nodes.
+    /// The same with this extent. A leaf stays as it is.
     pub(crate) fn with_extent(self, extent: usize) -> Told<'a>
         ensures told { (b : Beside) → told_of b result ≡ with_extent (told_of b self.entry) extent }
         ensures within { (b : Beside) → IsToldWithin b self.entry → IsToldWithin b result }
@@ -107,7 +106,7 @@ impl<'a> Told<'a> {
 }
 
 impl Lists {
-    /// Adds octets, and tells where they begin.
+    /// Adds octets, and returns the index of the first one.
     pub(crate) fn add_octets(&mut self, octets: &[u8]) -> Result<usize, AllocError>
         ensures from { IfOk result (λ n. n ≡ length self.old.octets.items) }
         ensures added { IfOk result (λ _. self.new.octets.items ≡ self.old.octets.items ++ octets.now) }
@@ -119,7 +118,7 @@ impl Lists {
         Ok(from)
     }
 
-    /// Adds a text, and tells its place.
+    /// Adds a text, and returns its index.
     pub(crate) fn add_text(&mut self, text: String) -> Result<usize, AllocError>
         ensures from { IfOk result (λ n. n ≡ length self.old.texts.items) }
         ensures added { IfOk result (λ _. self.new.texts.items ≡ self.old.texts.items ++ text ∷ []) }
@@ -131,7 +130,7 @@ impl Lists {
         Ok(from)
     }
 
-    /// Adds numbers, and tells where they begin.
+    /// Adds numbers, and returns the index of the first one.
     pub(crate) fn add_arcs(&mut self, arcs: &[u64]) -> Result<usize, AllocError>
         ensures from { IfOk result (λ n. n ≡ length self.old.arcs.items) }
         ensures added { IfOk result (λ _. self.new.arcs.items ≡ self.old.arcs.items ++ arcs.now) }
@@ -143,7 +142,7 @@ impl Lists {
         Ok(from)
     }
 
-    /// The octets from a place up to another one.
+    /// The octets from one index up to another one.
     pub(crate) fn octets_in(&self, from: usize, to: usize) -> &[u8]
         requires { IsWithin from to (length self.now.octets.items) }
         ensures { result.now ≡ slice_range self.now.octets.items from to }
@@ -151,7 +150,7 @@ impl Lists {
         &self.octets[from..to]
     }
 
-    /// The numbers from a place up to another one.
+    /// The numbers from one index up to another one.
     pub(crate) fn arcs_in(&self, from: usize, to: usize) -> &[u64]
         requires { IsWithin from to (length self.now.arcs.items) }
         ensures { result.now ≡ slice_range self.now.arcs.items from to }
@@ -159,7 +158,7 @@ impl Lists {
         &self.arcs[from..to]
     }
 
-    /// The text at a place.
+    /// The text at an index.
     pub(crate) fn text_at(&self, place: usize) -> &str
         requires { place < length (map string_bytes self.now.texts.items) }
         ensures { result.now ≡ get_or (map string_bytes self.now.texts.items) place [] }

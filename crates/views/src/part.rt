@@ -1,4 +1,4 @@
-//! Parts of views: walking.
+//! Parts of views, and how to walk through them.
 
 ghost use Rattle.std.specs.Prelude.{◌≡◌, ◌-◌, ◌<◌, ◌≤◌, ℕ, IfSome, None, MatchOption, Some};
 ghost use Rattle.views.specs.Seen.{AreParts, IsMember, IsPart, Left, beside_of, nodes_in, nodes_left};
@@ -14,7 +14,7 @@ pub struct Part<'v, 'a> {
     pub(crate) lists: &'v Lists,
 }
 
-/// Members of a part, those that are left.
+/// Members of a part that are left.
 #[derive(Clone, Copy)]
 pub struct Parts<'v, 'a> {
     pub(crate) nodes: &'v [Node<'a>],
@@ -23,7 +23,7 @@ pub struct Parts<'v, 'a> {
 }
 
 impl<'v, 'a> Part<'v, 'a> {
-    /// The truth of a BOOLEAN, None of any other value.
+    /// The truth of a BOOLEAN, or None of any other value.
     #[inline(always)]
     pub fn as_bool(&self) -> Option<bool>
         requires { (t : Tree) × IsPart self.now t }
@@ -35,7 +35,7 @@ impl<'v, 'a> Part<'v, 'a> {
         }
     }
 
-    /// The number of an INTEGER, None of any other value.
+    /// The number of an INTEGER, or None of any other value.
     #[inline(always)]
     pub fn as_int(&self) -> Option<i128>
         requires { (t : Tree) × IsPart self.now t }
@@ -47,7 +47,7 @@ impl<'v, 'a> Part<'v, 'a> {
         }
     }
 
-    /// The number of the item of an ENUMERATED, None of any other value.
+    /// The number of the item of an ENUMERATED, or None of any other value.
     pub fn as_enumerated(&self) -> Option<i128>
         requires { (t : Tree) × IsPart self.now t }
         ensures { (t : Tree) → IsPart self.now t → result ≡ enumerated_in t }
@@ -58,7 +58,7 @@ impl<'v, 'a> Part<'v, 'a> {
         }
     }
 
-    /// Whether it is a NULL.
+    /// Whether the part is a NULL.
     pub fn is_null(&self) -> bool
         requires { (t : Tree) × IsPart self.now t }
         ensures { (t : Tree) → IsPart self.now t → result ≡ null_in t }
@@ -69,8 +69,8 @@ impl<'v, 'a> Part<'v, 'a> {
         }
     }
 
-    /// The octets of an OCTET STRING, with the place in the message of the first one, from 0, where they are a slice of
-    /// it; None in its stead where they were joined from segments. None of any other value.
+    /// The octets of an OCTET STRING, and the place in the message of the first one, from 0, if they are a slice of the
+    /// message. The place is None if they were joined from segments. The result is None of any other value.
     pub fn as_octets(&self) -> Option<(&'v [u8], Option<usize>)>
         requires { (t : Tree) × IsPart self.now t }
         ensures { (t : Tree)
@@ -84,8 +84,9 @@ impl<'v, 'a> Part<'v, 'a> {
         }
     }
 
-    /// How many bits of the last octet of a BIT STRING are unused, and its octets with the place in the message of the
-    /// first one (that behind the octet of the unused bits), as `as_octets` answers them. None of any other value.
+    /// How many bits of the last octet of a BIT STRING are unused, its octets, and the place in the message of the
+    /// first one, from 0. The first one is the octet after the initial octet, which gives the number of unused bits.
+    /// The place is None if the octets were joined from segments. The result is None of any other value.
     pub fn as_bits(&self) -> Option<(u8, &'v [u8], Option<usize>)>
         requires { (t : Tree) × IsPart self.now t }
         ensures { (t : Tree)
@@ -101,8 +102,8 @@ impl<'v, 'a> Part<'v, 'a> {
         }
     }
 
-    /// The text of a character string, with the place in the message of its first octet, as `as_octets` answers it.
-    /// None of any other value.
+    /// The text of a character string, and the place in the message of its first octet, from 0. The place is None if
+    /// the text was joined from segments. The result is None of any other value.
     pub fn as_text(&self) -> Option<(&'v str, Option<usize>)>
         requires { (t : Tree) × IsPart self.now t }
         ensures { (t : Tree)
@@ -116,7 +117,7 @@ impl<'v, 'a> Part<'v, 'a> {
         }
     }
 
-    /// The numbers of an OBJECT IDENTIFIER, None of any other value.
+    /// The numbers of an OBJECT IDENTIFIER, or None of any other value.
     pub fn as_oid(&self) -> Option<&'v [u64]>
         requires { (t : Tree) × IsPart self.now t }
         ensures { (t : Tree)
@@ -129,7 +130,7 @@ impl<'v, 'a> Part<'v, 'a> {
         }
     }
 
-    /// The numbers of a RELATIVE-OID, None of any other value.
+    /// The numbers of a RELATIVE-OID, or None of any other value.
     pub fn as_relative_oid(&self) -> Option<&'v [u64]>
         requires { (t : Tree) × IsPart self.now t }
         ensures { (t : Tree)
@@ -142,9 +143,9 @@ impl<'v, 'a> Part<'v, 'a> {
         }
     }
 
-    /// The member with this number, None where none has it. A component of a SEQUENCE or SET has its place in order of
-    /// definition as number; of the elements of a SEQUENCE OF or SET OF, all of which have 0, it is the first one. It
-    /// takes time with the number of members that are there, whatever stands below them.
+    /// The member with this number, or None if no member has it. The number of a component of a SEQUENCE or SET is its
+    /// place in order of definition. All elements of a SEQUENCE OF or SET OF have number 0, which finds the first one.
+    /// The time grows with the number of members that are there, whatever is below them.
     pub fn component(&self, number: u32) -> Option<Part<'v, 'a>>
         requires { (t : Tree) × IsPart self.now t }
         ensures { (t : Tree)
@@ -156,7 +157,7 @@ impl<'v, 'a> Part<'v, 'a> {
         self.members().find(number)
     }
 
-    /// How many members there are. It takes time with that number, whatever stands below them.
+    /// How many members there are. The time grows with that number, whatever is below them.
     pub fn count(&self) -> usize
         requires { (t : Tree) × IsPart self.now t }
         ensures { (t : Tree) → IsPart self.now t → result ≡ count' (members_in t) }
@@ -164,8 +165,8 @@ impl<'v, 'a> Part<'v, 'a> {
         self.members().count()
     }
 
-    /// The members of a SEQUENCE, SET, SEQUENCE OF or SET OF, in the order of the message; of any other value there are
-    /// none.
+    /// The members of a SEQUENCE, SET, SEQUENCE OF or SET OF, in the order of the message; no members of any other
+    /// value.
     pub fn members(&self) -> Parts<'v, 'a>
         requires { (t : Tree) × IsPart self.now t }
         ensures { (t : Tree) → IsPart self.now t → AreParts result (members_in t) }
@@ -177,7 +178,7 @@ impl<'v, 'a> Part<'v, 'a> {
         }
     }
 
-    /// The members of its nodes from a place on.
+    /// The members of the part's nodes from an index on.
     pub(crate) fn behind(&self, at: usize) -> Parts<'v, 'a>
         ensures at { nodes_left result ≡ nodes_in self.now - at }
         ensures parts { (ms : Members)
@@ -191,7 +192,7 @@ impl<'v, 'a> Part<'v, 'a> {
         }
     }
 
-    /// The number of the alternative of a CHOICE and its value, None of any other value.
+    /// The number of the alternative of a CHOICE and its value, or None of any other value.
     pub fn alternative(&self) -> Option<(usize, Part<'v, 'a>)>
         requires { (t : Tree) × IsPart self.now t }
         ensures { (t : Tree)
@@ -217,14 +218,15 @@ impl<'v, 'a> Part<'v, 'a> {
 }
 
 impl<'v, 'a> Parts<'v, 'a> {
-    /// The next member with the number of the component that it is, and those behind it; None where none is left.
+    /// The next member with the number of the component that it is, and the members after it; None if no member is
+    /// left.
     #[inline(always)]
     pub fn split(&self) -> Option<(u32, Part<'v, 'a>, Parts<'v, 'a>)>
         requires { (ms : Members) × AreParts self.now ms }
         ensures next { (ms : Members)
             → AreParts self.now ms
             → MatchOption result (ms ≡ no_member) (λ m. IsMember ms m.0 m.1 m.2) }
-        // The member and those behind it have no more nodes than are left, and these have fewer.
+        // The member and those after it have no more nodes than are left, and those after it have fewer.
         ensures member { IfSome result (λ m. nodes_in m.1 ≤ nodes_left self.now) }
         ensures fewer { IfSome result (λ m. nodes_left m.2 < nodes_left self.now) }
     {
@@ -247,7 +249,7 @@ impl<'v, 'a> Parts<'v, 'a> {
         ))
     }
 
-    /// The first of these members with this number, None where none has it.
+    /// The first of these members with this number, or None if none has it.
     pub fn find(&self, wanted: u32) -> Option<Part<'v, 'a>>
         requires { (ms : Members) × AreParts self.now ms }
         ensures found { (ms : Members)

@@ -1,4 +1,4 @@
-//! What a part shows, of whatever kind it is.
+//! What a part shows, of whatever kind its value is.
 
 ghost use Rattle.std.specs.Prelude.{◌≡◌};
 ghost use Rattle.views.specs.Seen.{IsBelow, IsPart, Shows, nodes_in};
@@ -8,9 +8,10 @@ use crate::front::{below, first_of};
 use crate::node::Told;
 use crate::part::{Part, Parts};
 
-/// What a part of a view shows: a value that holds no others, without its place in the message, a BIT STRING by how
-/// many bits of its last octet are unused and its octets; the members of a SEQUENCE or SET, with the number of its
-/// components, or of a SEQUENCE OF or SET OF; or the number of an alternative, with its value.
+/// What a part of a view shows. A value that holds no others is shown without its place in the message. `Bits` has the
+/// number of unused bits of the last octet, and the octets. `Fields` has the number of components of a SEQUENCE or SET,
+/// and the members that are there. `List` has the elements of a SEQUENCE OF or SET OF. `Alternative` has the number of
+/// an alternative of a CHOICE, and its value.
 #[derive(Clone, Copy)]
 pub enum Shown<'v, 'a> {
     Bool(bool),
@@ -28,7 +29,7 @@ pub enum Shown<'v, 'a> {
 }
 
 impl<'v, 'a> Part<'v, 'a> {
-    /// What it shows. It takes no memory; what is shown has fewer nodes than the part.
+    /// What the part shows. The call takes no memory. What is shown below the part has fewer nodes than the part.
     pub fn shown(&self) -> Shown<'v, 'a>
         requires { (t : Tree) × IsPart self.now t }
         ensures is { (t : Tree) → IsPart self.now t → Shows t result }

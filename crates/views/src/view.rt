@@ -14,7 +14,7 @@ use asn_base::law::abstract_values;
 use asn_base::value::Value;
 use std::alloc::{AllocError, Global};
 
-/// A value that was read from a message. It borrows the message where its strings are slices of it.
+/// A value that was read from a message. A string that is a slice of the message is borrowed from it.
 #[derive(Drop)]
 pub struct View<'a> {
     pub(crate) nodes: Vec<Node<'a>>,
@@ -22,7 +22,7 @@ pub struct View<'a> {
 }
 
 impl<'a> View<'a> {
-    /// The whole.
+    /// The part that is the whole view.
     pub fn top(&self) -> Part<'_, 'a>
         ensures { (t : Tree) → IsView self.now t → IsPart result t }
     {
@@ -32,8 +32,9 @@ impl<'a> View<'a> {
         }
     }
 
-    /// The value that it shows, in memory of its own, or `AllocError` for want of memory alone. It calls itself once
-    /// for each level of the value, as letting a value go does: a value of a schema has at most 64 levels.
+    /// The value that the view shows, in memory of its own, or `AllocError` if there is not enough memory. The call
+    /// recurses once for each level of the value, and so does dropping a value: a value of a schema has at most 64
+    /// levels.
     pub fn to_value(&self, alloc: Global) -> Result<Value, AllocError>
         requires { (t : Tree) × IsView self.now t }
         ensures { (t : Tree) → IsView self.now t → IfOk result (λ v. abstract v ≡ value_of t) }
@@ -107,7 +108,7 @@ fn elements(alloc: Global, lists: &Lists, nodes: &[Node<'_>]) -> Result<Vec<Valu
     Ok(values)
 }
 
-/// Adds one more.
+/// Adds one more item to a list.
 fn add<T: Drop>(list: &mut Vec<T>, one: T) -> Result<(), AllocError>
     ensures { OnOk result (list.new.items ≡ list.old.items ++ one ∷ []) }
 {
@@ -115,7 +116,7 @@ fn add<T: Drop>(list: &mut Vec<T>, one: T) -> Result<(), AllocError>
     Ok(())
 }
 
-/// A row of so many absent components.
+/// A row of `size` absent components.
 fn absent(alloc: Global, size: usize) -> Result<Vec<Option<Value>>, AllocError>
     ensures { IfOk result (λ vs. AreAbsent size vs.items) }
 {
@@ -126,7 +127,7 @@ fn absent(alloc: Global, size: usize) -> Result<Vec<Option<Value>>, AllocError>
     Ok(values)
 }
 
-/// The component with the number, where there is such a place and nothing stands there.
+/// Puts a value at the place of the component with the number, if there is such a place and it is still empty.
 fn put(values: &mut Vec<Option<Value>>, number: usize, one: Value)
     ensures { IsPut (map (option_map abstract) values.old.items)
         number

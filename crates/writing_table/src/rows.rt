@@ -57,20 +57,6 @@ pub(crate) fn leaf_row(tag: Tag, contents: usize) -> Told
     Told::Leaf(numbers(tag, contents))
 }
 
-/// The members of a SET or SET OF at their places.
-fn boxed(alloc: Global, members: u32, arrangement: Arrangement) -> Result<Box<Places>, AllocError>
-    ensures members { IfOk result (λ b. b.value.members ≡ members) }
-    ensures places { IfOk result (λ b. b.value.places.items ≡ arrangement.places.items) }
-    ensures inverse { IfOk result (λ b. b.value.inverse.items ≡ arrangement.inverse.items) }
-{
-    let places = Places {
-        members,
-        places: arrangement.places,
-        inverse: arrangement.inverse,
-    };
-    Ok(Box::new(alloc, places)?)
-}
-
 /// What the row of a header tells, of so many octets and members within it.
 pub(crate) fn header_row(
     alloc: Global,
@@ -90,7 +76,13 @@ pub(crate) fn header_row(
         RowKind::Wrap => Ok(Told::Wrap(numbers)),
         RowKind::Sequence => Ok(Told::Seq(numbers, members)),
         RowKind::SequenceOf => Ok(Told::SeqOf(numbers, members)),
-        RowKind::Set => Ok(Told::Set(numbers, boxed(alloc, members, arrangement)?)),
-        RowKind::SetOf => Ok(Told::SetOf(numbers, boxed(alloc, members, arrangement)?)),
+        RowKind::Set => {
+            let set = Places::of(alloc, members, arrangement.places, arrangement.inverse)?;
+            Ok(Told::Set(numbers, set))
+        }
+        RowKind::SetOf => {
+            let set = Places::of(alloc, members, arrangement.places, arrangement.inverse)?;
+            Ok(Told::SetOf(numbers, set))
+        }
     }
 }

@@ -1,4 +1,4 @@
--- What stands in the row of a set.
+-- The items in the row of a set.
 use Rattle.std.specs.Prelude.{◌≡◌, List}
 use Rattle.std.specs.List.{AllByRecursion}
 use Rattle.json.specs.Token.{Token}

@@ -1,16 +1,16 @@
--- Rows that are left, of the headers that are open.
+-- Whether the rows that are left are those of the headers that are open.
 use Rattle.std.specs.Prelude.{◌≡◌, ℕ, suc, ◌+◌, Bool, true, false, List, [], ◌∷◌, ◌++◌, length, reverse}
 use Rattle.encodings.specs.Account.{Rows}
 use Rattle.octet_account.specs.Flat.{FlatRow, a_leaf, a_wrap, a_seq, a_seqof, a_set, a_setof, an_absent, a_default}
 use Rattle.octet_account.specs.Flat.{count, member_rows, AllWritten, AreRowsWithin}
 use Rattle.account_text.specs.declared.stack.Open.{Open}
 
--- no member is left out, where that is asked
+-- no member is left out, if the header requires each to be written
 abbrev pub AsAsked : Bool → Rows → Type 0
 AsAsked true ms = AllWritten ms
 AsAsked false ms = Unit {0}
 
--- the members that are left of this header, nested at most n deep, and then those of the headers round it
+-- the rows are the members that are left of this header, nested at most n deep, and then those of the headers around it
 pub record LeftOf (n : ℕ) (f : Open) (others : List FlatRow → Type 0) (rs : List FlatRow) : Type 0 where
   pub members : Rows
   pub rest : List FlatRow
@@ -20,7 +20,7 @@ pub record LeftOf (n : ℕ) (f : Open) (others : List FlatRow → Type 0) (rs : 
   pub are : rs ≡ member_rows members ++ rest
   pub behind : others rest
 
--- the innermost header first
+-- the rows are the members that are left of the headers, of which the innermost is first
 abbrev pub Left : ℕ → List Open → List FlatRow → Type 0
 Left n [] rs = rs ≡ []
 Left n (f ∷ fs) rs = LeftOf n f (Left (suc n) fs) rs
@@ -28,15 +28,15 @@ Left n (f ∷ fs) rs = LeftOf n f (Left (suc n) fs) rs
 abbrev pub root : Open
 root = record { left = 1; all_written = true }
 
--- These rows are those of an account just where those that are left are those of the headers that are open, the
--- outermost first.
+-- All rows are those of an account if and only if the rows that are left are those of the open headers. Of these the
+-- outermost is first.
 pub record Stands (all : List FlatRow) (fs : List Open) (rs : List FlatRow) : Type 0 where
   pub level : ℕ
   pub deep : level + length fs ≡ 401
   pub to : Left 400 (root ∷ []) all → Left level (reverse fs) rs
   pub from : Left level (reverse fs) rs → Left 400 (root ∷ []) all
 
--- what a row opens
+-- the header that a row opens, if it opens one
 abbrev pub inside_of : FlatRow → List Open
 inside_of (a_leaf z) = []
 inside_of (a_wrap z) = record { left = 1; all_written = true } ∷ []

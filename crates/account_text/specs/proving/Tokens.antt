@@ -1,4 +1,4 @@
--- The tokens of rows, before those that follow.
+-- The tokens of rows, put before other tokens.
 use Rattle.std.specs.Prelude.{ℕ, List, [], ◌∷◌, codes, decimal}
 use Rattle.std.specs.List.{AllByRecursion}
 use Rattle.json.specs.Token.{Token, begin_array, end_array, string, number}
@@ -34,19 +34,19 @@ number_first n ts = number (decimal n) ∷ ts
 abbrev pub numbers_first : Numbers → List Token → List Token
 numbers_first z ts = number_first z.identifier (number_first z.size (number_first z.contents ts))
 
--- one after the other
+-- the tokens of each element, one after the other
 abbrev pub all_first : {A : Type 0} → (A → List Token → List Token) → List A → List Token → List Token
 all_first first [] ts = ts
 all_first first (x ∷ xs) ts = first x (all_first first xs ts)
 
--- without brackets
+-- the tokens of numbers, without brackets
 abbrev pub each_first : List ℕ → List Token → List Token
 each_first = all_first number_first
 
 abbrev pub list_first : List ℕ → List Token → List Token
 list_first ns ts = begin_array ∷ each_first ns (end_array ∷ ts)
 
--- behind the name, without the bracket at the end
+-- the tokens of a row after its name, without the bracket at the end
 abbrev pub told_first : FlatRow → List Token → List Token
 told_first (a_leaf z) ts = numbers_first z ts
 told_first (a_wrap z) ts = numbers_first z ts
@@ -60,11 +60,11 @@ told_first a_default ts = ts
 abbrev pub row_first : FlatRow → List Token → List Token
 row_first r ts = begin_array ∷ string (kind_name (kind_of r)) ∷ told_first r (end_array ∷ ts)
 
--- without brackets
+-- the tokens of rows, without brackets
 abbrev pub rows_first : List FlatRow → List Token → List Token
 rows_first = all_first row_first
 
--- all numbers of a row are within the bounds
+-- all numbers of a row are within their bounds
 abbrev pub IsSmallRow : FlatRow → Type 0
 IsSmallRow (a_leaf z) = AreSmall z
 IsSmallRow (a_wrap z) = AreSmall z

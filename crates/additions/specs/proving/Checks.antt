@@ -1,4 +1,4 @@
--- What the check of one list, of one type and of all types tells.
+-- The results of the checks of one list, of one type and of all types.
 use Rattle.std.specs.Prelude.{◌≡◌, ◌<◌, ◌-◌, ℕ, Bool, ℤ, List, Option, Some, None, option_map, slice_get}
 use Rattle.trees.specs.declared.module.TagDefault.{TagDefault}
 use Rattle.trees.specs.declared.types.ListKind.{ListKind}
@@ -17,26 +17,26 @@ pub record IsListAt (ts : List Type') (i : ℕ) (k : ListKind) (marker : Bool) (
   pub place : Option (ℕ × ℕ)
   pub is : Is ts i (members k marker cs) default place
 
--- the members before place n stand where they may
+-- each member before place n is at an allowed place
 abbrev pub ArePlacedBefore : Bool → List Part → ℕ → Type 0
 ArePlacedBefore marker cs n = (m : ℕ) (d : Part) → m < n → slice_get cs m ≡ Some d → IsPlaced marker cs m d
 
--- those of version brackets before place n stand together
+-- the members of version brackets before place n are adjacent
 abbrev pub AreTogetherBefore : List Part → ℕ → Type 0
 AreTogetherBefore cs n = (m : ℕ) (d : Part) → m < n → slice_get cs m ≡ Some d → IsTogether cs m d
 
--- the members before place n keep what is asked
+-- the members before place n are as required
 abbrev pub KeepBefore : List Type' → ListKind → Bool → List Part → ℕ → Type 0
 KeepBefore ts k marker cs n = (m : ℕ) (d : Part) → m < n → slice_get cs m ≡ Some d → Keeps ts k marker cs m d
 
--- an addition stands directly before place n
+-- the member directly before place n is an addition
 pub record FollowsAddition (cs : List Part) (n : ℕ) : Type 0 where
   pub positive : 0 < n
   pub member : Part
   pub there : slice_get cs (n - 1) ≡ Some member
   pub added : IsAdded member
 
--- a member before place n is of version brackets g
+-- a member before place n is in version brackets g
 pub record IsSeenBefore (cs : List Part) (n g : ℕ) : Type 0 where
   pub place : ℕ
   pub before : place < n
@@ -44,7 +44,7 @@ pub record IsSeenBefore (cs : List Part) (n g : ℕ) : Type 0 where
   pub there : slice_get cs place ≡ Some member
   pub of_group : IsOfGroup g member
 
--- these are the members of a list of this kind, of which those before place n keep what is asked
+-- these are the members of a list of this kind, of which those before place n are as required
 pub record IsChecked (ts : List Type') (k : ListKind) (cs : List Part) (n : ℕ) : Type 0 where
   pub list : ℕ
   pub marker : Bool
@@ -60,17 +60,17 @@ pub record FallsFirst (zs : List ℤ) (n : ℕ) : Type 0 where
   pub falls : IsNotAbove zs n
   pub before : AscendBefore zs n
 
--- type i breaks a rule at a place first
+-- type i breaks a rule first at this place
 pub record BreaksFirst (ts : List Type') (i : ℕ) (b : Broken) : Type 0 where
   pub breaks : Breaks ts b.rule i b.place
   pub before : (n : ℕ) → n < b.place → KeepsAt ts i n
 
--- so does a list by itself
+-- a list breaks a rule first at this place
 pub record BreaksListFirst (ts : List Type') (k : ListKind) (marker : Bool) (cs : List Part) (b : Broken) : Type 0 where
   pub breaks : BreaksIn ts b.rule k marker cs b.place
   pub before : KeepBefore ts k marker cs b.place
 
--- the name of item n behind the marker is written at this place
+-- the name of addition n of an enumeration is written at this place
 abbrev pub IsItemAt : Option (List EnumeratedItem) → ℕ → ℕ → Type 0
 IsItemAt None n at = ⊥
 IsItemAt (Some is) n at = (i : EnumeratedItem) × (slice_get is n ≡ Some i) × (i.name.at ≡ at)
@@ -79,7 +79,7 @@ IsItemAt (Some is) n at = (i : EnumeratedItem) × (slice_get is n ≡ Some i) ×
 abbrev pub IsMemberAt : List ListMember → ℕ → ℕ → Type 0
 IsMemberAt cs n at = (c : ListMember) × (slice_get cs n ≡ Some c) × (c.name.at ≡ at)
 
--- the name of member n, or of item n behind the marker, is written at this place of the text
+-- the name of member n, or of addition n of an enumeration, is written at this place of the text
 abbrev pub IsNamedAt : Shape → ℕ → ℕ → Type 0
 IsNamedAt (shapes.Members k m cs) n at = IsMemberAt cs.items n at
 IsNamedAt (shapes.Simple (simples.Enumerated e)) n at = IsItemAt (option_map (λ is. is.items) e.additions) n at

@@ -1,4 +1,4 @@
--- Where the check of all types tells what is wrong.
+-- The place that the check of all types reports.
 use Rattle.std.specs.Prelude.{◌≡◌, ℕ, List, Some, slice_get}
 use Rattle.type_table.specs.declared.table.Written.{Written}
 use Rattle.type_table.specs.Table.{Type'}
@@ -9,7 +9,7 @@ use Rattle.additions.specs.declared.check.Fault.{Fault}
 use Rattle.additions.specs.declared.check.Fault.TheVariants.{Memory, At}
 use Rattle.additions.specs.proving.Checks.{IsNamedAt}
 
--- of types that are written so, type i is the first that breaks a rule, at the member or item of this name's place
+-- of these written types, type i is the first that breaks a rule, at the member or item whose name is at this place
 pub record IsFirstOf (ts : List Type') (ws : List Written) (r : Rule) (i at : ℕ) : Type 0 where
   pub first : IsFirstBreak ts r i
   pub written : Written

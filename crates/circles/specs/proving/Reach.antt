@@ -5,7 +5,7 @@ use Rattle.names.specs.Modules.{StandsIn}
 use Rattle.type_table.specs.Table.{Part, Type'}
 use Rattle.circles.specs.Circles.{IsPart, Reaches}
 
--- all that stands in types, or is referred to there, are types of the table
+-- all types that the types contain or refer to are types of the table
 abbrev pub HasParts : List Type' → Type 0
 HasParts ts = (i k : ℕ) (t : Type') → slice_get ts i ≡ Some t → IsPart k t.kind → k < length ts
 
@@ -38,16 +38,16 @@ pub record LeadsTo (ts : List Type') (components : List Part) (j : ℕ) : Type 0
 abbrev pub IsMarked : ℕ → List ℕ → ℕ → Type 0
 IsMarked s marks j = slice_get marks j ≡ Some s
 
--- each mark is that of search s or of an earlier one
+-- each mark is that of search s or of an earlier search
 abbrev pub AreUpTo : ℕ → List ℕ → Type 0
 AreUpTo s marks = (j n : ℕ) → slice_get marks j ≡ Some n → n ≤ s
 
--- how many types aren't marked in search s
+-- the number of types that aren't marked in search s
 abbrev pub unmarked : ℕ → List ℕ → ℕ
 unmarked s [] = 0
 unmarked s (n ∷ marks) = cond (n == s) 0 1 + unmarked s marks
 
--- all types of which Q holds are marked now, and those that weren't wait
+-- All types for which Q holds are marked now. Those that weren't marked before are added to the list of waiting types.
 pub record Marks (s : ℕ) (Q : ℕ → Type 0) (marks marks' waiting waiting' : List ℕ) : Type 0 where
   pub long : length marks' ≡ length marks
   pub all : (j : ℕ) → Q j → IsMarked s marks' j
@@ -56,10 +56,10 @@ pub record Marks (s : ℕ) (Q : ℕ → Type 0) (marks marks' waiting waiting' :
   pub others : (j n : ℕ) → slice_get marks' j ≡ Some n → slice_get marks j ≡ Some n ⊎ (n ≡ s)
   pub wait : (j : ℕ) → StandsIn waiting j → StandsIn waiting' j
   pub marked : ((j : ℕ) → StandsIn waiting j → IsMarked s marks j) → (j : ℕ) → StandsIn waiting' j → IsMarked s marks' j
-  -- a type is marked where it begins to wait
+  -- a type is marked exactly when it is added to the list
   pub count : unmarked s marks' + length waiting' ≡ unmarked s marks + length waiting
 
--- exactly what the types that were marked reach is marked now
+-- exactly the types that the types marked before lead to are marked now
 pub record MarksReached (ts : List Type') (s : ℕ) (marks marks' : List ℕ) : Type 0 where
   pub long : length marks' ≡ length marks
   pub kept : (j : ℕ) → IsMarked s marks j → IsMarked s marks' j

@@ -1,4 +1,4 @@
--- What frames stand for.
+-- The meaning of frames.
 use Rattle.std.specs.Prelude.{◌≡◌, ℕ, suc, ◌+◌, ◌*◌, ◌⊎◌, List, [], ◌∷◌, length, Bool, true, false, Option, Some}
 use Rattle.std.specs.Prelude.{None, Result, IfErr}
 use Rattle.asn_base.specs.declared.schema.TypeId.{TypeId}
@@ -11,15 +11,15 @@ use Rattle.codec_source.specs.Events.{Event, begins, ends, Question, to_end}
 use Rattle.codec_source.specs.Reading.{Does}
 use Rattle.codec_source.specs.Stopping.{Stops, StopsThen}
 
--- a refusal but for want of memory says so
+-- P holds if the result is a fault other than `Memory`
 abbrev pub IfRefused : {A : Type 0} → Result A ReadFault → Type 0 → Type 0
 IfRefused r P = IfErr r (λ e. (e ≡ Memory → ⊥) → P)
 
--- a refusal but for want of memory says so of its fault
+-- P holds of the fault if the result is a fault other than `Memory`
 abbrev pub IfRefusedWith : {A : Type 0} → Result A ReadFault → (ReadFault → Type 0) → Type 0
 IfRefusedWith r P = IfErr r (λ e. (e ≡ Memory → ⊥) → P e)
 
--- two ways that lead to the same states
+-- two conditions that hold of the same states
 pub record Same {S : Type 0} (P Q : S → Type 0) : Type 0 where
   pub to : (z : S) → P z → Q z
   pub from : (z : S) → Q z → P z
@@ -28,59 +28,59 @@ abbrev pub Never : {S : Type 0} → (S → Type 0) → Type 0
 Never {S} P = (z : S) → P z → ⊥
 
 module _ {S : Type 0} (r : ℕ → List Step) (takes : S → Event → S → Type 0) where
-  -- steps to the end of a value
+  -- these steps lead to the end of a value
   abbrev pub Rests : List Step → S → S → Type 0
   Rests ss x z = (y : S) × Does r takes ss x y × takes y ends z
 
-  -- all frames, the last one first
+  -- all frames lead on, the last one first
   abbrev pub Goes : List Frame → S → S → Type 0
   Goes [] x z = x ≡ z
   Goes (f ∷ fs) x z = (y : S) × Goes fs x y × Rests f.steps.now y z
 
-  -- these steps, and then the frames
+  -- these steps lead to the end of a value, and then the frames lead on
   abbrev pub Before : List Step → List Frame → S → S → Type 0
   Before ss fs x z = (y : S) × Rests ss x y × Goes fs y z
 
-  -- a value of the type, and then these steps
+  -- a value of the type is read, if there is one, and then these steps lead on
   abbrev pub Then : Option TypeId → List Step → S → S → Type 0
   Then None ss x z = Does r takes ss x z
   Then (Some t) ss x z =
       (a : S) × (b : S) × (c : S) × takes x (begins t) a × Does r takes (r t.index) a b × takes b ends c
       × Does r takes ss c z
 
-  -- the same, and then the frames
+  -- a value of the type is read, these steps lead to the end of a value, and then the frames lead on
   abbrev pub ThenBefore : Option TypeId → List Step → List Frame → S → S → Type 0
   ThenBefore t ss fs x z = (y : S) × ((w : S) × Then t ss x w × takes w ends y) × Goes fs y z
 
 module _ {S : Type 0} (r : ℕ → List Step) (takes : S → Event → S → Type 0) (leaves : S → Question → S → Type 0) where
-  -- steps to the end of a value come to a question without an answer, or the value does not end
+  -- the steps come to a question without an answer, or they lead to the end of their value, which doesn't end
   abbrev pub RestsStop : List Step → S → S → Type 0
   RestsStop ss x z =
       Stops r takes leaves ss x z
       ⊎ ((y : S) × Does r takes ss x y × ((c : S) → takes y ends c → ⊥) × leaves y to_end z)
 
-  -- one of the frames does, the last one first
+  -- one of the frames stops, the last one first
   abbrev pub GoesStop : List Frame → S → S → Type 0
   GoesStop [] x z = ⊥
   GoesStop (f ∷ fs) x z = GoesStop fs x z ⊎ ((y : S) × Goes r takes fs x y × RestsStop f.steps.now y z)
 
-  -- these steps do, or then one of the frames
+  -- these steps stop, or then one of the frames stops
   abbrev pub BeforeStops : List Step → List Frame → S → S → Type 0
   BeforeStops ss fs x z = RestsStop ss x z ⊎ ((y : S) × Rests r takes ss x y × GoesStop fs y z)
 
-  -- a value of the type, and these steps to the end of a value
+  -- a value of the type, if there is one, or then these steps to the end of a value stop
   abbrev pub ThenStops : Option TypeId → List Step → S → S → Type 0
   ThenStops t ss x z =
       StopsThen r takes leaves t ss x z
       ⊎ ((w : S) × Then r takes t ss x w × ((c : S) → takes w ends c → ⊥) × leaves w to_end z)
 
-  -- they do, or then one of the frames
+  -- they stop, or then one of the frames stops
   abbrev pub ThenBeforeStops : Option TypeId → List Step → List Frame → S → S → Type 0
   ThenBeforeStops t ss fs x z =
       ThenStops t ss x z
       ⊎ ((y : S) × ((w : S) × Then r takes t ss x w × takes w ends y) × GoesStop fs y z)
 
--- the frames lead where those at the start lead, and stop where they stop
+-- the frames lead to the states to which those at the start lead, and stop only where those stop
 pub record IsUnderWay {S : Type 0} (r : ℕ → List Step) (takes : S → Event → S → Type 0)
     (leaves : S → Question → S → ReadFault → Type 0) (start : List Frame) (x : S) (frames : List Frame) (y : S) : Type 0 where
   pub same : Same (Goes r takes start x) (Goes r takes frames y)
@@ -88,7 +88,7 @@ pub record IsUnderWay {S : Type 0} (r : ℕ → List Step) (takes : S → Event 
       → GoesStop r takes (λ a q b. leaves a q b e) frames y z
       → GoesStop r takes (λ a q b. leaves a q b e) start x z
 
--- how many steps the frames have, where the source has room for some values, and a routine has at most l steps
+-- the number of steps of the frames, and one for each frame
 abbrev pub frame_steps : List Frame → ℕ
 frame_steps [] = 0
 frame_steps (f ∷ fs) = suc (length f.steps.now) + frame_steps fs
@@ -96,7 +96,7 @@ frame_steps (f ∷ fs) = suc (length f.steps.now) + frame_steps fs
 abbrev pub weighs : ℕ → ℕ → List Frame → ℕ
 weighs l room fs = room * (2 + l) + frame_steps fs
 
--- a component of a SET
+-- whether the step is a component of a SET
 abbrev pub is_ranked : Step → Bool
 is_ranked (Ranked f r) = true
 is_ranked s = false

@@ -1,4 +1,4 @@
--- What is answered of texts and ranges of characters.
+-- The results for texts and ranges of characters.
 use Rattle.std.specs.Prelude.{◌↔◌, ◌⊎◌, ◌<◌, ◌≤◌, ℕ, List}
 use Rattle.asn_base.specs.Names.{IsMember}
 use Rattle.names.specs.Modules.{StandsIn}
@@ -19,7 +19,7 @@ IsCharsFault x (faults.Reversed at) = IsTurned x
 abbrev pub AreCharsWrong : List CharsTree → CharsFault → Type 0
 AreCharsWrong xs f = (x : CharsTree) × StandsIn xs x × IsCharsFault x f
 
--- the text or range is fit, and its characters are added
+-- the text or range is right, and its characters are added
 pub record Adds (x : CharsTree) (old new : List ℕ) : Type 0 where
   pub fit : IsFit x
   pub members : (c : ℕ) → (IsMember c new ↔ (IsMember c old ⊎ (IsAmong x c × (c < 128))))

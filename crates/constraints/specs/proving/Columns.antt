@@ -1,4 +1,4 @@
--- What is noted for the types of a program.
+-- The limits that are noted for the types of a program.
 use Rattle.std.specs.Prelude.{◌≡◌, ◌↔◌, ◌⊎◌, ◌<◌, ◌+◌, ℕ, ℤ, List, [], Option, Some, None, true, length, slice_get, IsTrue}
 use Rattle.std.specs.Prelude.{Vec, map, false}
 use Rattle.std.specs.Global.{Global}
@@ -25,19 +25,19 @@ use Rattle.constraints.specs.declared.meaning.Rule.{Rule}
 use Rattle.constraints.specs.declared.meaning.Rule.TheVariants as rules
 use Rattle.constraints.specs.proving.Limits.{LeavesSome}
 
--- the characters of one of the four restricted strings; of other types nothing is said
+-- the codes of the allowed characters of one of the four restricted strings; for other types any codes
 abbrev pub HasAlphabet : Program → Kind → ℕ → List ℕ → Type 0
 HasAlphabet p (simple (a_restricted_string s)) i cs = (c : ℕ) → (IsMember c cs ↔ IsInAlphabet p s i c)
 HasAlphabet p k i cs = Unit {0}
 
--- what the constraints of type i, which is of kind k, leave
+-- l is what the constraints of type i, which is of kind k, allow
 pub record IsLeft (p : Program) (k : Kind) (i : ℕ) (l : Limit) : Type 0 where
   pub numbers : (z : ℤ) → (IsInSome z l.numbers ↔ IsInRoot p k i z)
   pub codes : HasAlphabet p k i l.codes
   pub extensible : l.extensible ≡ true ↔ IsExtensible p i
   pub some : LeavesSome k l
 
--- what is asked of the constraints of type i and of those of the types behind it
+-- what is required of the constraints of type i and of those of the types that its references and tags lead to
 pub record IsGood (p : Program) (i : ℕ) : Type 0 where
   pub fitting : (steps j n : ℕ) (k : Kind) (M : Name) (c : ConstraintTree) →
       walk p.types steps i ≡ Some j →
@@ -53,12 +53,12 @@ pub record IsLimitOf (p : Program) (i : ℕ) (l : Limit) : Type 0 where
 abbrev pub IsNoted : List (Option ℕ) → ℕ → Type 0
 IsNoted at i = (a : ℕ) × (slice_get at i ≡ Some (Some a))
 
--- what is noted is right
+-- each noted limit is right
 pub record AreNoted (p : Program) (at : List (Option ℕ)) (limits : List Limit) : Type 0 where
   pub long : length at ≡ length p.types
   pub each : (i a : ℕ) → slice_get at i ≡ Some (Some a) → (l : Limit) × (slice_get limits a ≡ Some l) × IsLimitOf p i l
 
--- each type of the list is followed by the one behind it, where no limit is noted for that
+-- each type of the list is followed by the type that it is a reference or tag of, unless that has a noted limit
 pub record IsTrail (ts : List Type') (at : List (Option ℕ)) (start : ℕ) (v : List ℕ) : Type 0 where
   pub inside : (n i : ℕ) → slice_get v n ≡ Some i → i < length ts
   pub follows : (n i j : ℕ) → slice_get v n ≡ Some i → next ts i ≡ Some j → IsNoted at j ⊎ (slice_get v (n + 1) ≡ Some j)
@@ -76,7 +76,7 @@ Breaks p rules.MarkerPlace i = HasConstraint p i IsMisplaced
 abbrev pub IsRoundAt : Program → ℕ → Type 0
 IsRoundAt p v = (ty : ℕ) × HasConstraint p ty (IsRound p v)
 
--- what is wrong with the constraints of a program
+-- the fault is true of the constraints of a program
 abbrev pub IsFault : Program → Fault → Type 0
 IsFault p faults.Memory = Unit {0}
 IsFault p (faults.Circular v) = IsRoundAt p v × (v < length p.values)
@@ -109,7 +109,7 @@ pub record AreAllNoted (p : Program) (at : List (Option ℕ)) (limits : List Lim
   pub noted : AreNoted p at limits
   pub all : (i : ℕ) → i < length p.types → IsNoted at i
 
--- a type behind type i bears the constraint
+-- a type that type i is a reference or tag of has the constraint
 pub record BearsBehind (p : Program) (i : ℕ) (M : Name) (c : ConstraintTree) : Type 0 where
   pub behind : ℕ
   pub leads : next p.types i ≡ Some behind
@@ -120,7 +120,7 @@ HasCodesBehind p (simple (a_restricted_string s)) i cs = (x : ℕ) →
     (IsMember x cs ↔ (IsTrue (is_character s x) × ((M : Name) (c : ConstraintTree) → BearsBehind p i M c → AllowsCharacter c x)))
 HasCodesBehind p k i cs = Unit {0}
 
--- what the constraints of the types behind type i, which is of kind k, leave
+-- l is what the constraints of the types that type i, of kind k, leads to allow
 pub record Inherits (p : Program) (i : ℕ) (l : Limit) (k : Kind) : Type 0 where
   pub numbers : (z : ℤ) →
       (IsInSome z l.numbers
@@ -132,14 +132,14 @@ pub record IsStartOf (p : Program) (i : ℕ) (l : Limit) : Type 0 where
   pub inherits : (k : Kind) → IsOfKind p.types i k → Inherits p i l k
   pub good : (j : ℕ) → next p.types i ≡ Some j → IsGood p j
 
--- type i is a reference to type j or a tag before it, without constraints
+-- type i is a reference to type j or a tag before it, and has no constraints of its own
 pub record IsShared (ts : List Type') (i j : ℕ) : Type 0 where
   pub type : Type'
   pub there : slice_get ts i ≡ Some type
   pub none : type.constraints ≡ []
   pub leads : next ts i ≡ Some j
 
--- the ranges of what is allowed, or none where everything is
+-- the ranges of the allowed numbers, or None if an extension marker allows every number
 abbrev pub AreAllowed : Limit → Option (Vec Range' Global) → Type 0
 AreAllowed l None = l.extensible ≡ true
 AreAllowed l (Some v) = (l.extensible ≡ false) × (map range_of v.items ≡ l.numbers)

@@ -1,4 +1,4 @@
--- What is left of the numbers, sizes and characters of a type of kind k.
+-- The numbers, sizes and characters that constraints of a type of kind k allow.
 use Rattle.std.specs.Prelude.{◌≡◌, ◌↔◌, ◌⊎◌, ◌<◌, ℕ, ℤ, List, [], Option, Some, None, true, false, ◌||◌, length, slice_get, IsTrue, pos, if◌then◌else◌}
 use Rattle.asn_base.specs.Names.{IsMember}
 use Rattle.asn_base.specs.Schemas.{is_character}
@@ -19,7 +19,7 @@ use Rattle.constraints.specs.declared.meaning.Wrong.{Wrong}
 use Rattle.constraints.specs.declared.meaning.Wrong.TheVariants as wrongs
 use Rattle.constraints.specs.proving.Meanings.{BreaksAlone}
 
--- the characters of one of the four restricted strings; of other types nothing is said
+-- the codes of the characters of one of the four restricted strings; for other types any codes
 abbrev pub HasCodes : Kind → List ℕ → Type 0
 HasCodes (simple (a_restricted_string s)) cs = (c : ℕ) → (IsMember c cs ↔ IsTrue (is_character s c))
 HasCodes k cs = Unit {0}
@@ -27,7 +27,7 @@ HasCodes k cs = Unit {0}
 abbrev pub floor : Kind → Option ℤ
 floor k = if is_integer k then None else Some (pos 0)
 
--- no constraint stands
+-- there are no constraints
 pub record IsFirst (k : Kind) (l : Limit) : Type 0 where
   pub numbers : (z : ℤ) → (IsInSome z l.numbers ↔ IsCounted k z)
   pub codes : HasCodes k l.codes
@@ -46,13 +46,13 @@ abbrev pub AmongAny : Option (List ℕ) → ℕ → Type 0
 AmongAny None c = Unit {0}
 AmongAny (Some cs) c = IsMember c cs
 
--- one constraint more
+-- what is allowed after one more constraint
 pub record IsNarrowed (l : Limit) (m : Meaning) (n : Limit) : Type 0 where
   pub numbers : (z : ℤ) → (IsInSome z n.numbers ↔ (IsInSome z l.numbers × InAny m.numbers z))
   pub codes : (c : ℕ) → (IsMember c n.codes ↔ (IsMember c l.codes × AmongAny m.codes c))
   pub extensible : n.extensible ≡ (l.extensible || m.marker)
 
--- of the first n constraints of type cs, read in module M, one has a marker
+-- one of the first n of constraints cs has a marker
 pub record IsMarkedIn (cs : List ConstraintTree) (n : ℕ) : Type 0 where
   pub number : ℕ
   pub constraint : ConstraintTree
@@ -60,7 +60,7 @@ pub record IsMarkedIn (cs : List ConstraintTree) (n : ℕ) : Type 0 where
   pub there : slice_get cs number ≡ Some constraint
   pub marked : has_marker constraint ≡ true
 
--- what the first n of constraints cs, read in module M, leave of l
+-- m is what the first n of constraints cs, read in module M, allow of what l allows
 pub record Narrows (p : Program) (k : Kind) (M : Name) (cs : List ConstraintTree) (n : ℕ) (l m : Limit) : Type 0 where
   pub numbers : (z : ℤ) → IsCounted k z →
       (IsInSome z m.numbers
@@ -72,21 +72,21 @@ pub record Narrows (p : Program) (k : Kind) (M : Name) (cs : List ConstraintTree
   pub fewer_codes : (x : ℕ) → IsMember x m.codes → IsMember x l.codes
   pub marked : m.extensible ≡ true ↔ ((l.extensible ≡ true) ⊎ IsMarkedIn cs n)
   pub fitting : (i : ℕ) (c : ConstraintTree) → i < n → slice_get cs i ≡ Some c → IsFitting p k M c
-  -- nothing stands behind a marker
+  -- no constraint comes after a marker
   pub last : (i : ℕ) → i < n → ((l.extensible ≡ true) ⊎ IsMarkedIn cs i) → ⊥
 
 -- constraint i has property P
 abbrev pub HasAt : List ConstraintTree → (ℕ → ConstraintTree → Type 0) → Type 0
 HasAt cs P = (i : ℕ) × (c : ConstraintTree) × (slice_get cs i ≡ Some c) × P i c
 
--- what is wrong with one of constraints cs, read in module M, behind others that leave l
+-- the fault is true of one of constraints cs, read in module M; l is what earlier constraints allow
 abbrev pub AreWrong : Program → Kind → Name → List ConstraintTree → Limit → Wrong → Type 0
 AreWrong p k M cs l wrongs.Memory = Unit {0}
 AreWrong p k M cs l (wrongs.Circular v) = HasAt cs (λ i c. IsRound p v k M c)
 AreWrong p k M cs l (wrongs.At rules.Reconstrained at) = HasAt cs (λ i c. (l.extensible ≡ true) ⊎ IsMarkedIn cs i)
 AreWrong p k M cs l (wrongs.At rule at) = HasAt cs (λ i c. BreaksAlone p k M c rule)
 
--- no number or size is left, or no character of one of the four restricted strings
+-- no number or size is allowed, or no character of one of the four restricted strings
 abbrev pub LeavesNothing : Kind → Limit → Type 0
 LeavesNothing k l = ((z : ℤ) → IsInSome z l.numbers → ⊥) ⊎ ((has_alphabet k ≡ true) × (l.codes ≡ []))
 
@@ -100,7 +100,7 @@ pub record LeavesNone (p : Program) (k : Kind) (M : Name) (cs : List ConstraintT
   pub narrows : Narrows p k M cs (length cs) l limit
   pub nothing : LeavesNothing k limit
 
--- what is wrong with all of them
+-- the fault is true of all of these constraints
 abbrev pub IsLimitFault : Program → Kind → Name → List ConstraintTree → Limit → Wrong → Type 0
 IsLimitFault p k M cs l (wrongs.At rules.Empty at) = LeavesNone p k M cs l
 IsLimitFault p k M cs l w = AreWrong p k M cs l w

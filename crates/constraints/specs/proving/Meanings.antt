@@ -1,4 +1,4 @@
--- What is answered of one constraint of a type of kind k, read in module M.
+-- The results for one constraint of a type of kind k, read in module M.
 use Rattle.std.specs.Prelude.{◌≡◌, ◌↔◌, ◌<◌, ℕ, ℤ, List, MatchOption, true}
 use Rattle.asn_base.specs.Names.{IsMember}
 use Rattle.asn_base.specs.Types.{Range}
@@ -25,13 +25,13 @@ abbrev pub ranged : Counted → RangesTree → ConstraintTree
 ranged Numbers r = values_in r
 ranged Sizes r = sizes_in r
 
--- the numbers of ranges, whose marker stands where it may
+-- the numbers of ranges, whose marker is at an allowed place
 pub record AreNumbersOf (p : Program) (k : Kind) (M : Name) (of : Counted) (r : RangesTree) (ns : List Range) : Type 0 where
   pub ranges : AreRanges p k M (IsOf of) r.ranges
   pub marked : is_marked k (ranged of r) ≡ true
   pub same : (z : ℤ) → (IsInSome z ns ↔ (IsOf of z × IsWithinOne p k M r.ranges z))
 
--- what a constraint allows
+-- m is what a constraint allows
 pub record IsMeaningOf (p : Program) (k : Kind) (M : Name) (c : ConstraintTree) (m : Meaning) : Type 0 where
   pub fitting : IsFitting p k M c
   pub numbers : MatchOption m.numbers

@@ -1,4 +1,4 @@
--- What the parts of a check tell first.
+-- The fault that the parts of a check report first.
 use Rattle.std.specs.Prelude.{◌≡◌, ◌⊎◌, ℕ, true, false, List, Some, slice_get}
 use Rattle.trees.specs.declared.constraint.RangesSyntax.{RangesSyntax}
 use Rattle.trees.specs.Constraints.{ranges_of}
@@ -17,7 +17,7 @@ use Rattle.constraints.specs.declared.meaning.Wrong.{Wrong}
 use Rattle.constraints.specs.declared.meaning.Wrong.TheVariants as wrongs
 use Rattle.constraints.specs.proving.Meanings.{ranged}
 
--- of ranges, in a constraint at the place
+-- the first fault of ranges, in a constraint at the place
 pub data AreRangesWrong (p : Program) (k : Kind) (M : Name) (of : Counted) (place : ℕ) (r : RangesSyntax) (w : Wrong)
     : Type 0 where
   no_memory : w ≡ wrongs.Memory → AreRangesWrong p k M of place r w
@@ -30,18 +30,18 @@ pub data AreRangesWrong (p : Program) (k : Kind) (M : Name) (of : Counted) (plac
       w ≡ wrong_of f →
       AreRangesWrong p k M of place r w
 
--- of a type, if there was enough memory
+-- the first fault of a type, or `Memory`
 abbrev pub TellsOfType : Program → ℕ → Fault → Type 0
 TellsOfType p i f = (f ≡ faults.Memory) ⊎ IsTypeFault p i f
 
--- of one of these types
+-- the first fault of one of these types, or `Memory`
 abbrev pub TellsOfOne : Program → List ℕ → Fault → Type 0
 TellsOfOne p is f = (f ≡ faults.Memory) ⊎ ((n i : ℕ) × (slice_get is n ≡ Some i) × IsTypeFault p i f)
 
--- of a program
+-- the first fault of a program, or `Memory`
 abbrev pub TellsFirstOf : Program → Fault → Type 0
 TellsFirstOf p f = (f ≡ faults.Memory) ⊎ IsFirstFault p f
 
--- type n of these is n steps after the type that they start from
+-- type n of these is n steps after the type at which they start
 abbrev pub AreBehind : List Type' → ℕ → List ℕ → Type 0
 AreBehind ts start is = (n i : ℕ) → slice_get is n ≡ Some i → walk ts n start ≡ Some i

@@ -1,6 +1,6 @@
 //! Each growth refused in turn: `Memory` and nothing out, or the answer.
 
-use super::modules::{OCTETS, kit, texts};
+use super::modules::{OCTETS, PACKED, kit, texts};
 use asnc::{Fault, Kit, Sink};
 use starving::{Starved, Swept, Turn, sweep};
 use std::alloc::Global;
@@ -45,6 +45,21 @@ impl Starved for Encoding {
     fn call(&mut self, alloc: Global) -> Turn {
         match self.kit.der(alloc, "B.T", "A.v") {
             Ok((octets, _account)) => answer(octets.as_slice() == OCTETS.as_slice()),
+            Err(fault) => refusal(&fault),
+        }
+    }
+}
+
+/// `Kit::uper`.
+#[derive(Drop)]
+struct Packing {
+    kit: Kit,
+}
+
+impl Starved for Packing {
+    fn call(&mut self, alloc: Global) -> Turn {
+        match self.kit.uper(alloc, "B.T", "A.v") {
+            Ok(octets) => answer(octets.as_slice() == PACKED.as_slice()),
             Err(fault) => refusal(&fault),
         }
     }
@@ -154,6 +169,14 @@ fn der_with_ever_more_memory(rt: HostRuntime) -> Result<(), Fail> {
     let mut encoding = Encoding { kit: kit(alloc)? };
     let swept = sweep(alloc, &mut encoding)?;
     told(&rt, "Kit::der", swept)
+}
+
+#[test]
+fn uper_with_ever_more_memory(rt: HostRuntime) -> Result<(), Fail> {
+    let alloc = rt.alloc();
+    let mut packing = Packing { kit: kit(alloc)? };
+    let swept = sweep(alloc, &mut packing)?;
+    told(&rt, "Kit::uper", swept)
 }
 
 #[test]

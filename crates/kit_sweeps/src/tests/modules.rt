@@ -51,3 +51,6 @@ pub fn reading_kit(alloc: Global) -> Result<Kit, Fail> {
 pub const OCTETS: [u8; 13] = [
     0x30, 0x0B, 0x02, 0x01, 0x07, 0x31, 0x06, 0x01, 0x01, 0x00, 0x01, 0x01, 0xFF,
 ];
+
+/// Its bits, worked out by hand: 0 for the component that is its DEFAULT, 0111, 2 in 8 bits, 0 and 1 in ascending order.
+pub const PACKED: [u8; 2] = [0x38, 0x12];

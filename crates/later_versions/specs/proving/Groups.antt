@@ -1,4 +1,4 @@
--- Groups of components that stand together, told by neighbours.
+-- Groups of adjacent components, recognized by neighbours.
 use Rattle.std.specs.Prelude.{◌≡◌, ◌↔◌, ℕ, ◌+◌, ◌<◌, List, length}
 use Rattle.asn_base.specs.Types.{Component}
 use Rattle.asn_base.specs.Typed.{IsOfGroup}
@@ -7,14 +7,14 @@ use Rattle.later_versions.specs.Later.{AreInOneGroup}
 abbrev pub AreOfOne : Component → Component → Type 0
 AreOfOne c d = (g : ℕ) × IsOfGroup g c × IsOfGroup g d
 
--- the component at place i and the one before it are of one group
+-- the component at place i and the one before it are in one group
 pub record AreJoined (cs : List Component) (i : ℕ) : Type 0 where
   pub before : ℕ
   pub next : i ≡ before + 1
   pub one : AreInOneGroup cs before i
 
--- the components of the first list stand in groups where the others do, and each is joined to the one before where the
--- other one is; what follows isn't joined to them
+-- A component of the first list is in a group if and only if the one at its place in the other list is. It is joined to
+-- the one before it if and only if the other is. What follows in the other list isn't joined to them.
 pub record HaveSameGroups (cs ds : List Component) : Type 0 where
   pub grouped : (i : ℕ) → i < length cs → (AreInOneGroup cs i i ↔ AreInOneGroup ds i i)
   pub joined : (i : ℕ) → i < length cs → (AreJoined cs i ↔ AreJoined ds i)

@@ -1,4 +1,4 @@
--- What is kept of a component, which may be absent.
+-- What is kept of a component that may be absent.
 use Rattle.std.specs.Prelude.{ℕ, List, Option, Some, None, option_map}
 use Rattle.asn_base.specs.Abstract.{AbstractValue}
 use Rattle.asn_base.specs.Types.{Resolved}

@@ -1,4 +1,4 @@
--- Pairs of types that were met.
+-- The pairs of types that were met.
 use Rattle.std.specs.Prelude.{◌≡◌, ℕ, ◌<◌, true, List, ◌++◌, map, Some, slice_get}
 use Rattle.std.specs.List.{list_any, AllByRecursion}
 use Rattle.std.specs.Ordering.{is_eq, nat_cmp, ordering_then}
@@ -31,7 +31,7 @@ HasMet ps p = IsMember p (met ps)
 abbrev pub AreKnown : Pairs → Type 0
 AreKnown ps = (p : ℕ × ℕ) → IsIn ps.known.keys p → HasMet ps p
 
--- the later pairs are the earlier ones, and behind them some of which P holds
+-- the later pairs are the earlier ones, followed by some for which P holds
 abbrev pub AreNoted : Pairs → Pairs → (ℕ × ℕ → Type 0) → Type 0
 AreNoted old new P = (more : List (ℕ × ℕ)) × (met new ≡ met old ++ more) × AllByRecursion P more
 
@@ -39,7 +39,7 @@ AreNoted old new P = (more : List (ℕ × ℕ)) × (met new ≡ met old ++ more)
 abbrev pub IsMemberPair : List Resolved → List Resolved → ℕ × ℕ → ℕ × ℕ → Type 0
 IsMemberPair s s' q p = (i : ℕ) × (slice_get (members_of s q.0) i ≡ Some p.0) × (slice_get (members_of s' q.1) i ≡ Some p.1)
 
--- the second type of the pair is what the first may be in a later version
+-- the second type of the pair can be a later version of the first, apart from the types of members
 abbrev pub IsFine : List Resolved → List Resolved → ℕ × ℕ → Type 0
 IsFine s s' p = (q r : Resolved) → slice_get s p.0 ≡ Some q → slice_get s' p.1 ≡ Some r → IsLaterType s q r
 
@@ -47,8 +47,8 @@ IsFine s s' p = (q r : Resolved) → slice_get s p.0 ≡ Some q → slice_get s'
 abbrev pub IsReached : List Resolved → ℕ → List Resolved → ℕ → ℕ × ℕ → Type 0
 IsReached s t s' t' p = (places : List ℕ) × (leads s t places ≡ Some p.0) × (leads s' t' places ≡ Some p.1)
 
--- Of the pairs that were met, among which is the first one, each is reached, and those before a place are fine and
--- their members met.
+-- Each pair that was met is reached, and the first pair is among them. The pairs before place `at` are fine, and the
+-- pairs of their members were met.
 pub record IsSoFar (s : List Resolved) (t : ℕ) (s' : List Resolved) (t' : ℕ) (ps : List (ℕ × ℕ)) (at : ℕ) : Type 0 where
   pub start : IsMember (t, t') ps
   pub reached : (p : ℕ × ℕ) → IsMember p ps → IsReached s t s' t' p

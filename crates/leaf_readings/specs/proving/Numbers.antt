@@ -7,13 +7,13 @@ use Rattle.encodings.specs.Contents.{Number}
 use Rattle.leaf_readings.specs.declared.fault.LeafFault.{LeafFault}
 use Rattle.leaf_readings.specs.declared.fault.LeafFault.TheVariants as faults
 
--- there are some, and the first nine bits aren't all alike (X.690, 8.3.2)
+-- there are octets, and their first nine bits aren't all alike (X.690, 8.3.2)
 abbrev pub IsShort : Octets → Type 0
 IsShort [] = ⊥
 IsShort (x ∷ []) = Unit {0}
 IsShort (x ∷ y ∷ o) = (x ≡ 0 → 128 ≤ y) × (x ≡ 255 → y < 128)
 
--- the number that octets tell with each bit turned, behind some that are worth `high`
+-- the number that `high` and the octets after it, each bit of these inverted, are in base 256
 abbrev pub turned_after : ℕ → Octets → ℕ
 turned_after high o = number_from_digits_after 256 high (map (λ d. 255 - d) o)
 
@@ -21,7 +21,7 @@ pub record IsNumber (z : ℤ) (x : Octets) : Type 0 where
   pub number : Number z x
   pub within : IsWithinLimit z
 
--- octets are no number, or one past the limit
+-- the octets are no number (BadContents), or one past the limit (IntegerLimit)
 abbrev pub IsNone : LeafFault → Octets → Type 0
 IsNone faults.BadContents x = (z : ℤ) → Number z x → ⊥
 IsNone faults.IntegerLimit x = (z : ℤ) × Number z x × (IsWithinLimit z → ⊥)

@@ -1,4 +1,4 @@
--- Names that stand in a list, and lists in which none stands twice.
+-- Names that are in a list, and lists in which no name is twice.
 use Rattle.std.proofs.Common.{◌≡◌, ◌<◌, ◌≤◌, ◌⊎◌, inl, inr, ℕ, zero, suc, ◌+◌, ◌++◌, Bool, true, false, cond, List, [], ◌∷◌, Some, None, length, map, drop, get_or, refl, sym, subst, ap, ◌∙◌, arith, below_more}
 use Rattle.std.specs.Prelude.{slice_get, bytes_eq}
 use Rattle.std.specs.List.{AllByRecursion}
@@ -19,7 +19,7 @@ pub right : {X : Type 0} (xs ys : List X) (k : ℕ) → slice_get (xs ++ ys) (le
 right [] ys k = let e : 0 + k ≡ k = omega arith in ap (λ n. slice_get ys n) e
 right (z ∷ xs) ys k = let e : suc (length xs) + k ≡ suc (length xs + k) = omega arith in ap (λ n. slice_get (z ∷ (xs ++ ys)) n) e ∙ right xs ys k
 
--- an item of two lists stands in the first or behind it
+-- an item of two joined lists is in the first or in the second
 pub either : {X : Type 0} (xs ys : List X) (m : ℕ) (x : X) → slice_get (xs ++ ys) m ≡ Some x →
     (slice_get xs m ≡ Some x) ⊎ ((q : ℕ) × (m ≡ length xs + q) × (slice_get ys q ≡ Some x))
 either [] ys m x e = let z : m ≡ 0 + m = omega arith in inr (m, z, e)
@@ -73,7 +73,7 @@ stands_one x y s = (one_at x y s.0 s.1).1
 pub distinct_none : {X : Type 0} → AreDistinct {A = X} []
 distinct_none {X} x t = let e : slice_get {X = X} [] t.first ≡ Some x = t.here in absurd cc
 
--- one that doesn't stand there yet may come behind
+-- a name that isn't in the list yet may be added at its end
 pub distinct_more : {X : Type 0} (xs : List X) (x : X) → AreDistinct xs → (StandsIn xs x → ⊥) →
     AreDistinct (xs ++ x ∷ [])
 distinct_more xs x d fresh y t =
@@ -96,7 +96,7 @@ drop_at xs i x l e =
     let n : i + 1 ≡ suc i = omega arith in
     drop-cons xs i x l ∙ ap (λ y. y ∷ drop (suc i) xs) (sym e) ∙ ap (λ k. x ∷ drop k xs) (sym n)
 
--- the element of this turn, in the list as it is seen
+-- the element at index i, in the list as f sees it
 pub item_at : {X Y : Type 0} (f : X → Y) (xs : List X) (i : ℕ) (x : X) → i < length xs → x ≡ get_or xs i x →
     slice_get (map f xs) i ≡ Some (f x)
 item_at f xs i x l e = stands_map f xs i x (slice_get_read xs (length xs) i x refl l e)
@@ -110,7 +110,7 @@ at_all P [] k x a e = absurd cc
 at_all P (y ∷ xs) zero x a e = let q : y ≡ x = cc in subst P q a.0
 at_all P (y ∷ xs) (suc k) x a e = at_all P xs k x a.1 e
 
--- what holds of the first items of a list, and of the next
+-- what is true of the first items of a list and of the next is true of one item more
 pub each_more : {X : Type 0} (xs : List X) (P : X → Type 0) (i : ℕ) (x : X) → slice_get xs i ≡ Some x →
     ((k : ℕ) (y : X) → k < i → slice_get xs k ≡ Some y → P y) → P x → (k : ℕ) (y : X) → k < i + 1 →
     slice_get xs k ≡ Some y → P y
@@ -136,7 +136,7 @@ none_on x e es false q u go zero s =
     absurd cc
 none_on x e es false q u go (suc i) s = go u (i, s)
 
--- a name under which nothing stands is none of the names
+-- a name without an entry is none of the names
 pub under_none : {X : Type 0} (x : Name) (es : List (Name × X)) → under x es ≡ None → StandsIn (names_of es) x → ⊥
 under_none {X} x [] u s = let e : slice_get {X = Name} [] s.0 ≡ Some x = s.1 in absurd cc
 under_none x (e ∷ es) u s = none_on x e es (bytes_eq x e.0) refl u (under_none x es) s.0 s.1
@@ -149,7 +149,7 @@ some_on x e es a true q u go =
     (zero, ap (λ y. Some (y, e.1)) (sym n) ∙ ap (λ y. Some (x, y)) v)
 some_on x e es a false q u go = let s = go u in (suc s.0, s.1)
 
--- what stands under a name
+-- the entry of a name is in the table
 pub under_some : {X : Type 0} (x : Name) (es : List (Name × X)) (a : X) → under x es ≡ Some a → StandsIn es (x, a)
 under_some x [] a u = absurd cc
 under_some x (e ∷ es) a u = some_on x e es a (bytes_eq x e.0) refl u (under_some x es a)

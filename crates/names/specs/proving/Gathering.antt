@@ -1,4 +1,4 @@
--- Modules whose names, types and values are gathered, and what is wrong with names on the way.
+-- Modules whose names, types and values are gathered, and what can be wrong with names in them.
 use Rattle.std.specs.Prelude.{◌≡◌, ℕ, List, ◌++◌, Some, String, map, length}
 use Rattle.std.specs.Global.{Global}
 use Rattle.trees.specs.declared.place.At.{At}
@@ -17,7 +17,7 @@ use Rattle.names.specs.Names.{Module, under, names_of}
 use Rattle.names.specs.Scopes.{meanings, scopes}
 use Rattle.names.specs.Sources.{Source, Value, assignment_of, header_of, sources_of, value_of}
 
--- the names of assignments that stand behind those of the tables
+-- the names of assignments that come after those of the tables
 abbrev pub named_next : Tables → List AssignmentTree → List (Name × Assigned)
 named_next t gs = named_from (length t.assignments.items) (length t.values.items) gs
 
@@ -25,7 +25,7 @@ named_next t gs = named_from (length t.assignments.items) (length t.values.items
 abbrev pub named_by : List (String Global × At Assigned) → List (Name × Name) → List Name
 named_by as' is = names_of (meanings as') ++ names_of is
 
--- tables, and those that have besides the assignments of module k
+-- old tables, and new ones that have the assignments of module k besides
 pub record Adds (k : ℕ) (gs : List AssignmentTree) (old new : Tables) : Type 0 where
   pub owned : map assignment_of new.assignments.items ≡ map assignment_of old.assignments.items ++ owned_by k gs
   pub roots : sources_of new.roots.items ≡ sources_of old.roots.items ++ roots_from (length old.assignments.items) gs
@@ -59,21 +59,21 @@ HasGathered ms g =
 
 -- ---- faults
 
--- memory ran out, or fault 30 tells a module and a name of which Q holds
+-- memory ran out, or the fault is Twice with a module and a name for which Q holds
 abbrev pub TellsTwice : (Name → Name → Type 0) → NameFault → Type 0
 TellsTwice Q faults.Memory = Unit {0}
 TellsTwice Q (faults.Twice s) = Q (module_told s) (name_told s)
 TellsTwice Q e = ⊥
 
--- in module M name x already stands in a table of names
+-- name x of module M already has an entry in a table of names
 abbrev pub IsTwice : {X : Type 0} → Name → Name → List (Name × X) → NameFault → Type 0
 IsTwice {X} M x es = TellsTwice (λ m y. (m ≡ M) × (y ≡ x) × (a : X) × (under x es ≡ Some a))
 
--- in module M name x is one of these already
+-- name x of module M is one of these names already
 abbrev pub IsTaken : Name → Name → List Name → NameFault → Type 0
 IsTaken M x xs = TellsTwice (λ m y. (m ≡ M) × (y ≡ x) × StandsIn xs x)
 
--- in module M a name stands twice among these
+-- a name of module M is twice among these
 abbrev pub IsRepeated : Name → List Name → NameFault → Type 0
 IsRepeated M xs = TellsTwice (λ m y. (m ≡ M) × StandsTwice xs y)
 

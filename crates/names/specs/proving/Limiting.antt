@@ -1,4 +1,4 @@
--- Assignments that pass a limit, as they are counted module by module.
+-- Assignments that pass a limit, counted module by module.
 use Rattle.std.specs.Prelude.{◌≡◌, ℕ, List}
 use Rattle.trees.specs.Values.{Name}
 use Rattle.trees.specs.Modules.{AssignmentTree}
@@ -8,7 +8,7 @@ use Rattle.names.specs.declared.fault.Limit.TheVariants as limits
 use Rattle.names.specs.Faults.{IsPastHere, module_told, name_told}
 use Rattle.names.specs.Modules.{type_count, value_count}
 
--- memory ran out, or one of these assignments, in module M, passes the limit; t types and v values stand before these
+-- memory ran out, or one of these assignments, in module M, passes the limit; t types and v values come before these
 abbrev pub IsPastCount : ℕ → ℕ → Name → List AssignmentTree → NameFault → Type 0
 IsPastCount t v M gs faults.Memory = Unit {0}
 IsPastCount t v M gs (faults.Limit limits.Types s) = (module_told s ≡ M) × IsPastHere type_count 4096 t gs (name_told s)

@@ -1,4 +1,4 @@
--- Meanings as the look-up finds them.
+-- Meanings, as the look-up finds them.
 use Rattle.std.specs.Prelude.{List, Option, Some, None}
 use Rattle.trees.specs.Values.{Name}
 use Rattle.names.specs.declared.scope.Assigned.{Assigned}

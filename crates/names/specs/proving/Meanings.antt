@@ -1,4 +1,4 @@
--- What the look-up finds is what the name means.
+-- The look-up of a name finds its meaning.
 use Rattle.std.proofs.Common.{◌≡◌, ◌↔◌, Bool, true, false, List, [], ◌∷◌, Option, Some, None, refl, sym, ap, ◌∙◌, option_map, cond, string_bytes}
 use Rattle.std.specs.Prelude.{String, bytes_eq, option_copied}
 use Rattle.std.specs.Borrow.{Bor}
@@ -20,7 +20,7 @@ pub under_seen : {X Y : Type 0} (f : X → Y) (es : List (String Global × X)) (
 under_seen f [] q = refl
 under_seen f (e ∷ es) q = step f (bytes_eq q (string_bytes e.0)) e.1 _ _ (under_seen f es q)
 
--- what a table of names has under a name
+-- the entry of a name in a table of names
 pub under_found : {X Y : Type 0} (f : X → Y) (es : List (String Global × X)) (q : Name) (r : Option (Bor X)) →
     option_copied r ≡ lookup (λ k. bytes_eq q (string_bytes k)) es → option_map (λ b. f b.now) r ≡ under q (seen f es)
 under_found f es q None e = ap (option_map f) e ∙ sym (under_seen f es q)

@@ -1,4 +1,4 @@
--- What is gathered refers to what is there.
+-- What modules give refers only to types, values, assignments and modules that are there.
 use Rattle.std.specs.Prelude.{◌≡◌, ◌<◌, slice_get, ℕ, Some, length}
 use Rattle.trees.specs.Values.{Name}
 use Rattle.names.specs.declared.gather.ModuleTables.{ModuleTables}
@@ -10,12 +10,12 @@ use Rattle.names.specs.Names.{Meaning, IsApart}
 use Rattle.names.specs.Scopes.{scopes}
 use Rattle.names.specs.Sources.{AllAssigned, HaveNoPlace, sources_of}
 
--- there are so many types and values that what a name is assigned is there
+-- the type or value that a name is assigned is among these numbers of types and values
 abbrev pub IsGiven : (types values : ℕ) → Assigned → Type 0
 IsGiven n m (assigned.Type i) = i < n
 IsGiven n m (assigned.Value i) = i < m
 
--- what is gathered refers to what is there
+-- the tables refer only to types, values, assignments and modules that are in them
 pub record IsReady (g : ModuleTables) : Type 0 where
   pub apart : IsApart (scopes g.modules.entries)
   pub pairs : length g.tables.roots.items ≡ length g.tables.assignments.items

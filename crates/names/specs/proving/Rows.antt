@@ -1,4 +1,4 @@
--- Headers and assignments as they lie in memory, and as definitions see them.
+-- Headers and assignments in memory, and as definitions see them.
 use Rattle.std.proofs.Common.{◌≡◌, ℕ, ◌<◌, List, length, Some, map, get_or}
 use Rattle.std.specs.Prelude.{slice_get}
 use Rattle.names.specs.declared.sources.AssignedAt.{AssignedAt}

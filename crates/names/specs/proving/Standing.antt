@@ -8,7 +8,7 @@ use Rattle.names.specs.Faults.{module_told, name_told}
 use Rattle.names.specs.Modules.{StandsIn, IsExported}
 use Rattle.names.specs.Names.{Module, under, names_of}
 
--- module N, among these, assigns name x and exports it
+-- module N, one of these, assigns name x and exports it
 pub record IsOffered (ss : List (Name × Module)) (N x : Name) : Type 0 where
   pub other : Module
   pub there : under N ss ≡ Some other
@@ -16,12 +16,12 @@ pub record IsOffered (ss : List (Name × Module)) (N x : Name) : Type 0 where
   pub assigns : under x other.assigned ≡ Some assigned
   pub exported : IsExported other.exports x
 
--- what a module exports it assigns
+-- a module assigns every name that it exports
 abbrev pub ExportAssigned : Module → Type 0
 ExportAssigned m =
     (xs : List Name) (x : Name) → m.exports ≡ Some xs → StandsIn xs x → StandsIn (names_of m.assigned) x
 
--- what it imports is offered
+-- every import is offered by the module that it is imported from
 abbrev pub ImportOffered : List (Name × Module) → List (Name × Name) → Type 0
 ImportOffered ss is = (N x : Name) → StandsIn is (x, N) → IsOffered ss N x
 
@@ -32,7 +32,7 @@ HasNoAssignment M xs as' (faults.UnknownName s) =
     (module_told s ≡ M) × StandsIn xs (name_told s) × (under (name_told s) as' ≡ None)
 HasNoAssignment M xs as' e = ⊥
 
--- module M exports what it doesn't assign, or memory ran out over that
+-- module M exports a name that it doesn't assign, or memory ran out during the check of its exports
 abbrev pub IsExportFault : Name → Module → NameFault → Type 0
 IsExportFault M m e = (xs : List Name) × (m.exports ≡ Some xs) × HasNoAssignment M xs m.assigned e
 
@@ -53,11 +53,11 @@ IsImportFault ss M N x e = ⊥
 abbrev pub IsImportsFault : List (Name × Module) → Name → List (Name × Name) → NameFault → Type 0
 IsImportsFault ss M is e = (N : Name) × (x : Name) × StandsIn is (x, N) × IsImportFault ss M N x e
 
--- in each module exports are assigned and imports are offered
+-- exports are assigned, and imports are offered, in each module
 abbrev pub AreStanding : List (Name × Module) → Type 0
 AreStanding ss = (M : Name) (m : Module) → StandsIn ss (M, m) → ExportAssigned m × ImportOffered ss m.imports
 
--- in some module they aren't, or memory ran out over that
+-- exports or imports of some module are not, or memory ran out during its check
 abbrev pub IsStandingFault : List (Name × Module) → NameFault → Type 0
 IsStandingFault ss e =
     (M : Name) × (m : Module) × StandsIn ss (M, m) × (IsExportFault M m e ⊎ IsImportsFault ss M m.imports e)

@@ -8,19 +8,19 @@ use Rattle.packed_readings.specs.declared.refusal.Refusal.TheVariants.{IntegerLi
 use Rattle.packed_readings.specs.Outcome.{Judged, good, bad}
 use Rattle.packed_readings.specs.Leaves.{is_within_limit}
 
--- there are some, and the first nine bits aren't all alike (X.691, 11.4.6)
+-- there are octets, and their first nine bits aren't all alike (X.691, 11.4.6)
 abbrev pub IsShort : Octets → Type 0
 IsShort [] = ⊥
 IsShort (x ∷ []) = Unit {0}
 IsShort (x ∷ y ∷ o) = (x ≡ 0 → 128 ≤ y) × (x ≡ 255 → y < 128)
 
--- more octets than one, the first of which is 0 (X.691, 11.3.6)
+-- there is more than one octet, and the first is 0 (X.691, 11.3.6)
 abbrev pub HasZeroFirst : Octets → Type 0
 HasZeroFirst [] = ⊥
 HasZeroFirst (x ∷ []) = ⊥
 HasZeroFirst (x ∷ y ∷ o) = x ≡ 0
 
--- what octets are worth with each bit turned, after some that are worth `high`
+-- the number that `high` and the octets after it, each bit of these inverted, are in base 256
 abbrev pub turned_after : ℕ → Octets → ℕ
 turned_after high o = number_from_digits_after 256 high (map (λ d. 255 - d) o)
 

@@ -1,4 +1,4 @@
--- What is answered of the ends of a range.
+-- What is returned for the ends of a range.
 use Rattle.std.specs.Prelude.{◌≡◌, ◌⊎◌, ℤ, pos, Option, Some, None}
 use Rattle.trees.specs.Values.{Name}
 use Rattle.trees.specs.Constraints.{EndTree}
@@ -23,7 +23,7 @@ IsBoundFault p k M of e (faults.NoEnd at) =
 IsBoundFault p k M of e (faults.Circular v) = ComesRound p k M (notation_of e) v
 IsBoundFault p k M of e (faults.Reversed at) = ⊥
 
--- what stands for MIN
+-- the least number that MIN means: none among numbers, 0 among sizes
 abbrev pub floor_of : Counted → Option ℤ
 floor_of Numbers = None
 floor_of Sizes = Some (pos 0)

@@ -1,4 +1,4 @@
--- Where notations come back to themselves.
+-- Notations that come back to themselves.
 use Rattle.std.specs.Prelude.{ℕ}
 use Rattle.trees.specs.Values.{Name, Tree}
 use Rattle.type_table.specs.Table.{Kind}

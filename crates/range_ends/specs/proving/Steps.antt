@@ -8,19 +8,19 @@ use Rattle.type_table.specs.Table.{Kind}
 use Rattle.resolve.specs.Program.{Program}
 use Rattle.range_ends.specs.Ends.{IsValueAt, StandsFor, told}
 
--- the notation is a name that stands for value j in module M
+-- the notation is a name that means value j in module M
 abbrev pub MeansValue : Program → Name → Tree → ℕ → Type 0
 MeansValue p M (reference q x) j = Refers p.modules M q x (assigned.Value j)
 MeansValue p M n j = ⊥
 
--- the notation of value i is a name that stands for value j
+-- the notation of value i is a name that means value j
 pub record RefersTo (p : Program) (i j : ℕ) : Type 0 where
   pub within : Name
   pub notation : Tree
   pub at : IsValueAt p i within notation
   pub means : MeansValue p within notation j
 
--- what stands in a list of places
+-- the entry at index i of a list
 abbrev pub listed : List (Option ℕ) → ℕ → Option ℕ
 listed [] i = None
 listed (o ∷ os) zero = o
@@ -31,7 +31,7 @@ pub record AreReferred (p : Program) (os : List (Option ℕ)) : Type 0 where
   pub all : length os ≡ length p.values
   pub each : (i j : ℕ) → (listed os i ≡ Some j ↔ RefersTo p i j)
 
--- the number that value i tells by itself where a type of kind k is constrained
+-- the number that value i is by itself, in a constraint on a type of kind k
 abbrev pub told_by : Kind → Option Value → Option ℤ
 told_by k None = None
 told_by k (Some v) = told k v.notation
@@ -43,11 +43,11 @@ abbrev pub unless : Option ℤ → Option ℕ → Option ℕ
 unless None o = o
 unless (Some z) o = None
 
--- the value that value i leads to where a type of kind k is constrained
+-- the value that value i leads to, in a constraint on a type of kind k
 abbrev pub next : Program → Kind → List (Option ℕ) → ℕ → Option ℕ
 next p k os i = unless (told_at p k i) (listed os i)
 
--- value i stands for number z where a type of kind k is constrained
+-- value i stands for number z, in a constraint on a type of kind k
 pub record ValueIs (p : Program) (k : Kind) (i : ℕ) (z : ℤ) : Type 0 where
   pub within : Name
   pub notation : Tree

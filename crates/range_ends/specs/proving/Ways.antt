@@ -7,20 +7,20 @@ use Rattle.range_ends.specs.declared.ends.EndFault.TheVariants as ends
 use Rattle.range_ends.specs.proving.Steps.{next, told_at, listed}
 use Rattle.type_table.specs.Walks.{EndsAt, ArrivesAt, ComesBack}
 
--- number z is told there
+-- the references of value i end at number z
 pub record Ends (p : Program) (k : Kind) (os : List (Option ℕ)) (i : ℕ) (z : ℤ) : Type 0 where
   pub last : ℕ
   pub way : EndsAt (next p k os) i last
   pub tells : told_at p k last ≡ Some z
 
--- nothing is told there
+-- the references of value i end at a value that is no number and refers to no value
 pub record EndsWithout (p : Program) (k : Kind) (os : List (Option ℕ)) (i : ℕ) : Type 0 where
   pub last : ℕ
   pub way : EndsAt (next p k os) i last
   pub tells : told_at p k last ≡ None
   pub alone : listed os last ≡ None
 
--- they come to value v, which comes back to itself
+-- the references of value i come to value v, which comes back to itself
 pub record Turns (p : Program) (k : Kind) (os : List (Option ℕ)) (i v : ℕ) : Type 0 where
   pub reaches : ArrivesAt (next p k os) i v
   pub back : ComesBack (next p k os) v

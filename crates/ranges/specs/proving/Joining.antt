@@ -4,13 +4,13 @@ use Rattle.std.specs.Int.{int_max}
 use Rattle.asn_base.specs.Types.{Range}
 use Rattle.ranges.specs.Numbers.{EndsBefore}
 
--- the test whether a range holds a number
+-- the test whether a range contains a number
 abbrev pub holds_some : (least greatest : Option ℤ) → Bool
 holds_some None g = true
 holds_some (Some l) None = true
 holds_some (Some l) (Some g) = int_le l g
 
--- a range that begins at the one begins at the other or before
+-- a range with the first beginning begins no later than one with the second
 abbrev pub BeginsAtMost : Option ℤ → Option ℤ → Type 0
 BeginsAtMost None l = Unit {0}
 BeginsAtMost (Some k) None = ⊥
@@ -28,11 +28,11 @@ later None h = None
 later (Some g) None = None
 later (Some g) (Some h) = Some (int_max g h)
 
--- from the beginning of the first range to the later end
+-- the range from the beginning of the first one to the later end of both
 abbrev pub joined : Range → Range → Range
 joined r s = record { least = r.least; greatest = later r.greatest s.greatest }
 
--- a range and those behind it are joined to these
+-- a range and those after it are joined to these
 pub data Joins : Range → List Range → List Range → Type 0 where
   joins_last : {r : Range} → Joins r [] (r ∷ [])
   joins_apart : {r s : Range} {rs js : List Range}

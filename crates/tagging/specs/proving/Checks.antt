@@ -1,4 +1,4 @@
--- What the check of one type tells.
+-- What the check of one type returns.
 use Rattle.std.specs.Prelude.{◌≡◌, ℕ, ◌<◌, ◌≤◌, Bool, true, false, length, List, [], Option, Some, slice_get, All, Result, MatchResult}
 use Rattle.trees.specs.declared.types.Keyword.{Keyword}
 use Rattle.trees.specs.declared.types.Keyword.TheVariants.{Implicit}
@@ -22,24 +22,24 @@ pub record IsList (ts : List Type') (i : ℕ) (k : ListKind) (d : TagDefault) (c
 abbrev pub AreThere : List Type' → List Part → Type 0
 AreThere ts cs = All (λ c. c.ty < length ts) cs
 
--- what tagging asks of a tag with this word before type j
+-- what the rules on tags require of a tag with this keyword before type j
 abbrev pub SuitsTag : List Type' → Keyword → ℕ → Type 0
 SuitsTag ts Implicit j = Written ts j [] → ⊥
 SuitsTag ts k j = Unit {0}
 
--- what tagging asks of a list in a module with this tag default: that additions bear no written tags where the root
--- bears none
+-- what the rules on tags require of a list in a module with this tag default: its additions bear no written tags if its
+-- root bears none
 abbrev pub SuitsAutomatic : List Type' → List Part → TagDefault → Type 0
 SuitsAutomatic ts cs Automatic = Bears ts cs true → Bears ts cs false
 SuitsAutomatic ts cs d = Unit {0}
 
--- what tagging asks of a list
+-- what the rules on tags require of a list
 pub record SuitsList (ts : List Type') (k : ListKind) (cs : List Part) (d : TagDefault) : Type 0 where
   pub unmixed : SuitsAutomatic ts cs d
   pub bear : BearTags ts k cs
   pub distinct : Distinct ts k cs
 
--- what tagging asks of a type by its kind
+-- what the rules on tags require of a type by its kind
 abbrev pub Suits : List Type' → Kind → TagDefault → Type 0
 Suits ts (tagged t k j) d = SuitsTag ts k j
 Suits ts (members k m cs) d = SuitsList ts k cs d
@@ -64,20 +64,20 @@ abbrev pub StandsAt : List Type' → Fault → Type 0
 StandsAt ts Memory = Unit {0}
 StandsAt ts (At r i at) = Breaks ts r i
 
--- what a check answers: this holds, or a fault that stands
+-- what a check returns: success if P holds, or a fault of this table
 abbrev pub Checked : List Type' → Result (Unit {0}) Fault → Type 0 → Type 0
 Checked ts r P = MatchResult r (λ _. P) (StandsAt ts)
 
--- the member is one of the additions, or of the root, and bears a tag that is written in the list
+-- the member is an addition, or one of the root, as asked, and bears a tag that is written in the list
 pub record BearsHere (ts : List Type') (c : Part) (of_additions : Bool) : Type 0 where
   pub stands : is_addition c.standing ≡ of_additions
   pub bears : bears_tag (slice_get ts c.ty) ≡ true
 
--- the member at this place, of the additions or of the root, bears a tag that is written in the list
+-- the member at index n, of the additions or of the root, bears a tag that is written in the list
 pub record BearsAt (ts : List Type') (cs : List Part) (of_additions : Bool) (n : ℕ) : Type 0 where
   pub bearing : Bears ts cs of_additions
   pub is : bearing.number ≡ n
 
--- no member before place n bears a tag, of the additions or of the root
+-- no member before index n, of the additions or of the root, bears a tag
 abbrev pub NoneBears : List Type' → List Part → Bool → ℕ → Type 0
 NoneBears ts cs b n = (r : Bears ts cs b) → n ≤ r.number

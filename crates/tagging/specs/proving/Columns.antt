@@ -1,4 +1,5 @@
--- What is found once for all types of a table: where references lead, and which lists are tagged automatically.
+-- What is found once for all types of a table: the types that references lead to, and which lists are tagged
+-- automatically.
 use Rattle.std.specs.Prelude.{◌≡◌, ℕ, Bool, true, false, List, Option, map, length}
 use Rattle.trees.specs.declared.module.TagDefault.{TagDefault}
 use Rattle.type_table.specs.Table.{Type', Kind, reference, Is}
@@ -9,7 +10,7 @@ abbrev pub is_reference : Kind → Bool
 is_reference (reference j) = true
 is_reference k = false
 
--- type f is the first, from type i on through references, that is no reference
+-- type f is the first type, from type i on through references, that is no reference
 pub data Front (ts : List Type') : ℕ → ℕ → Type 0 where
   here : {i : ℕ} {k : Kind} {d : TagDefault} {l : Option (ℕ × ℕ)} →
       Is ts i k d l →
@@ -28,6 +29,6 @@ AreKnown ts fronts = AreRight (length ts) (Front ts) fronts
 abbrev pub AreFronts : List Type' → List ℕ → Type 0
 AreFronts ts fronts = AreNoted (length ts) (Front ts) fronts
 
--- whether the members of each type are tagged automatically; they are not where it is no list
+-- whether the members of each type are tagged automatically; false for a type that is no list
 abbrev pub all_automatic : List Type' → List Bool
 all_automatic ts = map (λ t. automatic_kind ts t.kind t.default) ts

@@ -7,7 +7,7 @@ use Rattle.tagging.specs.Tags.{Label, Path, outermost, Tags}
 use Rattle.tagging.specs.First.{First}
 use Rattle.tagging.specs.Tagged.{IsUntagged}
 
--- the outermost tag of type i, and none where it has no tag
+-- the outermost tag of type i, or None if it has no tag
 pub record Head (ts : List Type') (i : ℕ) (o : Option Label) : Type 0 where
   pub path : Path
   pub tags : Tags ts i path
@@ -21,12 +21,12 @@ pub data Fronts (ts : List Type') : List Part → List Label → Type 0 where
       Fronts ts cs us →
       Fronts ts (c ∷ cs) (t ∷ us)
 
--- these are the tags that can stand first in type i
+-- these are the tags that can be first in type i
 pub record AreFirst (ts : List Type') (i : ℕ) (us : List Label) : Type 0 where
   pub each : (t : Label) → Contains us t → First ts i t
   pub all : (t : Label) → First ts i t → Contains us t
 
--- a member that is an untagged CHOICE, or want of memory
+-- a member that is an untagged CHOICE, or memory that ran out
 abbrev pub IsFrontFault : List Type' → List Part → FrontFault → Type 0
 IsFrontFault ts cs Memory = Unit {0}
 IsFrontFault ts cs (Untagged i at) =
@@ -36,7 +36,7 @@ abbrev pub members_of : Kind → List Part
 members_of (members k m cs) = cs
 members_of k = []
 
--- want of memory, or the type is an untagged CHOICE where it must not be one
+-- memory ran out, or the type is an untagged CHOICE in a place where it must not be one
 abbrev pub IsFirstFault : List Type' → FrontFault → Type 0
 IsFirstFault ts Memory = Unit {0}
 IsFirstFault ts (Untagged i at) = IsUntagged ts i

@@ -1,4 +1,4 @@
--- The first tags of a list's members, as the check of a list goes on.
+-- The first tags of a list's members, during the check of a list.
 use Rattle.std.specs.Prelude.{◌≡◌, ◌↔◌, ℕ, ◌<◌, true, List, [], ◌∷◌, Option, Some, slice_get, map, Vec, MatchOption}
 use Rattle.std.specs.Global.{Global}
 use Rattle.std.specs.declared.cmp.Ordering.{Ordering}
@@ -24,13 +24,13 @@ pub data Collected (ts : List Type') : List Part → List (List Label) → Type 
 abbrev pub tag_lists : List (Vec Label Global) → List (List Label)
 tag_lists = map (λ v. v.items)
 
--- the member behind this one can be the next that stands where this one could be
+-- the member after this one can be the next of an encoding at a point where this one could be
 abbrev pub Passes : ListKind → Part → Type 0
 Passes Sequence c = may_be_absent c ≡ true
 Passes Set c = Unit {0}
 Passes Choice c = Unit {0}
 
--- the member at p has its first tags apart from those of the members up to q
+-- the member at p has no first tag in common with the members after it and before index n
 abbrev pub IsClear : List Type' → ListKind → List Part → ℕ → ℕ → Type 0
 IsClear ts k cs p n = (q : ℕ) (c d : Part) →
     p < q →
@@ -42,14 +42,14 @@ IsClear ts k cs p n = (q : ℕ) (c d : Part) →
 
 -- ---- tags in an ordered set
 
--- a tag as two numbers, by which tags are put in order
+-- a tag as two numbers, by which tags are sorted
 abbrev pub key_of : Label → ℕ × ℕ
 key_of t = (class_rank t.0, t.1)
 
 abbrev pub key_cmp : ℕ × ℕ → ℕ × ℕ → Ordering
 key_cmp x y = ordering_then (nat_cmp x.0 y.0) (nat_cmp x.1 y.1)
 
--- key x is one of these
+-- key x is one of these keys
 abbrev pub IsIn : List (ℕ × ℕ) → ℕ × ℕ → Type 0
 IsIn keys x = list_any (λ y. is_eq (key_cmp x y)) keys ≡ true
 
@@ -60,7 +60,8 @@ pub record HasKey (us : List Label) (x : ℕ × ℕ) : Type 0 where
   pub there : slice_get us place ≡ Some tag
   pub is : key_of tag ≡ x
 
--- key x is that of a first tag of a member before place q that can be the next one together with the member at q
+-- key x is that of a first tag of a member before index q, and an encoding can go on with that member or with the one
+-- at q
 pub record IsMet (k : ListKind) (cs : List Part) (vs : List (List Label)) (q : ℕ) (x : ℕ × ℕ) : Type 0 where
   pub place : ℕ
   pub before : place < q
@@ -69,11 +70,11 @@ pub record IsMet (k : ListKind) (cs : List Part) (vs : List (List Label)) (q : �
   pub there : slice_get vs place ≡ Some tags
   pub has : HasKey tags x
 
--- the set holds the tags that the member at place q can meet
+-- the set holds the keys of the tags that the member at index q can meet
 abbrev pub Meets : ListKind → List Part → List (List Label) → ℕ → List (ℕ × ℕ) → Type 0
 Meets k cs vs q keys = (x : ℕ × ℕ) → IsIn keys x ↔ IsMet k cs vs q x
 
--- the member at place q clashes with one before it, and none before that place does
+-- the member at index q clashes with one before it, and no member before index q does
 pub record ClashesFirst (ts : List Type') (k : ListKind) (cs : List Part) (q : ℕ) : Type 0 where
   pub earlier : ℕ
   pub clash : Clash ts k cs earlier q

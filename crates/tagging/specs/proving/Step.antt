@@ -12,29 +12,29 @@ use Rattle.tagging.specs.declared.path.TagForm.{TagForm}
 use Rattle.tagging.specs.declared.path.TagForm.TheVariants.{Implicit, Explicit}
 use Rattle.tagging.specs.Tags.{Label, label, Path, form_of, outermost, Written, TagCount}
 
--- the tags of a type that ends the way, by its universal tag
+-- the tags of a type that is neither a reference nor tagged, by its universal tag
 abbrev pub ending : Option Tag → Path
 ending None = []
 ending (Some t) = (label t, Explicit) ∷ []
 
--- behind type i's references this tag is written before type j
+-- after type i's references, tag t is written before type j
 pub record IsInside (ts : List Type') (i : ℕ) (t : Tag) (k : Keyword) (d : TagDefault) (j : ℕ) : Type 0 where
   pub there : j < length ts
   pub tags : (p : Path) → Written ts j p → Written ts i ((label t, form_of k d p) ∷ p)
   pub count : (n : ℕ) → TagCount ts j n → TagCount ts i (suc n)
 
--- what stands behind type i's references: no more tags are written, or this one
+-- what comes after type i's references: no more written tags, or this one
 abbrev pub IsStep : List Type' → ℕ → Step → Type 0
 IsStep ts i (Ends o) = Written ts i (ending o) × TagCount ts i 0
 IsStep ts i (Inside t k d j) = IsInside ts i t k d j
 
--- the outermost of the tags that the notation has
+-- the outermost of the tags that type i's notation has
 pub record Outermost (ts : List Type') (i : ℕ) (o : Option Label) : Type 0 where
   pub path : Path
   pub written : Written ts i path
   pub is : o ≡ outermost path
 
--- the form of a tag, by whether an untagged CHOICE is behind it
+-- the form of a tag; the truth value says whether an untagged CHOICE comes after the tag
 abbrev pub form_before : Keyword → TagDefault → Bool → TagForm
 form_before ExplicitWord d b = Explicit
 form_before ImplicitWord d b = Implicit

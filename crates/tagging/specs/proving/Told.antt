@@ -1,4 +1,4 @@
--- What the parts of a check tell first.
+-- The faults that the parts of a check return first.
 use Rattle.std.specs.Prelude.{◌≡◌, ℕ, List}
 use Rattle.trees.specs.declared.types.ListKind.{ListKind}
 use Rattle.type_table.specs.declared.table.ListMember.{ListMember}
@@ -13,7 +13,7 @@ use Rattle.tagging.specs.Tagged.{IsOverfull, IsTooGreat, IsImplicit, IsUntagged}
 use Rattle.tagging.specs.proving.Checks.{HasFew}
 use Rattle.tagging.specs.FirstFault.{IsBearingAt, IsBareAt, IsClashingAt}
 
--- type i, at the place, is tagged with the word IMPLICIT before an untagged CHOICE
+-- type i, which begins at the place, is tagged with the word IMPLICIT before an untagged CHOICE
 abbrev pub IsImplicitFault : List Type' → ℕ → ℕ → Fault → Type 0
 IsImplicitFault ts i place Memory = Unit {0}
 IsImplicitFault ts i place (At rules.ImplicitChoice ty at) = (ty ≡ i) × (at ≡ place) × IsImplicit ts i
@@ -37,12 +37,12 @@ IsClashFault ts i k ms (At rules.UntaggedChoice ty at) = IsUntagged ts ty
 IsClashFault ts i k ms (At rules.TagClash ty at) = (ty ≡ i) × IsClashingAt ts k ms at
 IsClashFault ts i k ms (At r ty at) = ⊥
 
--- a fault of members as one of their list
+-- a fault of members as one of the list that they are in
 abbrev pub as_fault : FrontFault → Fault
 as_fault fronts.Memory = Memory
 as_fault (fronts.Untagged ty at) = At rules.UntaggedChoice ty at
 
--- type i breaks a rule on the number of its tags, or on that of its automatic tag
+-- type i breaks a rule on how many tags are written on it, or on the number of its automatic tag
 abbrev pub IsBroken : List Type' → Rule → ℕ → Type 0
 IsBroken ts rules.Tags i = IsOverfull ts i
 IsBroken ts rules.TagNumber i = HasFew ts i × IsTooGreat ts i

@@ -1,4 +1,4 @@
--- What is pointed at before it is copied.
+-- A reason with its module, name and offset, before these are copied.
 use Rattle.std.specs.Prelude.{◌≡◌, ℕ}
 use Rattle.trees.specs.Values.{Name}
 use Rattle.told_values.specs.declared.telling.Reason.{Reason}

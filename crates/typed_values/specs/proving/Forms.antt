@@ -1,4 +1,4 @@
--- What a notation holds in braces, as the tree has it.
+-- What a notation has in braces, as a tree.
 use Rattle.std.specs.Prelude.{Option, Some, None}
 use Rattle.trees.specs.Values.{Tree, Trees, Members, nothing, items, fields, no_tree, no_member}
 

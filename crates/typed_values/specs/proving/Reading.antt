@@ -1,4 +1,4 @@
--- What the parts of a reading answer.
+-- What the parts of a reading return.
 use Rattle.std.specs.Prelude.{◌≡◌, ◌+◌, ℕ, true, List, [], ◌∷◌, ◌++◌, Option, Some, None, IsTrue, MatchResult, Result, map, slice_get}
 use Rattle.asn_base.specs.declared.value.Value.{Value}
 use Rattle.asn_base.specs.Abstract.{AbstractValue, abstract, Row}
@@ -17,14 +17,14 @@ use Rattle.typed_values.specs.declared.fault.ValueFault.{ValueFault}
 use Rattle.typed_values.specs.declared.fault.Cause.TheVariants as cause
 use Rattle.typed_values.specs.Faults.{Stands}
 
--- the notation stands for v, a value of the type with at most so many levels, whose nodes were counted
+-- the notation stands for v, a value of the type with at most `levels` levels, whose nodes were counted
 pub record Means (p : Program) (levels before after : ℕ) (os : List ℕ) (M : Name) (i : ℕ) (n : Tree) (v : AbstractValue)
     : Type 0 where
   pub stands : Notation p os M i n v
   pub value : ValueIn p (Allows p) (AllowsCode p) levels i v
   pub counted : before ≡ after + nodes v
 
--- it does, or a fault stands in it
+-- the notation stands for the returned value, or has the returned fault
 abbrev pub Tells :
     Program → (levels before after : ℕ) → List ℕ → Name → ℕ → Tree → Result Value ValueFault → Type 0
 Tells p levels before after os M i n result =
@@ -39,7 +39,7 @@ pub record MeanRow (p : Program) (levels before after : ℕ) (os : List ℕ) (M 
   pub values : AreElements p (Allows p) (AllowsCode p) levels i r
   pub counted : before ≡ after + row_nodes r
 
--- a fault stands in one of the notations, and those before it stand for values of the type
+-- one of the notations has this fault, and those before it stand for values of the type
 pub record StandsInOne (p : Program) (levels left : ℕ) (os : List ℕ) (M : Name) (i : ℕ) (ts : List Tree) (f : ValueFault)
     : Type 0 where
   pub before : List Tree
@@ -53,13 +53,12 @@ pub record StandsInOne (p : Program) (levels left : ℕ) (os : List ℕ) (M : Na
   pub counted : left ≡ row_nodes row + rest
   pub fault : Stands p levels rest os M i one f
 
--- the nodes of a component, none where it is absent
+-- the nodes of a component; 0 if it is absent
 abbrev pub option_nodes : Option AbstractValue → ℕ
 option_nodes None = 0
 option_nodes (Some v) = nodes v
 
--- component c, of a list that is written in module N, is absent among the fields and may be, or its field stands for
--- value v
+-- component c, of a list that is written in module N, has no field and may be absent, or its field stands for value v
 abbrev pub IsField :
     Program → ℕ → List ℕ → (K N : Name) → List (Name × Tree) → Part → Option AbstractValue → Type 0
 IsField p levels ps K N fs c None =
@@ -69,14 +68,14 @@ IsField p levels ps K N fs c None =
 IsField p levels ps K N fs c (Some v) =
     (m : Tree) × StandsIn fs (c.name, m) × Notation p ps K c.ty m v × ValueIn p (Allows p) (AllowsCode p) levels c.ty v
 
--- a fault stands in the DEFAULT of component c
+-- the DEFAULT of component c has this fault
 pub record IsWrongDefault (p : Program) (levels : ℕ) (N : Name) (c : Part) (f : ValueFault) : Type 0 where
   pub default : Tree
   pub standing : c.standing ≡ Root
   pub presence : c.presence ≡ default' default
   pub fault : Stands p levels 16777216 [] N c.ty default f
 
--- a fault stands in the field of component c, or in its DEFAULT where it has none
+-- the field of component c has this fault, or its DEFAULT has, if the component has no field
 pub data IsWrongField (p : Program) (levels left : ℕ) (ps : List ℕ) (K N : Name) (fs : List (Name × Tree)) (c : Part)
     (f : ValueFault) : Type 0 where
   no_memory :
@@ -91,7 +90,7 @@ pub data IsWrongField (p : Program) (levels left : ℕ) (ps : List ℕ) (K N : N
       IsWrongDefault p levels N c f →
       IsWrongField p levels left ps K N fs c f
 
--- the places of the fields, in the order of components; what has none may be absent
+-- the places of the fields, in the order of components; a component without a field may be absent
 pub record ArePlaced (cs : List Part) (fs : List Name) (ps : List (Option ℕ)) : Type 0 where
   pub placed : ps ≡ map (λ x. place_of x fs) (part_names cs)
   pub may : (i : ℕ) (c : Part) → slice_get cs i ≡ Some c → slice_get ps i ≡ Some None → may_be_absent c ≡ true
@@ -103,7 +102,7 @@ pub record MeanFields (p : Program) (levels before after : ℕ) (ps : List ℕ) 
   pub values : AreComponents p (Allows p) (AllowsCode p) levels N cs r
   pub counted : before ≡ after + row_nodes r
 
--- a fault stands in a component, and the fields of those before it stand for values of their types
+-- a component has this fault, and the fields of those before it stand for values of their types
 pub record StandsInField (p : Program) (levels left : ℕ) (ps : List ℕ) (K N : Name) (fs : List (Name × Tree))
     (cs : List Part) (f : ValueFault) : Type 0 where
   pub before : List Part

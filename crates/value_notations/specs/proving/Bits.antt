@@ -17,7 +17,7 @@ pub record AreNamedBits (bs : List (Name × ℕ)) (ts : Trees) (s : List Bool) :
   pub names : AreBitNames bs ts places
   pub set : AreSetBits places s
 
--- they are no names of bits: the first that is none is a name or is not
+-- these are not all names of bits; the fault says whether the first one that is no bit's name is a name
 abbrev pub AreNamesWrong : List (Name × ℕ) → Trees → LeafFault → Type 0
 AreNamesWrong bs ts leaf.Memory = Unit {0}
 AreNamesWrong bs ts leaf.NotOfType =

@@ -1,4 +1,4 @@
--- What a notation that is no reference to a value tells by its form.
+-- What the form of a notation says that is no reference to a value.
 use Rattle.std.specs.Prelude.{◌⊎◌, ◌<◌, ◌^◌, MatchOption, length, ℕ, ℤ, pos, Bool, true, false, List, Option, Some, None}
 use Rattle.std.specs.List.{AllByRecursion}
 use Rattle.asn_base.specs.declared.value.Value.{Value}
@@ -64,11 +64,11 @@ IsNone k n = (v : AbstractValue) → IsLeaf k n v → ⊥
 abbrev pub Tells : Plain → Tree → Option Value → Type 0
 Tells k n o = MatchOption o (IsNone k n) (λ v. IsLeaf k n (abstract v))
 
--- more than 64 numbers, or one that is not below 2^64
+-- more than 64 numbers, or one of 2^64 or more
 abbrev pub ArePastLimit : List ℕ → Type 0
 ArePastLimit ns = (64 < length ns) ⊎ (AllByRecursion (λ n. n < 2 ^ 64) ns → ⊥)
 
--- it stands for an object identifier, a relative one or not, that passes the limit on numbers
+-- the notation stands for an object identifier, a relative one or not, that passes the limit on numbers
 abbrev pub StandsPastLimit : Plain → Tree → Type 0
 StandsPastLimit k n = (ns : List ℕ) × (IsLeaf k n (oid ns) ⊎ IsLeaf k n (relative_oid ns)) × ArePastLimit ns
 

@@ -1,4 +1,4 @@
--- What stands behind one reference.
+-- What one reference leads to.
 use Rattle.std.specs.Prelude.{◌≡◌, ◌<◌, ℕ, List, Option, length}
 use Rattle.trees.specs.Values.{Name, Tree, reference}
 use Rattle.names.specs.declared.scope.Assigned.TheVariants as assigned
@@ -10,7 +10,7 @@ use Rattle.value_notations.specs.References.{IsNamed, IsOwn}
 use Rattle.value_notations.specs.declared.references.Next.{Next}
 use Rattle.value_notations.specs.declared.references.Next.TheVariants as next
 
--- the notation, read in module M, is a name of nothing in the type, which means value i
+-- the notation, read in module M, is a name that the type doesn't have, and means value i
 pub record IsNameOf (p : Program) (k : Kind) (M : Name) (n : Tree) (i : ℕ) : Type 0 where
   pub prefix : Option Name
   pub name : Name
@@ -18,7 +18,7 @@ pub record IsNameOf (p : Program) (k : Kind) (M : Name) (n : Tree) (i : ℕ) : T
   pub none : IsNamed k prefix name → ⊥
   pub refers : Refers p.modules M prefix name (assigned.Value i)
 
--- the notation is a name of nothing in the type and of no value
+-- the notation is a name that the type doesn't have, and means no value
 pub record IsNoName (p : Program) (k : Kind) (M : Name) (n : Tree) : Type 0 where
   pub prefix : Option Name
   pub name : Name

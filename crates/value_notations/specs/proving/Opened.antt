@@ -2,7 +2,7 @@
 use Rattle.std.specs.Prelude.{◌≡◌, ℕ, ◌<◌, true, List, ◌++◌, length, eqb}
 use Rattle.std.specs.List.{IsDistinct, list_any}
 
--- so many values below n, no two alike, were added to `os`
+-- `count` values below n, no two alike, were added to `os`
 pub record IsGrown (os ps : List ℕ) (n count : ℕ) : Type 0 where
   pub added : List ℕ
   pub joined : ps ≡ added ++ os

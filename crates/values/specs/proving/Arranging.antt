@@ -1,4 +1,4 @@
--- What the single checks of names answer.
+-- What the single checks of names return.
 use Rattle.std.specs.Prelude.{◌≡◌, ◌<◌, ℕ, suc, true, false, List, Option, Some, None, MatchOption, slice_get, take}
 use Rattle.trees.specs.declared.types.Standing.{Standing}
 use Rattle.trees.specs.declared.types.Standing.TheVariants.{Root, Addition}
@@ -26,7 +26,7 @@ pub record IsAbsent (cs : List Part) (places : List (Option ℕ)) (i : ℕ) (c :
   pub there : slice_get cs i ≡ Some c
   pub none : slice_get places i ≡ Some None
 
--- of the first i components none is missing
+-- none of the first i components is missing
 abbrev pub NoneMissing : List Part → List (Option ℕ) → ℕ → Type 0
 NoneMissing cs ps i = (k : ℕ) → k < i → (c : Part) → IsAbsent cs ps k c → may_be_absent c ≡ true
 
@@ -40,7 +40,7 @@ abbrev pub group_in : Standing → Option ℕ
 group_in Root = None
 group_in (Addition g) = g
 
--- the group of which it has to be there wherever another one is
+-- the group of an addition that must be present if another one of the group is
 abbrev pub needed_in : PresenceTree → Standing → Option ℕ
 needed_in mandatory s = group_in s
 needed_in optional s = None
@@ -55,13 +55,13 @@ pub record HasOther (g : ℕ) (cs : List Part) (places : List (Option ℕ)) : Ty
   pub present : slice_get places place ≡ Some (Some field)
   pub grouped : group_in part.standing ≡ Some g
 
--- it has to be there, since another one of its group is
+-- component c must be present, since another one of its group is
 pub record IsDue (c : Part) (cs : List Part) (places : List (Option ℕ)) : Type 0 where
   pub group : ℕ
   pub needed : needed_in c.presence c.standing ≡ Some group
   pub other : HasOther group cs places
 
--- of the first i components none is due
+-- none of the first i components is due
 abbrev pub NoneDue : List Part → List (Option ℕ) → ℕ → Type 0
 NoneDue cs ps i = (k : ℕ) → k < i → (c : Part) → IsAbsent cs ps k c → IsDue c cs ps → ⊥
 
@@ -71,7 +71,7 @@ IsMissingInGroupAt cs ps o =
     ((i : ℕ) (c : Part) → IsAbsent cs ps i c → IsDue c cs ps → ⊥)
     (λ i. (c : Part) × IsAbsent cs ps i c × IsDue c cs ps × NoneDue cs ps i)
 
--- the name at place i goes before the one that stands directly before it
+-- the name at place i must come before the name directly before it
 pub record IsJumbled (cs fs : List Name) (i : ℕ) : Type 0 where
   pub before : ℕ
   pub next : i ≡ suc before

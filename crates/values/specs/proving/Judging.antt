@@ -1,4 +1,4 @@
--- What the checks of constraints answer of values that hold no others.
+-- What the checks of constraints return for values that hold no others.
 use Rattle.std.specs.Prelude.{ℕ, ℤ, Bool, List, Option, Some, None, IsTrue}
 use Rattle.asn_base.specs.Abstract.{AbstractValue, integer, bits, octets, text}
 use Rattle.trees.specs.Types.{Plain}
@@ -26,11 +26,11 @@ abbrev pub text_in : AbstractValue → Option (List ℕ)
 text_in (text o) = Some o
 text_in v = None
 
--- true where the constraints of type i allow the value, false where they leave it out
+-- b is true if the constraints of type i allow the value, and false if they exclude it
 pub record IsJudged (p : Program) (i : ℕ) (k : Plain) (v : AbstractValue) (b : Bool) : Type 0 where
   pub allowed : IsTrue b → IsPlainValue (Allows p) (AllowsCode p) i k v
   pub left_out : (IsTrue b → ⊥) → IsLeftOut (Allows p) (AllowsCode p) i (simple k) v
 
--- so it is of each value of type i, which is of kind k
+-- the same for a value of type i, which is of kind k
 abbrev pub Judges : Program → ℕ → Plain → AbstractValue → Bool → Type 0
 Judges p i k v b = IsOfKind p.types i (simple k) → IsUnconstrained k v → IsJudged p i k v b

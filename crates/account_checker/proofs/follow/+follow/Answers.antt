@@ -144,34 +144,34 @@ inside-returns-in-Some-structure t c = λ z i rest e.
     let k = ap kind_of c.in-Set.is ∙ ap (λ q. a_set c.in-Set.field-0 (map component_of q)) (sym c.as_slice-in-Set-told.ensures.value) in
     let o = told_at c.args.told.now (told.Set c.in-Set-told.z c.in-Set-told.places) (header z i) (flat c.args.rows.now) rest c.in-Set-told.is e in
     let n = o.2 ∙ ap (λ p. p.members) (sym c.deref.ensures) in
-    let p : IsPlaced (Placed c.as_slice-in-Set-told-2.result c.as_slice-in-Set-told-3.result) c.in-Set-told.places.value.places.items c.in-Set-told.places.value.inverse.items = (c.as_slice-in-Set-told-2.ensures.value ∙ ap (λ p. p.places.items) c.deref-in-Set-told.ensures, c.as_slice-in-Set-told-3.ensures.value ∙ ap (λ p. p.inverse.items) c.deref-in-Set-told-2.ensures) in
+    let p : IsPlaced (Placed c.deref-in-Set-told.result) c.in-Set-told.places.value.places.items c.in-Set-told.places.value.inverse.items = (ap (λ p. p.places.items) c.deref-in-Set-told.ensures, ap (λ p. p.inverse.items) c.deref-in-Set-told.ensures) in
     let r = c.in-Some-structure.ensures o.0 rest o.3 n in
-    (to_header o.1 (set_within (Placed c.as_slice-in-Set-told-2.result c.as_slice-in-Set-told-3.result) p k r.0), r.1)
+    (to_header o.1 (set_within (Placed c.deref-in-Set-told.result) p k r.0), r.1)
 
 pub inside-returns-in-None-structure : goal.inside-returns-in-None-structure
 inside-returns-in-None-structure t c = λ z i rest e d.
     let k = ap kind_of c.in-Set.is ∙ ap (λ q. a_set c.in-Set.field-0 (map component_of q)) (sym c.as_slice-in-Set-told.ensures.value) in
     let o = told_at c.args.told.now (told.Set c.in-Set-told.z c.in-Set-told.places) (header z i) (flat c.args.rows.now) rest c.in-Set-told.is e in
     let n = o.2 ∙ ap (λ p. p.members) (sym c.deref.ensures) in
-    let p : IsPlaced (Placed c.as_slice-in-Set-told-2.result c.as_slice-in-Set-told-3.result) c.in-Set-told.places.value.places.items c.in-Set-told.places.value.inverse.items = (c.as_slice-in-Set-told-2.ensures.value ∙ ap (λ p. p.places.items) c.deref-in-Set-told.ensures, c.as_slice-in-Set-told-3.ensures.value ∙ ap (λ p. p.inverse.items) c.deref-in-Set-told-2.ensures) in
-    c.in-None-structure.ensures o.0 rest o.3 n (set_same (Placed c.as_slice-in-Set-told-2.result c.as_slice-in-Set-told-3.result) p k (from_header o.1 d))
+    let p : IsPlaced (Placed c.deref-in-Set-told.result) c.in-Set-told.places.value.places.items c.in-Set-told.places.value.inverse.items = (ap (λ p. p.places.items) c.deref-in-Set-told.ensures, ap (λ p. p.inverse.items) c.deref-in-Set-told.ensures) in
+    c.in-None-structure.ensures o.0 rest o.3 n (set_same (Placed c.deref-in-Set-told.result) p k (from_header o.1 d))
 
 pub inside-returns-in-Some-series-2 : goal.inside-returns-in-Some-series-2
 inside-returns-in-Some-series-2 t c = λ z i rest e.
     let k = ap kind_of c.in-SetOf.is in
     let o = told_at c.args.told.now (told.SetOf c.in-SetOf-told.z c.in-SetOf-told.places) (header z i) (flat c.args.rows.now) rest c.in-SetOf-told.is e in
     let n = o.2 ∙ ap (λ p. p.members) (sym c.deref-in-SetOf-told.ensures) in
-    let p : IsPlaced (Placed c.as_slice-in-SetOf-told.result c.as_slice-in-SetOf-told-2.result) c.in-SetOf-told.places.value.places.items c.in-SetOf-told.places.value.inverse.items = (c.as_slice-in-SetOf-told.ensures.value ∙ ap (λ p. p.places.items) c.deref-in-SetOf-told-2.ensures, c.as_slice-in-SetOf-told-2.ensures.value ∙ ap (λ p. p.inverse.items) c.deref-in-SetOf-told-3.ensures) in
+    let p : IsPlaced (Placed c.deref-in-SetOf-told-2.result) c.in-SetOf-told.places.value.places.items c.in-SetOf-told.places.value.inverse.items = (ap (λ p. p.places.items) c.deref-in-SetOf-told-2.ensures, ap (λ p. p.inverse.items) c.deref-in-SetOf-told-2.ensures) in
     let r = c.in-Some-series-2.ensures o.0 rest o.3 n in
-    (to_header o.1 (set_of_within (Placed c.as_slice-in-SetOf-told.result c.as_slice-in-SetOf-told-2.result) p k r.0), r.1)
+    (to_header o.1 (set_of_within (Placed c.deref-in-SetOf-told-2.result) p k r.0), r.1)
 
 pub inside-returns-in-None-series-2 : goal.inside-returns-in-None-series-2
 inside-returns-in-None-series-2 t c = λ z i rest e d.
     let k = ap kind_of c.in-SetOf.is in
     let o = told_at c.args.told.now (told.SetOf c.in-SetOf-told.z c.in-SetOf-told.places) (header z i) (flat c.args.rows.now) rest c.in-SetOf-told.is e in
     let n = o.2 ∙ ap (λ p. p.members) (sym c.deref-in-SetOf-told.ensures) in
-    let p : IsPlaced (Placed c.as_slice-in-SetOf-told.result c.as_slice-in-SetOf-told-2.result) c.in-SetOf-told.places.value.places.items c.in-SetOf-told.places.value.inverse.items = (c.as_slice-in-SetOf-told.ensures.value ∙ ap (λ p. p.places.items) c.deref-in-SetOf-told-2.ensures, c.as_slice-in-SetOf-told-2.ensures.value ∙ ap (λ p. p.inverse.items) c.deref-in-SetOf-told-3.ensures) in
-    c.in-None-series-2.ensures o.0 rest o.3 n (set_of_same (Placed c.as_slice-in-SetOf-told.result c.as_slice-in-SetOf-told-2.result) p k (from_header o.1 d))
+    let p : IsPlaced (Placed c.deref-in-SetOf-told-2.result) c.in-SetOf-told.places.value.places.items c.in-SetOf-told.places.value.inverse.items = (ap (λ p. p.places.items) c.deref-in-SetOf-told-2.ensures, ap (λ p. p.inverse.items) c.deref-in-SetOf-told-2.ensures) in
+    c.in-None-series-2.ensures o.0 rest o.3 n (set_of_same (Placed c.deref-in-SetOf-told-2.result) p k (from_header o.1 d))
 
 pub inside-returns-in_default-told-4 : goal.inside-returns-in_default-told-4
 inside-returns-in_default-told-4 t c = λ z i rest e d.

@@ -1,4 +1,4 @@
-use Rattle.asnc.proofs.Answered.{opened, read, written}
+use Rattle.asnc.proofs.Answered.{opened, packed, read, written}
 use Rattle.asnc.proofs.law.one_answer.Goals as goal
 
 pub returns-clause-opened : goal.returns-clause-opened
@@ -6,7 +6,11 @@ returns-clause-opened c = opened c.faults_exclude.ensures
 
 pub returns-clause-written : goal.returns-clause-written
 returns-clause-written c = λ xs p s first second o a e ok.
-    written c.one_value.ensures p s first second o a e (c.accepted_keep.ensures xs p ok.accepted)
+    written c.one_meaning.ensures.one c.one_meaning.ensures.refused p s first second o a e (c.accepted_keep.ensures xs p ok.accepted)
+
+pub returns-clause-packed : goal.returns-clause-packed
+returns-clause-packed c = λ xs p s first second o e ok.
+    packed c.one_meaning.ensures.one c.one_meaning.ensures.refused p s first second o e (c.accepted_keep.ensures xs p ok.accepted)
 
 pub returns-clause-read : goal.returns-clause-read
 returns-clause-read c = read

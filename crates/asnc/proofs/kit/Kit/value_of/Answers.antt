@@ -1,7 +1,7 @@
 use Rattle.std.proofs.Common.{subst}
 use Rattle.std.specs.Prelude.{IfErr}
 use Rattle.asnc.specs.Kits.{Opened}
-use Rattle.asnc.specs.Writing.{IsNotMeant}
+use Rattle.named_values.specs.Meant.{IsNotMeant}
 use Rattle.asnc.proofs.kit.Kit.value_of.Goals as goal
 
 pub returns-clause-refused : goal.returns-clause-refused

@@ -1,0 +1,18 @@
+use Rattle.std.proofs.Common.{◌≡◌, subst}
+use Rattle.std.specs.Prelude.{IfErr, IfOk}
+use Rattle.codec_source.specs.declared.fault.ReadFault.TheVariants.{Memory}
+use Rattle.asnc.specs.Reading.{IsReadBy, IsUnread, rules_of}
+use Rattle.asnc.specs.Kits.{Opened}
+use Rattle.asnc.proofs.kit.Kit.decode.Goals as goal
+
+pub returns-clause-read : goal.returns-clause-read
+returns-clause-read c =
+    subst (λ (k : Opened). IfOk c.read_by.result
+    (IsReadBy k.types (rules_of c.args.rules) c.args.id.index c.args.octets.now))
+    c.self.view_is c.read_by.ensures.read
+
+pub returns-clause-refused : goal.returns-clause-refused
+returns-clause-refused c =
+    subst (λ (k : Opened). IfErr c.read_by.result (λ e. (e ≡ Memory → ⊥) →
+    IsUnread k.types (rules_of c.args.rules) c.args.id.index c.args.octets.now e))
+    c.self.view_is c.read_by.ensures.refused

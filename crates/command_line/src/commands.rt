@@ -1,0 +1,308 @@
+//! The commands by which words are read.
+
+ghost use Rattle.std.specs.Prelude.{◌≡◌, IfOk, codes, false, true};
+ghost use Rattle.clap.specs.Words.{app_of, rule_of};
+ghost use Rattle.clap.specs.declared.builder.command.Command.TheViews.{out-Command};
+ghost use Rattle.command_line.specs.CommandLine.{asnc_app, ber_app, ber_flags_app, check_names_app, check_texts_app, der_app, der_flags_app, files_rule, flag_rule, list_app, octcheck_app, octets_app, octets_names_app, text_rule, value_app, value_names_app, written_app};
+
+use clap::{Arg, ArgAction, Command};
+use std::alloc::{AllocError, Global};
+
+/// The text at the end of the help.
+const AFTER_HELP: &str = "\
+Examples:
+  asnc der --type M.T --value M.v m.asn
+  asnc ber --type M.T --hex 020105 m.asn
+  asnc uper --type M.T --value M.v m.asn
+  asnc account --type M.T --value M.v m.asn
+  asnc list m.asn
+
+Exit status: 0 done, 1 the texts, names, values or octets are refused, 2 a bad command line,
+3 memory, a file or a device was wanting. A refusal is one line, with its number and
+its name; man asnc lists them.";
+
+/// The text at the end of the help of `der`.
+const DER_EXAMPLES: &str = "\
+Examples:
+  asnc der --type M.T --value M.v m.asn
+  asnc der --raw --type M.T --value M.v m.asn > v.der
+  cat m.asn | asnc der --context --type M.T --value M.v -";
+
+/// The text at the end of the help of `ber`.
+const BER_EXAMPLES: &str = "\
+Examples:
+  asnc ber --type M.T --hex 020105 m.asn
+  asnc ber --strict --type M.T --hex @v.der m.asn";
+
+/// The text at the end of the help of `uper`.
+const UPER_EXAMPLES: &str = "\
+Examples:
+  asnc uper --type M.T --value M.v m.asn
+  cat m.asn | asnc uper --context --type M.T --value M.v -";
+
+/// The text at the end of the help of `account`.
+const ACCOUNT_EXAMPLES: &str = "\
+Examples:
+  asnc account --type M.T --value M.v m.asn
+  asnc account --type M.T --value M.v m.asn > a.json";
+
+/// The text at the end of the help of `list`.
+const LIST_EXAMPLES: &str = "\
+Examples:
+  asnc list m.asn
+  asnc list --context fleet.asn telemetry.asn";
+
+/// The text at the end of the help of `octcheck`.
+const CHECK_HELP: &str = "\
+Examples:
+  octcheck --type M.T --value M.v --hex 020105 --account a.json m.asn
+  octcheck --type M.T --value M.v --hex @v.der --account a.json m.asn
+
+It prints yes, or no and the first reason: NotOfType, Shape, Omitted, Numbers, Places, Length, Header or Contents.
+After a yes no BER encoding of the value is shorter.
+
+Exit status: 0 yes, 1 no, or the texts, names, value or account are refused, 2 a bad command line,
+3 memory or a file was wanting. A refusal is one line, with its number and its name; man octcheck lists them.";
+
+/// `--ID <SHOWN>`, which is required.
+fn text_arg<'a>(alloc: Global, id: &'a str, shown: &'a str, help: &'a str) -> Arg<'a>
+    ensures rule { rule_of result ≡ text_rule id.entry.now }
+    ensures local { result.global ≡ false }
+{
+    Arg::new(alloc, id)
+        .long(id)
+        .value_name(shown)
+        .required(true)
+        .action(ArgAction::Set)
+        .help(help)
+}
+
+/// `--ID`, which is optional.
+fn flag_arg<'a>(alloc: Global, id: &'a str, help: &'a str) -> Arg<'a>
+    ensures rule { rule_of result ≡ flag_rule id.entry.now }
+    ensures local { result.global ≡ false }
+{
+    Arg::new(alloc, id)
+        .long(id)
+        .action(ArgAction::SetTrue)
+        .help(help)
+}
+
+/// The names of the files, at least one.
+fn files_arg<'a>(alloc: Global) -> Arg<'a>
+    ensures rule { rule_of result ≡ files_rule }
+    ensures local { result.global ≡ false }
+{
+    Arg::new(alloc, "FILE")
+        .required(true)
+        .action(ArgAction::Append)
+        .help("The modules' texts; - is standard input, once")
+}
+
+/// `--context`, which is optional.
+fn context_arg<'a>(alloc: Global) -> Arg<'a>
+    ensures rule { rule_of result ≡ flag_rule (codes "context") }
+    ensures local { result.global ≡ false }
+{
+    flag_arg(
+        alloc,
+        "context",
+        "Show the line in which a fault stands, too",
+    )
+}
+
+/// `--hex`, for the octets that are read or checked.
+fn hex_arg<'a>(alloc: Global) -> Arg<'a>
+    ensures rule { rule_of result ≡ text_rule (codes "hex") }
+    ensures local { result.global ≡ false }
+{
+    text_arg(
+        alloc,
+        "hex",
+        "HEX",
+        "The octets in hexadecimal, or @ and the name of a file that holds them",
+    )
+}
+
+/// A command with the names of a type and of a value.
+fn value_names<'a>(
+    alloc: Global,
+    name: &'a str,
+    about: &'a str,
+    examples: &'a str,
+) -> Result<Command<'a>, AllocError>
+    ensures shape { IfOk result (λ c. app_of c ≡ value_names_app name.entry.now) }
+    ensures local { IfOk result (λ c. (out-Command c).has_globals ≡ false) }
+{
+    Command::new(alloc, name)
+        .about(about)
+        .after_help(examples)
+        .arg(text_arg(alloc, "type", "MODULE.TYPE", "The type"))?
+        .arg(text_arg(alloc, "value", "MODULE.VALUE", "The value"))
+}
+
+/// A command that takes the names of a type and of a value, `--context` and files.
+fn value_command<'a>(
+    alloc: Global,
+    name: &'a str,
+    about: &'a str,
+    examples: &'a str,
+) -> Result<Command<'a>, AllocError>
+    ensures shape { IfOk result (λ c. app_of c ≡ value_app name.entry.now) }
+    ensures local { IfOk result (λ c. (out-Command c).has_globals ≡ false) }
+{
+    value_names(alloc, name, about, examples)?
+        .arg(context_arg(alloc))?
+        .arg(files_arg(alloc))
+}
+
+/// A command with the name of a type, and octets.
+fn octets_names<'a>(
+    alloc: Global,
+    name: &'a str,
+    about: &'a str,
+    examples: &'a str,
+) -> Result<Command<'a>, AllocError>
+    ensures shape { IfOk result (λ c. app_of c ≡ octets_names_app name.entry.now) }
+    ensures local { IfOk result (λ c. (out-Command c).has_globals ≡ false) }
+{
+    Command::new(alloc, name)
+        .about(about)
+        .after_help(examples)
+        .arg(text_arg(alloc, "type", "MODULE.TYPE", "The type"))?
+        .arg(hex_arg(alloc))
+}
+
+/// `der` with its flags.
+fn der_flags<'a>(alloc: Global) -> Result<Command<'a>, AllocError>
+    ensures shape { IfOk result (λ c. app_of c ≡ der_flags_app) }
+    ensures local { IfOk result (λ c. (out-Command c).has_globals ≡ false) }
+{
+    let raw = flag_arg(alloc, "raw", "Write the octets themselves, not hexadecimal");
+    let about = "Write the DER encoding of a value that a module names";
+    value_names(alloc, "der", about, DER_EXAMPLES)?
+        .arg(raw)?
+        .arg(context_arg(alloc))
+}
+
+fn der_command<'a>(alloc: Global) -> Result<Command<'a>, AllocError>
+    ensures shape { IfOk result (λ c. app_of c ≡ der_app) }
+    ensures local { IfOk result (λ c. (out-Command c).has_globals ≡ false) }
+{
+    der_flags(alloc)?.arg(files_arg(alloc))
+}
+
+/// `ber` with its flags.
+fn ber_flags<'a>(alloc: Global) -> Result<Command<'a>, AllocError>
+    ensures shape { IfOk result (λ c. app_of c ≡ ber_flags_app) }
+    ensures local { IfOk result (λ c. (out-Command c).has_globals ≡ false) }
+{
+    let strict = flag_arg(alloc, "strict", "Read DER alone");
+    let about = "Read octets by BER, or by DER, as a value, and print it";
+    octets_names(alloc, "ber", about, BER_EXAMPLES)?
+        .arg(strict)?
+        .arg(context_arg(alloc))
+}
+
+fn ber_command<'a>(alloc: Global) -> Result<Command<'a>, AllocError>
+    ensures shape { IfOk result (λ c. app_of c ≡ ber_app) }
+    ensures local { IfOk result (λ c. (out-Command c).has_globals ≡ false) }
+{
+    ber_flags(alloc)?.arg(files_arg(alloc))
+}
+
+fn uper_command<'a>(alloc: Global) -> Result<Command<'a>, AllocError>
+    ensures shape { IfOk result (λ c. app_of c ≡ value_app (codes "uper")) }
+    ensures local { IfOk result (λ c. (out-Command c).has_globals ≡ false) }
+{
+    let about = "Write a value that a module names in canonical PER, unaligned";
+    value_command(alloc, "uper", about, UPER_EXAMPLES)
+}
+
+fn account_command<'a>(alloc: Global) -> Result<Command<'a>, AllocError>
+    ensures shape { IfOk result (λ c. app_of c ≡ value_app (codes "account")) }
+    ensures local { IfOk result (λ c. (out-Command c).has_globals ≡ false) }
+{
+    let about = "Write how the DER encoding of a value is made up, header by header, in JSON";
+    value_command(alloc, "account", about, ACCOUNT_EXAMPLES)
+}
+
+fn list_command<'a>(alloc: Global) -> Result<Command<'a>, AllocError>
+    ensures shape { IfOk result (λ c. app_of c ≡ list_app) }
+    ensures local { IfOk result (λ c. (out-Command c).has_globals ≡ false) }
+{
+    Command::new(alloc, "list")
+        .about("List the types of modules, and the steps that write each")
+        .after_help(LIST_EXAMPLES)
+        .arg(context_arg(alloc))?
+        .arg(files_arg(alloc))
+}
+
+/// The program asnc with the commands that write or read octets.
+fn octets_command<'a>(alloc: Global) -> Result<Command<'a>, AllocError>
+    ensures shape { IfOk result (λ c. app_of c ≡ octets_app) }
+    ensures local { IfOk result (λ c. (out-Command c).has_globals ≡ false) }
+    ensures wants { IfOk result (λ c. (out-Command c).subcommand_required ≡ true) }
+{
+    Command::new(alloc, "asnc")
+        .about("An ASN.1 compiler: from modules' texts to octets, and back")
+        .version("0.1.0")
+        .after_help(AFTER_HELP)
+        .subcommand_required(true)
+        .disable_help_subcommand(true)
+        .subcommand(der_command(alloc)?)?
+        .subcommand(ber_command(alloc)?)
+}
+
+/// The program asnc with all commands but the one that lists types.
+fn written_command<'a>(alloc: Global) -> Result<Command<'a>, AllocError>
+    ensures shape { IfOk result (λ c. app_of c ≡ written_app) }
+    ensures local { IfOk result (λ c. (out-Command c).has_globals ≡ false) }
+    ensures wants { IfOk result (λ c. (out-Command c).subcommand_required ≡ true) }
+{
+    octets_command(alloc)?
+        .subcommand(uper_command(alloc)?)?
+        .subcommand(account_command(alloc)?)
+}
+
+/// The program asnc.
+pub(crate) fn asnc_command<'a>(alloc: Global) -> Result<Command<'a>, AllocError>
+    ensures shape { IfOk result (λ c. app_of c ≡ asnc_app) }
+    ensures local { IfOk result (λ c. (out-Command c).has_globals ≡ false) }
+    ensures wants { IfOk result (λ c. (out-Command c).subcommand_required ≡ true) }
+{
+    written_command(alloc)?.subcommand(list_command(alloc)?)
+}
+
+/// The program octcheck with the names of a type and of a value.
+fn check_names<'a>(alloc: Global) -> Result<Command<'a>, AllocError>
+    ensures shape { IfOk result (λ c. app_of c ≡ check_names_app) }
+    ensures local { IfOk result (λ c. (out-Command c).has_globals ≡ false) }
+{
+    Command::new(alloc, "octcheck")
+        .about("Check that octets are a shortest encoding of a value, by the account beside them")
+        .version("0.1.0")
+        .after_help(CHECK_HELP)
+        .arg(text_arg(alloc, "type", "MODULE.TYPE", "The type"))?
+        .arg(text_arg(alloc, "value", "MODULE.VALUE", "The value"))
+}
+
+/// The program octcheck with these names, the octets and the account's file.
+fn check_texts<'a>(alloc: Global) -> Result<Command<'a>, AllocError>
+    ensures shape { IfOk result (λ c. app_of c ≡ check_texts_app) }
+    ensures local { IfOk result (λ c. (out-Command c).has_globals ≡ false) }
+{
+    let about = "The file that holds the account, in JSON";
+    let account = text_arg(alloc, "account", "PATH", about);
+    check_names(alloc)?.arg(hex_arg(alloc))?.arg(account)
+}
+
+/// The program octcheck.
+pub(crate) fn octcheck_command<'a>(alloc: Global) -> Result<Command<'a>, AllocError>
+    ensures shape { IfOk result (λ c. app_of c ≡ octcheck_app) }
+    ensures local { IfOk result (λ c. (out-Command c).has_globals ≡ false) }
+{
+    check_texts(alloc)?
+        .arg(context_arg(alloc))?
+        .arg(files_arg(alloc))
+}

@@ -1,0 +1,3 @@
+pub mod Refused
+mod Rows
+pub mod Verdicts

@@ -1,0 +1,116 @@
+-- What a verdict means for a value that texts name, what follows from a yes, and why there is no verdict: the answers
+-- of the checker; no clause.
+use Rattle.std.specs.Prelude.{◌≡◌, ℕ, List, IsUtf8, codes}
+use Rattle.asn_base.specs.Abstract.{AbstractValue}
+use Rattle.asn_base.specs.Typed.{IsValue}
+use Rattle.asn_base.specs.Types.{Resolved}
+use Rattle.encodings.specs.Account.{Account}
+use Rattle.encodings.specs.Encoding.{EncodesBy, Shortest}
+use Rattle.encodings.specs.Rules.{Unsorted}
+use Rattle.account_checker.specs.Reasons.{Fails, IsRight}
+use Rattle.account_checker.specs.declared.reason.Reason.TheVariants as reasons
+use Rattle.account_checker.specs.declared.reason.Verdict.{Verdict}
+use Rattle.account_checker.specs.declared.reason.Verdict.TheVariants.{Yes, No}
+use Rattle.account_text.specs.Text.{IsTextOf}
+use Rattle.trees.specs.Values.{Name, Tree}
+use Rattle.resolve.specs.Program.{Program}
+use Rattle.front_end.specs.Accepted.{Accepted, AreAccepted}
+use Rattle.front_end.specs.Faults.{Stands}
+use Rattle.front_end.specs.Untyped.{StandsFor}
+use Rattle.front_end.specs.declared.fault.FrontFault.TheVariants as texts
+use Rattle.messages.specs.declared.fault.Fault.{Fault}
+use Rattle.messages.specs.declared.fault.Fault.TheVariants as faults
+use Rattle.named_values.specs.Meant.{IsMeant, IsNotMeant}
+use Rattle.named_values.specs.Named.{AreNamed}
+
+-- the octets are UTF-8, and the text that they are is that of account a
+pub record IsAccountIn (octets : List ℕ) (a : Account) : Type 0 where
+  pub utf8 : IsUtf8 octets
+  pub is : IsTextOf octets a
+
+-- The verdict is yes if v is a value of type t of schema s and account a describes how octets o encode it. It is no
+-- with a reason if this is the first that fails.
+abbrev pub IsVerdict : List Resolved → ℕ → AbstractValue → List ℕ → Account → Verdict → Type 0
+IsVerdict s t v o a Yes = IsRight s t v o a
+IsVerdict s t v o a (No r) = Fails s t v o a r
+
+-- The names of a type and of a value mean a value of a type of program p, and the text `account` is that of an account.
+-- Verdict r is the one on these and octets o.
+pub record IsVerdictOn (p : Program) (s : List Resolved) (first second o account : List ℕ) (r : Verdict) : Type 0 where
+  pub type : ℕ
+  pub value : AbstractValue
+  pub meant : IsMeant p first second type value
+  pub told : Account
+  pub read : IsAccountIn account told
+  pub verdict : IsVerdict s type value o told r
+
+-- The texts xs are accepted, as a program with its types, and verdict r is the one in this program. It is on the names
+-- of a type and of a value, octets o, and the text of an account.
+pub record IsJudged (xs : List (List ℕ)) (first second o account : List ℕ) (r : Verdict) : Type 0 where
+  pub program : Program
+  pub types : List Resolved
+  pub accepted : Accepted xs program types
+  pub on : IsVerdictOn program types first second o account r
+
+-- What a yes alone means for texts xs, the name of a type, the name of a value, and octets o.
+pub record IsConfirmed (xs : List (List ℕ)) (first second o : List ℕ) : Type 0 where
+  -- the texts are accepted, as this program with these types
+  pub program : Program
+  pub types : List Resolved
+  pub accepted : Accepted xs program types
+  -- the first name is that of this type, and the value with the second name has this notation in this module
+  pub type : ℕ
+  pub within : Name
+  pub notation : Tree
+  pub named : AreNamed program first second type within notation
+  -- the notation means this value under the type, and the value is one of the type
+  pub value : AbstractValue
+  pub stands : StandsFor program within type notation value
+  pub is : IsValue types type value
+  -- the octets are an encoding of the value by the distinguished rules, except for the order in SET and SET OF
+  pub unsorted : EncodesBy Unsorted types type value 0 o
+  -- the octets are an encoding by the basic rules, and no such encoding, in any definite form of lengths, is shorter
+  pub shortest : Shortest types type value o
+
+-- the octets aren't the text of an account; `Memory` says nothing of the octets
+abbrev pub IsNoAccount : List ℕ → Fault → Type 0
+IsNoAccount octets faults.Memory = Unit {0}
+IsNoAccount octets (faults.NotAccount s) = (a : Account) → IsAccountIn octets a → ⊥
+IsNoAccount octets fault = ⊥
+
+-- the two texts mean a value, and the third isn't the text of an account
+pub record HasNoAccount (p : Program) (first second account : List ℕ) : Type 0 where
+  pub type : ℕ
+  pub value : AbstractValue
+  pub meant : IsMeant p first second type value
+  pub none : (a : Account) → IsAccountIn account a → ⊥
+
+-- There is no verdict in a program: the texts mean no value, or otherwise there is no account.
+abbrev pub IsNotJudgedOn : Program → List ℕ → List ℕ → List ℕ → Fault → Type 0
+IsNotJudgedOn p first second account (faults.NotAccount s) = HasNoAccount p first second account
+IsNotJudgedOn p first second account fault = IsNotMeant p first second fault
+
+-- the texts are accepted, and there is no verdict in their program
+pub record IsNotJudgedIn (xs : List (List ℕ)) (first second account : List ℕ) (fault : Fault) : Type 0 where
+  pub program : Program
+  pub accepted : AreAccepted xs program
+  pub on : IsNotJudgedOn program first second account fault
+
+-- There is no verdict. A fault of the texts is true, the first one in reading order; or otherwise there is no verdict
+-- in their program. `Memory` says nothing.
+abbrev pub IsNotJudged : List (List ℕ) → List ℕ → List ℕ → List ℕ → Fault → Type 0
+IsNotJudged xs first second account faults.Memory = Unit {0}
+IsNotJudged xs first second account (faults.Front f) = (f ≡ texts.Memory → ⊥) × Stands xs f
+IsNotJudged xs first second account fault = IsNotJudgedIn xs first second account fault
+
+-- a verdict in words: `yes`, or `no` and the name of the reason
+abbrev pub answer_of : Verdict → List ℕ
+answer_of Yes = codes "yes"
+answer_of (No reasons.NotOfType) = codes "no NotOfType"
+answer_of (No reasons.Shape) = codes "no Shape"
+answer_of (No reasons.Omitted) = codes "no Omitted"
+answer_of (No reasons.Numbers) = codes "no Numbers"
+answer_of (No reasons.Places) = codes "no Places"
+answer_of (No reasons.Length) = codes "no Length"
+answer_of (No reasons.Header) = codes "no Header"
+answer_of (No reasons.Contents) = codes "no Contents"

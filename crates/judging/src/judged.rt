@@ -1,0 +1,142 @@
+//! The verdict on octets.
+
+ghost use Rattle.std.specs.Prelude.{◌≡◌, List, map, ℕ, IfOk, IfErr};
+ghost use Rattle.asn_base.specs.Abstract.{abstract};
+ghost use Rattle.encodings.specs.Account.{Account as Account'};
+ghost use Rattle.front_end.specs.Accepted.{octets_of};
+ghost use Rattle.front_end.specs.Faults.{Stands};
+ghost use Rattle.judging.specs.Judged.{IsAccountIn, IsJudged, IsNoAccount, IsNotJudged, IsNotJudgedOn, IsVerdict, IsVerdictOn};
+
+use account_checker::check;
+use account_checker::reason::Verdict;
+use account_text::{AccountFault, from_json, stop_of};
+use asn_base::schema::{Schema, TypeId};
+use asn_base::value::Value;
+use front_end::law::accepted_keep;
+use front_end::{FrontFault, Modules};
+use messages::Fault;
+use named_values::meant;
+use octet_account::account::Account;
+use std::alloc::Global;
+
+/// A claim about a value: that these octets encode it, as this account describes.
+#[derive(Clone, Copy)]
+struct Claim<'a> {
+    ty: &'a str,
+    value: &'a str,
+    octets: &'a [u8],
+    account: &'a [u8],
+}
+
+/// A fault of texts, as a user sees it.
+fn refusal(fault: FrontFault) -> Fault
+    ensures { (xs : List (List ℕ)) (first second account : List ℕ) →
+        Stands xs fault →
+        IsNotJudged xs first second account result }
+{
+    match fault {
+        FrontFault::Memory => Fault::Memory,
+        fault => Fault::Front(fault),
+    }
+}
+
+/// The fault that octets aren't the text of an account, with the octet at which this shows.
+fn no_account(alloc: Global, octets: &[u8]) -> Fault
+    ensures { ((a : Account') → IsAccountIn octets.now a → ⊥) → IsNoAccount octets.now result }
+{
+    match stop_of(alloc, octets) {
+        Ok(stop) => Fault::NotAccount(stop),
+        Err(_) => Fault::Memory,
+    }
+}
+
+/// The account whose text the octets are.
+#[tactic(auto, using(crate::proofs::Refused::not_utf8, crate::proofs::Refused::in_text))]
+fn account_in(alloc: Global, octets: &[u8]) -> Result<Account, Fault>
+    ensures read { IfOk result (IsAccountIn octets.now) }
+    ensures none { IfErr result (IsNoAccount octets.now) }
+{
+    let Ok(text) = str::from_utf8(octets) else {
+        return Err(no_account(alloc, octets));
+    };
+    match from_json(alloc, text) {
+        Ok(account) => Ok(account),
+        Err(AccountFault::Memory) => Err(Fault::Memory),
+        Err(AccountFault::NotAccount) => Err(no_account(alloc, octets)),
+    }
+}
+
+/// The verdict of the checker.
+fn verdict(schema: &Schema, id: TypeId, value: &Value, octets: &[u8], account: &Account) -> Verdict
+    ensures { IsVerdict schema.now id.index (abstract value.now) octets.now account.now result }
+{
+    check(schema, id, value, octets, account)
+}
+
+/// The verdict on a claim about accepted modules.
+#[tactic(auto, using(crate::proofs::Refused::not_meant, crate::proofs::Refused::not_read))]
+fn judge_in(
+    alloc: Global,
+    modules: &Modules,
+    schema: &Schema,
+    claim: &Claim<'_>,
+) -> Result<Verdict, Fault>
+    ensures judged { IfOk result (IsVerdictOn modules.now schema.now
+        claim.now.ty.now claim.now.value.now claim.now.octets.now claim.now.account.now) }
+    ensures refused { IfErr result (IsNotJudgedOn modules.now
+        claim.now.ty.now claim.now.value.now claim.now.account.now) }
+{
+    let (id, value) = match meant(alloc, modules, claim.ty, claim.value) {
+        Ok(found) => found,
+        Err(fault) => return Err(fault),
+    };
+    let account = match account_in(alloc, claim.account) {
+        Ok(account) => account,
+        Err(fault) => return Err(fault),
+    };
+    Ok(verdict(schema, id, &value, claim.octets, &account))
+}
+
+/// Decides whether octets are a shortest encoding of a value, by the account beside them. The type and the value are
+/// named as `Module.Name`, by the module that assigns or imports the name. The value's notation is read under this
+/// type.
+///
+/// The verdict is what [`check`] returns for the types of the texts, the value, the octets and the account. `Yes`: no
+/// BER encoding of the value has fewer octets, whoever made the octets and the account. `No`: the first reason that
+/// fails.
+///
+/// The result is the first fault, in this order. `Front`: the fault of the texts that [`front_end::open`] finds.
+/// `NoType`: the first name is not that of a type. `NoValue`: the second name is not that of a value. `Value`: the
+/// value's notation means no value of the type. `NotAccount`: the account isn't UTF-8, or isn't the text of an account.
+/// `Memory`: an allocation failed.
+pub fn judge(
+    alloc: Global,
+    texts: &[Vec<u8>],
+    ty: &str,
+    value: &str,
+    octets: &[u8],
+    account: &[u8],
+) -> Result<Verdict, Fault>
+    // The verdict is right for the value that the names mean in the texts.
+    ensures judged { IfOk result
+        (IsJudged (map octets_of texts.now) ty.now value.now octets.now account.now) }
+    // A fault is true, and is the first one in the order above.
+    ensures refused { IfErr result (IsNotJudged (map octets_of texts.now) ty.now value.now account.now) }
+{
+    accepted_keep();
+    let front = match front_end::open(alloc, texts) {
+        Ok(front) => front,
+        Err(fault) => return Err(refusal(fault)),
+    };
+    let modules = Modules::of(front.linked);
+    let claim = Claim {
+        ty,
+        value,
+        octets,
+        account,
+    };
+    match judge_in(alloc, &modules, &front.schema, &claim) {
+        Ok(verdict) => Ok(verdict),
+        Err(fault) => Err(fault),
+    }
+}

@@ -1,0 +1,55 @@
+//! What follows for verdicts. A caller calls a law to know it; a law takes no memory and no time.
+
+ghost use Rattle.std.specs.Prelude.{◌≡◌, ℕ, List};
+ghost use Rattle.asn_base.specs.Types.{Resolved};
+ghost use Rattle.account_checker.specs.declared.reason.Verdict.{Verdict};
+ghost use Rattle.account_checker.specs.declared.reason.Verdict.TheVariants.{Yes};
+ghost use Rattle.resolve.specs.Program.{Program};
+ghost use Rattle.front_end.specs.Accepted.{Keeps};
+ghost use Rattle.messages.specs.declared.fault.Fault.{Fault};
+ghost use Rattle.messages.specs.declared.fault.Fault.TheVariants.{Memory};
+ghost use Rattle.judging.specs.Judged.{IsConfirmed, IsJudged, IsNotJudged, IsNotJudgedOn, IsVerdictOn};
+
+use account_checker::law::one_reason;
+use account_text::law::one_account_of_a_text;
+use encodings::account_laws;
+use front_end::law::{accepted_keep, faults_exclude, values_of_schema};
+use named_values::law::one_meaning;
+
+/// What a yes alone means, whoever made the octets and the account. The octets are an encoding of the value that the
+/// names mean, and no encoding by the basic rules is shorter.
+pub fn yes_alone()
+    ensures { (xs : List (List ℕ)) (first second o account : List ℕ) →
+        IsJudged xs first second o account Yes →
+        IsConfirmed xs first second o }
+{
+    accepted_keep();
+    values_of_schema();
+    account_laws();
+}
+
+/// There is at most one verdict. If there is one, the claim has no fault except `Memory`.
+pub fn one_verdict()
+    ensures one { (p : Program) (s : List Resolved) (first second o account : List ℕ) (r e : Verdict) →
+        Keeps p →
+        IsVerdictOn p s first second o account r →
+        IsVerdictOn p s first second o account e →
+        r ≡ e }
+    ensures not_refused { (p : Program) (s : List Resolved) (first second o account : List ℕ) (r : Verdict) (e : Fault) →
+        Keeps p →
+        IsVerdictOn p s first second o account r →
+        IsNotJudgedOn p first second account e →
+        e ≡ Memory }
+    // Accepted texts have no fault.
+    ensures texts { (xs : List (List ℕ)) (first second o account : List ℕ) (r : Verdict) (e : Fault) →
+        IsJudged xs first second o account r →
+        IsNotJudged xs first second account e →
+        e ≡ Memory }
+{
+    one_meaning();
+    one_reason();
+    one_account_of_a_text();
+    accepted_keep();
+    faults_exclude();
+    front_end::law::one_program();
+}

@@ -1,0 +1,11 @@
+//! Decides whether octets are a shortest encoding of a value, by the account beside them. The front end says what the
+//! texts of modules and the names mean, and the checker judges. No codec program is compiled or run.
+#![tactic(auto)]
+
+mod judged;
+pub mod law;
+mod words;
+
+pub use account_checker::reason::{Reason, Verdict};
+pub use judged::judge;
+pub use words::answer;

@@ -1,0 +1,134 @@
+-- Two texts name one type and one value at most.
+use Rattle.std.proofs.Common.{◌≡◌, ℕ, suc, ◌<◌, List, [], ◌∷◌, ◌++◌, length, Option, Some, None, refl, sym, ap, ◌∙◌, arith, subst, get_or}
+use Rattle.std.specs.Prelude.{slice_get}
+use Rattle.asn_base.specs.Abstract.{AbstractValue}
+use Rattle.trees.specs.Values.{Name, Tree}
+use Rattle.names.specs.declared.scope.Assigned.{Assigned}
+use Rattle.names.specs.declared.scope.Assigned.TheVariants as assigned
+use Rattle.names.specs.Names.{Module, Meaning, own, imported, IsApart, under}
+use Rattle.range_ends.specs.Ends.{IsValueAt}
+use Rattle.resolve.specs.Program.{Program}
+use Rattle.front_end.specs.Accepted.{Keeps}
+use Rattle.front_end.specs.Untyped.{StandsFor}
+use Rattle.told_values.specs.declared.telling.ValueTold.{ValueTold}
+use Rattle.messages.specs.declared.fault.Fault.{Fault}
+use Rattle.messages.specs.declared.fault.Fault.TheVariants as faults
+use Rattle.named_values.specs.Meant.{IsMeant, IsNotMeant, StandsForNone}
+use Rattle.named_values.specs.Named.{AreNamed, IsNamed, IsQualified}
+
+-- ---- the parts of a text
+
+abbrev Plain : Name → Type 0
+Plain M = (i : ℕ) → i < length M → get_or M i 0 ≡ 46 → ⊥
+
+one_dot : (M N x y : Name) → M ++ (46 ∷ x) ≡ N ++ (46 ∷ y) → Plain M → Plain N → (M ≡ N) × (x ≡ y)
+one_dot [] [] x y e p q = (refl, let f : x ≡ y = cc in f)
+one_dot [] (n ∷ N) x y e p q = absurd (q 0 (omega arith) (let f : n ≡ 46 = cc in f))
+one_dot (m ∷ M) [] x y e p q = absurd (p 0 (omega arith) (let f : m ≡ 46 = cc in f))
+one_dot (m ∷ M) (n ∷ N) x y e p q =
+    let h : m ≡ n = cc in
+    let t : M ++ (46 ∷ x) ≡ N ++ (46 ∷ y) = cc in
+    let r = one_dot M N x y t (λ i l. p (suc i) (omega (arith, l))) (λ i l. q (suc i) (omega (arith, l))) in
+    (ap (λ k. k ∷ M) h ∙ ap (λ L. n ∷ L) r.0, r.1)
+
+one_spelling : (text : List ℕ) (M N x y : Name) → IsQualified text M x → IsQualified text N y → (M ≡ N) × (x ≡ y)
+one_spelling text M N x y a b = one_dot M N x y (sym a.spelled ∙ b.spelled) a.plain b.plain
+
+-- ---- what a name stands for
+
+one_some : {X : Type 0} (o : Option X) (x y : X) → o ≡ Some x → o ≡ Some y → x ≡ y
+one_some o x y e f = let g : Some x ≡ Some y = sym e ∙ f in cc
+
+not_none : {X : Type 0} (o : Option X) (x : X) → o ≡ Some x → o ≡ None → ⊥
+not_none o x e f = let g = sym e ∙ f in cc
+
+one_meaning : (ms : List (Name × Module)) (M x : Name) (a b : Assigned) → IsApart ms → Meaning ms M x a →
+    Meaning ms M x b → a ≡ b
+one_meaning ms M x a b apart (own m e f) (own n g h) =
+    let same = one_some (under M ms) n m g e in
+    one_some (under x m.assigned) a b f (subst (λ (y : Module). under x y.assigned ≡ Some b) same h)
+one_meaning ms M x a b apart (own m e f) (imported n o N g h i j) =
+    let same = one_some (under M ms) n m g e in
+    absurd (not_none (under x m.assigned) a f
+    (apart M x N m e (subst (λ (y : Module). under x y.imports ≡ Some N) same h)))
+one_meaning ms M x a b apart (imported n o N g h i j) (own m e f) =
+    let same = one_some (under M ms) n m g e in
+    absurd (not_none (under x m.assigned) b f
+    (apart M x N m e (subst (λ (y : Module). under x y.imports ≡ Some N) same h)))
+one_meaning ms M x a b apart (imported m o N e f g h) (imported n q L i j k l) =
+    let same = one_some (under M ms) n m i e in
+    let from = one_some (under x m.imports) L N (subst (λ (y : Module). under x y.imports ≡ Some L) same j) f in
+    let there = one_some (under N ms) q o (subst (λ (y : Name). under y ms ≡ Some q) from k) g in
+    one_some (under x o.assigned) a b h (subst (λ (y : Module). under x y.assigned ≡ Some b) there l)
+
+one_name : (p : Program) (text : List ℕ) (a b : Assigned) → IsApart p.modules → IsNamed p text a → IsNamed p text b → a ≡ b
+one_name p text a b apart m n =
+    let s = one_spelling text n.within m.within n.name m.name n.is m.is in
+    let w = subst (λ x. Meaning p.modules m.within x b) s.1 (subst (λ M. Meaning p.modules M n.name b) s.0 n.means) in
+    one_meaning p.modules m.within m.name a b apart m.means w
+
+-- ---- a value's notation
+
+one_place : (p : Program) (i : ℕ) (M N : Name) (n m : Tree) → IsValueAt p i M n → IsValueAt p i N m → (M ≡ N) × (n ≡ m)
+one_place p i M N n m a b =
+    let v = one_some (slice_get p.values i) a.value b.value a.there b.there in
+    let f = one_some (slice_get p.assignments a.value.assignment) (a.stands.owner, a.assigns) (b.stands.owner, b.assigns)
+    a.stands.assigned (ap (λ w. slice_get p.assignments w.assignment) v ∙ b.stands.assigned) in
+    let g = one_some (slice_get p.headers a.stands.owner) (M, a.stands.tags) (N, b.stands.tags)
+    a.stands.header (ap (λ w. slice_get p.headers w.0) f ∙ b.stands.header) in
+    (ap (λ w. w.0) g, sym a.notation ∙ ap (λ w. w.notation) v ∙ b.notation)
+
+-- the type, the module and the notation that two texts name are the same
+pub record AreSame (t u : ℕ) (M N : Name) (n m : Tree) : Type 0 where
+  pub type : t ≡ u
+  pub within : M ≡ N
+  pub notation : n ≡ m
+
+pub one_pair : (p : Program) (first second : List ℕ) (t u : ℕ) (M N : Name) (n m : Tree) → IsApart p.modules →
+    AreNamed p first second t M n → AreNamed p first second u N m → AreSame t u M N n m
+one_pair p first second t u M N n m apart a b =
+    let e = one_name p first (assigned.Type t) (assigned.Type u) apart a.typed b.typed in
+    let f = one_name p second (assigned.Value a.number) (assigned.Value b.number) apart a.valued b.valued in
+    let i : b.number ≡ a.number = cc in
+    let z = one_place p a.number M N n m a.at (subst (λ k. IsValueAt p k N m) i b.at) in
+    record { type = (let q : t ≡ u = cc in q); within = z.0; notation = z.1 }
+
+-- ---- the value
+
+-- the value stands for the notation however it is told
+moved : {p : Program} {t u : ℕ} {M N : Name} {n m : Tree} {v : AbstractValue} → AreSame t u M N n m →
+    StandsFor p M t n v → StandsFor p N u m v
+moved {p} {t} {u} {M} {N} {n} {m} {v} e h =
+    subst (λ k. StandsFor p N u k v) e.notation (subst (λ L. StandsFor p L u n v) e.within (subst (λ i. StandsFor p M i n v) e.type h))
+
+none_is_one : {p : Program} {first second : List ℕ} {i : ℕ} {v : AbstractValue} {t : ValueTold} → IsApart p.modules →
+    IsMeant p first second i v → StandsForNone p first second t → ⊥
+none_is_one {p} {first} {second} {i} {v} apart k n =
+    n.none.none v (moved (one_pair p first second i n.type k.within n.within k.notation n.notation apart k.named n.named) k.stands)
+
+abbrev pub OneValue : Type 0
+OneValue = (p : Program) (M : Name) (i : ℕ) (n : Tree) (v w : AbstractValue) → Keeps p → StandsFor p M i n v →
+    StandsFor p M i n w → v ≡ w
+
+pub one_meant : OneValue → (p : Program) (first second : List ℕ) (t u : ℕ) (v w : AbstractValue) → Keeps p →
+    IsMeant p first second t v → IsMeant p first second u w → (t ≡ u) × (v ≡ w)
+one_meant one p first second t u v w kept k l =
+    let e = one_pair p first second t u k.within l.within k.notation l.notation kept.read.apart k.named l.named in
+    (e.type, one p l.within u l.notation v w kept (moved e k.stands) l.stands)
+
+pub meant_refused : (p : Program) (first second : List ℕ) (t : ℕ) (v : AbstractValue) (e : Fault) → Keeps p →
+    IsMeant p first second t v → IsNotMeant p first second e → e ≡ faults.Memory
+meant_refused p first second t v faults.Memory kept m h = refl
+meant_refused p first second t v (faults.NoType x) kept m h = absurd (h.1 t m.named.typed)
+meant_refused p first second t v (faults.NoValue x) kept m h = absurd (h.2 m.named.number m.named.valued)
+meant_refused p first second t v (faults.Value x) kept m h = absurd (none_is_one kept.read.apart m h)
+meant_refused p first second t v (faults.Front f) kept m h = absurd h
+meant_refused p first second t v (faults.Unread u) kept m h = absurd h
+meant_refused p first second t v (faults.BadWords x) kept m h = absurd h
+meant_refused p first second t v (faults.Help x) kept m h = absurd h
+meant_refused p first second t v (faults.File x) kept m h = absurd h
+meant_refused p first second t v (faults.NoFile x) kept m h = absurd h
+meant_refused p first second t v (faults.Folder x) kept m h = absurd h
+meant_refused p first second t v faults.TooLong kept m h = absurd h
+meant_refused p first second t v (faults.Device n) kept m h = absurd h
+meant_refused p first second t v (faults.NotAccount x) kept m h = absurd h

@@ -1,0 +1,85 @@
+//! What texts of the form `Module.Name` name.
+
+ghost use Rattle.std.specs.Prelude.{◌≡◌, ◌<◌, ◌↔◌, ℕ, Some, IfSome, MatchOption, length, slice_get};
+ghost use Rattle.trees.specs.Values.{Name, tree_of};
+ghost use Rattle.names.specs.declared.scope.Assigned.{Assigned as Assigned'};
+ghost use Rattle.names.specs.Sources.{value_of};
+ghost use Rattle.range_ends.specs.Ends.{IsValueAt};
+ghost use Rattle.resolve.specs.Program.{IsThere};
+ghost use Rattle.named_values.specs.Named.{IsNamed, IsQualified, Names, TypeNamed, ValueNamed};
+
+use asn_base::schema::TypeId;
+use front_end::Modules;
+use names::{Assigned, ValueAt};
+use resolve::Linked;
+use trees::ValueSyntax;
+
+/// The parts of a text before and after its first dot.
+fn qualified(text: &str) -> Option<(&str, &str)>
+    ensures parts { MatchOption result
+        ((M x : Name) → IsQualified text.now M x → ⊥)
+        (λ p. IsQualified text.now p.0.now p.1.now) }
+    ensures only { IfSome result (λ p. (M x : Name) → IsQualified text.now M x → (M ≡ p.0.now) × (x ≡ p.1.now)) }
+{
+    text.split_once('.')
+}
+
+/// What a text of the form `Module.Name` names.
+fn named(linked: &Linked, text: &str) -> Option<Assigned>
+    ensures is { (a : Assigned') → (result ≡ Some a ↔ IsNamed linked.now text.now a) }
+    ensures there { IfSome result (IsThere linked.now) }
+{
+    linked.whole();
+    match qualified(text) {
+        None => None,
+        Some((within, name)) => linked.meaning(within, name),
+    }
+}
+
+/// The number of the type that a text names as `Module.Type`, by the module that assigns or imports it.
+pub fn type_number(modules: &Modules, name: &str) -> Option<TypeId>
+    ensures within { IfSome result (λ id. id.index < length modules.now.types) }
+    ensures only { IfSome result (λ id. Names modules.now name.now id.index) }
+    ensures named { MatchOption result
+        ((t : ℕ) → TypeNamed modules.now name.now t → ⊥)
+        (λ id. TypeNamed modules.now name.now id.index) }
+{
+    match named(modules.linked(), name) {
+        Some(Assigned::Type(index)) => Some(TypeId { index }),
+        Some(Assigned::Value(_)) => None,
+        None => None,
+    }
+}
+
+/// The number of the value that a text names as `Module.value`, by the module that assigns or imports it.
+pub fn value_number(modules: &Modules, name: &str) -> Option<usize>
+    ensures within { IfSome result (λ i. i < length modules.now.values) }
+    ensures named { MatchOption result
+        ((i : ℕ) → ValueNamed modules.now name.now i → ⊥)
+        (λ i. ValueNamed modules.now name.now i) }
+{
+    match named(modules.linked(), name) {
+        Some(Assigned::Value(number)) => Some(number),
+        Some(Assigned::Type(_)) => None,
+        None => None,
+    }
+}
+
+/// A value by its number.
+fn value_at(linked: &Linked, number: usize) -> &ValueAt
+    requires { number < length linked.now.values }
+    ensures { slice_get linked.now.values number ≡ Some (value_of result.now) }
+{
+    &linked.values()[number]
+}
+
+/// The module in which a value's notation is read, and the notation.
+pub fn notation_at(linked: &Linked, number: usize) -> (&str, &ValueSyntax)
+    requires { number < length linked.now.values }
+    ensures { IsValueAt linked.now number result.0.now (tree_of result.1.now) }
+{
+    linked.whole();
+    let value = value_at(linked, number);
+    let home = linked.assigned(value.assignment);
+    (home.module, &value.syntax)
+}

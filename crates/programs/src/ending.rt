@@ -1,0 +1,42 @@
+//! What programs write, and how they end.
+
+use command_line::Job;
+use messages::{Fault, status};
+use reports::report;
+use sinks::{Counted, send_all};
+use std::io;
+use std::process::ExitCode;
+
+/// Writes a fault: help to standard output, else one line to standard error.
+fn tell(rt: &HostRuntime, fault: &Fault) -> io::Result<()> {
+    match fault {
+        Fault::Help(text) => print!(rt; "{text}"),
+        _ => eprintln!(rt; "{fault}"),
+    }
+}
+
+/// Writes a fault, and returns the exit status; 3 if the fault can't be written.
+pub fn end(rt: &HostRuntime, fault: &Fault) -> ExitCode {
+    match tell(rt, fault) {
+        Ok(()) => ExitCode::from(status(fault)),
+        Err(_) => ExitCode::from(3),
+    }
+}
+
+/// Writes a fault that a job met, in its files or in their texts, and returns the exit status; 3 if it can't be
+/// written.
+pub fn end_in(rt: &HostRuntime, job: &Job, texts: &[Vec<u8>], fault: &Fault) -> ExitCode {
+    match report(rt.alloc(), job, texts, fault) {
+        Ok(line) => match eprintln!(rt; "{line}") {
+            Ok(()) => ExitCode::from(status(fault)),
+            Err(_) => ExitCode::from(3),
+        },
+        Err(_) => end(rt, &Fault::Memory),
+    }
+}
+
+/// Writes a text to standard output. `Device`: standard output took no more of it.
+pub fn write(rt: &HostRuntime, text: &str) -> Result<(), Fault> {
+    let mut out = Counted::of(io::writer(rt));
+    send_all(&mut out, text.as_bytes()).map_err(|sent| Fault::Device(sent))
+}

@@ -1,0 +1,29 @@
+//! The words of a command line.
+
+use command_line::{Job, job};
+use messages::Fault;
+use std::env;
+
+/// The words of the command line, the first of them the product's name.
+fn words_of(rt: &HostRuntime, program: &str) -> Result<Vec<String>, Fault> {
+    let alloc = rt.alloc();
+    let mut words = Vec::new(alloc);
+    words.push(String::from_str(alloc, program)?)?;
+    let args = match env::args(rt) {
+        Ok(args) => args,
+        Err(_) => {
+            let text = String::from_str(alloc, "a word of the command line is not text")?;
+            return Err(Fault::BadWords(text));
+        }
+    };
+    for word in args.skip(1) {
+        words.push(word)?;
+    }
+    Ok(words)
+}
+
+/// The job that the words of the command line ask for, of the product with this name.
+pub fn job_of(rt: &HostRuntime, program: &str) -> Result<Job, Fault> {
+    let words = words_of(rt, program)?;
+    job(rt.alloc(), words.as_slice())
+}

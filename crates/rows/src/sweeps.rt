@@ -1,0 +1,296 @@
+//! What the checker says of an account and of octets once something in them is changed.
+
+use crate::programs::{Asked, asked_in};
+use crate::refusal::{Refusal, told};
+use asnc::Fault;
+use judging::{Verdict, answer, judge};
+use row_files::Row;
+use std::alloc::{AllocError, Global};
+
+/// The kinds of an account's rows.
+const KINDS: [&str; 8] = [
+    "leaf", "wrap", "seq", "seqof", "set", "setof", "absent", "default",
+];
+
+/// How often something was changed, and what was said then.
+#[derive(Clone, Copy, Default)]
+struct Tally {
+    yes: usize,
+    no: usize,
+    refused: usize,
+}
+
+impl Tally {
+    /// A line of what was said of so many changes.
+    fn line(&self, alloc: Global, what: &str) -> Result<String, AllocError> {
+        let Tally { yes, no, refused } = *self;
+        format!(in alloc; "\n{what}: {yes} yes, {no} no, {refused} refused")
+    }
+}
+
+/// Judges changed octets or a changed account of what is asked.
+fn tried(
+    alloc: Global,
+    asked: &Asked,
+    octets: &[u8],
+    account: &[u8],
+    tally: &mut Tally,
+) -> Result<(), AllocError> {
+    let texts = asked.texts.as_slice();
+    let (ty, value) = (asked.job.ty.as_str(), asked.job.value.as_str());
+    match judge(alloc, texts, ty, value, octets, account) {
+        Ok(Verdict::Yes) => tally.yes = tally.yes.saturating_add(1),
+        Ok(Verdict::No(_)) => tally.no = tally.no.saturating_add(1),
+        Err(Fault::Memory) => return Err(AllocError),
+        Err(_) => tally.refused = tally.refused.saturating_add(1),
+    }
+    Ok(())
+}
+
+/// A part of a text, from its first octet to the one behind it.
+#[derive(Clone, Copy)]
+struct Span {
+    start: usize,
+    end: usize,
+}
+
+/// The part of a text that a span has.
+fn part(text: &str, span: Span) -> &str {
+    text.get(span.start..span.end).unwrap_or("")
+}
+
+/// A text with another part in the place of a span.
+fn replaced(alloc: Global, text: &str, span: Span, part: &str) -> Result<String, AllocError> {
+    let mut out = String::from_str(alloc, text.get(..span.start).unwrap_or(""))?;
+    out.push_str(part)?;
+    out.push_str(text.get(span.end..).unwrap_or(""))?;
+    Ok(out)
+}
+
+/// The numbers in a text.
+fn numbers(alloc: Global, text: &str) -> Result<Vec<Span>, AllocError> {
+    let mut spans = Vec::new(alloc);
+    let mut start = None;
+    let mut at: usize = 0;
+    for octet in text.as_bytes() {
+        match start {
+            None if octet.is_ascii_digit() => start = Some(at),
+            Some(first) if !octet.is_ascii_digit() => {
+                spans.push(Span {
+                    start: first,
+                    end: at,
+                })?;
+                start = None;
+            }
+            _ => {}
+        }
+        at = at.saturating_add(1);
+    }
+    Ok(spans)
+}
+
+/// The rows in the text of an account.
+fn rows(alloc: Global, text: &str) -> Result<Vec<Span>, AllocError> {
+    let mut spans = Vec::new(alloc);
+    let mut depth: usize = 0;
+    let mut start: usize = 0;
+    let mut at: usize = 0;
+    for octet in text.as_bytes() {
+        if *octet == b'[' {
+            depth = depth.saturating_add(1);
+            if depth == 2 {
+                start = at;
+            }
+        }
+        let behind = at.saturating_add(1);
+        if *octet == b']' {
+            if depth == 2 {
+                spans.push(Span { start, end: behind })?;
+            }
+            depth = depth.saturating_sub(1);
+        }
+        at = behind;
+    }
+    Ok(spans)
+}
+
+/// Each number one up and one down.
+fn other_numbers(alloc: Global, asked: &Asked, text: &str) -> Result<Tally, AllocError> {
+    let mut tally = Tally::default();
+    for span in &numbers(alloc, text)? {
+        let number = part(text, *span).parse::<i64>().unwrap_or(0);
+        let up = format!(in alloc; "{}", number.saturating_add(1))?;
+        let down = format!(in alloc; "{}", number.saturating_sub(1))?;
+        let more = replaced(alloc, text, *span, up.as_str())?;
+        let less = replaced(alloc, text, *span, down.as_str())?;
+        let octets = asked.octets.as_slice();
+        tried(alloc, asked, octets, more.as_bytes(), &mut tally)?;
+        tried(alloc, asked, octets, less.as_bytes(), &mut tally)?;
+    }
+    Ok(tally)
+}
+
+/// A row and the comma beside it.
+fn with_comma(text: &str, span: Span) -> Span {
+    let behind = Span {
+        start: span.end,
+        end: span.end.saturating_add(1),
+    };
+    if part(text, behind) == "," {
+        Span {
+            start: span.start,
+            end: behind.end,
+        }
+    } else {
+        Span {
+            start: span.start.saturating_sub(1),
+            end: span.end,
+        }
+    }
+}
+
+/// Each row left out.
+fn fewer_rows(alloc: Global, asked: &Asked, text: &str) -> Result<Tally, AllocError> {
+    let mut tally = Tally::default();
+    for span in &rows(alloc, text)? {
+        let less = replaced(alloc, text, with_comma(text, *span), "")?;
+        tried(
+            alloc,
+            asked,
+            asked.octets.as_slice(),
+            less.as_bytes(),
+            &mut tally,
+        )?;
+    }
+    Ok(tally)
+}
+
+/// Each row twice.
+fn more_rows(alloc: Global, asked: &Asked, text: &str) -> Result<Tally, AllocError> {
+    let mut tally = Tally::default();
+    for span in &rows(alloc, text)? {
+        let row = part(text, *span);
+        let twice = format!(in alloc; "{row},{row}")?;
+        let more = replaced(alloc, text, *span, twice.as_str())?;
+        tried(
+            alloc,
+            asked,
+            asked.octets.as_slice(),
+            more.as_bytes(),
+            &mut tally,
+        )?;
+    }
+    Ok(tally)
+}
+
+/// The name of a row's kind.
+fn kind_span(text: &str, row: Span) -> Span {
+    let start = row.start.saturating_add(2);
+    let rest = text.get(start..row.end).unwrap_or("");
+    let length = rest.find('"').unwrap_or(0);
+    Span {
+        start,
+        end: start.saturating_add(length),
+    }
+}
+
+/// A row with each kind that isn't its own.
+fn as_other_kinds(
+    alloc: Global,
+    asked: &Asked,
+    text: &str,
+    row: Span,
+    tally: &mut Tally,
+) -> Result<(), AllocError> {
+    let span = kind_span(text, row);
+    for kind in &KINDS {
+        if *kind != part(text, span) {
+            let other = replaced(alloc, text, span, kind)?;
+            tried(
+                alloc,
+                asked,
+                asked.octets.as_slice(),
+                other.as_bytes(),
+                tally,
+            )?;
+        }
+    }
+    Ok(())
+}
+
+/// Each row with each other kind.
+fn other_kinds(alloc: Global, asked: &Asked, text: &str) -> Result<Tally, AllocError> {
+    let mut tally = Tally::default();
+    for row in &rows(alloc, text)? {
+        as_other_kinds(alloc, asked, text, *row, &mut tally)?;
+    }
+    Ok(tally)
+}
+
+/// Octets with one bit changed.
+fn with_bit(alloc: Global, octets: &[u8], place: usize, bit: u8) -> Result<Vec<u8>, AllocError> {
+    let mut out = Vec::new(alloc);
+    let mut at: usize = 0;
+    for octet in octets {
+        out.push(if at == place { *octet ^ bit } else { *octet })?;
+        at = at.saturating_add(1);
+    }
+    Ok(out)
+}
+
+/// An octet with each of its bits changed.
+fn other_bits_of(
+    alloc: Global,
+    asked: &Asked,
+    text: &str,
+    place: usize,
+    tally: &mut Tally,
+) -> Result<(), AllocError> {
+    for bit in &[1u8, 2, 4, 8, 16, 32, 64, 128] {
+        let other = with_bit(alloc, asked.octets.as_slice(), place, *bit)?;
+        tried(alloc, asked, other.as_slice(), text.as_bytes(), tally)?;
+    }
+    Ok(())
+}
+
+/// Each bit of the octets changed.
+fn other_bits(alloc: Global, asked: &Asked, text: &str) -> Result<Tally, AllocError> {
+    let mut tally = Tally::default();
+    for place in 0..asked.octets.len() {
+        other_bits_of(alloc, asked, text, place, &mut tally)?;
+    }
+    Ok(tally)
+}
+
+/// What is said of the account as it is, and of each change of it or of the octets.
+fn lines(alloc: Global, asked: &Asked, text: &str) -> Result<String, AllocError> {
+    let mut out = other_numbers(alloc, asked, text)?.line(alloc, "numbers")?;
+    let less = fewer_rows(alloc, asked, text)?.line(alloc, "rows left out")?;
+    let more = more_rows(alloc, asked, text)?.line(alloc, "rows doubled")?;
+    let kinds = other_kinds(alloc, asked, text)?.line(alloc, "rows of another kind")?;
+    let bits = other_bits(alloc, asked, text)?.line(alloc, "bits of the octets")?;
+    for line in &[less, more, kinds, bits] {
+        out.push_str(line.as_str())?;
+    }
+    Ok(out)
+}
+
+/// `sweep NAME WORD..`: the words of octcheck, whose account gets a yes, and has no white space. What is said of it; and
+/// how often a yes, a no and a refusal are said where each number is one up or down, each row is left out, doubled or of
+/// another kind, or each bit of the octets is changed.
+pub fn sweep(alloc: Global, row: &Row) -> Result<String, Refusal> {
+    let asked = asked_in(alloc, row, "octcheck")?;
+    let text = str::from_utf8(asked.account.as_slice())
+        .unwrap_or("")
+        .trim();
+    let (ty, value) = (asked.job.ty.as_str(), asked.job.value.as_str());
+    let (texts, octets) = (asked.texts.as_slice(), asked.octets.as_slice());
+    match judge(alloc, texts, ty, value, octets, text.as_bytes()) {
+        Ok(verdict) => {
+            let mut out = String::from_str(alloc, answer(verdict))?;
+            out.push_str(lines(alloc, &asked, text)?.as_str())?;
+            Ok(out)
+        }
+        Err(fault) => Err(told(alloc, &fault)),
+    }
+}
