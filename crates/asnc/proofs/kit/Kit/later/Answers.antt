@@ -6,15 +6,17 @@ use Rattle.asnc.specs.Kits.{Opened}
 use Rattle.asnc.proofs.kit.Kit.later.Goals as goal
 
 pub returns-in_default-clause-refused : goal.returns-in_default-clause-refused
-returns-in_default-clause-refused c =
-    (c.in_ok-from_str.ensures.ok,
-    inl (subst (λ (k : Opened). (t : ℕ) → TypeNamed k.program c.args.ty.now t → ⊥) c.older.view_is c.in_default.ensures.named))
+returns-in_default-clause-refused c = (
+  c.in_ok-from_str.ensures.ok,
+  inl (subst (λ (k : Opened). (t : ℕ) → TypeNamed k.program c.args.ty.now t → ⊥) c.older.view_is c.in_default.ensures.named),
+)
 
 pub returns-in_default-type_number-clause-refused : goal.returns-in_default-type_number-clause-refused
-returns-in_default-type_number-clause-refused c =
-    (c.in_ok-from_str-2.ensures.ok,
-    inr (subst (λ (k : Opened). (t : ℕ) → TypeNamed k.program c.args.ty.now t → ⊥) c.newer.view_is
-    c.in_default-type_number.ensures.named))
+returns-in_default-type_number-clause-refused c = (
+  c.in_ok-from_str-2.ensures.ok,
+  inr (subst (λ (k : Opened). (t : ℕ) → TypeNamed k.program c.args.ty.now t → ⊥) c.newer.view_is
+      c.in_default-type_number.ensures.named),
+)
 
 pub returns-in-Ok-clause-compared : goal.returns-in-Ok-clause-compared
 returns-in-Ok-clause-compared c =
