@@ -5,3 +5,5 @@ pub mod Lists
 pub mod Values
 pub mod Steps
 pub mod Code
+pub mod Answers
+pub mod proving

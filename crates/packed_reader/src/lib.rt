@@ -3,8 +3,14 @@
 #![tactic(auto)]
 
 mod call;
+mod fault;
 pub mod law;
+mod message;
+mod laws_of_running;
 mod part;
+mod sent;
 
 pub use call::{Call, read_call};
+pub use fault::{PerFault, RefusedBits};
+pub use message::read_uper;
 pub use part::Part;
