@@ -10,7 +10,7 @@ use thiserror::Error;
 
 /// The first fault of a message: what it is, at which bit of the message, counted from 0, and the parts of the value that
 /// it is in, the outermost first.
-#[derive(Debug)]
+#[derive(Debug, Drop)]
 pub struct RefusedBits {
     pub refusal: Refusal,
     pub bit: usize,
@@ -18,7 +18,7 @@ pub struct RefusedBits {
 }
 
 /// Why a message can't be decoded. `Memory`: there is not enough memory.
-#[derive(Debug, Error)]
+#[derive(Debug, Drop, Error)]
 pub enum PerFault {
     #[error("1 Memory")]
     Memory,
@@ -26,7 +26,7 @@ pub enum PerFault {
     #[error("2 Limit(Message)")]
     MessageLimit,
     /// The bits have a fault.
-    #[error("{}", _0.refusal)]
+    #[error("{}", .0.refusal)]
     Refused(RefusedBits),
 }
 

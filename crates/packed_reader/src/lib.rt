@@ -5,8 +5,8 @@
 mod call;
 mod fault;
 pub mod law;
-mod message;
 mod laws_of_running;
+mod message;
 mod part;
 mod sent;
 
