@@ -15,3 +15,5 @@ mod Whole
 mod Rows
 mod Stepwise
 mod Parts
+mod Flow
+mod OpenOctets

@@ -12,6 +12,7 @@ mod list;
 mod message;
 mod open;
 mod part;
+mod plan;
 mod presence;
 mod reader;
 mod row;

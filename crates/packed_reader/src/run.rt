@@ -11,11 +11,12 @@ ghost use Rattle.asn_base.specs.Typed.{ValueIn};
 ghost use Rattle.bits.specs.Left.{bits_left};
 ghost use Rattle.packed_code.specs.Routines.{routine_at};
 ghost use Rattle.packed_encodings.specs.Computed.{kind_at};
-ghost use Rattle.packed_reader.specs.Code.{HaveWidth, chosen_of};
+ghost use Rattle.packed_reader.specs.Code.{chosen_of};
 ghost use Rattle.packed_reader.specs.Readings.{next as onward, plain};
 ghost use Rattle.packed_reader.specs.Steps.{call_from};
 ghost use Rattle.packed_reader.specs.Structures.{no_row, open_from};
 ghost use Rattle.packed_reader.specs.proving.Code.{AreSent, HasRoom, IsGot, IsLess, IsPart, IsStop, Went, gathered, row_of_values};
+ghost use Rattle.packed_reader.specs.proving.Plans.{AreCalls};
 ghost use Rattle.packed_reader.specs.proving.Running.{no_elements, run_added, run_additions, run_chosen, run_each, run_element, run_elements, run_fields, run_first, run_group, run_group_inside, run_leaf, run_list, run_member, run_members, run_parts, run_present, run_rest, run_steps, run_structure, run_value};
 ghost use Rattle.packed_readings.specs.Counts.{size_fault};
 ghost use Rattle.packed_writer.specs.proving.Values.{FieldFits, FieldsFit, IsList, fields_in};
@@ -29,6 +30,7 @@ use crate::laws_of_running::{inside_laws, running_laws};
 use crate::list::{Gathered, Next, Size, at_most, read_total};
 use crate::open::{fault_place, fills, skip_unknown, take_octets};
 use crate::part::Part;
+use crate::plan::{Plan, Shape, has_few, past, plan_of};
 use crate::presence::{any_sent, read_bitmap, read_mark, read_presences};
 use crate::reader::{Progress, Reader};
 use crate::row::{empty_row, put};
@@ -75,7 +77,14 @@ pub(crate) fn read_value(
         return Err(Stop::at(reader.alloc, Refusal::NodesLimit));
     }
     progress.left -= 1;
-    read_steps(reader.inside(), progress, bits)
+    read_steps(
+        Reader {
+            levels: reader.levels - 1,
+            ..reader
+        },
+        progress,
+        bits,
+    )
 }
 
 /// A value by the steps of its type's routine. The values within it have the reader's levels.
@@ -97,52 +106,14 @@ fn read_steps(
         e (bits_left bits.new)) }
     ensures went { IfOk result (λ v. Went progress.old (bits_left bits.old) progress.new (bits_left bits.new)) }
 {
+    reader.code.accepted();
     routines_fit();
-    let steps = reader.code.steps(reader.id);
-    let Some((step, rest)) = first(steps) else {
-        return Err(Stop::at(reader.alloc, Refusal::Outside));
-    };
-    match step {
-        PackedStep::Mark(_) => match first(rest) {
-            Some((PackedStep::Map(count), fields)) => {
-                read_fields(
-                    reader,
-                    progress,
-                    bits,
-                    Shape {
-                        extensible: true,
-                        count,
-                        steps: fields,
-                    },
-                )
-            }
-            _ => read_contents(reader, progress, bits),
-        },
-        PackedStep::Map(count) => {
-            read_fields(
-                reader,
-                progress,
-                bits,
-                Shape {
-                    extensible: false,
-                    count,
-                    steps: rest,
-                },
-            )
-        }
-        PackedStep::Each(element) => read_each(reader, progress, bits, element, false),
-        PackedStep::EachSorted(element) => read_each(reader, progress, bits, element, true),
-        PackedStep::Pick(count) => read_pick(reader, progress, bits, next(rest, count)),
-        PackedStep::Bit | PackedStep::Number(_, _) | PackedStep::Leaf => {
-            read_contents(reader, progress, bits)
-        }
-        PackedStep::Field(_) | PackedStep::Bitmap(_) | PackedStep::Added(_) => {
-            read_contents(reader, progress, bits)
-        }
-        PackedStep::Group(_) | PackedStep::Member(_) | PackedStep::Rest => {
-            read_contents(reader, progress, bits)
-        }
-        PackedStep::Root(_) | PackedStep::More(_, _) => read_contents(reader, progress, bits),
+    match plan_of(reader.code.steps(reader.id)) {
+        Plan::Fields(shape) => read_fields(reader, progress, bits, shape),
+        Plan::List(element, sorted) => read_each(reader, progress, bits, element, sorted),
+        Plan::Choice(calls) => read_pick(reader, progress, bits, calls),
+        Plan::Leaf => read_contents(reader, progress, bits),
+        Plan::Nothing => Err(Stop::at(reader.alloc, Refusal::Outside)),
     }
 }
 
@@ -181,7 +152,8 @@ fn read_pick(
 ) -> Result<Value, Stop>
     requires few { reader.levels ≤ 63 }
     requires room { HasRoom progress.old (bits_left bits.old) }
-    requires width { HaveWidth calls.now }
+    requires pick { AreCalls reader.code.now reader.id.index calls.now }
+    requires there { reader.id.index < length reader.code.now }
     ensures ok { IfOk result (λ v. IsGot
         (onward (plain (call_from calls.now (bits_left bits.old)))
         (λ c r. run_chosen (run_value reader.code.now reader.levels) c progress.old.skipped progress.old.left r))
@@ -192,6 +164,7 @@ fn read_pick(
         e (bits_left bits.new)) }
     ensures went { IfOk result (λ v. Went progress.old (bits_left bits.old) progress.new (bits_left bits.new)) }
 {
+    has_few(reader.code.schema().core(reader.id));
     let call = match read_call(bits, calls) {
         Ok(call) => call,
         Err(refusal) => return Err(Stop::at(reader.alloc, refusal)),
@@ -221,9 +194,23 @@ fn read_chosen(
 {
     abstract_values();
     let value = if call.open {
-        read_opened(reader.of(call.ty), progress, bits)
+        read_opened(
+            Reader {
+                id: call.ty,
+                ..reader
+            },
+            progress,
+            bits,
+        )
     } else {
-        read_value(reader.of(call.ty), progress, bits)
+        read_value(
+            Reader {
+                id: call.ty,
+                ..reader
+            },
+            progress,
+            bits,
+        )
     };
     match value {
         Ok(value) => Ok(Value::Alt(call.number, Box::new(reader.alloc, value)?)),
@@ -271,14 +258,6 @@ fn read_opened(
 
 // ---- components
 
-/// The steps of a SEQUENCE or SET after the first ones, and how many of them are components of the root.
-#[derive(Clone, Copy)]
-struct Shape<'a> {
-    extensible: bool,
-    count: usize,
-    steps: &'a [PackedStep],
-}
-
 /// The components of a SEQUENCE or SET (19 and 21).
 #[cycle(reads)]
 fn read_fields(
@@ -291,7 +270,6 @@ fn read_fields(
     requires room { HasRoom progress.old (bits_left bits.old) }
     requires there { reader.id.index < length reader.code.now }
     requires fit { FieldsFit reader.code.now reader.id.index shape.steps.now }
-    requires root { shape.count ≤ length shape.steps.now }
     ensures ok { IfOk result (λ v. IsGot
         (run_fields reader.code.now reader.levels (run_value reader.code.now reader.levels) reader.id.index
         shape.extensible shape.count shape.steps.now progress.old.skipped progress.old.left (bits_left bits.old))
@@ -321,7 +299,6 @@ fn read_row(
     requires few { reader.levels ≤ 63 }
     requires room { HasRoom progress.old (bits_left bits.old) }
     requires fit { FieldsFit reader.code.now reader.id.index shape.steps.now }
-    requires root { shape.count ≤ length shape.steps.now }
     requires places { length row.old.items ≡ length (components (kind_at reader.code.now reader.id.index)) }
     requires empty { row_of_values row.old.items ≡ no_row (components (kind_at reader.code.now reader.id.index)) }
     ensures ok { OnOk result (IsGot
@@ -343,7 +320,7 @@ fn read_row(
     let sent = read_presences(reader.alloc, next(shape.steps, shape.count), bits)?;
     read_members(reader, progress, bits, row, sent.as_slice())?;
     if more {
-        read_extension(reader, progress, bits, row, after(shape.steps, shape.count))
+        read_extension(reader, progress, bits, row, past(shape.steps, shape.count))
     } else {
         Ok(())
     }
@@ -447,7 +424,14 @@ fn read_present(
     levels_grow();
     let start = *bits;
     let skipped = progress.skipped;
-    let value = match read_value(reader.of(field.ty), progress, bits) {
+    let value = match read_value(
+        Reader {
+            id: field.ty,
+            ..reader
+        },
+        progress,
+        bits,
+    ) {
         Ok(value) => value,
         Err(stop) => return Err(stop.within(Part::Component(field.place))),
     };
@@ -608,7 +592,14 @@ fn read_added(
     ensures went { OnOk result (Went progress.old (bits_left bits.old) progress.new (bits_left bits.new)) }
     ensures places { length row.new.items ≡ length row.old.items }
 {
-    let value = match read_opened(reader.of(field.ty), progress, bits) {
+    let value = match read_opened(
+        Reader {
+            id: field.ty,
+            ..reader
+        },
+        progress,
+        bits,
+    ) {
         Ok(value) => value,
         Err(stop) => return Err(stop.within(Part::Component(field.place))),
     };
@@ -723,7 +714,10 @@ fn read_each(
     let constraint = size_of(reader.code.schema(), reader.id);
     let mut list = Gathered::new(reader.alloc, bits);
     read_list(
-        reader.of(element),
+        Reader {
+            id: element,
+            ..reader
+        },
         progress,
         bits,
         &mut list,
