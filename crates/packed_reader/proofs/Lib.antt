@@ -17,3 +17,4 @@ mod Stepwise
 mod Parts
 mod Flow
 mod OpenOctets
+mod Presences
