@@ -14,3 +14,9 @@ mod AllKinds
 mod Whole
 mod Rows
 mod Stepwise
+mod RunningState
+mod RunningMembers
+mod RunningAdditions
+mod RunningElements
+mod RunningFits
+mod RunningSteps
