@@ -104,7 +104,8 @@ module _ (s : List Resolved) (l : ℕ) (value : ReadsValue) where
     leaf_same : (k n : ℕ) (b : Bits) → next (plain (leaf_from (kind_at s t) b)) (λ v r. read (taken v k n) r) ≡ past_by (λ x. x) k (next (plain (leaf_from (kind_at s t) b)) (λ v r. read (taken v 0 n) r))
     leaf_same k n b = after (λ x. x) k (plain (leaf_from (kind_at s t) b)) (λ v r. read (taken v 0 n) r) (λ v r. read (taken v k n) r) (λ v r. same_read n r refl (plus_none k))
 
-    steps_same : (ss : List PackedStep) (k n : ℕ) (b : Bits) → AllByRecursion (StepFits (components (kind_at s t))) ss → run_steps s l (run_of value) t ss k n b ≡ past_by (λ x. x) k (steps_from s l value t ss n b)
+    -- any steps that fit the type
+    pub steps_same : (ss : List PackedStep) (k n : ℕ) (b : Bits) → AllByRecursion (StepFits (components (kind_at s t))) ss → run_steps s l (run_of value) t ss k n b ≡ past_by (λ x. x) k (steps_from s l value t ss n b)
     steps_same (steps.Mark i ∷ (steps.Map m ∷ ss)) k n b fit = fields_same true m ss k n b fit.1.1
     steps_same (steps.Map m ∷ ss) k n b fit = fields_same false m ss k n b fit.1
     steps_same (steps.Each u ∷ ss) k n b fit = each_same false u.index k n b
