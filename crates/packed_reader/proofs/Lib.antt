@@ -18,3 +18,9 @@ mod Parts
 mod Flow
 mod OpenOctets
 mod Presences
+mod RunningState
+mod RunningMembers
+mod RunningAdditions
+mod RunningElements
+mod RunningFits
+mod RunningSteps
