@@ -24,3 +24,4 @@ mod RunningAdditions
 mod RunningElements
 mod RunningFits
 mod RunningSteps
+mod ValueRun

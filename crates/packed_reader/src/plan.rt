@@ -49,7 +49,7 @@ fn marked<'a>(steps: &'a [PackedStep]) -> Plan<'a>
 
 /// The plan of a routine's steps.
 pub(crate) fn plan_of<'a>(steps: &'a [PackedStep]) -> Plan<'a>
-    ensures { (s : List Resolved) (l : ℕ) (value : RunsValue) (t k n : ℕ) (b : Bits)
+    ensures is { (s : List Resolved) (l : ℕ) (value : RunsValue) (t k n : ℕ) (b : Bits)
         → run_steps s l value t steps.now k n b ≡ run_plan s l value t result k n b }
     ensures fits { (s : List Resolved) (t : ℕ) → StepsFit s t steps.now → PlanFits s t result }
     ensures some { IsNothing result → steps.now ≡ [] }
