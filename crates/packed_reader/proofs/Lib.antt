@@ -15,3 +15,4 @@ mod Whole
 mod Rows
 mod Stepwise
 mod Inside
+mod Parts

@@ -3,7 +3,7 @@
 #![tactic(auto)]
 
 mod absent;
-mod additions;
+mod addition_bits;
 mod call;
 mod fault;
 pub mod law;

@@ -16,6 +16,7 @@ use packed_readings::{Count, Refusal, read_count};
 use std::alloc::Global;
 
 /// Elements, and the bits of the last one.
+#[derive(Drop)]
 pub(crate) struct Gathered<'a> {
     pub values: Vec<Value>,
     pub before: Bits<'a>,

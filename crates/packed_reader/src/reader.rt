@@ -16,6 +16,7 @@ pub(crate) struct Reader<'a> {
 }
 
 /// How many values may still begin, and how many additions were skipped.
+#[derive(Clone, Copy)]
 pub(crate) struct Progress {
     pub left: u32,
     pub skipped: u64,

@@ -22,7 +22,7 @@ ghost use Rattle.packed_writer.specs.proving.Values.{FieldFits, FieldsFit, IsLis
 ghost use Rattle.std.specs.Prelude.{◌≡◌, ◌+◌, ◌≤◌, ◌<◌, IfErr, IfOk, OnOk, length, suc, true, ℕ};
 
 use crate::absent::may_lack;
-use crate::additions::{first_bit, is_addition, other_bits};
+use crate::addition_bits::{first_bit, is_addition, other_bits};
 use crate::call::{Call, read_call};
 use crate::law::value_laws;
 use crate::laws_of_running::{inside_laws, running_laws};
