@@ -14,6 +14,7 @@ mod AllKinds
 mod Whole
 mod Rows
 mod Stepwise
+mod Inside
 mod Parts
 mod Flow
 mod OpenOctets

@@ -10,6 +10,8 @@ ghost use Rattle.packed_reader.specs.Steps.{steps_from, value_by};
 ghost use Rattle.packed_reader.specs.proving.Running.{past, run_group_inside, run_steps, run_value};
 ghost use Rattle.std.specs.Prelude.{◌≡◌, ◌++◌, Bool, List, ℕ};
 
+use crate::law::{step_laws, value_laws};
+
 /// The steps of a type's routine, run with a state, read what they read without one.
 pub(crate) fn running_laws()
     ensures { (s : List Resolved) (l t k n : ℕ) (b : List Bool)
@@ -20,17 +22,24 @@ pub(crate) fn running_laws()
 /// The bits that are left, after a value or from the place of a fault on, are the last ones of those that there were.
 pub(crate) fn inside_laws()
     ensures value_read { (s : List Resolved) (l t k n : ℕ) (b r : List Bool) (w : Taken AbstractValue)
+        → IsSchema s
         → run_value s l t k n b ≡ read w r
         → (x : List Bool) × (b ≡ x ++ r) }
     ensures value_refused { (s : List Resolved) (l t k n : ℕ) (b r : List Bool) (e : Fault)
+        → IsSchema s
         → run_value s l t k n b ≡ refused e r
         → (x : List Bool) × (b ≡ x ++ r) }
     ensures group_read { (s : List Resolved) (l k n : ℕ) (cs : List Component) (fs : List PackedField) (ws : Row)
         (b r : List Bool) (w : Taken Row)
+        → IsSchema s
         → run_group_inside s l (run_value s l) cs fs ws k n b ≡ read w r
         → (x : List Bool) × (b ≡ x ++ r) }
     ensures group_refused { (s : List Resolved) (l k n : ℕ) (cs : List Component) (fs : List PackedField) (ws : Row)
         (b r : List Bool) (e : Fault)
+        → IsSchema s
         → run_group_inside s l (run_value s l) cs fs ws k n b ≡ refused e r
         → (x : List Bool) × (b ≡ x ++ r) }
-{}
+{
+    value_laws();
+    step_laws();
+}
