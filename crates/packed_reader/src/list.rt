@@ -53,7 +53,7 @@ pub(crate) struct Size<'a> {
 
 /// Whether the first bits are at most the second, where the shorter ones are filled with zeros (22.1).
 pub(crate) fn at_most(first: Bits<'_>, second: Bits<'_>) -> bool
-    ensures { result ≡ lists.at_most (bits_left first) (bits_left second) }
+    ensures { result ≡ lists.at_most (bits_left first.entry) (bits_left second.entry) }
 {
     let mut one = first;
     let mut two = second;
@@ -72,8 +72,8 @@ fn judged(size: Size<'_>, before: u128, count: Count) -> Result<Count, Refusal>
     requires before { before ≤ 2 ^ 100 }
     requires few { IsFewParts count }
     ensures few { IfOk result IsFewParts }
-    ensures ok { IfOk result (λ c. total (size_fault (constraint_of size.constraint.now) size.outside) before count ≡ good c) }
-    ensures err { IfErr result (λ e. total (size_fault (constraint_of size.constraint.now) size.outside) before count ≡ bad e) }
+    ensures ok { IfOk result (λ c. total (size_fault (constraint_of size.entry.constraint.now) size.entry.outside) before count ≡ good c) }
+    ensures err { IfErr result (λ e. total (size_fault (constraint_of size.entry.constraint.now) size.entry.outside) before count ≡ bad e) }
 {
     match count {
         Count::Part(times) => Ok(Count::Part(times)),
@@ -97,7 +97,7 @@ pub(crate) fn read_total(
 ) -> Result<Count, Refusal>
     requires { before ≤ 2 ^ 100 }
     ensures few { IfOk result IsFewParts }
-    ensures is { judging (total (size_fault (constraint_of size.constraint.now) size.outside) before) (count_from full)
+    ensures is { judging (total (size_fault (constraint_of size.entry.constraint.now) size.entry.outside) before) (count_from full)
         (bits_left bits.old) ≡ outcome result (bits_left bits.new) }
     ensures shorter { length (bits_left bits.new) ≤ length (bits_left bits.old) }
 {

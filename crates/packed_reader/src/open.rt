@@ -21,7 +21,7 @@ use std::alloc::Global;
 
 /// Whether all bits are 0.
 fn all_clear(bits: Bits<'_>) -> bool
-    ensures { result ≡ structures.all_clear (bits_left bits) }
+    ensures { result ≡ structures.all_clear (bits_left bits.entry) }
 {
     let mut rest = bits;
     while rest.len() > 0 {
@@ -34,7 +34,7 @@ fn all_clear(bits: Bits<'_>) -> bool
 
 /// Whether bits are those that fill octets, after so many others: zeros, and fewer than eight; eight after none (11.1).
 pub(crate) fn fills(used: usize, bits: Bits<'_>) -> bool
-    ensures { result ≡ is_filling used (bits_left bits) }
+    ensures { result ≡ is_filling used (bits_left bits.entry) }
 {
     let fits = if used == 0 {
         bits.len() == 8
@@ -67,11 +67,11 @@ pub(crate) fn fault_place<'a>(
 ) -> Bits<'a>
     requires { left + length (bits_left after) ≤ length (bits_left start) }
     ensures { (o : List ℕ) (y z : Bits')
-        → octets_from (bits_left start) ≡ found o (bits_left after)
+        → octets_from (bits_left start.entry) ≡ found o (bits_left after.entry)
         → length o ≡ octets
         → octet_bits o ≡ y ++ z
         → length z ≡ left
-        → bits_left result ≡ (if nat_lt octets 16384 then z ++ bits_left after else bits_left after) }
+        → bits_left result ≡ (if nat_lt octets 16384 then z ++ bits_left after.entry else bits_left after.entry) }
 {
     octets_laws();
     if octets >= 16384 {

@@ -24,7 +24,7 @@ pub(crate) fn empty_row(alloc: Global, count: usize) -> Result<Vec<Option<Value>
 /// Puts a value at the place of its component.
 pub(crate) fn put(row: &mut Vec<Option<Value>>, place: usize, value: Value)
     requires { place < length row.old.items }
-    ensures row { row_of_values row.new.items ≡ with_value place (abstract value.entry) (row_of_values row.old.items) }
+    ensures row { row_of_values row.new.items ≡ with_value place (abstract value) (row_of_values row.old.items) }
     ensures length { length row.new.items ≡ length row.old.items }
 {
     row[place] = Some(value);

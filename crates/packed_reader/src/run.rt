@@ -58,14 +58,14 @@ pub(crate) fn read_value(
     requires few { reader.levels ≤ 64 }
     requires room { HasRoom progress.old (bits_left bits.old) }
     ensures ok { IfOk result (λ v. IsGot
-        (run_value reader.code.now reader.levels reader.id.index progress.old.skipped progress.old.left (bits_left bits.old))
+        (run_value reader.entry.code.now reader.entry.levels reader.entry.id.index progress.old.skipped progress.old.left (bits_left bits.old))
         (abstract v) progress.new (bits_left bits.new)) }
     ensures err { IfErr result (λ e. IsStop
-        (run_value reader.code.now reader.levels reader.id.index progress.old.skipped progress.old.left (bits_left bits.old))
+        (run_value reader.entry.code.now reader.entry.levels reader.entry.id.index progress.old.skipped progress.old.left (bits_left bits.old))
         e (bits_left bits.new)) }
     ensures went { IfOk result (λ v. Went progress.old (bits_left bits.old) progress.new (bits_left bits.new)) }
     ensures fewer { IfOk result (λ v. progress.new.left < progress.old.left) }
-    ensures value { IfOk result (λ v. ValueIn reader.code.now reader.levels reader.id.index (abstract v)) }
+    ensures value { IfOk result (λ v. ValueIn reader.entry.code.now reader.entry.levels reader.entry.id.index (abstract v)) }
 {
     reader.code.accepted();
     running_laws();
@@ -97,12 +97,12 @@ fn read_steps(
     requires few { reader.levels ≤ 63 }
     requires room { HasRoom progress.old (bits_left bits.old) }
     ensures ok { IfOk result (λ v. IsGot
-        (run_steps reader.code.now reader.levels (run_value reader.code.now reader.levels) reader.id.index
-        (routine_at reader.code.now reader.id.index) progress.old.skipped progress.old.left (bits_left bits.old))
+        (run_steps reader.entry.code.now reader.entry.levels (run_value reader.entry.code.now reader.entry.levels) reader.entry.id.index
+        (routine_at reader.entry.code.now reader.entry.id.index) progress.old.skipped progress.old.left (bits_left bits.old))
         (abstract v) progress.new (bits_left bits.new)) }
     ensures err { IfErr result (λ e. IsStop
-        (run_steps reader.code.now reader.levels (run_value reader.code.now reader.levels) reader.id.index
-        (routine_at reader.code.now reader.id.index) progress.old.skipped progress.old.left (bits_left bits.old))
+        (run_steps reader.entry.code.now reader.entry.levels (run_value reader.entry.code.now reader.entry.levels) reader.entry.id.index
+        (routine_at reader.entry.code.now reader.entry.id.index) progress.old.skipped progress.old.left (bits_left bits.old))
         e (bits_left bits.new)) }
     ensures went { IfOk result (λ v. Went progress.old (bits_left bits.old) progress.new (bits_left bits.new)) }
 {
@@ -125,10 +125,10 @@ fn read_contents(
 ) -> Result<Value, Stop>
     requires there { reader.id.index < length reader.code.now }
     ensures ok { IfOk result (λ v. IsGot
-        (run_leaf (kind_at reader.code.now reader.id.index) progress.now.skipped progress.now.left (bits_left bits.old))
+        (run_leaf (kind_at reader.entry.code.now reader.entry.id.index) progress.now.skipped progress.now.left (bits_left bits.old))
         (abstract v) progress.now (bits_left bits.new)) }
     ensures err { IfErr result (λ e. IsStop
-        (run_leaf (kind_at reader.code.now reader.id.index) progress.now.skipped progress.now.left (bits_left bits.old))
+        (run_leaf (kind_at reader.entry.code.now reader.entry.id.index) progress.now.skipped progress.now.left (bits_left bits.old))
         e (bits_left bits.new)) }
     ensures shorter { IfOk result (λ v. length (bits_left bits.new) ≤ length (bits_left bits.old)) }
 {
@@ -156,11 +156,11 @@ fn read_pick(
     requires there { reader.id.index < length reader.code.now }
     ensures ok { IfOk result (λ v. IsGot
         (onward (plain (call_from calls.now (bits_left bits.old)))
-        (λ c r. run_chosen (run_value reader.code.now reader.levels) c progress.old.skipped progress.old.left r))
+        (λ c r. run_chosen (run_value reader.entry.code.now reader.entry.levels) c progress.old.skipped progress.old.left r))
         (abstract v) progress.new (bits_left bits.new)) }
     ensures err { IfErr result (λ e. IsStop
         (onward (plain (call_from calls.now (bits_left bits.old)))
-        (λ c r. run_chosen (run_value reader.code.now reader.levels) c progress.old.skipped progress.old.left r))
+        (λ c r. run_chosen (run_value reader.entry.code.now reader.entry.levels) c progress.old.skipped progress.old.left r))
         e (bits_left bits.new)) }
     ensures went { IfOk result (λ v. Went progress.old (bits_left bits.old) progress.new (bits_left bits.new)) }
 {
@@ -183,11 +183,11 @@ fn read_chosen(
     requires few { reader.levels ≤ 63 }
     requires room { HasRoom progress.old (bits_left bits.old) }
     ensures ok { IfOk result (λ v. IsGot
-        (run_chosen (run_value reader.code.now reader.levels) (chosen_of call) progress.old.skipped progress.old.left
+        (run_chosen (run_value reader.entry.code.now reader.entry.levels) (chosen_of call) progress.old.skipped progress.old.left
         (bits_left bits.old))
         (abstract v) progress.new (bits_left bits.new)) }
     ensures err { IfErr result (λ e. IsStop
-        (run_chosen (run_value reader.code.now reader.levels) (chosen_of call) progress.old.skipped progress.old.left
+        (run_chosen (run_value reader.entry.code.now reader.entry.levels) (chosen_of call) progress.old.skipped progress.old.left
         (bits_left bits.old))
         e (bits_left bits.new)) }
     ensures went { IfOk result (λ v. Went progress.old (bits_left bits.old) progress.new (bits_left bits.new)) }
@@ -229,15 +229,16 @@ fn read_opened(
     requires few { reader.levels ≤ 63 }
     requires room { HasRoom progress.old (bits_left bits.old) }
     ensures ok { IfOk result (λ v. IsGot
-        (open_from (run_value reader.code.now reader.levels reader.id.index progress.old.skipped progress.old.left)
+        (open_from (run_value reader.entry.code.now reader.entry.levels reader.entry.id.index progress.old.skipped progress.old.left)
         (bits_left bits.old))
         (abstract v) progress.new (bits_left bits.new)) }
     ensures err { IfErr result (λ e. IsStop
-        (open_from (run_value reader.code.now reader.levels reader.id.index progress.old.skipped progress.old.left)
+        (open_from (run_value reader.entry.code.now reader.entry.levels reader.entry.id.index progress.old.skipped progress.old.left)
         (bits_left bits.old))
         e (bits_left bits.new)) }
     ensures went { IfOk result (λ v. Went progress.old (bits_left bits.old) progress.new (bits_left bits.new)) }
 {
+    reader.code.accepted();
     inside_laws();
     let start = *bits;
     let octets = take_octets(reader.alloc, bits)?;
@@ -271,12 +272,12 @@ fn read_fields(
     requires there { reader.id.index < length reader.code.now }
     requires fit { FieldsFit reader.code.now reader.id.index shape.steps.now }
     ensures ok { IfOk result (λ v. IsGot
-        (run_fields reader.code.now reader.levels (run_value reader.code.now reader.levels) reader.id.index
-        shape.extensible shape.count shape.steps.now progress.old.skipped progress.old.left (bits_left bits.old))
+        (run_fields reader.entry.code.now reader.entry.levels (run_value reader.entry.code.now reader.entry.levels) reader.entry.id.index
+        shape.entry.extensible shape.entry.count shape.entry.steps.now progress.old.skipped progress.old.left (bits_left bits.old))
         (abstract v) progress.new (bits_left bits.new)) }
     ensures err { IfErr result (λ e. IsStop
-        (run_fields reader.code.now reader.levels (run_value reader.code.now reader.levels) reader.id.index
-        shape.extensible shape.count shape.steps.now progress.old.skipped progress.old.left (bits_left bits.old))
+        (run_fields reader.entry.code.now reader.entry.levels (run_value reader.entry.code.now reader.entry.levels) reader.entry.id.index
+        shape.entry.extensible shape.entry.count shape.entry.steps.now progress.old.skipped progress.old.left (bits_left bits.old))
         e (bits_left bits.new)) }
     ensures went { IfOk result (λ v. Went progress.old (bits_left bits.old) progress.new (bits_left bits.new)) }
 {
@@ -302,13 +303,13 @@ fn read_row(
     requires places { length row.old.items ≡ length (components (kind_at reader.code.now reader.id.index)) }
     requires empty { row_of_values row.old.items ≡ no_row (components (kind_at reader.code.now reader.id.index)) }
     ensures ok { OnOk result (IsGot
-        (run_structure reader.code.now reader.levels (run_value reader.code.now reader.levels)
-        (components (kind_at reader.code.now reader.id.index)) shape.extensible shape.count shape.steps.now
+        (run_structure reader.entry.code.now reader.entry.levels (run_value reader.entry.code.now reader.entry.levels)
+        (components (kind_at reader.entry.code.now reader.entry.id.index)) shape.entry.extensible shape.entry.count shape.entry.steps.now
         progress.old.skipped progress.old.left (bits_left bits.old))
         (row_of_values row.new.items) progress.new (bits_left bits.new)) }
     ensures err { IfErr result (λ e. IsStop
-        (run_structure reader.code.now reader.levels (run_value reader.code.now reader.levels)
-        (components (kind_at reader.code.now reader.id.index)) shape.extensible shape.count shape.steps.now
+        (run_structure reader.entry.code.now reader.entry.levels (run_value reader.entry.code.now reader.entry.levels)
+        (components (kind_at reader.entry.code.now reader.entry.id.index)) shape.entry.extensible shape.entry.count shape.entry.steps.now
         progress.old.skipped progress.old.left (bits_left bits.old))
         e (bits_left bits.new)) }
     ensures went { OnOk result (Went progress.old (bits_left bits.old) progress.new (bits_left bits.new)) }
@@ -340,13 +341,13 @@ fn read_members(
     requires fit { AreSent reader.code.now reader.id.index sent.now }
     requires places { length row.old.items ≡ length (components (kind_at reader.code.now reader.id.index)) }
     ensures ok { OnOk result (IsGot
-        (run_members reader.code.now reader.levels (run_value reader.code.now reader.levels)
-        (components (kind_at reader.code.now reader.id.index)) sent.now (row_of_values row.old.items)
+        (run_members reader.entry.code.now reader.entry.levels (run_value reader.entry.code.now reader.entry.levels)
+        (components (kind_at reader.entry.code.now reader.entry.id.index)) sent.now (row_of_values row.old.items)
         progress.old.skipped progress.old.left (bits_left bits.old))
         (row_of_values row.new.items) progress.new (bits_left bits.new)) }
     ensures err { IfErr result (λ e. IsStop
-        (run_members reader.code.now reader.levels (run_value reader.code.now reader.levels)
-        (components (kind_at reader.code.now reader.id.index)) sent.now (row_of_values row.old.items)
+        (run_members reader.entry.code.now reader.entry.levels (run_value reader.entry.code.now reader.entry.levels)
+        (components (kind_at reader.entry.code.now reader.entry.id.index)) sent.now (row_of_values row.old.items)
         progress.old.skipped progress.old.left (bits_left bits.old))
         e (bits_left bits.new)) }
     ensures went { OnOk result (Went progress.old (bits_left bits.old) progress.new (bits_left bits.new)) }
@@ -372,13 +373,13 @@ fn read_member(
     requires fits { FieldFits reader.code.now reader.id.index sent.field }
     requires places { length row.old.items ≡ length (components (kind_at reader.code.now reader.id.index)) }
     ensures ok { OnOk result (IsGot
-        (run_member reader.code.now reader.levels (run_value reader.code.now reader.levels)
-        (components (kind_at reader.code.now reader.id.index)) sent (row_of_values row.old.items)
+        (run_member reader.entry.code.now reader.entry.levels (run_value reader.entry.code.now reader.entry.levels)
+        (components (kind_at reader.entry.code.now reader.entry.id.index)) sent (row_of_values row.old.items)
         progress.old.skipped progress.old.left (bits_left bits.old))
         (row_of_values row.new.items) progress.new (bits_left bits.new)) }
     ensures err { IfErr result (λ e. IsStop
-        (run_member reader.code.now reader.levels (run_value reader.code.now reader.levels)
-        (components (kind_at reader.code.now reader.id.index)) sent (row_of_values row.old.items)
+        (run_member reader.entry.code.now reader.entry.levels (run_value reader.entry.code.now reader.entry.levels)
+        (components (kind_at reader.entry.code.now reader.entry.id.index)) sent (row_of_values row.old.items)
         progress.old.skipped progress.old.left (bits_left bits.old))
         e (bits_left bits.new)) }
     ensures went { OnOk result (Went progress.old (bits_left bits.old) progress.new (bits_left bits.new)) }
@@ -409,13 +410,13 @@ fn read_present(
     requires fits { FieldFits reader.code.now reader.id.index field }
     requires places { length row.old.items ≡ length (components (kind_at reader.code.now reader.id.index)) }
     ensures ok { OnOk result (IsGot
-        (run_present reader.code.now (run_value reader.code.now reader.levels)
-        (components (kind_at reader.code.now reader.id.index)) field (row_of_values row.old.items)
+        (run_present reader.entry.code.now (run_value reader.entry.code.now reader.entry.levels)
+        (components (kind_at reader.entry.code.now reader.entry.id.index)) field (row_of_values row.old.items)
         progress.old.skipped progress.old.left (bits_left bits.old))
         (row_of_values row.new.items) progress.new (bits_left bits.new)) }
     ensures err { IfErr result (λ e. IsStop
-        (run_present reader.code.now (run_value reader.code.now reader.levels)
-        (components (kind_at reader.code.now reader.id.index)) field (row_of_values row.old.items)
+        (run_present reader.entry.code.now (run_value reader.entry.code.now reader.entry.levels)
+        (components (kind_at reader.entry.code.now reader.entry.id.index)) field (row_of_values row.old.items)
         progress.old.skipped progress.old.left (bits_left bits.old))
         e (bits_left bits.new)) }
     ensures went { OnOk result (Went progress.old (bits_left bits.old) progress.new (bits_left bits.new)) }
@@ -462,13 +463,13 @@ fn read_extension(
     requires fit { FieldsFit reader.code.now reader.id.index steps.now }
     requires places { length row.old.items ≡ length (components (kind_at reader.code.now reader.id.index)) }
     ensures ok { OnOk result (IsGot
-        (run_rest reader.code.now reader.levels (run_value reader.code.now reader.levels)
-        (components (kind_at reader.code.now reader.id.index)) true steps.now (row_of_values row.old.items)
+        (run_rest reader.entry.code.now reader.entry.levels (run_value reader.entry.code.now reader.entry.levels)
+        (components (kind_at reader.entry.code.now reader.entry.id.index)) true steps.now (row_of_values row.old.items)
         progress.old.skipped progress.old.left (bits_left bits.old))
         (row_of_values row.new.items) progress.new (bits_left bits.new)) }
     ensures err { IfErr result (λ e. IsStop
-        (run_rest reader.code.now reader.levels (run_value reader.code.now reader.levels)
-        (components (kind_at reader.code.now reader.id.index)) true steps.now (row_of_values row.old.items)
+        (run_rest reader.entry.code.now reader.entry.levels (run_value reader.entry.code.now reader.entry.levels)
+        (components (kind_at reader.entry.code.now reader.entry.id.index)) true steps.now (row_of_values row.old.items)
         progress.old.skipped progress.old.left (bits_left bits.old))
         e (bits_left bits.new)) }
     ensures went { OnOk result (Went progress.old (bits_left bits.old) progress.new (bits_left bits.new)) }
@@ -503,13 +504,13 @@ fn read_additions(
     requires fit { FieldsFit reader.code.now reader.id.index additions.steps.now }
     requires places { length row.old.items ≡ length (components (kind_at reader.code.now reader.id.index)) }
     ensures ok { OnOk result (IsGot
-        (run_additions reader.code.now reader.levels (run_value reader.code.now reader.levels)
-        (components (kind_at reader.code.now reader.id.index)) additions.steps.now additions.map.now
+        (run_additions reader.entry.code.now reader.entry.levels (run_value reader.entry.code.now reader.entry.levels)
+        (components (kind_at reader.entry.code.now reader.entry.id.index)) additions.entry.steps.now additions.entry.map.now
         (row_of_values row.old.items) progress.old.skipped progress.old.left (bits_left bits.old))
         (row_of_values row.new.items) progress.new (bits_left bits.new)) }
     ensures err { IfErr result (λ e. IsStop
-        (run_additions reader.code.now reader.levels (run_value reader.code.now reader.levels)
-        (components (kind_at reader.code.now reader.id.index)) additions.steps.now additions.map.now
+        (run_additions reader.entry.code.now reader.entry.levels (run_value reader.entry.code.now reader.entry.levels)
+        (components (kind_at reader.entry.code.now reader.entry.id.index)) additions.entry.steps.now additions.entry.map.now
         (row_of_values row.old.items) progress.old.skipped progress.old.left (bits_left bits.old))
         e (bits_left bits.new)) }
     ensures went { OnOk result (Went progress.old (bits_left bits.old) progress.new (bits_left bits.new)) }
@@ -540,13 +541,13 @@ fn read_addition(
     requires fit { FieldsFit reader.code.now reader.id.index steps.now }
     requires places { length row.old.items ≡ length (components (kind_at reader.code.now reader.id.index)) }
     ensures ok { OnOk result (IsGot
-        (run_first reader.code.now reader.levels (run_value reader.code.now reader.levels)
-        (components (kind_at reader.code.now reader.id.index)) steps.now (row_of_values row.old.items)
+        (run_first reader.entry.code.now reader.entry.levels (run_value reader.entry.code.now reader.entry.levels)
+        (components (kind_at reader.entry.code.now reader.entry.id.index)) steps.now (row_of_values row.old.items)
         progress.old.skipped progress.old.left (bits_left bits.old))
         (row_of_values row.new.items) progress.new (bits_left bits.new)) }
     ensures err { IfErr result (λ e. IsStop
-        (run_first reader.code.now reader.levels (run_value reader.code.now reader.levels)
-        (components (kind_at reader.code.now reader.id.index)) steps.now (row_of_values row.old.items)
+        (run_first reader.entry.code.now reader.entry.levels (run_value reader.entry.code.now reader.entry.levels)
+        (components (kind_at reader.entry.code.now reader.entry.id.index)) steps.now (row_of_values row.old.items)
         progress.old.skipped progress.old.left (bits_left bits.old))
         e (bits_left bits.new)) }
     ensures went { OnOk result (Went progress.old (bits_left bits.old) progress.new (bits_left bits.new)) }
@@ -582,11 +583,11 @@ fn read_added(
     requires fits { FieldFits reader.code.now reader.id.index field }
     requires places { length row.old.items ≡ length (components (kind_at reader.code.now reader.id.index)) }
     ensures ok { OnOk result (IsGot
-        (run_added (run_value reader.code.now reader.levels) field (row_of_values row.old.items)
+        (run_added (run_value reader.entry.code.now reader.entry.levels) field (row_of_values row.old.items)
         progress.old.skipped progress.old.left (bits_left bits.old))
         (row_of_values row.new.items) progress.new (bits_left bits.new)) }
     ensures err { IfErr result (λ e. IsStop
-        (run_added (run_value reader.code.now reader.levels) field (row_of_values row.old.items)
+        (run_added (run_value reader.entry.code.now reader.entry.levels) field (row_of_values row.old.items)
         progress.old.skipped progress.old.left (bits_left bits.old))
         e (bits_left bits.new)) }
     ensures went { OnOk result (Went progress.old (bits_left bits.old) progress.new (bits_left bits.new)) }
@@ -621,18 +622,19 @@ fn read_group(
     requires fit { FieldsFit reader.code.now reader.id.index steps.now }
     requires places { length row.old.items ≡ length (components (kind_at reader.code.now reader.id.index)) }
     ensures ok { OnOk result (IsGot
-        (run_group reader.code.now reader.levels (run_value reader.code.now reader.levels)
-        (components (kind_at reader.code.now reader.id.index)) (fields_in steps.now) (row_of_values row.old.items)
+        (run_group reader.entry.code.now reader.entry.levels (run_value reader.entry.code.now reader.entry.levels)
+        (components (kind_at reader.entry.code.now reader.entry.id.index)) (fields_in steps.now) (row_of_values row.old.items)
         progress.old.skipped progress.old.left (bits_left bits.old))
         (row_of_values row.new.items) progress.new (bits_left bits.new)) }
     ensures err { IfErr result (λ e. IsStop
-        (run_group reader.code.now reader.levels (run_value reader.code.now reader.levels)
-        (components (kind_at reader.code.now reader.id.index)) (fields_in steps.now) (row_of_values row.old.items)
+        (run_group reader.entry.code.now reader.entry.levels (run_value reader.entry.code.now reader.entry.levels)
+        (components (kind_at reader.entry.code.now reader.entry.id.index)) (fields_in steps.now) (row_of_values row.old.items)
         progress.old.skipped progress.old.left (bits_left bits.old))
         e (bits_left bits.new)) }
     ensures went { OnOk result (Went progress.old (bits_left bits.old) progress.new (bits_left bits.new)) }
     ensures places { length row.new.items ≡ length row.old.items }
 {
+    reader.code.accepted();
     inside_laws();
     let start = *bits;
     let octets = take_octets(reader.alloc, bits)?;
@@ -665,13 +667,13 @@ fn read_group_members(
     requires fit { FieldsFit reader.code.now reader.id.index steps.now }
     requires places { length row.old.items ≡ length (components (kind_at reader.code.now reader.id.index)) }
     ensures ok { OnOk result (IsGot
-        (run_group_inside reader.code.now reader.levels (run_value reader.code.now reader.levels)
-        (components (kind_at reader.code.now reader.id.index)) (fields_in steps.now) (row_of_values row.old.items)
+        (run_group_inside reader.entry.code.now reader.entry.levels (run_value reader.entry.code.now reader.entry.levels)
+        (components (kind_at reader.entry.code.now reader.entry.id.index)) (fields_in steps.now) (row_of_values row.old.items)
         progress.old.skipped progress.old.left (bits_left bits.old))
         (row_of_values row.new.items) progress.new (bits_left bits.new)) }
     ensures err { IfErr result (λ e. IsStop
-        (run_group_inside reader.code.now reader.levels (run_value reader.code.now reader.levels)
-        (components (kind_at reader.code.now reader.id.index)) (fields_in steps.now) (row_of_values row.old.items)
+        (run_group_inside reader.entry.code.now reader.entry.levels (run_value reader.entry.code.now reader.entry.levels)
+        (components (kind_at reader.entry.code.now reader.entry.id.index)) (fields_in steps.now) (row_of_values row.old.items)
         progress.old.skipped progress.old.left (bits_left bits.old))
         e (bits_left bits.new)) }
     ensures went { OnOk result (Went progress.old (bits_left bits.old) progress.new (bits_left bits.new)) }
@@ -701,11 +703,11 @@ fn read_each(
     requires room { HasRoom progress.old (bits_left bits.old) }
     requires list { IsList reader.code.now reader.id.index }
     ensures ok { IfOk result (λ v. IsGot
-        (run_each reader.code.now (run_value reader.code.now reader.levels) reader.id.index sorted element.index
+        (run_each reader.entry.code.now (run_value reader.entry.code.now reader.entry.levels) reader.entry.id.index sorted element.index
         progress.old.skipped progress.old.left (bits_left bits.old))
         (abstract v) progress.new (bits_left bits.new)) }
     ensures err { IfErr result (λ e. IsStop
-        (run_each reader.code.now (run_value reader.code.now reader.levels) reader.id.index sorted element.index
+        (run_each reader.entry.code.now (run_value reader.entry.code.now reader.entry.levels) reader.entry.id.index sorted element.index
         progress.old.skipped progress.old.left (bits_left bits.old))
         e (bits_left bits.new)) }
     ensures went { IfOk result (λ v. Went progress.old (bits_left bits.old) progress.new (bits_left bits.new)) }
@@ -747,12 +749,12 @@ fn read_list<'a>(
     requires bounds { AreBounds IsSize (constraint_of listed.constraint.now) }
     requires none { gathered list.old ≡ no_elements }
     ensures ok { OnOk result (IsGot
-        (run_list (run_value reader.code.now reader.levels reader.id.index) listed.sorted
-        (constraint_of listed.constraint.now) progress.old.skipped progress.old.left (bits_left bits.old))
+        (run_list (run_value reader.entry.code.now reader.entry.levels reader.entry.id.index) listed.entry.sorted
+        (constraint_of listed.entry.constraint.now) progress.old.skipped progress.old.left (bits_left bits.old))
         (gathered list.new) progress.new (bits_left bits.new)) }
     ensures err { IfErr result (λ e. IsStop
-        (run_list (run_value reader.code.now reader.levels reader.id.index) listed.sorted
-        (constraint_of listed.constraint.now) progress.old.skipped progress.old.left (bits_left bits.old))
+        (run_list (run_value reader.entry.code.now reader.entry.levels reader.entry.id.index) listed.entry.sorted
+        (constraint_of listed.entry.constraint.now) progress.old.skipped progress.old.left (bits_left bits.old))
         e (bits_left bits.new)) }
     ensures went { OnOk result (Went progress.old (bits_left bits.old) progress.new (bits_left bits.new)) }
 {
@@ -788,13 +790,13 @@ fn read_parts<'a>(
     requires few { reader.levels ≤ 63 }
     requires room { HasRoom progress.old (bits_left bits.old) }
     ensures ok { OnOk result (IsGot
-        (run_parts (run_value reader.code.now reader.levels reader.id.index) size.sorted
-        (size_fault (constraint_of size.constraint.now) size.outside) (suc progress.old.left) true (gathered list.old)
+        (run_parts (run_value reader.entry.code.now reader.entry.levels reader.entry.id.index) size.entry.sorted
+        (size_fault (constraint_of size.entry.constraint.now) size.entry.outside) (suc progress.old.left) true (gathered list.old)
         progress.old.skipped progress.old.left (bits_left bits.old))
         (gathered list.new) progress.new (bits_left bits.new)) }
     ensures err { IfErr result (λ e. IsStop
-        (run_parts (run_value reader.code.now reader.levels reader.id.index) size.sorted
-        (size_fault (constraint_of size.constraint.now) size.outside) (suc progress.old.left) true (gathered list.old)
+        (run_parts (run_value reader.entry.code.now reader.entry.levels reader.entry.id.index) size.entry.sorted
+        (size_fault (constraint_of size.entry.constraint.now) size.entry.outside) (suc progress.old.left) true (gathered list.old)
         progress.old.skipped progress.old.left (bits_left bits.old))
         e (bits_left bits.new)) }
     ensures went { OnOk result (Went progress.old (bits_left bits.old) progress.new (bits_left bits.new)) }
@@ -828,11 +830,11 @@ fn read_part<'a>(
 ) -> Result<Next, Stop>
     requires few { reader.levels ≤ 63 }
     requires room { HasRoom progress.old (bits_left bits.old) }
-    ensures ok { IfOk result (λ x. IsPart (run_value reader.code.now reader.levels reader.id.index) fragment
+    ensures ok { IfOk result (λ x. IsPart (run_value reader.entry.code.now reader.entry.levels reader.entry.id.index) fragment.entry
         (gathered list.old) progress.old (bits_left bits.old) x (gathered list.new) progress.new (bits_left bits.new)) }
     ensures err { IfErr result (λ e. (f : ℕ) → IsStop
-        (run_parts (run_value reader.code.now reader.levels reader.id.index) fragment.size.sorted
-        (size_fault (constraint_of fragment.size.constraint.now) fragment.size.outside) (suc f) fragment.full
+        (run_parts (run_value reader.entry.code.now reader.entry.levels reader.entry.id.index) fragment.entry.size.entry.sorted
+        (size_fault (constraint_of fragment.entry.size.entry.constraint.now) fragment.entry.size.entry.outside) (suc f) fragment.entry.full
         (gathered list.old) progress.old.skipped progress.old.left (bits_left bits.old))
         e (bits_left bits.new)) }
     ensures went { IfOk result (λ x. Went progress.old (bits_left bits.old) progress.new (bits_left bits.new)) }
@@ -873,11 +875,11 @@ fn read_elements<'a>(
     requires few { reader.levels ≤ 63 }
     requires room { HasRoom progress.old (bits_left bits.old) }
     ensures ok { OnOk result (IsGot
-        (run_elements (run_value reader.code.now reader.levels reader.id.index) batch.sorted batch.count
+        (run_elements (run_value reader.entry.code.now reader.entry.levels reader.entry.id.index) batch.sorted batch.count
         (gathered list.old) progress.old.skipped progress.old.left (bits_left bits.old))
         (gathered list.new) progress.new (bits_left bits.new)) }
     ensures err { IfErr result (λ e. IsStop
-        (run_elements (run_value reader.code.now reader.levels reader.id.index) batch.sorted batch.count
+        (run_elements (run_value reader.entry.code.now reader.entry.levels reader.entry.id.index) batch.sorted batch.count
         (gathered list.old) progress.old.skipped progress.old.left (bits_left bits.old))
         e (bits_left bits.new)) }
     ensures went { OnOk result (Went progress.old (bits_left bits.old) progress.new (bits_left bits.new)) }
@@ -902,11 +904,11 @@ fn read_element<'a>(
     requires few { reader.levels ≤ 63 }
     requires room { HasRoom progress.old (bits_left bits.old) }
     ensures ok { OnOk result (IsGot
-        (run_element (run_value reader.code.now reader.levels reader.id.index) sorted (gathered list.old)
+        (run_element (run_value reader.entry.code.now reader.entry.levels reader.entry.id.index) sorted (gathered list.old)
         progress.old.skipped progress.old.left (bits_left bits.old))
         (gathered list.new) progress.new (bits_left bits.new)) }
     ensures err { IfErr result (λ e. IsStop
-        (run_element (run_value reader.code.now reader.levels reader.id.index) sorted (gathered list.old)
+        (run_element (run_value reader.entry.code.now reader.entry.levels reader.entry.id.index) sorted (gathered list.old)
         progress.old.skipped progress.old.left (bits_left bits.old))
         e (bits_left bits.new)) }
     ensures went { OnOk result (Went progress.old (bits_left bits.old) progress.new (bits_left bits.new)) }
