@@ -26,3 +26,4 @@ mod RunningElements
 mod RunningFits
 mod RunningSteps
 mod ValueRun
+mod Plans

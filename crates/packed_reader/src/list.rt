@@ -12,6 +12,7 @@ ghost use Rattle.std.specs.Prelude.{◌≡◌, ◌≤◌, ◌^◌, IfErr, IfOk, 
 use asn_base::constraint::Constraint;
 use asn_base::value::Value;
 use bits::cursor::Bits;
+use packed_readings::law::count_laws;
 use packed_readings::{Count, Refusal, read_count};
 use std::alloc::Global;
 
@@ -99,8 +100,9 @@ pub(crate) fn read_total(
     ensures few { IfOk result IsFewParts }
     ensures is { judging (total (size_fault (constraint_of size.entry.constraint.now) size.entry.outside) before) (count_from full)
         (bits_left bits.old) ≡ outcome result (bits_left bits.new) }
-    ensures shorter { length (bits_left bits.new) ≤ length (bits_left bits.old) }
+    ensures shorter { IfOk result (λ c. length (bits_left bits.new) ≤ length (bits_left bits.old)) }
 {
+    count_laws();
     let start = *bits;
     let count = match read_count(bits, full) {
         Ok(count) => count,

@@ -34,8 +34,10 @@ pub(crate) enum Plan<'a> {
 
 /// The plan of steps that begin with a mark.
 fn marked<'a>(steps: &'a [PackedStep]) -> Plan<'a>
-    ensures { (m : ℕ) (s : List Resolved) (l : ℕ) (value : RunsValue) (t k n : ℕ) (b : Bits)
+    ensures is { (m : ℕ) (s : List Resolved) (l : ℕ) (value : RunsValue) (t k n : ℕ) (b : Bits)
         → run_steps s l value t (Mark m ∷ steps.now) k n b ≡ run_plan s l value t result k n b }
+    ensures fits { (s : List Resolved) (t : ℕ) → StepsFit s t steps.now → PlanFits s t result }
+    ensures some { IsNothing result → ⊥ }
 {
     match first(steps) {
         Some((PackedStep::Map(count), rest)) => Plan::Fields(Shape {

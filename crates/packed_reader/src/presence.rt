@@ -18,6 +18,7 @@ use crate::sent::Sent;
 use crate::stop::Stop;
 use bits::cursor::Bits;
 use packed_code::{PackedField, PackedStep};
+use packed_readings::law::field_laws;
 use packed_readings::{Refusal, read_bit, read_field};
 use packed_writer::field_of;
 use std::alloc::Global;
@@ -25,8 +26,9 @@ use std::alloc::Global;
 /// Whether the component of the field is present: a bit says so, if it has one (19.2).
 fn read_presence(field: PackedField, bits: &mut Bits<'_>) -> Result<bool, Refusal>
     ensures is { presence_from field.with_bit (bits_left bits.old) ≡ plain (outcome result (bits_left bits.new)) }
-    ensures shorter { length (bits_left bits.new) ≤ length (bits_left bits.old) }
+    ensures shorter { IfOk result (λ x. length (bits_left bits.new) ≤ length (bits_left bits.old)) }
 {
+    field_laws();
     if field.with_bit {
         read_bit(bits)
     } else {
@@ -49,7 +51,7 @@ fn push_presence(
         (bits_left bits.new)) }
     ensures fields { OnOk result (map (λ x. x.field) sent.new.items
         ≡ map (λ x. x.field) sent.old.items ++ fields_in (step ∷ [])) }
-    ensures shorter { length (bits_left bits.new) ≤ length (bits_left bits.old) }
+    ensures shorter { OnOk result (length (bits_left bits.new) ≤ length (bits_left bits.old)) }
 {
     match field_of(step) {
         Some(field) => match read_presence(field, bits) {
@@ -74,7 +76,7 @@ pub(crate) fn read_presences(
     ensures err { IfErr result (λ e. IsStop (run_presences [] (fields_in steps.now) (bits_left bits.old)) e
         (bits_left bits.new)) }
     ensures fields { IfOk result (λ v. map (λ x. x.field) v.items ≡ fields_in steps.now) }
-    ensures shorter { length (bits_left bits.new) ≤ length (bits_left bits.old) }
+    ensures shorter { IfOk result (λ x. length (bits_left bits.new) ≤ length (bits_left bits.old)) }
 {
     let mut sent = Vec::new(alloc);
     for i in 0..steps.len() {
@@ -98,8 +100,9 @@ pub(crate) fn any_sent(sent: &[Sent]) -> bool
 /// The bit of an extensible type that says whether additions are present (19.1).
 pub(crate) fn read_mark(extensible: bool, bits: &mut Bits<'_>) -> Result<bool, Refusal>
     ensures is { mark_from extensible (bits_left bits.old) ≡ plain (outcome result (bits_left bits.new)) }
-    ensures shorter { length (bits_left bits.new) ≤ length (bits_left bits.old) }
+    ensures shorter { IfOk result (λ x. length (bits_left bits.new) ≤ length (bits_left bits.old)) }
 {
+    field_laws();
     if extensible {
         read_bit(bits)
     } else {
@@ -111,8 +114,9 @@ pub(crate) fn read_mark(extensible: bool, bits: &mut Bits<'_>) -> Result<bool, R
 fn read_addition_count(bits: &mut Bits<'_>) -> Result<usize, Refusal>
     ensures is { structures.count_from (bits_left bits.old) ≡ plain (outcome result (bits_left bits.new)) }
     ensures small { IfOk result (λ n. n < 64) }
-    ensures shorter { length (bits_left bits.new) ≤ length (bits_left bits.old) }
+    ensures shorter { IfOk result (λ x. length (bits_left bits.new) ≤ length (bits_left bits.old)) }
 {
+    field_laws();
     let start = *bits;
     match read_bit(bits) {
         Ok(false) => match read_field(bits, 6) {
@@ -131,7 +135,7 @@ fn read_addition_count(bits: &mut Bits<'_>) -> Result<usize, Refusal>
 fn read_bits(alloc: Global, count: usize, bits: &mut Bits<'_>) -> Result<Vec<bool>, Stop>
     ensures ok { IfOk result (λ v. several_bits count (bits_left bits.old) ≡ found v.items (bits_left bits.new)) }
     ensures err { IfErr result (IsBare (several_bits count (bits_left bits.old)) (bits_left bits.new)) }
-    ensures shorter { length (bits_left bits.new) ≤ length (bits_left bits.old) }
+    ensures shorter { IfOk result (λ x. length (bits_left bits.new) ≤ length (bits_left bits.old)) }
 {
     if bits.len() < count {
         return Err(Stop::at(alloc, Refusal::Truncated));
@@ -159,7 +163,7 @@ fn any_one(bits: &[bool]) -> bool
 pub(crate) fn read_bitmap(alloc: Global, bits: &mut Bits<'_>) -> Result<Vec<bool>, Stop>
     ensures ok { IfOk result (λ v. bitmap_from (bits_left bits.old) ≡ read v.items (bits_left bits.new)) }
     ensures err { IfErr result (λ e. IsStop (bitmap_from (bits_left bits.old)) e (bits_left bits.new)) }
-    ensures shorter { length (bits_left bits.new) ≤ length (bits_left bits.old) }
+    ensures shorter { IfOk result (λ x. length (bits_left bits.new) ≤ length (bits_left bits.old)) }
 {
     let count = match read_addition_count(bits) {
         Ok(count) => count,

@@ -833,8 +833,8 @@ fn read_part<'a>(
     ensures ok { IfOk result (λ x. IsPart (run_value reader.entry.code.now reader.entry.levels reader.entry.id.index) fragment.entry
         (gathered list.old) progress.old (bits_left bits.old) x (gathered list.new) progress.new (bits_left bits.new)) }
     ensures err { IfErr result (λ e. (f : ℕ) → IsStop
-        (run_parts (run_value reader.entry.code.now reader.entry.levels reader.entry.id.index) fragment.entry.size.entry.sorted
-        (size_fault (constraint_of fragment.entry.size.entry.constraint.now) fragment.entry.size.entry.outside) (suc f) fragment.entry.full
+        (run_parts (run_value reader.entry.code.now reader.entry.levels reader.entry.id.index) fragment.entry.size.sorted
+        (size_fault (constraint_of fragment.entry.size.constraint.now) fragment.entry.size.outside) (suc f) fragment.entry.full
         (gathered list.old) progress.old.skipped progress.old.left (bits_left bits.old))
         e (bits_left bits.new)) }
     ensures went { IfOk result (λ x. Went progress.old (bits_left bits.old) progress.new (bits_left bits.new)) }

@@ -99,8 +99,8 @@ invariant-read_parts-loop-more l =
 abbrev pub decreases-read_parts-loop-more : goal.decreases-read_parts-loop-more
 decreases-read_parts-loop-more l = l.progress.left + cond l.more 1 0
 
-abbrev pub invariant-read_elements-loop-_i : goal.invariant-read_elements-loop-_i
-invariant-read_elements-loop-_i l =
+abbrev pub invariant-read_elements-loop-i : goal.invariant-read_elements-loop-i
+invariant-read_elements-loop-i l =
     (run_elements (run_value l.reader.code.now l.reader.levels l.reader.id.index) l.batch.sorted (l.batch.count - l._i) (gathered l.list) l.progress.skipped l.progress.left (bits_left l.bits)
     ≡ run_elements (run_value l.reader.code.now l.reader.levels l.reader.id.index) l.batch.sorted l.batch.count (gathered l.fn.list) l.fn.progress.skipped l.fn.progress.left (bits_left l.fn.bits))
     × Went l.fn.progress (bits_left l.fn.bits) l.progress (bits_left l.bits)
