@@ -12,7 +12,7 @@ use Rattle.packed_reader.specs.Structures.{is_filling, filled_from, before_rest,
 use Rattle.packed_reader.proofs.Opening.{all_octets, octets_length, together, used_length}
 
 all_joined : (xs ys : Items) → length (all_bits (xs ++ ys)) ≡ length (all_bits xs) + length (all_bits ys)
-all_joined [] ys = refl
+all_joined [] ys = (let k : length (all_bits ys) ≡ 0 + length (all_bits ys) = omega arith in k)
 all_joined (x ∷ xs) ys =
     let i = all_joined xs ys in
     let a = length-append x (all_bits (xs ++ ys)) in

@@ -9,7 +9,7 @@ use Rattle.packed_writer.specs.proving.Values.{FieldsFit, StepsFit}
 
 pub fields_of_steps : (s : List Resolved) (t : TypeNumber) (ss : List PackedStep) → StepsFit s t ss → FieldsFit s t ss
 fields_of_steps s t [] h = tt
-fields_of_steps s t (st ∷ ss) h = (h.0, fields_of_steps s t ss h.1.1)
+fields_of_steps s t (st ∷ ss) h = (h.0, fields_of_steps s t ss h.2)
 
 pub reading_shorter : {X : Type 0} {P : X → Bits → Type 0} {f : Bits → Outcome X} → IsReading P f → (b r : Bits) (v : X) → f b ≡ found v r → length r ≤ length b
 reading_shorter law b r v e =

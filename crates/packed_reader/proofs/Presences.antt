@@ -107,3 +107,19 @@ one_bit x l = one_bit_by x l
 
 pub bit_next : (x : ℕ) (out b r z : Bits) → x < 2 ^ 1 → b ≡ word 1 x ++ r → out ++ b ≡ z → (out ++ (x == 1) ∷ []) ++ r ≡ z
 bit_next x out b r z l e h = append_assoc out ((x == 1) ∷ []) r ∙ ap (λ q. out ++ q) (ap (λ q. q ++ r) (sym (one_bit x l)) ∙ sym e) ∙ h
+
+module _ (ss : List PackedStep) (i : ℕ) (st : PackedStep) (old new : List Sent) (b r : Bits) (e : drop i ss ≡ st ∷ drop (i + 1) ss) where
+  split : fields_in (drop i ss) ≡ fields_in (st ∷ []) ++ fields_in (drop (i + 1) ss)
+  split = ap fields_in e ∙ fields_first st (drop (i + 1) ss)
+
+  pub presences_step : (all : Reading (List Sent)) → run_presences old (fields_in (drop i ss)) b ≡ all → ((fs : List PackedField) → run_presences old (fields_in (st ∷ []) ++ fs) b ≡ run_presences new fs r) → run_presences new (fields_in (drop (i + 1) ss)) r ≡ all
+  presences_step all h g = sym (g (fields_in (drop (i + 1) ss))) ∙ ap (λ q. run_presences old q b) (sym split) ∙ h
+
+  pub presences_fields : (all : List PackedField) → map (λ x. x.field) old ++ fields_in (drop i ss) ≡ all → map (λ x. x.field) new ≡ map (λ x. x.field) old ++ fields_in (st ∷ []) → map (λ x. x.field) new ++ fields_in (drop (i + 1) ss) ≡ all
+  presences_fields all h g =
+      ap (λ q. q ++ fields_in (drop (i + 1) ss)) g ∙ append_assoc (map (λ x. x.field) old) (fields_in (st ∷ [])) (fields_in (drop (i + 1) ss))
+      ∙ ap (λ q. map (λ x. x.field) old ++ q) (sym split) ∙ h
+
+  pub presences_stop : (all : Reading (List Sent)) (x : Stop) → run_presences old (fields_in (drop i ss)) b ≡ all → ((fs : List PackedField) → IsStop (run_presences old (fields_in (st ∷ []) ++ fs) b) x r) → IsStop all x r
+  presences_stop all x h g =
+      stop_as all (run_presences old (fields_in (st ∷ []) ++ fields_in (drop (i + 1) ss)) b) x r (sym h ∙ ap (λ q. run_presences old q b) split) (g (fields_in (drop (i + 1) ss)))

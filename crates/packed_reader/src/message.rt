@@ -47,7 +47,10 @@ fn read_message(
     reader.code.accepted();
     inside_laws();
     let all = bits.len();
-    let value = read_value(reader, progress, bits)?;
+    let value = match read_value(reader, progress, bits) {
+        Ok(value) => value,
+        Err(stop) => return Err(stop),
+    };
     if fills(all - bits.len(), *bits) {
         Ok(value)
     } else {

@@ -100,7 +100,10 @@ pub(crate) fn skip_unknown(
 {
     for i in 0..map.len() {
         if map[i] {
-            take_octets(alloc, bits)?;
+            match take_octets(alloc, bits) {
+                Ok(_octets) => {}
+                Err(stop) => return Err(stop),
+            }
             progress.skipped += 1;
         }
     }

@@ -80,7 +80,10 @@ pub(crate) fn read_presences(
 {
     let mut sent = Vec::new(alloc);
     for i in 0..steps.len() {
-        push_presence(alloc, steps[i], bits, &mut sent)?;
+        match push_presence(alloc, steps[i], bits, &mut sent) {
+            Ok(()) => {}
+            Err(stop) => return Err(stop),
+        }
     }
     Ok(sent)
 }

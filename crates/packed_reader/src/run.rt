@@ -50,6 +50,7 @@ use std::alloc::Global;
 
 /// A value of the type. `TooDeep`: no level is left for it. `NodesLimit`: no value may begin any more.
 #[cycle(reads)]
+#[tactic(none)]
 pub(crate) fn read_value(
     reader: Reader<'_>,
     progress: &mut Progress,
@@ -89,6 +90,7 @@ pub(crate) fn read_value(
 
 /// A value by the steps of its type's routine. The values within it have the reader's levels.
 #[cycle(reads)]
+#[tactic(none)]
 fn read_steps(
     reader: Reader<'_>,
     progress: &mut Progress,
@@ -144,6 +146,7 @@ fn read_contents(
 
 /// The alternative of a CHOICE (X.691, 23).
 #[cycle(reads)]
+#[tactic(none)]
 fn read_pick(
     reader: Reader<'_>,
     progress: &mut Progress,
@@ -174,6 +177,7 @@ fn read_pick(
 
 /// The value of an alternative.
 #[cycle(reads)]
+#[tactic(none)]
 fn read_chosen(
     reader: Reader<'_>,
     progress: &mut Progress,
@@ -221,6 +225,7 @@ fn read_chosen(
 /// A value as an open type (11.2). `Padding`: other bits follow it in the octets than those that fill the last one. The
 /// place of a fault within octets in one piece is its own, and that within octets in fragments is their end.
 #[cycle(reads)]
+#[tactic(none)]
 fn read_opened(
     reader: Reader<'_>,
     progress: &mut Progress,
@@ -241,7 +246,10 @@ fn read_opened(
     reader.code.accepted();
     inside_laws();
     let start = *bits;
-    let octets = take_octets(reader.alloc, bits)?;
+    let octets = match take_octets(reader.alloc, bits) {
+        Ok(octets) => octets,
+        Err(stop) => return Err(stop),
+    };
     let mut inner = Bits::of(octets.as_slice());
     let all = inner.len();
     let stop = match read_value(reader, progress, &mut inner) {
@@ -261,6 +269,7 @@ fn read_opened(
 
 /// The components of a SEQUENCE or SET (19 and 21).
 #[cycle(reads)]
+#[tactic(none)]
 fn read_fields(
     reader: Reader<'_>,
     progress: &mut Progress,
@@ -284,12 +293,16 @@ fn read_fields(
     abstract_values();
     let components = components_of(reader.code.schema().core(reader.id));
     let mut row = empty_row(reader.alloc, components.len())?;
-    read_row(reader, progress, bits, &mut row, shape)?;
+    match read_row(reader, progress, bits, &mut row, shape) {
+        Ok(()) => {}
+        Err(stop) => return Err(stop),
+    }
     Ok(Value::Fields(row))
 }
 
 /// Puts the components into a row in which none is present.
 #[cycle(reads)]
+#[tactic(none)]
 fn read_row(
     reader: Reader<'_>,
     progress: &mut Progress,
@@ -318,8 +331,14 @@ fn read_row(
         Ok(more) => more,
         Err(refusal) => return Err(Stop::at(reader.alloc, refusal)),
     };
-    let sent = read_presences(reader.alloc, next(shape.steps, shape.count), bits)?;
-    read_members(reader, progress, bits, row, sent.as_slice())?;
+    let sent = match read_presences(reader.alloc, next(shape.steps, shape.count), bits) {
+        Ok(sent) => sent,
+        Err(stop) => return Err(stop),
+    };
+    match read_members(reader, progress, bits, row, sent.as_slice()) {
+        Ok(()) => {}
+        Err(stop) => return Err(stop),
+    }
     if more {
         read_extension(reader, progress, bits, row, past(shape.steps, shape.count))
     } else {
@@ -329,6 +348,7 @@ fn read_row(
 
 /// Components that are present or not, one after the other.
 #[cycle(reads)]
+#[tactic(none)]
 fn read_members(
     reader: Reader<'_>,
     progress: &mut Progress,
@@ -354,13 +374,17 @@ fn read_members(
     ensures places { length row.new.items ≡ length row.old.items }
 {
     for i in 0..sent.len() {
-        read_member(reader, progress, bits, row, sent[i])?;
+        match read_member(reader, progress, bits, row, sent[i]) {
+            Ok(()) => {}
+            Err(stop) => return Err(stop),
+        }
     }
     Ok(())
 }
 
 /// A component that is present or not. `TooDeep`: it is absent, and its DEFAULT has too many levels.
 #[cycle(reads)]
+#[tactic(none)]
 fn read_member(
     reader: Reader<'_>,
     progress: &mut Progress,
@@ -398,6 +422,7 @@ fn read_member(
 /// The value of a component. `NotCanonical`: it is the same as the component's DEFAULT, and no additions were skipped
 /// within it (19.5).
 #[cycle(reads)]
+#[tactic(none)]
 fn read_present(
     reader: Reader<'_>,
     progress: &mut Progress,
@@ -451,6 +476,7 @@ fn read_present(
 
 /// What follows the root of a message that has additions: which ones, and those (19.6 to 19.9).
 #[cycle(reads)]
+#[tactic(none)]
 fn read_extension(
     reader: Reader<'_>,
     progress: &mut Progress,
@@ -474,7 +500,10 @@ fn read_extension(
         e (bits_left bits.new)) }
     ensures went { OnOk result (Went progress.old (bits_left bits.old) progress.new (bits_left bits.new)) }
 {
-    let map = read_bitmap(reader.alloc, bits)?;
+    let map = match read_bitmap(reader.alloc, bits) {
+        Ok(map) => map,
+        Err(stop) => return Err(stop),
+    };
     let additions = Additions {
         steps,
         map: map.as_slice(),
@@ -492,6 +521,7 @@ struct Additions<'a> {
 
 /// The additions that are present. Those that the type lacks are skipped.
 #[cycle(reads)]
+#[tactic(none)]
 fn read_additions(
     reader: Reader<'_>,
     progress: &mut Progress,
@@ -519,7 +549,10 @@ fn read_additions(
     for i in 0..additions.steps.len() {
         if is_addition(additions.steps[i]) {
             if first_bit(map) {
-                read_addition(reader, progress, bits, row, after(additions.steps, i))?;
+                match read_addition(reader, progress, bits, row, after(additions.steps, i)) {
+                    Ok(()) => {}
+                    Err(stop) => return Err(stop),
+                }
             }
             map = other_bits(map);
         }
@@ -529,6 +562,7 @@ fn read_additions(
 
 /// The addition of the first step, if it is one: a component by itself, or a group.
 #[cycle(reads)]
+#[tactic(none)]
 fn read_addition(
     reader: Reader<'_>,
     progress: &mut Progress,
@@ -571,6 +605,7 @@ fn read_addition(
 
 /// An addition by itself.
 #[cycle(reads)]
+#[tactic(none)]
 fn read_added(
     reader: Reader<'_>,
     progress: &mut Progress,
@@ -610,6 +645,7 @@ fn read_added(
 
 /// The members of a group, as an open type (19.9). The faults are placed as in `read_opened`.
 #[cycle(reads)]
+#[tactic(none)]
 fn read_group(
     reader: Reader<'_>,
     progress: &mut Progress,
@@ -637,7 +673,10 @@ fn read_group(
     reader.code.accepted();
     inside_laws();
     let start = *bits;
-    let octets = take_octets(reader.alloc, bits)?;
+    let octets = match take_octets(reader.alloc, bits) {
+        Ok(octets) => octets,
+        Err(stop) => return Err(stop),
+    };
     let mut inner = Bits::of(octets.as_slice());
     let all = inner.len();
     let stop = match read_group_members(reader, progress, &mut inner, row, steps) {
@@ -655,6 +694,7 @@ fn read_group(
 
 /// The members of a group after their bits. `NotCanonical`: none of them is present.
 #[cycle(reads)]
+#[tactic(none)]
 fn read_group_members(
     reader: Reader<'_>,
     progress: &mut Progress,
@@ -680,7 +720,10 @@ fn read_group_members(
     ensures places { length row.new.items ≡ length row.old.items }
 {
     let start = *bits;
-    let sent = read_presences(reader.alloc, steps, bits)?;
+    let sent = match read_presences(reader.alloc, steps, bits) {
+        Ok(sent) => sent,
+        Err(stop) => return Err(stop),
+    };
     if !any_sent(sent.as_slice()) {
         *bits = start;
         return Err(Stop::at(reader.alloc, Refusal::NotCanonical));
@@ -692,6 +735,7 @@ fn read_group_members(
 
 /// The elements of a SEQUENCE OF or SET OF (20 and 22).
 #[cycle(reads)]
+#[tactic(none)]
 fn read_each(
     reader: Reader<'_>,
     progress: &mut Progress,
@@ -715,7 +759,8 @@ fn read_each(
     abstract_values();
     let constraint = size_of(reader.code.schema(), reader.id);
     let mut list = Gathered::new(reader.alloc, bits);
-    read_list(
+    let listed = Listed { constraint, sorted };
+    match read_list(
         Reader {
             id: element,
             ..reader
@@ -723,9 +768,11 @@ fn read_each(
         progress,
         bits,
         &mut list,
-        Listed { constraint, sorted },
-    )?;
-    Ok(Value::List(list.values))
+        listed,
+    ) {
+        Ok(()) => Ok(Value::List(list.values)),
+        Err(stop) => Err(stop),
+    }
 }
 
 /// What SIZE allows of a list, and whether its elements come in ascending order of their bits.
@@ -737,6 +784,7 @@ struct Listed<'a> {
 
 /// Elements of the reader's type after their number, as SIZE bounds it.
 #[cycle(reads)]
+#[tactic(none)]
 fn read_list<'a>(
     reader: Reader<'_>,
     progress: &mut Progress,
@@ -780,6 +828,7 @@ fn read_list<'a>(
 
 /// Elements of the reader's type after their number, in fragments if they are many (11.9.3).
 #[cycle(reads)]
+#[tactic(none)]
 fn read_parts<'a>(
     reader: Reader<'_>,
     progress: &mut Progress,
@@ -804,9 +853,10 @@ fn read_parts<'a>(
     let mut full = true;
     let mut more = true;
     while more {
-        match read_part(reader, progress, bits, list, Fragment { size, full })? {
-            Next::Nothing => more = false,
-            Next::More(next) => full = next,
+        match read_part(reader, progress, bits, list, Fragment { size, full }) {
+            Ok(Next::Nothing) => more = false,
+            Ok(Next::More(next)) => full = next,
+            Err(stop) => return Err(stop),
         }
     }
     Ok(())
@@ -821,6 +871,7 @@ struct Fragment<'a> {
 
 /// The elements of one number, and what follows them.
 #[cycle(reads)]
+#[tactic(none)]
 fn read_part<'a>(
     reader: Reader<'_>,
     progress: &mut Progress,
@@ -844,12 +895,18 @@ fn read_part<'a>(
     let sorted = fragment.size.sorted;
     match read_total(fragment.size, before, fragment.full, bits) {
         Ok(Count::Last(count)) => {
-            read_elements(reader, progress, bits, list, Batch { count, sorted })?;
+            match read_elements(reader, progress, bits, list, Batch { count, sorted }) {
+                Ok(()) => {}
+                Err(stop) => return Err(stop),
+            }
             Ok(Next::Nothing)
         }
         Ok(Count::Part(times)) => {
             let count = 16384 * times;
-            read_elements(reader, progress, bits, list, Batch { count, sorted })?;
+            match read_elements(reader, progress, bits, list, Batch { count, sorted }) {
+                Ok(()) => {}
+                Err(stop) => return Err(stop),
+            }
             Ok(Next::More(times == 4))
         }
         Err(refusal) => Err(Stop::at(reader.alloc, refusal)),
@@ -865,6 +922,7 @@ struct Batch {
 
 /// Elements of the reader's type, one after the other.
 #[cycle(reads)]
+#[tactic(none)]
 fn read_elements<'a>(
     reader: Reader<'_>,
     progress: &mut Progress,
@@ -886,7 +944,10 @@ fn read_elements<'a>(
     ensures fewer { OnOk result (progress.new.left + batch.count ≤ progress.old.left) }
 {
     for _i in 0..batch.count {
-        read_element(reader, progress, bits, list, batch.sorted)?;
+        match read_element(reader, progress, bits, list, batch.sorted) {
+            Ok(()) => {}
+            Err(stop) => return Err(stop),
+        }
     }
     Ok(())
 }
@@ -894,6 +955,7 @@ fn read_elements<'a>(
 /// One more element. `NotCanonical`: elements come in ascending order, and its bits are below those of the one before
 /// (22.1).
 #[cycle(reads)]
+#[tactic(none)]
 fn read_element<'a>(
     reader: Reader<'_>,
     progress: &mut Progress,
