@@ -27,3 +27,5 @@ mod RunningFits
 mod RunningSteps
 mod ValueRun
 mod Plans
+mod MemberRun
+mod Calls

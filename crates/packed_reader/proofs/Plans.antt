@@ -1,5 +1,13 @@
 -- The steps of a routine are those of its type.
-use Rattle.std.proofs.Common.{arith, ◌≡◌, ℕ, ◌≤◌, ◌<◌, List, [], ◌∷◌, ◌++◌, length, ap, length-append}
+use Rattle.std.proofs.Common.{arith, ◌≡◌, ℕ, zero, suc, ◌+◌, ◌≤◌, ◌<◌, List, [], ◌∷◌, ◌++◌, length, Option, Some, None, slice_get, ap, subst, sym, refl, ◌∙◌, length-append}
+use Rattle.std.specs.Prelude.{Result, Ok, Err, IfOk}
+use Rattle.packed_code.specs.Routines.{routine_at, routine_of}
+use Rattle.packed_reader.specs.declared.plan.Plan.{Plan}
+use Rattle.packed_reader.specs.declared.reader.Progress.{Progress}
+use Rattle.packed_reader.specs.proving.Code.{Went}
+use Rattle.packed_reader.specs.proving.Plans.{IsNothing, PlanFits, run_plan}
+use Rattle.packed_reader.specs.proving.Running.{RunsValue, run_steps, run_value}
+use Rattle.packed_reader.proofs.ValueRun.{went_shorter}
 use Rattle.std.specs.List.{AllByRecursion}
 use Rattle.asn_base.specs.Types.{Resolved, TypeNumber}
 use Rattle.packed_code.specs.declared.step.PackedStep.{PackedStep}
@@ -17,3 +25,30 @@ reading_shorter law b r v e =
     let l = ap length s.2 in
     let a = length-append s.0 r in
     omega (arith, l, a)
+
+-- ---- a routine and its plan
+
+module _ (s : List Resolved) (l t : ℕ) (k n : ℕ) (b : Bits) (ss : List PackedStep) (p q : Plan) where
+  abbrev Same : Type 0
+  Same = (s : List Resolved) (l : ℕ) (value : RunsValue) (t k n : ℕ) (b : Bits) → run_steps s l value t ss k n b ≡ run_plan s l value t p k n b
+
+  pub as_plan : ss ≡ routine_at s t → Same → p ≡ q → run_steps s l (run_value s l) t (routine_at s t) k n b ≡ run_plan s l (run_value s l) t q k n b
+  as_plan e h g = ap (λ z. run_steps s l (run_value s l) t z k n b) (sym e) ∙ h s l (run_value s l) t k n b ∙ ap (λ z. run_plan s l (run_value s l) t z k n b) g
+
+pub fits_as : (s : List Resolved) (t : ℕ) (ss : List PackedStep) (p q : Plan) → ss ≡ routine_at s t → p ≡ q → (StepsFit s t ss → PlanFits s t p) → StepsFit s t (routine_at s t) → PlanFits s t q
+fits_as s t ss p q e g h f = subst (PlanFits s t) g (h (subst (StepsFit s t) (sym e) f))
+
+no_steps : (s : List Resolved) (t : ℕ) → slice_get s t ≡ None → routine_at s t ≡ []
+no_steps s t e = ap (λ o. elim o as (λ q. List PackedStep) [ None ↦ [] | Some r ↦ routine_of s r.kind ]) e
+
+there : (s : List Resolved) (t : ℕ) → (slice_get s t ≡ None → ⊥) → t < length s
+there [] t h = absurd (h refl)
+there (r ∷ s) zero h = omega arith
+there (r ∷ s) (suc t) h = let i = there s t h in omega (arith, i)
+
+pub type_there : (s : List Resolved) (t : ℕ) (ss : List PackedStep) (p q : Plan) → ss ≡ routine_at s t → p ≡ q → (ss ≡ [] → IsNothing p) → (IsNothing q → ⊥) → t < length s
+type_there s t ss p q e g h f = there s t (λ n. f (subst IsNothing g (h (e ∙ no_steps s t n))))
+
+pub shorter_ok : {X E : Type 0} (x : Result X E) (p : Progress) (b r : Bits) → IfOk x (λ v. length r ≤ length b) → IfOk x (λ v. Went p b p r)
+shorter_ok (Ok v) p b r h = went_shorter p b r h
+shorter_ok (Err e) p b r h = tt

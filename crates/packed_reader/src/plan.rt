@@ -54,7 +54,7 @@ pub(crate) fn plan_of<'a>(steps: &'a [PackedStep]) -> Plan<'a>
     ensures is { (s : List Resolved) (l : ℕ) (value : RunsValue) (t k n : ℕ) (b : Bits)
         → run_steps s l value t steps.now k n b ≡ run_plan s l value t result k n b }
     ensures fits { (s : List Resolved) (t : ℕ) → StepsFit s t steps.now → PlanFits s t result }
-    ensures some { IsNothing result → steps.now ≡ [] }
+    ensures some { steps.now ≡ [] → IsNothing result }
 {
     let Some((step, rest)) = first(steps) else {
         return Plan::Nothing;

@@ -4,7 +4,7 @@
 //! that function reads, and the bits after it are left. If it refuses the bits, that function refuses them for the same
 //! reason, in the same parts, and the bits from the fault's place on are left.
 
-ghost use Rattle.asn_base.specs.Abstract.{abstract};
+ghost use Rattle.asn_base.specs.Abstract.{abstract, alternative as alternative'};
 ghost use Rattle.asn_base.specs.Schemas.{AreBounds, IsSize, components};
 ghost use Rattle.asn_base.specs.Seen.{constraint_of};
 ghost use Rattle.asn_base.specs.Typed.{ValueIn};
@@ -13,6 +13,7 @@ ghost use Rattle.packed_code.specs.Routines.{routine_at};
 ghost use Rattle.packed_encodings.specs.Computed.{kind_at};
 ghost use Rattle.packed_reader.specs.Code.{chosen_of};
 ghost use Rattle.packed_reader.specs.Readings.{next as onward, plain};
+ghost use Rattle.packed_reader.specs.declared.stop.Stop.TheVariants.{Memory};
 ghost use Rattle.packed_reader.specs.Steps.{call_from};
 ghost use Rattle.packed_reader.specs.Structures.{no_row, open_from};
 ghost use Rattle.packed_reader.specs.proving.Code.{AreSent, HasRoom, IsGot, IsLess, IsPart, IsStop, Went, gathered, row_of_values};
@@ -25,7 +26,7 @@ ghost use Rattle.std.specs.Prelude.{◌≡◌, ◌+◌, ◌≤◌, ◌<◌, IfEr
 use crate::absent::may_lack;
 use crate::addition_bits::{first_bit, is_addition, other_bits};
 use crate::call::{Call, read_call};
-use crate::law::value_laws;
+use crate::law::{step_laws, value_laws};
 use crate::laws_of_running::{inside_laws, running_laws};
 use crate::list::{Gathered, Next, Size, at_most, read_total};
 use crate::open::{fault_place, fills, skip_unknown, take_octets};
@@ -70,6 +71,7 @@ pub(crate) fn read_value(
 {
     reader.code.accepted();
     running_laws();
+    step_laws();
     value_laws();
     if reader.levels == 0 {
         return Err(Stop::at(reader.alloc, Refusal::TooDeep));
@@ -196,29 +198,32 @@ fn read_chosen(
         e (bits_left bits.new)) }
     ensures went { IfOk result (λ v. Went progress.old (bits_left bits.old) progress.new (bits_left bits.new)) }
 {
-    abstract_values();
-    let value = if call.open {
-        read_opened(
-            Reader {
-                id: call.ty,
-                ..reader
-            },
-            progress,
-            bits,
-        )
-    } else {
-        read_value(
-            Reader {
-                id: call.ty,
-                ..reader
-            },
-            progress,
-            bits,
-        )
+    let part = Reader {
+        id: call.ty,
+        ..reader
     };
-    match value {
-        Ok(value) => Ok(Value::Alt(call.number, Box::new(reader.alloc, value)?)),
-        Err(stop) => Err(stop.within(Part::Alternative(call.number))),
+    if call.open {
+        match read_opened(part, progress, bits) {
+            Ok(value) => alternative(reader.alloc, call.number, value),
+            Err(stop) => Err(stop.within(Part::Alternative(call.number))),
+        }
+    } else {
+        match read_value(part, progress, bits) {
+            Ok(value) => alternative(reader.alloc, call.number, value),
+            Err(stop) => Err(stop.within(Part::Alternative(call.number))),
+        }
+    }
+}
+
+/// The value of a CHOICE.
+fn alternative(alloc: Global, number: usize, value: Value) -> Result<Value, Stop>
+    ensures ok { IfOk result (λ v. abstract v ≡ alternative' number (abstract value)) }
+    ensures err { IfErr result (λ e. e ≡ Memory) }
+{
+    abstract_values();
+    match Box::new(alloc, value) {
+        Ok(value) => Ok(Value::Alt(number, value)),
+        Err(_) => Err(Stop::Memory),
     }
 }
 
@@ -292,7 +297,10 @@ fn read_fields(
 {
     abstract_values();
     let components = components_of(reader.code.schema().core(reader.id));
-    let mut row = empty_row(reader.alloc, components.len())?;
+    let mut row = match empty_row(reader.alloc, components.len()) {
+        Ok(row) => row,
+        Err(_) => return Err(Stop::Memory),
+    };
     match read_row(reader, progress, bits, &mut row, shape) {
         Ok(()) => {}
         Err(stop) => return Err(stop),
@@ -348,7 +356,6 @@ fn read_row(
 
 /// Components that are present or not, one after the other.
 #[cycle(reads)]
-#[tactic(none)]
 fn read_members(
     reader: Reader<'_>,
     progress: &mut Progress,

@@ -17,6 +17,29 @@ use Rattle.packed_reader.specs.proving.Running.{no_elements, run_added, run_addi
 use Rattle.packed_readings.specs.Counts.{size_fault}
 use Rattle.packed_writer.specs.proving.Values.{FieldFits, FieldsFit, IsList, fields_in}
 use Rattle.packed_reader.proofs.run.+reads.Goals as goal
+use Rattle.std.proofs.Common.{arith, refl, sym, ap, subst, ◌∙◌}
+use Rattle.packed_readings.specs.declared.refusal.Refusal.TheVariants as why
+use Rattle.packed_reader.specs.Readings.{read, taken}
+use Rattle.packed_reader.proofs.Flow.{stop_next, stop_within, stop_as, stop_at, stop_bare, stop_of}
+use Rattle.packed_reader.specs.declared.plan.Plan.TheVariants as plans
+use Rattle.packed_reader.specs.proving.Plans.{run_plan}
+use Rattle.packed_reader.proofs.ValueRun.{value_steps, value_deep, value_full, value_of, went_value, fewer_value, got_as, row_as, stops_as, went_on, went_ok, went_done, went_shorter, room_left}
+use Rattle.std.proofs.Common.{drop, map}
+use Rattle.std.proofs.lemmas.List.{drop_more}
+use Rattle.asn_base.specs.Seen.{component_of, kind_of}
+use Rattle.packed_reader.specs.Structures.{mark_from}
+use Rattle.packed_reader.specs.proving.Running.{as_fields, run_absent}
+use Rattle.packed_writer.specs.proving.Values.{FieldOf}
+use Rattle.packed_reader.proofs.Plans.{as_plan, fits_as, type_there, shorter_ok}
+use Rattle.packed_reader.proofs.Flow.{went_same}
+use Rattle.packed_reader.proofs.Presences.{fields_taken}
+use Rattle.packed_reader.proofs.Calls.{call_shorter, call_room, components_are, components_many, map-length, is_component, default_as}
+use Rattle.packed_reader.proofs.MemberRun.{kind_found, within_row, present_stop, present_same, present_ok, same_as_default, no_default, some_skipped, absent_ok, absent_deep, member_present, member_absent, members_next, members_stop, members_end, sent_there, sent_fit, fields_fit, all_taken, all_dropped, no_mark, no_presences, no_members, rest_is, calls_have_width, chosen_ok, chosen_stop}
+use Rattle.packed_reader.proofs.run.+reads.Goals.{read_present-else-progress-skipped-via-then-progress-skipped+else-is_default, read_present-else-progress-skipped-via-else-progress-skipped}
+
+as_steps : {t : ℕ} (c : goal.read_value-After-read_steps t) → run_value c.args.reader.code.now c.args.reader.levels c.args.reader.id.index c.args.progress.now.skipped c.args.progress.now.left (bits_left c.args.bits.now)
+    ≡ run_steps c.args.reader.code.now (c.args.reader.levels - 1) (run_value c.args.reader.code.now (c.args.reader.levels - 1)) c.args.reader.id.index (routine_at c.args.reader.code.now c.args.reader.id.index) c.args.progress.now.skipped (c.args.progress.now.left - 1) (bits_left c.args.bits.now)
+as_steps c = value_steps c.running_laws.ensures c.args.reader.code.now c.args.reader.levels c.args.reader.id.index c.args.progress.now.skipped c.args.progress.now.left (bits_left c.args.bits.now) (let h = c.if-reader-eq0.false in omega (arith, h)) (let h = c.if-progress-eq0.false in omega (arith, h))
 
 -- src/run.rt:631:23
 pub read_added-read_opened-requires : goal.read_added-read_opened-requires
@@ -214,43 +237,6 @@ read_additions-returns-clause-err t c = ?
 pub read_additions-returns-clause-went : goal.read_additions-returns-clause-went
 read_additions-returns-clause-went t c = ?
 
--- src/run.rt:201:9
-pub read_chosen-read_opened-value-requires : goal.read_chosen-read_opened-value-requires
-read_chosen-read_opened-value-requires t c = ?
-
--- src/run.rt:210:9
-pub read_chosen-read_value-value-requires : goal.read_chosen-read_value-value-requires
-read_chosen-read_value-value-requires t c = ?
-
--- src/run.rt:220:49
-pub read_chosen-returns-in_err-new-in-Ok-clause-ok :
-    goal.read_chosen-returns-in_err-new-in-Ok-clause-ok
-read_chosen-returns-in_err-new-in-Ok-clause-ok t c = ?
-
--- src/run.rt:220:49
-pub read_chosen-returns-in_err-new-in-Ok-clause-err :
-    goal.read_chosen-returns-in_err-new-in-Ok-clause-err
-read_chosen-returns-in_err-new-in-Ok-clause-err t c = ?
-
--- src/run.rt:220:49
-pub read_chosen-returns-in_err-new-in-Ok-clause-went :
-    goal.read_chosen-returns-in_err-new-in-Ok-clause-went
-read_chosen-returns-in_err-new-in-Ok-clause-went t c = ?
-
--- src/run.rt:179:1
-pub read_chosen-returns-in_ok-new-in-Ok-clause-ok :
-    goal.read_chosen-returns-in_ok-new-in-Ok-clause-ok
-read_chosen-returns-in_ok-new-in-Ok-clause-ok t c = ?
-
--- src/run.rt:179:1
-pub read_chosen-returns-in_ok-new-in-Ok-clause-went :
-    goal.read_chosen-returns-in_ok-new-in-Ok-clause-went
-read_chosen-returns-in_ok-new-in-Ok-clause-went t c = ?
-
--- src/run.rt:179:1
-pub read_chosen-returns-in-Err-clause-err : goal.read_chosen-returns-in-Err-clause-err
-read_chosen-returns-in-Err-clause-err t c = ?
-
 -- src/run.rt:760:9
 pub read_each-size_of-constraint-requires : goal.read_each-size_of-constraint-requires
 read_each-size_of-constraint-requires t c = ?
@@ -376,35 +362,25 @@ read_extension-returns-clause-went t c = ?
 
 -- src/run.rt:294:36
 pub read_fields-core-requires : goal.read_fields-core-requires
-read_fields-core-requires t c = ?
-
--- src/run.rt:295:19
-pub read_fields-returns-in_err-row-clause-ok : goal.read_fields-returns-in_err-row-clause-ok
-read_fields-returns-in_err-row-clause-ok t c = ?
-
--- src/run.rt:295:19
-pub read_fields-returns-in_err-row-clause-err : goal.read_fields-returns-in_err-row-clause-err
-read_fields-returns-in_err-row-clause-err t c = ?
-
--- src/run.rt:295:19
-pub read_fields-returns-in_err-row-clause-went : goal.read_fields-returns-in_err-row-clause-went
-read_fields-returns-in_err-row-clause-went t c = ?
+read_fields-core-requires t c = subst (λ q. c.args.reader.id.index < length q) (sym c.schema.ensures) c.requires.there
 
 -- src/run.rt:296:11
 pub read_fields-read_row-requires : goal.read_fields-read_row-requires
-read_fields-read_row-requires t c = ?
-
--- src/run.rt:298:22
-pub read_fields-returns-in-Err-clause-err : goal.read_fields-returns-in-Err-clause-err
-read_fields-returns-in-Err-clause-err t c = ?
+read_fields-read_row-requires t c = 
+    let d = c.decreases in
+    let lt : 30 * c.args.reader.levels + 27 < t = omega (arith, d) in
+    let many : length c.in-Ok.row.items ≡ length (components (kind_at c.args.reader.code.now c.args.reader.id.index)) = c.in-Ok.ensures.length ∙ sym (components_many (components (kind_at c.args.reader.code.now c.args.reader.id.index)) (map component_of c.components_of-components.result.now) (length c.components_of-components.result.now) (components_are c.args.reader.code.now c.schema.result.now c.args.reader.id.index (kind_of c.core.result.now) c.core.ensures.is.0 (map component_of c.components_of-components.result.now) c.schema.ensures c.core.ensures.is.1 c.components_of-components.ensures) (map-length component_of c.components_of-components.result.now)) in
+    (lt, (c.requires.few, (c.requires.room, (c.requires.fit, (many, c.in-Ok.ensures.row (components (kind_at c.args.reader.code.now c.args.reader.id.index)) (components_many (components (kind_at c.args.reader.code.now c.args.reader.id.index)) (map component_of c.components_of-components.result.now) (length c.components_of-components.result.now) (components_are c.args.reader.code.now c.schema.result.now c.args.reader.id.index (kind_of c.core.result.now) c.core.ensures.is.0 (map component_of c.components_of-components.result.now) c.schema.ensures c.core.ensures.is.1 c.components_of-components.ensures) (map-length component_of c.components_of-components.result.now)))))))
 
 -- src/run.rt:271:1
 pub read_fields-returns-clause-ok : goal.read_fields-returns-clause-ok
-read_fields-returns-clause-ok t c = ?
+read_fields-returns-clause-ok t c = 
+    ap (λ o. onward o (λ w r. read (as_fields w) r)) c.in-Ok-read_row.ensures.ok
+    ∙ ap (λ q. read (taken q c.read_row.new.progress.skipped c.read_row.new.progress.left) (bits_left c.read_row.new.bits)) (sym (c.abstract_values.ensures.fields_ c.read_row.new.row))
 
 -- src/run.rt:271:1
 pub read_fields-returns-clause-went : goal.read_fields-returns-clause-went
-read_fields-returns-clause-went t c = ?
+read_fields-returns-clause-went t c = c.in-Ok-read_row.ensures.went
 
 -- src/run.rt:678:22
 pub read_group-returns-in-Err-clause-err : goal.read_group-returns-in-Err-clause-err
@@ -532,97 +508,96 @@ read_list-returns-in-Err-clause-err t c = ?
 
 -- src/run.rt:413:9
 pub read_member-read_present-requires : goal.read_member-read_present-requires
-read_member-read_present-requires t c = ?
+read_member-read_present-requires t c = 
+    let d = c.decreases in
+    let lt : 30 * c.args.reader.levels + 18 < t = omega (arith, d) in
+    (lt, (c.requires.few, (c.requires.room, (c.requires.fits, c.requires.places))))
 
 -- src/run.rt:413:9
 pub read_member-returns-then-sent-clause-ok : goal.read_member-returns-then-sent-clause-ok
-read_member-returns-then-sent-clause-ok t c = ?
+read_member-returns-then-sent-clause-ok t c = row_as c.read_present.result (run_member c.args.reader.code.now c.args.reader.levels (run_value c.args.reader.code.now c.args.reader.levels) (components (kind_at c.args.reader.code.now c.args.reader.id.index)) c.args.sent (row_of_values c.args.row.now.items) c.args.progress.now.skipped c.args.progress.now.left (bits_left c.args.bits.now)) (run_present c.args.reader.code.now (run_value c.args.reader.code.now c.args.reader.levels) (components (kind_at c.args.reader.code.now c.args.reader.id.index)) c.args.sent.field (row_of_values c.args.row.now.items) c.args.progress.now.skipped c.args.progress.now.left (bits_left c.args.bits.now)) (row_of_values c.read_present.new.row.items) c.read_present.new.progress (bits_left c.read_present.new.bits) (member_present c.args.reader.code.now c.args.reader.levels (components (kind_at c.args.reader.code.now c.args.reader.id.index)) c.args.sent (row_of_values c.args.row.now.items) c.args.progress.now.skipped c.args.progress.now.left (bits_left c.args.bits.now) c.if-sent.true) c.read_present.ensures.ok
 
 -- src/run.rt:413:9
 pub read_member-returns-then-sent-clause-err : goal.read_member-returns-then-sent-clause-err
-read_member-returns-then-sent-clause-err t c = ?
+read_member-returns-then-sent-clause-err t c = stops_as c.read_present.result (run_member c.args.reader.code.now c.args.reader.levels (run_value c.args.reader.code.now c.args.reader.levels) (components (kind_at c.args.reader.code.now c.args.reader.id.index)) c.args.sent (row_of_values c.args.row.now.items) c.args.progress.now.skipped c.args.progress.now.left (bits_left c.args.bits.now)) (run_present c.args.reader.code.now (run_value c.args.reader.code.now c.args.reader.levels) (components (kind_at c.args.reader.code.now c.args.reader.id.index)) c.args.sent.field (row_of_values c.args.row.now.items) c.args.progress.now.skipped c.args.progress.now.left (bits_left c.args.bits.now)) (bits_left c.read_present.new.bits) (member_present c.args.reader.code.now c.args.reader.levels (components (kind_at c.args.reader.code.now c.args.reader.id.index)) c.args.sent (row_of_values c.args.row.now.items) c.args.progress.now.skipped c.args.progress.now.left (bits_left c.args.bits.now) c.if-sent.true) c.read_present.ensures.err
 
 -- src/run.rt:413:9
 pub read_member-returns-then-sent-clause-went : goal.read_member-returns-then-sent-clause-went
-read_member-returns-then-sent-clause-went t c = ?
+read_member-returns-then-sent-clause-went t c = c.read_present.ensures.went
 
 -- src/run.rt:413:9
 pub read_member-returns-then-sent-clause-places : goal.read_member-returns-then-sent-clause-places
-read_member-returns-then-sent-clause-places t c = ?
+read_member-returns-then-sent-clause-places t c = c.read_present.ensures.places
 
 -- src/run.rt:415:8
 pub read_member-may_lack-requires-clause-there : goal.read_member-may_lack-requires-clause-there
-read_member-may_lack-requires-clause-there t c = ?
+read_member-may_lack-requires-clause-there t c = (c.requires.fits.component, c.requires.fits.there)
 
 -- src/run.rt:415:8
 pub read_member-may_lack-requires-clause-few : goal.read_member-may_lack-requires-clause-few
-read_member-may_lack-requires-clause-few t c = ?
+read_member-may_lack-requires-clause-few t c = c.requires.few
 
 -- src/run.rt:416:9
 pub read_member-returns-then-may_lack-clause-ok : goal.read_member-returns-then-may_lack-clause-ok
-read_member-returns-then-may_lack-clause-ok t c = ?
+read_member-returns-then-may_lack-clause-ok t c = member_absent c.args.reader.code.now c.args.reader.levels (components (kind_at c.args.reader.code.now c.args.reader.id.index)) c.args.sent (row_of_values c.args.row.now.items) c.args.progress.now.skipped c.args.progress.now.left (bits_left c.args.bits.now) c.if-sent.false ∙ absent_ok c.args.reader.code.now c.args.reader.levels (components (kind_at c.args.reader.code.now c.args.reader.id.index)) c.args.sent.field (row_of_values c.args.row.now.items) c.args.progress.now.skipped c.args.progress.now.left (bits_left c.args.bits.now) c.requires.fits.component c.may_lack.result c.requires.fits.there (c.may_lack.ensures c.requires.fits.component c.requires.fits.there) c.if-may_lack.true
 
--- src/run.rt:416:9
-pub read_member-returns-then-may_lack-clause-went :
-    goal.read_member-returns-then-may_lack-clause-went
-read_member-returns-then-may_lack-clause-went t c = ?
+pub read_member-returns-then-may_lack-clause-went : goal.read_member-returns-then-may_lack-clause-went
+read_member-returns-then-may_lack-clause-went t c = went_same c.args.progress.now (bits_left c.args.bits.now)
 
--- src/run.rt:416:9
-pub read_member-returns-then-may_lack-clause-places :
-    goal.read_member-returns-then-may_lack-clause-places
-read_member-returns-then-may_lack-clause-places t c = ?
+pub read_member-returns-then-may_lack-clause-places : goal.read_member-returns-then-may_lack-clause-places
+read_member-returns-then-may_lack-clause-places t c = refl
 
 -- src/run.rt:386:1
 pub read_member-returns-clause-err : goal.read_member-returns-clause-err
-read_member-returns-clause-err t c = ?
+read_member-returns-clause-err t c = 
+    stop_as (run_member c.args.reader.code.now c.args.reader.levels (run_value c.args.reader.code.now c.args.reader.levels) (components (kind_at c.args.reader.code.now c.args.reader.id.index)) c.args.sent (row_of_values c.args.row.now.items) c.args.progress.now.skipped c.args.progress.now.left (bits_left c.args.bits.now)) (run_absent c.args.reader.code.now c.args.reader.levels (components (kind_at c.args.reader.code.now c.args.reader.id.index)) c.args.sent.field (row_of_values c.args.row.now.items) c.args.progress.now.skipped c.args.progress.now.left (bits_left c.args.bits.now)) c.within.result (bits_left c.args.bits.now) (member_absent c.args.reader.code.now c.args.reader.levels (components (kind_at c.args.reader.code.now c.args.reader.id.index)) c.args.sent (row_of_values c.args.row.now.items) c.args.progress.now.skipped c.args.progress.now.left (bits_left c.args.bits.now) c.if-sent.false)
+    (absent_deep c.args.reader.code.now c.args.reader.levels (components (kind_at c.args.reader.code.now c.args.reader.id.index)) c.args.sent.field (row_of_values c.args.row.now.items) c.args.progress.now.skipped c.args.progress.now.left (bits_left c.args.bits.now) c.requires.fits.component c.may_lack.result c.at-stop.result c.within.result c.requires.fits.there (c.may_lack.ensures c.requires.fits.component c.requires.fits.there) c.if-may_lack.false c.at-stop.ensures c.within.ensures)
 
 -- src/run.rt:386:1
 pub read_member-returns-clause-places : goal.read_member-returns-clause-places
-read_member-returns-clause-places t c = ?
+read_member-returns-clause-places t c = refl
 
 -- src/run.rt:376:5
 pub read_members-loop-i-init : goal.read_members-loop-i-init
-read_members-loop-i-init t c = ?
-
--- src/run.rt:377:56
-pub read_members-offset_bounds-sent-i : goal.read_members-offset_bounds-sent-i
-read_members-offset_bounds-sent-i t c = ?
+read_members-loop-i-init t c = (refl, went_same c.args.progress.now (bits_left c.args.bits.now), refl)
 
 -- src/run.rt:377:56
 pub read_members-bounds-sent-i : goal.read_members-bounds-sent-i
-read_members-bounds-sent-i t c = ?
+read_members-bounds-sent-i t c = c.loop-i-test.true
 
 -- src/run.rt:377:15
 pub read_members-read_member-requires : goal.read_members-read_member-requires
-read_members-read_member-requires t c = ?
+read_members-read_member-requires t c = 
+    let d = c.decreases in
+    let lt : 30 * c.args.reader.levels + 19 < t = omega (arith, d) in
+    (lt, (c.requires.few, (room_left c.args.progress.now c.loop-i.progress (bits_left c.args.bits.now) (bits_left c.loop-i.bits) c.requires.room c.loop-i.invariant.1, (sent_there c.args.reader.code.now c.args.reader.id.index c.args.sent.now c.loop-i.i _ c.requires.fit (drop_more c.args.sent.now c.loop-i.i _ c.loop-i-test.true), c.loop-i.invariant.2 ∙ c.requires.places))))
 
 -- src/run.rt:379:26
 pub read_members-returns-in-Err-clause-err : goal.read_members-returns-in-Err-clause-err
-read_members-returns-in-Err-clause-err t c = ?
+read_members-returns-in-Err-clause-err t c = members_stop c.args.reader.code.now c.args.reader.levels (components (kind_at c.args.reader.code.now c.args.reader.id.index)) c.args.sent.now c.loop-i.i _ (row_of_values c.loop-i.row.items) c.loop-i.progress.skipped c.loop-i.progress.left (bits_left c.loop-i.bits) (drop_more c.args.sent.now c.loop-i.i _ c.loop-i-test.true) (run_members c.args.reader.code.now c.args.reader.levels (run_value c.args.reader.code.now c.args.reader.levels) (components (kind_at c.args.reader.code.now c.args.reader.id.index)) c.args.sent.now (row_of_values c.args.row.now.items) c.args.progress.now.skipped c.args.progress.now.left (bits_left c.args.bits.now)) c.in-Err.stop (bits_left c.read_member.new.bits) c.loop-i.invariant.0 c.in-Err.ensures.err
 
 -- src/run.rt:379:26
 pub read_members-returns-in-Err-clause-places : goal.read_members-returns-in-Err-clause-places
-read_members-returns-in-Err-clause-places t c = ?
-
--- src/run.rt:376:5
-pub read_members-loop-i-smaller : goal.read_members-loop-i-smaller
-read_members-loop-i-smaller t c = ?
+read_members-returns-in-Err-clause-places t c = c.in-Err.ensures.places ∙ c.loop-i.invariant.2
 
 -- src/run.rt:376:5
 pub read_members-loop-i-preserved : goal.read_members-loop-i-preserved
-read_members-loop-i-preserved t c = ?
+read_members-loop-i-preserved t c = 
+    (members_next c.args.reader.code.now c.args.reader.levels (components (kind_at c.args.reader.code.now c.args.reader.id.index)) c.args.sent.now c.loop-i.i _ (row_of_values c.loop-i.row.items) c.loop-i.progress.skipped c.loop-i.progress.left (bits_left c.loop-i.bits) (drop_more c.args.sent.now c.loop-i.i _ c.loop-i-test.true) (run_members c.args.reader.code.now c.args.reader.levels (run_value c.args.reader.code.now c.args.reader.levels) (components (kind_at c.args.reader.code.now c.args.reader.id.index)) c.args.sent.now (row_of_values c.args.row.now.items) c.args.progress.now.skipped c.args.progress.now.left (bits_left c.args.bits.now)) (row_of_values c.read_member.new.row.items) c.read_member.new.progress.skipped c.read_member.new.progress.left (bits_left c.read_member.new.bits) c.loop-i.invariant.0 c.in-Ok.ensures.ok,
+    went_on c.args.progress.now c.loop-i.progress c.read_member.new.progress (bits_left c.args.bits.now) (bits_left c.loop-i.bits) (bits_left c.read_member.new.bits) c.loop-i.invariant.1 c.in-Ok.ensures.went,
+    c.in-Ok.ensures.places ∙ c.loop-i.invariant.2)
 
 -- src/run.rt:350:1
 pub read_members-returns-clause-ok : goal.read_members-returns-clause-ok
-read_members-returns-clause-ok t c = ?
+read_members-returns-clause-ok t c = members_end c.args.reader.code.now c.args.reader.levels (components (kind_at c.args.reader.code.now c.args.reader.id.index)) c.args.sent.now c.loop-i.i (row_of_values c.loop-i.row.items) c.loop-i.progress.skipped c.loop-i.progress.left (bits_left c.loop-i.bits) (run_members c.args.reader.code.now c.args.reader.levels (run_value c.args.reader.code.now c.args.reader.levels) (components (kind_at c.args.reader.code.now c.args.reader.id.index)) c.args.sent.now (row_of_values c.args.row.now.items) c.args.progress.now.skipped c.args.progress.now.left (bits_left c.args.bits.now)) (let h = c.loop-i-test.false in omega (arith, h)) c.loop-i.invariant.0
 
 -- src/run.rt:350:1
 pub read_members-returns-clause-went : goal.read_members-returns-clause-went
-read_members-returns-clause-went t c = ?
+read_members-returns-clause-went t c = c.loop-i.invariant.1
 
 -- src/run.rt:350:1
 pub read_members-returns-clause-places : goal.read_members-returns-clause-places
-read_members-returns-clause-places t c = ?
+read_members-returns-clause-places t c = c.loop-i.invariant.2
 
 -- src/run.rt:251:22
 pub read_opened-returns-in-Err-clause-err : goal.read_opened-returns-in-Err-clause-err
@@ -752,222 +727,303 @@ read_parts-returns-clause-went t c = ?
 
 -- src/run.rt:170:13
 pub read_pick-core-requires : goal.read_pick-core-requires
-read_pick-core-requires t c = ?
+read_pick-core-requires t c = subst (λ q. c.args.reader.id.index < length q) (sym c.schema.ensures) c.requires.there
 
 -- src/run.rt:171:22
 pub read_pick-read_call-requires : goal.read_pick-read_call-requires
-read_pick-read_call-requires t c = ?
+read_pick-read_call-requires t c = calls_have_width c.args.reader.code.now c.args.reader.id.index (kind_of c.core.result.now) c.args.calls.now c.requires.pick (kind_found c.args.reader.code.now c.schema.result.now c.args.reader.id.index (kind_of c.core.result.now) c.core.ensures.is.0 c.schema.ensures c.core.ensures.is.1) (λ root more e h. c.has_few.ensures root more e h)
 
 -- src/run.rt:173:25
 pub read_pick-returns-in-Err-clause-err : goal.read_pick-returns-in-Err-clause-err
-read_pick-returns-in-Err-clause-err t c = ?
+read_pick-returns-in-Err-clause-err t c = 
+    stop_next (plain (call_from c.args.calls.now (bits_left c.args.bits.now))) (λ q r. run_chosen (run_value c.args.reader.code.now c.args.reader.levels) q c.args.progress.now.skipped c.args.progress.now.left r) c.at.result (bits_left c.read_call.new.bits)
+    (stop_at (plain (call_from c.args.calls.now (bits_left c.args.bits.now))) c.in-Err.refusal c.at.result (bits_left c.read_call.new.bits) (ap plain c.in-Err.ensures) c.at.ensures)
 
 -- src/run.rt:175:5
 pub read_pick-read_chosen-requires : goal.read_pick-read_chosen-requires
-read_pick-read_chosen-requires t c = ?
+read_pick-read_chosen-requires t c = 
+    let d = c.decreases in
+    let lt : 30 * c.args.reader.levels + 27 < t = omega (arith, d) in
+    (lt, (c.requires.few, call_room c.args.reader.code.now c.args.reader.id.index c.args.progress.now (bits_left c.args.bits.now) (bits_left c.read_call.new.bits) c.args.calls.now (chosen_of c.in-Ok.call) c.in-Ok.ensures c.requires.room))
 
 -- src/run.rt:148:1
 pub read_pick-returns-clause-ok : goal.read_pick-returns-clause-ok
-read_pick-returns-clause-ok t c = ?
+read_pick-returns-clause-ok t c = 
+    got_as c.read_chosen.result (onward (plain (call_from c.args.calls.now (bits_left c.args.bits.now))) (λ q r. run_chosen (run_value c.args.reader.code.now c.args.reader.levels) q c.args.progress.now.skipped c.args.progress.now.left r)) (run_chosen (run_value c.args.reader.code.now c.args.reader.levels) (chosen_of c.in-Ok.call) c.args.progress.now.skipped c.args.progress.now.left (bits_left c.read_call.new.bits)) c.read_chosen.new.progress (bits_left c.read_chosen.new.bits)
+    (ap (λ o. onward (plain o) (λ q r. run_chosen (run_value c.args.reader.code.now c.args.reader.levels) q c.args.progress.now.skipped c.args.progress.now.left r)) c.in-Ok.ensures) c.read_chosen.ensures.ok
 
 -- src/run.rt:148:1
 pub read_pick-returns-clause-err : goal.read_pick-returns-clause-err
-read_pick-returns-clause-err t c = ?
+read_pick-returns-clause-err t c = 
+    stops_as c.read_chosen.result (onward (plain (call_from c.args.calls.now (bits_left c.args.bits.now))) (λ q r. run_chosen (run_value c.args.reader.code.now c.args.reader.levels) q c.args.progress.now.skipped c.args.progress.now.left r)) (run_chosen (run_value c.args.reader.code.now c.args.reader.levels) (chosen_of c.in-Ok.call) c.args.progress.now.skipped c.args.progress.now.left (bits_left c.read_call.new.bits)) (bits_left c.read_chosen.new.bits)
+    (ap (λ o. onward (plain o) (λ q r. run_chosen (run_value c.args.reader.code.now c.args.reader.levels) q c.args.progress.now.skipped c.args.progress.now.left r)) c.in-Ok.ensures) c.read_chosen.ensures.err
 
 -- src/run.rt:148:1
 pub read_pick-returns-clause-went : goal.read_pick-returns-clause-went
-read_pick-returns-clause-went t c = ?
+read_pick-returns-clause-went t c = went_ok c.read_chosen.result c.args.progress.now c.args.progress.now c.read_chosen.new.progress (bits_left c.args.bits.now) (bits_left c.read_call.new.bits) (bits_left c.read_chosen.new.bits) (went_shorter c.args.progress.now (bits_left c.args.bits.now) (bits_left c.read_call.new.bits) (call_shorter c.args.calls.now (bits_left c.args.bits.now) (bits_left c.read_call.new.bits) (chosen_of c.in-Ok.call) c.in-Ok.ensures)) c.read_chosen.ensures.went
 
 -- src/run.rt:453:23
 pub read_present-read_value-requires : goal.read_present-read_value-requires
-read_present-read_value-requires t c = ?
+read_present-read_value-requires t c = 
+    let f = c.requires.few in
+    let d = c.decreases in
+    let lt : 30 * c.args.reader.levels < t = omega (arith, d) in
+    let few : c.args.reader.levels ≤ 64 = omega (arith, f) in
+    (lt, (few, c.requires.room))
 
 -- src/run.rt:462:22
 pub read_present-returns-in-Err-clause-err : goal.read_present-returns-in-Err-clause-err
-read_present-returns-in-Err-clause-err t c = ?
+read_present-returns-in-Err-clause-err t c = present_stop c.args.reader.code.now c.args.reader.levels (components (kind_at c.args.reader.code.now c.args.reader.id.index)) c.args.field (row_of_values c.args.row.now.items) c.args.progress.now.skipped c.args.progress.now.left (bits_left c.args.bits.now) c.in-Err.stop c.within.result (bits_left c.read_value.new.bits) c.in-Err.ensures.err c.within.ensures
 
 -- src/run.rt:462:22
 pub read_present-returns-in-Err-clause-places : goal.read_present-returns-in-Err-clause-places
-read_present-returns-in-Err-clause-places t c = ?
+read_present-returns-in-Err-clause-places t c = refl
 
 -- src/run.rt:465:12
 pub read_present-is_default-requires : goal.read_present-is_default-requires
-read_present-is_default-requires t c = ?
+read_present-is_default-requires t c = 
+    let r = is_component c.args.reader.code.now c.schema.result.now c.args.reader.id.index c.args.field c.args.reader.levels (abstract c.in-Ok.value) c.requires.fits c.schema.ensures c.requires.few (λ s' u m n' w h g. c.levels_grow.ensures s' u m n' w h g) c.in-Ok.ensures.value in
+    (r.0, r.1.0, r.1.1)
 
--- src/run.rt:469:9
-pub read_present-returns-then-is_default-clause-err :
-    goal.read_present-returns-then-is_default-clause-err
-read_present-returns-then-is_default-clause-err t c = ?
+pub read_present-returns-then-is_default-clause-err : goal.read_present-returns-then-is_default-clause-err
+read_present-returns-then-is_default-clause-err t c = 
+    present_same c.args.reader.code.now c.args.reader.levels (components (kind_at c.args.reader.code.now c.args.reader.id.index)) c.args.field (row_of_values c.args.row.now.items) c.args.progress.now.skipped c.args.progress.now.left (bits_left c.args.bits.now) (taken (abstract c.in-Ok.value) c.read_value.new.progress.skipped c.read_value.new.progress.left) (bits_left c.read_value.new.bits) c.at-stop.result c.within-then-is_default.result c.in-Ok.ensures.ok
+    (same_as_default c.args.reader.code.now c.args.reader.levels (components (kind_at c.args.reader.code.now c.args.reader.id.index)) c.args.field (row_of_values c.args.row.now.items) c.args.progress.now.skipped c.args.progress.now.left (bits_left c.args.bits.now) c.requires.fits.component (abstract c.in-Ok.value) c.read_value.new.progress.skipped c.read_value.new.progress.left c.is_default.result c.requires.fits.there c.if-progress-skipped.true (default_as c.args.reader.code.now c.schema.result.now c.args.reader.id.index c.args.field.place c.requires.fits.component (abstract c.in-Ok.value) c.is_default.result c.schema.ensures c.requires.fits.there c.is_default.ensures) c.if-is_default.true) c.at-stop.ensures c.within-then-is_default.ensures
 
--- src/run.rt:469:9
-pub read_present-returns-then-is_default-clause-places :
-    goal.read_present-returns-then-is_default-clause-places
-read_present-returns-then-is_default-clause-places t c = ?
+pub read_present-returns-then-is_default-clause-places : goal.read_present-returns-then-is_default-clause-places
+read_present-returns-then-is_default-clause-places t c = refl
+
 
 -- src/run.rt:471:5
 pub read_present-put-requires : goal.read_present-put-requires
-read_present-put-requires t c = ?
+read_present-put-requires t c = subst (λ q. c.args.field.place < q) (sym c.requires.places) (within_row (components (kind_at c.args.reader.code.now c.args.reader.id.index)) c.args.field.place c.requires.fits.component c.requires.fits.there)
 
 -- src/run.rt:424:1
 pub read_present-returns-clause-ok : goal.read_present-returns-clause-ok
-read_present-returns-clause-ok t c = ?
+read_present-returns-clause-ok t c = 
+    present_ok c.args.reader.code.now c.args.reader.levels (components (kind_at c.args.reader.code.now c.args.reader.id.index)) c.args.field (row_of_values c.args.row.now.items) c.args.progress.now.skipped c.args.progress.now.left (bits_left c.args.bits.now) (abstract c.in-Ok.value) c.read_value.new.progress.skipped c.read_value.new.progress.left (bits_left c.read_value.new.bits) (row_of_values c.put.new.row.items) c.in-Ok.ensures.ok
+    (elim c.else-progress-skipped.branch [
+      | read_present-else-progress-skipped-via-then-progress-skipped+else-is_default w ↦ no_default c.args.reader.code.now c.args.reader.levels (components (kind_at c.args.reader.code.now c.args.reader.id.index)) c.args.field (row_of_values c.args.row.now.items) c.args.progress.now.skipped c.args.progress.now.left (bits_left c.args.bits.now) c.requires.fits.component (abstract c.in-Ok.value) c.read_value.new.progress.skipped c.read_value.new.progress.left w.is_default.result c.requires.fits.there (default_as c.args.reader.code.now w.schema.result.now c.args.reader.id.index c.args.field.place c.requires.fits.component (abstract c.in-Ok.value) w.is_default.result w.schema.ensures c.requires.fits.there w.is_default.ensures) w.if-is_default.false
+      | read_present-else-progress-skipped-via-else-progress-skipped w ↦ some_skipped c.args.reader.code.now c.args.reader.levels (components (kind_at c.args.reader.code.now c.args.reader.id.index)) c.args.field (row_of_values c.args.row.now.items) c.args.progress.now.skipped c.args.progress.now.left (bits_left c.args.bits.now) (abstract c.in-Ok.value) c.read_value.new.progress.skipped c.read_value.new.progress.left w.if-progress-skipped.false
+    ]) c.put.ensures.row
 
 -- src/run.rt:424:1
 pub read_present-returns-clause-went : goal.read_present-returns-clause-went
-read_present-returns-clause-went t c = ?
+read_present-returns-clause-went t c = c.in-Ok.ensures.went
 
 -- src/run.rt:424:1
 pub read_present-returns-clause-places : goal.read_present-returns-clause-places
-read_present-returns-clause-places t c = ?
+read_present-returns-clause-places t c = c.put.ensures.length
 
 -- src/run.rt:332:25
 pub read_row-returns-in-Err-clause-err : goal.read_row-returns-in-Err-clause-err
-read_row-returns-in-Err-clause-err t c = ?
+read_row-returns-in-Err-clause-err t c = 
+    no_mark c.args.reader.code.now c.args.reader.levels (components (kind_at c.args.reader.code.now c.args.reader.id.index)) c.args.shape.extensible c.args.shape.count c.args.shape.steps.now c.args.progress.now.skipped c.args.progress.now.left (bits_left c.args.bits.now) c.at.result (bits_left c.read_mark.new.bits)
+    (stop_at (mark_from c.args.shape.extensible (bits_left c.args.bits.now)) c.in-Err.refusal c.at.result (bits_left c.read_mark.new.bits) c.in-Err.ensures.is c.at.ensures)
 
--- src/run.rt:336:22
-pub read_row-returns-in-Err-read_presences-clause-err :
-    goal.read_row-returns-in-Err-read_presences-clause-err
-read_row-returns-in-Err-read_presences-clause-err t c = ?
+pub read_row-returns-in-Err-read_presences-clause-err : goal.read_row-returns-in-Err-read_presences-clause-err
+read_row-returns-in-Err-read_presences-clause-err t c = 
+    no_presences c.args.reader.code.now c.args.reader.levels (components (kind_at c.args.reader.code.now c.args.reader.id.index)) c.args.shape.extensible c.args.shape.count c.args.shape.steps.now c.args.progress.now.skipped c.args.progress.now.left (bits_left c.args.bits.now) c.in-Ok.more (bits_left c.read_mark.new.bits) (bits_left c.read_presences.new.bits) (fields_in c.next.result.now) c.in-Err-read_presences.stop c.in-Ok.ensures.is (ap fields_in c.next.ensures ∙ fields_taken c.args.shape.count c.args.shape.steps.now) c.in-Err-read_presences.ensures.err
 
 -- src/run.rt:338:11
 pub read_row-read_members-requires : goal.read_row-read_members-requires
-read_row-read_members-requires t c = ?
+read_row-read_members-requires t c = 
+    let d = c.decreases in
+    let lt : 30 * c.args.reader.levels + 20 < t = omega (arith, d) in
+    (lt, (c.requires.few, (room_left c.args.progress.now c.args.progress.now (bits_left c.args.bits.now) (bits_left c.read_presences.new.bits) c.requires.room (went_on c.args.progress.now c.args.progress.now c.args.progress.now (bits_left c.args.bits.now) (bits_left c.read_mark.new.bits) (bits_left c.read_presences.new.bits) (went_shorter c.args.progress.now (bits_left c.args.bits.now) (bits_left c.read_mark.new.bits) c.in-Ok.ensures.shorter) (went_shorter c.args.progress.now (bits_left c.read_mark.new.bits) (bits_left c.read_presences.new.bits) c.in-Ok-read_presences.ensures.shorter)), ((subst (AreSent c.args.reader.code.now c.args.reader.id.index) (sym c.as_slice.ensures.value) (sent_fit c.args.reader.code.now c.args.reader.id.index c.in-Ok-read_presences.sent.items (fields_in c.next.result.now) c.in-Ok-read_presences.ensures.fields (fields_fit c.args.reader.code.now c.args.reader.id.index c.next.result.now (subst (FieldsFit c.args.reader.code.now c.args.reader.id.index) (sym c.next.ensures) (all_taken (FieldOf c.args.reader.code.now c.args.reader.id.index) c.args.shape.count c.args.shape.steps.now c.requires.fit))))), c.requires.places))))
 
--- src/run.rt:340:22
-pub read_row-returns-in-Err-read_members-clause-err :
-    goal.read_row-returns-in-Err-read_members-clause-err
-read_row-returns-in-Err-read_members-clause-err t c = ?
+pub read_row-returns-in-Err-read_members-clause-err : goal.read_row-returns-in-Err-read_members-clause-err
+read_row-returns-in-Err-read_members-clause-err t c = 
+    no_members c.args.reader.code.now c.args.reader.levels (components (kind_at c.args.reader.code.now c.args.reader.id.index)) c.args.shape.extensible c.args.shape.count c.args.shape.steps.now c.args.progress.now.skipped c.args.progress.now.left (bits_left c.args.bits.now) c.in-Ok.more (bits_left c.read_mark.new.bits) (bits_left c.read_presences.new.bits) (bits_left c.read_members.new.bits) (fields_in c.next.result.now) c.in-Ok-read_presences.sent.items (row_of_values c.args.row.now.items) c.in-Err-read_members.stop c.in-Ok.ensures.is (ap fields_in c.next.ensures ∙ fields_taken c.args.shape.count c.args.shape.steps.now) c.in-Ok-read_presences.ensures.ok c.requires.empty
+    (subst (λ xs. IsStop (run_members c.args.reader.code.now c.args.reader.levels (run_value c.args.reader.code.now c.args.reader.levels) (components (kind_at c.args.reader.code.now c.args.reader.id.index)) xs (row_of_values c.args.row.now.items) c.args.progress.now.skipped c.args.progress.now.left (bits_left c.read_presences.new.bits)) c.in-Err-read_members.stop (bits_left c.read_members.new.bits)) c.as_slice.ensures.value c.in-Err-read_members.ensures.err)
 
 -- src/run.rt:343:9
 pub read_row-read_extension-requires : goal.read_row-read_extension-requires
-read_row-read_extension-requires t c = ?
+read_row-read_extension-requires t c = 
+    let d = c.decreases in
+    let lt : 30 * c.args.reader.levels + 26 < t = omega (arith, d) in
+    (lt, (c.requires.few, (room_left c.args.progress.now c.read_members.new.progress (bits_left c.args.bits.now) (bits_left c.read_members.new.bits) c.requires.room (went_on c.args.progress.now c.args.progress.now c.read_members.new.progress (bits_left c.args.bits.now) (bits_left c.read_presences.new.bits) (bits_left c.read_members.new.bits) (went_on c.args.progress.now c.args.progress.now c.args.progress.now (bits_left c.args.bits.now) (bits_left c.read_mark.new.bits) (bits_left c.read_presences.new.bits) (went_shorter c.args.progress.now (bits_left c.args.bits.now) (bits_left c.read_mark.new.bits) c.in-Ok.ensures.shorter) (went_shorter c.args.progress.now (bits_left c.read_mark.new.bits) (bits_left c.read_presences.new.bits) c.in-Ok-read_presences.ensures.shorter)) c.in-Ok-read_members.ensures.went), (subst (FieldsFit c.args.reader.code.now c.args.reader.id.index) (sym c.past.ensures) (all_dropped (FieldOf c.args.reader.code.now c.args.reader.id.index) c.args.shape.count c.args.shape.steps.now c.requires.fit), c.in-Ok-read_members.ensures.places ∙ c.requires.places))))
 
 -- src/run.rt:329:1
 pub read_row-returns-then-more-clause-ok : goal.read_row-returns-then-more-clause-ok
-read_row-returns-then-more-clause-ok t c = ?
+read_row-returns-then-more-clause-ok t c = 
+    row_as c.read_extension.result (run_structure c.args.reader.code.now c.args.reader.levels (run_value c.args.reader.code.now c.args.reader.levels) (components (kind_at c.args.reader.code.now c.args.reader.id.index)) c.args.shape.extensible c.args.shape.count c.args.shape.steps.now c.args.progress.now.skipped c.args.progress.now.left (bits_left c.args.bits.now)) (run_rest c.args.reader.code.now c.args.reader.levels (run_value c.args.reader.code.now c.args.reader.levels) (components (kind_at c.args.reader.code.now c.args.reader.id.index)) true c.past.result.now (row_of_values c.read_members.new.row.items) c.read_members.new.progress.skipped c.read_members.new.progress.left (bits_left c.read_members.new.bits)) (row_of_values c.read_extension.new.row.items) c.read_extension.new.progress (bits_left c.read_extension.new.bits)
+    ((rest_is c.args.reader.code.now c.args.reader.levels (components (kind_at c.args.reader.code.now c.args.reader.id.index)) c.args.shape.extensible c.args.shape.count c.args.shape.steps.now c.args.progress.now.skipped c.args.progress.now.left (bits_left c.args.bits.now) c.in-Ok.more (bits_left c.read_mark.new.bits) (bits_left c.read_presences.new.bits) (bits_left c.read_members.new.bits) (fields_in c.next.result.now) c.in-Ok-read_presences.sent.items (row_of_values c.args.row.now.items) (row_of_values c.read_members.new.row.items) c.read_members.new.progress.skipped c.read_members.new.progress.left c.in-Ok.ensures.is (ap fields_in c.next.ensures ∙ fields_taken c.args.shape.count c.args.shape.steps.now) c.in-Ok-read_presences.ensures.ok c.requires.empty (subst (λ xs. run_members c.args.reader.code.now c.args.reader.levels (run_value c.args.reader.code.now c.args.reader.levels) (components (kind_at c.args.reader.code.now c.args.reader.id.index)) xs (row_of_values c.args.row.now.items) c.args.progress.now.skipped c.args.progress.now.left (bits_left c.read_presences.new.bits) ≡ read (taken (row_of_values c.read_members.new.row.items) c.read_members.new.progress.skipped c.read_members.new.progress.left) (bits_left c.read_members.new.bits)) c.as_slice.ensures.value c.in-Ok-read_members.ensures.ok)) ∙ ap (λ q. run_rest c.args.reader.code.now c.args.reader.levels (run_value c.args.reader.code.now c.args.reader.levels) (components (kind_at c.args.reader.code.now c.args.reader.id.index)) q (drop c.args.shape.count c.args.shape.steps.now) (row_of_values c.read_members.new.row.items) c.read_members.new.progress.skipped c.read_members.new.progress.left (bits_left c.read_members.new.bits)) c.if-more.true ∙ ap (λ q. run_rest c.args.reader.code.now c.args.reader.levels (run_value c.args.reader.code.now c.args.reader.levels) (components (kind_at c.args.reader.code.now c.args.reader.id.index)) true q (row_of_values c.read_members.new.row.items) c.read_members.new.progress.skipped c.read_members.new.progress.left (bits_left c.read_members.new.bits)) (sym c.past.ensures)) c.read_extension.ensures.ok
 
 -- src/run.rt:329:1
 pub read_row-returns-then-more-clause-err : goal.read_row-returns-then-more-clause-err
-read_row-returns-then-more-clause-err t c = ?
+read_row-returns-then-more-clause-err t c = 
+    stops_as c.read_extension.result (run_structure c.args.reader.code.now c.args.reader.levels (run_value c.args.reader.code.now c.args.reader.levels) (components (kind_at c.args.reader.code.now c.args.reader.id.index)) c.args.shape.extensible c.args.shape.count c.args.shape.steps.now c.args.progress.now.skipped c.args.progress.now.left (bits_left c.args.bits.now)) (run_rest c.args.reader.code.now c.args.reader.levels (run_value c.args.reader.code.now c.args.reader.levels) (components (kind_at c.args.reader.code.now c.args.reader.id.index)) true c.past.result.now (row_of_values c.read_members.new.row.items) c.read_members.new.progress.skipped c.read_members.new.progress.left (bits_left c.read_members.new.bits)) (bits_left c.read_extension.new.bits)
+    ((rest_is c.args.reader.code.now c.args.reader.levels (components (kind_at c.args.reader.code.now c.args.reader.id.index)) c.args.shape.extensible c.args.shape.count c.args.shape.steps.now c.args.progress.now.skipped c.args.progress.now.left (bits_left c.args.bits.now) c.in-Ok.more (bits_left c.read_mark.new.bits) (bits_left c.read_presences.new.bits) (bits_left c.read_members.new.bits) (fields_in c.next.result.now) c.in-Ok-read_presences.sent.items (row_of_values c.args.row.now.items) (row_of_values c.read_members.new.row.items) c.read_members.new.progress.skipped c.read_members.new.progress.left c.in-Ok.ensures.is (ap fields_in c.next.ensures ∙ fields_taken c.args.shape.count c.args.shape.steps.now) c.in-Ok-read_presences.ensures.ok c.requires.empty (subst (λ xs. run_members c.args.reader.code.now c.args.reader.levels (run_value c.args.reader.code.now c.args.reader.levels) (components (kind_at c.args.reader.code.now c.args.reader.id.index)) xs (row_of_values c.args.row.now.items) c.args.progress.now.skipped c.args.progress.now.left (bits_left c.read_presences.new.bits) ≡ read (taken (row_of_values c.read_members.new.row.items) c.read_members.new.progress.skipped c.read_members.new.progress.left) (bits_left c.read_members.new.bits)) c.as_slice.ensures.value c.in-Ok-read_members.ensures.ok)) ∙ ap (λ q. run_rest c.args.reader.code.now c.args.reader.levels (run_value c.args.reader.code.now c.args.reader.levels) (components (kind_at c.args.reader.code.now c.args.reader.id.index)) q (drop c.args.shape.count c.args.shape.steps.now) (row_of_values c.read_members.new.row.items) c.read_members.new.progress.skipped c.read_members.new.progress.left (bits_left c.read_members.new.bits)) c.if-more.true ∙ ap (λ q. run_rest c.args.reader.code.now c.args.reader.levels (run_value c.args.reader.code.now c.args.reader.levels) (components (kind_at c.args.reader.code.now c.args.reader.id.index)) true q (row_of_values c.read_members.new.row.items) c.read_members.new.progress.skipped c.read_members.new.progress.left (bits_left c.read_members.new.bits)) (sym c.past.ensures)) c.read_extension.ensures.err
 
 -- src/run.rt:329:1
 pub read_row-returns-then-more-clause-went : goal.read_row-returns-then-more-clause-went
-read_row-returns-then-more-clause-went t c = ?
+read_row-returns-then-more-clause-went t c = went_done c.read_extension.result c.args.progress.now c.read_members.new.progress c.read_extension.new.progress (bits_left c.args.bits.now) (bits_left c.read_members.new.bits) (bits_left c.read_extension.new.bits) (went_on c.args.progress.now c.args.progress.now c.read_members.new.progress (bits_left c.args.bits.now) (bits_left c.read_presences.new.bits) (bits_left c.read_members.new.bits) (went_on c.args.progress.now c.args.progress.now c.args.progress.now (bits_left c.args.bits.now) (bits_left c.read_mark.new.bits) (bits_left c.read_presences.new.bits) (went_shorter c.args.progress.now (bits_left c.args.bits.now) (bits_left c.read_mark.new.bits) c.in-Ok.ensures.shorter) (went_shorter c.args.progress.now (bits_left c.read_mark.new.bits) (bits_left c.read_presences.new.bits) c.in-Ok-read_presences.ensures.shorter)) c.in-Ok-read_members.ensures.went) c.read_extension.ensures.went
 
 -- src/run.rt:304:1
 pub read_row-returns-clause-ok : goal.read_row-returns-clause-ok
-read_row-returns-clause-ok t c = ?
+read_row-returns-clause-ok t c = (rest_is c.args.reader.code.now c.args.reader.levels (components (kind_at c.args.reader.code.now c.args.reader.id.index)) c.args.shape.extensible c.args.shape.count c.args.shape.steps.now c.args.progress.now.skipped c.args.progress.now.left (bits_left c.args.bits.now) c.in-Ok.more (bits_left c.read_mark.new.bits) (bits_left c.read_presences.new.bits) (bits_left c.read_members.new.bits) (fields_in c.next.result.now) c.in-Ok-read_presences.sent.items (row_of_values c.args.row.now.items) (row_of_values c.read_members.new.row.items) c.read_members.new.progress.skipped c.read_members.new.progress.left c.in-Ok.ensures.is (ap fields_in c.next.ensures ∙ fields_taken c.args.shape.count c.args.shape.steps.now) c.in-Ok-read_presences.ensures.ok c.requires.empty (subst (λ xs. run_members c.args.reader.code.now c.args.reader.levels (run_value c.args.reader.code.now c.args.reader.levels) (components (kind_at c.args.reader.code.now c.args.reader.id.index)) xs (row_of_values c.args.row.now.items) c.args.progress.now.skipped c.args.progress.now.left (bits_left c.read_presences.new.bits) ≡ read (taken (row_of_values c.read_members.new.row.items) c.read_members.new.progress.skipped c.read_members.new.progress.left) (bits_left c.read_members.new.bits)) c.as_slice.ensures.value c.in-Ok-read_members.ensures.ok)) ∙ ap (λ q. run_rest c.args.reader.code.now c.args.reader.levels (run_value c.args.reader.code.now c.args.reader.levels) (components (kind_at c.args.reader.code.now c.args.reader.id.index)) q (drop c.args.shape.count c.args.shape.steps.now) (row_of_values c.read_members.new.row.items) c.read_members.new.progress.skipped c.read_members.new.progress.left (bits_left c.read_members.new.bits)) c.if-more.false
 
 -- src/run.rt:304:1
 pub read_row-returns-clause-went : goal.read_row-returns-clause-went
-read_row-returns-clause-went t c = ?
+read_row-returns-clause-went t c = (went_on c.args.progress.now c.args.progress.now c.read_members.new.progress (bits_left c.args.bits.now) (bits_left c.read_presences.new.bits) (bits_left c.read_members.new.bits) (went_on c.args.progress.now c.args.progress.now c.args.progress.now (bits_left c.args.bits.now) (bits_left c.read_mark.new.bits) (bits_left c.read_presences.new.bits) (went_shorter c.args.progress.now (bits_left c.args.bits.now) (bits_left c.read_mark.new.bits) c.in-Ok.ensures.shorter) (went_shorter c.args.progress.now (bits_left c.read_mark.new.bits) (bits_left c.read_presences.new.bits) c.in-Ok-read_presences.ensures.shorter)) c.in-Ok-read_members.ensures.went)
 
 -- src/run.rt:114:32
 pub read_steps-read_fields-requires : goal.read_steps-read_fields-requires
-read_steps-read_fields-requires t c = ?
+read_steps-read_fields-requires t c = 
+    let d = c.decreases in
+    let lt : 30 * c.args.reader.levels + 28 < t = omega (arith, d) in
+    let there = type_there c.args.reader.code.now c.args.reader.id.index c.steps.result.now c.plan_of.result (plans.Fields c.in-Fields.shape) c.steps.ensures c.in-Fields.is c.plan_of.ensures.some (λ h. h) in
+    (lt, (c.requires.few, (c.requires.room, (there, fits_as c.args.reader.code.now c.args.reader.id.index c.steps.result.now c.plan_of.result (plans.Fields c.in-Fields.shape) c.steps.ensures c.in-Fields.is (c.plan_of.ensures.fits c.args.reader.code.now c.args.reader.id.index) (c.routines_fit.ensures c.args.reader.code.now c.args.reader.id.index)))))
 
 -- src/run.rt:115:40
 pub read_steps-read_each-requires : goal.read_steps-read_each-requires
-read_steps-read_each-requires t c = ?
+read_steps-read_each-requires t c = 
+    let d = c.decreases in
+    let lt : 30 * c.args.reader.levels + 28 < t = omega (arith, d) in
+    (lt, (c.requires.few, (c.requires.room, fits_as c.args.reader.code.now c.args.reader.id.index c.steps.result.now c.plan_of.result (plans.List c.in-List.element c.in-List.sorted) c.steps.ensures c.in-List.is (c.plan_of.ensures.fits c.args.reader.code.now c.args.reader.id.index) (c.routines_fit.ensures c.args.reader.code.now c.args.reader.id.index))))
 
 -- src/run.rt:116:32
 pub read_steps-read_pick-requires : goal.read_steps-read_pick-requires
-read_steps-read_pick-requires t c = ?
+read_steps-read_pick-requires t c = 
+    let d = c.decreases in
+    let lt : 30 * c.args.reader.levels + 28 < t = omega (arith, d) in
+    let there = type_there c.args.reader.code.now c.args.reader.id.index c.steps.result.now c.plan_of.result (plans.Choice c.in-Choice.calls) c.steps.ensures c.in-Choice.is c.plan_of.ensures.some (λ h. h) in
+    (lt, (c.requires.few, (c.requires.room, (fits_as c.args.reader.code.now c.args.reader.id.index c.steps.result.now c.plan_of.result (plans.Choice c.in-Choice.calls) c.steps.ensures c.in-Choice.is (c.plan_of.ensures.fits c.args.reader.code.now c.args.reader.id.index) (c.routines_fit.ensures c.args.reader.code.now c.args.reader.id.index), there))))
 
 -- src/run.rt:117:23
 pub read_steps-read_contents-requires : goal.read_steps-read_contents-requires
-read_steps-read_contents-requires t c = ?
+read_steps-read_contents-requires t c = 
+    record { there = type_there c.args.reader.code.now c.args.reader.id.index c.steps.result.now c.plan_of.result plans.Leaf c.steps.ensures c.in-Leaf.is c.plan_of.ensures.some (λ h. h) }
 
 -- src/run.rt:92:1
 pub read_steps-returns-in-Fields-clause-ok : goal.read_steps-returns-in-Fields-clause-ok
-read_steps-returns-in-Fields-clause-ok t c = ?
+read_steps-returns-in-Fields-clause-ok t c = 
+    got_as c.read_fields.result (run_steps c.args.reader.code.now c.args.reader.levels (run_value c.args.reader.code.now c.args.reader.levels) c.args.reader.id.index (routine_at c.args.reader.code.now c.args.reader.id.index) c.args.progress.now.skipped c.args.progress.now.left (bits_left c.args.bits.now)) (run_plan c.args.reader.code.now c.args.reader.levels (run_value c.args.reader.code.now c.args.reader.levels) c.args.reader.id.index (plans.Fields c.in-Fields.shape) c.args.progress.now.skipped c.args.progress.now.left (bits_left c.args.bits.now)) c.read_fields.new.progress (bits_left c.read_fields.new.bits)
+    (as_plan c.args.reader.code.now c.args.reader.levels c.args.reader.id.index c.args.progress.now.skipped c.args.progress.now.left (bits_left c.args.bits.now) c.steps.result.now c.plan_of.result (plans.Fields c.in-Fields.shape) c.steps.ensures c.plan_of.ensures.is c.in-Fields.is) c.read_fields.ensures.ok
 
 -- src/run.rt:92:1
 pub read_steps-returns-in-Fields-clause-err : goal.read_steps-returns-in-Fields-clause-err
-read_steps-returns-in-Fields-clause-err t c = ?
+read_steps-returns-in-Fields-clause-err t c = 
+    stops_as c.read_fields.result (run_steps c.args.reader.code.now c.args.reader.levels (run_value c.args.reader.code.now c.args.reader.levels) c.args.reader.id.index (routine_at c.args.reader.code.now c.args.reader.id.index) c.args.progress.now.skipped c.args.progress.now.left (bits_left c.args.bits.now)) (run_plan c.args.reader.code.now c.args.reader.levels (run_value c.args.reader.code.now c.args.reader.levels) c.args.reader.id.index (plans.Fields c.in-Fields.shape) c.args.progress.now.skipped c.args.progress.now.left (bits_left c.args.bits.now)) (bits_left c.read_fields.new.bits)
+    (as_plan c.args.reader.code.now c.args.reader.levels c.args.reader.id.index c.args.progress.now.skipped c.args.progress.now.left (bits_left c.args.bits.now) c.steps.result.now c.plan_of.result (plans.Fields c.in-Fields.shape) c.steps.ensures c.plan_of.ensures.is c.in-Fields.is) c.read_fields.ensures.err
 
 -- src/run.rt:92:1
 pub read_steps-returns-in-Fields-clause-went : goal.read_steps-returns-in-Fields-clause-went
-read_steps-returns-in-Fields-clause-went t c = ?
+read_steps-returns-in-Fields-clause-went t c = c.read_fields.ensures.went
 
 -- src/run.rt:92:1
 pub read_steps-returns-in-List-clause-ok : goal.read_steps-returns-in-List-clause-ok
-read_steps-returns-in-List-clause-ok t c = ?
+read_steps-returns-in-List-clause-ok t c = 
+    got_as c.read_each.result (run_steps c.args.reader.code.now c.args.reader.levels (run_value c.args.reader.code.now c.args.reader.levels) c.args.reader.id.index (routine_at c.args.reader.code.now c.args.reader.id.index) c.args.progress.now.skipped c.args.progress.now.left (bits_left c.args.bits.now)) (run_plan c.args.reader.code.now c.args.reader.levels (run_value c.args.reader.code.now c.args.reader.levels) c.args.reader.id.index (plans.List c.in-List.element c.in-List.sorted) c.args.progress.now.skipped c.args.progress.now.left (bits_left c.args.bits.now)) c.read_each.new.progress (bits_left c.read_each.new.bits)
+    (as_plan c.args.reader.code.now c.args.reader.levels c.args.reader.id.index c.args.progress.now.skipped c.args.progress.now.left (bits_left c.args.bits.now) c.steps.result.now c.plan_of.result (plans.List c.in-List.element c.in-List.sorted) c.steps.ensures c.plan_of.ensures.is c.in-List.is) c.read_each.ensures.ok
 
 -- src/run.rt:92:1
 pub read_steps-returns-in-List-clause-err : goal.read_steps-returns-in-List-clause-err
-read_steps-returns-in-List-clause-err t c = ?
+read_steps-returns-in-List-clause-err t c = 
+    stops_as c.read_each.result (run_steps c.args.reader.code.now c.args.reader.levels (run_value c.args.reader.code.now c.args.reader.levels) c.args.reader.id.index (routine_at c.args.reader.code.now c.args.reader.id.index) c.args.progress.now.skipped c.args.progress.now.left (bits_left c.args.bits.now)) (run_plan c.args.reader.code.now c.args.reader.levels (run_value c.args.reader.code.now c.args.reader.levels) c.args.reader.id.index (plans.List c.in-List.element c.in-List.sorted) c.args.progress.now.skipped c.args.progress.now.left (bits_left c.args.bits.now)) (bits_left c.read_each.new.bits)
+    (as_plan c.args.reader.code.now c.args.reader.levels c.args.reader.id.index c.args.progress.now.skipped c.args.progress.now.left (bits_left c.args.bits.now) c.steps.result.now c.plan_of.result (plans.List c.in-List.element c.in-List.sorted) c.steps.ensures c.plan_of.ensures.is c.in-List.is) c.read_each.ensures.err
 
 -- src/run.rt:92:1
 pub read_steps-returns-in-List-clause-went : goal.read_steps-returns-in-List-clause-went
-read_steps-returns-in-List-clause-went t c = ?
+read_steps-returns-in-List-clause-went t c = c.read_each.ensures.went
 
 -- src/run.rt:92:1
 pub read_steps-returns-in-Choice-clause-ok : goal.read_steps-returns-in-Choice-clause-ok
-read_steps-returns-in-Choice-clause-ok t c = ?
+read_steps-returns-in-Choice-clause-ok t c = 
+    got_as c.read_pick.result (run_steps c.args.reader.code.now c.args.reader.levels (run_value c.args.reader.code.now c.args.reader.levels) c.args.reader.id.index (routine_at c.args.reader.code.now c.args.reader.id.index) c.args.progress.now.skipped c.args.progress.now.left (bits_left c.args.bits.now)) (run_plan c.args.reader.code.now c.args.reader.levels (run_value c.args.reader.code.now c.args.reader.levels) c.args.reader.id.index (plans.Choice c.in-Choice.calls) c.args.progress.now.skipped c.args.progress.now.left (bits_left c.args.bits.now)) c.read_pick.new.progress (bits_left c.read_pick.new.bits)
+    (as_plan c.args.reader.code.now c.args.reader.levels c.args.reader.id.index c.args.progress.now.skipped c.args.progress.now.left (bits_left c.args.bits.now) c.steps.result.now c.plan_of.result (plans.Choice c.in-Choice.calls) c.steps.ensures c.plan_of.ensures.is c.in-Choice.is) c.read_pick.ensures.ok
 
 -- src/run.rt:92:1
 pub read_steps-returns-in-Choice-clause-err : goal.read_steps-returns-in-Choice-clause-err
-read_steps-returns-in-Choice-clause-err t c = ?
+read_steps-returns-in-Choice-clause-err t c = 
+    stops_as c.read_pick.result (run_steps c.args.reader.code.now c.args.reader.levels (run_value c.args.reader.code.now c.args.reader.levels) c.args.reader.id.index (routine_at c.args.reader.code.now c.args.reader.id.index) c.args.progress.now.skipped c.args.progress.now.left (bits_left c.args.bits.now)) (run_plan c.args.reader.code.now c.args.reader.levels (run_value c.args.reader.code.now c.args.reader.levels) c.args.reader.id.index (plans.Choice c.in-Choice.calls) c.args.progress.now.skipped c.args.progress.now.left (bits_left c.args.bits.now)) (bits_left c.read_pick.new.bits)
+    (as_plan c.args.reader.code.now c.args.reader.levels c.args.reader.id.index c.args.progress.now.skipped c.args.progress.now.left (bits_left c.args.bits.now) c.steps.result.now c.plan_of.result (plans.Choice c.in-Choice.calls) c.steps.ensures c.plan_of.ensures.is c.in-Choice.is) c.read_pick.ensures.err
 
 -- src/run.rt:92:1
 pub read_steps-returns-in-Choice-clause-went : goal.read_steps-returns-in-Choice-clause-went
-read_steps-returns-in-Choice-clause-went t c = ?
+read_steps-returns-in-Choice-clause-went t c = c.read_pick.ensures.went
 
 -- src/run.rt:92:1
 pub read_steps-returns-in-Leaf-clause-ok : goal.read_steps-returns-in-Leaf-clause-ok
-read_steps-returns-in-Leaf-clause-ok t c = ?
+read_steps-returns-in-Leaf-clause-ok t c = 
+    got_as c.read_contents.result (run_steps c.args.reader.code.now c.args.reader.levels (run_value c.args.reader.code.now c.args.reader.levels) c.args.reader.id.index (routine_at c.args.reader.code.now c.args.reader.id.index) c.args.progress.now.skipped c.args.progress.now.left (bits_left c.args.bits.now)) (run_plan c.args.reader.code.now c.args.reader.levels (run_value c.args.reader.code.now c.args.reader.levels) c.args.reader.id.index (plans.Leaf) c.args.progress.now.skipped c.args.progress.now.left (bits_left c.args.bits.now)) c.args.progress.now (bits_left c.read_contents.new.bits)
+    (as_plan c.args.reader.code.now c.args.reader.levels c.args.reader.id.index c.args.progress.now.skipped c.args.progress.now.left (bits_left c.args.bits.now) c.steps.result.now c.plan_of.result (plans.Leaf) c.steps.ensures c.plan_of.ensures.is c.in-Leaf.is) c.read_contents.ensures.ok
 
 -- src/run.rt:92:1
 pub read_steps-returns-in-Leaf-clause-err : goal.read_steps-returns-in-Leaf-clause-err
-read_steps-returns-in-Leaf-clause-err t c = ?
+read_steps-returns-in-Leaf-clause-err t c = 
+    stops_as c.read_contents.result (run_steps c.args.reader.code.now c.args.reader.levels (run_value c.args.reader.code.now c.args.reader.levels) c.args.reader.id.index (routine_at c.args.reader.code.now c.args.reader.id.index) c.args.progress.now.skipped c.args.progress.now.left (bits_left c.args.bits.now)) (run_plan c.args.reader.code.now c.args.reader.levels (run_value c.args.reader.code.now c.args.reader.levels) c.args.reader.id.index (plans.Leaf) c.args.progress.now.skipped c.args.progress.now.left (bits_left c.args.bits.now)) (bits_left c.read_contents.new.bits)
+    (as_plan c.args.reader.code.now c.args.reader.levels c.args.reader.id.index c.args.progress.now.skipped c.args.progress.now.left (bits_left c.args.bits.now) c.steps.result.now c.plan_of.result (plans.Leaf) c.steps.ensures c.plan_of.ensures.is c.in-Leaf.is) c.read_contents.ensures.err
 
 -- src/run.rt:92:1
 pub read_steps-returns-in-Leaf-clause-went : goal.read_steps-returns-in-Leaf-clause-went
-read_steps-returns-in-Leaf-clause-went t c = ?
+read_steps-returns-in-Leaf-clause-went t c = shorter_ok c.read_contents.result c.args.progress.now (bits_left c.args.bits.now) (bits_left c.read_contents.new.bits) c.read_contents.ensures.shorter
 
 -- src/run.rt:92:1
 pub read_steps-returns-in-Nothing-clause-err : goal.read_steps-returns-in-Nothing-clause-err
-read_steps-returns-in-Nothing-clause-err t c = ?
+read_steps-returns-in-Nothing-clause-err t c = 
+    stop_at (run_steps c.args.reader.code.now c.args.reader.levels (run_value c.args.reader.code.now c.args.reader.levels) c.args.reader.id.index (routine_at c.args.reader.code.now c.args.reader.id.index) c.args.progress.now.skipped c.args.progress.now.left (bits_left c.args.bits.now)) why.Outside c.at.result (bits_left c.args.bits.now)
+    (as_plan c.args.reader.code.now c.args.reader.levels c.args.reader.id.index c.args.progress.now.skipped c.args.progress.now.left (bits_left c.args.bits.now) c.steps.result.now c.plan_of.result (plans.Nothing) c.steps.ensures c.plan_of.ensures.is c.in-Nothing.is) c.at.ensures
 
 -- src/run.rt:75:9
 pub read_value-returns-then-reader-eq0-clause-err :
     goal.read_value-returns-then-reader-eq0-clause-err
-read_value-returns-then-reader-eq0-clause-err t c = ?
+read_value-returns-then-reader-eq0-clause-err t c = 
+    stop_at (run_value c.args.reader.code.now c.args.reader.levels c.args.reader.id.index c.args.progress.now.skipped c.args.progress.now.left (bits_left c.args.bits.now)) why.TooDeep c.at.result (bits_left c.args.bits.now)
+    (value_deep c.args.reader.code.now c.args.reader.levels c.args.reader.id.index c.args.progress.now.skipped c.args.progress.now.left (bits_left c.args.bits.now) (let h = c.if-reader-eq0.true in omega (arith, h))) c.at.ensures
 
 -- src/run.rt:78:9
 pub read_value-returns-then-progress-eq0-clause-err :
     goal.read_value-returns-then-progress-eq0-clause-err
-read_value-returns-then-progress-eq0-clause-err t c = ?
+read_value-returns-then-progress-eq0-clause-err t c = 
+    stop_at (run_value c.args.reader.code.now c.args.reader.levels c.args.reader.id.index c.args.progress.now.skipped c.args.progress.now.left (bits_left c.args.bits.now)) why.NodesLimit c.at-then-progress-eq0.result (bits_left c.args.bits.now)
+    (value_full c.args.reader.code.now c.args.reader.levels c.args.reader.id.index c.args.progress.now.skipped c.args.progress.now.left (bits_left c.args.bits.now) (let h = c.if-reader-eq0.false in omega (arith, h)) (let h = c.if-progress-eq0.true in omega (arith, h))) c.at-then-progress-eq0.ensures
 
 -- src/run.rt:80:5
 pub read_value-overflow_sub-progress : goal.read_value-overflow_sub-progress
-read_value-overflow_sub-progress t c = ?
+read_value-overflow_sub-progress t c = let h = c.if-progress-eq0.false in omega (arith, h)
 
 -- src/run.rt:83:21
 pub read_value-overflow_sub-reader : goal.read_value-overflow_sub-reader
-read_value-overflow_sub-reader t c = ?
+read_value-overflow_sub-reader t c = let h = c.if-reader-eq0.false in omega (arith, h)
 
 -- src/run.rt:81:5
 pub read_value-read_steps-requires : goal.read_value-read_steps-requires
-read_value-read_steps-requires t c = ?
+read_value-read_steps-requires t c = 
+    let h = c.if-reader-eq0.false in
+    let d = c.decreases in
+    let f = c.requires.few in
+    let lt : 30 * (c.args.reader.levels - 1) + 29 < t = omega (arith, h, d) in
+    let few : c.args.reader.levels - 1 ≤ 63 = omega (arith, f) in
+    (lt, (few, c.requires.room))
 
 -- src/run.rt:52:1
 pub read_value-returns-clause-ok : goal.read_value-returns-clause-ok
-read_value-returns-clause-ok t c = ?
+read_value-returns-clause-ok t c = got_as c.read_steps.result (run_value c.args.reader.code.now c.args.reader.levels c.args.reader.id.index c.args.progress.now.skipped c.args.progress.now.left (bits_left c.args.bits.now)) (run_steps c.args.reader.code.now (c.args.reader.levels - 1) (run_value c.args.reader.code.now (c.args.reader.levels - 1)) c.args.reader.id.index (routine_at c.args.reader.code.now c.args.reader.id.index) c.args.progress.now.skipped (c.args.progress.now.left - 1) (bits_left c.args.bits.now)) c.read_steps.new.progress (bits_left c.read_steps.new.bits) (as_steps c) c.read_steps.ensures.ok
 
 -- src/run.rt:52:1
 pub read_value-returns-clause-err : goal.read_value-returns-clause-err
-read_value-returns-clause-err t c = ?
+read_value-returns-clause-err t c = stops_as c.read_steps.result (run_value c.args.reader.code.now c.args.reader.levels c.args.reader.id.index c.args.progress.now.skipped c.args.progress.now.left (bits_left c.args.bits.now)) (run_steps c.args.reader.code.now (c.args.reader.levels - 1) (run_value c.args.reader.code.now (c.args.reader.levels - 1)) c.args.reader.id.index (routine_at c.args.reader.code.now c.args.reader.id.index) c.args.progress.now.skipped (c.args.progress.now.left - 1) (bits_left c.args.bits.now)) (bits_left c.read_steps.new.bits) (as_steps c) c.read_steps.ensures.err
 
 -- src/run.rt:52:1
 pub read_value-returns-clause-went : goal.read_value-returns-clause-went
-read_value-returns-clause-went t c = ?
+read_value-returns-clause-went t c = went_value c.read_steps.result c.args.progress.now c.read_steps.new.progress (bits_left c.args.bits.now) (bits_left c.read_steps.new.bits) (let h = c.if-progress-eq0.false in omega (arith, h)) c.read_steps.ensures.went
 
 -- src/run.rt:52:1
 pub read_value-returns-clause-fewer : goal.read_value-returns-clause-fewer
-read_value-returns-clause-fewer t c = ?
+read_value-returns-clause-fewer t c = fewer_value c.read_steps.result c.args.progress.now c.read_steps.new.progress (bits_left c.args.bits.now) (bits_left c.read_steps.new.bits) (let h = c.if-progress-eq0.false in omega (arith, h)) c.read_steps.ensures.went
 
 -- src/run.rt:52:1
 pub read_value-returns-clause-value : goal.read_value-returns-clause-value
-read_value-returns-clause-value t c = ?
+read_value-returns-clause-value t c = 
+    let s = c.args.reader.code.now in
+    let l = c.args.reader.levels in
+    let u = c.args.reader.id.index in
+    let n = c.args.progress.now.left in
+    let b = bits_left c.args.bits.now in
+    value_of c.read_steps.result s l u c.args.progress.now.skipped n b (bits_left c.read_steps.new.bits) c.read_steps.new.progress
+    (c.value_laws.ensures s l u n c.accepted.ensures) (c.step_laws.ensures s l u n b c.accepted.ensures) (run_steps c.args.reader.code.now (c.args.reader.levels - 1) (run_value c.args.reader.code.now (c.args.reader.levels - 1)) c.args.reader.id.index (routine_at c.args.reader.code.now c.args.reader.id.index) c.args.progress.now.skipped (c.args.progress.now.left - 1) (bits_left c.args.bits.now)) (as_steps c) c.read_steps.ensures.ok
+
+pub read_fields-returns-in-Err-read_row-clause-err : goal.read_fields-returns-in-Err-read_row-clause-err
+read_fields-returns-in-Err-read_row-clause-err t c = stop_next (run_structure c.args.reader.code.now c.args.reader.levels (run_value c.args.reader.code.now c.args.reader.levels) (components (kind_at c.args.reader.code.now c.args.reader.id.index)) c.args.shape.extensible c.args.shape.count c.args.shape.steps.now c.args.progress.now.skipped c.args.progress.now.left (bits_left c.args.bits.now)) (λ w r. read (as_fields w) r) c.in-Err-read_row.stop (bits_left c.read_row.new.bits) c.in-Err-read_row.ensures.err
