@@ -1,9 +1,9 @@
 -- Elements of a list, as calls read them.
-use Rattle.std.proofs.Common.{arith, ◌≡◌, ◌≤◌, ◌<◌, ◌+◌, ◌-◌, ◌*◌, ◌^◌, ◌∷◌, ◌++◌, [], ℕ, zero, suc, Bool, true, false, cond, List, Option, length, map, take, refl, sym, ap, subst, ◌∙◌}
+use Rattle.std.proofs.Common.{arith, ◌≡◌, ◌≤◌, ◌<◌, ◌+◌, ◌-◌, ◌*◌, ◌^◌, ◌∷◌, ◌++◌, [], ℕ, zero, suc, Bool, true, false, cond, List, Option, ◌⊎◌, inl, inr, length, take, refl, sym, ap, subst, ◌∙◌}
 use Rattle.std.specs.Prelude.{if◌then◌else◌, not, ◌||◌, Result, Ok, Err, IfErr, IfOk, OnOk, IsErrAnd}
 use Rattle.std.proofs.lemmas.Result.{err_from_is_err_and}
 use Rattle.asn_base.specs.Abstract.{AbstractValue, list, row_of_list, present}
-use Rattle.asn_base.specs.Types.{Constraint, Kind, Resolved, TypeNumber}
+use Rattle.asn_base.specs.Types.{Constraint, Resolved, TypeNumber, a_sequence_of, a_set_of}
 use Rattle.packed_encodings.specs.Computed.{kind_at}
 use Rattle.packed_encodings.specs.Lengths.{Bits}
 use Rattle.packed_readings.specs.declared.refusal.Refusal.{Refusal}
@@ -33,18 +33,19 @@ memory_stops o b r h =
     let p = err_from_is_err_and r h in
     subst (λ q. IfErr q (λ e. IsStop o e b)) (sym p.1) (subst (λ e. IsStop o e b) (sym p.2) tt)
 
-pub nothing_returned : {T E : Type 0} {Q : E → Type 0} (P : Type 0) (r : Result T E) → IsErrAnd r Q → OnOk r P
+pub nothing_returned : {T : Type 0} (P : Type 0) (r : Result T Stop) → IsErrAnd r (λ e. e ≡ Memory) → OnOk r P
 nothing_returned P r h =
     let p = err_from_is_err_and r h in
     subst (λ q. OnOk q P) (sym p.1) tt
 
-pub returned_so : {T E : Type 0} {P Q : Type 0} (r : Result T E) → (P → Q) → OnOk r P → OnOk r Q
-returned_so (Ok v) f h = f h
-returned_so (Err e) f h = tt
+module _ {X T : Type 0} (o q : Reading X) (same : o ≡ q) where
+  pub returned_as : (x : Reading X) (r : Result T Stop) → OnOk r (q ≡ x) → OnOk r (o ≡ x)
+  returned_as x (Ok v) h = same ∙ h
+  returned_as x (Err e) h = tt
 
-pub refused_so : {X Y T : Type 0} (o : Reading X) (q : Reading Y) (b : Bits) (r : Result T Stop) → ((e : Stop) → IsStop o e b → IsStop q e b) → IfErr r (λ e. IsStop o e b) → IfErr r (λ e. IsStop q e b)
-refused_so o q b (Ok v) f h = tt
-refused_so o q b (Err e) f h = f e h
+  pub refused_as : (b : Bits) (r : Result T Stop) → IfErr r (λ e. IsStop q e b) → IfErr r (λ e. IsStop o e b)
+  refused_as b (Ok v) h = tt
+  refused_as b (Err e) h = stop_as o q e b same h
 
 -- ---- how much is left
 
@@ -72,6 +73,10 @@ went_before p q b m r l w =
     let d = w.room in
     record { left = w.left; room = omega (arith, d, l) }
 
+pub all_before : {T : Type 0} (p q : Progress) (b m r : Bits) (o : Result T Stop) → length m ≤ length b → OnOk o (Went p m q r) → OnOk o (Went p b q r)
+all_before p q b m r (Ok v) l w = went_before p q b m r l w
+all_before p q b m r (Err e) l w = tt
+
 pub room_before : (p : Progress) (b m : Bits) → length m ≤ length b → HasRoom p b → HasRoom p m
 room_before p b m l h = omega (arith, l, h)
 
@@ -87,7 +92,7 @@ rows_are (v ∷ vs) = ap (present v) (rows_are vs)
 pub size_is : (s r : List Resolved) (t : ℕ) (c : Constraint) → r ≡ s → IsListOf r t c → size_in (kind_at s t) ≡ c
 size_is s r t c e l = ap (λ q. size_in (kind_at q t)) (sym e) ∙ by l.kind
   where
-    by : _ → size_in (kind_at r t) ≡ c
+    by : (kind_at r t ≡ a_sequence_of c l.element) ⊎ (kind_at r t ≡ a_set_of c l.element) → size_in (kind_at r t) ≡ c
     by (inl h) = ap size_in h
     by (inr h) = ap size_in h
 
@@ -180,7 +185,7 @@ module _ (value : RunsElement) (sorted : Bool) where
   elements_none m es p b =
       let e : m - 0 ≡ m = omega arith in
       let l : p.left + 0 ≤ p.left = omega arith in
-      (ap (λ q. run_elements value sorted q es p.skipped p.left b) e, (went_same p b, l))
+      (ap (λ q. run_elements value sorted q es p.skipped p.left b) e, went_same p b, l)
 
   module _ (m i : ℕ) (first es : Elements) (start p : Progress) (all b : Bits) where
     one_more : i < m → run_elements value sorted (suc (m - (i + 1))) es p.skipped p.left b ≡ run_elements value sorted (m - i) es p.skipped p.left b
@@ -190,7 +195,7 @@ module _ (value : RunsElement) (sorted : Bool) where
     elements_more es' q r l h e w f =
         let k = h.2 in
         let z : q.left + (i + 1) ≤ start.left = omega (arith, k, f) in
-        (sym (ap (λ o. next o (λ w r. run_elements value sorted (m - (i + 1)) w.it w.skipped w.left r)) e) ∙ one_more l ∙ h.0, (went_on start p q all b r h.1 w, z))
+        (sym (ap (λ o. next o (λ w r. run_elements value sorted (m - (i + 1)) w.it w.skipped w.left r)) e) ∙ one_more l ∙ h.0, went_on start p q all b r h.1 w, z)
 
     pub elements_stop : (x : Stop) (r : Bits) → i < m → AreSoFar m i first es start p all b → IsStop (run_element value sorted es p.skipped p.left b) x r → IsStop (run_elements value sorted m first start.skipped start.left all) x r
     elements_stop x r l h s =

@@ -22,11 +22,11 @@ use Rattle.std.proofs.lemmas.List.{map_push, length-map}
 use Rattle.packed_readings.specs.Outcome.{found}
 use Rattle.packed_readings.specs.declared.count.Count.TheVariants.{Last as last, Part as part}
 use Rattle.packed_reader.specs.Lists.{at_most}
-use Rattle.packed_reader.specs.Readings.{taken}
+use Rattle.packed_reader.specs.Readings.{read, taken}
 use Rattle.packed_reader.specs.Steps.{value_by}
 use Rattle.packed_reader.specs.proving.Code.{IsFewParts}
-use Rattle.packed_reader.proofs.Flow.{stop_as, went_same}
-use Rattle.packed_reader.proofs.Listing.{memory_stops, nothing_returned, returned_so, refused_so, fewer_left, went_on, went_before, room_before, room_after, size_is, each_read, each_stops, list_at_once, list_counted, list_stops, element_stops, element_refused, element_read, elements_none, elements_more, elements_stop, elements_all, told_at, stop_told, less_last, less_more, not_in_order, in_order_by, in_any_order, own_are}
+use Rattle.packed_reader.proofs.Flow.{went_same}
+use Rattle.packed_reader.proofs.Listing.{memory_stops, nothing_returned, returned_as, refused_as, fewer_left, went_on, went_before, all_before, room_before, room_after, size_is, each_read, each_stops, list_at_once, list_counted, list_stops, element_stops, element_refused, element_read, elements_none, elements_more, elements_stop, elements_all, told_at, stop_told, less_last, less_more, not_in_order, in_order_by, in_any_order, own_are}
 use Rattle.packed_reader.proofs.Parts.{IsSoFar, part_last, part_more, stop_last, stop_more, so_far_first, so_far_last, so_far_more, so_far_stops, so_far_all}
 use Rattle.packed_reader.proofs.Plans.{reading_shorter}
 use Rattle.packed_reader.proofs.run.+reads.Goals.{read_element-else-sorted-via-then-sorted+else-not-at_most, read_element-else-sorted-via-else-sorted}
@@ -623,7 +623,8 @@ read_list-returns-in-Ok-AtOnce-clause-ok t c =
     let r = bits_left c.read_size.new.bits in
     let e = c.in-Ok-AtOnce.ensures ∙ ap (λ q. found q (bits_left c.read_size.new.bits)) c.in-Ok-AtOnce.field-0-is in
     let w = list_at_once value c.args.listed.sorted k es c.requires.none p.skipped p.left b r c.in-Ok-AtOnce.count e in
-    returned_so c.read_elements.result (λ h. w ∙ h) c.read_elements.ensures.ok
+    returned_as (run_list value c.args.listed.sorted k p.skipped p.left b) (run_elements value c.args.listed.sorted c.in-Ok-AtOnce.count es p.skipped p.left r) w
+    (read (taken (gathered c.read_elements.new.list) c.read_elements.new.progress.skipped c.read_elements.new.progress.left) (bits_left c.read_elements.new.bits)) c.read_elements.result c.read_elements.ensures.ok
 
 -- src/run.rt:786:1
 pub read_list-returns-in-Ok-AtOnce-clause-err : goal.read_list-returns-in-Ok-AtOnce-clause-err
@@ -636,13 +637,13 @@ read_list-returns-in-Ok-AtOnce-clause-err t c =
     let r = bits_left c.read_size.new.bits in
     let e = c.in-Ok-AtOnce.ensures ∙ ap (λ q. found q (bits_left c.read_size.new.bits)) c.in-Ok-AtOnce.field-0-is in
     let w = list_at_once value c.args.listed.sorted k es c.requires.none p.skipped p.left b r c.in-Ok-AtOnce.count e in
-    refused_so _ _ (bits_left c.read_elements.new.bits) c.read_elements.result (λ x h. stop_as _ _ x (bits_left c.read_elements.new.bits) w h) c.read_elements.ensures.err
+    refused_as (run_list value c.args.listed.sorted k p.skipped p.left b) (run_elements value c.args.listed.sorted c.in-Ok-AtOnce.count es p.skipped p.left r) w (bits_left c.read_elements.new.bits) c.read_elements.result c.read_elements.ensures.err
 
 -- src/run.rt:786:1
 pub read_list-returns-in-Ok-AtOnce-clause-went : goal.read_list-returns-in-Ok-AtOnce-clause-went
 read_list-returns-in-Ok-AtOnce-clause-went t c =
     let s = reading_shorter (c.count_laws.ensures.size (constraint_of c.args.listed.constraint.now) c.requires.bounds) (bits_left c.args.bits.now) (bits_left c.read_size.new.bits) c.in-Ok-AtOnce.field-0 c.in-Ok-AtOnce.ensures in
-    returned_so c.read_elements.result (λ w. went_before c.args.progress.now c.read_elements.new.progress (bits_left c.args.bits.now) (bits_left c.read_size.new.bits) (bits_left c.read_elements.new.bits) s w) c.read_elements.ensures.went
+    all_before c.args.progress.now c.read_elements.new.progress (bits_left c.args.bits.now) (bits_left c.read_size.new.bits) (bits_left c.read_elements.new.bits) c.read_elements.result s c.read_elements.ensures.went
 
 -- src/run.rt:786:1
 pub read_list-returns-in-Ok-Counted-clause-ok : goal.read_list-returns-in-Ok-Counted-clause-ok
@@ -655,7 +656,8 @@ read_list-returns-in-Ok-Counted-clause-ok t c =
     let r = bits_left c.read_size.new.bits in
     let e = c.in-Ok-Counted.ensures ∙ ap (λ q. found q (bits_left c.read_size.new.bits)) c.in-Ok-Counted.field-0-is in
     let w = list_counted value c.args.listed.sorted k es c.requires.none p.skipped p.left b r c.in-Ok-Counted.outside e in
-    returned_so c.read_parts.result (λ h. w ∙ h) c.read_parts.ensures.ok
+    returned_as (run_list value c.args.listed.sorted k p.skipped p.left b) (run_parts value c.args.listed.sorted (size_fault k c.in-Ok-Counted.outside) (suc p.left) true es p.skipped p.left r) w
+    (read (taken (gathered c.read_parts.new.list) c.read_parts.new.progress.skipped c.read_parts.new.progress.left) (bits_left c.read_parts.new.bits)) c.read_parts.result c.read_parts.ensures.ok
 
 -- src/run.rt:786:1
 pub read_list-returns-in-Ok-Counted-clause-err : goal.read_list-returns-in-Ok-Counted-clause-err
@@ -668,13 +670,13 @@ read_list-returns-in-Ok-Counted-clause-err t c =
     let r = bits_left c.read_size.new.bits in
     let e = c.in-Ok-Counted.ensures ∙ ap (λ q. found q (bits_left c.read_size.new.bits)) c.in-Ok-Counted.field-0-is in
     let w = list_counted value c.args.listed.sorted k es c.requires.none p.skipped p.left b r c.in-Ok-Counted.outside e in
-    refused_so _ _ (bits_left c.read_parts.new.bits) c.read_parts.result (λ x h. stop_as _ _ x (bits_left c.read_parts.new.bits) w h) c.read_parts.ensures.err
+    refused_as (run_list value c.args.listed.sorted k p.skipped p.left b) (run_parts value c.args.listed.sorted (size_fault k c.in-Ok-Counted.outside) (suc p.left) true es p.skipped p.left r) w (bits_left c.read_parts.new.bits) c.read_parts.result c.read_parts.ensures.err
 
 -- src/run.rt:786:1
 pub read_list-returns-in-Ok-Counted-clause-went : goal.read_list-returns-in-Ok-Counted-clause-went
 read_list-returns-in-Ok-Counted-clause-went t c =
     let s = reading_shorter (c.count_laws.ensures.size (constraint_of c.args.listed.constraint.now) c.requires.bounds) (bits_left c.args.bits.now) (bits_left c.read_size.new.bits) c.in-Ok-Counted.field-0 c.in-Ok-Counted.ensures in
-    returned_so c.read_parts.result (λ w. went_before c.args.progress.now c.read_parts.new.progress (bits_left c.args.bits.now) (bits_left c.read_size.new.bits) (bits_left c.read_parts.new.bits) s w) c.read_parts.ensures.went
+    all_before c.args.progress.now c.read_parts.new.progress (bits_left c.args.bits.now) (bits_left c.read_size.new.bits) (bits_left c.read_parts.new.bits) c.read_parts.result s c.read_parts.ensures.went
 
 -- src/run.rt:786:1
 pub read_list-returns-in-Err-clause-err : goal.read_list-returns-in-Err-clause-err
@@ -810,11 +812,19 @@ read_opened-returns-clause-err t c = ?
 
 -- src/run.rt:894:18
 pub read_part-overflow_cast-before : goal.read_part-overflow_cast-before
-read_part-overflow_cast-before t c = search
+read_part-overflow_cast-before t c =
+    let e = c.len-before.ensures in
+    let l = c.args.list.now.values.ok.1 in
+    let s = c.args.list.now.values.small in
+    omega (arith, e, l, s)
 
 -- src/run.rt:896:11
 pub read_part-read_total-requires : goal.read_part-read_total-requires
-read_part-read_total-requires t c = search
+read_part-read_total-requires t c =
+    let e = c.len-before.ensures in
+    let l = c.args.list.now.values.ok.1 in
+    let s = c.args.list.now.values.small in
+    omega (arith, e, l, s)
 
 -- src/run.rt:898:19
 pub read_part-read_elements-requires : goal.read_part-read_elements-requires
