@@ -1,6 +1,6 @@
 -- Elements of a list, as calls read them.
-use Rattle.std.proofs.Common.{arith, ◌≡◌, ◌≤◌, ◌<◌, ◌+◌, ◌-◌, ◌*◌, ◌^◌, ◌∷◌, ◌++◌, [], ℕ, zero, suc, Bool, true, false, cond, List, Option, ◌⊎◌, inl, inr, length, take, refl, sym, ap, subst, ◌∙◌}
-use Rattle.std.specs.Prelude.{if◌then◌else◌, not, ◌||◌, Result, Ok, Err, IfErr, IfOk, OnOk, IsErrAnd}
+use Rattle.std.proofs.Common.{arith, ◌≡◌, ◌≤◌, ◌<◌, ◌+◌, ◌-◌, ◌∷◌, ◌++◌, [], ℕ, suc, Bool, true, false, cond, List, Option, ◌⊎◌, inl, inr, length, take, refl, sym, ap, subst, ◌∙◌}
+use Rattle.std.specs.Prelude.{if◌then◌else◌, not, ◌||◌, Result, Ok, Err, IfErr, OnOk, IsErrAnd}
 use Rattle.std.proofs.lemmas.Result.{err_from_is_err_and}
 use Rattle.asn_base.specs.Abstract.{AbstractValue, list, row_of_list, present}
 use Rattle.asn_base.specs.Types.{Constraint, Resolved, TypeNumber, a_sequence_of, a_set_of}
@@ -9,7 +9,6 @@ use Rattle.packed_encodings.specs.Lengths.{Bits}
 use Rattle.packed_readings.specs.declared.refusal.Refusal.{Refusal}
 use Rattle.packed_readings.specs.declared.refusal.Refusal.TheVariants as why
 use Rattle.packed_readings.specs.declared.count.Count.{Count}
-use Rattle.packed_readings.specs.declared.count.Count.TheVariants.{Last as last, Part as part}
 use Rattle.packed_readings.specs.declared.size.Sizing.TheVariants.{AtOnce as at_once, Counted as counted}
 use Rattle.packed_readings.specs.Counts.{count_from, total, size_from, size_fault}
 use Rattle.packed_readings.specs.Outcome.{judging, found, stops}
