@@ -29,3 +29,4 @@ mod ValueRun
 mod Plans
 mod MemberRun
 mod Calls
+mod Listing

@@ -43,7 +43,7 @@ use asn_base::schema::TypeId;
 use asn_base::value::Value;
 use bits::cursor::Bits;
 use packed_code::{PackedField, PackedStep};
-use packed_readings::law::leaf_laws;
+use packed_readings::law::{count_laws, leaf_laws};
 use packed_readings::{Count, Refusal, Sizing, read_leaf, read_size};
 use packed_writer::law::routines_fit;
 use packed_writer::{after, components_of, first, is_default, next, size_of};
@@ -813,6 +813,7 @@ fn read_list<'a>(
         e (bits_left bits.new)) }
     ensures went { OnOk result (Went progress.old (bits_left bits.old) progress.new (bits_left bits.new)) }
 {
+    count_laws();
     match read_size(listed.constraint, bits) {
         Ok(Sizing::AtOnce(count)) => {
             let batch = Batch {

@@ -16,6 +16,20 @@ use Rattle.packed_reader.specs.proving.Plans.{AreCalls}
 use Rattle.packed_reader.specs.proving.Running.{no_elements, run_added, run_additions, run_chosen, run_each, run_element, run_elements, run_fields, run_first, run_group, run_group_inside, run_leaf, run_list, run_member, run_members, run_parts, run_present, run_rest, run_steps, run_structure, run_value}
 use Rattle.packed_readings.specs.Counts.{size_fault}
 use Rattle.packed_writer.specs.proving.Values.{FieldFits, FieldsFit, IsList, fields_in}
+use Rattle.std.proofs.Common.{arith, map, refl, sym, ap, subst, ◌∙◌}
+use Rattle.std.specs.Prelude.{not, ◌||◌}
+use Rattle.std.proofs.lemmas.List.{map_push, length-map}
+use Rattle.packed_readings.specs.Outcome.{found}
+use Rattle.packed_readings.specs.declared.count.Count.TheVariants.{Last as last, Part as part}
+use Rattle.packed_reader.specs.Lists.{at_most}
+use Rattle.packed_reader.specs.Readings.{read, taken}
+use Rattle.packed_reader.specs.Steps.{value_by}
+use Rattle.packed_reader.specs.proving.Code.{IsFewParts}
+use Rattle.packed_reader.proofs.Flow.{went_same}
+use Rattle.packed_reader.proofs.Listing.{memory_stops, nothing_returned, returned_as, refused_as, fewer_left, went_on, went_before, all_before, room_before, room_after, size_is, each_read, each_stops, list_at_once, list_counted, list_stops, element_stops, element_refused, element_read, elements_none, elements_more, elements_stop, elements_all, told_at, stop_told, less_last, less_more, not_in_order, in_order_by, in_any_order, own_are}
+use Rattle.packed_reader.proofs.Parts.{IsSoFar, part_last, part_more, stop_last, stop_more, so_far_first, so_far_last, so_far_more, so_far_stops, so_far_all}
+use Rattle.packed_reader.proofs.Plans.{reading_shorter}
+use Rattle.packed_reader.proofs.run.+reads.Goals.{read_element-else-sorted-via-then-sorted+else-not-at_most, read_element-else-sorted-via-else-sorted}
 use Rattle.packed_reader.proofs.run.+reads.Goals as goal
 use Rattle.std.proofs.Common.{arith, refl, sym, ap, subst, ◌∙◌}
 use Rattle.packed_readings.specs.declared.refusal.Refusal.TheVariants as why
@@ -239,106 +253,196 @@ read_additions-returns-clause-went t c = ?
 
 -- src/run.rt:760:9
 pub read_each-size_of-constraint-requires : goal.read_each-size_of-constraint-requires
-read_each-size_of-constraint-requires t c = ?
+read_each-size_of-constraint-requires t c = subst (λ q. IsList q c.args.reader.id.index) (sym c.schema.ensures) c.requires.list
 
 -- src/run.rt:763:11
 pub read_each-read_list-requires : goal.read_each-read_list-requires
-read_each-read_list-requires t c = ?
+read_each-read_list-requires t c =
+    let lt : 30 * c.args.reader.levels + 27 < t = let d = c.decreases in omega (arith, d) in
+    (lt, (c.requires.few, (c.requires.room, (c.size_of-constraint.ensures.bounds, c.new-list.ensures))))
 
 -- src/run.rt:737:1
 pub read_each-returns-in-Ok-clause-ok : goal.read_each-returns-in-Ok-clause-ok
-read_each-returns-in-Ok-clause-ok t c = ?
+read_each-returns-in-Ok-clause-ok t c =
+    let s = c.args.reader.code.now in
+    let value = run_value s c.args.reader.levels in
+    let k = constraint_of c.size_of-constraint.result.now in
+    let e = size_is s c.schema.result.now c.args.reader.id.index k c.schema.ensures c.size_of-constraint.ensures in
+    each_read s value c.args.reader.id.index c.args.sorted c.args.element.index k c.args.progress.now.skipped c.args.progress.now.left (bits_left c.args.bits.now)
+    (gathered c.read_list.new.list) _ c.read_list.new.progress.skipped c.read_list.new.progress.left (bits_left c.read_list.new.bits)
+    e c.in-Ok.ensures.ok (c.abstract_values.ensures.list_ c.read_list.new.list.values)
 
 -- src/run.rt:737:1
 pub read_each-returns-in-Ok-clause-went : goal.read_each-returns-in-Ok-clause-went
-read_each-returns-in-Ok-clause-went t c = ?
+read_each-returns-in-Ok-clause-went t c = c.in-Ok.ensures.went
 
 -- src/run.rt:737:1
 pub read_each-returns-in-Err-clause-err : goal.read_each-returns-in-Err-clause-err
-read_each-returns-in-Err-clause-err t c = ?
+read_each-returns-in-Err-clause-err t c =
+    let s = c.args.reader.code.now in
+    let value = run_value s c.args.reader.levels in
+    let k = constraint_of c.size_of-constraint.result.now in
+    let e = size_is s c.schema.result.now c.args.reader.id.index k c.schema.ensures c.size_of-constraint.ensures in
+    each_stops s value c.args.reader.id.index c.args.sorted c.args.element.index k c.args.progress.now.skipped c.args.progress.now.left (bits_left c.args.bits.now)
+    c.in-Err.stop (bits_left c.read_list.new.bits) e c.in-Err.ensures.err
 
 -- src/run.rt:981:23
 pub read_element-read_value-requires : goal.read_element-read_value-requires
-read_element-read_value-requires t c = ?
+read_element-read_value-requires t c =
+    let lt : 30 * c.args.reader.levels < t = let d = c.decreases in omega (arith, d) in
+    let few : c.args.reader.levels ≤ 64 = let h = c.requires.few in omega (arith, h) in
+    (lt, (few, c.requires.room))
 
 -- src/run.rt:983:22
 pub read_element-returns-in-Err-clause-err : goal.read_element-returns-in-Err-clause-err
-read_element-returns-in-Err-clause-err t c = ?
+read_element-returns-in-Err-clause-err t c =
+    let value = run_value c.args.reader.code.now c.args.reader.levels c.args.reader.id.index in
+    let es = gathered c.args.list.now in
+    let b = bits_left c.args.bits.now in
+    let r = bits_left c.read_value.new.bits in
+    let p = c.args.progress.now in
+    let q = c.read_value.new.progress in
+    let i : c.len-number.result ≡ length es.values = c.len-number.ensures ∙ c.args.list.now.values.ok.0 ∙ sym (length-map c.args.list.now.values.items abstract) in
+    element_stops value c.args.sorted es p.skipped p.left b c.len-number.result c.in-Err.stop c.within.result r i c.in-Err.ensures.err c.within.ensures
 
 -- src/run.rt:985:27
 pub read_element-overflow_sub-len : goal.read_element-overflow_sub-len
-read_element-overflow_sub-len t c = ?
+read_element-overflow_sub-len t c =
+    let l = fewer_left c.args.progress.now c.read_value.new.progress (bits_left c.args.bits.now) (bits_left c.read_value.new.bits) (value_by c.args.reader.code.now c.args.reader.levels c.args.reader.id.index c.args.progress.now.left (bits_left c.args.bits.now)) (abstract c.in-Ok.value) c.in-Ok.ensures.ok c.in-Ok.ensures.went in
+    let e = c.len.ensures in
+    let f = c.len-2.ensures in
+    omega (arith, l, e, f)
 
 -- src/run.rt:985:9
 pub read_element-front-own-requires : goal.read_element-front-own-requires
-read_element-front-own-requires t c = ?
+read_element-front-own-requires t c = let e = c.len.ensures in omega (arith, e)
 
 -- src/run.rt:989:9
 pub read_element-returns-then-not-at_most-clause-err :
     goal.read_element-returns-then-not-at_most-clause-err
-read_element-returns-then-not-at_most-clause-err t c = ?
+read_element-returns-then-not-at_most-clause-err t c =
+    let value = run_value c.args.reader.code.now c.args.reader.levels c.args.reader.id.index in
+    let es = gathered c.args.list.now in
+    let b = bits_left c.args.bits.now in
+    let r = bits_left c.read_value.new.bits in
+    let p = c.args.progress.now in
+    let q = c.read_value.new.progress in
+    let i : c.len-number.result ≡ length es.values = c.len-number.ensures ∙ c.args.list.now.values.ok.0 ∙ sym (length-map c.args.list.now.values.items abstract) in
+    let own = own_are (bits_left c.front-own.result) b r c.len.result c.len-2.result c.len.ensures c.len-2.ensures c.front-own.ensures in
+    let o = not_in_order c.args.sorted c.at_most.result (at_most es.before (bits_left c.front-own.result)) c.if-sorted.true c.if-not-at_most.true c.at_most.ensures in
+    element_refused value c.args.sorted es p.skipped p.left b c.len-number.result (taken (abstract c.in-Ok.value) q.skipped q.left) r (bits_left c.front-own.result)
+    c.at-stop.result c.within-then-not-at_most.result i c.in-Ok.ensures.ok own o c.at-stop.ensures c.within-then-not-at_most.ensures
 
 -- src/run.rt:991:5
 pub read_element-returns-in_err-push-clause-ok : goal.read_element-returns-in_err-push-clause-ok
-read_element-returns-in_err-push-clause-ok t c = ?
+read_element-returns-in_err-push-clause-ok t c = nothing_returned _ c.from_residual.result c.from_residual.ensures.1
 
 -- src/run.rt:991:5
 pub read_element-returns-in_err-push-clause-err : goal.read_element-returns-in_err-push-clause-err
-read_element-returns-in_err-push-clause-err t c = ?
+read_element-returns-in_err-push-clause-err t c = memory_stops _ _ c.from_residual.result c.from_residual.ensures.1
 
 -- src/run.rt:991:5
 pub read_element-returns-in_err-push-clause-went :
     goal.read_element-returns-in_err-push-clause-went
-read_element-returns-in_err-push-clause-went t c = ?
+read_element-returns-in_err-push-clause-went t c = nothing_returned _ c.from_residual.result c.from_residual.ensures.1
 
 -- src/run.rt:991:5
 pub read_element-returns-in_err-push-clause-fewer :
     goal.read_element-returns-in_err-push-clause-fewer
-read_element-returns-in_err-push-clause-fewer t c = ?
+read_element-returns-in_err-push-clause-fewer t c = nothing_returned _ c.from_residual.result c.from_residual.ensures.1
 
 -- src/run.rt:957:1
 pub read_element-returns-clause-ok : goal.read_element-returns-clause-ok
-read_element-returns-clause-ok t c = ?
+read_element-returns-clause-ok t c =
+    let value = run_value c.args.reader.code.now c.args.reader.levels c.args.reader.id.index in
+    let es = gathered c.args.list.now in
+    let b = bits_left c.args.bits.now in
+    let r = bits_left c.read_value.new.bits in
+    let p = c.args.progress.now in
+    let q = c.read_value.new.progress in
+    let own = own_are (bits_left c.front-own.result) b r c.len.result c.len-2.result c.len.ensures c.len-2.ensures c.front-own.ensures in
+    let given = at_most es.before (bits_left c.front-own.result) in
+    let o : (not c.args.sorted || given) ≡ true = elim c.else-sorted.branch [
+      | read_element-else-sorted-via-then-sorted+else-not-at_most w ↦ in_order_by c.args.sorted w.at_most.result given w.if-not-at_most.false w.at_most.ensures
+      | read_element-else-sorted-via-else-sorted w ↦ in_any_order c.args.sorted given w.if-sorted.false
+    ] in
+    element_read value c.args.sorted es p.skipped p.left b (abstract c.in-Ok.value) q.skipped q.left r (bits_left c.front-own.result) (map abstract c.push.new.self.items)
+    c.in-Ok.ensures.ok own o (ap (map abstract) c.in_ok-push.ensures.items ∙ map_push abstract c.args.list.now.values.items c.in-Ok.value)
 
 -- src/run.rt:957:1
 pub read_element-returns-clause-went : goal.read_element-returns-clause-went
-read_element-returns-clause-went t c = ?
+read_element-returns-clause-went t c = c.in-Ok.ensures.went
 
 -- src/run.rt:957:1
 pub read_element-returns-clause-fewer : goal.read_element-returns-clause-fewer
-read_element-returns-clause-fewer t c = ?
+read_element-returns-clause-fewer t c = c.in-Ok.ensures.fewer
 
 -- src/run.rt:946:5
 pub read_elements-loop-i-init : goal.read_elements-loop-i-init
-read_elements-loop-i-init t c = ?
+read_elements-loop-i-init t c = elements_none (run_value c.args.reader.code.now c.args.reader.levels c.args.reader.id.index) c.args.batch.sorted c.args.batch.count (gathered c.args.list.now) c.args.progress.now (bits_left c.args.bits.now)
 
 -- src/run.rt:947:15
 pub read_elements-read_element-requires : goal.read_elements-read_element-requires
-read_elements-read_element-requires t c = ?
+read_elements-read_element-requires t c =
+    let lt : 30 * c.args.reader.levels + 23 < t = let d = c.decreases in omega (arith, d) in
+    (lt, (c.requires.few, room_after c.args.progress.now c.loop-i.progress (bits_left c.args.bits.now) (bits_left c.loop-i.bits) c.loop-i.invariant.1 c.requires.room))
 
 -- src/run.rt:949:26
 pub read_elements-returns-in-Err-clause-err : goal.read_elements-returns-in-Err-clause-err
-read_elements-returns-in-Err-clause-err t c = ?
+read_elements-returns-in-Err-clause-err t c =
+    let value = run_value c.args.reader.code.now c.args.reader.levels c.args.reader.id.index in
+    let m = c.args.batch.count in
+    let b = bits_left c.args.bits.now in
+    let p = c.args.progress.now in
+    let es = gathered c.args.list.now in
+    let z = bits_left c.loop-i.bits in
+    let q = c.loop-i.progress in
+    let fs = gathered c.loop-i.list in
+    elements_stop value c.args.batch.sorted m c.loop-i._i es fs p q b z c.in-Err.stop (bits_left c.read_element.new.bits) c.loop-i-test.true c.loop-i.invariant c.in-Err.ensures.err
 
 -- src/run.rt:946:5
 pub read_elements-loop-i-smaller : goal.read_elements-loop-i-smaller
-read_elements-loop-i-smaller t c = ?
+read_elements-loop-i-smaller t c = let l = c.loop-i-test.true in omega (arith, l)
 
 -- src/run.rt:946:5
 pub read_elements-loop-i-preserved : goal.read_elements-loop-i-preserved
-read_elements-loop-i-preserved t c = ?
+read_elements-loop-i-preserved t c =
+    let value = run_value c.args.reader.code.now c.args.reader.levels c.args.reader.id.index in
+    let m = c.args.batch.count in
+    let b = bits_left c.args.bits.now in
+    let p = c.args.progress.now in
+    let es = gathered c.args.list.now in
+    let z = bits_left c.loop-i.bits in
+    let q = c.loop-i.progress in
+    let fs = gathered c.loop-i.list in
+    elements_more value c.args.batch.sorted m c.loop-i._i es fs p q b z (gathered c.read_element.new.list) c.read_element.new.progress (bits_left c.read_element.new.bits)
+    c.loop-i-test.true c.loop-i.invariant c.in-Ok.ensures.ok c.in-Ok.ensures.went c.in-Ok.ensures.fewer
 
 -- src/run.rt:924:1
 pub read_elements-returns-clause-ok : goal.read_elements-returns-clause-ok
-read_elements-returns-clause-ok t c = ?
+read_elements-returns-clause-ok t c =
+    let value = run_value c.args.reader.code.now c.args.reader.levels c.args.reader.id.index in
+    let m = c.args.batch.count in
+    let b = bits_left c.args.bits.now in
+    let p = c.args.progress.now in
+    let es = gathered c.args.list.now in
+    let z = bits_left c.loop-i.bits in
+    let q = c.loop-i.progress in
+    let fs = gathered c.loop-i.list in
+    let l : m ≤ c.loop-i._i = let h = c.loop-i-test.false in omega (arith, h) in
+    elements_all value c.args.batch.sorted m c.loop-i._i es fs p q b z l c.loop-i.invariant
 
 -- src/run.rt:924:1
 pub read_elements-returns-clause-went : goal.read_elements-returns-clause-went
-read_elements-returns-clause-went t c = ?
+read_elements-returns-clause-went t c = c.loop-i.invariant.1
 
 -- src/run.rt:924:1
 pub read_elements-returns-clause-fewer : goal.read_elements-returns-clause-fewer
-read_elements-returns-clause-fewer t c = ?
+read_elements-returns-clause-fewer t c =
+    let m = c.args.batch.count in
+    let h = c.loop-i-test.false in
+    let k = c.loop-i.invariant.2 in
+    omega (arith, h, k)
 
 -- src/run.rt:505:22
 pub read_extension-returns-in-Err-clause-err : goal.read_extension-returns-in-Err-clause-err
@@ -468,43 +572,93 @@ read_group_members-returns-clause-places t c = ?
 
 -- src/run.rt:809:11
 pub read_list-read_size-requires : goal.read_list-read_size-requires
-read_list-read_size-requires t c = ?
+read_list-read_size-requires t c = c.requires.bounds
 
 -- src/run.rt:815:13
 pub read_list-read_elements-requires : goal.read_list-read_elements-requires
-read_list-read_elements-requires t c = ?
+read_list-read_elements-requires t c =
+    let lt : 30 * c.args.reader.levels + 24 < t = let d = c.decreases in omega (arith, d) in
+    let s = reading_shorter (c.count_laws.ensures.size (constraint_of c.args.listed.constraint.now) c.requires.bounds) (bits_left c.args.bits.now) (bits_left c.read_size.new.bits) c.in-Ok-AtOnce.field-0 c.in-Ok-AtOnce.ensures in
+    (lt, (c.requires.few, room_before c.args.progress.now (bits_left c.args.bits.now) (bits_left c.read_size.new.bits) s c.requires.room))
 
 -- src/run.rt:823:13
 pub read_list-read_parts-requires : goal.read_list-read_parts-requires
-read_list-read_parts-requires t c = ?
+read_list-read_parts-requires t c =
+    let lt : 30 * c.args.reader.levels + 26 < t = let d = c.decreases in omega (arith, d) in
+    let s = reading_shorter (c.count_laws.ensures.size (constraint_of c.args.listed.constraint.now) c.requires.bounds) (bits_left c.args.bits.now) (bits_left c.read_size.new.bits) c.in-Ok-Counted.field-0 c.in-Ok-Counted.ensures in
+    (lt, (c.requires.few, room_before c.args.progress.now (bits_left c.args.bits.now) (bits_left c.read_size.new.bits) s c.requires.room))
 
 -- src/run.rt:786:1
 pub read_list-returns-in-Ok-AtOnce-clause-ok : goal.read_list-returns-in-Ok-AtOnce-clause-ok
-read_list-returns-in-Ok-AtOnce-clause-ok t c = ?
+read_list-returns-in-Ok-AtOnce-clause-ok t c =
+    let value = run_value c.args.reader.code.now c.args.reader.levels c.args.reader.id.index in
+    let k = constraint_of c.args.listed.constraint.now in
+    let es = gathered c.args.list.now in
+    let p = c.args.progress.now in
+    let b = bits_left c.args.bits.now in
+    let r = bits_left c.read_size.new.bits in
+    let e = c.in-Ok-AtOnce.ensures ∙ ap (λ q. found q (bits_left c.read_size.new.bits)) c.in-Ok-AtOnce.field-0-is in
+    let w = list_at_once value c.args.listed.sorted k es c.requires.none p.skipped p.left b r c.in-Ok-AtOnce.count e in
+    returned_as (run_list value c.args.listed.sorted k p.skipped p.left b) (run_elements value c.args.listed.sorted c.in-Ok-AtOnce.count es p.skipped p.left r) w
+    (read (taken (gathered c.read_elements.new.list) c.read_elements.new.progress.skipped c.read_elements.new.progress.left) (bits_left c.read_elements.new.bits)) c.read_elements.result c.read_elements.ensures.ok
 
 -- src/run.rt:786:1
 pub read_list-returns-in-Ok-AtOnce-clause-err : goal.read_list-returns-in-Ok-AtOnce-clause-err
-read_list-returns-in-Ok-AtOnce-clause-err t c = ?
+read_list-returns-in-Ok-AtOnce-clause-err t c =
+    let value = run_value c.args.reader.code.now c.args.reader.levels c.args.reader.id.index in
+    let k = constraint_of c.args.listed.constraint.now in
+    let es = gathered c.args.list.now in
+    let p = c.args.progress.now in
+    let b = bits_left c.args.bits.now in
+    let r = bits_left c.read_size.new.bits in
+    let e = c.in-Ok-AtOnce.ensures ∙ ap (λ q. found q (bits_left c.read_size.new.bits)) c.in-Ok-AtOnce.field-0-is in
+    let w = list_at_once value c.args.listed.sorted k es c.requires.none p.skipped p.left b r c.in-Ok-AtOnce.count e in
+    refused_as (run_list value c.args.listed.sorted k p.skipped p.left b) (run_elements value c.args.listed.sorted c.in-Ok-AtOnce.count es p.skipped p.left r) w (bits_left c.read_elements.new.bits) c.read_elements.result c.read_elements.ensures.err
 
 -- src/run.rt:786:1
 pub read_list-returns-in-Ok-AtOnce-clause-went : goal.read_list-returns-in-Ok-AtOnce-clause-went
-read_list-returns-in-Ok-AtOnce-clause-went t c = ?
+read_list-returns-in-Ok-AtOnce-clause-went t c =
+    let s = reading_shorter (c.count_laws.ensures.size (constraint_of c.args.listed.constraint.now) c.requires.bounds) (bits_left c.args.bits.now) (bits_left c.read_size.new.bits) c.in-Ok-AtOnce.field-0 c.in-Ok-AtOnce.ensures in
+    all_before c.args.progress.now c.read_elements.new.progress (bits_left c.args.bits.now) (bits_left c.read_size.new.bits) (bits_left c.read_elements.new.bits) c.read_elements.result s c.read_elements.ensures.went
 
 -- src/run.rt:786:1
 pub read_list-returns-in-Ok-Counted-clause-ok : goal.read_list-returns-in-Ok-Counted-clause-ok
-read_list-returns-in-Ok-Counted-clause-ok t c = ?
+read_list-returns-in-Ok-Counted-clause-ok t c =
+    let value = run_value c.args.reader.code.now c.args.reader.levels c.args.reader.id.index in
+    let k = constraint_of c.args.listed.constraint.now in
+    let es = gathered c.args.list.now in
+    let p = c.args.progress.now in
+    let b = bits_left c.args.bits.now in
+    let r = bits_left c.read_size.new.bits in
+    let e = c.in-Ok-Counted.ensures ∙ ap (λ q. found q (bits_left c.read_size.new.bits)) c.in-Ok-Counted.field-0-is in
+    let w = list_counted value c.args.listed.sorted k es c.requires.none p.skipped p.left b r c.in-Ok-Counted.outside e in
+    returned_as (run_list value c.args.listed.sorted k p.skipped p.left b) (run_parts value c.args.listed.sorted (size_fault k c.in-Ok-Counted.outside) (suc p.left) true es p.skipped p.left r) w
+    (read (taken (gathered c.read_parts.new.list) c.read_parts.new.progress.skipped c.read_parts.new.progress.left) (bits_left c.read_parts.new.bits)) c.read_parts.result c.read_parts.ensures.ok
 
 -- src/run.rt:786:1
 pub read_list-returns-in-Ok-Counted-clause-err : goal.read_list-returns-in-Ok-Counted-clause-err
-read_list-returns-in-Ok-Counted-clause-err t c = ?
+read_list-returns-in-Ok-Counted-clause-err t c =
+    let value = run_value c.args.reader.code.now c.args.reader.levels c.args.reader.id.index in
+    let k = constraint_of c.args.listed.constraint.now in
+    let es = gathered c.args.list.now in
+    let p = c.args.progress.now in
+    let b = bits_left c.args.bits.now in
+    let r = bits_left c.read_size.new.bits in
+    let e = c.in-Ok-Counted.ensures ∙ ap (λ q. found q (bits_left c.read_size.new.bits)) c.in-Ok-Counted.field-0-is in
+    let w = list_counted value c.args.listed.sorted k es c.requires.none p.skipped p.left b r c.in-Ok-Counted.outside e in
+    refused_as (run_list value c.args.listed.sorted k p.skipped p.left b) (run_parts value c.args.listed.sorted (size_fault k c.in-Ok-Counted.outside) (suc p.left) true es p.skipped p.left r) w (bits_left c.read_parts.new.bits) c.read_parts.result c.read_parts.ensures.err
 
 -- src/run.rt:786:1
 pub read_list-returns-in-Ok-Counted-clause-went : goal.read_list-returns-in-Ok-Counted-clause-went
-read_list-returns-in-Ok-Counted-clause-went t c = ?
+read_list-returns-in-Ok-Counted-clause-went t c =
+    let s = reading_shorter (c.count_laws.ensures.size (constraint_of c.args.listed.constraint.now) c.requires.bounds) (bits_left c.args.bits.now) (bits_left c.read_size.new.bits) c.in-Ok-Counted.field-0 c.in-Ok-Counted.ensures in
+    all_before c.args.progress.now c.read_parts.new.progress (bits_left c.args.bits.now) (bits_left c.read_size.new.bits) (bits_left c.read_parts.new.bits) c.read_parts.result s c.read_parts.ensures.went
 
 -- src/run.rt:786:1
 pub read_list-returns-in-Err-clause-err : goal.read_list-returns-in-Err-clause-err
-read_list-returns-in-Err-clause-err t c = ?
+read_list-returns-in-Err-clause-err t c =
+    list_stops (run_value c.args.reader.code.now c.args.reader.levels c.args.reader.id.index) c.args.listed.sorted (constraint_of c.args.listed.constraint.now) c.args.progress.now.skipped c.args.progress.now.left (bits_left c.args.bits.now) (bits_left c.read_size.new.bits)
+    c.in-Err.refusal c.at.result c.in-Err.ensures c.at.ensures
 
 -- src/run.rt:413:9
 pub read_member-read_present-requires : goal.read_member-read_present-requires
@@ -633,97 +787,237 @@ read_opened-returns-clause-err t c = ?
 
 -- src/run.rt:894:18
 pub read_part-overflow_cast-before : goal.read_part-overflow_cast-before
-read_part-overflow_cast-before t c = ?
+read_part-overflow_cast-before t c =
+    let e = c.len-before.ensures in
+    let l = c.args.list.now.values.ok.1 in
+    let s = c.args.list.now.values.small in
+    omega (arith, e, l, s)
 
 -- src/run.rt:896:11
 pub read_part-read_total-requires : goal.read_part-read_total-requires
-read_part-read_total-requires t c = ?
+read_part-read_total-requires t c =
+    let e = c.len-before.ensures in
+    let l = c.args.list.now.values.ok.1 in
+    let s = c.args.list.now.values.small in
+    omega (arith, e, l, s)
 
 -- src/run.rt:898:19
 pub read_part-read_elements-requires : goal.read_part-read_elements-requires
-read_part-read_elements-requires t c = ?
+read_part-read_elements-requires t c =
+    let lt : 30 * c.args.reader.levels + 24 < t = let d = c.decreases in omega (arith, d) in
+    (lt, (c.requires.few, room_before c.args.progress.now (bits_left c.args.bits.now) (bits_left c.read_total.new.bits) c.in-Ok-Last.ensures.shorter c.requires.room))
 
 -- src/run.rt:900:30
 pub read_part-returns-in-Err-read_elements-clause-err :
     goal.read_part-returns-in-Err-read_elements-clause-err
-read_part-returns-in-Err-read_elements-clause-err t c = ?
+read_part-returns-in-Err-read_elements-clause-err t c =
+    λ f.
+    let value = run_value c.args.reader.code.now c.args.reader.levels c.args.reader.id.index in
+    let sorted = c.args.fragment.size.sorted in
+    let test = size_fault (constraint_of c.args.fragment.size.constraint.now) c.args.fragment.size.outside in
+    let full = c.args.fragment.full in
+    let es = gathered c.args.list.now in
+    let p = c.args.progress.now in
+    let b = bits_left c.args.bits.now in
+    let r = bits_left c.read_total.new.bits in
+    let i : c.len-before.result ≡ length es.values = c.len-before.ensures ∙ c.args.list.now.values.ok.0 ∙ sym (length-map c.args.list.now.values.items abstract) in
+    let e = told_at test full c.len-before.result (length es.values) b r c.in-Ok-Last.field-0 (last c.in-Ok-Last.count) i c.in-Ok-Last.field-0-is c.in-Ok-Last.ensures.is in
+    stop_last value sorted test f full es p.skipped p.left c.in-Ok-Last.count b r (bits_left c.read_elements.new.bits) c.in-Err-read_elements.stop e c.in-Err-read_elements.ensures.err
 
 -- src/run.rt:905:25
 pub read_part-overflow_mul-count : goal.read_part-overflow_mul-count
-read_part-overflow_mul-count t c = ?
+read_part-overflow_mul-count t c =
+    let few = subst IsFewParts c.in-Ok-Part.field-0-is c.in-Ok-Part.ensures.few in
+    let l = few.1 in
+    omega (arith, l)
 
 -- src/run.rt:906:19
 pub read_part-read_elements-requires-in-Ok-Part : goal.read_part-read_elements-requires-in-Ok-Part
-read_part-read_elements-requires-in-Ok-Part t c = ?
+read_part-read_elements-requires-in-Ok-Part t c =
+    let lt : 30 * c.args.reader.levels + 24 < t = let d = c.decreases in omega (arith, d) in
+    (lt, (c.requires.few, room_before c.args.progress.now (bits_left c.args.bits.now) (bits_left c.read_total.new.bits) c.in-Ok-Part.ensures.shorter c.requires.room))
 
 -- src/run.rt:908:30
 pub read_part-returns-in-Err-read_elements-2-clause-err :
     goal.read_part-returns-in-Err-read_elements-2-clause-err
-read_part-returns-in-Err-read_elements-2-clause-err t c = ?
+read_part-returns-in-Err-read_elements-2-clause-err t c =
+    λ f.
+    let value = run_value c.args.reader.code.now c.args.reader.levels c.args.reader.id.index in
+    let sorted = c.args.fragment.size.sorted in
+    let test = size_fault (constraint_of c.args.fragment.size.constraint.now) c.args.fragment.size.outside in
+    let full = c.args.fragment.full in
+    let es = gathered c.args.list.now in
+    let p = c.args.progress.now in
+    let b = bits_left c.args.bits.now in
+    let r = bits_left c.read_total.new.bits in
+    let i : c.len-before.result ≡ length es.values = c.len-before.ensures ∙ c.args.list.now.values.ok.0 ∙ sym (length-map c.args.list.now.values.items abstract) in
+    let e = told_at test full c.len-before.result (length es.values) b r c.in-Ok-Part.field-0 (part c.in-Ok-Part.times) i c.in-Ok-Part.field-0-is c.in-Ok-Part.ensures.is in
+    stop_more value sorted test f full es p.skipped p.left c.in-Ok-Part.times b r (bits_left c.read_elements-in-Ok-Part.new.bits) c.in-Err-read_elements-2.stop e c.in-Err-read_elements-2.ensures.err
 
 -- src/run.rt:873:1
 pub read_part-returns-in-Ok-clause-ok : goal.read_part-returns-in-Ok-clause-ok
-read_part-returns-in-Ok-clause-ok t c = ?
+read_part-returns-in-Ok-clause-ok t c =
+    λ f.
+    let value = run_value c.args.reader.code.now c.args.reader.levels c.args.reader.id.index in
+    let sorted = c.args.fragment.size.sorted in
+    let test = size_fault (constraint_of c.args.fragment.size.constraint.now) c.args.fragment.size.outside in
+    let full = c.args.fragment.full in
+    let es = gathered c.args.list.now in
+    let p = c.args.progress.now in
+    let b = bits_left c.args.bits.now in
+    let r = bits_left c.read_total.new.bits in
+    let i : c.len-before.result ≡ length es.values = c.len-before.ensures ∙ c.args.list.now.values.ok.0 ∙ sym (length-map c.args.list.now.values.items abstract) in
+    let e = told_at test full c.len-before.result (length es.values) b r c.in-Ok-Last.field-0 (last c.in-Ok-Last.count) i c.in-Ok-Last.field-0-is c.in-Ok-Last.ensures.is in
+    part_last value sorted test f full es (gathered c.read_elements.new.list) p.skipped p.left c.read_elements.new.progress.skipped c.read_elements.new.progress.left c.in-Ok-Last.count b r (bits_left c.read_elements.new.bits) e c.in-Ok.ensures.ok
 
 -- src/run.rt:873:1
 pub read_part-returns-in-Ok-clause-went : goal.read_part-returns-in-Ok-clause-went
-read_part-returns-in-Ok-clause-went t c = ?
+read_part-returns-in-Ok-clause-went t c = went_before c.args.progress.now c.read_elements.new.progress (bits_left c.args.bits.now) (bits_left c.read_total.new.bits) (bits_left c.read_elements.new.bits) c.in-Ok-Last.ensures.shorter c.in-Ok.ensures.went
 
 -- src/run.rt:873:1
 pub read_part-returns-in-Ok-read_elements-clause-ok :
     goal.read_part-returns-in-Ok-read_elements-clause-ok
-read_part-returns-in-Ok-read_elements-clause-ok t c = ?
+read_part-returns-in-Ok-read_elements-clause-ok t c =
+    λ f.
+    let value = run_value c.args.reader.code.now c.args.reader.levels c.args.reader.id.index in
+    let sorted = c.args.fragment.size.sorted in
+    let test = size_fault (constraint_of c.args.fragment.size.constraint.now) c.args.fragment.size.outside in
+    let full = c.args.fragment.full in
+    let es = gathered c.args.list.now in
+    let p = c.args.progress.now in
+    let b = bits_left c.args.bits.now in
+    let r = bits_left c.read_total.new.bits in
+    let i : c.len-before.result ≡ length es.values = c.len-before.ensures ∙ c.args.list.now.values.ok.0 ∙ sym (length-map c.args.list.now.values.items abstract) in
+    let e = told_at test full c.len-before.result (length es.values) b r c.in-Ok-Part.field-0 (part c.in-Ok-Part.times) i c.in-Ok-Part.field-0-is c.in-Ok-Part.ensures.is in
+    part_more value sorted test f full es (gathered c.read_elements-in-Ok-Part.new.list) p.skipped p.left c.read_elements-in-Ok-Part.new.progress.skipped c.read_elements-in-Ok-Part.new.progress.left c.in-Ok-Part.times b r (bits_left c.read_elements-in-Ok-Part.new.bits) e c.in-Ok-read_elements.ensures.ok
 
 -- src/run.rt:873:1
 pub read_part-returns-in-Ok-read_elements-clause-went :
     goal.read_part-returns-in-Ok-read_elements-clause-went
-read_part-returns-in-Ok-read_elements-clause-went t c = ?
+read_part-returns-in-Ok-read_elements-clause-went t c = went_before c.args.progress.now c.read_elements-in-Ok-Part.new.progress (bits_left c.args.bits.now) (bits_left c.read_total.new.bits) (bits_left c.read_elements-in-Ok-Part.new.bits) c.in-Ok-Part.ensures.shorter c.in-Ok-read_elements.ensures.went
 
 -- src/run.rt:873:1
 pub read_part-returns-in-Ok-read_elements-clause-fewer :
     goal.read_part-returns-in-Ok-read_elements-clause-fewer
-read_part-returns-in-Ok-read_elements-clause-fewer t c = ?
+read_part-returns-in-Ok-read_elements-clause-fewer t c =
+    let few = subst IsFewParts c.in-Ok-Part.field-0-is c.in-Ok-Part.ensures.few in
+    let l = few.0 in
+    let h = c.in-Ok-read_elements.ensures.fewer in
+    omega (arith, l, h)
 
 -- src/run.rt:873:1
 pub read_part-returns-in-Err-clause-err : goal.read_part-returns-in-Err-clause-err
-read_part-returns-in-Err-clause-err t c = ?
+read_part-returns-in-Err-clause-err t c =
+    λ f.
+    let value = run_value c.args.reader.code.now c.args.reader.levels c.args.reader.id.index in
+    let sorted = c.args.fragment.size.sorted in
+    let test = size_fault (constraint_of c.args.fragment.size.constraint.now) c.args.fragment.size.outside in
+    let full = c.args.fragment.full in
+    let es = gathered c.args.list.now in
+    let p = c.args.progress.now in
+    let b = bits_left c.args.bits.now in
+    let r = bits_left c.read_total.new.bits in
+    let i : c.len-before.result ≡ length es.values = c.len-before.ensures ∙ c.args.list.now.values.ok.0 ∙ sym (length-map c.args.list.now.values.items abstract) in
+    stop_told value sorted test f full es c.len-before.result p.skipped p.left b r c.in-Err.refusal c.at.result i c.in-Err.ensures.is c.at.ensures
 
 -- src/run.rt:855:5
 pub read_parts-loop-more-init : goal.read_parts-loop-more-init
-read_parts-loop-more-init t c = ?
+read_parts-loop-more-init t c =
+    let value = run_value c.args.reader.code.now c.args.reader.levels c.args.reader.id.index in
+    let sorted = c.args.size.sorted in
+    let test = size_fault (constraint_of c.args.size.constraint.now) c.args.size.outside in
+    let p = c.args.progress.now in
+    let b = bits_left c.args.bits.now in
+    let all = run_parts value sorted test (suc p.left) true (gathered c.args.list.now) p.skipped p.left b in
+    (so_far_first value sorted test all true (gathered c.args.list.now) p b refl, went_same p b)
 
 -- src/run.rt:856:15
 pub read_parts-read_part-requires : goal.read_parts-read_part-requires
-read_parts-read_part-requires t c = ?
+read_parts-read_part-requires t c =
+    let lt : 30 * c.args.reader.levels + 25 < t = let d = c.decreases in omega (arith, d) in
+    (lt, (c.requires.few, room_after c.args.progress.now c.loop-more.progress (bits_left c.args.bits.now) (bits_left c.loop-more.bits) c.loop-more.invariant.1 c.requires.room))
 
 -- src/run.rt:855:5
 pub read_parts-loop-more-smaller-in-Ok-Nothing : goal.read_parts-loop-more-smaller-in-Ok-Nothing
-read_parts-loop-more-smaller-in-Ok-Nothing t c = ?
+read_parts-loop-more-smaller-in-Ok-Nothing t c = less_last c.loop-more.more c.read_part.new.progress.left c.loop-more.progress.left c.loop-more-test.true c.in-Ok-Nothing.ensures.went.left
 
 -- src/run.rt:855:5
 pub read_parts-loop-more-preserved-in-Ok-Nothing :
     goal.read_parts-loop-more-preserved-in-Ok-Nothing
-read_parts-loop-more-preserved-in-Ok-Nothing t c = ?
+read_parts-loop-more-preserved-in-Ok-Nothing t c =
+    let value = run_value c.args.reader.code.now c.args.reader.levels c.args.reader.id.index in
+    let sorted = c.args.size.sorted in
+    let test = size_fault (constraint_of c.args.size.constraint.now) c.args.size.outside in
+    let p = c.args.progress.now in
+    let b = bits_left c.args.bits.now in
+    let all = run_parts value sorted test (suc p.left) true (gathered c.args.list.now) p.skipped p.left b in
+    let es = gathered c.loop-more.list in
+    let q = c.loop-more.progress in
+    let z = bits_left c.loop-more.bits in
+    let fs = gathered c.read_part.new.list in
+    let u = c.read_part.new.progress in
+    let r = bits_left c.read_part.new.bits in
+    let g = subst (λ y. IsPart value (record { size = c.args.size; full = c.loop-more.full }) es q z y fs u r) c.in-Ok-Nothing.field-0-is c.in-Ok-Nothing.ensures.ok in
+    (so_far_last value sorted test all c.loop-more.more c.loop-more.full c.loop-more.full es fs q u z r c.loop-more-test.true c.loop-more.invariant.0 g, went_on p q u b z r c.loop-more.invariant.1 c.in-Ok-Nothing.ensures.went)
 
 -- src/run.rt:855:5
 pub read_parts-loop-more-smaller : goal.read_parts-loop-more-smaller
-read_parts-loop-more-smaller t c = ?
+read_parts-loop-more-smaller t c =
+    let u = c.read_part.new.progress.left in
+    let q = c.loop-more.progress.left in
+    less_more c.loop-more.more u q (subst (λ y. IsLess y u q) c.in-Ok-More.field-0-is c.in-Ok-More.ensures.fewer)
 
 -- src/run.rt:855:5
 pub read_parts-loop-more-preserved : goal.read_parts-loop-more-preserved
-read_parts-loop-more-preserved t c = ?
+read_parts-loop-more-preserved t c =
+    let value = run_value c.args.reader.code.now c.args.reader.levels c.args.reader.id.index in
+    let sorted = c.args.size.sorted in
+    let test = size_fault (constraint_of c.args.size.constraint.now) c.args.size.outside in
+    let p = c.args.progress.now in
+    let b = bits_left c.args.bits.now in
+    let all = run_parts value sorted test (suc p.left) true (gathered c.args.list.now) p.skipped p.left b in
+    let es = gathered c.loop-more.list in
+    let q = c.loop-more.progress in
+    let z = bits_left c.loop-more.bits in
+    let fs = gathered c.read_part.new.list in
+    let u = c.read_part.new.progress in
+    let r = bits_left c.read_part.new.bits in
+    let g = subst (λ y. IsPart value (record { size = c.args.size; full = c.loop-more.full }) es q z y fs u r) c.in-Ok-More.field-0-is c.in-Ok-More.ensures.ok in
+    let l = subst (λ y. IsLess y u.left q.left) c.in-Ok-More.field-0-is c.in-Ok-More.ensures.fewer in
+    let h = so_far_more value sorted test all c.loop-more.more c.loop-more.full c.in-Ok-More.next es fs q u z r c.loop-more-test.true l c.loop-more.invariant.0 g in
+    (subst (λ y. IsSoFar value sorted test all y c.in-Ok-More.next fs u r) (sym c.loop-more-test.true) h, went_on p q u b z r c.loop-more.invariant.1 c.in-Ok-More.ensures.went)
 
 -- src/run.rt:859:26
 pub read_parts-returns-in-Err-clause-err : goal.read_parts-returns-in-Err-clause-err
-read_parts-returns-in-Err-clause-err t c = ?
+read_parts-returns-in-Err-clause-err t c =
+    let value = run_value c.args.reader.code.now c.args.reader.levels c.args.reader.id.index in
+    let sorted = c.args.size.sorted in
+    let test = size_fault (constraint_of c.args.size.constraint.now) c.args.size.outside in
+    let p = c.args.progress.now in
+    let b = bits_left c.args.bits.now in
+    let all = run_parts value sorted test (suc p.left) true (gathered c.args.list.now) p.skipped p.left b in
+    let es = gathered c.loop-more.list in
+    let q = c.loop-more.progress in
+    let z = bits_left c.loop-more.bits in
+    so_far_stops value sorted test all c.loop-more.more c.loop-more.full es q z (bits_left c.read_part.new.bits) c.in-Err.stop c.loop-more-test.true c.loop-more.invariant.0 c.in-Err.ensures.err
 
 -- src/run.rt:830:1
 pub read_parts-returns-clause-ok : goal.read_parts-returns-clause-ok
-read_parts-returns-clause-ok t c = ?
+read_parts-returns-clause-ok t c =
+    let value = run_value c.args.reader.code.now c.args.reader.levels c.args.reader.id.index in
+    let sorted = c.args.size.sorted in
+    let test = size_fault (constraint_of c.args.size.constraint.now) c.args.size.outside in
+    let p = c.args.progress.now in
+    let b = bits_left c.args.bits.now in
+    let all = run_parts value sorted test (suc p.left) true (gathered c.args.list.now) p.skipped p.left b in
+    let es = gathered c.loop-more.list in
+    let q = c.loop-more.progress in
+    let z = bits_left c.loop-more.bits in
+    so_far_all value sorted test all c.loop-more.more c.loop-more.full es q z c.loop-more-test.false c.loop-more.invariant.0
 
 -- src/run.rt:830:1
 pub read_parts-returns-clause-went : goal.read_parts-returns-clause-went
-read_parts-returns-clause-went t c = ?
+read_parts-returns-clause-went t c = c.loop-more.invariant.1
 
 -- src/run.rt:170:13
 pub read_pick-core-requires : goal.read_pick-core-requires
