@@ -37,7 +37,7 @@ use Rattle.packed_reader.specs.Readings.{read, taken}
 use Rattle.packed_reader.proofs.Flow.{stop_next, stop_within, stop_as, stop_at, stop_bare, stop_of}
 use Rattle.packed_reader.specs.declared.plan.Plan.TheVariants as plans
 use Rattle.packed_reader.specs.proving.Plans.{run_plan}
-use Rattle.packed_reader.proofs.ValueRun.{value_steps, value_deep, value_full, value_of, went_value, fewer_value, got_as, row_as, stops_as, went_on, went_ok, went_done, went_shorter, room_left}
+use Rattle.packed_reader.proofs.ValueRun.{value_steps, value_deep, value_full, value_of, went_value, fewer_value, got_as, row_as, stops_as, went_on as both_went, went_ok, went_done, went_shorter, room_left}
 use Rattle.std.proofs.Common.{drop, map}
 use Rattle.std.proofs.lemmas.List.{drop_more}
 use Rattle.asn_base.specs.Seen.{component_of, kind_of}
@@ -738,7 +738,7 @@ read_members-returns-in-Err-clause-places t c = c.in-Err.ensures.places ∙ c.lo
 pub read_members-loop-i-preserved : goal.read_members-loop-i-preserved
 read_members-loop-i-preserved t c = 
     (members_next c.args.reader.code.now c.args.reader.levels (components (kind_at c.args.reader.code.now c.args.reader.id.index)) c.args.sent.now c.loop-i.i _ (row_of_values c.loop-i.row.items) c.loop-i.progress.skipped c.loop-i.progress.left (bits_left c.loop-i.bits) (drop_more c.args.sent.now c.loop-i.i _ c.loop-i-test.true) (run_members c.args.reader.code.now c.args.reader.levels (run_value c.args.reader.code.now c.args.reader.levels) (components (kind_at c.args.reader.code.now c.args.reader.id.index)) c.args.sent.now (row_of_values c.args.row.now.items) c.args.progress.now.skipped c.args.progress.now.left (bits_left c.args.bits.now)) (row_of_values c.read_member.new.row.items) c.read_member.new.progress.skipped c.read_member.new.progress.left (bits_left c.read_member.new.bits) c.loop-i.invariant.0 c.in-Ok.ensures.ok,
-    went_on c.args.progress.now c.loop-i.progress c.read_member.new.progress (bits_left c.args.bits.now) (bits_left c.loop-i.bits) (bits_left c.read_member.new.bits) c.loop-i.invariant.1 c.in-Ok.ensures.went,
+    both_went c.args.progress.now c.loop-i.progress c.read_member.new.progress (bits_left c.args.bits.now) (bits_left c.loop-i.bits) (bits_left c.read_member.new.bits) c.loop-i.invariant.1 c.in-Ok.ensures.went,
     c.in-Ok.ensures.places ∙ c.loop-i.invariant.2)
 
 -- src/run.rt:350:1
@@ -1124,7 +1124,7 @@ pub read_row-read_members-requires : goal.read_row-read_members-requires
 read_row-read_members-requires t c = 
     let d = c.decreases in
     let lt : 30 * c.args.reader.levels + 20 < t = omega (arith, d) in
-    (lt, (c.requires.few, (room_left c.args.progress.now c.args.progress.now (bits_left c.args.bits.now) (bits_left c.read_presences.new.bits) c.requires.room (went_on c.args.progress.now c.args.progress.now c.args.progress.now (bits_left c.args.bits.now) (bits_left c.read_mark.new.bits) (bits_left c.read_presences.new.bits) (went_shorter c.args.progress.now (bits_left c.args.bits.now) (bits_left c.read_mark.new.bits) c.in-Ok.ensures.shorter) (went_shorter c.args.progress.now (bits_left c.read_mark.new.bits) (bits_left c.read_presences.new.bits) c.in-Ok-read_presences.ensures.shorter)), ((subst (AreSent c.args.reader.code.now c.args.reader.id.index) (sym c.as_slice.ensures.value) (sent_fit c.args.reader.code.now c.args.reader.id.index c.in-Ok-read_presences.sent.items (fields_in c.next.result.now) c.in-Ok-read_presences.ensures.fields (fields_fit c.args.reader.code.now c.args.reader.id.index c.next.result.now (subst (FieldsFit c.args.reader.code.now c.args.reader.id.index) (sym c.next.ensures) (all_taken (FieldOf c.args.reader.code.now c.args.reader.id.index) c.args.shape.count c.args.shape.steps.now c.requires.fit))))), c.requires.places))))
+    (lt, (c.requires.few, (room_left c.args.progress.now c.args.progress.now (bits_left c.args.bits.now) (bits_left c.read_presences.new.bits) c.requires.room (both_went c.args.progress.now c.args.progress.now c.args.progress.now (bits_left c.args.bits.now) (bits_left c.read_mark.new.bits) (bits_left c.read_presences.new.bits) (went_shorter c.args.progress.now (bits_left c.args.bits.now) (bits_left c.read_mark.new.bits) c.in-Ok.ensures.shorter) (went_shorter c.args.progress.now (bits_left c.read_mark.new.bits) (bits_left c.read_presences.new.bits) c.in-Ok-read_presences.ensures.shorter)), ((subst (AreSent c.args.reader.code.now c.args.reader.id.index) (sym c.as_slice.ensures.value) (sent_fit c.args.reader.code.now c.args.reader.id.index c.in-Ok-read_presences.sent.items (fields_in c.next.result.now) c.in-Ok-read_presences.ensures.fields (fields_fit c.args.reader.code.now c.args.reader.id.index c.next.result.now (subst (FieldsFit c.args.reader.code.now c.args.reader.id.index) (sym c.next.ensures) (all_taken (FieldOf c.args.reader.code.now c.args.reader.id.index) c.args.shape.count c.args.shape.steps.now c.requires.fit))))), c.requires.places))))
 
 pub read_row-returns-in-Err-read_members-clause-err : goal.read_row-returns-in-Err-read_members-clause-err
 read_row-returns-in-Err-read_members-clause-err t c = 
@@ -1136,7 +1136,7 @@ pub read_row-read_extension-requires : goal.read_row-read_extension-requires
 read_row-read_extension-requires t c = 
     let d = c.decreases in
     let lt : 30 * c.args.reader.levels + 26 < t = omega (arith, d) in
-    (lt, (c.requires.few, (room_left c.args.progress.now c.read_members.new.progress (bits_left c.args.bits.now) (bits_left c.read_members.new.bits) c.requires.room (went_on c.args.progress.now c.args.progress.now c.read_members.new.progress (bits_left c.args.bits.now) (bits_left c.read_presences.new.bits) (bits_left c.read_members.new.bits) (went_on c.args.progress.now c.args.progress.now c.args.progress.now (bits_left c.args.bits.now) (bits_left c.read_mark.new.bits) (bits_left c.read_presences.new.bits) (went_shorter c.args.progress.now (bits_left c.args.bits.now) (bits_left c.read_mark.new.bits) c.in-Ok.ensures.shorter) (went_shorter c.args.progress.now (bits_left c.read_mark.new.bits) (bits_left c.read_presences.new.bits) c.in-Ok-read_presences.ensures.shorter)) c.in-Ok-read_members.ensures.went), (subst (FieldsFit c.args.reader.code.now c.args.reader.id.index) (sym c.past.ensures) (all_dropped (FieldOf c.args.reader.code.now c.args.reader.id.index) c.args.shape.count c.args.shape.steps.now c.requires.fit), c.in-Ok-read_members.ensures.places ∙ c.requires.places))))
+    (lt, (c.requires.few, (room_left c.args.progress.now c.read_members.new.progress (bits_left c.args.bits.now) (bits_left c.read_members.new.bits) c.requires.room (both_went c.args.progress.now c.args.progress.now c.read_members.new.progress (bits_left c.args.bits.now) (bits_left c.read_presences.new.bits) (bits_left c.read_members.new.bits) (both_went c.args.progress.now c.args.progress.now c.args.progress.now (bits_left c.args.bits.now) (bits_left c.read_mark.new.bits) (bits_left c.read_presences.new.bits) (went_shorter c.args.progress.now (bits_left c.args.bits.now) (bits_left c.read_mark.new.bits) c.in-Ok.ensures.shorter) (went_shorter c.args.progress.now (bits_left c.read_mark.new.bits) (bits_left c.read_presences.new.bits) c.in-Ok-read_presences.ensures.shorter)) c.in-Ok-read_members.ensures.went), (subst (FieldsFit c.args.reader.code.now c.args.reader.id.index) (sym c.past.ensures) (all_dropped (FieldOf c.args.reader.code.now c.args.reader.id.index) c.args.shape.count c.args.shape.steps.now c.requires.fit), c.in-Ok-read_members.ensures.places ∙ c.requires.places))))
 
 -- src/run.rt:329:1
 pub read_row-returns-then-more-clause-ok : goal.read_row-returns-then-more-clause-ok
@@ -1152,7 +1152,7 @@ read_row-returns-then-more-clause-err t c =
 
 -- src/run.rt:329:1
 pub read_row-returns-then-more-clause-went : goal.read_row-returns-then-more-clause-went
-read_row-returns-then-more-clause-went t c = went_done c.read_extension.result c.args.progress.now c.read_members.new.progress c.read_extension.new.progress (bits_left c.args.bits.now) (bits_left c.read_members.new.bits) (bits_left c.read_extension.new.bits) (went_on c.args.progress.now c.args.progress.now c.read_members.new.progress (bits_left c.args.bits.now) (bits_left c.read_presences.new.bits) (bits_left c.read_members.new.bits) (went_on c.args.progress.now c.args.progress.now c.args.progress.now (bits_left c.args.bits.now) (bits_left c.read_mark.new.bits) (bits_left c.read_presences.new.bits) (went_shorter c.args.progress.now (bits_left c.args.bits.now) (bits_left c.read_mark.new.bits) c.in-Ok.ensures.shorter) (went_shorter c.args.progress.now (bits_left c.read_mark.new.bits) (bits_left c.read_presences.new.bits) c.in-Ok-read_presences.ensures.shorter)) c.in-Ok-read_members.ensures.went) c.read_extension.ensures.went
+read_row-returns-then-more-clause-went t c = went_done c.read_extension.result c.args.progress.now c.read_members.new.progress c.read_extension.new.progress (bits_left c.args.bits.now) (bits_left c.read_members.new.bits) (bits_left c.read_extension.new.bits) (both_went c.args.progress.now c.args.progress.now c.read_members.new.progress (bits_left c.args.bits.now) (bits_left c.read_presences.new.bits) (bits_left c.read_members.new.bits) (both_went c.args.progress.now c.args.progress.now c.args.progress.now (bits_left c.args.bits.now) (bits_left c.read_mark.new.bits) (bits_left c.read_presences.new.bits) (went_shorter c.args.progress.now (bits_left c.args.bits.now) (bits_left c.read_mark.new.bits) c.in-Ok.ensures.shorter) (went_shorter c.args.progress.now (bits_left c.read_mark.new.bits) (bits_left c.read_presences.new.bits) c.in-Ok-read_presences.ensures.shorter)) c.in-Ok-read_members.ensures.went) c.read_extension.ensures.went
 
 -- src/run.rt:304:1
 pub read_row-returns-clause-ok : goal.read_row-returns-clause-ok
@@ -1160,7 +1160,7 @@ read_row-returns-clause-ok t c = (rest_is c.args.reader.code.now c.args.reader.l
 
 -- src/run.rt:304:1
 pub read_row-returns-clause-went : goal.read_row-returns-clause-went
-read_row-returns-clause-went t c = (went_on c.args.progress.now c.args.progress.now c.read_members.new.progress (bits_left c.args.bits.now) (bits_left c.read_presences.new.bits) (bits_left c.read_members.new.bits) (went_on c.args.progress.now c.args.progress.now c.args.progress.now (bits_left c.args.bits.now) (bits_left c.read_mark.new.bits) (bits_left c.read_presences.new.bits) (went_shorter c.args.progress.now (bits_left c.args.bits.now) (bits_left c.read_mark.new.bits) c.in-Ok.ensures.shorter) (went_shorter c.args.progress.now (bits_left c.read_mark.new.bits) (bits_left c.read_presences.new.bits) c.in-Ok-read_presences.ensures.shorter)) c.in-Ok-read_members.ensures.went)
+read_row-returns-clause-went t c = (both_went c.args.progress.now c.args.progress.now c.read_members.new.progress (bits_left c.args.bits.now) (bits_left c.read_presences.new.bits) (bits_left c.read_members.new.bits) (both_went c.args.progress.now c.args.progress.now c.args.progress.now (bits_left c.args.bits.now) (bits_left c.read_mark.new.bits) (bits_left c.read_presences.new.bits) (went_shorter c.args.progress.now (bits_left c.args.bits.now) (bits_left c.read_mark.new.bits) c.in-Ok.ensures.shorter) (went_shorter c.args.progress.now (bits_left c.read_mark.new.bits) (bits_left c.read_presences.new.bits) c.in-Ok-read_presences.ensures.shorter)) c.in-Ok-read_members.ensures.went)
 
 -- src/run.rt:114:32
 pub read_steps-read_fields-requires : goal.read_steps-read_fields-requires
