@@ -27,3 +27,4 @@ mod RunningFits
 mod RunningSteps
 mod ValueRun
 mod Plans
+mod OpenRun

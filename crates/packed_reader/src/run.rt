@@ -261,7 +261,8 @@ fn read_opened(
         }
         Err(stop) => stop,
     };
-    *bits = fault_place(start, *bits, octets.len(), inner.len());
+    let left = inner.len().min(all);
+    *bits = fault_place(start, *bits, octets.len(), left);
     Err(stop)
 }
 
@@ -688,7 +689,8 @@ fn read_group(
         }
         Err(stop) => stop,
     };
-    *bits = fault_place(start, *bits, octets.len(), inner.len());
+    let left = inner.len().min(all);
+    *bits = fault_place(start, *bits, octets.len(), left);
     Err(stop)
 }
 
