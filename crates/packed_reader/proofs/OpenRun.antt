@@ -14,11 +14,9 @@ use Rattle.packed_code.specs.declared.step.PackedStep.{PackedStep}
 use Rattle.packed_code.specs.declared.step.PackedStep.TheVariants as steps
 use Rattle.packed_encodings.specs.Computed.{kind_at}
 use Rattle.packed_encodings.specs.Lengths.{Bits}
-use Rattle.packed_readings.specs.declared.refusal.Refusal.{Refusal}
 use Rattle.packed_readings.specs.declared.refusal.Refusal.TheVariants as why
 use Rattle.packed_readings.specs.Counts.{octets_from}
 use Rattle.packed_readings.specs.Outcome.{Outcome, found, stops}
-use Rattle.packed_reader.specs.declared.part.Part.{Part}
 use Rattle.packed_reader.specs.declared.part.Part.TheVariants.{Component as Component'}
 use Rattle.packed_reader.specs.declared.reader.Progress.{Progress}
 use Rattle.packed_reader.specs.declared.sent.Sent.{Sent}
@@ -29,7 +27,7 @@ use Rattle.packed_reader.specs.Structures.{is_filling, open_from, unknown_from, 
 use Rattle.packed_reader.specs.proving.Code.{AreSent, HasRoom, IsStop, IsStopAt, IsWithin, Went, row_of_values}
 use Rattle.packed_reader.specs.proving.Running.{RunsValue, any_sent, first_bit, is_addition, other_bits, put, run_added, run_additions, run_first, run_members, run_presences, run_unknown}
 use Rattle.packed_writer.specs.proving.Values.{FieldFits, FieldOf, FieldsFit, fields_in}
-use Rattle.packed_reader.proofs.Flow.{stop_as, stop_at, stop_next, stop_within}
+use Rattle.packed_reader.proofs.Flow.{stop_as, stop_next, stop_within}
 use Rattle.packed_reader.proofs.Opening.{octets_length}
 use Rattle.packed_reader.proofs.RunningState.{next_next, plus_none}
 use Rattle.packed_reader.proofs.ValueRun.{open_good, open_stop, open_unfilled}

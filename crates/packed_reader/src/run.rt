@@ -261,6 +261,7 @@ fn read_opened(
         }
         Err(stop) => stop,
     };
+    // Where an allocation failed, nothing is known of the bits that are left.
     let left = inner.len().min(all);
     *bits = fault_place(start, *bits, octets.len(), left);
     Err(stop)
@@ -689,6 +690,7 @@ fn read_group(
         }
         Err(stop) => stop,
     };
+    // Where an allocation failed, nothing is known of the bits that are left.
     let left = inner.len().min(all);
     *bits = fault_place(start, *bits, octets.len(), left);
     Err(stop)

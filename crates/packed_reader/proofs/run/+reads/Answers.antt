@@ -326,9 +326,19 @@ pub read_additions-read_addition-requires : goal.read_additions-read_addition-re
 read_additions-read_addition-requires t c =
     let s = c.args.reader.code.now in
     let u = c.args.reader.id.index in
-    let lt : 30 * c.args.reader.levels + 24 < t = let d = c.decreases in omega (arith, d) in
-    (lt, (c.requires.few, (room_after c.args.progress.now c.loop-i.progress (bits_left c.args.bits.now) (bits_left c.loop-i.bits) c.requires.room c.loop-i.invariant.1, (
-      subst (FieldsFit s u) (sym c.after.ensures) (fit_drop (FieldOf s u) c.loop-i.i c.args.additions.steps.now c.requires.fit), c.loop-i.invariant.2 ∙ c.requires.places))))
+    let lt : 30 * c.args.reader.levels + 24 < t = let d = c.decreases in omega (arith, d) in (
+      lt,
+      (
+        c.requires.few,
+        (
+          room_after c.args.progress.now c.loop-i.progress (bits_left c.args.bits.now) (bits_left c.loop-i.bits) c.requires.room c.loop-i.invariant.1,
+          (
+            subst (FieldsFit s u) (sym c.after.ensures) (fit_drop (FieldOf s u) c.loop-i.i c.args.additions.steps.now c.requires.fit),
+            c.loop-i.invariant.2 ∙ c.requires.places,
+          ),
+        ),
+      ),
+    )
 
 -- src/run.rt:554:34
 pub read_additions-returns-in-Err-clause-err : goal.read_additions-returns-in-Err-clause-err
@@ -363,15 +373,15 @@ read_additions-loop-i-preserved t c =
     elim c.if-is_addition.branch [
       | goal.read_additions-then-is_addition w ↦ elim w.if-first_bit.branch [
         | goal.read_additions-then-first_bit+in-Ok w' ↦ before_as s l (run_value s l) cs all c.args.progress.now b (length c.args.row.now.items) (drop (c.loop-i.i + 1) steps) c.if-is_addition.map.now (other_bits q) c.if-is_addition.row.items w'.read_addition.new.row.items c.if-is_addition.progress w'.read_addition.new.progress (bits_left c.if-is_addition.bits) (bits_left w'.read_addition.new.bits)
-        (ap (λ m. m.now) w.map-is ∙ w.other_bits-map.ensures) (ap (λ v. v.items) (w.row-is ∙ w'.row-is)) (w.progress-is ∙ w'.progress-is) (ap bits_left (w.bits-is ∙ w'.bits-is))
-        (before_read s l (run_value s l) cs all c.args.progress.now b (length c.args.row.now.items) (drop c.loop-i.i steps) (drop (c.loop-i.i + 1) steps) st d q c.loop-i.row.items c.loop-i.progress (bits_left c.loop-i.bits) c.loop-i.invariant w'.after.result.now w'.read_addition.new.row.items w'.read_addition.new.progress (bits_left w'.read_addition.new.bits) w'.after.ensures (sym c.is_addition.ensures ∙ w.if-is_addition.true) (sym w.first_bit.ensures ∙ w'.if-first_bit.true) w'.in-Ok.ensures.ok w'.in-Ok.ensures.went w'.in-Ok.ensures.places)
+            (ap (λ m. m.now) w.map-is ∙ w.other_bits-map.ensures) (ap (λ v. v.items) (w.row-is ∙ w'.row-is)) (w.progress-is ∙ w'.progress-is) (ap bits_left (w.bits-is ∙ w'.bits-is))
+            (before_read s l (run_value s l) cs all c.args.progress.now b (length c.args.row.now.items) (drop c.loop-i.i steps) (drop (c.loop-i.i + 1) steps) st d q c.loop-i.row.items c.loop-i.progress (bits_left c.loop-i.bits) c.loop-i.invariant w'.after.result.now w'.read_addition.new.row.items w'.read_addition.new.progress (bits_left w'.read_addition.new.bits) w'.after.ensures (sym c.is_addition.ensures ∙ w.if-is_addition.true) (sym w.first_bit.ensures ∙ w'.if-first_bit.true) w'.in-Ok.ensures.ok w'.in-Ok.ensures.went w'.in-Ok.ensures.places)
         | goal.read_additions-else-first_bit w' ↦ before_as s l (run_value s l) cs all c.args.progress.now b (length c.args.row.now.items) (drop (c.loop-i.i + 1) steps) c.if-is_addition.map.now (other_bits q) c.if-is_addition.row.items c.loop-i.row.items c.if-is_addition.progress c.loop-i.progress (bits_left c.if-is_addition.bits) (bits_left c.loop-i.bits)
-        (ap (λ m. m.now) w.map-is ∙ w.other_bits-map.ensures) (ap (λ v. v.items) (w.row-is ∙ w'.row-is)) (w.progress-is ∙ w'.progress-is) (ap bits_left (w.bits-is ∙ w'.bits-is))
-        (before_left s l (run_value s l) cs all c.args.progress.now b (length c.args.row.now.items) (drop c.loop-i.i steps) (drop (c.loop-i.i + 1) steps) st d q c.loop-i.row.items c.loop-i.progress (bits_left c.loop-i.bits) c.loop-i.invariant (sym c.is_addition.ensures ∙ w.if-is_addition.true) (sym w.first_bit.ensures ∙ w'.if-first_bit.false))
+            (ap (λ m. m.now) w.map-is ∙ w.other_bits-map.ensures) (ap (λ v. v.items) (w.row-is ∙ w'.row-is)) (w.progress-is ∙ w'.progress-is) (ap bits_left (w.bits-is ∙ w'.bits-is))
+            (before_left s l (run_value s l) cs all c.args.progress.now b (length c.args.row.now.items) (drop c.loop-i.i steps) (drop (c.loop-i.i + 1) steps) st d q c.loop-i.row.items c.loop-i.progress (bits_left c.loop-i.bits) c.loop-i.invariant (sym c.is_addition.ensures ∙ w.if-is_addition.true) (sym w.first_bit.ensures ∙ w'.if-first_bit.false))
       ]
       | goal.read_additions-else-is_addition w ↦ before_as s l (run_value s l) cs all c.args.progress.now b (length c.args.row.now.items) (drop (c.loop-i.i + 1) steps) c.if-is_addition.map.now q c.if-is_addition.row.items c.loop-i.row.items c.if-is_addition.progress c.loop-i.progress (bits_left c.if-is_addition.bits) (bits_left c.loop-i.bits)
-        (ap (λ m. m.now) w.map-is) (ap (λ v. v.items) (w.row-is)) (w.progress-is) (ap bits_left (w.bits-is))
-        (before_none s l (run_value s l) cs all c.args.progress.now b (length c.args.row.now.items) (drop c.loop-i.i steps) (drop (c.loop-i.i + 1) steps) st d q c.loop-i.row.items c.loop-i.progress (bits_left c.loop-i.bits) c.loop-i.invariant (sym c.is_addition.ensures ∙ w.if-is_addition.false))
+          (ap (λ m. m.now) w.map-is) (ap (λ v. v.items) (w.row-is)) (w.progress-is) (ap bits_left (w.bits-is))
+          (before_none s l (run_value s l) cs all c.args.progress.now b (length c.args.row.now.items) (drop c.loop-i.i steps) (drop (c.loop-i.i + 1) steps) st d q c.loop-i.row.items c.loop-i.progress (bits_left c.loop-i.bits) c.loop-i.invariant (sym c.is_addition.ensures ∙ w.if-is_addition.false))
     ]
 
 -- src/run.rt:560:5
@@ -843,9 +853,19 @@ pub read_group_members-read_members-requires : goal.read_group_members-read_memb
 read_group_members-read_members-requires t c =
     let s = c.args.reader.code.now in
     let u = c.args.reader.id.index in
-    let lt : 30 * c.args.reader.levels + 20 < t = let d = c.decreases in omega (arith, d) in
-    (lt, (c.requires.few, (room_shorter c.args.progress.now (bits_left c.args.bits.now) (bits_left c.read_presences.new.bits) c.requires.room c.in-Ok.ensures.shorter, (
-      are_sent s u c.args.steps.now c.in-Ok.sent.items c.as_slice-2.result.now c.requires.fit c.in-Ok.ensures.fields c.as_slice-2.ensures.value, c.requires.places))))
+    let lt : 30 * c.args.reader.levels + 20 < t = let d = c.decreases in omega (arith, d) in (
+      lt,
+      (
+        c.requires.few,
+        (
+          room_shorter c.args.progress.now (bits_left c.args.bits.now) (bits_left c.read_presences.new.bits) c.requires.room c.in-Ok.ensures.shorter,
+          (
+            are_sent s u c.args.steps.now c.in-Ok.sent.items c.as_slice-2.result.now c.requires.fit c.in-Ok.ensures.fields c.as_slice-2.ensures.value,
+            c.requires.places,
+          ),
+        ),
+      ),
+    )
 
 -- src/run.rt:696:1
 pub read_group_members-returns-clause-ok : goal.read_group_members-returns-clause-ok
@@ -1139,7 +1159,7 @@ read_opened-returns-clause-err t c =
     let y = c.match-read_value.stop in
     let bad : (v : Taken AbstractValue) (a : ℕ) (t : Bool) (x : Stop) → f i ≡ read v z → a ≡ length z → t ≡ is_filling (c.len-all.result - a) z → t ≡ false → IsStopAt Padding x → y ≡ x → IsStop (open_from f b) y p
     = λ v a t x g e u w q j. inner_bad f b r i o sl h c.in-Ok.ensures.ok z p v c.len-all.result a c.len-2.result c.len-3.result c.min-left.result t x y
-        (λ v. c.inside_laws.ensures.value_read s l c.args.reader.id.index k n i z v c.accepted.ensures) g c.len-all.ensures e u w q j (c.len-3.ensures ∙ c.in-Ok.octets.ok.0) c.len-2.ensures c.min-left.ensures c.fault_place.ensures in
+    (λ v. c.inside_laws.ensures.value_read s l c.args.reader.id.index k n i z v c.accepted.ensures) g c.len-all.ensures e u w q j (c.len-3.ensures ∙ c.in-Ok.octets.ok.0) c.len-2.ensures c.min-left.ensures c.fault_place.ensures in
     elim c.match-read_value.branch [
       | goal.read_opened-in-Ok-read_value+else-fills+in-Bits-1 w ↦ bad (taken (abstract w.in-Ok-read_value.value) c.read_value.new.progress.skipped c.read_value.new.progress.left) w.len.result w.fills.result w.at-stop.result w.in-Ok-read_value.ensures.ok w.len.ensures w.fills.ensures w.if-fills.false w.at-stop.ensures w.stop-is
       | goal.read_opened-in-Ok-read_value+else-fills+in-Octets-1 w ↦ bad (taken (abstract w.in-Ok-read_value.value) c.read_value.new.progress.skipped c.read_value.new.progress.left) w.len.result w.fills.result w.at-stop.result w.in-Ok-read_value.ensures.ok w.len.ensures w.fills.ensures w.if-fills.false w.at-stop.ensures w.stop-is
