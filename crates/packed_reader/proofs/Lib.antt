@@ -30,3 +30,4 @@ mod Plans
 mod MemberRun
 mod Calls
 mod Listing
+mod OpenRun

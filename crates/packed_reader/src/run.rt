@@ -266,7 +266,9 @@ fn read_opened(
         }
         Err(stop) => stop,
     };
-    *bits = fault_place(start, *bits, octets.len(), inner.len());
+    // Where an allocation failed, nothing is known of the bits that are left.
+    let left = inner.len().min(all);
+    *bits = fault_place(start, *bits, octets.len(), left);
     Err(stop)
 }
 
@@ -695,7 +697,9 @@ fn read_group(
         }
         Err(stop) => stop,
     };
-    *bits = fault_place(start, *bits, octets.len(), inner.len());
+    // Where an allocation failed, nothing is known of the bits that are left.
+    let left = inner.len().min(all);
+    *bits = fault_place(start, *bits, octets.len(), left);
     Err(stop)
 }
 

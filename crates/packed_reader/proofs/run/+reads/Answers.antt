@@ -30,6 +30,22 @@ use Rattle.packed_reader.proofs.Listing.{memory_stops, nothing_returned, returne
 use Rattle.packed_reader.proofs.Parts.{IsSoFar, part_last, part_more, stop_last, stop_more, so_far_first, so_far_last, so_far_more, so_far_stops, so_far_all}
 use Rattle.packed_reader.proofs.Plans.{reading_shorter}
 use Rattle.packed_reader.proofs.run.+reads.Goals.{read_element-else-sorted-via-then-sorted+else-not-at_most, read_element-else-sorted-via-else-sorted}
+use Rattle.std.proofs.Common.{arith, refl, sym, ap, subst, ◌∙◌, drop}
+use Rattle.std.proofs.lemmas.List.{drop_all, drop_more}
+use Rattle.packed_code.specs.declared.step.PackedStep.TheVariants.{Bit}
+use Rattle.packed_reader.specs.proving.Running.{other_bits}
+use Rattle.asn_base.specs.Abstract.{AbstractValue, Row}
+use Rattle.packed_encodings.specs.Lengths.{Bits}
+use Rattle.packed_readings.specs.declared.refusal.Refusal.TheVariants.{NotCanonical, Padding}
+use Rattle.packed_reader.specs.declared.sent.Sent.{Sent}
+use Rattle.packed_reader.specs.declared.stop.Stop.{Stop}
+use Rattle.packed_reader.specs.Readings.{Reading, read, Taken, taken}
+use Rattle.packed_reader.specs.Structures.{bitmap_from, is_filling}
+use Rattle.packed_reader.specs.proving.Code.{IsStopAt}
+use Rattle.packed_reader.specs.proving.Running.{any_sent, is_addition}
+use Rattle.packed_reader.proofs.Flow.{stop_at, stop_next, went_same}
+use Rattle.packed_reader.proofs.ValueRun.{open_none}
+use Rattle.packed_reader.proofs.OpenRun.{err_as as open_err_as, ok_as as open_ok_as, went_on as open_went_on, room_after as open_room_after, room_shorter, Octets, octets_few, inner_room, inner_went, left_in, place_room, inner_good, inner_bad, inner_stop, fit_take, fit_drop, added_stop, added_good, field_inside, are_sent, some_sent, none_sent, stop_sent, one_of, first_none, before_as, before_none, before_left, before_read, before_stop, before_end, before_fault, before_went}
 use Rattle.packed_reader.proofs.run.+reads.Goals as goal
 use Rattle.std.proofs.Common.{arith, refl, sym, ap, subst, ◌∙◌}
 use Rattle.packed_readings.specs.declared.refusal.Refusal.TheVariants as why
@@ -57,199 +73,403 @@ as_steps c = value_steps c.running_laws.ensures c.args.reader.code.now c.args.re
 
 -- src/run.rt:631:23
 pub read_added-read_opened-requires : goal.read_added-read_opened-requires
-read_added-read_opened-requires t c = ?
+read_added-read_opened-requires t c =
+    let lt : 30 * c.args.reader.levels + 10 < t = let d = c.decreases in omega (arith, d) in
+    (lt, (c.requires.few, c.requires.room))
 
 -- src/run.rt:640:22
 pub read_added-returns-in-Err-clause-err : goal.read_added-returns-in-Err-clause-err
-read_added-returns-in-Err-clause-err t c = ?
+read_added-returns-in-Err-clause-err t c =
+    let s = c.args.reader.code.now in
+    let l = c.args.reader.levels in
+    let k = c.args.progress.now.skipped in
+    let n = c.args.progress.now.left in
+    let b = bits_left c.args.bits.now in
+    added_stop (run_value s l) c.args.field (row_of_values c.args.row.now.items) k n b (bits_left c.read_opened.new.bits) c.in-Err.stop c.within.result c.in-Err.ensures.err c.within.ensures
 
 -- src/run.rt:640:22
 pub read_added-returns-in-Err-clause-places : goal.read_added-returns-in-Err-clause-places
-read_added-returns-in-Err-clause-places t c = ?
+read_added-returns-in-Err-clause-places t c = refl
 
 -- src/run.rt:642:5
 pub read_added-put-requires : goal.read_added-put-requires
-read_added-put-requires t c = ?
+read_added-put-requires t c = field_inside c.args.reader.code.now c.args.reader.id.index c.args.field (length c.args.row.now.items) c.requires.fits c.requires.places
 
 -- src/run.rt:607:1
 pub read_added-returns-clause-ok : goal.read_added-returns-clause-ok
-read_added-returns-clause-ok t c = ?
+read_added-returns-clause-ok t c =
+    let s = c.args.reader.code.now in
+    let l = c.args.reader.levels in
+    let k = c.args.progress.now.skipped in
+    let n = c.args.progress.now.left in
+    let b = bits_left c.args.bits.now in
+    added_good (run_value s l) c.args.field (row_of_values c.args.row.now.items) k n b (bits_left c.read_opened.new.bits) (row_of_values c.put.new.row.items) (abstract c.in-Ok.value) c.read_opened.new.progress.skipped c.read_opened.new.progress.left c.in-Ok.ensures.ok c.put.ensures.row
 
 -- src/run.rt:607:1
 pub read_added-returns-clause-went : goal.read_added-returns-clause-went
-read_added-returns-clause-went t c = ?
+read_added-returns-clause-went t c = c.in-Ok.ensures.went
 
 -- src/run.rt:607:1
 pub read_added-returns-clause-places : goal.read_added-returns-clause-places
-read_added-returns-clause-places t c = ?
+read_added-returns-clause-places t c = c.put.ensures.length
 
 -- src/run.rt:591:9
 pub read_addition-returns-in_default-clause-ok : goal.read_addition-returns-in_default-clause-ok
-read_addition-returns-in_default-clause-ok t c = ?
+read_addition-returns-in_default-clause-ok t c =
+    let s = c.args.reader.code.now in
+    let l = c.args.reader.levels in
+    let k = c.args.progress.now.skipped in
+    let n = c.args.progress.now.left in
+    let b = bits_left c.args.bits.now in
+    let cs = components (kind_at s c.args.reader.id.index) in
+    let ws = row_of_values c.args.row.now.items in
+    ap (λ q. run_first s l (run_value s l) cs q ws k n b) c.in_default.ensures
 
 -- src/run.rt:591:9
 pub read_addition-returns-in_default-clause-went :
     goal.read_addition-returns-in_default-clause-went
-read_addition-returns-in_default-clause-went t c = ?
+read_addition-returns-in_default-clause-went t c = went_same c.args.progress.now (bits_left c.args.bits.now)
 
 -- src/run.rt:591:9
 pub read_addition-returns-in_default-clause-places :
     goal.read_addition-returns-in_default-clause-places
-read_addition-returns-in_default-clause-places t c = ?
+read_addition-returns-in_default-clause-places t c = refl
 
 -- src/run.rt:594:37
 pub read_addition-read_added-requires : goal.read_addition-read_added-requires
-read_addition-read_added-requires t c = ?
+read_addition-read_added-requires t c =
+    let s = c.args.reader.code.now in
+    let u = c.args.reader.id.index in
+    let lt : 30 * c.args.reader.levels + 17 < t = let d = c.decreases in omega (arith, d) in
+    let g = subst (FieldsFit s u) (c.in-Some.ensures ∙ ap (λ q. q ∷ c.in-Some.rest.now) c.in-Added.is) c.requires.fit in
+    (lt, (c.requires.few, (c.requires.room, (g.0, c.requires.places))))
 
 -- src/run.rt:595:37
 pub read_addition-read_group-requires : goal.read_addition-read_group-requires
-read_addition-read_group-requires t c = ?
+read_addition-read_group-requires t c =
+    let s = c.args.reader.code.now in
+    let u = c.args.reader.id.index in
+    let lt : 30 * c.args.reader.levels + 23 < t = let d = c.decreases in omega (arith, d) in
+    let g = subst (FieldsFit s u) (c.in-Some.ensures ∙ ap (λ q. q ∷ c.in-Some.rest.now) c.in-Group.is) c.requires.fit in
+    (lt, (c.requires.few, (c.requires.room, (subst (FieldsFit s u) (sym c.next.ensures) (fit_take (FieldOf s u) c.in-Group.count c.in-Some.rest.now g.1), c.requires.places))))
 
 -- src/run.rt:564:1
 pub read_addition-returns-in-Added-clause-ok : goal.read_addition-returns-in-Added-clause-ok
-read_addition-returns-in-Added-clause-ok t c = ?
+read_addition-returns-in-Added-clause-ok t c =
+    let s = c.args.reader.code.now in
+    let l = c.args.reader.levels in
+    let k = c.args.progress.now.skipped in
+    let n = c.args.progress.now.left in
+    let b = bits_left c.args.bits.now in
+    let cs = components (kind_at s c.args.reader.id.index) in
+    let ws = row_of_values c.args.row.now.items in
+    let e : run_first s l (run_value s l) cs c.args.steps.now ws k n b ≡ run_added (run_value s l) c.in-Added.field ws k n b
+    = ap (λ q. run_first s l (run_value s l) cs q ws k n b) (c.in-Some.ensures ∙ ap (λ q. q ∷ c.in-Some.rest.now) c.in-Added.is) in
+    open_ok_as c.read_added.result (run_first s l (run_value s l) cs c.args.steps.now ws k n b) (run_added (run_value s l) c.in-Added.field ws k n b) (taken (row_of_values c.read_added.new.row.items) c.read_added.new.progress.skipped c.read_added.new.progress.left) (bits_left c.read_added.new.bits) e c.read_added.ensures.ok
 
 -- src/run.rt:564:1
 pub read_addition-returns-in-Added-clause-err : goal.read_addition-returns-in-Added-clause-err
-read_addition-returns-in-Added-clause-err t c = ?
+read_addition-returns-in-Added-clause-err t c =
+    let s = c.args.reader.code.now in
+    let l = c.args.reader.levels in
+    let k = c.args.progress.now.skipped in
+    let n = c.args.progress.now.left in
+    let b = bits_left c.args.bits.now in
+    let cs = components (kind_at s c.args.reader.id.index) in
+    let ws = row_of_values c.args.row.now.items in
+    let e : run_first s l (run_value s l) cs c.args.steps.now ws k n b ≡ run_added (run_value s l) c.in-Added.field ws k n b
+    = ap (λ q. run_first s l (run_value s l) cs q ws k n b) (c.in-Some.ensures ∙ ap (λ q. q ∷ c.in-Some.rest.now) c.in-Added.is) in
+    open_err_as c.read_added.result (run_first s l (run_value s l) cs c.args.steps.now ws k n b) (run_added (run_value s l) c.in-Added.field ws k n b) (bits_left c.read_added.new.bits) e c.read_added.ensures.err
 
 -- src/run.rt:564:1
 pub read_addition-returns-in-Added-clause-went : goal.read_addition-returns-in-Added-clause-went
-read_addition-returns-in-Added-clause-went t c = ?
+read_addition-returns-in-Added-clause-went t c = c.read_added.ensures.went
 
 -- src/run.rt:564:1
 pub read_addition-returns-in-Added-clause-places :
     goal.read_addition-returns-in-Added-clause-places
-read_addition-returns-in-Added-clause-places t c = ?
+read_addition-returns-in-Added-clause-places t c = c.read_added.ensures.places
 
 -- src/run.rt:564:1
 pub read_addition-returns-in-Group-clause-ok : goal.read_addition-returns-in-Group-clause-ok
-read_addition-returns-in-Group-clause-ok t c = ?
+read_addition-returns-in-Group-clause-ok t c =
+    let s = c.args.reader.code.now in
+    let l = c.args.reader.levels in
+    let k = c.args.progress.now.skipped in
+    let n = c.args.progress.now.left in
+    let b = bits_left c.args.bits.now in
+    let cs = components (kind_at s c.args.reader.id.index) in
+    let ws = row_of_values c.args.row.now.items in
+    let fs = fields_in c.next.result.now in
+    let e : run_first s l (run_value s l) cs c.args.steps.now ws k n b ≡ run_group s l (run_value s l) cs fs ws k n b
+    = ap (λ q. run_first s l (run_value s l) cs q ws k n b) (c.in-Some.ensures ∙ ap (λ q. q ∷ c.in-Some.rest.now) c.in-Group.is)
+    ∙ ap (λ q. run_group s l (run_value s l) cs q ws k n b) (sym (fields_taken c.in-Group.count c.in-Some.rest.now) ∙ ap fields_in (sym c.next.ensures)) in
+    open_ok_as c.read_group.result (run_first s l (run_value s l) cs c.args.steps.now ws k n b) (run_group s l (run_value s l) cs fs ws k n b) (taken (row_of_values c.read_group.new.row.items) c.read_group.new.progress.skipped c.read_group.new.progress.left) (bits_left c.read_group.new.bits) e c.read_group.ensures.ok
 
 -- src/run.rt:564:1
 pub read_addition-returns-in-Group-clause-err : goal.read_addition-returns-in-Group-clause-err
-read_addition-returns-in-Group-clause-err t c = ?
+read_addition-returns-in-Group-clause-err t c =
+    let s = c.args.reader.code.now in
+    let l = c.args.reader.levels in
+    let k = c.args.progress.now.skipped in
+    let n = c.args.progress.now.left in
+    let b = bits_left c.args.bits.now in
+    let cs = components (kind_at s c.args.reader.id.index) in
+    let ws = row_of_values c.args.row.now.items in
+    let fs = fields_in c.next.result.now in
+    let e : run_first s l (run_value s l) cs c.args.steps.now ws k n b ≡ run_group s l (run_value s l) cs fs ws k n b
+    = ap (λ q. run_first s l (run_value s l) cs q ws k n b) (c.in-Some.ensures ∙ ap (λ q. q ∷ c.in-Some.rest.now) c.in-Group.is)
+    ∙ ap (λ q. run_group s l (run_value s l) cs q ws k n b) (sym (fields_taken c.in-Group.count c.in-Some.rest.now) ∙ ap fields_in (sym c.next.ensures)) in
+    open_err_as c.read_group.result (run_first s l (run_value s l) cs c.args.steps.now ws k n b) (run_group s l (run_value s l) cs fs ws k n b) (bits_left c.read_group.new.bits) e c.read_group.ensures.err
 
 -- src/run.rt:564:1
 pub read_addition-returns-in-Group-clause-went : goal.read_addition-returns-in-Group-clause-went
-read_addition-returns-in-Group-clause-went t c = ?
+read_addition-returns-in-Group-clause-went t c = c.read_group.ensures.went
 
 -- src/run.rt:564:1
 pub read_addition-returns-in-Group-clause-places :
     goal.read_addition-returns-in-Group-clause-places
-read_addition-returns-in-Group-clause-places t c = ?
+read_addition-returns-in-Group-clause-places t c = c.read_group.ensures.places
 
 -- src/run.rt:564:1
 pub read_addition-returns-in-Bit-clause-ok : goal.read_addition-returns-in-Bit-clause-ok
-read_addition-returns-in-Bit-clause-ok t c = ?
+read_addition-returns-in-Bit-clause-ok t c =
+    let s = c.args.reader.code.now in
+    let l = c.args.reader.levels in
+    let k = c.args.progress.now.skipped in
+    let n = c.args.progress.now.left in
+    let b = bits_left c.args.bits.now in
+    let cs = components (kind_at s c.args.reader.id.index) in
+    let ws = row_of_values c.args.row.now.items in
+    let none : is_addition c.in-Some.step ≡ false = (one_of (λ e. ap is_addition e) (one_of (λ e. ap is_addition e.2) (one_of (λ e. ap is_addition e) (λ e. ap is_addition e.1)))) c.in-Bit.is in
+    ap (λ q. run_first s l (run_value s l) cs q ws k n b) c.in-Some.ensures ∙ first_none s l (run_value s l) cs c.in-Some.step c.in-Some.rest.now ws k n b none
 
 -- src/run.rt:564:1
 pub read_addition-returns-in-Bit-clause-went : goal.read_addition-returns-in-Bit-clause-went
-read_addition-returns-in-Bit-clause-went t c = ?
+read_addition-returns-in-Bit-clause-went t c = went_same c.args.progress.now (bits_left c.args.bits.now)
 
 -- src/run.rt:564:1
 pub read_addition-returns-in-Bit-clause-places : goal.read_addition-returns-in-Bit-clause-places
-read_addition-returns-in-Bit-clause-places t c = ?
+read_addition-returns-in-Bit-clause-places t c = refl
 
 -- src/run.rt:564:1
 pub read_addition-returns-in-Map-clause-ok : goal.read_addition-returns-in-Map-clause-ok
-read_addition-returns-in-Map-clause-ok t c = ?
+read_addition-returns-in-Map-clause-ok t c =
+    let s = c.args.reader.code.now in
+    let l = c.args.reader.levels in
+    let k = c.args.progress.now.skipped in
+    let n = c.args.progress.now.left in
+    let b = bits_left c.args.bits.now in
+    let cs = components (kind_at s c.args.reader.id.index) in
+    let ws = row_of_values c.args.row.now.items in
+    let none : is_addition c.in-Some.step ≡ false = (one_of (λ e. ap is_addition e.1) (one_of (λ e. ap is_addition e.1) (λ e. ap is_addition e.1))) c.in-Map.is in
+    ap (λ q. run_first s l (run_value s l) cs q ws k n b) c.in-Some.ensures ∙ first_none s l (run_value s l) cs c.in-Some.step c.in-Some.rest.now ws k n b none
 
 -- src/run.rt:564:1
 pub read_addition-returns-in-Map-clause-went : goal.read_addition-returns-in-Map-clause-went
-read_addition-returns-in-Map-clause-went t c = ?
+read_addition-returns-in-Map-clause-went t c = went_same c.args.progress.now (bits_left c.args.bits.now)
 
 -- src/run.rt:564:1
 pub read_addition-returns-in-Map-clause-places : goal.read_addition-returns-in-Map-clause-places
-read_addition-returns-in-Map-clause-places t c = ?
+read_addition-returns-in-Map-clause-places t c = refl
 
 -- src/run.rt:564:1
 pub read_addition-returns-in-Member-clause-ok : goal.read_addition-returns-in-Member-clause-ok
-read_addition-returns-in-Member-clause-ok t c = ?
+read_addition-returns-in-Member-clause-ok t c =
+    let s = c.args.reader.code.now in
+    let l = c.args.reader.levels in
+    let k = c.args.progress.now.skipped in
+    let n = c.args.progress.now.left in
+    let b = bits_left c.args.bits.now in
+    let cs = components (kind_at s c.args.reader.id.index) in
+    let ws = row_of_values c.args.row.now.items in
+    let none : is_addition c.in-Some.step ≡ false = (one_of (λ e. ap is_addition e.1) (one_of (λ e. ap is_addition e) (λ e. ap is_addition e.1))) c.in-Member.is in
+    ap (λ q. run_first s l (run_value s l) cs q ws k n b) c.in-Some.ensures ∙ first_none s l (run_value s l) cs c.in-Some.step c.in-Some.rest.now ws k n b none
 
 -- src/run.rt:564:1
 pub read_addition-returns-in-Member-clause-went : goal.read_addition-returns-in-Member-clause-went
-read_addition-returns-in-Member-clause-went t c = ?
+read_addition-returns-in-Member-clause-went t c = went_same c.args.progress.now (bits_left c.args.bits.now)
 
 -- src/run.rt:564:1
 pub read_addition-returns-in-Member-clause-places :
     goal.read_addition-returns-in-Member-clause-places
-read_addition-returns-in-Member-clause-places t c = ?
+read_addition-returns-in-Member-clause-places t c = refl
 
 -- src/run.rt:564:1
 pub read_addition-returns-in-EachSorted-clause-ok :
     goal.read_addition-returns-in-EachSorted-clause-ok
-read_addition-returns-in-EachSorted-clause-ok t c = ?
+read_addition-returns-in-EachSorted-clause-ok t c =
+    let s = c.args.reader.code.now in
+    let l = c.args.reader.levels in
+    let k = c.args.progress.now.skipped in
+    let n = c.args.progress.now.left in
+    let b = bits_left c.args.bits.now in
+    let cs = components (kind_at s c.args.reader.id.index) in
+    let ws = row_of_values c.args.row.now.items in
+    let none : is_addition c.in-Some.step ≡ false = (one_of (λ e. ap is_addition e.1) (λ e. ap is_addition e.1)) c.in-EachSorted.is in
+    ap (λ q. run_first s l (run_value s l) cs q ws k n b) c.in-Some.ensures ∙ first_none s l (run_value s l) cs c.in-Some.step c.in-Some.rest.now ws k n b none
 
 -- src/run.rt:564:1
 pub read_addition-returns-in-EachSorted-clause-went :
     goal.read_addition-returns-in-EachSorted-clause-went
-read_addition-returns-in-EachSorted-clause-went t c = ?
+read_addition-returns-in-EachSorted-clause-went t c = went_same c.args.progress.now (bits_left c.args.bits.now)
 
 -- src/run.rt:564:1
 pub read_addition-returns-in-EachSorted-clause-places :
     goal.read_addition-returns-in-EachSorted-clause-places
-read_addition-returns-in-EachSorted-clause-places t c = ?
+read_addition-returns-in-EachSorted-clause-places t c = refl
 
 -- src/run.rt:564:1
 pub read_addition-returns-in-Root-clause-ok : goal.read_addition-returns-in-Root-clause-ok
-read_addition-returns-in-Root-clause-ok t c = ?
+read_addition-returns-in-Root-clause-ok t c =
+    let s = c.args.reader.code.now in
+    let l = c.args.reader.levels in
+    let k = c.args.progress.now.skipped in
+    let n = c.args.progress.now.left in
+    let b = bits_left c.args.bits.now in
+    let cs = components (kind_at s c.args.reader.id.index) in
+    let ws = row_of_values c.args.row.now.items in
+    let none : is_addition c.in-Some.step ≡ false = (one_of (λ e. ap is_addition e.1) (λ e. ap is_addition e.2)) c.in-Root.is in
+    ap (λ q. run_first s l (run_value s l) cs q ws k n b) c.in-Some.ensures ∙ first_none s l (run_value s l) cs c.in-Some.step c.in-Some.rest.now ws k n b none
 
 -- src/run.rt:564:1
 pub read_addition-returns-in-Root-clause-went : goal.read_addition-returns-in-Root-clause-went
-read_addition-returns-in-Root-clause-went t c = ?
+read_addition-returns-in-Root-clause-went t c = went_same c.args.progress.now (bits_left c.args.bits.now)
 
 -- src/run.rt:564:1
 pub read_addition-returns-in-Root-clause-places : goal.read_addition-returns-in-Root-clause-places
-read_addition-returns-in-Root-clause-places t c = ?
+read_addition-returns-in-Root-clause-places t c = refl
 
 -- src/run.rt:549:5
 pub read_additions-loop-i-init : goal.read_additions-loop-i-init
-read_additions-loop-i-init t c = ?
+read_additions-loop-i-init t c = (refl, went_same c.args.progress.now (bits_left c.args.bits.now), refl)
 
 -- src/run.rt:550:24
 pub read_additions-offset_bounds-additions-i : goal.read_additions-offset_bounds-additions-i
-read_additions-offset_bounds-additions-i t c = ?
+read_additions-offset_bounds-additions-i t c = search rules
 
 -- src/run.rt:550:24
 pub read_additions-bounds-additions-i : goal.read_additions-bounds-additions-i
-read_additions-bounds-additions-i t c = ?
+read_additions-bounds-additions-i t c = c.loop-i-test.true
 
 -- src/run.rt:552:66
 pub read_additions-after-requires : goal.read_additions-after-requires
-read_additions-after-requires t c = ?
+read_additions-after-requires t c = (let h = c.loop-i-test.true in omega (arith, h))
 
 -- src/run.rt:552:23
 pub read_additions-read_addition-requires : goal.read_additions-read_addition-requires
-read_additions-read_addition-requires t c = ?
+read_additions-read_addition-requires t c =
+    let s = c.args.reader.code.now in
+    let u = c.args.reader.id.index in
+    let lt : 30 * c.args.reader.levels + 24 < t = let d = c.decreases in omega (arith, d) in (
+      lt,
+      (
+        c.requires.few,
+        (
+          open_room_after c.args.progress.now c.loop-i.progress (bits_left c.args.bits.now) (bits_left c.loop-i.bits) c.requires.room c.loop-i.invariant.1,
+          (
+            subst (FieldsFit s u) (sym c.after.ensures) (fit_drop (FieldOf s u) c.loop-i.i c.args.additions.steps.now c.requires.fit),
+            c.loop-i.invariant.2 ∙ c.requires.places,
+          ),
+        ),
+      ),
+    )
 
 -- src/run.rt:554:34
 pub read_additions-returns-in-Err-clause-err : goal.read_additions-returns-in-Err-clause-err
-read_additions-returns-in-Err-clause-err t c = ?
+read_additions-returns-in-Err-clause-err t c =
+    let s = c.args.reader.code.now in
+    let l = c.args.reader.levels in
+    let cs = components (kind_at s c.args.reader.id.index) in
+    let b = bits_left c.args.bits.now in
+    let steps = c.args.additions.steps.now in
+    let all = run_additions s l (run_value s l) cs steps c.args.additions.map.now (row_of_values c.args.row.now.items) c.args.progress.now.skipped c.args.progress.now.left b in
+    let q = c.loop-i.map.now in
+    let st = slice_index_or steps c.loop-i.i Bit in
+    let d : drop c.loop-i.i steps ≡ st ∷ drop (c.loop-i.i + 1) steps = drop_more steps c.loop-i.i Bit c.loop-i-test.true in
+    before_stop s l (run_value s l) cs all c.args.progress.now b (length c.args.row.now.items) (drop c.loop-i.i steps) (drop (c.loop-i.i + 1) steps) st d q c.loop-i.row.items c.loop-i.progress (bits_left c.loop-i.bits) c.loop-i.invariant c.after.result.now c.in-Err.stop (bits_left c.read_addition.new.bits) c.after.ensures (sym c.is_addition.ensures ∙ c.if-is_addition.true) (sym c.first_bit.ensures ∙ c.if-first_bit.true) c.in-Err.ensures.err
 
 -- src/run.rt:549:5
 pub read_additions-loop-i-smaller : goal.read_additions-loop-i-smaller
-read_additions-loop-i-smaller t c = ?
+read_additions-loop-i-smaller t c = (let h = c.loop-i-test.true in omega (arith, h))
 
 -- src/run.rt:549:5
 pub read_additions-loop-i-preserved : goal.read_additions-loop-i-preserved
-read_additions-loop-i-preserved t c = ?
+read_additions-loop-i-preserved t c =
+    let s = c.args.reader.code.now in
+    let l = c.args.reader.levels in
+    let cs = components (kind_at s c.args.reader.id.index) in
+    let b = bits_left c.args.bits.now in
+    let steps = c.args.additions.steps.now in
+    let all = run_additions s l (run_value s l) cs steps c.args.additions.map.now (row_of_values c.args.row.now.items) c.args.progress.now.skipped c.args.progress.now.left b in
+    let q = c.loop-i.map.now in
+    let st = slice_index_or steps c.loop-i.i Bit in
+    let d : drop c.loop-i.i steps ≡ st ∷ drop (c.loop-i.i + 1) steps = drop_more steps c.loop-i.i Bit c.loop-i-test.true in
+    elim c.if-is_addition.branch [
+      | goal.read_additions-then-is_addition w ↦ elim w.if-first_bit.branch [
+        | goal.read_additions-then-first_bit+in-Ok w' ↦ before_as s l (run_value s l) cs all c.args.progress.now b (length c.args.row.now.items) (drop (c.loop-i.i + 1) steps) c.if-is_addition.map.now (other_bits q) c.if-is_addition.row.items w'.read_addition.new.row.items c.if-is_addition.progress w'.read_addition.new.progress (bits_left c.if-is_addition.bits) (bits_left w'.read_addition.new.bits)
+            (ap (λ m. m.now) w.map-is ∙ w.other_bits-map.ensures) (ap (λ v. v.items) (w.row-is ∙ w'.row-is)) (w.progress-is ∙ w'.progress-is) (ap bits_left (w.bits-is ∙ w'.bits-is))
+            (before_read s l (run_value s l) cs all c.args.progress.now b (length c.args.row.now.items) (drop c.loop-i.i steps) (drop (c.loop-i.i + 1) steps) st d q c.loop-i.row.items c.loop-i.progress (bits_left c.loop-i.bits) c.loop-i.invariant w'.after.result.now w'.read_addition.new.row.items w'.read_addition.new.progress (bits_left w'.read_addition.new.bits) w'.after.ensures (sym c.is_addition.ensures ∙ w.if-is_addition.true) (sym w.first_bit.ensures ∙ w'.if-first_bit.true) w'.in-Ok.ensures.ok w'.in-Ok.ensures.went w'.in-Ok.ensures.places)
+        | goal.read_additions-else-first_bit w' ↦ before_as s l (run_value s l) cs all c.args.progress.now b (length c.args.row.now.items) (drop (c.loop-i.i + 1) steps) c.if-is_addition.map.now (other_bits q) c.if-is_addition.row.items c.loop-i.row.items c.if-is_addition.progress c.loop-i.progress (bits_left c.if-is_addition.bits) (bits_left c.loop-i.bits)
+            (ap (λ m. m.now) w.map-is ∙ w.other_bits-map.ensures) (ap (λ v. v.items) (w.row-is ∙ w'.row-is)) (w.progress-is ∙ w'.progress-is) (ap bits_left (w.bits-is ∙ w'.bits-is))
+            (before_left s l (run_value s l) cs all c.args.progress.now b (length c.args.row.now.items) (drop c.loop-i.i steps) (drop (c.loop-i.i + 1) steps) st d q c.loop-i.row.items c.loop-i.progress (bits_left c.loop-i.bits) c.loop-i.invariant (sym c.is_addition.ensures ∙ w.if-is_addition.true) (sym w.first_bit.ensures ∙ w'.if-first_bit.false))
+      ]
+      | goal.read_additions-else-is_addition w ↦ before_as s l (run_value s l) cs all c.args.progress.now b (length c.args.row.now.items) (drop (c.loop-i.i + 1) steps) c.if-is_addition.map.now q c.if-is_addition.row.items c.loop-i.row.items c.if-is_addition.progress c.loop-i.progress (bits_left c.if-is_addition.bits) (bits_left c.loop-i.bits)
+          (ap (λ m. m.now) w.map-is) (ap (λ v. v.items) (w.row-is)) (w.progress-is) (ap bits_left (w.bits-is))
+          (before_none s l (run_value s l) cs all c.args.progress.now b (length c.args.row.now.items) (drop c.loop-i.i steps) (drop (c.loop-i.i + 1) steps) st d q c.loop-i.row.items c.loop-i.progress (bits_left c.loop-i.bits) c.loop-i.invariant (sym c.is_addition.ensures ∙ w.if-is_addition.false))
+    ]
 
 -- src/run.rt:560:5
 pub read_additions-skip_unknown-requires : goal.read_additions-skip_unknown-requires
-read_additions-skip_unknown-requires t c = ?
+read_additions-skip_unknown-requires t c = open_room_after c.args.progress.now c.loop-i.progress (bits_left c.args.bits.now) (bits_left c.loop-i.bits) c.requires.room c.loop-i.invariant.1
 
 -- src/run.rt:523:1
 pub read_additions-returns-clause-ok : goal.read_additions-returns-clause-ok
-read_additions-returns-clause-ok t c = ?
+read_additions-returns-clause-ok t c =
+    let s = c.args.reader.code.now in
+    let l = c.args.reader.levels in
+    let k = c.args.progress.now.skipped in
+    let n = c.args.progress.now.left in
+    let b = bits_left c.args.bits.now in
+    let cs = components (kind_at s c.args.reader.id.index) in
+    let ws = row_of_values c.args.row.now.items in
+    let all = run_additions s l (run_value s l) cs c.args.additions.steps.now c.args.additions.map.now ws k n b in
+    let ss = drop c.loop-i.i c.args.additions.steps.now in
+    let q = c.loop-i.map.now in
+    let none : ss ≡ [] = drop_all c.loop-i.i c.args.additions.steps.now (let h = c.loop-i-test.false in omega (arith, h)) in
+    before_end s l (run_value s l) cs all c.args.progress.now b (length c.args.row.now.items) ss q c.loop-i.row.items c.loop-i.progress (bits_left c.loop-i.bits) c.loop-i.invariant none c.skip_unknown.result c.skip_unknown.new.progress (bits_left c.skip_unknown.new.bits) c.skip_unknown.ensures.ok c.skip_unknown.ensures.left
 
 -- src/run.rt:523:1
 pub read_additions-returns-clause-err : goal.read_additions-returns-clause-err
-read_additions-returns-clause-err t c = ?
+read_additions-returns-clause-err t c =
+    let s = c.args.reader.code.now in
+    let l = c.args.reader.levels in
+    let k = c.args.progress.now.skipped in
+    let n = c.args.progress.now.left in
+    let b = bits_left c.args.bits.now in
+    let cs = components (kind_at s c.args.reader.id.index) in
+    let ws = row_of_values c.args.row.now.items in
+    let all = run_additions s l (run_value s l) cs c.args.additions.steps.now c.args.additions.map.now ws k n b in
+    let ss = drop c.loop-i.i c.args.additions.steps.now in
+    let q = c.loop-i.map.now in
+    let none : ss ≡ [] = drop_all c.loop-i.i c.args.additions.steps.now (let h = c.loop-i-test.false in omega (arith, h)) in
+    before_fault s l (run_value s l) cs all c.args.progress.now b (length c.args.row.now.items) ss q c.loop-i.row.items c.loop-i.progress (bits_left c.loop-i.bits) c.loop-i.invariant none c.skip_unknown.result (bits_left c.skip_unknown.new.bits) c.skip_unknown.ensures.err
 
 -- src/run.rt:523:1
 pub read_additions-returns-clause-went : goal.read_additions-returns-clause-went
-read_additions-returns-clause-went t c = ?
+read_additions-returns-clause-went t c =
+    let s = c.args.reader.code.now in
+    let l = c.args.reader.levels in
+    let k = c.args.progress.now.skipped in
+    let n = c.args.progress.now.left in
+    let b = bits_left c.args.bits.now in
+    let cs = components (kind_at s c.args.reader.id.index) in
+    let ws = row_of_values c.args.row.now.items in
+    let all = run_additions s l (run_value s l) cs c.args.additions.steps.now c.args.additions.map.now ws k n b in
+    let ss = drop c.loop-i.i c.args.additions.steps.now in
+    let q = c.loop-i.map.now in
+    let none : ss ≡ [] = drop_all c.loop-i.i c.args.additions.steps.now (let h = c.loop-i-test.false in omega (arith, h)) in
+    before_went s l (run_value s l) cs all c.args.progress.now b (length c.args.row.now.items) ss q c.loop-i.row.items c.loop-i.progress (bits_left c.loop-i.bits) c.loop-i.invariant none c.skip_unknown.result c.skip_unknown.new.progress (bits_left c.skip_unknown.new.bits) c.skip_unknown.ensures.room c.skip_unknown.ensures.left
 
 -- src/run.rt:760:9
 pub read_each-size_of-constraint-requires : goal.read_each-size_of-constraint-requires
@@ -446,23 +666,57 @@ read_elements-returns-clause-fewer t c =
 
 -- src/run.rt:505:22
 pub read_extension-returns-in-Err-clause-err : goal.read_extension-returns-in-Err-clause-err
-read_extension-returns-in-Err-clause-err t c = ?
+read_extension-returns-in-Err-clause-err t c =
+    let s = c.args.reader.code.now in
+    let l = c.args.reader.levels in
+    let k = c.args.progress.now.skipped in
+    let n = c.args.progress.now.left in
+    let b = bits_left c.args.bits.now in
+    let cs = components (kind_at s c.args.reader.id.index) in
+    let ws = row_of_values c.args.row.now.items in
+    let r = bits_left c.read_bitmap.new.bits in
+    let go : List Bool → List Bool → Reading (Taken Row) = λ q r. run_additions s l (run_value s l) cs c.args.steps.now q ws k n r in
+    stop_next (bitmap_from b) go c.in-Err.stop r c.in-Err.ensures.err
 
 -- src/run.rt:511:5
 pub read_extension-read_additions-requires : goal.read_extension-read_additions-requires
-read_extension-read_additions-requires t c = ?
+read_extension-read_additions-requires t c =
+    let lt : 30 * c.args.reader.levels + 25 < t = let d = c.decreases in omega (arith, d) in
+    (lt, (c.requires.few, (room_shorter c.args.progress.now (bits_left c.args.bits.now) (bits_left c.read_bitmap.new.bits) c.requires.room c.in-Ok.ensures.shorter, (c.requires.fit, c.requires.places))))
 
 -- src/run.rt:478:1
 pub read_extension-returns-clause-ok : goal.read_extension-returns-clause-ok
-read_extension-returns-clause-ok t c = ?
+read_extension-returns-clause-ok t c =
+    let s = c.args.reader.code.now in
+    let l = c.args.reader.levels in
+    let k = c.args.progress.now.skipped in
+    let n = c.args.progress.now.left in
+    let b = bits_left c.args.bits.now in
+    let cs = components (kind_at s c.args.reader.id.index) in
+    let ws = row_of_values c.args.row.now.items in
+    let r = bits_left c.read_bitmap.new.bits in
+    let go : List Bool → List Bool → Reading (Taken Row) = λ q r. run_additions s l (run_value s l) cs c.args.steps.now q ws k n r in
+    let e : onward (bitmap_from b) go ≡ go c.as_slice.result.now r = ap (λ o. onward o go) c.in-Ok.ensures.ok ∙ ap (λ q. go q r) (sym c.as_slice.ensures.value) in
+    open_ok_as c.read_additions.result (onward (bitmap_from b) go) (go c.as_slice.result.now r) (taken (row_of_values c.read_additions.new.row.items) c.read_additions.new.progress.skipped c.read_additions.new.progress.left) (bits_left c.read_additions.new.bits) e c.read_additions.ensures.ok
 
 -- src/run.rt:478:1
 pub read_extension-returns-clause-err : goal.read_extension-returns-clause-err
-read_extension-returns-clause-err t c = ?
+read_extension-returns-clause-err t c =
+    let s = c.args.reader.code.now in
+    let l = c.args.reader.levels in
+    let k = c.args.progress.now.skipped in
+    let n = c.args.progress.now.left in
+    let b = bits_left c.args.bits.now in
+    let cs = components (kind_at s c.args.reader.id.index) in
+    let ws = row_of_values c.args.row.now.items in
+    let r = bits_left c.read_bitmap.new.bits in
+    let go : List Bool → List Bool → Reading (Taken Row) = λ q r. run_additions s l (run_value s l) cs c.args.steps.now q ws k n r in
+    let e : onward (bitmap_from b) go ≡ go c.as_slice.result.now r = ap (λ o. onward o go) c.in-Ok.ensures.ok ∙ ap (λ q. go q r) (sym c.as_slice.ensures.value) in
+    open_err_as c.read_additions.result (onward (bitmap_from b) go) (go c.as_slice.result.now r) (bits_left c.read_additions.new.bits) e c.read_additions.ensures.err
 
 -- src/run.rt:478:1
 pub read_extension-returns-clause-went : goal.read_extension-returns-clause-went
-read_extension-returns-clause-went t c = ?
+read_extension-returns-clause-went t c = open_went_on c.read_additions.result c.args.progress.now c.read_additions.new.progress (bits_left c.args.bits.now) (bits_left c.read_bitmap.new.bits) (bits_left c.read_additions.new.bits) c.in-Ok.ensures.shorter c.read_additions.ensures.went
 
 -- src/run.rt:294:36
 pub read_fields-core-requires : goal.read_fields-core-requires
@@ -488,87 +742,250 @@ read_fields-returns-clause-went t c = c.in-Ok-read_row.ensures.went
 
 -- src/run.rt:678:22
 pub read_group-returns-in-Err-clause-err : goal.read_group-returns-in-Err-clause-err
-read_group-returns-in-Err-clause-err t c = ?
+read_group-returns-in-Err-clause-err t c =
+    let s = c.args.reader.code.now in
+    let l = c.args.reader.levels in
+    let k = c.args.progress.now.skipped in
+    let n = c.args.progress.now.left in
+    let b = bits_left c.args.bits.now in
+    let cs = components (kind_at s c.args.reader.id.index) in
+    let ws = row_of_values c.args.row.now.items in
+    open_none (run_group_inside s l (run_value s l) cs (fields_in c.args.steps.now) ws k n) b (bits_left c.take_octets.new.bits) c.in-Err.stop c.in-Err.ensures.err
 
 -- src/run.rt:678:22
 pub read_group-returns-in-Err-clause-places : goal.read_group-returns-in-Err-clause-places
-read_group-returns-in-Err-clause-places t c = ?
+read_group-returns-in-Err-clause-places t c = refl
 
 -- src/run.rt:680:21
 pub read_group-of-inner-requires : goal.read_group-of-inner-requires
-read_group-of-inner-requires t c = ?
+read_group-of-inner-requires t c = octets_few c.args.progress.now (bits_left c.args.bits.now) (bits_left c.take_octets.new.bits) c.in-Ok.octets.items c.as_slice.result.now c.as_slice.ensures.value c.in-Ok.ensures.shorter c.requires.room
 
 -- src/run.rt:682:22
 pub read_group-read_group_members-requires : goal.read_group-read_group_members-requires
-read_group-read_group_members-requires t c = ?
+read_group-read_group_members-requires t c =
+    let s = c.args.reader.code.now in
+    let l = c.args.reader.levels in
+    let k = c.args.progress.now.skipped in
+    let n = c.args.progress.now.left in
+    let b = bits_left c.args.bits.now in
+    let r = bits_left c.take_octets.new.bits in
+    let i = bits_left c.of-inner.result in
+    let o = c.in-Ok.octets.items in
+    let sl = c.as_slice.result.now in
+    let h : Octets b r i o sl = record { is = c.of-inner.ensures; same = c.as_slice.ensures.value; shorter = c.in-Ok.ensures.shorter } in
+    let lt : 30 * c.args.reader.levels + 22 < t = let d = c.decreases in omega (arith, d) in
+    (lt, (c.requires.few, (inner_room c.args.progress.now b r i o sl h c.requires.room, (c.requires.fit, c.requires.places))))
 
 -- src/run.rt:684:22
 pub read_group-overflow_sub-all : goal.read_group-overflow_sub-all
-read_group-overflow_sub-all t c = ?
+read_group-overflow_sub-all t c =
+    let s = c.args.reader.code.now in
+    let l = c.args.reader.levels in
+    let k = c.args.progress.now.skipped in
+    let n = c.args.progress.now.left in
+    let b = bits_left c.args.bits.now in
+    let cs = components (kind_at s c.args.reader.id.index) in
+    let ws = row_of_values c.args.row.now.items in
+    let fs = fields_in c.args.steps.now in
+    let f = run_group_inside s l (run_value s l) cs fs ws k n in
+    let r = bits_left c.take_octets.new.bits in
+    let i = bits_left c.of-inner.result in
+    let o = c.in-Ok.octets.items in
+    let sl = c.as_slice.result.now in
+    let h : Octets b r i o sl = record { is = c.of-inner.ensures; same = c.as_slice.ensures.value; shorter = c.in-Ok.ensures.shorter } in
+    let x = (c.inside_laws.ensures.group_read s l k n cs fs ws i (bits_left c.read_group_members.new.bits) (taken (row_of_values c.read_group_members.new.row.items) c.read_group_members.new.progress.skipped c.read_group_members.new.progress.left) c.accepted.ensures c.in-Ok-read_group_members.ensures.ok) in
+    let y = left_in x.0 i (bits_left c.read_group_members.new.bits) x.1 in
+    let z = c.len.ensures in
+    let u = c.len-all.ensures in
+    omega (arith, y, z, u)
 
 -- src/run.rt:685:17
 pub read_group-returns-then-fills-clause-ok : goal.read_group-returns-then-fills-clause-ok
-read_group-returns-then-fills-clause-ok t c = ?
+read_group-returns-then-fills-clause-ok t c =
+    let s = c.args.reader.code.now in
+    let l = c.args.reader.levels in
+    let k = c.args.progress.now.skipped in
+    let n = c.args.progress.now.left in
+    let b = bits_left c.args.bits.now in
+    let cs = components (kind_at s c.args.reader.id.index) in
+    let ws = row_of_values c.args.row.now.items in
+    let fs = fields_in c.args.steps.now in
+    let f = run_group_inside s l (run_value s l) cs fs ws k n in
+    let r = bits_left c.take_octets.new.bits in
+    let i = bits_left c.of-inner.result in
+    let o = c.in-Ok.octets.items in
+    let sl = c.as_slice.result.now in
+    let h : Octets b r i o sl = record { is = c.of-inner.ensures; same = c.as_slice.ensures.value; shorter = c.in-Ok.ensures.shorter } in
+    inner_good f b r i o sl h c.in-Ok.ensures.ok (bits_left c.read_group_members.new.bits) (taken (row_of_values c.read_group_members.new.row.items) c.read_group_members.new.progress.skipped c.read_group_members.new.progress.left) c.len-all.result c.len.result c.fills.result c.in-Ok-read_group_members.ensures.ok c.len-all.ensures c.len.ensures c.fills.ensures c.if-fills.true
 
 -- src/run.rt:685:17
 pub read_group-returns-then-fills-clause-went : goal.read_group-returns-then-fills-clause-went
-read_group-returns-then-fills-clause-went t c = ?
+read_group-returns-then-fills-clause-went t c =
+    let s = c.args.reader.code.now in
+    let l = c.args.reader.levels in
+    let k = c.args.progress.now.skipped in
+    let n = c.args.progress.now.left in
+    let b = bits_left c.args.bits.now in
+    let r = bits_left c.take_octets.new.bits in
+    let i = bits_left c.of-inner.result in
+    let o = c.in-Ok.octets.items in
+    let sl = c.as_slice.result.now in
+    let h : Octets b r i o sl = record { is = c.of-inner.ensures; same = c.as_slice.ensures.value; shorter = c.in-Ok.ensures.shorter } in
+    inner_went c.args.progress.now c.read_group_members.new.progress b r i (bits_left c.read_group_members.new.bits) o sl h c.in-Ok-read_group_members.ensures.went
 
 -- src/run.rt:685:17
 pub read_group-returns-then-fills-clause-places : goal.read_group-returns-then-fills-clause-places
-read_group-returns-then-fills-clause-places t c = ?
+read_group-returns-then-fills-clause-places t c = c.read_group_members.ensures.places
 
 -- src/run.rt:691:13
 pub read_group-fault_place-requires : goal.read_group-fault_place-requires
-read_group-fault_place-requires t c = ?
+read_group-fault_place-requires t c =
+    let s = c.args.reader.code.now in
+    let l = c.args.reader.levels in
+    let k = c.args.progress.now.skipped in
+    let n = c.args.progress.now.left in
+    let b = bits_left c.args.bits.now in
+    let r = bits_left c.take_octets.new.bits in
+    let i = bits_left c.of-inner.result in
+    let o = c.in-Ok.octets.items in
+    let sl = c.as_slice.result.now in
+    let h : Octets b r i o sl = record { is = c.of-inner.ensures; same = c.as_slice.ensures.value; shorter = c.in-Ok.ensures.shorter } in
+    place_room b r i o sl c.len-all.result c.len-2.result c.min-left.result h c.len-all.ensures c.min-left.ensures
 
 -- src/run.rt:647:1
 pub read_group-returns-clause-err : goal.read_group-returns-clause-err
-read_group-returns-clause-err t c = ?
+read_group-returns-clause-err t c =
+    let s = c.args.reader.code.now in
+    let l = c.args.reader.levels in
+    let k = c.args.progress.now.skipped in
+    let n = c.args.progress.now.left in
+    let b = bits_left c.args.bits.now in
+    let cs = components (kind_at s c.args.reader.id.index) in
+    let ws = row_of_values c.args.row.now.items in
+    let fs = fields_in c.args.steps.now in
+    let f = run_group_inside s l (run_value s l) cs fs ws k n in
+    let r = bits_left c.take_octets.new.bits in
+    let i = bits_left c.of-inner.result in
+    let o = c.in-Ok.octets.items in
+    let sl = c.as_slice.result.now in
+    let h : Octets b r i o sl = record { is = c.of-inner.ensures; same = c.as_slice.ensures.value; shorter = c.in-Ok.ensures.shorter } in
+    let z = bits_left c.read_group_members.new.bits in
+    let p = bits_left c.fault_place.result in
+    let y = c.match-read_group_members.stop in
+    elim c.match-read_group_members.branch [
+      | goal.read_group-in-Ok-read_group_members+else-fills w ↦ inner_bad f b r i o sl h c.in-Ok.ensures.ok z p (taken (row_of_values c.read_group_members.new.row.items) c.read_group_members.new.progress.skipped c.read_group_members.new.progress.left) c.len-all.result w.len.result c.len-2.result c.len-3.result c.min-left.result w.fills.result w.at-stop.result y
+          (λ v. c.inside_laws.ensures.group_read s l k n cs fs ws i z v c.accepted.ensures) w.in-Ok-read_group_members.ensures.ok c.len-all.ensures w.len.ensures w.fills.ensures w.if-fills.false w.at-stop.ensures w.stop-is (c.len-3.ensures ∙ c.in-Ok.octets.ok.0) c.len-2.ensures c.min-left.ensures c.fault_place.ensures
+      | goal.read_group-in-Err-read_group_members w ↦ inner_stop f b r i o sl h c.in-Ok.ensures.ok z p c.len-all.result c.len-2.result c.len-3.result c.min-left.result w.in-Err-read_group_members.stop y
+          (λ d. c.inside_laws.ensures.group_refused s l k n cs fs ws i z d c.accepted.ensures) w.in-Err-read_group_members.ensures.err c.len-all.ensures w.stop-is (c.len-3.ensures ∙ c.in-Ok.octets.ok.0) c.len-2.ensures c.min-left.ensures c.fault_place.ensures
+    ]
 
 -- src/run.rt:647:1
 pub read_group-returns-clause-places : goal.read_group-returns-clause-places
-read_group-returns-clause-places t c = ?
+read_group-returns-clause-places t c = c.read_group_members.ensures.places
 
 -- src/run.rt:725:22
 pub read_group_members-returns-in-Err-clause-err :
     goal.read_group_members-returns-in-Err-clause-err
-read_group_members-returns-in-Err-clause-err t c = ?
+read_group_members-returns-in-Err-clause-err t c =
+    let s = c.args.reader.code.now in
+    let l = c.args.reader.levels in
+    let k = c.args.progress.now.skipped in
+    let n = c.args.progress.now.left in
+    let b = bits_left c.args.bits.now in
+    let cs = components (kind_at s c.args.reader.id.index) in
+    let ws = row_of_values c.args.row.now.items in
+    let fs = fields_in c.args.steps.now in
+    let r = bits_left c.read_presences.new.bits in
+    let go : List Sent → Bits → Reading (Taken Row) = λ xs r. run_members s l (run_value s l) cs xs ws k n r in
+    stop_sent fs b r [] go c.in-Err.stop c.in-Err.ensures.err
 
 -- src/run.rt:725:22
 pub read_group_members-returns-in-Err-clause-places :
     goal.read_group_members-returns-in-Err-clause-places
-read_group_members-returns-in-Err-clause-places t c = ?
+read_group_members-returns-in-Err-clause-places t c = refl
 
 -- src/run.rt:729:9
 pub read_group_members-returns-then-not-any_sent-clause-err :
     goal.read_group_members-returns-then-not-any_sent-clause-err
-read_group_members-returns-then-not-any_sent-clause-err t c = ?
+read_group_members-returns-then-not-any_sent-clause-err t c =
+    let s = c.args.reader.code.now in
+    let l = c.args.reader.levels in
+    let k = c.args.progress.now.skipped in
+    let n = c.args.progress.now.left in
+    let b = bits_left c.args.bits.now in
+    let cs = components (kind_at s c.args.reader.id.index) in
+    let ws = row_of_values c.args.row.now.items in
+    let fs = fields_in c.args.steps.now in
+    let r = bits_left c.read_presences.new.bits in
+    let go : List Sent → Bits → Reading (Taken Row) = λ xs r. run_members s l (run_value s l) cs xs ws k n r in
+    stop_at (run_group_inside s l (run_value s l) cs fs ws k n b) NotCanonical c.at.result b
+    (none_sent fs b r c.in-Ok.sent.items go c.in-Ok.ensures.ok (ap any_sent (sym c.as_slice.ensures.value) ∙ sym c.any_sent.ensures ∙ c.if-not-any_sent.true)) c.at.ensures
 
 -- src/run.rt:729:9
 pub read_group_members-returns-then-not-any_sent-clause-places :
     goal.read_group_members-returns-then-not-any_sent-clause-places
-read_group_members-returns-then-not-any_sent-clause-places t c = ?
+read_group_members-returns-then-not-any_sent-clause-places t c = refl
 
 -- src/run.rt:731:5
 pub read_group_members-read_members-requires : goal.read_group_members-read_members-requires
-read_group_members-read_members-requires t c = ?
+read_group_members-read_members-requires t c =
+    let s = c.args.reader.code.now in
+    let u = c.args.reader.id.index in
+    let lt : 30 * c.args.reader.levels + 20 < t = let d = c.decreases in omega (arith, d) in (
+      lt,
+      (
+        c.requires.few,
+        (
+          room_shorter c.args.progress.now (bits_left c.args.bits.now) (bits_left c.read_presences.new.bits) c.requires.room c.in-Ok.ensures.shorter,
+          (
+            are_sent s u c.args.steps.now c.in-Ok.sent.items c.as_slice-2.result.now c.requires.fit c.in-Ok.ensures.fields c.as_slice-2.ensures.value,
+            c.requires.places,
+          ),
+        ),
+      ),
+    )
 
 -- src/run.rt:696:1
 pub read_group_members-returns-clause-ok : goal.read_group_members-returns-clause-ok
-read_group_members-returns-clause-ok t c = ?
+read_group_members-returns-clause-ok t c =
+    let s = c.args.reader.code.now in
+    let l = c.args.reader.levels in
+    let k = c.args.progress.now.skipped in
+    let n = c.args.progress.now.left in
+    let b = bits_left c.args.bits.now in
+    let cs = components (kind_at s c.args.reader.id.index) in
+    let ws = row_of_values c.args.row.now.items in
+    let fs = fields_in c.args.steps.now in
+    let r = bits_left c.read_presences.new.bits in
+    let go : List Sent → Bits → Reading (Taken Row) = λ xs r. run_members s l (run_value s l) cs xs ws k n r in
+    let e : run_group_inside s l (run_value s l) cs fs ws k n b ≡ go c.as_slice-2.result.now r
+    = some_sent fs b r c.in-Ok.sent.items go c.in-Ok.ensures.ok (ap any_sent (sym c.as_slice.ensures.value) ∙ sym c.any_sent.ensures ∙ c.if-not-any_sent.false) ∙ ap (λ xs. go xs r) (sym c.as_slice-2.ensures.value) in
+    open_ok_as c.read_members.result (run_group_inside s l (run_value s l) cs fs ws k n b) (go c.as_slice-2.result.now r) (taken (row_of_values c.read_members.new.row.items) c.read_members.new.progress.skipped c.read_members.new.progress.left) (bits_left c.read_members.new.bits) e c.read_members.ensures.ok
 
 -- src/run.rt:696:1
 pub read_group_members-returns-clause-err : goal.read_group_members-returns-clause-err
-read_group_members-returns-clause-err t c = ?
+read_group_members-returns-clause-err t c =
+    let s = c.args.reader.code.now in
+    let l = c.args.reader.levels in
+    let k = c.args.progress.now.skipped in
+    let n = c.args.progress.now.left in
+    let b = bits_left c.args.bits.now in
+    let cs = components (kind_at s c.args.reader.id.index) in
+    let ws = row_of_values c.args.row.now.items in
+    let fs = fields_in c.args.steps.now in
+    let r = bits_left c.read_presences.new.bits in
+    let go : List Sent → Bits → Reading (Taken Row) = λ xs r. run_members s l (run_value s l) cs xs ws k n r in
+    let e : run_group_inside s l (run_value s l) cs fs ws k n b ≡ go c.as_slice-2.result.now r
+    = some_sent fs b r c.in-Ok.sent.items go c.in-Ok.ensures.ok (ap any_sent (sym c.as_slice.ensures.value) ∙ sym c.any_sent.ensures ∙ c.if-not-any_sent.false) ∙ ap (λ xs. go xs r) (sym c.as_slice-2.ensures.value) in
+    open_err_as c.read_members.result (run_group_inside s l (run_value s l) cs fs ws k n b) (go c.as_slice-2.result.now r) (bits_left c.read_members.new.bits) e c.read_members.ensures.err
 
 -- src/run.rt:696:1
 pub read_group_members-returns-clause-went : goal.read_group_members-returns-clause-went
-read_group_members-returns-clause-went t c = ?
+read_group_members-returns-clause-went t c = open_went_on c.read_members.result c.args.progress.now c.read_members.new.progress (bits_left c.args.bits.now) (bits_left c.read_presences.new.bits) (bits_left c.read_members.new.bits) c.in-Ok.ensures.shorter c.read_members.ensures.went
 
 -- src/run.rt:696:1
 pub read_group_members-returns-clause-places : goal.read_group_members-returns-clause-places
-read_group_members-returns-clause-places t c = ?
+read_group_members-returns-clause-places t c = c.read_members.ensures.places
 
 -- src/run.rt:809:11
 pub read_list-read_size-requires : goal.read_list-read_size-requires
@@ -755,35 +1172,134 @@ read_members-returns-clause-places t c = c.loop-i.invariant.2
 
 -- src/run.rt:251:22
 pub read_opened-returns-in-Err-clause-err : goal.read_opened-returns-in-Err-clause-err
-read_opened-returns-in-Err-clause-err t c = ?
+read_opened-returns-in-Err-clause-err t c =
+    let s = c.args.reader.code.now in
+    let l = c.args.reader.levels in
+    let k = c.args.progress.now.skipped in
+    let n = c.args.progress.now.left in
+    let b = bits_left c.args.bits.now in
+    open_none (run_value s l c.args.reader.id.index k n) b (bits_left c.take_octets.new.bits) c.in-Err.stop c.in-Err.ensures.err
 
 -- src/run.rt:253:21
 pub read_opened-of-inner-requires : goal.read_opened-of-inner-requires
-read_opened-of-inner-requires t c = ?
+read_opened-of-inner-requires t c = octets_few c.args.progress.now (bits_left c.args.bits.now) (bits_left c.take_octets.new.bits) c.in-Ok.octets.items c.as_slice.result.now c.as_slice.ensures.value c.in-Ok.ensures.shorter c.requires.room
 
 -- src/run.rt:255:22
 pub read_opened-read_value-requires : goal.read_opened-read_value-requires
-read_opened-read_value-requires t c = ?
+read_opened-read_value-requires t c =
+    let s = c.args.reader.code.now in
+    let l = c.args.reader.levels in
+    let k = c.args.progress.now.skipped in
+    let n = c.args.progress.now.left in
+    let b = bits_left c.args.bits.now in
+    let r = bits_left c.take_octets.new.bits in
+    let i = bits_left c.of-inner.result in
+    let o = c.in-Ok.octets.items in
+    let sl = c.as_slice.result.now in
+    let h : Octets b r i o sl = record { is = c.of-inner.ensures; same = c.as_slice.ensures.value; shorter = c.in-Ok.ensures.shorter } in
+    let lt : 30 * c.args.reader.levels < t = let d = c.decreases in omega (arith, d) in
+    let few : c.args.reader.levels ≤ 64 = let m = c.requires.few in omega (arith, m) in
+    (lt, (few, inner_room c.args.progress.now b r i o sl h c.requires.room))
 
 -- src/run.rt:257:22
 pub read_opened-overflow_sub-all : goal.read_opened-overflow_sub-all
-read_opened-overflow_sub-all t c = ?
+read_opened-overflow_sub-all t c =
+    let s = c.args.reader.code.now in
+    let l = c.args.reader.levels in
+    let k = c.args.progress.now.skipped in
+    let n = c.args.progress.now.left in
+    let b = bits_left c.args.bits.now in
+    let f = run_value s l c.args.reader.id.index k n in
+    let r = bits_left c.take_octets.new.bits in
+    let i = bits_left c.of-inner.result in
+    let o = c.in-Ok.octets.items in
+    let sl = c.as_slice.result.now in
+    let h : Octets b r i o sl = record { is = c.of-inner.ensures; same = c.as_slice.ensures.value; shorter = c.in-Ok.ensures.shorter } in
+    let x = (c.inside_laws.ensures.value_read s l c.args.reader.id.index k n i (bits_left c.read_value.new.bits) (taken (abstract c.in-Ok-read_value.value) c.read_value.new.progress.skipped c.read_value.new.progress.left) c.accepted.ensures c.in-Ok-read_value.ensures.ok) in
+    let y = left_in x.0 i (bits_left c.read_value.new.bits) x.1 in
+    let z = c.len.ensures in
+    let u = c.len-all.ensures in
+    omega (arith, y, z, u)
 
 -- src/run.rt:258:17
 pub read_opened-returns-then-fills-clause-ok : goal.read_opened-returns-then-fills-clause-ok
-read_opened-returns-then-fills-clause-ok t c = ?
+read_opened-returns-then-fills-clause-ok t c =
+    let s = c.args.reader.code.now in
+    let l = c.args.reader.levels in
+    let k = c.args.progress.now.skipped in
+    let n = c.args.progress.now.left in
+    let b = bits_left c.args.bits.now in
+    let f = run_value s l c.args.reader.id.index k n in
+    let r = bits_left c.take_octets.new.bits in
+    let i = bits_left c.of-inner.result in
+    let o = c.in-Ok.octets.items in
+    let sl = c.as_slice.result.now in
+    let h : Octets b r i o sl = record { is = c.of-inner.ensures; same = c.as_slice.ensures.value; shorter = c.in-Ok.ensures.shorter } in
+    inner_good f b r i o sl h c.in-Ok.ensures.ok (bits_left c.read_value.new.bits) (taken (abstract c.in-Ok-read_value.value) c.read_value.new.progress.skipped c.read_value.new.progress.left) c.len-all.result c.len.result c.fills.result c.in-Ok-read_value.ensures.ok c.len-all.ensures c.len.ensures c.fills.ensures c.if-fills.true
 
 -- src/run.rt:258:17
 pub read_opened-returns-then-fills-clause-went : goal.read_opened-returns-then-fills-clause-went
-read_opened-returns-then-fills-clause-went t c = ?
+read_opened-returns-then-fills-clause-went t c =
+    let s = c.args.reader.code.now in
+    let l = c.args.reader.levels in
+    let k = c.args.progress.now.skipped in
+    let n = c.args.progress.now.left in
+    let b = bits_left c.args.bits.now in
+    let r = bits_left c.take_octets.new.bits in
+    let i = bits_left c.of-inner.result in
+    let o = c.in-Ok.octets.items in
+    let sl = c.as_slice.result.now in
+    let h : Octets b r i o sl = record { is = c.of-inner.ensures; same = c.as_slice.ensures.value; shorter = c.in-Ok.ensures.shorter } in
+    inner_went c.args.progress.now c.read_value.new.progress b r i (bits_left c.read_value.new.bits) o sl h c.in-Ok-read_value.ensures.went
 
 -- src/run.rt:264:13
 pub read_opened-fault_place-requires : goal.read_opened-fault_place-requires
-read_opened-fault_place-requires t c = ?
+read_opened-fault_place-requires t c =
+    let s = c.args.reader.code.now in
+    let l = c.args.reader.levels in
+    let k = c.args.progress.now.skipped in
+    let n = c.args.progress.now.left in
+    let b = bits_left c.args.bits.now in
+    let r = bits_left c.take_octets.new.bits in
+    let i = bits_left c.of-inner.result in
+    let o = c.in-Ok.octets.items in
+    let sl = c.as_slice.result.now in
+    let h : Octets b r i o sl = record { is = c.of-inner.ensures; same = c.as_slice.ensures.value; shorter = c.in-Ok.ensures.shorter } in
+    place_room b r i o sl c.len-all.result c.len-2.result c.min-left.result h c.len-all.ensures c.min-left.ensures
 
 -- src/run.rt:227:1
 pub read_opened-returns-clause-err : goal.read_opened-returns-clause-err
-read_opened-returns-clause-err t c = ?
+read_opened-returns-clause-err t c =
+    let s = c.args.reader.code.now in
+    let l = c.args.reader.levels in
+    let k = c.args.progress.now.skipped in
+    let n = c.args.progress.now.left in
+    let b = bits_left c.args.bits.now in
+    let f = run_value s l c.args.reader.id.index k n in
+    let r = bits_left c.take_octets.new.bits in
+    let i = bits_left c.of-inner.result in
+    let o = c.in-Ok.octets.items in
+    let sl = c.as_slice.result.now in
+    let h : Octets b r i o sl = record { is = c.of-inner.ensures; same = c.as_slice.ensures.value; shorter = c.in-Ok.ensures.shorter } in
+    let z = bits_left c.read_value.new.bits in
+    let p = bits_left c.fault_place.result in
+    let y = c.match-read_value.stop in
+    let bad : (v : Taken AbstractValue) (a : ℕ) (t : Bool) (x : Stop) → f i ≡ read v z → a ≡ length z → t ≡ is_filling (c.len-all.result - a) z → t ≡ false → IsStopAt Padding x → y ≡ x → IsStop (open_from f b) y p
+    = λ v a t x g e u w q j. inner_bad f b r i o sl h c.in-Ok.ensures.ok z p v c.len-all.result a c.len-2.result c.len-3.result c.min-left.result t x y
+    (λ v. c.inside_laws.ensures.value_read s l c.args.reader.id.index k n i z v c.accepted.ensures) g c.len-all.ensures e u w q j (c.len-3.ensures ∙ c.in-Ok.octets.ok.0) c.len-2.ensures c.min-left.ensures c.fault_place.ensures in
+    elim c.match-read_value.branch [
+      | goal.read_opened-in-Ok-read_value+else-fills+in-Bits-1 w ↦ bad (taken (abstract w.in-Ok-read_value.value) c.read_value.new.progress.skipped c.read_value.new.progress.left) w.len.result w.fills.result w.at-stop.result w.in-Ok-read_value.ensures.ok w.len.ensures w.fills.ensures w.if-fills.false w.at-stop.ensures w.stop-is
+      | goal.read_opened-in-Ok-read_value+else-fills+in-Octets-1 w ↦ bad (taken (abstract w.in-Ok-read_value.value) c.read_value.new.progress.skipped c.read_value.new.progress.left) w.len.result w.fills.result w.at-stop.result w.in-Ok-read_value.ensures.ok w.len.ensures w.fills.ensures w.if-fills.false w.at-stop.ensures w.stop-is
+      | goal.read_opened-in-Ok-read_value+else-fills+in-Text-1 w ↦ bad (taken (abstract w.in-Ok-read_value.value) c.read_value.new.progress.skipped c.read_value.new.progress.left) w.len.result w.fills.result w.at-stop.result w.in-Ok-read_value.ensures.ok w.len.ensures w.fills.ensures w.if-fills.false w.at-stop.ensures w.stop-is
+      | goal.read_opened-in-Ok-read_value+else-fills+in-Oid-1 w ↦ bad (taken (abstract w.in-Ok-read_value.value) c.read_value.new.progress.skipped c.read_value.new.progress.left) w.len.result w.fills.result w.at-stop.result w.in-Ok-read_value.ensures.ok w.len.ensures w.fills.ensures w.if-fills.false w.at-stop.ensures w.stop-is
+      | goal.read_opened-in-Ok-read_value+else-fills+in-RelativeOid-1 w ↦ bad (taken (abstract w.in-Ok-read_value.value) c.read_value.new.progress.skipped c.read_value.new.progress.left) w.len.result w.fills.result w.at-stop.result w.in-Ok-read_value.ensures.ok w.len.ensures w.fills.ensures w.if-fills.false w.at-stop.ensures w.stop-is
+      | goal.read_opened-in-Ok-read_value+else-fills+in-Fields-1 w ↦ bad (taken (abstract w.in-Ok-read_value.value) c.read_value.new.progress.skipped c.read_value.new.progress.left) w.len.result w.fills.result w.at-stop.result w.in-Ok-read_value.ensures.ok w.len.ensures w.fills.ensures w.if-fills.false w.at-stop.ensures w.stop-is
+      | goal.read_opened-in-Ok-read_value+else-fills+in-List-1 w ↦ bad (taken (abstract w.in-Ok-read_value.value) c.read_value.new.progress.skipped c.read_value.new.progress.left) w.len.result w.fills.result w.at-stop.result w.in-Ok-read_value.ensures.ok w.len.ensures w.fills.ensures w.if-fills.false w.at-stop.ensures w.stop-is
+      | goal.read_opened-in-Ok-read_value+else-fills+in-Alt-1 w ↦ bad (taken (abstract w.in-Ok-read_value.value) c.read_value.new.progress.skipped c.read_value.new.progress.left) w.len.result w.fills.result w.at-stop.result w.in-Ok-read_value.ensures.ok w.len.ensures w.fills.ensures w.if-fills.false w.at-stop.ensures w.stop-is
+      | goal.read_opened-in-Ok-read_value+else-fills+in-Bool-1 w ↦ bad (taken (abstract w.in-Ok-read_value.value) c.read_value.new.progress.skipped c.read_value.new.progress.left) w.len.result w.fills.result w.at-stop.result w.in-Ok-read_value.ensures.ok w.len.ensures w.fills.ensures w.if-fills.false w.at-stop.ensures w.stop-is
+      | goal.read_opened-in-Err-read_value w ↦ inner_stop f b r i o sl h c.in-Ok.ensures.ok z p c.len-all.result c.len-2.result c.len-3.result c.min-left.result w.in-Err-read_value.stop y
+          (λ d. c.inside_laws.ensures.value_refused s l c.args.reader.id.index k n i z d c.accepted.ensures) w.in-Err-read_value.ensures.err c.len-all.ensures w.stop-is (c.len-3.ensures ∙ c.in-Ok.octets.ok.0) c.len-2.ensures c.min-left.ensures c.fault_place.ensures
+    ]
 
 -- src/run.rt:894:18
 pub read_part-overflow_cast-before : goal.read_part-overflow_cast-before
@@ -1086,7 +1602,6 @@ read_present-returns-then-is_default-clause-err t c =
 
 pub read_present-returns-then-is_default-clause-places : goal.read_present-returns-then-is_default-clause-places
 read_present-returns-then-is_default-clause-places t c = refl
-
 
 -- src/run.rt:471:5
 pub read_present-put-requires : goal.read_present-put-requires
