@@ -43,6 +43,7 @@ less_judging {X = X} {Y = Y} j f b h = by (f b) h
     last' : (q : Judged Y) (r : Bits) → length r ≤ length b → Less (verdict q b r) b
     last' (good w) r i = i
     last' (bad e) r i = tt
+
     by : (o : Outcome X) → Less o b → Less (onward o (λ v r. verdict (j v) b r)) b
     by (found v r) i = last' (j v) r i
     by (stops e r) i = tt
@@ -76,6 +77,7 @@ less_call (steps.Root c ∷ ss) b = by c.extensible
     more : (x : Bool) (r : Bits) → Less (if x then judging (λ j. or_refused why.UnknownAlternative (added_call j (steps.Root c ∷ ss) 0)) (small_from why.UnknownAlternative) r else root_call c.width (steps.Root c ∷ ss) r) r
     more true r = less_judging (λ j. or_refused why.UnknownAlternative (added_call j (steps.Root c ∷ ss) 0)) (small_from why.UnknownAlternative) r (less_small why.UnknownAlternative r)
     more false r = less_root c.width (steps.Root c ∷ ss) r
+
     by : (e : Bool) → Less (if e
         then onward (bit_from b) (λ x r. if x
         then judging (λ j. or_refused why.UnknownAlternative (added_call j (steps.Root c ∷ ss) 0)) (small_from why.UnknownAlternative) r
@@ -120,10 +122,13 @@ pub components_many : (cs ds : List Component) (n : ℕ) → ds ≡ cs → lengt
 components_many cs ds n e h = ap length (sym e) ∙ h
 
 pub is_component : (s q : List Resolved) (t : ℕ) (f : PackedField) (l : ℕ) (v : AbstractValue) → FieldFits s t f → q ≡ s → l ≤ 63 → ((s : List Resolved) (t m n : ℕ) (v : AbstractValue) → m ≤ n → ValueIn s m t v → ValueIn s n t v) → ValueIn s l f.ty.index v → (c : Component) × (HasComponent q t f.place c × IsValueWithoutNodes q c.type v)
-is_component s q t f l v fits e few grow h =
-    (fits.component,
-    (subst (λ z. HasComponent z t f.place fits.component) (sym e) fits.there,
-    subst (λ z. IsValueWithoutNodes z fits.component.type v) (sym e) (subst (λ u. ValueIn s 64 u v) (ap (λ g. g.ty.index) fits.is) (grow s f.ty.index l 64 v (let k : l ≤ 64 = omega (arith, few) in k) h))))
+is_component s q t f l v fits e few grow h = (
+  fits.component,
+  (
+    subst (λ z. HasComponent z t f.place fits.component) (sym e) fits.there,
+    subst (λ z. IsValueWithoutNodes z fits.component.type v) (sym e) (subst (λ u. ValueIn s 64 u v) (ap (λ g. g.ty.index) fits.is) (grow s f.ty.index l 64 v (let k : l ≤ 64 = omega (arith, few) in k) h)),
+  ),
+)
 
 pub default_as : (s q : List Resolved) (t i : ℕ) (d : Component) (v : AbstractValue) (x : Bool) → q ≡ s → HasComponent s t i d → ((c : Component) → HasComponent q t i c → x ≡ is_default q c v) → x ≡ is_default s d v
 default_as s q t i d v x e h g = g d (subst (λ z. HasComponent z t i d) (sym e) h) ∙ ap (λ z. is_default z d v) e

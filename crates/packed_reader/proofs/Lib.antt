@@ -31,3 +31,5 @@ mod MemberRun
 mod Calls
 mod Listing
 mod OpenRun
+mod MessageRun
+mod RowsPut

@@ -1,11 +1,12 @@
 -- Components and alternatives, as calls read them.
 use Rattle.std.proofs.Common.{arith, ◌≡◌, ℕ, zero, suc, ◌+◌, ◌-◌, ◌^◌, ◌<◌, ◌≤◌, ◌==◌, ◌&&◌, Bool, true, false, List, [], ◌∷◌, ◌++◌, length, map, take, drop, Option, Some, None, slice_get, refl, sym, ap, subst, ◌∙◌}
-use Rattle.std.specs.Prelude.{if◌then◌else◌, not}
+use Rattle.std.specs.Prelude.{if◌then◌else◌, not, Result, Ok, Err, IfOk, IfErr}
 use Rattle.std.specs.List.{AllByRecursion}
 use Rattle.std.proofs.lemmas.Bool.{eq-eqb, ne_eqb}
 use Rattle.std.proofs.lemmas.Int.Digits.{length-digits_of-le}
 use Rattle.asn_base.specs.declared.tag.Tag.{Tag}
-use Rattle.asn_base.specs.Abstract.{AbstractValue, Row, alternative, fields}
+use Rattle.asn_base.specs.Abstract.{AbstractValue, Row, abstract, alternative, fields}
+use Rattle.asn_base.specs.declared.value.Value.{Value}
 use Rattle.asn_base.specs.Schemas.{components}
 use Rattle.asn_base.specs.Types.{Alternative, Component, Kind, a_null, a_choice, Resolved, TypeNumber}
 use Rattle.packed_code.specs.declared.step.PackedField.{PackedField}
@@ -20,14 +21,16 @@ use Rattle.packed_encodings.specs.Orders.{Member, missing, standing, component}
 use Rattle.packed_readings.specs.declared.refusal.Refusal.TheVariants as why
 use Rattle.packed_reader.specs.declared.part.Part.TheVariants.{Component as Component', Alternative as Alternative'}
 use Rattle.packed_reader.specs.declared.sent.Sent.{Sent}
+use Rattle.packed_reader.specs.declared.reader.Progress.{Progress}
 use Rattle.packed_reader.specs.declared.stop.Stop.{Stop}
-use Rattle.packed_reader.specs.Code.{HaveWidth}
+use Rattle.packed_reader.specs.declared.stop.Stop.TheVariants.{Memory}
+use Rattle.packed_reader.specs.Code.{HaveWidth, chosen_by}
 use Rattle.packed_reader.specs.Levels.{is_within, may_lack}
 use Rattle.packed_reader.specs.Readings.{Reading, read, refused, stop, next, in_part, plain, tested, Taken, taken}
 use Rattle.packed_reader.specs.Steps.{no_component}
 use Rattle.packed_reader.specs.Structures.{mark_from, no_row, open_from, with_value}
 use Rattle.packed_reader.specs.Values.{Chosen, in_root, added, alternative_of}
-use Rattle.packed_reader.specs.proving.Code.{AreSent, IsStop, IsStopAt, IsWithin}
+use Rattle.packed_reader.specs.proving.Code.{AreSent, IsGot, IsStop, IsStopAt, IsWithin}
 use Rattle.packed_reader.specs.proving.Plans.{AreCalls}
 use Rattle.packed_reader.specs.proving.Running.{RunsValue, component_of_field, differs, put, run_absent, run_chosen, run_fields, run_member, run_members, run_presences, run_present, run_rest, run_structure, run_value, as_fields}
 use Rattle.packed_writer.specs.proving.Values.{FieldFits, FieldsFit, FieldOf, HasComponent, fields_in}
@@ -157,6 +160,7 @@ sent_fit s t (x ∷ xs) (f ∷ fs) e a = (subst (FieldFits s t) (sym (first e)) 
   where
     first : {g : PackedField} {gs hs : List PackedField} → g ∷ gs ≡ f ∷ hs → g ≡ f
     first e = cc
+
     others : {g : PackedField} {gs hs : List PackedField} → g ∷ gs ≡ f ∷ hs → gs ≡ hs
     others e = cc
 
@@ -230,6 +234,17 @@ calls_have_width s t k calls a e few =
     subst HaveWidth (sym (a.is ∙ ap (take a.count) a.pick.calls))
     (calls_narrow s a.pick.extensible a.pick.root a.pick.more a.count (few a.pick.root a.pick.more a.pick.extensible (sym e ∙ a.pick.kind)))
 
+abbrev pub next' : ℕ → Reading (Taken AbstractValue) → Reading (Taken AbstractValue)
+next' i o = next (in_part (Alternative' i) o) (λ q z. read (alternative_of i q) z)
+
+pub only_memory : {X Y : Type 0} (x : Result X Stop) (o : Reading Y) (r : Bits) → IfErr x (λ e. e ≡ Memory) → IfErr x (λ e. IsStop o e r)
+only_memory (Ok v) o r h = tt
+only_memory (Err e) o r h = subst (λ q. IsStop o q r) (sym h) tt
+
+pub whatever : {X E W : Type 0} (x : Result X E) → W → IfOk x (λ v. W)
+whatever (Ok v) w = w
+whatever (Err e) w = tt
+
 module _ (s : List Resolved) (l : ℕ) (i t k n : ℕ) (b : Bits) where
   abbrev W : Reading (Taken AbstractValue)
   W = run_value s l t k n b
@@ -242,3 +257,13 @@ module _ (s : List Resolved) (l : ℕ) (i t k n : ℕ) (b : Bits) where
 
   pub chosen_stop : (o : Reading (Taken AbstractValue)) (x y : Stop) (r : Bits) → IsStop o x r → IsWithin (Alternative' i) x y → IsStop (next (in_part (Alternative' i) o) (λ q z. read (alternative_of i q) z)) y r
   chosen_stop o x y r h w = stop_next (in_part (Alternative' i) o) (λ q z. read (alternative_of i q) z) y r (stop_within (Alternative' i) o x y r h w)
+
+  pub chosen_open : (q : Bool) → q ≡ true → run_chosen (run_value s l) (chosen_by q i t) k n b ≡ next' i O
+  chosen_open q e = ap (λ z. run_chosen (run_value s l) (chosen_by z i t) k n b) e
+
+  pub chosen_root : (q : Bool) → q ≡ false → run_chosen (run_value s l) (chosen_by q i t) k n b ≡ next' i W
+  chosen_root q e = ap (λ z. run_chosen (run_value s l) (chosen_by z i t) k n b) e
+
+  pub chosen_as : {E : Type 0} (x : Result Value E) (o all : Reading (Taken AbstractValue)) (u : AbstractValue) (p : Progress) (r : Bits) → all ≡ next' i o → o ≡ read (taken u p.skipped p.left) r → IfOk x (λ v. abstract v ≡ alternative i u) → IfOk x (λ v. IsGot all (abstract v) p r)
+  chosen_as (Ok v) o all u p r e h g = e ∙ chosen_ok o u (abstract v) p.skipped p.left r h g
+  chosen_as (Err d) o all u p r e h g = tt

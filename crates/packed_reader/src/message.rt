@@ -10,10 +10,11 @@ ghost use Rattle.packed_reader.specs.Values.{answers, message_from};
 ghost use Rattle.packed_reader.specs.proving.Code.{HasRoom, IsStop};
 ghost use Rattle.packed_reader.specs.proving.Running.{run_value};
 ghost use Rattle.packed_reader.specs.declared.fault.PerFault.TheVariants.{Memory, MessageLimit};
+ghost use Rattle.std.specs.Int.Digits.{AllBelowBase};
 ghost use Rattle.std.specs.Prelude.{◌≡◌, ◌<◌, ◌≤◌, [], Err, IfErr, IfOk, MatchResult, length, ℕ};
 
 use crate::fault::{PerFault, RefusedBits};
-use crate::law::message_laws_of_reading;
+use crate::law::{message_laws_of_reading, step_laws};
 use crate::laws_of_running::inside_laws;
 use crate::open::fills;
 use crate::reader::{Progress, Reader};
@@ -42,7 +43,6 @@ fn read_message(
     ensures err { IfErr result (λ e. IsStop (filled_from
         (run_value reader.entry.code.now reader.entry.levels reader.entry.id.index progress.old.skipped progress.old.left)
         (bits_left bits.old)) e (bits_left bits.new)) }
-    ensures shorter { length (bits_left bits.new) ≤ length (bits_left bits.old) }
 {
     reader.code.accepted();
     inside_laws();
@@ -55,6 +55,57 @@ fn read_message(
         Ok(value)
     } else {
         Err(Stop::at(reader.alloc, Refusal::Padding))
+    }
+}
+
+/// They are octets.
+fn are_octets(octets: &[u8])
+    ensures { AllBelowBase 256 octets.now }
+{}
+
+/// The value of a message, and how many additions were skipped. `MessageLimit`: the message is too long.
+fn decode(
+    alloc: Global,
+    code: &PackedCode,
+    id: TypeId,
+    octets: &[u8],
+) -> Result<(Value, u64), PerFault>
+    ensures ok { IfOk result (λ r. message_from code.now id.index octets.now ≡ answers (abstract r.0) r.1) }
+    ensures err { IfErr result (IsRefusal (message_from code.now id.index octets.now)) }
+    ensures limit { 16777216 < length octets.now → result ≡ Err MessageLimit }
+{
+    code.accepted();
+    step_laws();
+    if octets.len() > MAX_MESSAGE {
+        return Err(PerFault::MessageLimit);
+    }
+    if octets.is_empty() {
+        return Err(PerFault::Refused(RefusedBits {
+            refusal: Refusal::Truncated,
+            bit: 0,
+            path: Vec::new(alloc),
+        }));
+    }
+    let mut progress = Progress {
+        left: MAX_NODES,
+        skipped: 0,
+    };
+    let mut bits = Bits::of(octets);
+    let all = bits.len();
+    let reader = Reader {
+        alloc,
+        code,
+        id,
+        levels: MAX_LEVELS,
+    };
+    match read_message(reader, &mut progress, &mut bits) {
+        Ok(value) => Ok((value, progress.skipped)),
+        Err(Stop::Memory) => Err(PerFault::Memory),
+        Err(Stop::Refused(refusal, path)) => Err(PerFault::Refused(RefusedBits {
+            refusal,
+            bit: all.saturating_sub(bits.len()),
+            path,
+        })),
     }
 }
 
@@ -89,29 +140,7 @@ pub fn read_uper(
     ensures truncated { BeginsMessage code.now id.index octets.now → MatchResult result (λ r. ⊥) IsTruncated }
 {
     code.accepted();
+    are_octets(octets);
     message_laws_of_reading();
-    if octets.len() > MAX_MESSAGE {
-        return Err(PerFault::MessageLimit);
-    }
-    let mut progress = Progress {
-        left: MAX_NODES,
-        skipped: 0,
-    };
-    let mut bits = Bits::of(octets);
-    let all = bits.len();
-    let reader = Reader {
-        alloc,
-        code,
-        id,
-        levels: MAX_LEVELS,
-    };
-    match read_message(reader, &mut progress, &mut bits) {
-        Ok(value) => Ok((value, progress.skipped)),
-        Err(Stop::Memory) => Err(PerFault::Memory),
-        Err(Stop::Refused(refusal, path)) => Err(PerFault::Refused(RefusedBits {
-            refusal,
-            bit: all - bits.len(),
-            path,
-        })),
-    }
+    decode(alloc, code, id, octets)
 }

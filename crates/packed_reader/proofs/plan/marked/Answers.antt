@@ -4,4 +4,4 @@ use Rattle.packed_reader.proofs.Plans.{fields_of_steps}
 use Rattle.packed_reader.proofs.plan.marked.Goals as goal
 
 pub returns-in-Some-Map-default-clause-fits : goal.returns-in-Some-Map-default-clause-fits
-returns-in-Some-Map-default-clause-fits c = ?
+returns-in-Some-Map-default-clause-fits c = λ s t h. fields_of_steps s t c.in-Some-Map-default.rest.now (subst (StepsFit s t) c.in-Some-Map-default.ensures h).2

@@ -64,7 +64,7 @@ use Rattle.packed_reader.proofs.Plans.{as_plan, fits_as, type_there, shorter_ok}
 use Rattle.packed_reader.proofs.Flow.{went_same}
 use Rattle.packed_reader.proofs.Presences.{fields_taken}
 use Rattle.packed_reader.proofs.Calls.{call_shorter, call_room, components_are, components_many, map-length, is_component, default_as}
-use Rattle.packed_reader.proofs.MemberRun.{kind_found, within_row, present_stop, present_same, present_ok, same_as_default, no_default, some_skipped, absent_ok, absent_deep, member_present, member_absent, members_next, members_stop, members_end, sent_there, sent_fit, fields_fit, all_taken, all_dropped, no_mark, no_presences, no_members, rest_is, calls_have_width, chosen_ok, chosen_stop}
+use Rattle.packed_reader.proofs.MemberRun.{kind_found, within_row, present_stop, present_same, present_ok, same_as_default, no_default, some_skipped, absent_ok, absent_deep, member_present, member_absent, members_next, members_stop, members_end, sent_there, sent_fit, fields_fit, all_taken, all_dropped, no_mark, no_presences, no_members, rest_is, calls_have_width, chosen_open, chosen_root, chosen_as, chosen_stop, next', only_memory, whatever}
 use Rattle.packed_reader.proofs.run.+reads.Goals.{read_present-else-progress-skipped-via-then-progress-skipped+else-is_default, read_present-else-progress-skipped-via-else-progress-skipped}
 
 as_steps : {t : ℕ} (c : goal.read_value-After-read_steps t) → run_value c.args.reader.code.now c.args.reader.levels c.args.reader.id.index c.args.progress.now.skipped c.args.progress.now.left (bits_left c.args.bits.now)
@@ -724,7 +724,7 @@ read_fields-core-requires t c = subst (λ q. c.args.reader.id.index < length q) 
 
 -- src/run.rt:296:11
 pub read_fields-read_row-requires : goal.read_fields-read_row-requires
-read_fields-read_row-requires t c = 
+read_fields-read_row-requires t c =
     let d = c.decreases in
     let lt : 30 * c.args.reader.levels + 27 < t = omega (arith, d) in
     let many : length c.in-Ok.row.items ≡ length (components (kind_at c.args.reader.code.now c.args.reader.id.index)) = c.in-Ok.ensures.length ∙ sym (components_many (components (kind_at c.args.reader.code.now c.args.reader.id.index)) (map component_of c.components_of-components.result.now) (length c.components_of-components.result.now) (components_are c.args.reader.code.now c.schema.result.now c.args.reader.id.index (kind_of c.core.result.now) c.core.ensures.is.0 (map component_of c.components_of-components.result.now) c.schema.ensures c.core.ensures.is.1 c.components_of-components.ensures) (map-length component_of c.components_of-components.result.now)) in
@@ -732,7 +732,7 @@ read_fields-read_row-requires t c =
 
 -- src/run.rt:271:1
 pub read_fields-returns-clause-ok : goal.read_fields-returns-clause-ok
-read_fields-returns-clause-ok t c = 
+read_fields-returns-clause-ok t c =
     ap (λ o. onward o (λ w r. read (as_fields w) r)) c.in-Ok-read_row.ensures.ok
     ∙ ap (λ q. read (taken q c.read_row.new.progress.skipped c.read_row.new.progress.left) (bits_left c.read_row.new.bits)) (sym (c.abstract_values.ensures.fields_ c.read_row.new.row))
 
@@ -1079,7 +1079,7 @@ read_list-returns-in-Err-clause-err t c =
 
 -- src/run.rt:413:9
 pub read_member-read_present-requires : goal.read_member-read_present-requires
-read_member-read_present-requires t c = 
+read_member-read_present-requires t c =
     let d = c.decreases in
     let lt : 30 * c.args.reader.levels + 18 < t = omega (arith, d) in
     (lt, (c.requires.few, (c.requires.room, (c.requires.fits, c.requires.places))))
@@ -1120,7 +1120,7 @@ read_member-returns-then-may_lack-clause-places t c = refl
 
 -- src/run.rt:386:1
 pub read_member-returns-clause-err : goal.read_member-returns-clause-err
-read_member-returns-clause-err t c = 
+read_member-returns-clause-err t c =
     stop_as (run_member c.args.reader.code.now c.args.reader.levels (run_value c.args.reader.code.now c.args.reader.levels) (components (kind_at c.args.reader.code.now c.args.reader.id.index)) c.args.sent (row_of_values c.args.row.now.items) c.args.progress.now.skipped c.args.progress.now.left (bits_left c.args.bits.now)) (run_absent c.args.reader.code.now c.args.reader.levels (components (kind_at c.args.reader.code.now c.args.reader.id.index)) c.args.sent.field (row_of_values c.args.row.now.items) c.args.progress.now.skipped c.args.progress.now.left (bits_left c.args.bits.now)) c.within.result (bits_left c.args.bits.now) (member_absent c.args.reader.code.now c.args.reader.levels (components (kind_at c.args.reader.code.now c.args.reader.id.index)) c.args.sent (row_of_values c.args.row.now.items) c.args.progress.now.skipped c.args.progress.now.left (bits_left c.args.bits.now) c.if-sent.false)
     (absent_deep c.args.reader.code.now c.args.reader.levels (components (kind_at c.args.reader.code.now c.args.reader.id.index)) c.args.sent.field (row_of_values c.args.row.now.items) c.args.progress.now.skipped c.args.progress.now.left (bits_left c.args.bits.now) c.requires.fits.component c.may_lack.result c.at-stop.result c.within.result c.requires.fits.there (c.may_lack.ensures c.requires.fits.component c.requires.fits.there) c.if-may_lack.false c.at-stop.ensures c.within.ensures)
 
@@ -1138,7 +1138,7 @@ read_members-bounds-sent-i t c = c.loop-i-test.true
 
 -- src/run.rt:377:15
 pub read_members-read_member-requires : goal.read_members-read_member-requires
-read_members-read_member-requires t c = 
+read_members-read_member-requires t c =
     let d = c.decreases in
     let lt : 30 * c.args.reader.levels + 19 < t = omega (arith, d) in
     (lt, (c.requires.few, (room_left c.args.progress.now c.loop-i.progress (bits_left c.args.bits.now) (bits_left c.loop-i.bits) c.requires.room c.loop-i.invariant.1, (sent_there c.args.reader.code.now c.args.reader.id.index c.args.sent.now c.loop-i.i _ c.requires.fit (drop_more c.args.sent.now c.loop-i.i _ c.loop-i-test.true), c.loop-i.invariant.2 ∙ c.requires.places))))
@@ -1153,10 +1153,11 @@ read_members-returns-in-Err-clause-places t c = c.in-Err.ensures.places ∙ c.lo
 
 -- src/run.rt:376:5
 pub read_members-loop-i-preserved : goal.read_members-loop-i-preserved
-read_members-loop-i-preserved t c = 
-    (members_next c.args.reader.code.now c.args.reader.levels (components (kind_at c.args.reader.code.now c.args.reader.id.index)) c.args.sent.now c.loop-i.i _ (row_of_values c.loop-i.row.items) c.loop-i.progress.skipped c.loop-i.progress.left (bits_left c.loop-i.bits) (drop_more c.args.sent.now c.loop-i.i _ c.loop-i-test.true) (run_members c.args.reader.code.now c.args.reader.levels (run_value c.args.reader.code.now c.args.reader.levels) (components (kind_at c.args.reader.code.now c.args.reader.id.index)) c.args.sent.now (row_of_values c.args.row.now.items) c.args.progress.now.skipped c.args.progress.now.left (bits_left c.args.bits.now)) (row_of_values c.read_member.new.row.items) c.read_member.new.progress.skipped c.read_member.new.progress.left (bits_left c.read_member.new.bits) c.loop-i.invariant.0 c.in-Ok.ensures.ok,
-    both_went c.args.progress.now c.loop-i.progress c.read_member.new.progress (bits_left c.args.bits.now) (bits_left c.loop-i.bits) (bits_left c.read_member.new.bits) c.loop-i.invariant.1 c.in-Ok.ensures.went,
-    c.in-Ok.ensures.places ∙ c.loop-i.invariant.2)
+read_members-loop-i-preserved t c = (
+  members_next c.args.reader.code.now c.args.reader.levels (components (kind_at c.args.reader.code.now c.args.reader.id.index)) c.args.sent.now c.loop-i.i _ (row_of_values c.loop-i.row.items) c.loop-i.progress.skipped c.loop-i.progress.left (bits_left c.loop-i.bits) (drop_more c.args.sent.now c.loop-i.i _ c.loop-i-test.true) (run_members c.args.reader.code.now c.args.reader.levels (run_value c.args.reader.code.now c.args.reader.levels) (components (kind_at c.args.reader.code.now c.args.reader.id.index)) c.args.sent.now (row_of_values c.args.row.now.items) c.args.progress.now.skipped c.args.progress.now.left (bits_left c.args.bits.now)) (row_of_values c.read_member.new.row.items) c.read_member.new.progress.skipped c.read_member.new.progress.left (bits_left c.read_member.new.bits) c.loop-i.invariant.0 c.in-Ok.ensures.ok,
+  both_went c.args.progress.now c.loop-i.progress c.read_member.new.progress (bits_left c.args.bits.now) (bits_left c.loop-i.bits) (bits_left c.read_member.new.bits) c.loop-i.invariant.1 c.in-Ok.ensures.went,
+  c.in-Ok.ensures.places ∙ c.loop-i.invariant.2,
+)
 
 -- src/run.rt:350:1
 pub read_members-returns-clause-ok : goal.read_members-returns-clause-ok
@@ -1545,26 +1546,26 @@ read_pick-read_call-requires t c = calls_have_width c.args.reader.code.now c.arg
 
 -- src/run.rt:173:25
 pub read_pick-returns-in-Err-clause-err : goal.read_pick-returns-in-Err-clause-err
-read_pick-returns-in-Err-clause-err t c = 
+read_pick-returns-in-Err-clause-err t c =
     stop_next (plain (call_from c.args.calls.now (bits_left c.args.bits.now))) (λ q r. run_chosen (run_value c.args.reader.code.now c.args.reader.levels) q c.args.progress.now.skipped c.args.progress.now.left r) c.at.result (bits_left c.read_call.new.bits)
     (stop_at (plain (call_from c.args.calls.now (bits_left c.args.bits.now))) c.in-Err.refusal c.at.result (bits_left c.read_call.new.bits) (ap plain c.in-Err.ensures) c.at.ensures)
 
 -- src/run.rt:175:5
 pub read_pick-read_chosen-requires : goal.read_pick-read_chosen-requires
-read_pick-read_chosen-requires t c = 
+read_pick-read_chosen-requires t c =
     let d = c.decreases in
     let lt : 30 * c.args.reader.levels + 27 < t = omega (arith, d) in
     (lt, (c.requires.few, call_room c.args.reader.code.now c.args.reader.id.index c.args.progress.now (bits_left c.args.bits.now) (bits_left c.read_call.new.bits) c.args.calls.now (chosen_of c.in-Ok.call) c.in-Ok.ensures c.requires.room))
 
 -- src/run.rt:148:1
 pub read_pick-returns-clause-ok : goal.read_pick-returns-clause-ok
-read_pick-returns-clause-ok t c = 
+read_pick-returns-clause-ok t c =
     got_as c.read_chosen.result (onward (plain (call_from c.args.calls.now (bits_left c.args.bits.now))) (λ q r. run_chosen (run_value c.args.reader.code.now c.args.reader.levels) q c.args.progress.now.skipped c.args.progress.now.left r)) (run_chosen (run_value c.args.reader.code.now c.args.reader.levels) (chosen_of c.in-Ok.call) c.args.progress.now.skipped c.args.progress.now.left (bits_left c.read_call.new.bits)) c.read_chosen.new.progress (bits_left c.read_chosen.new.bits)
     (ap (λ o. onward (plain o) (λ q r. run_chosen (run_value c.args.reader.code.now c.args.reader.levels) q c.args.progress.now.skipped c.args.progress.now.left r)) c.in-Ok.ensures) c.read_chosen.ensures.ok
 
 -- src/run.rt:148:1
 pub read_pick-returns-clause-err : goal.read_pick-returns-clause-err
-read_pick-returns-clause-err t c = 
+read_pick-returns-clause-err t c =
     stops_as c.read_chosen.result (onward (plain (call_from c.args.calls.now (bits_left c.args.bits.now))) (λ q r. run_chosen (run_value c.args.reader.code.now c.args.reader.levels) q c.args.progress.now.skipped c.args.progress.now.left r)) (run_chosen (run_value c.args.reader.code.now c.args.reader.levels) (chosen_of c.in-Ok.call) c.args.progress.now.skipped c.args.progress.now.left (bits_left c.read_call.new.bits)) (bits_left c.read_chosen.new.bits)
     (ap (λ o. onward (plain o) (λ q r. run_chosen (run_value c.args.reader.code.now c.args.reader.levels) q c.args.progress.now.skipped c.args.progress.now.left r)) c.in-Ok.ensures) c.read_chosen.ensures.err
 
@@ -1574,7 +1575,7 @@ read_pick-returns-clause-went t c = went_ok c.read_chosen.result c.args.progress
 
 -- src/run.rt:453:23
 pub read_present-read_value-requires : goal.read_present-read_value-requires
-read_present-read_value-requires t c = 
+read_present-read_value-requires t c =
     let f = c.requires.few in
     let d = c.decreases in
     let lt : 30 * c.args.reader.levels < t = omega (arith, d) in
@@ -1591,12 +1592,12 @@ read_present-returns-in-Err-clause-places t c = refl
 
 -- src/run.rt:465:12
 pub read_present-is_default-requires : goal.read_present-is_default-requires
-read_present-is_default-requires t c = 
+read_present-is_default-requires t c =
     let r = is_component c.args.reader.code.now c.schema.result.now c.args.reader.id.index c.args.field c.args.reader.levels (abstract c.in-Ok.value) c.requires.fits c.schema.ensures c.requires.few (λ s' u m n' w h g. c.levels_grow.ensures s' u m n' w h g) c.in-Ok.ensures.value in
     (r.0, r.1.0, r.1.1)
 
 pub read_present-returns-then-is_default-clause-err : goal.read_present-returns-then-is_default-clause-err
-read_present-returns-then-is_default-clause-err t c = 
+read_present-returns-then-is_default-clause-err t c =
     present_same c.args.reader.code.now c.args.reader.levels (components (kind_at c.args.reader.code.now c.args.reader.id.index)) c.args.field (row_of_values c.args.row.now.items) c.args.progress.now.skipped c.args.progress.now.left (bits_left c.args.bits.now) (taken (abstract c.in-Ok.value) c.read_value.new.progress.skipped c.read_value.new.progress.left) (bits_left c.read_value.new.bits) c.at-stop.result c.within-then-is_default.result c.in-Ok.ensures.ok
     (same_as_default c.args.reader.code.now c.args.reader.levels (components (kind_at c.args.reader.code.now c.args.reader.id.index)) c.args.field (row_of_values c.args.row.now.items) c.args.progress.now.skipped c.args.progress.now.left (bits_left c.args.bits.now) c.requires.fits.component (abstract c.in-Ok.value) c.read_value.new.progress.skipped c.read_value.new.progress.left c.is_default.result c.requires.fits.there c.if-progress-skipped.true (default_as c.args.reader.code.now c.schema.result.now c.args.reader.id.index c.args.field.place c.requires.fits.component (abstract c.in-Ok.value) c.is_default.result c.schema.ensures c.requires.fits.there c.is_default.ensures) c.if-is_default.true) c.at-stop.ensures c.within-then-is_default.ensures
 
@@ -1609,7 +1610,7 @@ read_present-put-requires t c = subst (λ q. c.args.field.place < q) (sym c.requ
 
 -- src/run.rt:424:1
 pub read_present-returns-clause-ok : goal.read_present-returns-clause-ok
-read_present-returns-clause-ok t c = 
+read_present-returns-clause-ok t c =
     present_ok c.args.reader.code.now c.args.reader.levels (components (kind_at c.args.reader.code.now c.args.reader.id.index)) c.args.field (row_of_values c.args.row.now.items) c.args.progress.now.skipped c.args.progress.now.left (bits_left c.args.bits.now) (abstract c.in-Ok.value) c.read_value.new.progress.skipped c.read_value.new.progress.left (bits_left c.read_value.new.bits) (row_of_values c.put.new.row.items) c.in-Ok.ensures.ok
     (elim c.else-progress-skipped.branch [
       | read_present-else-progress-skipped-via-then-progress-skipped+else-is_default w ↦ no_default c.args.reader.code.now c.args.reader.levels (components (kind_at c.args.reader.code.now c.args.reader.id.index)) c.args.field (row_of_values c.args.row.now.items) c.args.progress.now.skipped c.args.progress.now.left (bits_left c.args.bits.now) c.requires.fits.component (abstract c.in-Ok.value) c.read_value.new.progress.skipped c.read_value.new.progress.left w.is_default.result c.requires.fits.there (default_as c.args.reader.code.now w.schema.result.now c.args.reader.id.index c.args.field.place c.requires.fits.component (abstract c.in-Ok.value) w.is_default.result w.schema.ensures c.requires.fits.there w.is_default.ensures) w.if-is_default.false
@@ -1626,42 +1627,42 @@ read_present-returns-clause-places t c = c.put.ensures.length
 
 -- src/run.rt:332:25
 pub read_row-returns-in-Err-clause-err : goal.read_row-returns-in-Err-clause-err
-read_row-returns-in-Err-clause-err t c = 
+read_row-returns-in-Err-clause-err t c =
     no_mark c.args.reader.code.now c.args.reader.levels (components (kind_at c.args.reader.code.now c.args.reader.id.index)) c.args.shape.extensible c.args.shape.count c.args.shape.steps.now c.args.progress.now.skipped c.args.progress.now.left (bits_left c.args.bits.now) c.at.result (bits_left c.read_mark.new.bits)
     (stop_at (mark_from c.args.shape.extensible (bits_left c.args.bits.now)) c.in-Err.refusal c.at.result (bits_left c.read_mark.new.bits) c.in-Err.ensures.is c.at.ensures)
 
 pub read_row-returns-in-Err-read_presences-clause-err : goal.read_row-returns-in-Err-read_presences-clause-err
-read_row-returns-in-Err-read_presences-clause-err t c = 
+read_row-returns-in-Err-read_presences-clause-err t c =
     no_presences c.args.reader.code.now c.args.reader.levels (components (kind_at c.args.reader.code.now c.args.reader.id.index)) c.args.shape.extensible c.args.shape.count c.args.shape.steps.now c.args.progress.now.skipped c.args.progress.now.left (bits_left c.args.bits.now) c.in-Ok.more (bits_left c.read_mark.new.bits) (bits_left c.read_presences.new.bits) (fields_in c.next.result.now) c.in-Err-read_presences.stop c.in-Ok.ensures.is (ap fields_in c.next.ensures ∙ fields_taken c.args.shape.count c.args.shape.steps.now) c.in-Err-read_presences.ensures.err
 
 -- src/run.rt:338:11
 pub read_row-read_members-requires : goal.read_row-read_members-requires
-read_row-read_members-requires t c = 
+read_row-read_members-requires t c =
     let d = c.decreases in
     let lt : 30 * c.args.reader.levels + 20 < t = omega (arith, d) in
     (lt, (c.requires.few, (room_left c.args.progress.now c.args.progress.now (bits_left c.args.bits.now) (bits_left c.read_presences.new.bits) c.requires.room (both_went c.args.progress.now c.args.progress.now c.args.progress.now (bits_left c.args.bits.now) (bits_left c.read_mark.new.bits) (bits_left c.read_presences.new.bits) (went_shorter c.args.progress.now (bits_left c.args.bits.now) (bits_left c.read_mark.new.bits) c.in-Ok.ensures.shorter) (went_shorter c.args.progress.now (bits_left c.read_mark.new.bits) (bits_left c.read_presences.new.bits) c.in-Ok-read_presences.ensures.shorter)), ((subst (AreSent c.args.reader.code.now c.args.reader.id.index) (sym c.as_slice.ensures.value) (sent_fit c.args.reader.code.now c.args.reader.id.index c.in-Ok-read_presences.sent.items (fields_in c.next.result.now) c.in-Ok-read_presences.ensures.fields (fields_fit c.args.reader.code.now c.args.reader.id.index c.next.result.now (subst (FieldsFit c.args.reader.code.now c.args.reader.id.index) (sym c.next.ensures) (all_taken (FieldOf c.args.reader.code.now c.args.reader.id.index) c.args.shape.count c.args.shape.steps.now c.requires.fit))))), c.requires.places))))
 
 pub read_row-returns-in-Err-read_members-clause-err : goal.read_row-returns-in-Err-read_members-clause-err
-read_row-returns-in-Err-read_members-clause-err t c = 
+read_row-returns-in-Err-read_members-clause-err t c =
     no_members c.args.reader.code.now c.args.reader.levels (components (kind_at c.args.reader.code.now c.args.reader.id.index)) c.args.shape.extensible c.args.shape.count c.args.shape.steps.now c.args.progress.now.skipped c.args.progress.now.left (bits_left c.args.bits.now) c.in-Ok.more (bits_left c.read_mark.new.bits) (bits_left c.read_presences.new.bits) (bits_left c.read_members.new.bits) (fields_in c.next.result.now) c.in-Ok-read_presences.sent.items (row_of_values c.args.row.now.items) c.in-Err-read_members.stop c.in-Ok.ensures.is (ap fields_in c.next.ensures ∙ fields_taken c.args.shape.count c.args.shape.steps.now) c.in-Ok-read_presences.ensures.ok c.requires.empty
     (subst (λ xs. IsStop (run_members c.args.reader.code.now c.args.reader.levels (run_value c.args.reader.code.now c.args.reader.levels) (components (kind_at c.args.reader.code.now c.args.reader.id.index)) xs (row_of_values c.args.row.now.items) c.args.progress.now.skipped c.args.progress.now.left (bits_left c.read_presences.new.bits)) c.in-Err-read_members.stop (bits_left c.read_members.new.bits)) c.as_slice.ensures.value c.in-Err-read_members.ensures.err)
 
 -- src/run.rt:343:9
 pub read_row-read_extension-requires : goal.read_row-read_extension-requires
-read_row-read_extension-requires t c = 
+read_row-read_extension-requires t c =
     let d = c.decreases in
     let lt : 30 * c.args.reader.levels + 26 < t = omega (arith, d) in
     (lt, (c.requires.few, (room_left c.args.progress.now c.read_members.new.progress (bits_left c.args.bits.now) (bits_left c.read_members.new.bits) c.requires.room (both_went c.args.progress.now c.args.progress.now c.read_members.new.progress (bits_left c.args.bits.now) (bits_left c.read_presences.new.bits) (bits_left c.read_members.new.bits) (both_went c.args.progress.now c.args.progress.now c.args.progress.now (bits_left c.args.bits.now) (bits_left c.read_mark.new.bits) (bits_left c.read_presences.new.bits) (went_shorter c.args.progress.now (bits_left c.args.bits.now) (bits_left c.read_mark.new.bits) c.in-Ok.ensures.shorter) (went_shorter c.args.progress.now (bits_left c.read_mark.new.bits) (bits_left c.read_presences.new.bits) c.in-Ok-read_presences.ensures.shorter)) c.in-Ok-read_members.ensures.went), (subst (FieldsFit c.args.reader.code.now c.args.reader.id.index) (sym c.past.ensures) (all_dropped (FieldOf c.args.reader.code.now c.args.reader.id.index) c.args.shape.count c.args.shape.steps.now c.requires.fit), c.in-Ok-read_members.ensures.places ∙ c.requires.places))))
 
 -- src/run.rt:329:1
 pub read_row-returns-then-more-clause-ok : goal.read_row-returns-then-more-clause-ok
-read_row-returns-then-more-clause-ok t c = 
+read_row-returns-then-more-clause-ok t c =
     row_as c.read_extension.result (run_structure c.args.reader.code.now c.args.reader.levels (run_value c.args.reader.code.now c.args.reader.levels) (components (kind_at c.args.reader.code.now c.args.reader.id.index)) c.args.shape.extensible c.args.shape.count c.args.shape.steps.now c.args.progress.now.skipped c.args.progress.now.left (bits_left c.args.bits.now)) (run_rest c.args.reader.code.now c.args.reader.levels (run_value c.args.reader.code.now c.args.reader.levels) (components (kind_at c.args.reader.code.now c.args.reader.id.index)) true c.past.result.now (row_of_values c.read_members.new.row.items) c.read_members.new.progress.skipped c.read_members.new.progress.left (bits_left c.read_members.new.bits)) (row_of_values c.read_extension.new.row.items) c.read_extension.new.progress (bits_left c.read_extension.new.bits)
     ((rest_is c.args.reader.code.now c.args.reader.levels (components (kind_at c.args.reader.code.now c.args.reader.id.index)) c.args.shape.extensible c.args.shape.count c.args.shape.steps.now c.args.progress.now.skipped c.args.progress.now.left (bits_left c.args.bits.now) c.in-Ok.more (bits_left c.read_mark.new.bits) (bits_left c.read_presences.new.bits) (bits_left c.read_members.new.bits) (fields_in c.next.result.now) c.in-Ok-read_presences.sent.items (row_of_values c.args.row.now.items) (row_of_values c.read_members.new.row.items) c.read_members.new.progress.skipped c.read_members.new.progress.left c.in-Ok.ensures.is (ap fields_in c.next.ensures ∙ fields_taken c.args.shape.count c.args.shape.steps.now) c.in-Ok-read_presences.ensures.ok c.requires.empty (subst (λ xs. run_members c.args.reader.code.now c.args.reader.levels (run_value c.args.reader.code.now c.args.reader.levels) (components (kind_at c.args.reader.code.now c.args.reader.id.index)) xs (row_of_values c.args.row.now.items) c.args.progress.now.skipped c.args.progress.now.left (bits_left c.read_presences.new.bits) ≡ read (taken (row_of_values c.read_members.new.row.items) c.read_members.new.progress.skipped c.read_members.new.progress.left) (bits_left c.read_members.new.bits)) c.as_slice.ensures.value c.in-Ok-read_members.ensures.ok)) ∙ ap (λ q. run_rest c.args.reader.code.now c.args.reader.levels (run_value c.args.reader.code.now c.args.reader.levels) (components (kind_at c.args.reader.code.now c.args.reader.id.index)) q (drop c.args.shape.count c.args.shape.steps.now) (row_of_values c.read_members.new.row.items) c.read_members.new.progress.skipped c.read_members.new.progress.left (bits_left c.read_members.new.bits)) c.if-more.true ∙ ap (λ q. run_rest c.args.reader.code.now c.args.reader.levels (run_value c.args.reader.code.now c.args.reader.levels) (components (kind_at c.args.reader.code.now c.args.reader.id.index)) true q (row_of_values c.read_members.new.row.items) c.read_members.new.progress.skipped c.read_members.new.progress.left (bits_left c.read_members.new.bits)) (sym c.past.ensures)) c.read_extension.ensures.ok
 
 -- src/run.rt:329:1
 pub read_row-returns-then-more-clause-err : goal.read_row-returns-then-more-clause-err
-read_row-returns-then-more-clause-err t c = 
+read_row-returns-then-more-clause-err t c =
     stops_as c.read_extension.result (run_structure c.args.reader.code.now c.args.reader.levels (run_value c.args.reader.code.now c.args.reader.levels) (components (kind_at c.args.reader.code.now c.args.reader.id.index)) c.args.shape.extensible c.args.shape.count c.args.shape.steps.now c.args.progress.now.skipped c.args.progress.now.left (bits_left c.args.bits.now)) (run_rest c.args.reader.code.now c.args.reader.levels (run_value c.args.reader.code.now c.args.reader.levels) (components (kind_at c.args.reader.code.now c.args.reader.id.index)) true c.past.result.now (row_of_values c.read_members.new.row.items) c.read_members.new.progress.skipped c.read_members.new.progress.left (bits_left c.read_members.new.bits)) (bits_left c.read_extension.new.bits)
     ((rest_is c.args.reader.code.now c.args.reader.levels (components (kind_at c.args.reader.code.now c.args.reader.id.index)) c.args.shape.extensible c.args.shape.count c.args.shape.steps.now c.args.progress.now.skipped c.args.progress.now.left (bits_left c.args.bits.now) c.in-Ok.more (bits_left c.read_mark.new.bits) (bits_left c.read_presences.new.bits) (bits_left c.read_members.new.bits) (fields_in c.next.result.now) c.in-Ok-read_presences.sent.items (row_of_values c.args.row.now.items) (row_of_values c.read_members.new.row.items) c.read_members.new.progress.skipped c.read_members.new.progress.left c.in-Ok.ensures.is (ap fields_in c.next.ensures ∙ fields_taken c.args.shape.count c.args.shape.steps.now) c.in-Ok-read_presences.ensures.ok c.requires.empty (subst (λ xs. run_members c.args.reader.code.now c.args.reader.levels (run_value c.args.reader.code.now c.args.reader.levels) (components (kind_at c.args.reader.code.now c.args.reader.id.index)) xs (row_of_values c.args.row.now.items) c.args.progress.now.skipped c.args.progress.now.left (bits_left c.read_presences.new.bits) ≡ read (taken (row_of_values c.read_members.new.row.items) c.read_members.new.progress.skipped c.read_members.new.progress.left) (bits_left c.read_members.new.bits)) c.as_slice.ensures.value c.in-Ok-read_members.ensures.ok)) ∙ ap (λ q. run_rest c.args.reader.code.now c.args.reader.levels (run_value c.args.reader.code.now c.args.reader.levels) (components (kind_at c.args.reader.code.now c.args.reader.id.index)) q (drop c.args.shape.count c.args.shape.steps.now) (row_of_values c.read_members.new.row.items) c.read_members.new.progress.skipped c.read_members.new.progress.left (bits_left c.read_members.new.bits)) c.if-more.true ∙ ap (λ q. run_rest c.args.reader.code.now c.args.reader.levels (run_value c.args.reader.code.now c.args.reader.levels) (components (kind_at c.args.reader.code.now c.args.reader.id.index)) true q (row_of_values c.read_members.new.row.items) c.read_members.new.progress.skipped c.read_members.new.progress.left (bits_left c.read_members.new.bits)) (sym c.past.ensures)) c.read_extension.ensures.err
 
@@ -1679,7 +1680,7 @@ read_row-returns-clause-went t c = (both_went c.args.progress.now c.args.progres
 
 -- src/run.rt:114:32
 pub read_steps-read_fields-requires : goal.read_steps-read_fields-requires
-read_steps-read_fields-requires t c = 
+read_steps-read_fields-requires t c =
     let d = c.decreases in
     let lt : 30 * c.args.reader.levels + 28 < t = omega (arith, d) in
     let there = type_there c.args.reader.code.now c.args.reader.id.index c.steps.result.now c.plan_of.result (plans.Fields c.in-Fields.shape) c.steps.ensures c.in-Fields.is c.plan_of.ensures.some (λ h. h) in
@@ -1687,14 +1688,14 @@ read_steps-read_fields-requires t c =
 
 -- src/run.rt:115:40
 pub read_steps-read_each-requires : goal.read_steps-read_each-requires
-read_steps-read_each-requires t c = 
+read_steps-read_each-requires t c =
     let d = c.decreases in
     let lt : 30 * c.args.reader.levels + 28 < t = omega (arith, d) in
     (lt, (c.requires.few, (c.requires.room, fits_as c.args.reader.code.now c.args.reader.id.index c.steps.result.now c.plan_of.result (plans.List c.in-List.element c.in-List.sorted) c.steps.ensures c.in-List.is (c.plan_of.ensures.fits c.args.reader.code.now c.args.reader.id.index) (c.routines_fit.ensures c.args.reader.code.now c.args.reader.id.index))))
 
 -- src/run.rt:116:32
 pub read_steps-read_pick-requires : goal.read_steps-read_pick-requires
-read_steps-read_pick-requires t c = 
+read_steps-read_pick-requires t c =
     let d = c.decreases in
     let lt : 30 * c.args.reader.levels + 28 < t = omega (arith, d) in
     let there = type_there c.args.reader.code.now c.args.reader.id.index c.steps.result.now c.plan_of.result (plans.Choice c.in-Choice.calls) c.steps.ensures c.in-Choice.is c.plan_of.ensures.some (λ h. h) in
@@ -1702,18 +1703,18 @@ read_steps-read_pick-requires t c =
 
 -- src/run.rt:117:23
 pub read_steps-read_contents-requires : goal.read_steps-read_contents-requires
-read_steps-read_contents-requires t c = 
+read_steps-read_contents-requires t c =
     record { there = type_there c.args.reader.code.now c.args.reader.id.index c.steps.result.now c.plan_of.result plans.Leaf c.steps.ensures c.in-Leaf.is c.plan_of.ensures.some (λ h. h) }
 
 -- src/run.rt:92:1
 pub read_steps-returns-in-Fields-clause-ok : goal.read_steps-returns-in-Fields-clause-ok
-read_steps-returns-in-Fields-clause-ok t c = 
+read_steps-returns-in-Fields-clause-ok t c =
     got_as c.read_fields.result (run_steps c.args.reader.code.now c.args.reader.levels (run_value c.args.reader.code.now c.args.reader.levels) c.args.reader.id.index (routine_at c.args.reader.code.now c.args.reader.id.index) c.args.progress.now.skipped c.args.progress.now.left (bits_left c.args.bits.now)) (run_plan c.args.reader.code.now c.args.reader.levels (run_value c.args.reader.code.now c.args.reader.levels) c.args.reader.id.index (plans.Fields c.in-Fields.shape) c.args.progress.now.skipped c.args.progress.now.left (bits_left c.args.bits.now)) c.read_fields.new.progress (bits_left c.read_fields.new.bits)
     (as_plan c.args.reader.code.now c.args.reader.levels c.args.reader.id.index c.args.progress.now.skipped c.args.progress.now.left (bits_left c.args.bits.now) c.steps.result.now c.plan_of.result (plans.Fields c.in-Fields.shape) c.steps.ensures c.plan_of.ensures.is c.in-Fields.is) c.read_fields.ensures.ok
 
 -- src/run.rt:92:1
 pub read_steps-returns-in-Fields-clause-err : goal.read_steps-returns-in-Fields-clause-err
-read_steps-returns-in-Fields-clause-err t c = 
+read_steps-returns-in-Fields-clause-err t c =
     stops_as c.read_fields.result (run_steps c.args.reader.code.now c.args.reader.levels (run_value c.args.reader.code.now c.args.reader.levels) c.args.reader.id.index (routine_at c.args.reader.code.now c.args.reader.id.index) c.args.progress.now.skipped c.args.progress.now.left (bits_left c.args.bits.now)) (run_plan c.args.reader.code.now c.args.reader.levels (run_value c.args.reader.code.now c.args.reader.levels) c.args.reader.id.index (plans.Fields c.in-Fields.shape) c.args.progress.now.skipped c.args.progress.now.left (bits_left c.args.bits.now)) (bits_left c.read_fields.new.bits)
     (as_plan c.args.reader.code.now c.args.reader.levels c.args.reader.id.index c.args.progress.now.skipped c.args.progress.now.left (bits_left c.args.bits.now) c.steps.result.now c.plan_of.result (plans.Fields c.in-Fields.shape) c.steps.ensures c.plan_of.ensures.is c.in-Fields.is) c.read_fields.ensures.err
 
@@ -1723,13 +1724,13 @@ read_steps-returns-in-Fields-clause-went t c = c.read_fields.ensures.went
 
 -- src/run.rt:92:1
 pub read_steps-returns-in-List-clause-ok : goal.read_steps-returns-in-List-clause-ok
-read_steps-returns-in-List-clause-ok t c = 
+read_steps-returns-in-List-clause-ok t c =
     got_as c.read_each.result (run_steps c.args.reader.code.now c.args.reader.levels (run_value c.args.reader.code.now c.args.reader.levels) c.args.reader.id.index (routine_at c.args.reader.code.now c.args.reader.id.index) c.args.progress.now.skipped c.args.progress.now.left (bits_left c.args.bits.now)) (run_plan c.args.reader.code.now c.args.reader.levels (run_value c.args.reader.code.now c.args.reader.levels) c.args.reader.id.index (plans.List c.in-List.element c.in-List.sorted) c.args.progress.now.skipped c.args.progress.now.left (bits_left c.args.bits.now)) c.read_each.new.progress (bits_left c.read_each.new.bits)
     (as_plan c.args.reader.code.now c.args.reader.levels c.args.reader.id.index c.args.progress.now.skipped c.args.progress.now.left (bits_left c.args.bits.now) c.steps.result.now c.plan_of.result (plans.List c.in-List.element c.in-List.sorted) c.steps.ensures c.plan_of.ensures.is c.in-List.is) c.read_each.ensures.ok
 
 -- src/run.rt:92:1
 pub read_steps-returns-in-List-clause-err : goal.read_steps-returns-in-List-clause-err
-read_steps-returns-in-List-clause-err t c = 
+read_steps-returns-in-List-clause-err t c =
     stops_as c.read_each.result (run_steps c.args.reader.code.now c.args.reader.levels (run_value c.args.reader.code.now c.args.reader.levels) c.args.reader.id.index (routine_at c.args.reader.code.now c.args.reader.id.index) c.args.progress.now.skipped c.args.progress.now.left (bits_left c.args.bits.now)) (run_plan c.args.reader.code.now c.args.reader.levels (run_value c.args.reader.code.now c.args.reader.levels) c.args.reader.id.index (plans.List c.in-List.element c.in-List.sorted) c.args.progress.now.skipped c.args.progress.now.left (bits_left c.args.bits.now)) (bits_left c.read_each.new.bits)
     (as_plan c.args.reader.code.now c.args.reader.levels c.args.reader.id.index c.args.progress.now.skipped c.args.progress.now.left (bits_left c.args.bits.now) c.steps.result.now c.plan_of.result (plans.List c.in-List.element c.in-List.sorted) c.steps.ensures c.plan_of.ensures.is c.in-List.is) c.read_each.ensures.err
 
@@ -1739,13 +1740,13 @@ read_steps-returns-in-List-clause-went t c = c.read_each.ensures.went
 
 -- src/run.rt:92:1
 pub read_steps-returns-in-Choice-clause-ok : goal.read_steps-returns-in-Choice-clause-ok
-read_steps-returns-in-Choice-clause-ok t c = 
+read_steps-returns-in-Choice-clause-ok t c =
     got_as c.read_pick.result (run_steps c.args.reader.code.now c.args.reader.levels (run_value c.args.reader.code.now c.args.reader.levels) c.args.reader.id.index (routine_at c.args.reader.code.now c.args.reader.id.index) c.args.progress.now.skipped c.args.progress.now.left (bits_left c.args.bits.now)) (run_plan c.args.reader.code.now c.args.reader.levels (run_value c.args.reader.code.now c.args.reader.levels) c.args.reader.id.index (plans.Choice c.in-Choice.calls) c.args.progress.now.skipped c.args.progress.now.left (bits_left c.args.bits.now)) c.read_pick.new.progress (bits_left c.read_pick.new.bits)
     (as_plan c.args.reader.code.now c.args.reader.levels c.args.reader.id.index c.args.progress.now.skipped c.args.progress.now.left (bits_left c.args.bits.now) c.steps.result.now c.plan_of.result (plans.Choice c.in-Choice.calls) c.steps.ensures c.plan_of.ensures.is c.in-Choice.is) c.read_pick.ensures.ok
 
 -- src/run.rt:92:1
 pub read_steps-returns-in-Choice-clause-err : goal.read_steps-returns-in-Choice-clause-err
-read_steps-returns-in-Choice-clause-err t c = 
+read_steps-returns-in-Choice-clause-err t c =
     stops_as c.read_pick.result (run_steps c.args.reader.code.now c.args.reader.levels (run_value c.args.reader.code.now c.args.reader.levels) c.args.reader.id.index (routine_at c.args.reader.code.now c.args.reader.id.index) c.args.progress.now.skipped c.args.progress.now.left (bits_left c.args.bits.now)) (run_plan c.args.reader.code.now c.args.reader.levels (run_value c.args.reader.code.now c.args.reader.levels) c.args.reader.id.index (plans.Choice c.in-Choice.calls) c.args.progress.now.skipped c.args.progress.now.left (bits_left c.args.bits.now)) (bits_left c.read_pick.new.bits)
     (as_plan c.args.reader.code.now c.args.reader.levels c.args.reader.id.index c.args.progress.now.skipped c.args.progress.now.left (bits_left c.args.bits.now) c.steps.result.now c.plan_of.result (plans.Choice c.in-Choice.calls) c.steps.ensures c.plan_of.ensures.is c.in-Choice.is) c.read_pick.ensures.err
 
@@ -1755,13 +1756,13 @@ read_steps-returns-in-Choice-clause-went t c = c.read_pick.ensures.went
 
 -- src/run.rt:92:1
 pub read_steps-returns-in-Leaf-clause-ok : goal.read_steps-returns-in-Leaf-clause-ok
-read_steps-returns-in-Leaf-clause-ok t c = 
+read_steps-returns-in-Leaf-clause-ok t c =
     got_as c.read_contents.result (run_steps c.args.reader.code.now c.args.reader.levels (run_value c.args.reader.code.now c.args.reader.levels) c.args.reader.id.index (routine_at c.args.reader.code.now c.args.reader.id.index) c.args.progress.now.skipped c.args.progress.now.left (bits_left c.args.bits.now)) (run_plan c.args.reader.code.now c.args.reader.levels (run_value c.args.reader.code.now c.args.reader.levels) c.args.reader.id.index (plans.Leaf) c.args.progress.now.skipped c.args.progress.now.left (bits_left c.args.bits.now)) c.args.progress.now (bits_left c.read_contents.new.bits)
     (as_plan c.args.reader.code.now c.args.reader.levels c.args.reader.id.index c.args.progress.now.skipped c.args.progress.now.left (bits_left c.args.bits.now) c.steps.result.now c.plan_of.result (plans.Leaf) c.steps.ensures c.plan_of.ensures.is c.in-Leaf.is) c.read_contents.ensures.ok
 
 -- src/run.rt:92:1
 pub read_steps-returns-in-Leaf-clause-err : goal.read_steps-returns-in-Leaf-clause-err
-read_steps-returns-in-Leaf-clause-err t c = 
+read_steps-returns-in-Leaf-clause-err t c =
     stops_as c.read_contents.result (run_steps c.args.reader.code.now c.args.reader.levels (run_value c.args.reader.code.now c.args.reader.levels) c.args.reader.id.index (routine_at c.args.reader.code.now c.args.reader.id.index) c.args.progress.now.skipped c.args.progress.now.left (bits_left c.args.bits.now)) (run_plan c.args.reader.code.now c.args.reader.levels (run_value c.args.reader.code.now c.args.reader.levels) c.args.reader.id.index (plans.Leaf) c.args.progress.now.skipped c.args.progress.now.left (bits_left c.args.bits.now)) (bits_left c.read_contents.new.bits)
     (as_plan c.args.reader.code.now c.args.reader.levels c.args.reader.id.index c.args.progress.now.skipped c.args.progress.now.left (bits_left c.args.bits.now) c.steps.result.now c.plan_of.result (plans.Leaf) c.steps.ensures c.plan_of.ensures.is c.in-Leaf.is) c.read_contents.ensures.err
 
@@ -1771,21 +1772,21 @@ read_steps-returns-in-Leaf-clause-went t c = shorter_ok c.read_contents.result c
 
 -- src/run.rt:92:1
 pub read_steps-returns-in-Nothing-clause-err : goal.read_steps-returns-in-Nothing-clause-err
-read_steps-returns-in-Nothing-clause-err t c = 
+read_steps-returns-in-Nothing-clause-err t c =
     stop_at (run_steps c.args.reader.code.now c.args.reader.levels (run_value c.args.reader.code.now c.args.reader.levels) c.args.reader.id.index (routine_at c.args.reader.code.now c.args.reader.id.index) c.args.progress.now.skipped c.args.progress.now.left (bits_left c.args.bits.now)) why.Outside c.at.result (bits_left c.args.bits.now)
     (as_plan c.args.reader.code.now c.args.reader.levels c.args.reader.id.index c.args.progress.now.skipped c.args.progress.now.left (bits_left c.args.bits.now) c.steps.result.now c.plan_of.result (plans.Nothing) c.steps.ensures c.plan_of.ensures.is c.in-Nothing.is) c.at.ensures
 
 -- src/run.rt:75:9
 pub read_value-returns-then-reader-eq0-clause-err :
     goal.read_value-returns-then-reader-eq0-clause-err
-read_value-returns-then-reader-eq0-clause-err t c = 
+read_value-returns-then-reader-eq0-clause-err t c =
     stop_at (run_value c.args.reader.code.now c.args.reader.levels c.args.reader.id.index c.args.progress.now.skipped c.args.progress.now.left (bits_left c.args.bits.now)) why.TooDeep c.at.result (bits_left c.args.bits.now)
     (value_deep c.args.reader.code.now c.args.reader.levels c.args.reader.id.index c.args.progress.now.skipped c.args.progress.now.left (bits_left c.args.bits.now) (let h = c.if-reader-eq0.true in omega (arith, h))) c.at.ensures
 
 -- src/run.rt:78:9
 pub read_value-returns-then-progress-eq0-clause-err :
     goal.read_value-returns-then-progress-eq0-clause-err
-read_value-returns-then-progress-eq0-clause-err t c = 
+read_value-returns-then-progress-eq0-clause-err t c =
     stop_at (run_value c.args.reader.code.now c.args.reader.levels c.args.reader.id.index c.args.progress.now.skipped c.args.progress.now.left (bits_left c.args.bits.now)) why.NodesLimit c.at-then-progress-eq0.result (bits_left c.args.bits.now)
     (value_full c.args.reader.code.now c.args.reader.levels c.args.reader.id.index c.args.progress.now.skipped c.args.progress.now.left (bits_left c.args.bits.now) (let h = c.if-reader-eq0.false in omega (arith, h)) (let h = c.if-progress-eq0.true in omega (arith, h))) c.at-then-progress-eq0.ensures
 
@@ -1799,7 +1800,7 @@ read_value-overflow_sub-reader t c = let h = c.if-reader-eq0.false in omega (ari
 
 -- src/run.rt:81:5
 pub read_value-read_steps-requires : goal.read_value-read_steps-requires
-read_value-read_steps-requires t c = 
+read_value-read_steps-requires t c =
     let h = c.if-reader-eq0.false in
     let d = c.decreases in
     let f = c.requires.few in
@@ -1825,7 +1826,7 @@ read_value-returns-clause-fewer t c = fewer_value c.read_steps.result c.args.pro
 
 -- src/run.rt:52:1
 pub read_value-returns-clause-value : goal.read_value-returns-clause-value
-read_value-returns-clause-value t c = 
+read_value-returns-clause-value t c =
     let s = c.args.reader.code.now in
     let l = c.args.reader.levels in
     let u = c.args.reader.id.index in
@@ -1836,3 +1837,41 @@ read_value-returns-clause-value t c =
 
 pub read_fields-returns-in-Err-read_row-clause-err : goal.read_fields-returns-in-Err-read_row-clause-err
 read_fields-returns-in-Err-read_row-clause-err t c = stop_next (run_structure c.args.reader.code.now c.args.reader.levels (run_value c.args.reader.code.now c.args.reader.levels) (components (kind_at c.args.reader.code.now c.args.reader.id.index)) c.args.shape.extensible c.args.shape.count c.args.shape.steps.now c.args.progress.now.skipped c.args.progress.now.left (bits_left c.args.bits.now)) (λ w r. read (as_fields w) r) c.in-Err-read_row.stop (bits_left c.read_row.new.bits) c.in-Err-read_row.ensures.err
+
+pub read_chosen-read_opened-requires : goal.read_chosen-read_opened-requires
+read_chosen-read_opened-requires t c = 
+    let d = c.decreases in
+    let lt : 30 * c.args.reader.levels + 10 < t = omega (arith, d) in
+    (lt, (c.requires.few, c.requires.room))
+
+pub read_chosen-read_value-requires : goal.read_chosen-read_value-requires
+read_chosen-read_value-requires t c = 
+    let f = c.requires.few in
+    let d = c.decreases in
+    let lt : 30 * c.args.reader.levels < t = omega (arith, d) in
+    let few : c.args.reader.levels ≤ 64 = omega (arith, f) in
+    (lt, (few, c.requires.room))
+
+pub read_chosen-returns-in-Ok-clause-ok : goal.read_chosen-returns-in-Ok-clause-ok
+read_chosen-returns-in-Ok-clause-ok t c = chosen_as c.args.reader.code.now c.args.reader.levels c.args.call.number c.args.call.ty.index c.args.progress.now.skipped c.args.progress.now.left (bits_left c.args.bits.now) c.alternative.result (open_from (run_value c.args.reader.code.now c.args.reader.levels c.args.call.ty.index c.args.progress.now.skipped c.args.progress.now.left) (bits_left c.args.bits.now)) (run_chosen (run_value c.args.reader.code.now c.args.reader.levels) (chosen_of c.args.call) c.args.progress.now.skipped c.args.progress.now.left (bits_left c.args.bits.now)) (abstract c.in-Ok.value) c.read_opened.new.progress (bits_left c.read_opened.new.bits) (chosen_open c.args.reader.code.now c.args.reader.levels c.args.call.number c.args.call.ty.index c.args.progress.now.skipped c.args.progress.now.left (bits_left c.args.bits.now) c.args.call.open c.if-call.true) c.in-Ok.ensures.ok c.alternative.ensures.ok
+
+pub read_chosen-returns-in-Ok-clause-err : goal.read_chosen-returns-in-Ok-clause-err
+read_chosen-returns-in-Ok-clause-err t c = only_memory c.alternative.result (run_chosen (run_value c.args.reader.code.now c.args.reader.levels) (chosen_of c.args.call) c.args.progress.now.skipped c.args.progress.now.left (bits_left c.args.bits.now)) (bits_left c.read_opened.new.bits) c.alternative.ensures.err
+
+pub read_chosen-returns-in-Ok-clause-went : goal.read_chosen-returns-in-Ok-clause-went
+read_chosen-returns-in-Ok-clause-went t c = whatever c.alternative.result c.in-Ok.ensures.went
+
+pub read_chosen-returns-in-Err-clause-err : goal.read_chosen-returns-in-Err-clause-err
+read_chosen-returns-in-Err-clause-err t c = stop_as (run_chosen (run_value c.args.reader.code.now c.args.reader.levels) (chosen_of c.args.call) c.args.progress.now.skipped c.args.progress.now.left (bits_left c.args.bits.now)) (next' c.args.call.number (open_from (run_value c.args.reader.code.now c.args.reader.levels c.args.call.ty.index c.args.progress.now.skipped c.args.progress.now.left) (bits_left c.args.bits.now))) c.within.result (bits_left c.read_opened.new.bits) (chosen_open c.args.reader.code.now c.args.reader.levels c.args.call.number c.args.call.ty.index c.args.progress.now.skipped c.args.progress.now.left (bits_left c.args.bits.now) c.args.call.open c.if-call.true) (chosen_stop c.args.reader.code.now c.args.reader.levels c.args.call.number c.args.call.ty.index c.args.progress.now.skipped c.args.progress.now.left (bits_left c.args.bits.now) (open_from (run_value c.args.reader.code.now c.args.reader.levels c.args.call.ty.index c.args.progress.now.skipped c.args.progress.now.left) (bits_left c.args.bits.now)) c.in-Err.stop c.within.result (bits_left c.read_opened.new.bits) c.in-Err.ensures.err c.within.ensures)
+
+pub read_chosen-returns-in-Ok-read_value-clause-ok : goal.read_chosen-returns-in-Ok-read_value-clause-ok
+read_chosen-returns-in-Ok-read_value-clause-ok t c = chosen_as c.args.reader.code.now c.args.reader.levels c.args.call.number c.args.call.ty.index c.args.progress.now.skipped c.args.progress.now.left (bits_left c.args.bits.now) c.alternative-in-Ok-read_value.result (run_value c.args.reader.code.now c.args.reader.levels c.args.call.ty.index c.args.progress.now.skipped c.args.progress.now.left (bits_left c.args.bits.now)) (run_chosen (run_value c.args.reader.code.now c.args.reader.levels) (chosen_of c.args.call) c.args.progress.now.skipped c.args.progress.now.left (bits_left c.args.bits.now)) (abstract c.in-Ok-read_value.value) c.read_value.new.progress (bits_left c.read_value.new.bits) (chosen_root c.args.reader.code.now c.args.reader.levels c.args.call.number c.args.call.ty.index c.args.progress.now.skipped c.args.progress.now.left (bits_left c.args.bits.now) c.args.call.open c.if-call.false) c.in-Ok-read_value.ensures.ok c.alternative-in-Ok-read_value.ensures.ok
+
+pub read_chosen-returns-in-Ok-read_value-clause-err : goal.read_chosen-returns-in-Ok-read_value-clause-err
+read_chosen-returns-in-Ok-read_value-clause-err t c = only_memory c.alternative-in-Ok-read_value.result (run_chosen (run_value c.args.reader.code.now c.args.reader.levels) (chosen_of c.args.call) c.args.progress.now.skipped c.args.progress.now.left (bits_left c.args.bits.now)) (bits_left c.read_value.new.bits) c.alternative-in-Ok-read_value.ensures.err
+
+pub read_chosen-returns-in-Ok-read_value-clause-went : goal.read_chosen-returns-in-Ok-read_value-clause-went
+read_chosen-returns-in-Ok-read_value-clause-went t c = whatever c.alternative-in-Ok-read_value.result c.in-Ok-read_value.ensures.went
+
+pub read_chosen-returns-in-Err-read_value-clause-err : goal.read_chosen-returns-in-Err-read_value-clause-err
+read_chosen-returns-in-Err-read_value-clause-err t c = stop_as (run_chosen (run_value c.args.reader.code.now c.args.reader.levels) (chosen_of c.args.call) c.args.progress.now.skipped c.args.progress.now.left (bits_left c.args.bits.now)) (next' c.args.call.number (run_value c.args.reader.code.now c.args.reader.levels c.args.call.ty.index c.args.progress.now.skipped c.args.progress.now.left (bits_left c.args.bits.now))) c.within-in-Err-read_value.result (bits_left c.read_value.new.bits) (chosen_root c.args.reader.code.now c.args.reader.levels c.args.call.number c.args.call.ty.index c.args.progress.now.skipped c.args.progress.now.left (bits_left c.args.bits.now) c.args.call.open c.if-call.false) (chosen_stop c.args.reader.code.now c.args.reader.levels c.args.call.number c.args.call.ty.index c.args.progress.now.skipped c.args.progress.now.left (bits_left c.args.bits.now) (run_value c.args.reader.code.now c.args.reader.levels c.args.call.ty.index c.args.progress.now.skipped c.args.progress.now.left (bits_left c.args.bits.now)) c.in-Err-read_value.stop c.within-in-Err-read_value.result (bits_left c.read_value.new.bits) c.in-Err-read_value.ensures.err c.within-in-Err-read_value.ensures)
