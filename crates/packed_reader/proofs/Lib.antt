@@ -14,3 +14,4 @@ mod AllKinds
 mod Whole
 mod Rows
 mod Stepwise
+mod Lacking

@@ -2,6 +2,7 @@
 //! `specs` compute it, or the first fault with its place and the part of the value that it is in.
 #![tactic(auto)]
 
+mod absent;
 mod call;
 mod fault;
 pub mod law;
