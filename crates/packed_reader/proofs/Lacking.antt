@@ -8,7 +8,7 @@ use Rattle.asn_base.specs.Schemas.{components, HasValue, IsSchema, IsSound}
 use Rattle.asn_base.specs.Typed.{IsValue, MayBeAbsent, ValueIn, where_optional, where_default, where_addition}
 use Rattle.asn_base.specs.Types.{Kind, a_null, a_sequence, a_set, mandatory, optional, default, addition, Presence, Component, Resolved}
 use Rattle.packed_reader.specs.Levels.{is_within, may_lack}
-use Rattle.packed_reader.specs.proving.Fit.{HasComponent}
+use Rattle.packed_writer.specs.proving.Values.{HasComponent}
 use Rattle.packed_reader.proofs.Within.{within_complete, within_sound}
 
 -- ---- the component at a place

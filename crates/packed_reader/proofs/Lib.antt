@@ -14,4 +14,17 @@ mod AllKinds
 mod Whole
 mod Rows
 mod Stepwise
+mod Inside
+mod Parts
+mod Flow
+mod OpenOctets
+mod Presences
+mod RunningState
+mod RunningMembers
+mod RunningAdditions
+mod RunningElements
+mod RunningFits
+mod RunningSteps
+mod ValueRun
+mod Plans
 mod Lacking

@@ -38,7 +38,7 @@ zeros_clear zero = refl
 zeros_clear (suc n) = zeros_clear n
 
 -- the number of octets, by that of their bits
-octets_length : (o : Octets) → length (octet_bits o) ≡ 8 * length o
+pub octets_length : (o : Octets) → length (octet_bits o) ≡ 8 * length o
 octets_length [] = refl
 octets_length (x ∷ o) = let e = octets_length o in let l = length-append (word 8 x) (octet_bits o) in omega arith
 
@@ -150,7 +150,7 @@ module _ (front : (o r : Octets) (a b p q : Bits) → CountedOctets o a → Coun
 -- ---- open types
 
 -- octets of one number stand together
-all_octets : (o : Octets) → all_bits (map (word 8) o) ≡ octet_bits o
+pub all_octets : (o : Octets) → all_bits (map (word 8) o) ≡ octet_bits o
 all_octets [] = refl
 all_octets (x ∷ o) = ap (λ q. word 8 x ++ q) (all_octets o)
 
@@ -166,7 +166,7 @@ together_by o is e l (fragment m xs ys some few many great c) =
     let j = length-append xs ys in
     absurd (omega arith)
 
-together : (o : Octets) {y : Bits} → length o < 16384 → CountedOctets o y → (h : Bits) × (y ≡ h ++ octet_bits o)
+pub together : (o : Octets) {y : Bits} → length o < 16384 → CountedOctets o y → (h : Bits) × (y ≡ h ++ octet_bits o)
 together o l c = together_by o (map (word 8) o) refl l c.counted
 
 module _ (front : (o r : Octets) (a b p q : Bits) → CountedOctets o a → CountedOctets r b → a ++ p ≡ b ++ q → (o ≡ r) × (p ≡ q))

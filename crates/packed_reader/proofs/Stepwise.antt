@@ -28,14 +28,14 @@ use Rattle.packed_reader.proofs.Fields.{no_more}
 
 -- ---- components
 
-abbrev Good : List Component → Member ℕ → Type 0
+abbrev pub Good : List Component → Member ℕ → Type 0
 Good cs m = member_at cs (field_at m) ≡ m
 
 get_at : (pre : List Component) (c : Component) (cs : List Component) → slice_get (pre ++ (c ∷ cs)) (length pre) ≡ Some c
 get_at [] c cs = refl
 get_at (d ∷ pre) c cs = get_at pre c cs
 
-placed_good : (pre cs : List Component) → AllByRecursion (Good (pre ++ cs)) (placed_from (length pre) cs)
+pub placed_good : (pre cs : List Component) → AllByRecursion (Good (pre ++ cs)) (placed_from (length pre) cs)
 placed_good pre [] = tt
 placed_good pre (c ∷ cs) =
     let e : (pre ++ (c ∷ [])) ++ cs ≡ pre ++ (c ∷ cs) = append_assoc pre (c ∷ []) cs in
@@ -73,7 +73,7 @@ past_members : (cs : List Component) (ms : List (Member ℕ)) (ss : List PackedS
 past_members cs [] ss = refl
 past_members cs (m ∷ ms) ss = past_members cs ms ss
 
-first_good : (cs : List Component) (xs ys : List (Member ℕ)) → AllByRecursion (Good cs) (xs ++ ys) → AllByRecursion (Good cs) xs × AllByRecursion (Good cs) ys
+pub first_good : (cs : List Component) (xs ys : List (Member ℕ)) → AllByRecursion (Good cs) (xs ++ ys) → AllByRecursion (Good cs) xs × AllByRecursion (Good cs) ys
 first_good cs [] ys a = (tt, a)
 first_good cs (x ∷ xs) ys a = let r = first_good cs xs ys a.1 in ((a.0, r.0), r.1)
 

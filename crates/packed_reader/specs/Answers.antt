@@ -1,5 +1,5 @@
 -- What the call that decodes a message answers.
-use Rattle.std.specs.Prelude.{◌≡◌, ◌≤◌, ℕ, List, ◌++◌, length, ⊥}
+use Rattle.std.specs.Prelude.{◌≡◌, ◌≤◌, ℕ, List, ◌++◌, length}
 use Rattle.asn_base.specs.Abstract.{AbstractValue}
 use Rattle.asn_base.specs.Types.{TypeNumber, Resolved}
 use Rattle.encodings.specs.Header.{Octets}

@@ -1,2 +1,3 @@
 pub mod Running
-pub mod Fit
+pub mod Code
+pub mod Plans

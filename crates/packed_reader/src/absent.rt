@@ -1,21 +1,23 @@
-//! Whether a component may be absent.
+//! Components that are absent.
 
-ghost use Rattle.asn_base.specs.Types.{Component};
-ghost use Rattle.packed_reader.specs.Levels.{is_within, may_lack as may_lack'};
-ghost use Rattle.packed_reader.specs.proving.Fit.{HasComponent};
+ghost use Rattle.asn_base.specs.Types.{Component as Component'};
+ghost use Rattle.packed_reader.specs.Levels as levels_of;
+ghost use Rattle.packed_reader.specs.Levels.{is_within};
+ghost use Rattle.packed_writer.specs.proving.Values.{HasComponent};
 ghost use Rattle.std.specs.Prelude.{◌≡◌, ◌≤◌};
 
 use asn_base::decide::may_be_absent;
 use asn_base::schema::TypeId;
 use packed_code::PackedCode;
 
-/// Whether the component at this place of the type may be absent from a value whose parts have at most `levels` levels.
+/// Whether the component at this place of the type may be absent: it isn't mandatory, and its DEFAULT, if it has one, has
+/// at most so many levels.
 pub(crate) fn may_lack(code: &PackedCode, id: TypeId, place: usize, levels: u8) -> bool
-    requires there { (c : Component) × HasComponent code.now id.index place c }
+    requires there { (c : Component') × HasComponent code.now id.index place c }
     requires few { levels ≤ 63 }
-    ensures { (c : Component)
+    ensures { (c : Component')
         → HasComponent code.now id.index place c
-        → result ≡ may_lack' (is_within code.now levels) c }
+        → result ≡ levels_of.may_lack (is_within code.now levels) c }
 {
     code.accepted();
     may_be_absent(code.schema(), id, place, levels)

@@ -16,7 +16,7 @@ use asn_base::value::Value;
 use packed_encodings::computing_laws;
 
 /// Whether the component at this place of the type has a DEFAULT that the value is the same as.
-pub(crate) fn is_default(schema: &Schema, id: TypeId, place: usize, value: &Value) -> bool
+pub fn is_default(schema: &Schema, id: TypeId, place: usize, value: &Value) -> bool
     requires { (c : Component') × HasComponent schema.now id.index place c
         × IsValueWithoutNodes schema.now c.type (abstract value.now) }
     ensures { (c : Component')
@@ -37,7 +37,8 @@ fn component_at(schema: &Schema, id: TypeId, place: usize) -> &Component
     &components_of(core)[place]
 }
 
-fn components_of(core: &Core) -> &[Component]
+/// The components of a SEQUENCE or SET; none of any other type.
+pub fn components_of(core: &Core) -> &[Component]
     ensures { map component_of result.now ≡ components (kind_of core.now) }
 {
     match core {

@@ -56,7 +56,7 @@ fn is_written(code: &PackedCode, typed: Typed<'_>, field: PackedField) -> bool
 }
 
 /// The field of a step of the root or of a group, if it is one.
-pub(crate) fn field_of(step: PackedStep) -> Option<PackedField>
+pub fn field_of(step: PackedStep) -> Option<PackedField>
     ensures { MatchOption result (fields_in (step ∷ []) ≡ []) (λ f. fields_in (step ∷ []) ≡ f ∷ []) }
 {
     match step {
@@ -71,7 +71,7 @@ pub(crate) fn field_of(step: PackedStep) -> Option<PackedField>
 }
 
 /// So many next steps, or all that are left.
-pub(crate) fn next(steps: &[PackedStep], count: usize) -> &[PackedStep]
+pub fn next(steps: &[PackedStep], count: usize) -> &[PackedStep]
     ensures { result.now ≡ take count steps.now }
 {
     if count <= steps.len() {
@@ -82,7 +82,7 @@ pub(crate) fn next(steps: &[PackedStep], count: usize) -> &[PackedStep]
 }
 
 /// The steps after so many.
-pub(crate) fn after(steps: &[PackedStep], count: usize) -> &[PackedStep]
+pub fn after(steps: &[PackedStep], count: usize) -> &[PackedStep]
     requires { count ≤ length steps.now }
     ensures { result.now ≡ drop count steps.now }
 {
@@ -90,7 +90,7 @@ pub(crate) fn after(steps: &[PackedStep], count: usize) -> &[PackedStep]
 }
 
 /// The first of some steps, and the others.
-pub(crate) fn first(steps: &[PackedStep]) -> Option<(PackedStep, &[PackedStep])>
+pub fn first(steps: &[PackedStep]) -> Option<(PackedStep, &[PackedStep])>
     ensures { MatchOption result (steps.now ≡ []) (λ p. steps.now ≡ p.0 ∷ p.1.now) }
 {
     if steps.is_empty() {

@@ -12,5 +12,8 @@ mod run;
 mod typed;
 mod values;
 
+pub use default::{components_of, is_default};
 pub use fault::WriteFault;
+pub use fields::{after, field_of, first, next};
 pub use message::write_uper;
+pub use run::size_of;

@@ -286,7 +286,7 @@ fn push_member(
 }
 
 /// What SIZE allows of the elements of a list.
-fn size_of(schema: &Schema, id: TypeId) -> &Constraint
+pub fn size_of(schema: &Schema, id: TypeId) -> &Constraint
     requires { IsList schema.now id.index }
     ensures { IsListOf schema.now id.index (constraint_of result.now) }
 {

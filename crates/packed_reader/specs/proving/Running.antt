@@ -19,7 +19,7 @@ use Rattle.packed_readings.specs.declared.count.Count.{Count}
 use Rattle.packed_readings.specs.declared.count.Count.TheVariants.{Last as last, Part as part}
 use Rattle.packed_readings.specs.declared.size.Sizing.{Sizing}
 use Rattle.packed_readings.specs.declared.size.Sizing.TheVariants.{AtOnce as at_once, Counted as counted}
-use Rattle.packed_readings.specs.Counts.{count_from, total, size_from, size_fault}
+use Rattle.packed_readings.specs.Counts.{count_from, octets_from, total, size_from, size_fault}
 use Rattle.packed_readings.specs.Outcome.{judging}
 use Rattle.packed_readings.specs.Leaves.{leaf_from}
 use Rattle.packed_reader.specs.declared.part.Part.TheVariants.{Component as Component', Element}
@@ -111,6 +111,12 @@ run_group_inside s l value cs fs ws k n b =
 abbrev pub run_group : List Resolved → ℕ → RunsValue → List Component → List PackedField → Row → Runs Row
 run_group s l value cs fs ws k n b = open_from (run_group_inside s l value cs fs ws k n) b
 
+-- the additions that the type lacks, after k that were skipped
+abbrev pub run_unknown : ℕ → Bits → Bits → Reading ℕ
+run_unknown k [] b = read k b
+run_unknown k (false ∷ q) b = run_unknown k q b
+run_unknown k (true ∷ q) b = next (plain (octets_from b)) (λ o r. run_unknown (suc k) q r)
+
 -- the bit of the next addition, 0 after the last one
 abbrev pub first_bit : Bits → Bool
 first_bit [] = false
@@ -134,6 +140,17 @@ run_additions s l value cs (steps.Group m ∷ ss) q ws k n b =
     (λ w r. run_additions s l value cs ss (other_bits q) w.it w.skipped w.left r)
     else run_additions s l value cs ss (other_bits q) ws k n b
 run_additions s l value cs (st ∷ ss) q ws k n b = run_additions s l value cs ss q ws k n b
+
+-- the addition of the first step, if it is one
+abbrev pub run_first : List Resolved → ℕ → RunsValue → List Component → List PackedStep → Row → Runs Row
+run_first s l value cs (steps.Added f ∷ ss) ws k n b = run_added value f ws k n b
+run_first s l value cs (steps.Group m ∷ ss) ws k n b = run_group s l value cs (next_fields m ss) ws k n b
+run_first s l value cs ss ws k n b = read (taken ws k n) b
+
+abbrev pub is_addition : PackedStep → Bool
+is_addition (steps.Added f) = true
+is_addition (steps.Group m) = true
+is_addition st = false
 
 -- what follows the root
 abbrev pub run_rest : List Resolved → ℕ → RunsValue → List Component → Bool → List PackedStep → Row → Runs Row
@@ -230,6 +247,10 @@ abbrev pub run_each : List Resolved → RunsValue → TypeNumber → (sorted : B
 run_each s value t sorted u k n b =
     next (run_list (value u) sorted (size_in (kind_at s t)) k n b) (λ w r. read (as_list w) r)
 
+-- a value that holds no others
+abbrev pub run_leaf : Kind → Runs AbstractValue
+run_leaf c k n b = next (plain (leaf_from c b)) (λ v r. read (taken v k n) r)
+
 abbrev pub run_steps : List Resolved → ℕ → RunsValue → TypeNumber → List PackedStep → Runs AbstractValue
 run_steps s l value t (steps.Mark m ∷ (steps.Map i ∷ ss)) k n b = run_fields s l value t true i ss k n b
 run_steps s l value t (steps.Map i ∷ ss) k n b = run_fields s l value t false i ss k n b
@@ -238,4 +259,4 @@ run_steps s l value t (steps.EachSorted u ∷ ss) k n b = run_each s value t tru
 run_steps s l value t (steps.Pick i ∷ ss) k n b =
     next (plain (call_from (take i ss) b)) (λ c r. run_chosen value c k n r)
 run_steps s l value t [] k n b = stop why.Outside b
-run_steps s l value t (st ∷ ss) k n b = next (plain (leaf_from (kind_at s t) b)) (λ v r. read (taken v k n) r)
+run_steps s l value t (st ∷ ss) k n b = run_leaf (kind_at s t) k n b
