@@ -4,6 +4,7 @@ mod Members
 mod Additions
 mod Pieces
 mod Within
+mod Lacking
 mod Natural
 mod Places
 mod Groups
@@ -27,4 +28,3 @@ mod RunningFits
 mod RunningSteps
 mod ValueRun
 mod Plans
-mod Lacking
