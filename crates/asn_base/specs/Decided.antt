@@ -4,6 +4,7 @@ use Rattle.std.specs.Prelude.{get_or, slice_get}
 use Rattle.asn_base.specs.Abstract.{AbstractValue, fields, list, alternative, Row, end, present}
 use Rattle.asn_base.specs.Types.{Alternative, Kind, a_sequence, a_set, a_sequence_of, a_set_of, a_choice, default, addition}
 use Rattle.asn_base.specs.Types.{Component, Resolved}
+use Rattle.asn_base.specs.Schemas.{components}
 use Rattle.asn_base.specs.Typed.{IsAllowedSize, members, IsOfGroup, HasOfGroup, LacksOfGroup, GroupsAreWhole, ValueIn, MayBeAbsent}
 use Rattle.asn_base.specs.Typed.{AreComponents, AreElements, nodes}
 use Rattle.asn_base.specs.Same.{Alike}
@@ -25,6 +26,12 @@ Holds s n k v = ⊥
 abbrev pub IsComponent : List Resolved → ℕ → Component → Option AbstractValue → Type 0
 IsComponent s n c None = MayBeAbsent s n c.type c.presence
 IsComponent s n c (Some v) = ValueIn s n c.type v
+
+-- the SEQUENCE or SET with number t has component c at place i, from 0
+pub record HasComponent (s : List Resolved) (t i : ℕ) (c : Component) : Type 0 where
+  pub type : Resolved
+  pub found : slice_get s t ≡ Some type
+  pub at : slice_get (components type.kind) i ≡ Some c
 
 -- the nodes of a value; an absent one has none
 abbrev pub nodes_of : Option AbstractValue → ℕ

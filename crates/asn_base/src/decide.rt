@@ -1,15 +1,15 @@
 //! Whether a value is one of the values of a type.
 
 ghost use Rattle.asn_base.specs.Abstract.{abstract, row_of_list, row_of_options};
-ghost use Rattle.asn_base.specs.Decided.{Holds, IsChosen, IsComponent, nodes_of};
+ghost use Rattle.asn_base.specs.Decided.{HasComponent, Holds, IsChosen, IsComponent, nodes_of};
 ghost use Rattle.asn_base.specs.Depths.{AreKnown, AreOf, IsDepth, IsOf, depth_at, rows_of};
 ghost use Rattle.asn_base.specs.Seen.{alternative_of, component_of, constraint_of, kind_of};
 ghost use Rattle.asn_base.specs.Typed.{AreComponents, AreElements, GroupsAreWhole, IsAllowedSize, IsValue, IsValueWithoutNodes, ValueIn, members, nodes, row_nodes};
-ghost use Rattle.asn_base.specs.Types.{Alternative};
-ghost use Rattle.std.specs.Prelude.{◌≡◌, ◌<◌, ◌↔◌, ◌++◌, ◌-◌, IfSome, IsTrue, MatchOption, None, Some, length, map, option_map, slice_get};
+ghost use Rattle.asn_base.specs.Types.{Alternative, Component as Component'};
+ghost use Rattle.std.specs.Prelude.{◌≡◌, ◌<◌, ◌≤◌, ◌↔◌, ◌++◌, ◌-◌, IfSome, IsTrue, MatchOption, None, Some, length, map, option_map, slice_get};
 
 use crate::constraint::Constraint;
-use crate::depths::depth_of;
+use crate::depths::{components_of, depth_of};
 use crate::groups::is_kept;
 use crate::law::abstract_values;
 use crate::leaf::{fits, fits_at_once, is_allowed_size};
@@ -33,6 +33,30 @@ pub fn is_value_without_nodes(value: &Value, schema: &Schema, id: TypeId) -> boo
     ensures { IsTrue result ↔ IsValueWithoutNodes schema.now id.index (abstract value.now) }
 {
     is_within(value, schema, schema.depths(), MAX_LEVELS, id)
+}
+
+/// Whether the component at this place of the type may be absent from a value whose parts have at most `levels` levels:
+/// it is not mandatory, and its DEFAULT, if it has one, has at most so many levels. Once `Schema::measure` has found the
+/// levels of the defaults, the function takes constant time.
+pub fn may_be_absent(schema: &Schema, id: TypeId, place: usize, levels: u8) -> bool
+    requires there { (c : Component') × HasComponent schema.now id.index place c }
+    requires few { levels ≤ 63 }
+    ensures { (c : Component')
+        → HasComponent schema.now id.index place c
+        → (IsTrue result ↔ IsComponent schema.now levels c None) }
+{
+    let component = &components_of(schema.core(id))[place];
+    let mut unused = 0;
+    is_component(
+        component,
+        &None,
+        schema,
+        schema.depths(),
+        levels,
+        id,
+        place,
+        &mut unused,
+    )
 }
 
 /// Whether the value is one of the type with at most `levels` levels, except for the limit on nodes.

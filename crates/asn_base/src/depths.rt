@@ -66,7 +66,7 @@ fn next_depth(
 }
 
 /// The components of a SEQUENCE or SET, none of other kinds.
-fn components_of(core: &Core) -> &[Component]
+pub(crate) fn components_of(core: &Core) -> &[Component]
     ensures { map component_of result.now ≡ components (kind_of core.now) }
 {
     match core {

@@ -4,6 +4,7 @@ mod Members
 mod Additions
 mod Pieces
 mod Within
+mod Lacking
 mod Natural
 mod Places
 mod Groups
