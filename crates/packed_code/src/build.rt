@@ -23,7 +23,9 @@ pub fn compile_packed(alloc: Global, schema: &Schema) -> Result<PackedCode, Faul
     ensures { IfOk result (λ code. code ≡ schema.now) }
 {
     let table = all_routines(alloc, schema.types())?;
-    Ok(PackedCode::of(schema.copy(alloc)?, table))
+    let mut own = schema.copy(alloc)?;
+    own.measure(alloc)?;
+    Ok(PackedCode::of(own, table))
 }
 
 fn all_routines(alloc: Global, types: &[Resolved]) -> Result<Table, Fault>
