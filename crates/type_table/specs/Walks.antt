@@ -5,7 +5,7 @@ abbrev pub onward : Option ℕ → (ℕ → Option ℕ) → Option ℕ
 onward None f = None
 onward (Some j) f = f j
 
--- the place that stands k references behind place i
+-- the place after k references from place i on
 abbrev pub follow : (ℕ → Option ℕ) → ℕ → ℕ → Option ℕ
 follow next zero i = Some i
 follow next (suc k) i = onward (next i) (λ j. follow next k j)
@@ -21,7 +21,7 @@ pub record ComesBack (next : ℕ → Option ℕ) (i : ℕ) : Type 0 where
   pub steps : ℕ
   pub back : follow next (suc steps) i ≡ Some i
 
--- there are n places
+-- each reference leads to a place below n
 abbrev pub IsWithin : (ℕ → Option ℕ) → ℕ → Type 0
 IsWithin next n = (i j : ℕ) → next i ≡ Some j → j < n
 
