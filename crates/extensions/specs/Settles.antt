@@ -15,7 +15,7 @@ use Rattle.additions.specs.Additions.{KeepAdditions}
 use Rattle.spelled.specs.Spelled.{AreSpelled}
 use Rattle.settled.specs.Settled.{AreTypedDefaults, IsSettled}
 
--- The result of parsing and linking modules: each name has one meaning, the lists and the names in them keep the rules,
+-- The result of parsing and linking modules. Each name has one meaning, the lists and the names in them keep the rules,
 -- and they are spelled by the rules of the notation.
 pub record IsRead (p : Program) : Type 0 where
   pub apart : IsApart p.modules

@@ -78,10 +78,12 @@ fn core(
     }
 }
 
-/// The resolved type of a written one (X.680, clauses 17 to 33, 41 and 49 to 51): its tags before its contents, and its
-/// kind after references and tags, with the values that its constraints leave. Items of an enumeration are in the order
-/// of their numbers, and components and alternatives in their own order. `defaults` has the value of each component's
-/// DEFAULT, or None if the component has none. `AllocError` only if an allocation fails.
+/// The resolved type of a written one (X.680, clauses 17 to 33, 41 and 49 to 51). It has the tags before the type's
+/// contents, and the kind of the type after its references and tags, with the values that its constraints leave. Items
+/// of an enumeration are in the order of their numbers, and components and alternatives in their own order.
+///
+/// `defaults` has the value of each component's DEFAULT, or None if the component has none. `AllocError` only if an
+/// allocation fails.
 pub(crate) fn resolved(
     alloc: Global,
     bounded: &Bounded<'_>,
