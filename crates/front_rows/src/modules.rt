@@ -1,4 +1,4 @@
-//! Modules as they are read.
+//! Syntax trees of modules, in words.
 
 use crate::pieces::{put_between, put_names};
 use crate::types::put_type;

@@ -1,4 +1,4 @@
-//! Values as they are read.
+//! Syntax trees of values, in words.
 
 use crate::pieces::{put_between, put_reference, put_text};
 use std::alloc::AllocError;
