@@ -122,9 +122,9 @@ impl Kit {
     /// Reads the texts of modules, links them, and compiles their types. An empty list of texts is accepted too; its
     /// kit has no names.
     ///
-    /// The result is the first fault, in this order: of the octets and then of the tokens of each text in turn; of the
-    /// names of all modules; of tags; of constraints. Last come faults of additions after extension markers, of
-    /// DEFAULTs and of value assignments. `Memory`: an allocation failed.
+    /// The error is the first fault. For each text in turn the faults of its octets come first, and then those of its
+    /// tokens. The faults of names, of tags and of constraints follow. Last come those of additions after extension
+    /// markers, of DEFAULTs and of value assignments. `Memory`: an allocation failed.
     pub fn open(alloc: Global, texts: &[Vec<u8>]) -> Result<Kit, Fault>
         // The texts are accepted, as this program with these types.
         ensures opened { IfOk result (λ k. Accepted (map octets_of texts.now) k.program k.types) }
@@ -308,7 +308,7 @@ impl Kit {
     /// Finds the type of a name, written as `Module.Name`, by the module that assigns or imports it (X.680, clause 14.1).
     /// None if no type has this name. The number is that of the type for the other calls of this kit.
     pub fn type_named(&self, name: &str) -> Option<TypeId>
-        // It is a type of this name, and there is none if the answer is None.
+        // The type has this name. After None the kit has no type of this name.
         ensures named { MatchOption result
             ((t : ℕ) → TypeNamed self.now.program name.now t → ⊥)
             (λ id. TypeNamed self.now.program name.now id.index) }
@@ -407,9 +407,9 @@ impl Kit {
         print_view(alloc, &self.schema, id, view)
     }
 
-    /// Whether the type of this name in the newer kit is a later version of that in the older kit: the same with additions
-    /// appended at extension markers, at any depth (X.680, clauses 7, 20, 25 and 29). The type is named as
-    /// `Module.Name`, in each kit where it is assigned or where it is imported.
+    /// Whether the type of this name in the newer kit is a later version of that in the older kit. A later version is
+    /// the same type with additions appended at extension markers, at any depth (X.680, clauses 7, 20, 25 and 29). The
+    /// type is named as `Module.Name`, in each kit where it is assigned or where it is imported.
     ///
     /// `NoType`: at least one kit has no type of this name. `Memory`: an allocation failed.
     pub fn later(alloc: Global, older: &Kit, newer: &Kit, ty: &str) -> Result<bool, Fault>

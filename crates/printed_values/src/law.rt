@@ -18,8 +18,8 @@ ghost use Rattle.value_notations.specs.Notations.{Notation};
 ghost use Rattle.value_text.specs.Print.{print};
 ghost use Rattle.values.specs.Allowing.{Allows, AllowsCode};
 
-/// The tree of a printed value is a notation of this value under its type, in whichever module it is read, but where a
-/// line ends in one of its texts.
+/// The tree of a printed value is a notation of this value under its type, in any module. The exception is a value with
+/// a line end in one of its texts.
 pub fn printed_is_a_notation()
     ensures { (p : Program) (s : List Resolved) (os : List ℕ) (M : Name) (i : ℕ) (v : AbstractValue)
         → IsSchema s

@@ -1,4 +1,4 @@
--- Linked modules as they are seen: their names, and their types and values by number; no clause.
+-- Linked modules as definitions see them: their names, and their types and values by number (X.680, clauses 13 and 16).
 use Rattle.std.specs.Prelude.{◌≡◌, ◌<◌, ℕ, Some, List, map, slice_get, length}
 use Rattle.trees.specs.Values.{Name}
 use Rattle.trees.specs.declared.module.TagDefault.{TagDefault}

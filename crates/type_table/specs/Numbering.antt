@@ -10,9 +10,11 @@ use Rattle.names.specs.Names.{Module, Refers}
 use Rattle.names.specs.Sources.{Source}
 use Rattle.type_table.specs.Table.{Part, Kind, simple, reference, tagged, members, elements, Type'}
 
+-- the form of a type, without its constraints
 abbrev pub form_of : TypeTree → FormTree
 form_of (a_type f cs) = f
 
+-- the constraints after a type
 abbrev pub constraints_of : TypeTree → List ConstraintTree
 constraints_of (a_type f cs) = cs
 
@@ -34,6 +36,7 @@ form_parts a i (a_tagged g w t) = inner_source a t
 form_parts a i (a_simple p) = []
 form_parts a i (a_reference N x) = []
 
+-- the types directly in type i, which is tree t
 abbrev pub parts_of : ℕ → ℕ → TypeTree → List Source
 parts_of a i t = form_parts a i (form_of t)
 

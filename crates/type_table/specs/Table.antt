@@ -36,11 +36,13 @@ pub record Type' : Type 0 where
   pub place : Option (ℕ × ℕ)
   pub assignment : ℕ
 
+-- the type that a type of this kind leads to, if it is a reference or a tag
 abbrev pub behind : Kind → Option ℕ
 behind (reference j) = Some j
 behind (tagged t k j) = Some j
 behind k = None
 
+-- the type that a type leads to, or None if there is no type or it leads to none
 abbrev pub behind_of : Option Type' → Option ℕ
 behind_of None = None
 behind_of (Some t) = behind t.kind

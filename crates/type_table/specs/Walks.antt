@@ -1,6 +1,8 @@
--- Following references from place to place, where each place refers to one other at most.
+-- References from place to place, where each place refers to at most one other. The types of X.680, clause 16, and the
+-- values of clause 17 refer to one another in this way.
 use Rattle.std.specs.Prelude.{◌≡◌, ℕ, zero, suc, ◌<◌, Option, Some, None}
 
+-- what f gives for the place, or None if there is no place
 abbrev pub onward : Option ℕ → (ℕ → Option ℕ) → Option ℕ
 onward None f = None
 onward (Some j) f = f j

@@ -13,9 +13,9 @@ use std::alloc::{AllocError, Global};
 use value_text::Fault;
 use views::View;
 
-/// The text of the value that a view shows, straight from its nodes; whether it is a value of the type is not asked:
-/// for a view that was read as one of the type. Where it is none, names that the type lacks are left out. It takes no
-/// memory but for the text, and is refused for memory alone.
+/// The text of the value that a view shows, straight from its nodes. The function doesn't check that the value is one
+/// of the type, so the view should be one of a message of that type. If the value isn't one, names that the type lacks
+/// are left out. `AllocError` only if an allocation fails; no memory but that for the text is needed.
 pub fn print_shown(
     alloc: Global,
     schema: &Schema,
@@ -52,7 +52,7 @@ pub fn print_view(
     ensures text { (t : Tree)
         → IsView view.now t
         → IfOk result (λ s. string_bytes s ≡ print schema.now id.index (value_of t)) }
-    // It is refused as no value only where it is none.
+    // After `NotOfType` the value isn't one of the type.
     ensures not_of_type { (t : Tree)
         → IsView view.now t
         → IsErrOf result Fault.NotOfType

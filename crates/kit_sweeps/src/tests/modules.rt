@@ -52,6 +52,6 @@ pub const OCTETS: [u8; 13] = [
     0x30, 0x0B, 0x02, 0x01, 0x07, 0x31, 0x06, 0x01, 0x01, 0x00, 0x01, 0x01, 0xFF,
 ];
 
-/// The bits of A.v in unaligned PER, worked out by hand: 0 for the component whose value is its DEFAULT, 0111, 2 in 8
-/// bits, 0 and 1 in ascending order.
+/// The bits of A.v in unaligned PER, worked out by hand. They are 0 for the component whose value is its DEFAULT, 0111,
+/// the number 2 in 8 bits, and 0 and 1 in ascending order.
 pub const PACKED: [u8; 2] = [0x38, 0x12];
