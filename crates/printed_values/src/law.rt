@@ -31,8 +31,8 @@ pub fn printed_is_a_notation()
     schema_of::law::parts_are_written();
 }
 
-/// A printed text of at most 16,777,216 octets is read back as the value that was printed, but where a line ends in one
-/// of its texts.
+/// A printed text of at most 16,777,216 octets is read back as the value that was printed. The exception is a value
+/// with a line end in one of its texts.
 pub fn printed_is_read_back()
     ensures { (p : Program) (s : List Resolved) (M : Name) (i : ℕ) (v : AbstractValue)
         → IsApart p.modules

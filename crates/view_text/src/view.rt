@@ -33,11 +33,12 @@ pub fn print_shown(
     Ok(out)
 }
 
-/// The text of the value that a view shows, a value of type `id`: just what `value_text::print` answers for that value.
+/// The text of the value that a view shows, under type `id`. It is the text that `value_text::print` gives for that
+/// value.
 ///
-/// - `NotOfType`: only where it is no value of the type.
-/// - `Memory`: more memory was asked for and refused. Whether the value is one of the type is asked of a copy, which is
-///   let go before the text is made.
+/// - `NotOfType`: only if the value isn't one of the type.
+/// - `Memory`: an allocation failed. Whether the value is one of the type is checked with a copy, which is freed before
+///   the text is made.
 pub fn print_view(
     alloc: Global,
     schema: &Schema,
@@ -45,7 +46,7 @@ pub fn print_view(
     view: &View<'_>,
 ) -> Result<String, Fault>
     requires tree { (t : Tree) × IsView view.now t }
-    // What is printed is a value of the type.
+    // A printed value is one of the type.
     ensures value { (t : Tree)
         → IsView view.now t
         → IfOk result (λ s. IsValue schema.now id.index (value_of t)) }
