@@ -15,7 +15,7 @@ use Rattle.account_checker.proofs.Members.{next, LeftAt, first, passed}
 use Rattle.account_checker.proofs.SentBack.{found, same_some}
 use Rattle.account_checker.proofs.Skipping.{taken_next}
 
--- behind the first place, a place begins where the one before it ends
+-- after the first place, each place begins where the one before it ends
 pub end_further : (es : List ℕ) (j : ℕ) → (j ≡ 0 → ⊥) → get_or es (j - 1) 0 ≡ end_before es j
 end_further es zero n = absurd (n refl)
 end_further es (suc j) n = ap (λ k. get_or es k 0) (let e : suc j - 1 ≡ j = omega arith in e)
@@ -23,7 +23,7 @@ end_further es (suc j) n = ap (λ k. get_or es k 0) (let e : suc j - 1 ≡ j = o
 pub end_first : (es : List ℕ) (j : ℕ) → j ≡ 0 → 0 ≡ end_before es j
 end_first es j e = sym (ap (end_before es) e)
 
--- the next member and those behind it
+-- the next member, and those after it
 pub ends_step : (p es : List ℕ) (k : ℕ) (m : Member) (rs : Rows) → EndsFrom p es k (sizes (put m rs)) ↔ EndsAt p es k (size_in m) × EndsFrom p es (next m k) (sizes rs)
 ends_step p es k is_absent rs = (λ d. (tt, d), λ d. d.1)
 ends_step p es k is_default rs = (λ d. (tt, d), λ d. d.1)

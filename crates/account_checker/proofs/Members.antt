@@ -1,4 +1,4 @@
--- Members one by one: what is left, and where the next one stands.
+-- Members one by one: what is left, and where the next one is.
 use Rattle.account_checker.proofs.Fronts.{same_rest}
 use Rattle.std.proofs.Common.{arith, Bool, true, false, ◌≡◌, ℕ, zero, suc, ◌+◌, ◌<◌, List, [], ◌∷◌, ◌++◌, length, drop, take, refl, sym, ap, subst, ◌∙◌, append_assoc, length-append}
 use Rattle.std.specs.Prelude.{◌↔◌, Option, Some, None}
@@ -15,7 +15,7 @@ use Rattle.account_checker.specs.declared.asked.Asked.{Asked}
 use Rattle.account_checker.specs.Follows.{Where, Part, SliceAt, Follows, sizes, before, octets_told, MembersFollow, none_follows, absent_follows, left_out_follows, default_follows, default_written, member_follows, ElementsFollow, no_element_follows, element_follows}
 use Rattle.account_checker.specs.Parts.{Member, is_absent, is_default, is_written, put, rows_in, size_in, size_or, count_or, WrittenAt, MemberAt, ElementAt}
 
--- the number of written members behind this one
+-- the number of written members up to and with this one
 abbrev pub next : Member → ℕ → ℕ
 next is_absent k = k
 next is_default k = k

@@ -1,4 +1,5 @@
--- What follows in all that can be asked follows in less, and what tells follows.
+-- An account that follows in all that can be asked follows in less. An account that describes the encoding follows in
+-- all.
 use Rattle.std.proofs.Common.{get_or, arith, ◌≡◌, ℕ, suc, ◌+◌, Bool, true, false, List, [], ◌∷◌, ◌++◌, length, refl, sym, ap, subst, ◌∙◌, append_assoc, length-append}
 use Rattle.std.specs.List.{sum, concat}
 use Rattle.std.specs.Prelude.{Some, slice_get}

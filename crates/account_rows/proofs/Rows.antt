@@ -1,4 +1,4 @@
--- The routines of a schema tell accounts of its values.
+-- The routines of a schema give accounts of its values.
 use Rattle.std.proofs.Common.{◌≡◌, ℕ, zero, suc, ◌+◌, ◌<◌, ◌^◌, Bool, true, false, List, [], ◌∷◌, ◌++◌, length, refl, sym, ap, subst, ◌∙◌, arith, append_assoc, append-nil, length-append}
 use Rattle.std.specs.Prelude.{Some, slice_get, drop}
 use Rattle.std.specs.List.{concat, AllByRecursion, sum_by}

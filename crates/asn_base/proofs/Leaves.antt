@@ -44,7 +44,7 @@ drop_past [] (suc i) h = refl
 drop_past (x ∷ xs) zero h = absurd (omega arith)
 drop_past (x ∷ xs) (suc i) h = drop_past xs i (omega arith)
 
--- what holds of the whole just where it holds of what is left
+-- P holds for the whole exactly if it holds for what is left
 pub left_at : {B : Type 0} (P : List B → Type 0) (ys : List B) (left : List B) (i : ℕ) → drop i ys ≡ left → P ys ↔ P (drop i ys) → P ys ↔ P left
 left_at P ys left i e a = subst (λ q. P ys ↔ P q) e a
 

@@ -239,7 +239,7 @@ alternatives_256 = record {
 pub alternatives_257 : {s : List Resolved} {e : Bool} {more : List Alternative} → AreAlternatives s e (alternatives 257) more → ⊥
 alternatives_257 a = omega (arith, a.few_root, alternatives_long 257)
 
--- 64 behind a marker: types 0 to 63 have the tags [64] to [1], and the alternatives are of types 63 to 0
+-- 64 alternatives after a marker: types 0 to 63 have the tags [64] to [1], and the alternatives are of types 63 to 0
 abbrev IsContext : Class → Type 0
 IsContext Universal = ⊥
 IsContext Application = ⊥

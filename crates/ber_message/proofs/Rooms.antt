@@ -28,7 +28,7 @@ begun_both (passed ∷ xs) ys = begun_both xs ys
 abbrev pub with_room : State → ℕ → State
 with_room a r = record { schema = a.schema; here = a.here; outer = a.outer; values = a.values; marks = a.marks; told = a.told; room = r }
 
--- what was told between two states, and how many values began there
+-- the tokens that were added between two states, and how many values began there
 record Between (a b : State) (n : ℕ) : Type 0 where
   tokens : List Token
   told : b.told ≡ a.told ++ tokens

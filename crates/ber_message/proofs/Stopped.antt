@@ -66,7 +66,7 @@ module _ {S : Type 0} (r : ℕ → List Step) (takes : S → Event → S → Typ
     at_stop_then (not_ended g d n h) = holds _ _ _ h
     at_stop_then (stops_behind g d i s) = at_stop s
 
--- the faults that a question may be refused with, and what the state is behind it
+-- the faults that a question can have, and the state after it
 abbrev pub IsAsked : ReadFault → State → Type 0
 IsAsked Memory b = ⊥
 IsAsked MessageLimit b = ⊥

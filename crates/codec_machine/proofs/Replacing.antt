@@ -98,7 +98,7 @@ module _ (s : List Resolved) (id : TypeId) (olds : List Frame) where
           (let a = held_weight s f.ty ss.now (abstract w.now) e in let b = component_weight (total s) o.row f.place (abstract w.now) o.written.stands in let c = inner_at (total s) (abstract v.now) (fields o.row) o.is in omega arith) in omega arith;
     }
 
-    -- a component that holds no others, told at once
+    -- a component without other values in it, written at once
     pub field_whole : (f : Field') (news : List Frame) (w : Bor Value) (h : Head') (k : LeafKind) (x : List ℕ)
         → WritesIt s id.index f (abstract v.now) (abstract w.now)
         → routine_at s f.ty.index ≡ Head h ∷ Leaf k ∷ End ∷ []

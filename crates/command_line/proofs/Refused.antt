@@ -1,4 +1,4 @@
--- A fault that tells of a kind of failure refuses the words that show it.
+-- A fault for a kind of failure refuses the words that show it.
 use Rattle.std.proofs.Common.{◌≡◌, ◌⊎◌, inl, inr, sym, ap, ◌∙◌, List, [], Some, subst, option_map, codes}
 use Rattle.clap.specs.Words.{App, Row, Text, IsAmong, fault_of, matches_of, subcommand_of}
 use Rattle.clap.specs.declared.error.kind.ErrorKind.{ErrorKind}

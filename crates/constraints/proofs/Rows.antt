@@ -52,7 +52,7 @@ markers_of_plain = refl
 markers_of_binary : map may_extend binary ≡ true ∷ true ∷ true ∷ []
 markers_of_binary = refl
 
--- no marker stands in the SIZE of a character string
+-- the SIZE of a character string has no marker
 markers_of_texts : map may_extend texts ≡ false ∷ false ∷ false ∷ false ∷ false ∷ []
 markers_of_texts = refl
 

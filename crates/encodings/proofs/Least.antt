@@ -104,7 +104,7 @@ pub concat_permutes : {xs ys : List (List ℕ)} → Permutes xs ys → length (c
 concat_permutes permutes_none = refl
 concat_permutes (permutes_more {x = x} {xs = xs} p i) = omega (arith, concat_inserted i, concat_permutes p, length-append x (concat xs))
 
--- the element that stands at some place, and the others
+-- the element at some place, and the others
 pub record TakenOut (s : List Resolved) (r : Rules) (u : ℕ) (w : AbstractValue) (ws : Row) (n : ℕ) (xs : List (List ℕ)) : Type 0 where
   pub j : ℕ
   pub k : ℕ

@@ -25,7 +25,7 @@ framed_inside : {r : Rules} {g : Tag} {c d : Bool} {x y h o : List ℕ} → Fram
 framed_inside {g = g} {c = c} {d = d} {x = x} {y = y} {h = h} (innermost {h = h'} a) hd e =
     let r = any_front g g d c (length y) (length x) h' h y x a.header hd e in record { forms = r.forms; inside = r.rest }
 
--- what stands behind the one header of octets
+-- the contents after the only header of octets
 pub inside : {s : List Resolved} {r : Rules} {t : ℕ} {g : Tag} {k : Kind} {w : AbstractValue} {n : ℕ} {c : Bool} {h x o : List ℕ} → Is s t (g ∷ []) k → Header g c (length x) h → o ≡ h ++ x → Says s r t w n o → Holds s r k w n c x
 inside {s} {r} {k = k} {w = w} {n = n} {c = c} {x = x} i hd e (says {c = d} j h fr) =
     let f = framed_inside (framed_at (same_tags i j) fr) hd e in

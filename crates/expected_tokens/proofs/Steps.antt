@@ -227,7 +227,7 @@ follows all vs iss ts k there left listed = (forth, back)
     back : CanFollow ts k → IsOne vs k
     back p = listed.1 (inr (goes_at iss all k there ((last_token iss k).0 (p.0, (left (k ∷ []) p.0).0 p.1))))
 
--- some stack is left just where there is one
+-- some stack is left exactly if there is one
 pub some_left : (iss : List (List Part)) (P : List Part → Type 0)
     → ((js : List Part) → IsOne iss js ↔ P js)
     → (iss ≡ [] → ⊥)

@@ -231,7 +231,7 @@ pub err_more : {A : Type 0} (r : Result A Wrong) (P Q : ValueFault → Type 0) �
 err_more (Ok a) P Q more t = tt
 err_more (Err w) P Q more t = tells_more P Q w more t
 
--- in a list that is type i a fault stands first
+-- a fault is the first one of the list that is type i
 pub first_at : (p : Program) (i : ℕ) (M : Name) (cs : List Part) (f : ValueFault) → IsList p i M cs → IsFirstIn p M cs f → IsFirstAt p i f
 first_at p i M cs f l s = record { within = M; parts = cs; list = l; first = s }
 

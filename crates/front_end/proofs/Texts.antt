@@ -22,7 +22,7 @@ use Rattle.front_end.specs.proving.Steps.{IsRefusedAt}
 use Rattle.front_end.proofs.Lists.{zip_front}
 use Rattle.names.specs.proving.Distinct.{item_at}
 
--- the text that is refused behind texts that are modules is the first one
+-- the text with a fault after texts that are modules is the first one
 pub first_refused : (xs : List (Vec ℕ Global)) (k : ℕ) (x : Vec ℕ Global) (t : List ℕ) (ms : List ModuleTree)
     (e : FrontFault) → k < length xs → x ≡ get_or xs k x → t ≡ octets_of x →
     AllZip IsModule (map octets_of (take k xs)) ms → IsRefusedAt k t e → Stands (map octets_of xs) e

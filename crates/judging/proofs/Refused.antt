@@ -52,7 +52,7 @@ not_read p first second account t v (faults.Folder x) m h = absurd h
 not_read p first second account t v faults.TooLong m h = absurd h
 not_read p first second account t v (faults.Device n) m h = absurd h
 
--- where there is no verdict in the program of accepted texts, there is none of these
+-- if there is no verdict in the program of accepted texts, there is none for these texts
 pub not_judged : (xs : List (List ℕ)) (p : Program) (first second account : List ℕ) (e : Fault) → AreAccepted xs p →
     IsNotJudgedOn p first second account e → IsNotJudged xs first second account e
 not_judged xs p first second account faults.Memory a h = tt

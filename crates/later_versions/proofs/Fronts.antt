@@ -82,7 +82,7 @@ front_tail h = record {
   kept = λ i. h.kept (suc i);
 }
 
--- where as many stand in both, what is compared is the same
+-- if both have as many elements, what is compared is the same
 pub same_mapped : {A B : Type 0} (f : A → B) (xs ys : List A)
     → length xs ≡ length ys
     → IsFront (λ x y. f x ≡ f y) xs ys
@@ -135,7 +135,7 @@ drop_at f xs i d h =
     drop_more (map f xs) i (f d) (omega (arith, h, l))
     ∙ ap (λ q. q ∷ drop (i + 1) (map f xs)) (get_or-map f xs i d (f d) h)
 
--- what holds of the whole just where it holds of what is left
+-- P holds for the whole exactly if it holds for what is left
 pub left_at : {B : Type 0} (P : List B → Type 0) (ys left : List B) (i : ℕ)
     → drop i ys ≡ left
     → P ys ↔ P (drop i ys)

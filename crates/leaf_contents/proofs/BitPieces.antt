@@ -133,7 +133,7 @@ zero_octets : (n : ℕ) → all_bits (replicate n 0) ≡ replicate (8 * n) false
 zero_octets zero = refl
 zero_octets (suc n) = ap (λ q. bits_of_octet 0 ++ q) (zero_octets n) ∙ sym (zeros_more 8 (8 * n)) ∙ ap (λ k. replicate k false) (let e : 8 + 8 * n ≡ 8 * suc n = omega arith in e)
 
--- with zeros behind the bits are alike
+-- bits are alike with zeros after them
 pub more_behind : (s t : List Bool) (x : List ℕ) (n : ℕ) → s ≡ t ++ replicate n false → TrimmedPieces t x → TrimmedPieces s x
 more_behind s t x n e p = record {
   bits = p.bits;

@@ -1,4 +1,4 @@
--- What is read of contents octets is one value, or else one fault stands, and never both.
+-- Contents octets have one value or one fault, and never both.
 use Rattle.std.proofs.Common.{arith, ◌≡◌, ℕ, ℤ, suc, pos, negsuc, ◌+◌, ◌*◌, ◌<◌, ◌≤◌, ◌^◌, Bool, false, List, [], ◌∷◌, ◌++◌, length, refl, sym, ap, subst, ◌∙◌, ⊎_elim, length-append}
 use Rattle.std.specs.Prelude.{flat_map, IfErr, IfOk, IsOk, Result, Ok, Err}
 use Rattle.std.proofs.lemmas.Bool.{cases_lt}

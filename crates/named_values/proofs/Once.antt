@@ -95,7 +95,7 @@ one_pair p first second t u M N n m apart a b =
 
 -- ---- the value
 
--- the value stands for the notation however it is told
+-- the value of a notation doesn't depend on how the notation is given
 moved : {p : Program} {t u : ℕ} {M N : Name} {n m : Tree} {v : AbstractValue} → AreSame t u M N n m →
     StandsFor p M t n v → StandsFor p N u m v
 moved {p} {t} {u} {M} {N} {n} {m} {v} e h =

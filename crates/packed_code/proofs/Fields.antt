@@ -113,7 +113,7 @@ module _ (ms : List (Member Bits)) where
       ap (λ q. bits_at ms (place_in m) ++ q) (bits_are xs)
       ∙ sym (bits_first (is_written ms (place_in m)) (component m) (bits_at ms (place_in m)) (map (member_at ms) xs) (unwritten ms (place_in m)))
 
--- the steps of the root's components, and those behind them
+-- the steps of the root's components, and those after them
 pub roots_write : (s : List Resolved) (t : ℕ) (v : AbstractValue) (xs : List (Member ℕ)) (ss : List PackedStep) → steps_bits s t v (root_steps xs ++ ss) ≡ member_bits (map (member_at (members_of s t v)) xs) ++ steps_bits s t v ss
 roots_write s t v [] ss = refl
 roots_write s t v (m ∷ xs) ss =

@@ -93,7 +93,7 @@ module _ {X : Type 0} (test : ℕ → Option Refusal) (items : Several X) (full 
   pub stops_at : (d : ℕ) (b r : Bits) (e : Refusal) → d ≡ length before → judging (total test d) (count_from full) b ≡ stops e r → Told b ≡ stops e r
   stops_at d b r e f h = subst (λ q. judging (total test q) (count_from full) b ≡ stops e r) f h
 
--- no more bits are left behind items
+-- no more bits are left after items
 pub items_shorter : (form : Form) (n : ℕ) (b r : Bits) (before after : List ℕ) → Gained (several_of form n b) before after r → length r ≤ length b
 items_shorter forms.Octets n b r before after g = by ((octets_read n).sound b r g.values g.is).0 ((octets_read n).sound b r g.values g.is).2
   where

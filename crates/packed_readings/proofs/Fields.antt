@@ -1,4 +1,4 @@
--- Bits, numbers of some bits, and several of them are read as they stand.
+-- Bits, numbers of some bits, and several of them are read as they are.
 use Rattle.std.proofs.Common.{arith, ◌≡◌, ℕ, zero, suc, ◌+◌, ◌*◌, ◌/◌, ◌%◌, ◌^◌, ◌<◌, ◌≤◌, ⊎_elim, Bool, true, false, List, [], ◌∷◌, ◌++◌, length, refl, sym, ap, subst, ◌∙◌, length-append, take, drop}
 use Rattle.std.specs.Prelude.{cond, ◌==◌, nat_lt, if◌then◌else◌}
 use Rattle.std.specs.Int.Digits.{digits_of, number_from_digits}

@@ -67,7 +67,7 @@ drop_past [] (suc i) h = refl
 drop_past (x ∷ xs) zero h = absurd (omega arith)
 drop_past (x ∷ xs) (suc i) h = drop_past xs i (omega arith)
 
--- what holds of the whole just where it holds of what is left
+-- P holds for the whole exactly if it holds for what is left
 
 abbrev IsHeadOr : ℕ → List ℕ → Type 0
 IsHeadOr x [] = ⊥

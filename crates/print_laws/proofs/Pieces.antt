@@ -1,4 +1,4 @@
--- Parts of texts, one behind the other.
+-- Parts of texts, one after another.
 use Rattle.std.proofs.Common.{◌≡◌, ℕ, zero, suc, ◌+◌, ◌-◌, List, [], ◌∷◌, ◌++◌, length, take, drop, refl, sym, ap, subst, ◌∙◌, arith, append_assoc, length-append}
 use Rattle.std.specs.Prelude.{slice_range}
 use Rattle.std.specs.List.{AllByRecursion}

@@ -8,7 +8,7 @@ use Rattle.range_ends.specs.proving.Steps.{listed}
 use Rattle.range_ends.specs.proving.Far.{IsFar, AreFar}
 use Rattle.range_ends.proofs.Circles.{below, after_end}
 
--- no reference behind a place
+-- no reference leads on from a place
 pub far_none : (os : List (Option ℕ)) (i : ℕ) → listed os i ≡ None → IsFar os 1 i i
 far_none os i e = record { steps = 0; leads = refl; far = inl e }
 
@@ -122,6 +122,6 @@ far_more os n cs qs c m a e h = rw e (record {
 pub far_all : (os : List (Option ℕ)) (n : ℕ) (cs : List ℕ) (m : ℕ) → AreFirstFar os n cs m → m ≡ length os → AreFar os n cs
 far_all os n cs m a e = record { all = a.long ∙ e; each = a.each }
 
--- what stands at a place of such a list
+-- the number at a place of such a list
 pub far_at : (os : List (Option ℕ)) (n : ℕ) (cs : List ℕ) (i : ℕ) → AreFar os n cs → i < length cs → IsFar os n i (get_or cs i 0)
 far_at os n cs i a l = a.each i (get_or cs i 0) (slice_get-get_or cs i 0 l)

@@ -47,7 +47,7 @@ greatest_of None (Some g) s =
 greatest_of (Some l) (Some g) s =
     (inl (s, omega (arith, ints)), λ z p. elim p [ inl i ↦ i.1 | inr q ↦ absurd q ])
 
--- a number in a range is below all in those behind it
+-- a number in a range is below all numbers in later ranges
 below_rest : (r : Range) (rs : List Range) (y z : ℤ)
     → AllByRecursion (EndsBefore r) rs
     → IsInRange y r

@@ -51,7 +51,7 @@ unit_at f rest all e l = record {
   whole = e ∙ ap (λ q. q ++ rest) f.whole ∙ append_assoc f.header f.contents rest;
 }
 
--- behind what was read
+-- the state after what was read
 pub record Past (x y : State) (rest : List ℕ) (more : List ℕ) (m : ℕ) : Type 0 where
   pub octets : y.here.octets ≡ rest
   pub form : y.here.constructed ≡ x.here.constructed

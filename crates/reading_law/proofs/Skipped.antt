@@ -192,7 +192,7 @@ none_fields i (c ∷ cs) tail n = (
   none_fields (suc i) cs tail (λ e j. n e (not_yet (λ b. n b.0 (found b.1 b.2)) j)),
 )
 
--- what no step behind the last component that must stand begins with, none of the last components does
+-- if no step after the last component that must be present begins with a tag, none of the last components does
 pub none_last : {s : List Resolved} {g : Tag} (gs : List Tag) (k : RowKind) (cs : List Component) (tail : List Step) → NoneMust tail → NoneFound s g (last_steps (heads gs k ++ (fields_from 0 cs ++ tail))) → NoneFirst s g (last_run cs)
 none_last {s} {g} gs k cs tail p n = by (any_mandatory cs) refl
   where

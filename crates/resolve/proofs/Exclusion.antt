@@ -48,7 +48,7 @@ moved p k M N x y q r a = subst (λ z. IsAssignment p k N z) (sym r) (subst (λ 
 
 -- ---- what holds of type or value i
 
--- the list of type i is as it has to be
+-- the list of type i keeps the rules
 abbrev pub SoundAt : Program → ℕ → Type 0
 SoundAt p i = (t : Type') → slice_get p.types i ≡ Some t → IsSoundKind t.kind
 

@@ -158,7 +158,7 @@ other_type : IsComponentOf p (77 ∷ []) a_part (record { name = 97 ∷ []; type
 unfolding a_part
 other_type h = let e : 2 ≡ 1 = h.type in omega (arith, e)
 
--- one that must stand where it may be absent
+-- a component that must be present, but may be absent
 other_presence : IsPresenceOf p (77 ∷ []) c_part types.mandatory → ⊥
 unfolding c_part
 other_presence (schema_of.is_mandatory e f) = cc

@@ -1,4 +1,4 @@
--- No component with a DEFAULT of a settled schema leads back to the components among which it stands.
+-- No component with a DEFAULT of a settled schema leads back to the list of components that it is in.
 use Rattle.std.proofs.Common.{◌≡◌, ℕ, List, [], ◌∷◌, length, Option, Some, None, refl, sym, ap, subst, ◌∙◌}
 use Rattle.std.specs.Prelude.{ℤ, slice_get}
 use Rattle.std.proofs.lemmas.Option.{same_Some}

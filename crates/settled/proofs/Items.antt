@@ -82,7 +82,7 @@ module _ (root : List Item) (more : Option (List Item)) (in_root added : List ty
       let same = one_place names j.name f.place g.place sound.names p q in
       same_Some i.number j.number (sym f.numbered ∙ ap (slice_get (numbers_of root (additions_of more))) same ∙ g.numbered)
 
-  -- a number of the root is none behind the marker
+  -- a number of the root isn't one after the marker
   apart : (i j : types.Item) → IsMember i in_root → IsMember j added → i.number ≡ j.number → ⊥
   apart i j m n e =
       let f = written_root i m in

@@ -45,7 +45,7 @@ assignments_spelled (m ∷ ms) h =
 -- ---- the types that stand in them
 
 abbrev mutual
-  -- how many types stand in a type, itself among them
+  -- how many types are in a type, itself included
   size : TypeTree → ℕ
   size (a_type f cs) = suc (form_size f)
 
@@ -76,7 +76,7 @@ members_spelled n a i k whole no_member le h = tt
 members_spelled n a i k whole (member_and x t o g us) le h =
     ((λ small. (h (omega (arith, small, le))).1), members_spelled n a i (suc k) whole us (omega (arith, le)) (λ small. (h small).2))
 
--- a type that stands directly in another one is smaller
+-- a type directly in another one is smaller
 parts_spelled : (n a i : ℕ) (t : TypeTree)
     → (n ≤ size t → IsSpelledTree t)
     → AllByRecursion (IsSpelledFromLess n) (parts_of a i t)

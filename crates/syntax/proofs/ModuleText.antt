@@ -43,7 +43,7 @@ many_read fits n ts = many_at begins_assignment (assignment_at fits n) (length t
 
 -- ---- what may stand behind what
 
--- what may stand behind assignments, that is no end
+-- a lexeme that may come after assignments, and isn't an end
 abbrev more : Lexeme → Bool
 more = either begins_assignment assignment_ends
 

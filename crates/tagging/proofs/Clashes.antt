@@ -22,7 +22,7 @@ use Rattle.tagging.specs.proving.Lists.{Collected, none, one, tag_lists, Passes,
 use Rattle.tagging.specs.Tagged.{Clash}
 use Rattle.tagging.proofs.Tables.{contains_at, contained_at}
 
--- what can stand together with the member at a place can with that behind it, where the one at this place may be absent
+-- if the member at a place may be absent, what can come together with it can with the next one
 together_next : (k : ListKind) (cs : List Part) (p q : ℕ) (c : Part) → slice_get cs q ≡ Some c → Passes k c →
     Together k cs p q → Together k cs p (q + 1)
 together_next Sequence cs p q c e h t = λ r d l m f. elim (cases_lt r q) [

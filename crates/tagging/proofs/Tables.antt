@@ -72,7 +72,7 @@ no_tag (shapes.Tagged t k j) f = absurd (f t k j refl)
 no_tag (shapes.Members k m cs) f = refl
 no_tag (shapes.Elements k j) f = refl
 
--- where a type stands that linked modules tell of
+-- the module and the assignment of a type in linked modules
 pub stands_home : (p q : Program) (i : ℕ) (t : Type') (M x : List ℕ) → q ≡ p → slice_get p.types i ≡ Some t →
     ((u : Type') → slice_get q.types i ≡ Some u → IsAssignment q u.assignment M x) → IsWrittenIn p i M x
 stands_home p q i t M x e f h = record { type = t; found = f; assigned = subst (λ z. IsAssignment z t.assignment M x) e (h t (ap (λ z. slice_get z.types i) e ∙ f)) }

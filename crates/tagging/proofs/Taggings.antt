@@ -143,7 +143,7 @@ one_each ts l t i k m cs d p n c h w e =
     let u = tags_exist ts c.ty l there in
     first_of ts c.ty u.0 u.1 (bears ts k cs n c w (t.bear i k m cs d p h) e)
 
--- no fault stands in tagged modules
+-- tagged modules have no fault
 pub no_other_fault : (p : Program) (e : TagFault) → (e ≡ faults.Memory → ⊥) → Stands p e → IsTagged p.types → ⊥
 no_other_fault p faults.Memory n s t = n refl
 no_other_fault p (faults.Limit limits.Tags x) n s t = none_breaks p.types TagsRule s.ty s.has t

@@ -1,4 +1,4 @@
--- A notation in which a fault stands stands for no value of its type within the limits.
+-- A notation with a fault isn't that of a value of its type within the limits.
 use Rattle.std.proofs.Common.{inl, inr, ◌≡◌, ℕ, zero, suc, ◌+◌, ◌≤◌, refl, sym, ap, subst, ◌∙◌, Some, None, Bool, arith}
 use Rattle.std.specs.Prelude.{List, [], ◌∷◌, ◌++◌, Option, slice_get}
 use Rattle.std.proofs.lemmas.Option.{same_Some}

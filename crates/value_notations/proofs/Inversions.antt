@@ -1,4 +1,4 @@
--- What a notation tells by its form where it stands for a value, and the other way round.
+-- What the form of a notation says of its value, and the other way round.
 use Rattle.std.proofs.Common.{◌≡◌, ◌∙◌, ℕ, ◌≤◌, ◌<◌, refl, sym, ap, subst, Some, None, Bool, true, false, ℤ, pos, negsuc, arith}
 use Rattle.std.specs.Prelude.{List, [], ◌∷◌, map, length, IsTrue, IsUtf8}
 use Rattle.std.specs.List.{AllByRecursion}

@@ -1,4 +1,4 @@
--- At most one fault of names stands, want of memory apart.
+-- At most one fault of names is true, apart from `Memory`.
 use Rattle.std.proofs.Common.{◌≡◌, ◌<◌, inl, inr, ℕ, List, Some, refl, sym, subst, ap, take, arith}
 use Rattle.std.specs.Prelude.{slice_get}
 use Rattle.trees.specs.declared.types.ListKind.{ListKind}
@@ -14,7 +14,7 @@ use Rattle.values.specs.declared.arranging.NamesFault.TheVariants.{Memory, Unkno
 use Rattle.values.proofs.Lookups.{in_front, to_front}
 use Rattle.values.proofs.Orders.{less_or_more, not_both, part_before}
 
--- what is neither before nor behind is the same
+-- a place that is neither before nor after another is the same
 neither : (i j : ℕ) → (i < j → ⊥) → (j < i → ⊥) → i ≡ j
 neither i j l m = elim (less_or_more i j) [
   | inl e ↦ e

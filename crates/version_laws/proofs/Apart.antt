@@ -84,7 +84,7 @@ same_choice s s' u u' n schema l i e (later_choice {root = root} {others = other
       type = has_type s' b.0.type (all_at (λ z. HasTag s' z.type) (others ++ all) n sound.types b.1);
     }
 
--- what can stand first before a value of the earlier type can before one of the later one
+-- a tag that can be first in a value of the earlier type can be first in one of the later type
 pub later_first : {s s' : List Resolved} {u u' : ℕ} {g : Tag} → IsSchema s' → Later s u s' u' → HasType s' u' → First s u g → First s' u' g
 later_first {s' = s'} {u' = u'} schema l h (first_tag {g = g} {ts = ts} {k = k} i) =
     let e = l [] _ _ _ _ refl refl i.found h.1 in

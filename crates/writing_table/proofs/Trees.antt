@@ -43,7 +43,7 @@ is_state b ps os gs n rs m e f g h i j =
     ∙ ap (λ q. state ps os q b.count b.rows b.members) g ∙ ap (λ q. state ps os gs q b.rows b.members) h
     ∙ ap (λ q. state ps os gs n q b.members) i ∙ ap (λ q. state ps os gs n rs q) j
 
--- numbers that are told
+-- numbers within the bound of the table
 pub record Bound (a : State) : Type 0 where
   pub count_bound : a.count ≤ 16777217
   pub members_bound : a.members ≤ 16777217
@@ -122,7 +122,7 @@ pub record FineParts (ms : Members) (ps : List Placed) (rs : List FlatRow) : Typ
   pub stand : PartsTold ms ps exact
   pub rows : rs ≡ map told_row exact
 
--- all members were added behind those that the group had
+-- all members were added after those that the group had
 pub record Gathered (ms : Members) (es : List Event) (a : State) (gs : List Group) (g : Group) (c : State) : Type 0 where
   pub placed : List Placed
   pub news : List Member
@@ -236,7 +236,7 @@ closed a w e g b k ps x p q rs m i z =
       same = c.same;
     }
 
--- what stands within a header, where it is short enough
+-- what is within a header, if it is short enough
 record Framing (tree t : Tree) (g : Tag) (b : Bool) (k : RowKind) (ps : List Part) (x p q : List ℕ) (rs : List FlatRow) (m : ℕ) : Type 0 where
   spelled : Spell ps x
   exact : List FlatRow
