@@ -252,7 +252,7 @@ settlings() {
     { tell("opened " $1, $2, $3); tell("settled " $1, $2, $4) }'
 }
 
-# Types are settled and compared by a program of their own too: modules of 2,048 and of 4,096 types, and all that fit in.
+# A program of its own settles and compares types too: modules of 2,048 and of 4,096 types, and as many as fit.
 rows=$here/crates/module_rows
 if [[ -x $rows/out/module_rows ]]; then
   { "$rows/out/module_rows" "$rows/data/speed.rows" >/dev/null; } 2>&1 | settlings

@@ -101,8 +101,8 @@ swap() {
   return 1
 }
 
-# apply EDIT: makes the changes of an edit in the copy of its crate. A line 'found:', which says what the edit found, and a
-# line 'with:' change nothing.
+# apply EDIT: makes the changes of an edit in the copy of its crate. A line 'found:', which says what the edit found,
+# and a line 'with:' change nothing.
 apply() {
   local line file='' old=''
   while IFS= read -r line || [[ -n $line ]]; do

@@ -248,8 +248,8 @@ impl Kit {
         }
     }
 
-    /// Encodes a value of a type in canonical PER, unaligned: its bits, filled to octets (X.691, 11.1). Both are named as
-    /// for [`Kit::der`], and the value's notation is read under this type.
+    /// Encodes a value of a type in canonical PER, unaligned: its bits, filled to octets (X.691, 11.1). Both are named
+    /// as for [`Kit::der`], and the value's notation is read under this type.
     ///
     /// `NoType`: the first name is not that of a type. `NoValue`: the second name is not that of a value. `Value`: the
     /// notation stands for no value of the type. `TooLong`: there are more than 16,777,216 octets. `Memory`: an
@@ -305,8 +305,8 @@ impl Kit {
         )
     }
 
-    /// Finds the type of a name, written as `Module.Name`, by the module that assigns or imports it (X.680, clause 14.1).
-    /// None if no type has this name. The number is that of the type for the other calls of this kit.
+    /// Finds the type of a name, written as `Module.Name`, by the module that assigns or imports it (X.680, clause
+    /// 14.1). None if no type has this name. The number is that of the type for the other calls of this kit.
     pub fn type_named(&self, name: &str) -> Option<TypeId>
         // The type has this name. After None the kit has no type of this name.
         ensures named { MatchOption result
@@ -321,8 +321,8 @@ impl Kit {
     /// Encodes a value that a program has made, by the distinguished rules (X.690, clauses 8, 10 and 11), and returns
     /// the octets with their account.
     ///
-    /// `NotOfType`: the value is not one of the type, or the kit has no such type. `TooLong`: the encoding has more than
-    /// 16,777,216 octets. `Memory`: an allocation failed.
+    /// `NotOfType`: the value is not one of the type, or the kit has no such type. `TooLong`: the encoding has more
+    /// than 16,777,216 octets. `Memory`: an allocation failed.
     pub fn encode(
         &self,
         alloc: Global,
@@ -368,9 +368,9 @@ impl Kit {
         write_uper(alloc, &self.packed, id, value)
     }
 
-    /// Decodes the value of a type that octets encode by the basic or by the distinguished rules. Its strings are slices
-    /// of the octets if they are primitive there. Beside the value is the number of skipped additions that the type
-    /// lacks. `Read::view` shows the value part by part, and [`View::to_value`] copies it.
+    /// Decodes the value of a type that octets encode by the basic or by the distinguished rules. Its strings are
+    /// slices of the octets if they are primitive there. Beside the value is the number of skipped additions that the
+    /// type lacks. `Read::view` shows the value part by part, and [`View::to_value`] copies it.
     ///
     /// The faults are those of [`ber_reader::read_ber`] and [`ber_reader::read_der`].
     pub fn decode<'a>(

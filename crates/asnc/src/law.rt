@@ -38,8 +38,8 @@ pub fn headline()
         IsRight xs first second o a }
 {}
 
-/// What [`crate::Kit::uper`] returns for texts that [`crate::Kit::open`] took is right, from the texts to the octets. They
-/// are the bits of the value, no others are, and they are read as a value that is the same, and as no other.
+/// What [`crate::Kit::uper`] returns for texts that [`crate::Kit::open`] took is right, from the texts to the octets.
+/// They are the bits of the value, no others are, and they are read as a value that is the same, and as no other.
 pub fn packed()
     ensures { (xs : List (List ℕ)) (p : Program) (s : List Resolved) (first second o : List ℕ) →
         Accepted xs p s →
