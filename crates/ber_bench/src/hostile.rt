@@ -20,6 +20,7 @@ const LONGEST: usize = 127;
 const LONG_ELEMENT: usize = 4 * (LONGEST + 1) + 4;
 
 impl Hostile {
+    /// The name of the message in print.
     pub fn name(self) -> &'static str {
         match self {
             Hostile::LongLengths => "lengths in their longest form",

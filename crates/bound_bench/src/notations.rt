@@ -43,6 +43,7 @@ pub enum Notation {
     Defaults,
 }
 
+/// All kinds of notations.
 pub const NOTATIONS: [Notation; 4] = [
     Notation::Numbers,
     Notation::Lists,
@@ -51,6 +52,7 @@ pub const NOTATIONS: [Notation; 4] = [
 ];
 
 impl Notation {
+    /// The name of the notation in print.
     pub fn name(self) -> &'static str {
         match self {
             Notation::Numbers => "numbers",

@@ -57,6 +57,7 @@ fn put_chars(out: &mut String, chars: &[CharsSyntax]) -> Result<(), AllocError> 
     Ok(())
 }
 
+/// Writes a constraint in parentheses.
 pub fn put_constraint(out: &mut String, constraint: &ConstraintSyntax) -> Result<(), AllocError> {
     match &constraint.form {
         ConstraintForm::Values(ranges) => {

@@ -53,6 +53,7 @@ pub fn put_spelling(out: &mut String, text: &[u8], token: Token) -> Result<(), A
     }
 }
 
+/// Writes tokens, or `nothing` if there are none.
 pub fn put_tokens(out: &mut String, text: &[u8], tokens: &[Token]) -> Result<(), AllocError> {
     if tokens.is_empty() {
         return out.push_str("nothing");

@@ -171,6 +171,7 @@ fn put_list_word(out: &mut String, kind: ListKind, marker: bool) -> Result<(), A
     Ok(())
 }
 
+/// Writes a type, in angle brackets with its constraints if it has some.
 #[cycle(put_type)]
 pub fn put_type(out: &mut String, syntax: &TypeSyntax) -> Result<(), AllocError> {
     let is_constrained = is_constrained(syntax);

@@ -48,6 +48,7 @@ fn put_fields(out: &mut String, fields: &[Named<ValueSyntax>]) -> Result<(), All
     out.push('}')
 }
 
+/// Writes a value.
 #[cycle(put_value)]
 pub fn put_value(out: &mut String, value: &ValueSyntax) -> Result<(), AllocError> {
     match &value.form {
