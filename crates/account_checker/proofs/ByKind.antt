@@ -157,7 +157,7 @@ list_value {s} {n} {k} {w} {c} {u} f d vs g = by (subst (λ q. ValueOf s n (a_se
     by (of_leaf f) = elim f [ ]
     by (of_sequence_of a h) = a
 
--- the same where the row is known
+-- the same if the row is known
 
 inside_rows : Inside → Rows
 inside_rows (seq_row rs) = rs

@@ -1,4 +1,4 @@
--- The ends of places, where each written member ends where its place does.
+-- The ends of places. Each written member ends at the end of its place.
 use Rattle.std.proofs.Common.{arith, ◌⊎◌, inl, inr, ⊎_elim, Bool, true, false, not, ◌≡◌, ℕ, zero, suc, ◌+◌, ◌-◌, ◌<◌, ◌≤◌, List, [], ◌∷◌, ◌++◌, length, take, get_or, refl, sym, ap, subst, ◌∙◌, Bor}
 use Rattle.std.specs.Prelude.{◌↔◌, Some, slice_get}
 use Rattle.std.specs.List.{sum}
@@ -33,7 +33,7 @@ ends_step p es k (is_written a) rs = (λ d. d, λ d. d)
 abbrev pub CountsLeft : Rows → List FlatRow → List FlatRow → ℕ → ℕ → ℕ → Type 0
 CountsLeft rs left rest n place number = LeftAt (Unit {0}) (λ k ms. Unit {0}) (sizes rs) left rest n place number
 
--- the same, where those before end where their places do
+-- the same, if the members before it end at the ends of their places
 abbrev pub EndsLeft : List ℕ → List ℕ → Rows → List FlatRow → List FlatRow → ℕ → ℕ → ℕ → Type 0
 EndsLeft p es rs left rest n place number =
     LeftAt (EndsFrom p es 0 (sizes rs)) (λ k ms. EndsFrom p es k (sizes ms)) (sizes rs) left rest n place number
@@ -95,7 +95,7 @@ where_asked : (b : Bool) {P : Type 0} → not b ≡ false → Where b P → P
 where_asked true e w = w
 where_asked false e w = absurd (cc)
 
--- places of that many members, each of which ends where its place does
+-- places of that many members, each of which ends at the end of its place
 pub are_right : (s : Asked) {o : Order} (b : Bor Places) (ns : List ℕ) {n : ℕ} → o ≡ Placed b → AreInOrder s o n → not s.places ≡ false → n ≡ length ns → EndsFrom b.now.places.items b.now.ends.items 0 ns → AreEnds o ns
 are_right s {o} b ns {n} g w e f d =
     subst (λ r. AreEnds r ns) (sym g)

@@ -35,7 +35,7 @@ drop_at f (x ∷ xs) (suc i) d h =
     let e : suc (i + 1) ≡ suc i + 1 = omega arith in
     drop_at f xs i d (omega arith) ∙ ap (λ k. f (get_or xs i d) ∷ drop k (f x ∷ map f xs)) e
 
--- the same where the element there is known
+-- the same if the element there is known
 pub drop_is : {A B : Type 0} (f : A → B) (xs : List A) (i : ℕ) (d : A) → i < length xs → d ≡ get_or xs i d → drop i (map f xs) ≡ f d ∷ drop (i + 1) (map f xs)
 drop_is f xs i d h e = drop_at f xs i d h ∙ ap (λ x. f x ∷ drop (i + 1) (map f xs)) (sym e)
 

@@ -308,7 +308,7 @@ part_one false o p n x y f g = g ∙ sym f
 pub not_written : (s : List Resolved) (q : Asked) (place n t : ℕ) (v : AbstractValue) (x y : List ℕ) (a : Account) → octets_told a ≡ n → Part q.headers x place n y → (Follows s q t v y a → ⊥) → WrittenAt s q place t v x a → ⊥
 not_written s q place n t v x y a e p none w = none (subst (λ z. Follows s q t v z a) (sym (part_one q.headers x place n w.0 y (subst (λ k. Part q.headers x place k w.0) e w.1) p)) w.2)
 
--- a member at one offset is at another, where these are the same or headers aren't asked about
+-- a member at one offset is at another if these are the same or headers aren't asked about
 
 where_sym : (b : Bool) (m n : ℕ) → Where b (m ≡ n) → Where b (n ≡ m)
 where_sym true m n e = sym e

@@ -74,7 +74,7 @@ member_stands {p} {q} {xs} {zs} {ns} a e i y f =
     let b = lens_by xs zs q (a.as_many ∙ sym r.each_place) (λ j k h. a.each k j (r.back k j h)) in
     subst (λ ms. SliceAt (concat zs) (before ms (get_or p i 0)) (length y) y) (b ∙ ap (λ ms. by_place ms q) (sym e)) (slice_of zs (get_or p i 0) y (a.each i (get_or p i 0) g ∙ f))
 
--- ---- what stands behind a place
+-- ---- what comes after a place
 
 drop_front : (f x : List ℕ) → drop (length f) (f ++ x) ≡ x
 drop_front [] x = refl

@@ -86,7 +86,7 @@ told_default (told.SetOf y b) e = absurd (cc)
 told_default told.Absent e = absurd (cc)
 told_default told.Default e = refl
 
--- the first row, where the inside is known
+-- the first row, if the inside is known
 pub first_is : (t : Told) (z : Numbers) (i j : Inside) (q rest : List FlatRow) → told_of t ∷ q ≡ rows_of (header z i) ++ rest → i ≡ j → told_of t ≡ first_or (told_of t) (rows_of (header z j) ++ rest)
 first_is t z i j q rest e f = ap (first_or (told_of t)) (e ∙ ap (λ w. rows_of (header z w) ++ rest) f)
 

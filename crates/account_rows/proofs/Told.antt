@@ -32,7 +32,7 @@ pub record ToldOf (s : List Resolved) (t : ℕ) (v : AbstractValue) (es : List E
   pub holds : (o : List ℕ) (rs : List FlatRow) → Told tree o rs → length o < 2 ^ 64 → HasRows s t v o rs
   pub as_many : (o : List ℕ) (a : Account) → Tells s t v o a → length o ≡ octets_in tree
 
--- ---- what stands within the headers
+-- ---- what is within the headers
 
 pub data Content : Type 0 where
   plain : Tree → Content
@@ -50,7 +50,7 @@ abbrev pub events_of : Content → List Event
 events_of (plain i) = flat i
 events_of (grouped o ms) = flats ms
 
--- contents octets, and the rows from the header round them on, by the numbers of that
+-- contents octets, and the rows from the header around them on, by the numbers of that header
 abbrev pub Means : RowKind → Content → List ℕ → (Numbers → List FlatRow) → Type 0
 Means k (plain i) x f = (inside : List FlatRow) × Told i x inside × ((z : Numbers) → f z ≡ header_row k z (rows_in i) [] [] ∷ inside)
 Means k (grouped o ms) x f =
@@ -352,7 +352,7 @@ absent_left (where_addition {o = o} {g = a}) {rs = rs} e m = record { all = abse
 pub omitted_left : {s : List Resolved} {c : Component} {cs : List Component} {v : AbstractValue} {vs : Row} {xs : List (List ℕ)} {rs : Rows} → DefaultIn s c v → TellsMembers s cs vs xs rs → LeftTold s c cs (present v vs) xs rs
 omitted_left {rs = rs} d m = record { all = default_row rs; told = default_told (d.value, d.has_default, d.same.are_alike) m; rows = ap (λ q. left_row q ∷ member_rows rs) (sym (needs_default d.has_default)); counted = refl }
 
--- ---- what an account tells of a component
+-- ---- what an account says of a component
 
 -- the component is absent, or is the same as its DEFAULT, so the octets are those of the others
 pub absent_back : {s : List Resolved} {c : Component} {cs : List Component} {vs : Row} {xs : List (List ℕ)} {rs : Rows} → TellsMembers s (c ∷ cs) (absent vs) xs rs → (qs : Rows) × TellsMembers s cs vs xs qs

@@ -190,7 +190,7 @@ module _ (m k : ℕ) (w : Bool) (fs : List Open) where
   put_back a_default rs small may h =
       back_left_out (default_row h.members) a_default rs h refl ((omega arith), h.within) (asks_nothing w (default_row h.members) (may refl)) refl
 
--- ---- where no level is left, and where no member is
+-- ---- no level is left, or no member is
 
 pub none_deeper : (k : ℕ) (w : Bool) (fs : List Open) (rs : List FlatRow) → Left 0 (record { left = suc k; all_written = w } ∷ fs) rs → ⊥
 none_deeper k w fs rs h = no_level h.members h.as_many h.within

@@ -24,7 +24,7 @@ use Rattle.ber_views.specs.Wants.{Reading, begun_as, number_as, Wants}
 use Rattle.ber_reader.proofs.Shapes.{shape_at, leaf_shape}
 use Rattle.ber_reader.proofs.Rows.{many, Ordered, ordered_none, ordered_absent, ordered_present, ordered_row, Mixed, mixed_none, mixed_more, mixed_row, joined_none, joined_more, found_below}
 
--- ---- what stands in the message
+-- ---- what is in the message
 
 pub stand_first : (m : List ℕ) (xs ys : List Token) → StandIn m (xs ++ ys) → StandIn m xs
 stand_first m [] ys a = tt

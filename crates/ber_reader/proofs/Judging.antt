@@ -217,7 +217,7 @@ pub judged_itself : {s : List Resolved} {t : TypeNumber} {v : AbstractValue} {f 
     → IsJudged s t v f
 judged_itself {s} {t} {v} n w o = record { inner = piece t v; way = []; is_innermost = is_itself n w; own = o }
 
--- the value round a part
+-- the value around a part
 abbrev pub round : TypeNumber → Part → Open
 round t p = record { ty = id_of t; part = Some p; read = 0 }
 

@@ -321,7 +321,7 @@ part_in {s} {q = q} (shows_choice {i = i} {a = b} {w = v} has x) f os o n m =
 
 -- ---- the way
 
--- a value begins among the tokens, and round it are open, in these, those of the way
+-- a value begins among the tokens, and the values of the way are open around it in these tokens
 record Reached (way os : List Open) (ts : List Token) : Type 0 where
   before : List Token
   value : TypeId
@@ -369,7 +369,7 @@ reach {s} {p} {way = way} (is_within {q = q} {o = o} {os = rest} f a j) (shows {
 
 -- ---- the first value to which it leads
 
--- so many values begin before one to which the way leads
+-- n values begin before one to which the way leads
 record Found (way os : List Open) (ts : List Token) (n : ℕ) : Type 0 where
   before : List Token
   value : TypeId
@@ -460,7 +460,7 @@ pub if_ok : {A E : Type 0} {P Q : A → Type 0} (r : Result A E) → ((a : A) �
 if_ok (Ok a) f p = f a p
 if_ok (Err e) f p = p
 
--- ---- one front before so many
+-- ---- one front before n values
 
 -- one more begins than do before it
 pub fewer_begin : {told : List Token} {n : ℕ} {os : List Open} → AreOpenBefore told n os → n < begun_in told
@@ -498,14 +498,14 @@ fronts_once (x ∷ xs) (y ∷ ys) vs ws t u e n =
     same_rest (held l c o at) k = k
     same_rest passed k = k
 
--- what is open before so many values is the same
+-- the values that are open before n others are determined
 pub open_once : {told : List Token} {n : ℕ} {os ps : List Open} → AreOpenBefore told n os → AreOpenBefore told n ps → os ≡ ps
 open_once a b =
     a.opened
     ∙ ap opens (fronts_once a.before b.before a.behind b.behind a.value b.value (sym a.whole ∙ b.whole) (a.as_many ∙ sym b.as_many))
     ∙ sym b.opened
 
--- where reading stops before so many values, and what isn't read is entered
+-- decoding stops before n values, and the value that isn't decoded is entered
 pub leads_there : {s : List Resolved} {t : TypeId} {o : List ℕ} {v : AbstractValue} {told all : List Token} {n : ℕ} {w : Whereabouts}
     → told ≡ all
     → IsBeforeWrong s (piece t.index v) told n

@@ -48,7 +48,7 @@ pub never_holds : {P Q : Type 0} (b : Bool) → b ≡ false → IsTrue b ↔ P �
 never_holds true e h p = absurd (let f = e in cc)
 never_holds false e h p = absurd (let f : false ≡ true = h.1 p in cc)
 
--- what was read is no value
+-- the decoded value isn't one of the type
 pub says_none : {s : List Resolved} {t : ℕ} {o : List ℕ} {ts : List Token} (m : IsMessage s t o ts) → (IsValueWithoutNodes s t m.value → ⊥) → SaysNoValue s t o
 says_none m n = record { value = m.value; count = m.count; is_said = m.is_said; few = m.few; short = m.short; is_none = n }
 

@@ -12,12 +12,12 @@ use Rattle.octet_answers.specs.Found.{field_in}
 use Rattle.ber_reader.specs.Judged.{kind_at, element_of, alternatives, is_addition_in}
 use Rattle.ber_reader.specs.Stepped.{behind_heads, element_in, called_in, is_of_addition}
 
--- what a step reads, where there is one
+-- the result for a step, if there is one
 abbrev pub then_in : {A : Type 0} → (Step → Option A) → Option Step → Option A
 then_in f None = None
 then_in f (Some p) = f p
 
--- ---- behind the headers
+-- ---- after the headers
 
 heads_off : (tags : List Tag) (r : RowKind) (ss : List Step) → behind_heads (heads tags r ++ ss) ≡ behind_heads ss
 heads_off [] r ss = refl

@@ -1,4 +1,4 @@
--- What a cursor is asked, where nothing answers.
+-- Questions to a cursor that have no answer.
 use Rattle.std.proofs.Common.{arith, ◌≡◌, ⊎_elim, ℕ, ◌<◌, Bool, true, false, List, [], length, sym, ap, subst, ◌∙◌}
 use Rattle.asn_base.specs.declared.tag.Tag.{Tag}
 use Rattle.asn_base.specs.Tags.{First}

@@ -129,7 +129,7 @@ marks_alike s Q P m m' w w' a to from = record {
   count = a.count;
 }
 
--- ---- the parts of types that are no lists
+-- ---- the parts of types that aren't lists
 
 reference_part : (i j : ℕ) → IsPart i (reference j) → i ≡ j
 reference_part i j referred = refl

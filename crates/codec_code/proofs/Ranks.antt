@@ -139,7 +139,7 @@ ordered_all s cs [] a r = ascending_none
 ordered_all s cs (p ∷ []) a r = ascending_one
 ordered_all s cs (p ∷ q ∷ ps) a r = ascending_more (ordered_two s cs p q a.0 a.1.0 r.0.0) (ordered_all s cs (q ∷ ps) a.1 r.1)
 
--- ---- each rank stands once
+-- ---- each rank is there once
 
 abbrev pub one_at : ℕ → ℕ → ℕ
 one_at r n = one_if (n == r)

@@ -41,7 +41,7 @@ pub record HeldBy (s : List Resolved) (n : ℕ) (k : Kind) (v : AbstractValue) (
   pub same : AlikeBy s k v w
   pub is : Holds s Distinguished k w 0 c x
 
--- ---- what stands within the headers
+-- ---- what is within the headers
 
 pub data Content : Type 0 where
   plain : Tree → Content

@@ -117,7 +117,7 @@ module _ (s : List Resolved) (id : TypeId) (olds : List Frame) where
       less = (let h' = room (total s) (Field f) rest.now (abstract v.now) 0 (omega arith) in omega arith);
     }
 
-    -- where it has no contents
+    -- the value has no contents
     pub field_untold : (f : Field') (w : Bor Value) (h : Head') (k : LeafKind) (fault : RunFault)
         → WritesIt s id.index f (abstract v.now) (abstract w.now)
         → routine_at s f.ty.index ≡ Head h ∷ Leaf k ∷ End ∷ []

@@ -12,7 +12,7 @@ abbrev head_or_0 : List ℕ → ℕ
 head_or_0 [] = 0
 head_or_0 (x ∷ xs) = x
 
--- ---- 300C 0402 0102 2C06 0401C3 0401A9: SEQUENCE {a OCTET STRING, b UTF8String}; a stands in the message at 4, b was
+-- ---- 300C 0402 0102 2C06 0401C3 0401A9: SEQUENCE {a OCTET STRING, b UTF8String}; a is at 4 in the message, b was
 -- joined
 
 abbrev message : List ℕ
@@ -157,7 +157,7 @@ elements_as_they_stand = refl
 pub second_alternative : value_of (alternative 1 (leaf null)) ≡ value.alternative 1 value.null
 second_alternative = refl
 
--- ---- what is told of a tree
+-- ---- the nodes of a tree
 
 pub first_of_a_number : component mixed 0 ≡ Some (leaf (boolean true))
 first_of_a_number = refl

@@ -25,7 +25,7 @@ u1 = universal 1 (lit< tt) (lit< tt)
 abbrev u17 : Tag
 u17 = universal 17 (lit< tt) (lit< tt)
 
--- ---- what went out: the octets 300102 behind 05
+-- ---- what went out: the octets 300102 after 05
 
 abbrev sent : List ℕ
 sent = 48 ∷ 1 ∷ 2 ∷ []
@@ -61,7 +61,7 @@ two_of_three = record { fewer = lit< tt; taken = refl; one_failed = refl }
 pub none_of_three : SentFront before (holds [] 3) sent 0
 none_of_three = record { fewer = lit< tt; taken = refl; one_failed = refl }
 
--- all octets are no part of them
+-- all octets aren't a part of them
 pub not_three_of_three : SentFront before (holds sent 3) sent 3 → ⊥
 not_three_of_three s = let h : 3 < 3 = s.fewer in omega (arith, h)
 
@@ -190,7 +190,7 @@ two_deep = (small_one, (small_one, tt))
 pub not_one_deep : IsWithin 1 (header one (wrap_row leaf)) → ⊥
 not_one_deep h = h.1
 
--- ---- how many octets are told
+-- ---- how many octets are given
 
 pub eight_octets : octets_told (header z (seq_row no_row)) ≡ 8
 eight_octets = refl

@@ -1,4 +1,4 @@
--- Where frames stop.
+-- The frames at which a run stops.
 use Rattle.std.proofs.Common.{arith, ◌≡◌, inl, inr, ℕ, ◌<◌, List, [], ◌∷◌, ◌++◌, length, refl, sym, subst}
 use Rattle.std.specs.Prelude.{Option, Some, None, Result, Ok, Err, IfErr}
 use Rattle.asn_base.specs.declared.schema.TypeId.{TypeId}

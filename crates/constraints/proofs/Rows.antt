@@ -36,7 +36,7 @@ holding =
 sizes_of_plain : map has_size plain ≡ false ∷ false ∷ false ∷ false ∷ false ∷ false ∷ []
 sizes_of_plain = refl
 
--- SIZE is taken by strings of bits, but for those with named bits
+-- strings of bits take SIZE, except those with named bits
 sizes_of_binary : map has_size binary ≡ true ∷ false ∷ true ∷ []
 sizes_of_binary = refl
 

@@ -75,7 +75,7 @@ raised_or zero (suc k) = inr (k, refl)
 raised_or (suc j) zero = inr (zero, refl)
 raised_or (suc j) (suc k) = ⊎_elim (λ e. inl (ap suc e)) (λ r. inr (suc r.0, ap suc r.1)) (raised_or j k)
 
--- where it was put in
+-- the place at which it was put in
 record PutAt (x : List ℕ) (ys zs : List (List ℕ)) : Type 0 where
   place : ℕ
   within : place < suc (length ys)

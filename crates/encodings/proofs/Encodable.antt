@@ -330,7 +330,7 @@ module _ (s : List Resolved) (schema : IsSchema s)
   joined h a m (inr nd) (inl r) = inl (with_it nd m r)
   joined h a m (inr nd) (inr q) = inr (record { heavy = (let k = q.heavy in omega arith); none = none_member q nd })
 
-  -- contents that are alike are no shorter
+  -- contents that are alike aren't shorter
   no_shorter : {t n : ℕ} {tags : List Tag} {k : Kind} {v w x : AbstractValue} {b c : Bool} {o y : List ℕ} → Is s t tags k → Alike s t v w → Alike s t v x → Holds s Distinguished k w 0 b o → Holds s Basic k x n c y → n ≡ 0 → length o ≤ length y
   no_shorter {t} {k = k} {v = v} {w = w} {x = x} {o = o} {y = y} i e f h g z = by (follow t w v x (turn t v w e) f)
     where
@@ -424,7 +424,7 @@ module _ (s : List Resolved) (schema : IsSchema s)
       by (inl r) = (r.octets, (r.w, record { first = a; second = r.value; are_alike = r.same }, r.is), r.few)
       by (inr q) = absurd (let k = q.heavy in omega arith)
 
-  -- where it has none by the distinguished rules it has none by the basic ones
+  -- a value without an encoding by the distinguished rules has none by the basic ones
   pub encodable_or_none : (t : ℕ) (v : AbstractValue) → ValueIn s 64 t v → ((o : List ℕ) × Der s t v 0 o) ⊎ ((p : List ℕ) → Ber s t v 0 p → ⊥)
   encodable_or_none t v a = either (λ r. (r.octets, (r.w, record { first = a; second = r.value; are_alike = r.same }, r.is))) (λ q p b. q.none b.1.are_alike b.2 refl) (encoded a)
 

@@ -134,7 +134,7 @@ pub set_of_any_order : Says rows Basic 7 (list (present (integer (pos 2)) (prese
 unfolding identifier
 set_of_any_order = says (record { found = refl }) (set_of (element (basic_of integer_2) (element (basic_of integer_1) no_element)) tt) (innermost (record { header = short_header u17 true 6 (lit< tt); fewest = tt }))
 
--- and so it may by the distinguished rules but for the order
+-- by the distinguished rules without their order it may too
 pub set_of_unsorted : Says rows Unsorted 7 (list (present (integer (pos 2)) (present (integer (pos 1)) end))) 0 (49 ∷ 6 ∷ 2 ∷ 1 ∷ 2 ∷ 2 ∷ 1 ∷ 1 ∷ [])
 unfolding identifier shortest_header
 set_of_unsorted = says (record { found = refl }) (set_of (element (unsorted_of integer_2) (element (unsorted_of integer_1) no_element)) tt) (innermost (record { header = short_header u17 true 6 (lit< tt); fewest = (shortest_is u17 true 6 (lit< tt)).fewest }))

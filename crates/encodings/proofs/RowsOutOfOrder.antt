@@ -23,7 +23,7 @@ use Rattle.encodings.proofs.RowsThatHold.{short_header}
 use Rattle.encodings.proofs.RowsOfParts.{tags_ascend, default_present}
 use Rattle.encodings.proofs.RowsThatFail.{inside}
 
--- 2400 is no encoding of an OCTET STRING by the distinguished rules
+-- 2400 isn't an encoding of an OCTET STRING by the distinguished rules
 cut_string : {w : AbstractValue} {n : ℕ} {c : Bool} {x : List ℕ} → Holds rows Distinguished (an_octet_string any_size) w n c x → c ≡ true → ⊥
 cut_string (leaf (of_octets a e)) f = let g : false ≡ true = sym e ∙ f in cc
 

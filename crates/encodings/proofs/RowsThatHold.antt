@@ -33,7 +33,7 @@ pub some_octet : {z : ℤ} {p : List ℕ} → TwosComplement z p → 1 ≤ lengt
 some_octet (not_negative l b g h) = l
 some_octet (negative l b g h) = l
 
--- a number that one octet can't hold has the shortest octets where they are two
+-- a number that one octet can't hold has two octets, the fewest
 two_octets : (z : ℤ) (o : List ℕ) → length o ≡ 2 → TwosComplement z o → ((x : ℕ) → TwosComplement z (x ∷ []) → ⊥) → Number z o
 two_octets z o e a f = record { is = a; shortest = λ p q. by p q }
   where

@@ -1,4 +1,4 @@
--- Octets say one value, with one number of levels, where first tags are distinct.
+-- Octets encode one value, with one number of levels, if first tags are distinct.
 use Rattle.std.proofs.Common.{arith, ◌≡◌, ℕ, zero, suc, ◌+◌, ◌⊎◌, inl, inr, ⊎_elim, Bool, true, false, cond, List, [], ◌∷◌, ◌++◌, length, map, refl, sym, ap, subst, ◌∙◌}
 use Rattle.std.specs.Prelude.{Option, Some, None, slice_get, ◌||◌, max}
 use Rattle.std.specs.List.{AllByRecursion}

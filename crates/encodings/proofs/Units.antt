@@ -63,7 +63,7 @@ units_front x y p q u v e =
     let c = split_front u.rest v.rest p q r.counts r.rest in
     (u.whole ∙ ap (λ z. z ++ u.rest) r.headers ∙ ap (λ z. v.header ++ z) c.0 ∙ sym v.whole, c.1)
 
--- lists that are equal where they are, filled with zeros
+-- lists that are equal as far as both go, filled with zeros
 record Filled (x y : List ℕ) : Type 0 where
   a : List ℕ
   b : List ℕ

@@ -45,7 +45,7 @@ a_value_name = refl
 a_number : lexeme_at (65 ∷ 98 ∷ 32 ∷ 99 ∷ 100 ∷ 32 ∷ 49 ∷ 48 ∷ []) kinds.Number 6 8 ≡ Number 10
 a_number = refl
 
--- ---- what stands at a place
+-- ---- what is at a place
 
 -- 2 to the 127 passes the limit, and one less doesn't
 least_too_great : small (2 ^ 127) ≡ false
@@ -87,7 +87,7 @@ passed_at_a_number = record {
 no_nesting_passed : PassesLimit number (bounded 0) too_great 0 0 Nesting → ⊥
 no_nesting_passed p = stops_at_the_number.longest p.further p.longer p.to p.goes_on
 
--- no limit is passed where the lexemes end
+-- no limit is passed if the lexemes end
 passed_before_the_end : {A : Type 0} (g : Limited A) (a : Limits) (ts : List Lexeme) (start : ℕ)
     → PassesLimit g a ts start (length ts) Nesting
     → ⊥
@@ -171,7 +171,7 @@ marked_names = (
 unmarked_name : (extensible (token Ident) (token Ident)).Is ((97 ∷ []) ∷ [], None) (a_name ∷ [])
 unmarked_name = (a_name ∷ [], [], refl, one_listed, refl)
 
--- the marker alone is one where the root may be missing
+-- the marker by itself is such a list if the root may be missing
 marker_alone : (rootless (token Ident) (token Ident)).Is ([], Some []) (Mark Ellipsis ∷ [])
 marker_alone = inl ([], refl, ((tt, []), refl, (Mark Ellipsis ∷ [], [], refl, refl, refl)))
 

@@ -81,7 +81,7 @@ not_text o t e n a i = n a (subst (λ x. IsTextOf x a) (sym e) i.is)
 pub in_text : (o t : List ℕ) (a : Account) → t ≡ o → IsUtf8 o → IsTextOf t a → IsAccountIn o a
 in_text o t a e u i = record { utf8 = u; is = subst (λ x. IsTextOf x a) e i }
 
--- ---- where there is a verdict
+-- ---- there is a verdict
 
 abbrev pub Refuses : Type 0
 Refuses = (p : Program) (first second : List ℕ) (t : ℕ) (v : AbstractValue) (e : Fault) → Keeps p →
@@ -110,7 +110,7 @@ Excludes = (xs : List (List ℕ)) (p : Program) (f : FrontFault) → (f ≡ text
 abbrev pub OneProgram : Type 0
 OneProgram = (xs : List (List ℕ)) (p q : Program) → AreAccepted xs p → AreAccepted xs q → p ≡ q
 
--- the same where the program is that of the texts
+-- the same if the program is that of the texts
 in_texts : Refuses → OneProgram → (xs : List (List ℕ)) (p q : Program) (s : List Resolved) (first second o account : List ℕ)
     (r : Verdict) (e : Fault) → Keeps p → AreAccepted xs p → AreAccepted xs q → IsVerdictOn p s first second o account r →
     IsNotJudgedOn q first second account e → e ≡ faults.Memory

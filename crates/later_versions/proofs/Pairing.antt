@@ -174,7 +174,7 @@ follow s t s' t' ps at l so (i ∷ places) v v' u u' m a b =
     let n = so.members h.0 (v, v') (f.0, g.0) (omega (arith, w, l)) h.1 (i, f.1, g.1) in
     follow s t s' t' ps at l so places f.0 g.0 u u' n f.2 g.2
 
--- where all pairs that were met are fine
+-- all pairs that were met are fine
 pub all_fine : (s : List Resolved) (t : ℕ) (s' : List Resolved) (t' : ℕ) (ps : List (ℕ × ℕ)) (at : ℕ)
     → length ps ≤ at
     → IsSoFar s t s' t' ps at

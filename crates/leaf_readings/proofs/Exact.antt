@@ -142,7 +142,7 @@ one_fault e f k x (enumerated_past n i) (enumerated_past m j) = refl
 one_fault e f k x (oid_past n i) (oid_past m j) = refl
 one_fault e f k x (relative_past n i) (relative_past m j) = refl
 
--- ---- so results are what stands
+-- ---- so results are the true ones
 
 pub is_ok : (k : LeafKind) (x : List ℕ) (r : Result Leaf LeafFault) → IfErr r (λ e. Stands e k x) → (v : AbstractValue) → IsReadAs k v x → IsOk r
 is_ok k x (Ok l) s v a = refl

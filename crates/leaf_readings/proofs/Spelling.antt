@@ -161,7 +161,7 @@ never_zero n (x ∷ o) rest e f = first_of (digits_of 128 (n / 128)) (n % 128) r
 some_septets : (n : ℕ) → 1 ≤ length (septets n)
 some_septets n = let e = length-append (marked (digits_of 128 (n / 128))) ((n % 128) ∷ []) in omega (arith, e)
 
--- ---- what stands at the front
+-- ---- what is at the front
 
 pub front_of : (told : Option ℕ) (o rest : List ℕ) → (get_or o 0 0 ≡ 128 → ⊥) → Behind 0 told rest o → Front told rest o
 front_of told o rest never b = record {
@@ -204,7 +204,7 @@ one_list (m ∷ ms) (n ∷ ns) e =
     let f = one_front m n (flat_map septets ms) (flat_map septets ns) e in
     ap (λ q. q ∷ ms) f.0 ∙ ap (λ q. n ∷ q) (one_list ms ns f.1)
 
--- where numbers begin octets that are numbers, so is what follows
+-- if numbers begin octets that are numbers, the rest of the octets are numbers too
 goes_on : (ms ns : List ℕ) (rest : List ℕ) → flat_map septets ns ≡ flat_map septets ms ++ rest → (ks : List ℕ) × (rest ≡ flat_map septets ks)
 goes_on [] ns rest e = (ns, sym e)
 goes_on (m ∷ ms) [] rest e = absurd (none_first [] refl m (flat_map septets ms ++ rest) (e ∙ append_assoc (septets m) (flat_map septets ms) rest))

@@ -34,7 +34,7 @@ one_dot (m ∷ M) (n ∷ N) x y e p q =
 one_spelling : (text : List ℕ) (M N x y : Name) → IsQualified text M x → IsQualified text N y → (M ≡ N) × (x ≡ y)
 one_spelling text M N x y a b = one_dot M N x y (sym a.spelled ∙ b.spelled) a.plain b.plain
 
--- ---- what a name stands for
+-- ---- the meaning of a name
 
 one_some : {X : Type 0} (o : Option X) (x y : X) → o ≡ Some x → o ≡ Some y → x ≡ y
 one_some o x y e f = let g : Some x ≡ Some y = sym e ∙ f in cc

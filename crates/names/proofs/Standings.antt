@@ -24,7 +24,7 @@ pub all_stood : {Y : Type 0} (ys : List Y) (P : Y → Type 0) (n : ℕ) → n �
     ((k : ℕ) (y : Y) → k < n → slice_get ys k ≡ Some y → P y) → (y : Y) → StandsIn ys y → P y
 all_stood ys P n e f y s = let w = slice_get_within ys s.0 y s.1 in f s.0 y (omega (arith, w, e)) s.1
 
--- ---- the modules behind a table of names
+-- ---- the modules of a table of names
 
 -- what is in the table of a module
 pub record Tells (ms : List ModuleTree) (M : Name) (m : Module) : Type 0 where

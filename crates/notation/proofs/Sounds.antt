@@ -228,7 +228,7 @@ module _ (over : Limit → ℕ) (fits fits' : ℕ → Bool) (grows : (n : ℕ) �
       step_sound (Mark OpenBrace ∷ ts) = open_brace ts
       step_sound (t ∷ ts) = lift (t ∷ ts) (stop (t ∷ ts)) (stop_sound over (simple fits') (t ∷ ts) (inl (inl refl)))
 
-  -- one more level round a value
+  -- one more level around a value
   inner_sound : (n : ℕ) (v : Grammar Tree) (read : Reader Tree)
       → ((us : List Lexeme) → Sound over v us (read us))
       → (ts : List Lexeme)

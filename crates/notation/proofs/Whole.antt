@@ -34,7 +34,7 @@ no_second : {A : Type 0} (kind : A → Lexeme) (s t : Lexeme) (u : List Lexeme) 
 no_second kind s t u (inl e) = absurd cc
 no_second kind s t u (inr (x, e)) = absurd cc
 
--- a whole is not empty where it begins with a token
+-- a whole that begins with a token isn't empty
 full : {A : Type 0} (kind : A → Lexeme) (x : A) → (token kind).Is x [] → ⊥
 full kind x e = absurd cc
 
@@ -282,7 +282,7 @@ module _ (within : Limit → Type 0) (fits fits' : ℕ → Bool)
     front = λ u us h. subst (λ (q : Read Tree). Passes within us q) (e (u ++ us)) (f.front u us h);
   }
 
-  -- where nothing more may be open
+  -- no more parts may be open
   pub zero_colon : (x : List ℕ) (us : List Lexeme)
       →
       Passes within ((Mark Colon) ∷ us) (opened zero ((Mark Colon) ∷ us) (value_at fits zero us >>= λ v. Ok (chosen x v.0, v.1)))

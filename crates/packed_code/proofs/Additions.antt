@@ -101,7 +101,7 @@ or_false : (a b : Bool) → a || b ≡ false → (a ≡ false) × (b ≡ false)
 or_false true b e = absurd (cc)
 or_false false b e = (refl, e)
 
--- where none is present, none is written
+-- if none is present, none is written
 none_written : (ds : List (Addition Bits)) → any_set (c.addition_map ds) ≡ false → c.addition_bits ds ≡ []
 none_written [] e = refl
 none_written (alone (missing k) ∷ ds) e = none_written ds e

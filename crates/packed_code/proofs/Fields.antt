@@ -11,7 +11,7 @@ use Rattle.packed_code.specs.declared.step.PackedStep.{PackedStep}
 use Rattle.packed_code.specs.Routines.{placed_from, place_in, field_at, root_steps, member_steps}
 use Rattle.packed_code.specs.Meaning.{members_of, is_written, bits_at, next_fields, map_bits, any_written, field_bits, steps_bits}
 
--- a component with these bits where it is written
+-- a component with these bits, if it is written
 abbrev pub made : Bool → Component → Bits → Member Bits
 made true c x = standing c x
 made false c x = missing c

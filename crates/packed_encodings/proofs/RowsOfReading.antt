@@ -254,7 +254,7 @@ none_between s t k tags w i is r =
     let p = only_filled s t 0 k (integer (pos 4)) w (false ∷ (true ∷ (true ∷ []))) (replicate 5 false) (96 ∷ []) i (four_bits is) refl r in
     four_excluded (allowed_there (subst (λ v. IsValue s t v) p.1 r.value).shaped is)
 
--- OCTET STRING reads no value from 800101: the number of octets, 1, is in two octets, where one is enough
+-- OCTET STRING reads no value from 800101: the number of octets, 1, is in two octets, although one is enough
 octets_counted : {w : AbstractValue} {b : Bits} → Leaf (an_octet_string any_size) w b → (xs : Items) × Counted xs b
 octets_counted (of_octets {o = o} below (sized e (narrow l m n f g h i j))) = absurd (no_number g)
   where

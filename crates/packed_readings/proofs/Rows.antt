@@ -84,7 +84,7 @@ past_limit = refl
 least_number : reads (an_integer any_number) (16 ∷ 128 ∷ replicate 15 0) ≡ found (integer (negsuc 170141183460469231731687303715884105727)) []
 least_number = refl
 
--- the number of octets has eight bits where seven are enough
+-- the number of octets has eight bits, although seven are enough
 long_length : reads (an_integer any_number) (128 ∷ 1 ∷ 5 ∷ []) ≡ stops why.NotCanonical (octet_bits (128 ∷ 1 ∷ 5 ∷ []))
 long_length = refl
 

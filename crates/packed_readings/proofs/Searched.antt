@@ -1,4 +1,4 @@
--- What is at a place where it was looked for, and what is said of a list by what is left of it.
+-- What is at a place that was looked for, and properties of a list that follow from what is left of it.
 use Rattle.std.proofs.Common.{arith, ◌≡◌, ◌+◌, ◌<◌, ◌≤◌, ℕ, zero, suc, ℤ, Bool, List, [], ◌∷◌, length, get_or, map, drop, inl, inr, refl, sym, subst, ap, ◌∙◌}
 use Rattle.std.specs.Prelude.{◌↔◌, ◌⊎◌, IsTrue}
 use Rattle.asn_base.specs.declared.constraint.Range.{Range as Range'}

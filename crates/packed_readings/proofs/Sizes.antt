@@ -57,7 +57,7 @@ in_order P c l u b e f =
     let m : IsLeast (λ z. P z × IfSome b.root (IsInSome z)) (Some l) = subst (IsLeast (λ z. P z × IfSome b.root (IsInSome z))) e b.least in
     m.1 u g.0
 
--- ---- what is told before items
+-- ---- the bits before items
 
 data IsRootSizing (c : Constraint) : Sizing → Bits → Type 0 where
   narrow_root : (l m n : ℕ)

@@ -1,4 +1,4 @@
--- Where many references lead.
+-- The places to which many references lead.
 use Rattle.std.proofs.Common.{◌≡◌, ◌⊎◌, inl, inr, ℕ, zero, suc, ◌+◌, ◌-◌, ◌<◌, ◌≤◌, List, [], ◌∷◌, ◌++◌, length, get_or, Option, Some, None, refl, sym, ap, ◌∙◌, arith, subst}
 use Rattle.std.specs.Prelude.{slice_get}
 use Rattle.std.proofs.lemmas.Option.{slice_get-get_or}
@@ -51,7 +51,7 @@ split_on : (next : ℕ → Option ℕ) (r n c : ℕ) (o : Option ℕ) →
 split_on next r n c None go e = absurd cc
 split_on next r n c (Some j) go e = go j e
 
--- what is reached in many steps is reached from where the first ones lead
+-- a place that many steps reach is reached from the place that the first steps reach
 split : (next : ℕ → Option ℕ) (r n i c : ℕ) →
     follow next (r + n) i ≡ Some c →
     (b : ℕ) × (follow next r i ≡ Some b) × (follow next n b ≡ Some c)
@@ -61,7 +61,7 @@ split next (suc r) n i c e =
     let s : suc r + n ≡ suc (r + n) = omega arith in
     split_on next r n c (next i) (λ j f. split next r n j c f) (ap (λ k. follow next k i) (sym s) ∙ e)
 
--- what is reached in so many steps comes back
+-- a place that this number of steps reaches comes back to itself
 pub far_back : (next : ℕ → Option ℕ) (n s i c : ℕ) →
     IsWithin next n →
     i < n →

@@ -98,7 +98,7 @@ unknown_read {e = e} {a = a} l r =
 pub nothing_unknown : {s : List Resolved} (known : List Component) (a : State) → length a.outer ≤ 400 → UnknownRead s known false a a
 nothing_unknown known a l = record { count = 0; encodings = []; unknown = closed; few = omega arith; along = stays a a refl refl refl refl; marks = refl; told = sym (append-nil a.told) }
 
--- ---- the components behind the last one that must stand
+-- ---- the components after the last one that must be present
 
 pub need_is : (p : Presence) → may_be_absent (need_of p) ≡ not (elim p [ mandatory ↦ true | optional ↦ false | default d ↦ false | addition o g ↦ false ])
 need_is mandatory = refl

@@ -1,4 +1,4 @@
--- A routine stops in one way, and where it stops it reads no value.
+-- A routine stops in one way, and if it stops it reads no value.
 use Rattle.std.proofs.Common.{arith, Bool, true, false, ◌≡◌, ℕ, ◌≤◌, List, [], ◌++◌, length, refl, sym, ap, subst, length-append}
 use Rattle.std.proofs.lemmas.List.{append-nil}
 use Rattle.std.specs.Prelude.{Option, Some, None}

@@ -30,7 +30,7 @@ pub turn_there : {X Y : Type 0} (f : X → Y) (xs : List X) (zs : List Y) (i : �
     i < length xs → x ≡ get_or xs i x → slice_get zs i ≡ Some (f x)
 turn_there f xs zs i x e l h = ap (λ z. slice_get z i) (sym e) ∙ item_at f xs i x l h
 
--- ---- where an assignment stands
+-- ---- the module of an assignment
 
 one_header : (p : Program) (o o' : ℕ) (M N : Name) (d d' : TagDefault) → o ≡ o' →
     slice_get p.headers o ≡ Some (M, d) → slice_get p.headers o' ≡ Some (N, d') → M ≡ N

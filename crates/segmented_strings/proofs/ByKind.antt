@@ -28,7 +28,7 @@ use Rattle.segmented_strings.specs.Joining.{Tells, IsJoinedAs, Reads, HasFewUnus
 use Rattle.segmented_strings.specs.Texts.{is_text, IsTextRefused, text_memory, text_unsuited}
 use Rattle.segmented_strings.proofs.BitSteps.{counted}
 
--- ---- what is told
+-- ---- the faults
 
 take_front : (s f : List Bool) (n : ℕ) → n ≡ length s → take n (s ++ f) ≡ s
 take_front [] f zero e = refl

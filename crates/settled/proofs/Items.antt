@@ -30,7 +30,7 @@ ascending_distinct (i ∷ is) a = (
   ascending_distinct is a.1,
 )
 
--- items that ascend and whose numbers are among these are no more
+-- items that ascend, and whose numbers are among these, aren't more than these
 no_more_items : (is : List types.Item) (zs : List ℤ) → NumbersAscend is → ((i : types.Item) → IsMember i is → IsMember i.number zs) → length is ≤ length zs
 no_more_items is zs a f =
     let l = no_more (map (λ (i : types.Item). i.number) is) zs (ascending_distinct is a)

@@ -84,7 +84,7 @@ value_member f [] x m = elim m [ ]
 value_member f (y ∷ xs) x is_first = is_first
 value_member f (y ∷ xs) x (is_later m) = is_later (value_member f xs x m)
 
--- ---- members that are distinct are no more than those among which they are
+-- ---- distinct members aren't more than those among which they are
 
 -- the list without the member
 abbrev without : {A : Type 0} (x : A) (ys : List A) → IsMember x ys → List A
@@ -112,7 +112,7 @@ no_more (x ∷ xs) ys d f =
     let b = one_less x ys m in
     omega (arith, a, b)
 
--- ---- two lists behind each other
+-- ---- two lists, one after the other
 
 pub in_front : {A : Type 0} (xs ys : List A) (n : ℕ) (x : A) → n < length xs → slice_get (xs ++ ys) n ≡ Some x → slice_get xs n ≡ Some x
 in_front [] ys n x l e = absurd (omega (arith, l))

@@ -24,7 +24,7 @@ use Rattle.schema_of.specs.SchemaOf.{IsPresenceOf, is_mandatory, is_optional, ha
 use Rattle.settled.proofs.Lists.{place_of, of_back, all_members, value_of, less_or_more, none_twice}
 use Rattle.settled.proofs.Written.{written_component}
 
--- ---- where a component stands
+-- ---- the place of a component
 
 abbrev added : Presence → Bool
 added q = adds (record { name = []; type = 0; presence = q })

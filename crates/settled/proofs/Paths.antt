@@ -63,7 +63,7 @@ same_tags (g ∷ gs) (h ∷ hs) e =
     let y = same_tags gs hs r in
     cc
 
--- ---- what stands
+-- ---- tags that are encoded
 
 pub none_stands : (p : Path) → [] ≡ standing p → p ≡ []
 none_stands [] e = refl

@@ -46,7 +46,7 @@ written_alternative (suc n) a (root_and f h hs) e = let r = written_alternative 
 written_alternative zero a (addition_and {c} {a = b} g f h hs) e = record { part = c; there = refl; alike = subst (λ z. IsAlternativeOf c z) (same_Some b a e) h }
 written_alternative (suc n) a (addition_and g f h hs) e = let r = written_alternative n a hs e in record { part = r.part; there = r.there; alike = r.alike }
 
--- ---- what stands in a type
+-- ---- the types in a type
 
 member_type : {p : Program} {M : Name} {l : ListKind} {m : Bool} {cs : List Part} (ds : List Component) (u : ℕ) →
     AreComponentsOf p M cs ds → IsMember u (map (λ d. d.type) ds) → IsPart u (members l m cs)

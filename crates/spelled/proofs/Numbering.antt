@@ -42,7 +42,7 @@ assignments_spelled (m ∷ ms) h =
     all_joined IsSpelledAssignment m.assignments (all_assignments ms) (All-head IsSpelledModule m ms h)
     (assignments_spelled ms (All-tail IsSpelledModule m ms h))
 
--- ---- the types that stand in them
+-- ---- the types in them
 
 abbrev mutual
   -- how many types are in a type, itself included
@@ -60,7 +60,7 @@ abbrev mutual
   members_size no_member = zero
   members_size (member_and x t o g ms) = size t + members_size ms
 
--- where types of at least this size are spelled
+-- types of at least this size are spelled by the rules
 abbrev IsSpelledFrom : ℕ → Source → Type 0
 IsSpelledFrom n s = n ≤ size s.tree → IsSpelledSource s
 

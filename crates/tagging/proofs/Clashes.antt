@@ -279,7 +279,7 @@ clash_met ts k cs vs q us keys x col l e f b h =
       },
     )
 
--- where all members are clear the list is distinct
+-- if all members are clear, the list is distinct
 pub distinct_all : (ts : List Type') (k : ListKind) (cs : List Part) (n : ℕ) → length cs ≤ n →
     ((p : ℕ) → IsClear ts k cs p n) → Distinct ts k cs
 distinct_all ts k cs n l all p q c d m e f t = let w = slice_get_within cs q d f in all p q c d m (omega (arith, w, l)) e f t

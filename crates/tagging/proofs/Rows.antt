@@ -316,7 +316,7 @@ mixed_refused = record {
     none_bears (suc zero) c e f g = let s : addition 2 mandatory None ≡ c = cc in let h = subst (λ x. is_addition x.standing ≡ false) (sym s) f in absurd cc
     none_bears (suc (suc n)) c e f g = absurd cc
 
--- where a member of the root bears a tag too, the list is not tagged automatically, and is no such list
+-- if a member of the root bears a tag too, the list isn't tagged automatically, and breaks no rule
 abbrev both_bear : List Part
 both_bear = part 1 mandatory ∷ addition 2 mandatory None ∷ []
 

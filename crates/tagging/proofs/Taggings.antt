@@ -67,7 +67,7 @@ pub inside_table : (ts : List Type') (i j : ℕ) (t : Tag) (w : Keyword) (d : Ta
     IsLinked ts → Is ts i (tagged t w j) d p → j < length ts
 inside_table ts i j t w d p k h = k.closed i j (ap behind_of h.found)
 
--- where each type breaks no rule, the table is tagged
+-- if each type breaks no rule, the table is tagged
 below : {X : Type 0} (xs : List X) (i : ℕ) (x : X) → slice_get xs i ≡ Some x → i < length xs
 below [] i x e = absurd cc
 below (y ∷ ys) zero x e = omega arith

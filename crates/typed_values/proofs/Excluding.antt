@@ -432,7 +432,7 @@ module _ (p : Program) (s : IsKept p) (one : OneValue) (none_wrong : NoneWrong) 
           let kinds = one_kind p.types i j k x is in
           value_left p o.levels i o.within (subst (λ (u : Kind). NotationOf p ps K u l v) kinds z) q o.value
 
-  -- ---- where it stands
+  -- ---- the place of the fault
 
   level_of : {m i : ℕ} {k : Kind} {v : AbstractValue} (o : HasValueOf (suc m) i k v) →
       ValueOf p (Allows p) (AllowsCode p) m i o.within k v

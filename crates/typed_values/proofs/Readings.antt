@@ -387,7 +387,7 @@ placed k cs fs ps a = record { placed = a.placed; may = λ i c e f. may i c e f 
         absurd (a.complete c.name
         (record { part = c; there = (i, e); named = refl; needed = q; none = place_none c.name fs none }))
 
--- the place of a component's field, and that it may be absent where it has none
+-- the place of a component's field, and that the component may be absent if it has no place
 pub place_at : (cs : List Part) (fs : List Name) (ps : List (Option ℕ)) (i : ℕ) (c : Part) (d : Option ℕ) → ArePlaced cs fs ps →
     slice_get cs i ≡ Some c → i < length ps →
     (get_or ps i d ≡ place_of c.name fs) × (get_or ps i d ≡ None → may_be_absent c ≡ true)
@@ -423,7 +423,7 @@ has_room levels left a b cause.Outside = (a, b)
 more_than_none : (n : ℕ) → suc n ≡ 0 → ⊥
 more_than_none n e = omega (arith, e)
 
--- a fault that is the notation's own, where a level and a node are left
+-- a fault of the notation itself, with a level and a node left
 pub room_fault : {p : Program} {levels left : ℕ} {os : List ℕ} {M : Name} {i : ℕ} {n : Tree} (f : ValueFault) →
     f.at.within.now ≡ M → f.at.ty.index ≡ i → tree_of f.at.notation.now ≡ n →
     (levels ≡ 0 → ⊥) → (left ≡ 0 → ⊥) →

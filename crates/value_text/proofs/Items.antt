@@ -1,4 +1,4 @@
--- The item that has a number, where items ascend.
+-- The item that has a number, if items ascend.
 use Rattle.std.proofs.Common.{arith, ◌≡◌, ℕ, zero, suc, ◌<◌, Bool, true, false, List, [], ◌∷◌, ◌++◌, length, map, inl, inr, refl, sym, ap, subst, ◌∙◌, get_or, Some, None, string_bytes}
 use Rattle.std.specs.Prelude.{ℤ, ◌<ℤ◌, if◌then◌else◌}
 use Rattle.std.specs.List.{AllByRecursion}

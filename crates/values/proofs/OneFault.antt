@@ -24,7 +24,7 @@ neither i j l m = elim (less_or_more i j) [
   ]
 ]
 
--- ---- what a fault tells of all names
+-- ---- what a fault says of all names
 
 strange_known : {k : ListKind} {cs : List Part} {fs : List Name} {x : Name} →
     IsDisarranged k cs fs (unknown_item x) → AreIn fs (part_names cs) → ⊥
@@ -70,7 +70,7 @@ behind_there {z = z} (jumbled a d m n h b o) (lacking e f g) = m z g
 behind_there {z = z} (jumbled a d m n h b o) (lacking_in_group e f g) = n z g
 
 module _ (k : ListKind) (cs : List Part) (fs : List Name) where
-  -- ---- of two faults of a kind neither stands before the other
+  -- ---- of two faults of a kind neither is before the other
 
   wrong_later : (i j : ℕ) → IsWrongField k cs fs i → IsWrongField k cs fs j → i < j → ⊥
   wrong_later i j a b l = strange_name a.wrong (b.known_before a.name (i, to_front fs j i a.name l a.there))

@@ -15,7 +15,7 @@ use Rattle.version_laws.proofs.Beside.{members_are, later_within, types, AreAddi
 pub nothing : {A : Type 0} {x : A} → None ≡ Some x → ⊥
 nothing e = cc
 
--- ---- what stands at a place
+-- ---- what is at a place
 
 pub there : {A : Type 0} (xs : List A) (i : ℕ) → i < length xs → (x : A) × (slice_get xs i ≡ Some x)
 there [] i l = absurd (omega arith)

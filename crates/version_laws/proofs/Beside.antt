@@ -81,7 +81,7 @@ all_member P [] a m = elim m [ ]
 all_member P (y ∷ ys) a is_first = a.0
 all_member P (y ∷ ys) a (is_later m) = all_member P ys a.1 m
 
--- ---- what must stand
+-- ---- what must be present
 
 abbrev need : Presence → Bool
 need p = elim p [ mandatory ↦ true | optional ↦ false | default d ↦ false | addition o g ↦ false ]

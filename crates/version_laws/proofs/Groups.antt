@@ -9,7 +9,7 @@ use Rattle.version_laws.specs.Widened.{all_absent, widened_row}
 use Rattle.version_laws.proofs.Beside.{types, Beside, appended, beside}
 use Rattle.version_laws.proofs.Apart.{nothing}
 
--- ---- what stands at a place of a row
+-- ---- what is at a place of a row
 
 abbrev IsPresentAt : Row → ℕ → Type 0
 IsPresentAt end i = ⊥

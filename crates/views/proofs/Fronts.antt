@@ -147,7 +147,7 @@ none_left s ns at left l h = by left (sym (ap (nodes_of s) (drop_all at ns h)) �
         none : (xs ys : List Node) (x : Node) → [] ≡ (x ∷ xs) ++ ys → ⊥
         none xs ys x e = cc
 
--- ---- the first node of a tree tells what it is
+-- ---- the first node of a tree determines its kind
 
 -- the node at the front
 pub front_is : (s : Beside) (ns : List Node') (k : ℕ) (t : Tree) (n : Node') → Spell s ns k t → n ≡ get_or ns 0 n → node_of s n ∷ nodes_of s (drop 1 ns) ≡ nodes k t
@@ -202,7 +202,7 @@ next_of s ns at n left end l h is e =
       behind = left_behind s ns at n left end l f e;
     }
 
--- ---- what is told is inverted
+-- ---- the tree of each kind of node
 
 pub told_fields : (s : Beside) (below : List Node') (w : Told) (t : Tree) (size e : ℕ) → TellsOf s below w t → w ≡ some_fields size e → (ms : Members) × SpellMembers s below ms × (t ≡ fields size ms)
 told_fields s below w t size e tells_leaf f = absurd (cc)

@@ -142,7 +142,7 @@ closed_nodes h ms t k e (closes_alternative {i = i} {t = u}) l =
     ap (λ q. node k (with_extent (told_open (open_alternative i)) q) ∷ member_nodes ms) l
     ∙ ap (λ q. node k (with_extent (told_open (open_alternative i)) (length q + 1)) ∷ q) (append-nil (nodes 0 u))
 
--- the nodes where one is open
+-- the nodes if one is open
 split_nodes : (s : Beside) (ns : List Node') (b : Building) (w : Waiting) (ws : List Waiting)
     → nodes_of s ns ≡ built_nodes b
     → b.waits ≡ w ∷ ws

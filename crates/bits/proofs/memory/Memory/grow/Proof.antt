@@ -1,4 +1,4 @@
--- The heap is asked for a larger block. It keeps the words, also where the block moves.
+-- The heap is asked for a larger block. The block keeps the words, even if it moves.
 use Rattle.bits.specs.contracts.memory.Memory as memory
 use Rattle.bits.specs.contracts.memory.Memory.grow as f
 use Rattle.bits.proofs.memory.Memory.grow.Statement.{statement}
