@@ -140,8 +140,9 @@ fn measure(rows: &[Row], members: usize, set: &Places) -> Measured
     }
 }
 
-/// Whether the ends of places are known to be right, before the members at these places are checked. None if the check
-/// already fails: the members have another number of octets, or the places aren't those of this number of members.
+/// Whether the ends of places are known to be right, before the members at these places are checked. The result is None
+/// if the check already fails: the members have another number of octets, or the places aren't those of this number of
+/// members.
 pub(crate) fn are_known(
     asked: Asked,
     order: Order,

@@ -166,7 +166,7 @@ pub(crate) fn has_count(asked: Asked, contents: u32, octets: u128) -> bool
     }
 }
 
-/// The place after a member. `before` members are before that place's start.
+/// The place after a member that begins at `place`. `before` members come before it.
 pub(crate) fn further(place: u128, size: Option<u64>, before: usize) -> u128
     requires { place ≤ 18446744073709551615 * before }
     ensures is { result ≡ place + size_or size }

@@ -189,7 +189,7 @@ impl Kit {
 
     /// Returns the text of the account that [`Kit::der`] returns, in JSON without white space.
     ///
-    /// `NoType`, `NoValue`, `Value`, `TooLong` and `Memory` as for [`Kit::der`].
+    /// `NoType`, `NoValue`, `Value`, `TooLong` and `Memory` come as for [`Kit::der`].
     pub fn account(&self, alloc: Global, ty: &str, value: &str) -> Result<String, Fault>
         // The text is that of the account of the only DER encoding.
         ensures told { IfOk result (λ s.
@@ -209,8 +209,8 @@ impl Kit {
 
     /// Writes the octets that [`Kit::der`] returns to a sink, one octet after the other, and returns their account.
     ///
-    /// `NoType`, `NoValue`, `Value`, `TooLong` and `Memory` as for [`Kit::der`], before the first octet. `Device`: one
-    /// call of the sink failed, which isn't tried again; the fault has the number of octets that went out before.
+    /// `NoType`, `NoValue`, `Value`, `TooLong` and `Memory` come as for [`Kit::der`], before the first octet. `Device`:
+    /// one call of the sink failed, which isn't tried again; the fault has the number of octets that went out before.
     pub fn der_to<S: Sink>(
         &self,
         alloc: Global,
@@ -306,7 +306,8 @@ impl Kit {
     }
 
     /// Finds the type of a name, written as `Module.Name`, by the module that assigns or imports it (X.680, clause
-    /// 14.1). None if no type has this name. The number is that of the type for the other calls of this kit.
+    /// 14.1). The result is None if no type has this name. The number is that of the type for the other calls of this
+    /// kit.
     pub fn type_named(&self, name: &str) -> Option<TypeId>
         // The type has this name. After None the kit has no type of this name.
         ensures named { MatchOption result

@@ -218,7 +218,7 @@ pub(crate) fn first_step(steps: &[Step]) -> Option<(Step, &[Step])>
 }
 
 /// The header and the kind of contents of a type with one tag whose values hold no others. Its routine has three steps:
-/// a header, contents and the end. None for another routine.
+/// a header, contents and the end. The result is None for another routine.
 #[inline(always)]
 pub(crate) fn leaf_of(code: &Code, id: TypeId) -> Option<(Head, LeafKind)>
     ensures steps { IfSome result (λ p. routine_at code.now id.index ≡ HeadStep p.0 ∷ Leaf p.1 ∷ End ∷ []) }
@@ -231,7 +231,7 @@ pub(crate) fn leaf_of(code: &Code, id: TypeId) -> Option<(Head, LeafKind)>
 }
 
 /// The header and the kind of contents, if the steps are those of a type with one tag whose values hold no others.
-/// These are a header, contents and the end. None for other steps.
+/// These are a header, contents and the end. The result is None for other steps.
 pub(crate) fn leaf_routine(steps: &[Step]) -> Option<(Head, LeafKind)>
     ensures steps { IfSome result (λ p. steps.now ≡ HeadStep p.0 ∷ Leaf p.1 ∷ End ∷ []) }
     ensures row { IfSome result (λ p. p.0.row ≡ LeafRow) }

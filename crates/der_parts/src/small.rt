@@ -19,8 +19,8 @@ pub struct Small {
     pub octets: [u8; 23],
 }
 
-/// The header with the fewest octets and the contents after it, as one part. None if they have too many octets, or if
-/// the contents are in several pieces.
+/// The header with the fewest octets and the contents after it, as one part. The result is None if they have too many
+/// octets, or if the contents are in several pieces.
 pub fn small_part(tag: Tag, constructed: bool, octets: &LeafOctets) -> Option<Small>
     ensures held { IfSome result (λ s. held s
         ≡ shortest_header tag constructed (length (joined_pieces octets.now)) ++ joined_pieces octets.now) }
@@ -35,8 +35,8 @@ pub fn small_part(tag: Tag, constructed: bool, octets: &LeafOctets) -> Option<Sm
     }
 }
 
-/// The header with the fewest octets and one contents octet after it, as one part. None if the header has more than two
-/// octets.
+/// The header with the fewest octets and one contents octet after it, as one part. The result is None if the header has
+/// more than two octets.
 pub fn small_octet(tag: Tag, constructed: bool, octet: u8) -> Option<Small>
     ensures { IfSome result (λ s. held s ≡ shortest_header tag constructed 1 ++ octet ∷ []) }
 {

@@ -14,8 +14,7 @@ use asn_base::schema::{Resolved, TypeId};
 use constraints::Bounded;
 use std::alloc::{AllocError, Global};
 
-/// The numbers of types that are made already. For each number of a constraint's remaining values it has the first type
-/// with that number.
+/// For each number of a limit, the first type that is made already and whose constraints leave that limit.
 #[derive(Drop)]
 struct Firsts {
     numbers: Vec<Option<usize>>,

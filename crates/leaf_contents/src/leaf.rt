@@ -34,8 +34,9 @@ pub enum LeafOctets<'a> {
     Arcs(u128, &'a [u64]),
 }
 
-/// The contents octets of this kind for the value (X.690, 8.2 to 8.8, 8.19, 8.20, 8.23, 10 and 11). None if the value
-/// is of another kind, or if its numbers aren't those of an OBJECT IDENTIFIER or RELATIVE-OID. It takes no memory.
+/// The contents octets of this kind for the value (X.690, 8.2 to 8.8, 8.19, 8.20, 8.23, 10 and 11). The result is None
+/// if the value is of another kind, or if its numbers aren't those of an OBJECT IDENTIFIER or RELATIVE-OID. It takes no
+/// memory.
 pub fn leaf_octets(kind: LeafKind, value: &Value) -> Option<LeafOctets<'_>>
     ensures { MatchOption result
         (HasNone kind (abstract value.now))
@@ -56,7 +57,8 @@ pub fn leaf_octets(kind: LeafKind, value: &Value) -> Option<LeafOctets<'_>>
     }
 }
 
-/// The contents octet of a BOOLEAN, or of an INTEGER or ENUMERATED that has only one octet. None for all other values.
+/// The contents octet of a BOOLEAN, or of an INTEGER or ENUMERATED that has only one octet. The result is None for all
+/// other values.
 pub fn leaf_octet(kind: LeafKind, value: &Value) -> Option<u8>
     ensures { IfSome result (λ o. HasContents kind (abstract value.now) (o ∷ [])) }
 {

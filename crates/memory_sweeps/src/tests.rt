@@ -23,7 +23,8 @@ pub trait Starved {
     fn answers(&mut self, alloc: Global, turn: usize) -> Result<bool, Fail>;
 }
 
-/// How often an allocation failed, and how often the call gave the answer, in all turns. None if memory has no end.
+/// How often an allocation failed, and how often the call gave the answer, in all turns. The result is None if memory
+/// has no end.
 fn sweep<S: Starved>(alloc: Global, starved: &mut S) -> Result<Option<(usize, usize)>, Fail> {
     let mut hog = Hog::new(alloc, TURNS)?;
     if !hog.has_all() {

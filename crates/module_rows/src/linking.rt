@@ -49,8 +49,8 @@ fn member_type(linked: &Linked, list: TypeId, name: &str) -> Option<TypeId> {
     }
 }
 
-/// The type with the name `Module.Type`, or its member with the name `Module.Type.member`. None if there is no such
-/// name.
+/// The type with the name `Module.Type`, or its member with the name `Module.Type.member`. The result is None if there
+/// is no such name.
 pub fn type_at(linked: &Linked, path: &str) -> Option<TypeId> {
     let (within, rest) = path.split_once('.')?;
     let (name, member) = match rest.split_once('.') {

@@ -77,7 +77,7 @@ fn circle(alloc: Global, count: usize, more: &str) -> Result<Vec<u8>, AllocError
     Ok(out.into_bytes())
 }
 
-/// The program of such a module, with its first type. None if an allocation fails.
+/// The program of such a module, with its first type. The result is None if an allocation fails.
 fn opened(alloc: Global, count: usize, more: &str) -> Option<(Front, TypeId)> {
     let text = circle(alloc, count, more).ok()?;
     let front = open(alloc, slice::from_ref(&text)).ok()?;
@@ -85,8 +85,8 @@ fn opened(alloc: Global, count: usize, more: &str) -> Option<(Front, TypeId)> {
     Some((front, first))
 }
 
-/// Writes the time of a comparison of two circles of lists. Each list of the second circle has an addition more, so the
-/// first type is a later version of that of the first circle.
+/// Writes the time of a comparison of two circles of lists. Each list of the second circle has an addition more, so its
+/// first type is a later version of the first type of the first circle.
 fn measure_later(rt: &HostRuntime, name: &str, count: usize, later_count: usize) -> io::Result<()> {
     let first = opened(rt.alloc(), count, "");
     let second = opened(rt.alloc(), later_count, ", c NULL");

@@ -16,8 +16,8 @@ use bits::buffer::BitBuf;
 use packed_code::{PackedCode, PackedField, PackedStep};
 use std::alloc::AllocError;
 
-/// The value of a component that is encoded, which is present and not the same as its DEFAULT (X.691, 19.5). None for a
-/// component that isn't encoded.
+/// The value of a component that is encoded, which is present and not the same as its DEFAULT (X.691, 19.5). The result
+/// is None for a component that isn't encoded.
 pub(crate) fn written<'a>(
     code: &PackedCode,
     typed: Typed<'a>,
@@ -171,8 +171,8 @@ fn is_field_written(code: &PackedCode, typed: Typed<'_>, step: PackedStep) -> bo
     }
 }
 
-/// Whether the addition of the first step is encoded, which is a component by itself or a group. None if the first step
-/// isn't that of an addition.
+/// Whether the addition of the first step is encoded, which is a component by itself or a group. The result is None if
+/// the first step isn't that of an addition.
 fn addition(code: &PackedCode, typed: Typed<'_>, steps: &[PackedStep]) -> Option<bool>
     requires value { IsIn code.now typed }
     requires fields { FieldsFit code.now typed.id.index steps.now }

@@ -96,7 +96,8 @@ fn circular_at(
 
 impl Linked {
     /// The meaning of a name in a module (X.680, clause 13): what the module assigns to it, or what the name means in
-    /// the module that it is imported from. None if there is no such module, or if the name has no meaning in it.
+    /// the module that it is imported from. The result is None if there is no such module, or if the name has no
+    /// meaning in it.
     pub fn find(&self, within: &str, name: &str) -> Option<Referent<'_>>
         ensures { Finds self.now within.now name.now result }
     {

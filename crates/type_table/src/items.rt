@@ -130,7 +130,8 @@ fn above(number: i128) -> u128
     if number < 0 { 0 } else { number as u128 + 1 }
 }
 
-/// The written number, or else the least number from `from` on that isn't in the set. None if that is 2^127 or greater.
+/// The written number, or else the least number from `from` on that isn't in the set. The result is None if that is
+/// 2^127 or greater.
 fn number_or_free(used: &BTreeSet<i128>, from: u128, written: Option<i128>) -> Option<i128>
     requires within { AreWithinLimit used.now.keys }
     requires small { from ≤ 2 ^ 127 }

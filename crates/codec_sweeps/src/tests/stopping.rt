@@ -104,7 +104,8 @@ impl Write for FailsOnce {
 }
 
 /// Whether a value is encoded as it should be to a writer whose call with this number fails. There must be no later
-/// call, and the fault must have the exact number of octets. None if the value was complete before that call.
+/// call, and the fault must have the exact number of octets. The result is None if the value was complete before that
+/// call.
 fn fails_once(
     alloc: Global,
     code: &Code,

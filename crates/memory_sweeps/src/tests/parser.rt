@@ -31,7 +31,7 @@ enum Part {
 }
 
 /// How many tokens a part of a text takes after the text is cut into tokens. For a module it is how many assignments it
-/// has. None if an allocation fails.
+/// has. The result is None if an allocation fails.
 fn taken(alloc: Global, part: Part, text: &[u8]) -> Result<Option<usize>, Fail> {
     let tokens = match lex(alloc, text) {
         Ok(tokens) => tokens,
