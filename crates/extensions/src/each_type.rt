@@ -14,7 +14,7 @@ use asn_base::schema::{Resolved, TypeId};
 use constraints::Bounded;
 use std::alloc::{AllocError, Global};
 
-/// For each number of a limit, the first type that is made already and whose constraints leave that limit.
+/// For each number that `Bounded::limit_number` gives, the first type with that number that is made already.
 #[derive(Drop)]
 struct Firsts {
     numbers: Vec<Option<usize>>,
