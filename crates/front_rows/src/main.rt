@@ -16,8 +16,9 @@
 //! `\xNN`.
 //!
 //! Trees are written in a notation in which different trees look different. `numbers{1 2}`, `items{1, 2}` and
-//! `fields{a = 1, b = 2}` are values in braces. A text is between back quotes, and two quotes in it mean one. `<..>`
-//! encloses a type with the constraints after it. Sizes and alphabets are `(SIZE 1..2)` and ``(FROM `a`..`z`)``.
+//! `fields{a = 1, b = 2}` are values in braces. A text is between back quotes, and a doubled quote of the notation is
+//! written once. `<..>` encloses a type with the constraints after it. Sizes and alphabets are `(SIZE 1..2)` and
+//! ``(FROM `a`..`z`)``.
 //!
 //! A list or an enumeration with an extension marker has `...` after its word or after its root items. A member after
 //! the marker has `+` before it, and one in version brackets `+` and the number of the brackets.
