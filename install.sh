@@ -16,7 +16,7 @@ top=$(cd "$(dirname "$(readlink -f "${BASH_SOURCE[0]}")")" && pwd)
 prefix=$1
 folders=(bin share/man/man1 share/bash-completion/completions share/zsh/site-functions)
 
-# check_prefix: stops before anything is built where a folder of PREFIX can't be written.
+# check_prefix: stops before anything is built if a folder of PREFIX can't be written.
 check_prefix() {
   local folder trial
   for folder in "${folders[@]}"; do

@@ -1,10 +1,12 @@
 #!/usr/bin/env bash
-# Says how long the program takes to open modules of growing size, ordinary ones and those that cost a careless front end
-# more than their length: the least processor time of five runs each, in milliseconds, and the most memory that one more run
-# had resident, in megabytes (where /usr/bin/time tells it). Both grow as the text does. Where the program bound_bench is built, it says too how long constraints take, one of 60,000 numbers among them, in microseconds, and how long
-# the notation of a long value takes to be typed, and its value to be printed: one run each, in milliseconds. Where
-# module_rows is built, it says how long modules full of types, values and DEFAULTs take to be opened and to be settled, and
-# how long two of their types take to be compared: one run each, in milliseconds.
+# Prints how long the program takes to open modules of growing size. Some are ordinary ones, and some cost a careless
+# front end more than their length. The time is the least processor time of five runs, in milliseconds. The memory is
+# the most that one more run had resident, in megabytes, if /usr/bin/time can measure it. Both grow in line with the
+# text. If the program bound_bench is built, this prints how long constraints take, in microseconds, among them one of
+# 60,000 numbers. It also prints how long it takes to type the notation of a long value and to print its value, in
+# milliseconds, for one run each. If module_rows is built, this prints how long it takes to open and to settle modules
+# full of types, values and DEFAULTs. It also prints how long it takes to compare two of their types. Each is one run,
+# in milliseconds.
 set -euo pipefail
 
 if [[ $# -eq 1 && ($1 == --help || $1 == -h) ]]; then
@@ -176,12 +178,12 @@ endless() {
   awk -v n="$1" 'BEGIN { for (i = 0; i < n * 1000; i++) print "Type" i " ::= INTEGER" }'
 }
 
-# long_name N: a name of N million letters, where none can stand.
+# long_name N: a name of N million letters, at a place where no name may be.
 long_name() {
   awk -v n="$1" 'BEGIN { printf "M DEFINITIONS ::= BEGIN "; for (i = 0; i < n * 1000; i++) printf "%01000d", 0 }' | tr 0 a
 }
 
-# resident: the most memory that the program had resident over the file, in megabytes; nothing where no tool tells it.
+# resident: the most memory that the program had resident for the file, in megabytes, or nothing without a tool for it.
 resident() {
   [[ -x /usr/bin/time ]] || return 0
   /usr/bin/time -f ' %M' -o "$most" "$program" der --type M.Record1 --value M.v "$file" >/dev/null 2>&1 || true
@@ -250,7 +252,7 @@ settlings() {
     { tell("opened " $1, $2, $3); tell("settled " $1, $2, $4) }'
 }
 
-# Types are settled and compared by a program of their own too: modules of 2,048 and of 4,096 types, and all that fit in.
+# A program of its own settles and compares types too: modules of 2,048 and of 4,096 types, and as many as fit.
 rows=$here/crates/module_rows
 if [[ -x $rows/out/module_rows ]]; then
   { "$rows/out/module_rows" "$rows/data/speed.rows" >/dev/null; } 2>&1 | settlings

@@ -1,5 +1,5 @@
 #!/usr/bin/env bash
-# release.sh FILE.tar.gz: packs what install.sh installs, and the licence, for machines that have the C library alone.
+# release.sh FILE.tar.gz: packs what install.sh installs, and the licence, for machines that have only the C library.
 set -euo pipefail
 
 usage="usage: release.sh FILE.tar.gz   (builds the programs where that is due, packs them, man pages and completions)"
@@ -14,7 +14,7 @@ fi
 top=$(cd "$(dirname "$(readlink -f "${BASH_SOURCE[0]}")")" && pwd)
 archive=$1
 
-# check_archive: stops before anything is built where the archive can't be written.
+# check_archive: stops before anything is built if the archive can't be written.
 check_archive() {
   if ! new=$(mktemp "$archive.XXXXXX"); then
     printf '%s\n' "release.sh: $archive can not be written" >&2
@@ -22,12 +22,12 @@ check_archive() {
   fi
 }
 
-# needed PROGRAM: the libraries that a program asks for, one a line.
+# needed PROGRAM: the libraries that a program needs, one in each line.
 needed() {
   readelf -d -- "$1" | sed -n 's/.*(NEEDED).*\[\(.*\)\].*/\1/p'
 }
 
-# check_program PROGRAM: stops where a program asks for more than the C library.
+# check_program PROGRAM: stops if a program needs more than the C library.
 check_program() {
   local libraries library
   libraries=$(needed "$1")
@@ -42,7 +42,7 @@ check_program() {
   done
 }
 
-# clean: takes away what was made on the way.
+# clean: removes what was made on the way.
 clean() {
   rm -rf -- "${work:-}" "${new:-}"
 }

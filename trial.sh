@@ -1,6 +1,7 @@
 #!/usr/bin/env bash
-# Tries the wrong bodies of crates/NAME/trial, which the prover must refuse, each in its own function: many in one check,
-# on a copy of the crate outside this folder. Run `rt check` in a crate first: what it has proved is used again.
+# Tries the wrong bodies of crates/NAME/trial, each in its own function, which the prover must refuse. It tries many of
+# them in one check, on a copy of the crate outside this folder. Run `rt check` in a crate first: what it has proved is
+# used again.
 set -euo pipefail
 export LC_ALL=C
 
@@ -33,7 +34,7 @@ say() {
   printf '%s\n' "trial: $*" >&2
 }
 
-# below CRATE: the repository's libraries that a crate stands on.
+# below CRATE: the libraries of the repository that a crate needs.
 below() {
   awk -v crate="$1" '
     { sub(/#.*/, ""); if (split($0, part, ":") == 2) { split(part[1], name, " "); uses[name[1]] = part[2] } }
@@ -63,7 +64,7 @@ copy() {
   done
 }
 
-# furnish CRATE: makes the room a repository of this crate and those that it stands on. What is there already stays.
+# furnish CRATE: makes the room a repository of this crate and of those that it needs. What is there already stays.
 furnish() {
   local crate low
   low=$(below "$1")
@@ -75,13 +76,13 @@ furnish() {
     "$top/crates.txt" >"$room/crates.txt"
 }
 
-# prove CRATE: checks the crate as it stands in the room, and answers the last word of the verdict.
+# prove CRATE: checks the crate in the room, and prints the last word of the verdict.
 prove() {
   (cd "$room/crates/$1" && rt check --jobs "$jobs") >"$log" 2>&1 || true
   verdict=$(sed -n 's/^logic=\([a-z-]*\).*/\1/p' "$log" | tail -n 1)
 }
 
-# swap FILE OLD NEW: puts NEW in the place of OLD, which stands there once; \n in them stands for a line's end.
+# swap FILE OLD NEW: replaces OLD, which must be there once, by NEW. \n in them means a line end.
 swap() {
   [[ -f $1 ]] || return 1
   OLD=${2//\\n/$'\n'} NEW=${3//\\n/$'\n'} awk '
@@ -100,8 +101,8 @@ swap() {
   return 1
 }
 
-# apply EDIT: makes the changes of an edit in the copy of its crate. A line 'found:', which says what the edit found, and a
-# line 'with:' change nothing.
+# apply EDIT: makes the changes of an edit in the copy of its crate. A line 'found:', which says what the edit found,
+# and a line 'with:' change nothing.
 apply() {
   local line file='' old=''
   while IFS= read -r line || [[ -n $line ]]; do
@@ -131,8 +132,8 @@ places() {
   done <"$folder/$1"
 }
 
-# function_at FILE LINE: the whole name of the function that stands there, and the cycle of functions that it is in or -;
-# nothing where no function stands.
+# function_at FILE LINE: the whole name of the function at this line, and the cycle of functions that it is in, or -. It
+# prints nothing if there is no function at this line.
 function_at() {
   local module=${1#src/} found cycle type name names
   module=${module%.rt}
@@ -255,8 +256,9 @@ judge_alone() {
   fi
 }
 
-# judge EDIT: what a check with several edits says of this one. What it doesn't settle is tried again: alone where its
-# function was proved, or where the crate wasn't read to the end and a file that the edit changes is told of.
+# judge EDIT: what a check with several edits says of this one. What it doesn't settle is tried again alone. That is the
+# case if its function was proved, or if the crate wasn't read to the end and the check names a file that the edit
+# changes.
 judge() {
   local function file line
   for function in ${functions[$1]}; do
@@ -348,7 +350,7 @@ try_round() {
   done
 }
 
-# try_above EDIT: tries an edit that has a line "with: CRATE" by a check of that crate, which stands on the edited one.
+# try_above EDIT: tries an edit that has a line "with: CRATE" by a check of that crate, which needs the edited one.
 try_above() {
   local upper began=$SECONDS
   upper=$(sed -n 's/^with: //p' "$folder/$1")

@@ -1,6 +1,6 @@
-# bash completion of asnc: its subcommands, its words, and the names of files. It asks nothing of the program.
+# bash completion of asnc: its subcommands, its words, and the names of files. It doesn't run the program.
 
-# _asnc: what can stand at the place of the cursor.
+# _asnc: the words that can be at the place of the cursor.
 _asnc() {
   local current=${COMP_WORDS[COMP_CWORD]}
   local before=${COMP_WORDS[COMP_CWORD - 1]}

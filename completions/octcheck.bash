@@ -1,6 +1,6 @@
-# bash completion of octcheck: its words, and the names of files. It asks nothing of the program.
+# bash completion of octcheck: its words, and the names of files. It doesn't run the program.
 
-# _octcheck: what can stand at the place of the cursor.
+# _octcheck: the words that can be at the place of the cursor.
 _octcheck() {
   local current=${COMP_WORDS[COMP_CWORD]}
   local before=${COMP_WORDS[COMP_CWORD - 1]}

@@ -102,7 +102,7 @@ tag_within only {s} {q} {t} {c} {k} {v} {o} {x} {z} {i} h w = subst (λ r. Insid
 
 -- ---- within a header, kind by kind
 
--- what stands in rows that a header of this kind has
+-- what is in the rows of a header of this kind
 pub choice_within : {s : List Resolved} {q : Asked} {k : Kind} {v : AbstractValue} {n : ℕ} {x : List ℕ} {b : Account} {e : Bool} {root more : List Alternative} → k ≡ a_choice root e more → Where q.numbers (n ≡ octets_told b) → ChoiceFollows s q (root ++ more) v x b → InsideFollows s q k v n x (wrap_row b)
 choice_within {s} {q} {k} {v} {n} {x} {b} {e} {root} {more} f h d = subst (λ w. InsideFollows s q w v n x (wrap_row b)) (sym f) (subst (λ w. InsideFollows s q (a_choice root e more) w n x (wrap_row b)) (sym d.2) (choice_follows d.3.1 h d.3.2))
 
@@ -157,7 +157,7 @@ list_value {s} {n} {k} {w} {c} {u} f d vs g = by (subst (λ q. ValueOf s n (a_se
     by (of_leaf f) = elim f [ ]
     by (of_sequence_of a h) = a
 
--- the same where the row is known
+-- the same if the row is known
 
 inside_rows : Inside → Rows
 inside_rows (seq_row rs) = rs

@@ -1,4 +1,4 @@
--- The ends of places, where each written member ends where its place does.
+-- The ends of places. Each written member ends at the end of its place.
 use Rattle.std.proofs.Common.{arith, ◌⊎◌, inl, inr, ⊎_elim, Bool, true, false, not, ◌≡◌, ℕ, zero, suc, ◌+◌, ◌-◌, ◌<◌, ◌≤◌, List, [], ◌∷◌, ◌++◌, length, take, get_or, refl, sym, ap, subst, ◌∙◌, Bor}
 use Rattle.std.specs.Prelude.{◌↔◌, Some, slice_get}
 use Rattle.std.specs.List.{sum}
@@ -15,7 +15,7 @@ use Rattle.account_checker.proofs.Members.{next, LeftAt, first, passed}
 use Rattle.account_checker.proofs.SentBack.{found, same_some}
 use Rattle.account_checker.proofs.Skipping.{taken_next}
 
--- behind the first place, a place begins where the one before it ends
+-- after the first place, each place begins where the one before it ends
 pub end_further : (es : List ℕ) (j : ℕ) → (j ≡ 0 → ⊥) → get_or es (j - 1) 0 ≡ end_before es j
 end_further es zero n = absurd (n refl)
 end_further es (suc j) n = ap (λ k. get_or es k 0) (let e : suc j - 1 ≡ j = omega arith in e)
@@ -23,7 +23,7 @@ end_further es (suc j) n = ap (λ k. get_or es k 0) (let e : suc j - 1 ≡ j = o
 pub end_first : (es : List ℕ) (j : ℕ) → j ≡ 0 → 0 ≡ end_before es j
 end_first es j e = sym (ap (end_before es) e)
 
--- the next member and those behind it
+-- the next member, and those after it
 pub ends_step : (p es : List ℕ) (k : ℕ) (m : Member) (rs : Rows) → EndsFrom p es k (sizes (put m rs)) ↔ EndsAt p es k (size_in m) × EndsFrom p es (next m k) (sizes rs)
 ends_step p es k is_absent rs = (λ d. (tt, d), λ d. d.1)
 ends_step p es k is_default rs = (λ d. (tt, d), λ d. d.1)
@@ -33,7 +33,7 @@ ends_step p es k (is_written a) rs = (λ d. d, λ d. d)
 abbrev pub CountsLeft : Rows → List FlatRow → List FlatRow → ℕ → ℕ → ℕ → Type 0
 CountsLeft rs left rest n place number = LeftAt (Unit {0}) (λ k ms. Unit {0}) (sizes rs) left rest n place number
 
--- the same, where those before end where their places do
+-- the same, if the members before it end at the ends of their places
 abbrev pub EndsLeft : List ℕ → List ℕ → Rows → List FlatRow → List FlatRow → ℕ → ℕ → ℕ → Type 0
 EndsLeft p es rs left rest n place number =
     LeftAt (EndsFrom p es 0 (sizes rs)) (λ k ms. EndsFrom p es k (sizes ms)) (sizes rs) left rest n place number
@@ -95,7 +95,7 @@ where_asked : (b : Bool) {P : Type 0} → not b ≡ false → Where b P → P
 where_asked true e w = w
 where_asked false e w = absurd (cc)
 
--- places of that many members, each of which ends where its place does
+-- places of that many members, each of which ends at the end of its place
 pub are_right : (s : Asked) {o : Order} (b : Bor Places) (ns : List ℕ) {n : ℕ} → o ≡ Placed b → AreInOrder s o n → not s.places ≡ false → n ≡ length ns → EndsFrom b.now.places.items b.now.ends.items 0 ns → AreEnds o ns
 are_right s {o} b ns {n} g w e f d =
     subst (λ r. AreEnds r ns) (sym g)

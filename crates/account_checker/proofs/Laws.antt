@@ -1,4 +1,4 @@
--- What follows type and value in all that can be asked tells how octets encode the value.
+-- An account that follows type and value in all that can be asked describes how octets encode the value.
 use Rattle.std.proofs.Common.{arith, ◌≡◌, ℕ, zero, suc, ◌+◌, Bool, true, false, List, [], ◌∷◌, ◌++◌, length, drop, take, refl, sym, ap, subst, ◌∙◌, append_assoc, length-append}
 use Rattle.std.specs.Prelude.{Some, slice_get}
 use Rattle.std.specs.List.{sum, concat}
@@ -52,7 +52,7 @@ behind only {t} {c} {z} {o} {x} h l =
 
 -- ---- places
 
--- members one behind the other
+-- members, one after another
 pub record Done (all : List ℕ) (k : ℕ) (rs : Rows) : Type 0 where
   pub front : List ℕ
   pub split : all ≡ front ++ sizes rs
@@ -101,7 +101,7 @@ record Encoded (T : List (List ℕ) → Type 0) (x : List ℕ) (p : ℕ) : Type 
   told : T parts
   joined : drop p x ≡ concat parts
 
--- none behind the last
+-- no octets are left after the last member
 at_last : (all : List ℕ) (k : ℕ) (rs : Rows) (x : List ℕ) → Done all k rs → sizes rs ≡ [] → length x ≡ sum all → drop (before all k) x ≡ []
 at_last all k rs x d e l =
     let f = there d in

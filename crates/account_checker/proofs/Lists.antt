@@ -1,4 +1,4 @@
--- Lists from a place on, and two lists one behind the other.
+-- Lists from a place on, and two lists, one after the other.
 use Rattle.std.proofs.Common.{arith, ◌≡◌, ℕ, zero, suc, ◌+◌, ◌-◌, ◌<◌, ◌≤◌, List, [], ◌∷◌, ◌++◌, length, map, drop, get_or, refl, sym, ap, subst, ◌∙◌}
 use Rattle.std.specs.Prelude.{◌↔◌, Some, None, slice_get}
 
@@ -35,7 +35,7 @@ drop_at f (x ∷ xs) (suc i) d h =
     let e : suc (i + 1) ≡ suc i + 1 = omega arith in
     drop_at f xs i d (omega arith) ∙ ap (λ k. f (get_or xs i d) ∷ drop k (f x ∷ map f xs)) e
 
--- the same where the element there is known
+-- the same if the element there is known
 pub drop_is : {A B : Type 0} (f : A → B) (xs : List A) (i : ℕ) (d : A) → i < length xs → d ≡ get_or xs i d → drop i (map f xs) ≡ f d ∷ drop (i + 1) (map f xs)
 drop_is f xs i d h e = drop_at f xs i d h ∙ ap (λ x. f x ∷ drop (i + 1) (map f xs)) (sym e)
 
@@ -58,7 +58,7 @@ drop_past [] (suc i) h = refl
 drop_past (x ∷ xs) zero h = absurd (omega arith)
 drop_past (x ∷ xs) (suc i) h = drop_past xs i (omega arith)
 
--- what holds of the whole just where it holds of what is left
+-- P holds for the whole exactly if it holds for what is left
 pub left_at : {B : Type 0} (P : List B → Type 0) (ys : List B) (left : List B) (i : ℕ) → drop i ys ≡ left → P ys ↔ P (drop i ys) → P ys ↔ P left
 left_at P ys left i e a = subst (λ q. P ys ↔ P q) e a
 

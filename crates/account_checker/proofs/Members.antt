@@ -1,4 +1,4 @@
--- Members one by one: what is left, and where the next one stands.
+-- Members one by one: what is left, and where the next one is.
 use Rattle.account_checker.proofs.Fronts.{same_rest}
 use Rattle.std.proofs.Common.{arith, Bool, true, false, ◌≡◌, ℕ, zero, suc, ◌+◌, ◌<◌, List, [], ◌∷◌, ◌++◌, length, drop, take, refl, sym, ap, subst, ◌∙◌, append_assoc, length-append}
 use Rattle.std.specs.Prelude.{◌↔◌, Option, Some, None}
@@ -15,7 +15,7 @@ use Rattle.account_checker.specs.declared.asked.Asked.{Asked}
 use Rattle.account_checker.specs.Follows.{Where, Part, SliceAt, Follows, sizes, before, octets_told, MembersFollow, none_follows, absent_follows, left_out_follows, default_follows, default_written, member_follows, ElementsFollow, no_element_follows, element_follows}
 use Rattle.account_checker.specs.Parts.{Member, is_absent, is_default, is_written, put, rows_in, size_in, size_or, count_or, WrittenAt, MemberAt, ElementAt}
 
--- the number of written members behind this one
+-- the number of written members up to and with this one
 abbrev pub next : Member → ℕ → ℕ
 next is_absent k = k
 next is_default k = k
@@ -308,7 +308,7 @@ part_one false o p n x y f g = g ∙ sym f
 pub not_written : (s : List Resolved) (q : Asked) (place n t : ℕ) (v : AbstractValue) (x y : List ℕ) (a : Account) → octets_told a ≡ n → Part q.headers x place n y → (Follows s q t v y a → ⊥) → WrittenAt s q place t v x a → ⊥
 not_written s q place n t v x y a e p none w = none (subst (λ z. Follows s q t v z a) (sym (part_one q.headers x place n w.0 y (subst (λ k. Part q.headers x place k w.0) e w.1) p)) w.2)
 
--- a member at one offset is at another, where these are the same or headers aren't asked about
+-- a member at one offset is at another if these are the same or headers aren't asked about
 
 where_sym : (b : Bool) (m n : ℕ) → Where b (m ≡ n) → Where b (n ≡ m)
 where_sym true m n e = sym e

@@ -6,7 +6,7 @@ use Rattle.octet_account.specs.declared.row.Row.{Row}
 use Rattle.octet_account.specs.Seen.{flat, told_of}
 use Rattle.octet_account.specs.Flat.{FlatRow, a_leaf, a_wrap, a_seq, a_seqof, a_set, a_setof, an_absent, a_default, count, rows_of, member_rows, AreRows}
 
--- what an account is whose first row this is; q stands behind the row, and rest behind the account
+-- The account that begins with this row. Rows q come after the row, and rows rest after the account.
 abbrev pub Opened : Account → FlatRow → List FlatRow → List FlatRow → Type 0
 Opened a (a_leaf z) q rest = (a ≡ header z leaf_row) × (q ≡ rest)
 Opened a (a_wrap z) q rest = (b : Account) × (a ≡ header z (wrap_row b)) × (q ≡ rows_of b ++ rest)
@@ -45,7 +45,7 @@ some_row (header z (seqof_row rs)) rest e = cc
 some_row (header z (set_row rs p i)) rest e = cc
 some_row (header z (setof_row rs p i)) rest e = cc
 
--- rows in memory, of which the first one tells this
+-- rows in memory whose first row is t
 pub row_eq : (rows : List Row) (row : Row) (behind : List Row) (t : Told) (a : Account) (rest : List FlatRow) → rows ≡ row ∷ behind → row.told ≡ t → flat rows ≡ rows_of a ++ rest → told_of t ∷ flat behind ≡ rows_of a ++ rest
 row_eq rows row behind t a rest e f g = sym (ap (λ w. told_of w ∷ flat behind) f) ∙ sym (ap flat e) ∙ g
 

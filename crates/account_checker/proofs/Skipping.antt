@@ -28,7 +28,7 @@ joined_count (absent_row rs) ms = let e = joined_count rs ms in omega arith
 joined_count (default_row rs) ms = let e = joined_count rs ms in omega arith
 joined_count (written a rs) ms = let e = joined_count rs ms in omega arith
 
--- so many members are left, and then the rest
+-- n members are left, and then the rest
 pub record Pending (left rest : List FlatRow) (n : ℕ) : Type 0 where
   pub rows : Rows
   pub are : left ≡ member_rows rows ++ rest
@@ -110,7 +110,7 @@ some_is (Some k) n e = ap Some (sym e)
 
 -- ---- sizes
 
--- so many members are left, of which the one with number k is the whole's with number j
+-- n members are left, and the one with number k of these is number j of the whole
 pub record SizesLeft (rs : Rows) (left rest : List FlatRow) (n j k : ℕ) : Type 0 where
   pub rows : Rows
   pub are : left ≡ member_rows rows ++ rest

@@ -1,4 +1,4 @@
--- Octets at places: slices of encodings one behind the other.
+-- Octets at places: slices of encodings, one after another.
 use Rattle.std.proofs.Common.{arith, ◌≡◌, ℕ, zero, suc, ◌+◌, ◌<◌, List, [], ◌∷◌, ◌++◌, length, map, take, drop, get_or, refl, sym, ap, subst, ◌∙◌, append_assoc, length-append}
 use Rattle.std.specs.Prelude.{Option, Some, None, slice_get}
 use Rattle.std.specs.List.{sum, concat}
@@ -34,7 +34,7 @@ pub one_some : {A : Type 0} {x y : A} → Some x ≡ Some y → x ≡ y
 unfolding some_or
 one_some {x = x} e = ap (some_or x) e
 
--- the one at a place of some, one behind the other
+-- the slice of the list with this number, if the lists come one after another
 pub slice_of : (zs : List (List ℕ)) (j : ℕ) (y : List ℕ) → slice_get zs j ≡ Some y → SliceAt (concat zs) (sum (take j (lens zs))) (length y) y
 slice_of [] j y e = absurd (cc)
 slice_of (z ∷ zs) zero y e = record { front = []; behind = concat zs; whole = ap (λ w. w ++ concat zs) (one_some e); there = refl; as_many = refl }
@@ -65,7 +65,7 @@ found_at [] i h = absurd (omega arith)
 found_at (j ∷ p) zero h = refl
 found_at (j ∷ p) (suc i) h = found_at p i (omega arith)
 
--- each member stands at its place
+-- each member is at its place
 pub member_stands : {p q : List ℕ} {xs zs : List (List ℕ)} {ns : List ℕ} → StandAt p q xs zs → ns ≡ lens xs → (i : ℕ) (y : List ℕ) → slice_get xs i ≡ Some y → SliceAt (concat zs) (before (by_place ns q) (get_or p i 0)) (length y) y
 member_stands {p} {q} {xs} {zs} {ns} a e i y f =
     let r = a.are_places in
@@ -74,7 +74,7 @@ member_stands {p} {q} {xs} {zs} {ns} a e i y f =
     let b = lens_by xs zs q (a.as_many ∙ sym r.each_place) (λ j k h. a.each k j (r.back k j h)) in
     subst (λ ms. SliceAt (concat zs) (before ms (get_or p i 0)) (length y) y) (b ∙ ap (λ ms. by_place ms q) (sym e)) (slice_of zs (get_or p i 0) y (a.each i (get_or p i 0) g ∙ f))
 
--- ---- what stands behind a place
+-- ---- what comes after a place
 
 drop_front : (f x : List ℕ) → drop (length f) (f ++ x) ≡ x
 drop_front [] x = refl
@@ -84,7 +84,7 @@ pub drop_all : (x : List ℕ) → drop (length x) x ≡ []
 drop_all [] = refl
 drop_all (a ∷ x) = drop_all x
 
--- what stands at a place, and what behind it
+-- the octets at a place, and those after them
 pub next_slice : (o : List ℕ) (p n : ℕ) (x : List ℕ) → SliceAt o p n x → drop p o ≡ x ++ drop (p + n) o
 next_slice o p n x a =
     let e : length (a.front ++ x) ≡ p + n = length-append a.front x ∙ (let f = a.there in let g = a.as_many in omega arith) in

@@ -55,7 +55,7 @@ outer_next only [] e l f h n i = absurd (omega arith)
 outer_next only {q} {t} {ts} (u ∷ us) {o} {x} {y} {z} {a} {b} {c} {g} e l f h n i =
     subst (λ w. IsOuterOf q w o a g y c) (sym e) (subst (λ w. IsOuterOf q (t ∷ u ∷ us) o w g y c) (sym f) (made only h n i))
 
--- a header that isn't the last one is round a row
+-- a header that isn't the last one holds a row
 pub is_wrapped : {s : List Resolved} {q : Asked} {t : Tag} {ts : List Tag} (inner : List Tag) {k : Kind} {v : AbstractValue} {o : List ℕ} {a : Account} → ts ≡ t ∷ inner → 0 < length inner → Under s q ts k v o a → (z : Numbers) × (b : Account) × (a ≡ header z (wrap_row b))
 is_wrapped [] e l d = absurd (omega arith)
 is_wrapped {s} {q} {t} {ts} (u ∷ us) {k} {v} {o} {a} e l d = by (subst (λ w. Under s q w k v o a) e d)
@@ -73,7 +73,7 @@ told_wrap (told.SetOf y b) z e = absurd (cc)
 told_wrap told.Absent z e = absurd (cc)
 told_wrap told.Default z e = absurd (cc)
 
--- the row that begins an account of a header round another
+-- the row that begins an account of a header around another one
 pub no_wrap : {s : List Resolved} {q : Asked} {g : Tag} {ts : List Tag} (inner : List Tag) {k : Kind} {v : AbstractValue} {o : List ℕ} (a : Account) (t : Told) (behind rest : List FlatRow) → ts ≡ g ∷ inner → 0 < length inner → told_of t ∷ behind ≡ rows_of a ++ rest → ((w : Numbers') → t ≡ told.Wrap w → ⊥) → Under s q ts k v o a → ⊥
 no_wrap inner a t behind rest e l f other d =
     let w = is_wrapped inner e l d in

@@ -1,4 +1,4 @@
--- What the first row tells.
+-- The contents of the first row.
 use Rattle.std.proofs.Common.{◌≡◌, ℕ, Bool, List, ◌∷◌, ◌++◌, refl, sym, ap, subst, ◌∙◌}
 use Rattle.std.specs.Prelude.{slice_get, Some, Option, None}
 use Rattle.asn_base.specs.Abstract.{AbstractValue}
@@ -32,7 +32,7 @@ to_header {s} {q} {k} {v} {x} {z} {y} {i} {j} e d = subst (λ w. InsideFollows s
 pub from_header : {s : List Resolved} {q : Asked} {k : Kind} {v : AbstractValue} {x : List ℕ} {z y : Numbers} {i j : Inside} → header z i ≡ header y j → InsideFollows s q k v z.contents x i → InsideFollows s q k v y.contents x j
 from_header e d = to_header (sym e) d
 
--- the account whose first row tells this
+-- the account whose first row is this
 pub told_at : (t u : Told) (a : Account) (q rest : List FlatRow) → t ≡ u → told_of t ∷ q ≡ rows_of a ++ rest → Opened a (told_of u) q rest
 told_at t u a q rest e f = opened a (told_of u) q rest (sym (ap (λ w. told_of w ∷ q) e) ∙ f)
 
@@ -86,7 +86,7 @@ told_default (told.SetOf y b) e = absurd (cc)
 told_default told.Absent e = absurd (cc)
 told_default told.Default e = refl
 
--- the first row, where the inside is known
+-- the first row, if the inside is known
 pub first_is : (t : Told) (z : Numbers) (i j : Inside) (q rest : List FlatRow) → told_of t ∷ q ≡ rows_of (header z i) ++ rest → i ≡ j → told_of t ≡ first_or (told_of t) (rows_of (header z j) ++ rest)
 first_is t z i j q rest e f = ap (first_or (told_of t)) (e ∙ ap (λ w. rows_of (header z w) ++ rest) f)
 

@@ -1,4 +1,5 @@
--- What follows in all that can be asked follows in less, and what tells follows.
+-- An account that follows in all that can be asked follows in less. An account that describes the encoding follows in
+-- all.
 use Rattle.std.proofs.Common.{get_or, arith, ◌≡◌, ℕ, suc, ◌+◌, Bool, true, false, List, [], ◌∷◌, ◌++◌, length, refl, sym, ap, subst, ◌∙◌, append_assoc, length-append}
 use Rattle.std.specs.List.{sum, concat}
 use Rattle.std.specs.Prelude.{Some, slice_get}
@@ -80,7 +81,7 @@ mutual
   headed_long d (headed_innermost {h = h} {x = x} k) = let e = k.size_told in let f = k.contents_told in omega (arith, length-append h x)
   headed_long d (headed_outer {h = h} {y = y} f k) = let e = k.size_told in let g = k.contents_told in omega (arith, length-append h y)
 
--- ---- what tells follows
+-- ---- an account that describes an encoding follows
 
 contents_whole : {k : Kind} {w : AbstractValue} {c : Bool} {x : List ℕ} → Contents Distinguished k w c x → c ≡ false
 contents_whole of_false = refl
@@ -217,7 +218,7 @@ module _ (only : Only) (s : List Resolved) where
 pub tells_follows : Only → (s : List Resolved) (t : ℕ) (v : AbstractValue) (o : List ℕ) (a : Account) → Tells s t v o a → Follows s to_contents t v o a
 tells_follows only s t v o a d = follows_of only s d
 
--- ---- no reason where the account is right
+-- ---- a right account has no reason
 
 pub none_fails : (s : List Resolved) (t : ℕ) (v : AbstractValue) (o : List ℕ) (a : Account) (r : Reason) → IsRight s t v o a → Follows s to_contents t v o a → Fails s t v o a r → ⊥
 none_fails s t v o a NotOfType i d f = f.denied i.value

@@ -1,4 +1,4 @@
--- What it takes for rows to follow a type and a value, row by row.
+-- The conditions under which rows follow a type and a value, row by row.
 use Rattle.std.specs.Prelude.{◌≡◌, ℕ, suc, ◌+◌, List, [], ◌∷◌, Option, Some, None, slice_get, get_or, length}
 use Rattle.asn_base.specs.declared.tag.Tag.{Tag}
 use Rattle.std.specs.List.{sum}
@@ -16,7 +16,7 @@ use Rattle.account_checker.specs.Follows.{Where, Part, HasNoDefault, octets_told
 use Rattle.account_checker.specs.Follows.{Under}
 use Rattle.account_checker.specs.Follows.{MembersFollow, ElementsFollow}
 
--- a member of an account: left out by one of two rows, or written
+-- a member of an account: its component is absent, is left out because of its DEFAULT, or is encoded
 pub data Member : Type 0 where
   is_absent : Member
   is_default : Member
@@ -27,24 +27,24 @@ put is_absent rs = absent_row rs
 put is_default rs = default_row rs
 put (is_written a) rs = written a rs
 
--- its rows
+-- the rows of a member
 abbrev pub rows_in : Member → List FlatRow
 rows_in is_absent = an_absent ∷ []
 rows_in is_default = a_default ∷ []
 rows_in (is_written a) = rows_of a
 
--- how many octets it tells, where it is written
+-- how many octets the rows of a member give, or None if it isn't encoded
 abbrev pub size_in : Member → Option ℕ
 size_in is_absent = None
 size_in is_default = None
 size_in (is_written a) = Some (octets_told a)
 
--- as many octets, or none
+-- this number of octets, or 0 for None
 abbrev pub size_or : Option ℕ → ℕ
 size_or None = 0
 size_or (Some n) = n
 
--- one where there is a number, else none
+-- 1 for a number, and 0 for None
 abbrev pub count_or : Option ℕ → ℕ
 count_or None = 0
 count_or (Some n) = 1
@@ -53,11 +53,11 @@ count_or (Some n) = 1
 abbrev pub HasDefault : Component → Type 0
 HasDefault c = (d : AbstractValue) × (c.presence ≡ default d)
 
--- the account stands at the place and follows the value
+-- the account follows the value, and the octets of the account are at the place
 abbrev pub WrittenAt : List Resolved → Asked → ℕ → ℕ → AbstractValue → Octets → Account → Type 0
 WrittenAt s q place t v x a = (y : Octets) × Part q.headers x place (octets_told a) y × Follows s q t v y a
 
--- the member follows a component and its value, and stands at the place where it is written
+-- the member follows a component and its value, and the octets of an encoded member are at the place
 abbrev pub MemberAt : List Resolved → Asked → ℕ → Component → Option AbstractValue → Octets → Member → Type 0
 MemberAt s q place c None x is_absent = HasNoDefault c
 MemberAt s q place c None x is_default = HasDefault c
@@ -68,22 +68,23 @@ MemberAt s q place c (Some v) x is_default = HasDefault c × Where q.omitted (Is
 MemberAt s q place c (Some v) x (is_written a) =
     Where q.omitted (IsDefault s c v → ⊥) × WrittenAt s q place c.type v x a
 
--- the same for an element
+-- the member follows an element of type u, and its octets are at the place
 abbrev pub ElementAt : List Resolved → Asked → ℕ → ℕ → AbstractValue → Octets → Member → Type 0
 ElementAt s q place u v x (is_written a) = WrittenAt s q place u v x a
 ElementAt s q place u v x m = ⊥
 
--- the account follows the value of the alternative with its number
+-- the account follows the value of the alternative with number i
 abbrev pub ChosenFollows : List Resolved → Asked → List Alternative → ℕ → AbstractValue → Octets → Account → Type 0
 ChosenFollows s q as' i v o a = (b : Alternative) × (slice_get as' i ≡ Some b) × Follows s q b.type v o a
 
--- within outer headers, whether the account follows is whether another one does, whose rows are these, under one tag
+-- Whether account a follows tags is the same as whether account b follows the tag g alone. The rows of b are those of a
+-- within the outer headers.
 pub record IsOuterOf (q : Asked) (tags : List Tag) (o : Octets) (a : Account) (g : Tag) (x : Octets)
     (b : Account) : Type 0 where
   pub inward : (s : List Resolved) (k : Kind) (v : AbstractValue) → Under s q tags k v o a → Under s q (g ∷ []) k v x b
   pub outward : (s : List Resolved) (k : Kind) (v : AbstractValue) → Under s q (g ∷ []) k v x b → Under s q tags k v o a
 
--- how many members or rows a row has right below it
+-- how many members or rows are directly in this row
 abbrev pub members_in : FlatRow → ℕ
 members_in (a_leaf z) = 0
 members_in (a_wrap z) = 1
@@ -94,54 +95,54 @@ members_in (a_setof z n p i) = n
 members_in an_absent = 0
 members_in a_default = 0
 
--- the offset of the written member with a number, of some with so many octets each
+-- the offset of the encoded member with number k, if ns has the number of octets of each encoded member
 abbrev pub place_in : Order → List ℕ → ℕ → ℕ
 place_in InOrder ns k = before ns k
 place_in (Placed b) ns k = before (by_place ns b.now.inverse.items) (get_or b.now.places.items k 0)
 
--- places are those of n members, where it is asked
+-- the places are those of n members, if places are checked
 abbrev pub AreInOrder : Asked → Order → ℕ → Type 0
 AreInOrder q InOrder n = Unit {0}
 AreInOrder q (Placed b) n = Where q.places (ArePlaces n b.now.places.items b.now.inverse.items)
 
--- how many octets are before a place, where these are the ends of places
+-- how many octets are before place j, if es has the offset at which each place ends
 abbrev pub end_before : List ℕ → ℕ → ℕ
 end_before es j = get_or (0 ∷ es) j 0
 
--- the written member with number k, of so many octets, ends where its place does
+-- the place of the encoded member with number k, which has n octets, ends n octets after its start
 abbrev pub EndsAt : List ℕ → List ℕ → ℕ → Option ℕ → Type 0
 EndsAt p es k None = Unit {0}
 EndsAt p es k (Some n) = end_before es (get_or p k 0) + n ≡ get_or es (get_or p k 0) 0
 
--- the same for each from number k on
+-- the place of each encoded member from number k on ends at its offset
 abbrev pub EndsFrom : List ℕ → List ℕ → ℕ → List ℕ → Type 0
 EndsFrom p es k [] = Unit {0}
 EndsFrom p es k (n ∷ ns) = EndsAt p es k (Some n) × EndsFrom p es (suc k) ns
 
--- the ends of places are right: they give the offset of each written member
+-- the ends of places are right: they give the offset of each encoded member
 abbrev pub AreEnds : Order → List ℕ → Type 0
 AreEnds InOrder ns = Unit {0}
 AreEnds (Placed b) ns =
     (k : ℕ) → place_in (Placed b) ns k ≡ end_before b.now.ends.items (get_or b.now.places.items k 0)
 
--- the members of a SEQUENCE or SET follow its components, and tell n octets
+-- the members of a SEQUENCE or SET follow its components, and their rows give n octets
 abbrev pub FieldsFollow : List Resolved → Asked → Order → List Component → AbstractValue → ℕ → Octets → Rows → Type 0
 FieldsFollow s q order cs v n x rs =
     (vs : Row) × (v ≡ fields vs) × Where q.numbers (n ≡ sum (sizes rs))
     × AreInOrder q order (length (sizes rs))
     × MembersFollow s q (place_in order (sizes rs)) cs vs 0 x rs
 
--- the members of a SEQUENCE OF or SET OF follow its elements
+-- the members of a SEQUENCE OF or SET OF follow its elements, and their rows give n octets
 abbrev pub ListFollows : List Resolved → Asked → Order → ℕ → AbstractValue → ℕ → Octets → Rows → Type 0
 ListFollows s q order u v n x rs =
     (vs : Row) × (v ≡ list vs) × Where q.numbers (n ≡ sum (sizes rs))
     × AreInOrder q order (length (sizes rs))
     × ElementsFollow s q (place_in order (sizes rs)) u vs 0 x rs
 
--- an account follows the value of an alternative, whichever it is
+-- an account follows the value of an alternative, for any alternative
 abbrev pub ChoiceFollows : List Resolved → Asked → List Alternative → AbstractValue → Octets → Account → Type 0
 ChoiceFollows s q as' v o a = (i : ℕ) × (w : AbstractValue) × (v ≡ alternative i w) × ChosenFollows s q as' i w o a
 
--- where the first list tells j at i, the second one tells i at j
+-- if the first list has j at place i, the second list has i at place j
 abbrev pub SendsBack : List ℕ → List ℕ → Type 0
 SendsBack p q = (i j : ℕ) → slice_get p i ≡ Some j → slice_get q j ≡ Some i

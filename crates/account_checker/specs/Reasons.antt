@@ -1,4 +1,5 @@
--- What each reason of the checker's verdict denies, and in which order the reasons are sought (own rule); no clause.
+-- What each reason of the checker's verdict denies (X.690, clauses 8, 10 and 11), and the order in which reasons are
+-- sought (own rule).
 use Rattle.std.specs.Prelude.{◌≡◌, ℕ, ◌<◌, true, false, List, length}
 use Rattle.asn_base.specs.Abstract.{AbstractValue}
 use Rattle.asn_base.specs.Types.{TypeNumber, Resolved}

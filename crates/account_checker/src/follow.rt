@@ -1,4 +1,4 @@
-//! Whether the rows of an account follow a type and a value.
+//! Whether the rows of an account follow a type and a value (X.690, 8.1 and 8.9 to 8.14).
 
 ghost use Rattle.account_checker.specs.Follows.{AreContents, ElementsFollow, Follows, HasContents, InsideFollows, MembersFollow, Under, Where, before, is_built, octets_told as octets_in, sizes};
 ghost use Rattle.account_checker.specs.Parts.{AreEnds, ChoiceFollows, ElementAt, FieldsFollow, HasDefault, IsOuterOf, ListFollows, Member, MemberAt, WrittenAt, is_absent, is_default as left_out, place_in, rows_in, size_in, size_or};
@@ -33,8 +33,9 @@ use asn_base::value::Value;
 use encodings::header_laws;
 use octet_account::row::{Row, Told};
 
-/// Whether the account follows a type and a value as far as it is asked, and the rows behind its own if it does. The
-/// value is one of the type with at most this many levels, and the rows begin with those of an account.
+/// Whether the account follows a type and a value in the properties that are checked. The result is the rows after
+/// those of the account, or None if it doesn't follow. The value is one of the type with at most this many levels. The
+/// rows begin with those of an account.
 #[cycle(follow)]
 pub(crate) fn follows<'r>(
     schema: &Schema,
@@ -72,7 +73,7 @@ pub(crate) fn follows<'r>(
     }
 }
 
-/// The same behind tags, for a kind.
+/// Whether an account follows these tags and a value of this kind.
 #[cycle(follow)]
 fn under<'r>(
     schema: &Schema,
@@ -111,7 +112,7 @@ fn under<'r>(
     }
 }
 
-/// The same without a tag: a CHOICE has the rows of what it holds.
+/// Whether an account follows a value of this kind without a tag. The rows of a CHOICE are those of its alternative.
 #[cycle(follow)]
 fn bare<'r>(
     schema: &Schema,
@@ -147,7 +148,7 @@ fn bare<'r>(
     }
 }
 
-/// The same behind one tag.
+/// Whether an account follows one tag and a value of this kind.
 #[cycle(follow)]
 fn headed<'r>(
     schema: &Schema,
@@ -185,7 +186,8 @@ fn headed<'r>(
     }
 }
 
-/// The same within a header, whose row is told, and behind it the others.
+/// Whether the rows within a header follow a value of this kind. `told` is the row of the header, and `rows` are the
+/// rows after it.
 #[cycle(follow)]
 fn inside<'r>(
     schema: &Schema,
@@ -309,7 +311,7 @@ fn inside<'r>(
     }
 }
 
-/// A CHOICE behind a header.
+/// Whether the rows follow a CHOICE within a header.
 #[cycle(follow)]
 fn held<'r>(
     schema: &Schema,
@@ -347,7 +349,7 @@ fn held<'r>(
     }
 }
 
-/// The value of an alternative.
+/// Whether the rows follow the value of an alternative.
 #[cycle(follow)]
 fn chosen<'r>(
     schema: &Schema,
@@ -386,7 +388,8 @@ fn chosen<'r>(
     }
 }
 
-/// The components of a SEQUENCE or SET, of which so many rows tell.
+/// Whether the rows follow the components of a SEQUENCE or SET. `told` is the number of members that the row of the
+/// header gives.
 #[cycle(follow)]
 fn structure<'r>(
     schema: &Schema,
@@ -442,7 +445,8 @@ fn structure<'r>(
     }
 }
 
-/// The components and their values, each in its row or rows, one behind the other.
+/// Whether the rows follow the components and their values. Each component has its row or rows, one component after
+/// another.
 #[cycle(follow)]
 fn members<'r>(
     schema: &Schema,
@@ -507,7 +511,7 @@ fn members<'r>(
     })
 }
 
-/// A component and its value, which stands at a place where it is written.
+/// Whether the rows follow a component and its value. If the value is encoded, it is at this place.
 #[cycle(follow)]
 fn member<'r>(
     schema: &Schema,
@@ -598,7 +602,7 @@ fn member<'r>(
     }
 }
 
-/// A value that is written at a place.
+/// Whether the rows follow a value that is encoded at a place.
 #[cycle(follow)]
 fn written<'r>(
     schema: &Schema,
@@ -638,7 +642,8 @@ fn written<'r>(
     }
 }
 
-/// The elements of a SEQUENCE OF or SET OF, of which so many rows tell.
+/// Whether the rows follow the elements of a SEQUENCE OF or SET OF. `told` is the number of members that the row of the
+/// header gives.
 #[cycle(follow)]
 fn series<'r>(
     schema: &Schema,
@@ -689,7 +694,7 @@ fn series<'r>(
     }
 }
 
-/// The elements, each in its rows, one behind the other.
+/// Whether the rows follow the elements. Each element has its rows, one element after another.
 #[cycle(follow)]
 fn elements<'r>(
     schema: &Schema,
@@ -743,7 +748,7 @@ fn elements<'r>(
     })
 }
 
-/// One element, which stands at a place.
+/// Whether the rows follow one element, which is at this place.
 #[cycle(follow)]
 fn one_element<'r>(
     schema: &Schema,

@@ -1,4 +1,4 @@
-//! Whether an account tells how octets encode a value.
+//! The check that an account describes how octets encode a value (X.690, 8.1, 8.9 to 8.14, 10 and 11).
 #![tactic(auto)]
 
 pub mod asked;

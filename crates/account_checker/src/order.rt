@@ -1,4 +1,4 @@
-//! Where members are in contents octets.
+//! The places of members in contents octets.
 
 ghost use Rattle.account_checker.specs.Follows.{Where, before, by_place, sizes};
 ghost use Rattle.account_checker.specs.Parts.{AreEnds, AreInOrder, EndsAt, EndsFrom, count_or, end_before as octets_in_front, place_in};
@@ -17,13 +17,13 @@ use octet_account::row::{Places, Row};
 /// The order of members in contents octets.
 #[derive(Clone, Copy)]
 pub(crate) enum Order<'r> {
-    /// The order of their rows.
+    /// The members are in the order of their rows.
     InOrder,
-    /// Each written member at its place.
+    /// Each encoded member is at its place.
     Placed(&'r Places),
 }
 
-/// Whether places are those of so many members, where it is asked.
+/// Whether the places are those of this number of members, if places are checked.
 pub(crate) fn are_in_order(asked: Asked, order: Order, count: usize) -> bool
     ensures { IsTrue result ↔ AreInOrder asked order.entry count }
 {
@@ -39,7 +39,7 @@ pub(crate) fn are_in_order(asked: Asked, order: Order, count: usize) -> bool
     }
 }
 
-/// The number in the list, and 0 past its end.
+/// The number at this index of the list, or 0 if the list is shorter.
 fn number_at(numbers: &[u32], index: usize) -> usize
     ensures { result ≡ get_or numbers.now index 0 }
 {
@@ -50,7 +50,7 @@ fn number_at(numbers: &[u32], index: usize) -> usize
     }
 }
 
-/// How many octets the members at the first places have, of some members whose rows begin these.
+/// How many octets the members at the first places have together. The rows begin with those of the members.
 fn octets_before(rows: &[Row], members: usize, inverse: &[u32], place: usize) -> u128
     ensures { (rs : Rows) (rest : List FlatRow)
         → flat rows.now ≡ member_rows rs ++ rest
@@ -67,7 +67,7 @@ fn octets_before(rows: &[Row], members: usize, inverse: &[u32], place: usize) ->
     octets
 }
 
-/// How many octets are before a place, where these are the ends of places.
+/// How many octets are before a place. `ends` has the offset at which each place ends.
 fn end_before(ends: &[u32], place: usize) -> u128
     ensures is { result ≡ octets_in_front ends.now place }
     ensures few { result ≤ 18446744073709551615 }
@@ -79,7 +79,7 @@ fn end_before(ends: &[u32], place: usize) -> u128
     }
 }
 
-/// Whether the end of a written member's place is as many octets from its start as the member has.
+/// Whether the place of an encoded member ends exactly `size` octets after its start.
 fn ends_at(set: &Places, number: usize, size: u64) -> bool
     ensures { IsTrue result ↔ EndsAt set.now.places.items set.now.ends.items number (Some size) }
 {
@@ -88,7 +88,7 @@ fn ends_at(set: &Places, number: usize, size: u64) -> bool
     end_before(ends, place) + size as u128 == number_at(ends, place) as u128
 }
 
-/// The same, and `known` before; a member that isn't written ends nowhere.
+/// Whether `known` is true and the place of this member ends at its offset. A member that isn't encoded has no place.
 fn still_known(known: bool, set: &Places, number: usize, size: Option<u64>) -> bool
     ensures { IsTrue result ↔ IsTrue known × EndsAt set.now.places.items set.now.ends.items number size }
 {
@@ -104,7 +104,8 @@ fn still_known(known: bool, set: &Places, number: usize, size: Option<u64>) -> b
     }
 }
 
-/// How many octets members tell, how many of them are written, and whether the ends of their places are known.
+/// How many octets the members have by their rows, how many of them are encoded, and whether the ends of their places
+/// are known.
 #[derive(Clone, Copy)]
 struct Measured {
     octets: u128,
@@ -112,7 +113,7 @@ struct Measured {
     known: bool,
 }
 
-/// What so many members measure, whose rows begin these.
+/// The measures of this number of members. The rows begin with those of the members.
 fn measure(rows: &[Row], members: usize, set: &Places) -> Measured
     ensures { (rs : Rows) (rest : List FlatRow)
         → flat rows.now ≡ member_rows rs ++ rest
@@ -139,8 +140,9 @@ fn measure(rows: &[Row], members: usize, set: &Places) -> Measured
     }
 }
 
-/// Whether the ends of places are known to be right, before members at places are looked at. None says that there is no
-/// need to look: where it is asked, they tell another number of octets, or places are not those of so many members.
+/// Whether the ends of places are known to be right, before the members at these places are checked. The result is None
+/// if the check already fails: the members have another number of octets, or the places aren't those of this number of
+/// members.
 pub(crate) fn are_known(
     asked: Asked,
     order: Order,
@@ -179,8 +181,8 @@ pub(crate) fn are_known(
     }
 }
 
-/// The offset of the written member with this number in contents octets, where headers are asked about. In the order of
-/// rows `offset` octets are before it. Where the ends of places aren't known, it looks at the rows once more.
+/// The offset of the encoded member with this number in the contents octets, if headers are checked. In the order of
+/// rows `offset` octets are before it. If the ends of places aren't known, the function looks at the rows once more.
 pub(crate) fn start(
     asked: Asked,
     order: Order,
@@ -216,7 +218,7 @@ pub(crate) fn start(
     }
 }
 
-/// How many of so many members are written up to one of this size, where `number` are before it.
+/// How many members are encoded up to and with a member of this size, if `number` members are encoded before it.
 pub(crate) fn written_to(number: usize, size: Option<u64>, members: usize) -> usize
     requires { number < members }
     ensures is { result ≡ number + count_or size }

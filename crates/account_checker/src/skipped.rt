@@ -1,4 +1,4 @@
-//! Rows after those of a member, and how many octets members have.
+//! The rows after those of a member, and the numbers of octets of members.
 
 ghost use Rattle.account_checker.specs.Follows.{sizes};
 ghost use Rattle.account_checker.specs.Parts.{Member, members_in, rows_in, size_in};
@@ -10,7 +10,7 @@ ghost use Rattle.std.specs.Prelude.{◌≡◌, ◌≤◌, ◌++◌, ◌∷◌, g
 use crate::walk::octets_told;
 use octet_account::row::{Row, Told};
 
-/// How many members or rows the row has right below it.
+/// How many members or rows are directly in this row.
 fn rows_below(told: &Told) -> u32
     ensures is { result ≡ members_in (told_of told.now) }
     ensures few { result ≤ 4294967295 }
@@ -37,7 +37,7 @@ pub(crate) fn after_member(rows: &[Row]) -> &[Row]
     &[]
 }
 
-/// How many octets the first member has, where it is written.
+/// How many octets the first member has, or None if it isn't encoded.
 pub(crate) fn first_size(rows: &[Row]) -> Option<u64>
     ensures { (m : Member) (rest : List FlatRow) → flat rows.now ≡ rows_in m ++ rest → result ≡ size_in m }
 {
@@ -51,8 +51,8 @@ pub(crate) fn first_size(rows: &[Row]) -> Option<u64>
     }
 }
 
-/// How many octets the written member with this number has, of some members whose rows begin these; 0 where there is
-/// none.
+/// How many octets the encoded member with this number has, or 0 if there is no such member. The rows begin with those
+/// of the members.
 pub(crate) fn size_at(rows: &[Row], members: usize, number: usize) -> u64
     ensures is { (rs : Rows) (rest : List FlatRow)
         → flat rows.now ≡ member_rows rs ++ rest

@@ -30,7 +30,7 @@ use asn_base::value::Value;
 use encodings::header_laws;
 use octet_account::row::{Numbers, Row, Told};
 
-/// The octets and rows from the innermost header on.
+/// The octets and rows that begin at the innermost header.
 #[derive(Clone, Copy)]
 pub(crate) struct At<'r, 'o> {
     pub tag: Tag,
@@ -38,14 +38,14 @@ pub(crate) struct At<'r, 'o> {
     pub rows: &'r [Row],
 }
 
-/// The rows behind a member's, and how many octets it tells, where it is written.
+/// The rows after those of a member, and how many octets its rows give, if it is encoded.
 #[derive(Clone, Copy)]
 pub(crate) struct Passed<'r> {
     pub rows: &'r [Row],
     pub size: Option<u64>,
 }
 
-/// The rows after those of members, how many octets these tell, and how many of them are written.
+/// The rows after those of members, how many octets their rows give, and how many of them are encoded.
 #[derive(Clone, Copy)]
 pub(crate) struct Counted<'r> {
     pub rows: &'r [Row],
@@ -53,7 +53,7 @@ pub(crate) struct Counted<'r> {
     pub written: usize,
 }
 
-/// The numbers of a row's header.
+/// The numbers of the header in a row, or None if the row has no header.
 pub(crate) fn numbers_in(told: &Told) -> Option<Numbers>
     ensures { (a : Account) (behind rest : List FlatRow)
         → told_of told.now ∷ behind ≡ rows_of a ++ rest
@@ -67,7 +67,7 @@ pub(crate) fn numbers_in(told: &Told) -> Option<Numbers>
     }
 }
 
-/// How many octets the first row tells, those of its header among them.
+/// How many octets the first row gives, those of its header included.
 pub(crate) fn octets_told(told: &Told) -> Option<u64>
     ensures told { (a : Account) (behind rest : List FlatRow)
         → told_of told.now ∷ behind ≡ rows_of a ++ rest
@@ -79,7 +79,7 @@ pub(crate) fn octets_told(told: &Told) -> Option<u64>
     }
 }
 
-/// Whether there are as many contents octets as the row within tells, where it is asked.
+/// Whether the number of contents octets is the one that the row within the header gives, if numbers are checked.
 pub(crate) fn has_octets(asked: Asked, contents: u32, rows: &[Row]) -> bool
     ensures { (a : Account) (rest : List FlatRow)
         → flat rows.now ≡ rows_of a ++ rest
@@ -97,7 +97,7 @@ pub(crate) fn has_octets(asked: Asked, contents: u32, rows: &[Row]) -> bool
     }
 }
 
-/// The octets and rows within the outer headers, of which each tag but the last has one, round one row.
+/// The octets and rows within the outer headers. Each tag but the last has such a header, which holds one row.
 pub(crate) fn innermost<'r, 'o>(
     asked: Asked,
     tags: &[Tag],
@@ -144,7 +144,7 @@ pub(crate) fn innermost<'r, 'o>(
     }
 }
 
-/// Whether encodings of the kind are constructed.
+/// Whether encodings of this kind are constructed (X.690, 8.1.2.5).
 pub(crate) fn is_constructed(core: &Core) -> bool
     ensures { result ≡ is_built (kind_of core.now) }
 {
@@ -155,7 +155,7 @@ pub(crate) fn is_constructed(core: &Core) -> bool
     }
 }
 
-/// Whether members have as many octets as are told, where it is asked.
+/// Whether members have this number of contents octets, if numbers are checked.
 pub(crate) fn has_count(asked: Asked, contents: u32, octets: u128) -> bool
     ensures { IsTrue result ↔ Where asked.numbers (contents ≡ octets) }
 {
@@ -166,7 +166,7 @@ pub(crate) fn has_count(asked: Asked, contents: u32, octets: u128) -> bool
     }
 }
 
-/// The place behind a member, with so many members before it.
+/// The place after a member that begins at `place`. `before` members come before it.
 pub(crate) fn further(place: u128, size: Option<u64>, before: usize) -> u128
     requires { place ≤ 18446744073709551615 * before }
     ensures is { result ≡ place + size_or size }
@@ -192,7 +192,7 @@ pub(crate) fn may_be_absent(component: &Component, value: &Option<Value>) -> boo
     }
 }
 
-/// Whether the component has a DEFAULT, and where it is asked is the same.
+/// Whether the component has a DEFAULT and, if left-out components are checked, its value is the same as that DEFAULT.
 pub(crate) fn may_be_left_out(
     schema: &Schema,
     asked: Asked,
@@ -240,7 +240,7 @@ pub(crate) fn is_default(schema: &Schema, levels: u8, component: &Component, val
     }
 }
 
-/// Whether the value isn't the same as the component's DEFAULT, where it is asked.
+/// Whether the value isn't the same as the component's DEFAULT, if left-out components are checked.
 pub(crate) fn is_to_be_written(
     schema: &Schema,
     asked: Asked,
@@ -261,7 +261,7 @@ pub(crate) fn is_to_be_written(
     }
 }
 
-/// Whether the value has as many contents octets as are told, where it is asked.
+/// Whether the value has this number of contents octets, if numbers are checked.
 pub(crate) fn tells_contents(asked: Asked, core: &Core, value: &Value, contents: u32) -> bool
     requires { IsLeaf (kind_of core.now) }
     ensures { (s : List Resolved)
@@ -274,7 +274,7 @@ pub(crate) fn tells_contents(asked: Asked, core: &Core, value: &Value, contents:
     }
 }
 
-/// Whether the octets are the value's contents, where it is asked.
+/// Whether the octets are the contents of the value, if contents are checked.
 pub(crate) fn stands(asked: Asked, core: &Core, value: &Value, octets: &[u8]) -> bool
     requires { IsLeaf (kind_of core.now) }
     ensures { (s : List Resolved)
@@ -287,7 +287,8 @@ pub(crate) fn stands(asked: Asked, core: &Core, value: &Value, octets: &[u8]) ->
     }
 }
 
-/// Whether a value that holds no others has its contents, and as many as are told, as far as is asked.
+/// Whether the row of a value without other values in it is right: its number of contents octets if numbers are
+/// checked, and the octets themselves if contents are checked.
 pub(crate) fn is_leaf(
     asked: Asked,
     core: &Core,
@@ -307,7 +308,7 @@ pub(crate) fn is_leaf(
     stands(asked, core, value, octets)
 }
 
-/// The type of the alternative with this number.
+/// The type of the alternative with this number, or None if there is no such alternative.
 pub(crate) fn chosen_type(alternatives: &Alternatives, index: usize) -> Option<TypeId>
     ensures { MatchOption result
         (slice_get (map alternative_of alternatives.now.root.items ++ map alternative_of alternatives.now.additions.items) index ≡ None)

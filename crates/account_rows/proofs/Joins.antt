@@ -84,7 +84,7 @@ joined (ordered g o' ms t) u o rs h =
       rows = h.14 ∙ ap (λ q. r ∷ (h.4 ++ q)) p.rows ∙ ap (λ q. r ∷ q) (sym (append_assoc h.4 p.first_rows p.second_rows));
     }
 
--- octets that are told are octets that the tree stands for
+-- octets with rows are octets of the tree
 mutual
   pub stands : (t : Tree) (o : List ℕ) (rs : List FlatRow) → Told t o rs → StandsFor t o
   stands done o rs h = h.0

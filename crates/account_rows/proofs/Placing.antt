@@ -112,6 +112,6 @@ permuted_length (permutes_more {x = x} {xs = xs} {ys = ys} {zs = zs} p i) =
     let f = inserted_length i in
     let g = length-append x (concat xs) in omega (arith, e, f, g)
 
--- in whatever order members stand, they have as many octets
+-- members have as many octets in any order
 pub standing_length : {p q : List ℕ} {xs zs : List (List ℕ)} → StandAt p q xs zs → length (concat zs) ≡ length (concat xs)
 standing_length a = sym (permuted_length (standing_permutes a))

@@ -1,4 +1,4 @@
--- The routines of a schema tell accounts of its values.
+-- The routines of a schema give accounts of its values.
 use Rattle.std.proofs.Common.{◌≡◌, ℕ, zero, suc, ◌+◌, ◌<◌, ◌^◌, Bool, true, false, List, [], ◌∷◌, ◌++◌, length, refl, sym, ap, subst, ◌∙◌, arith, append_assoc, append-nil, length-append}
 use Rattle.std.specs.Prelude.{Some, slice_get, drop}
 use Rattle.std.specs.List.{concat, AllByRecursion, sum_by}
@@ -58,7 +58,7 @@ permuted_length ps qs h = length_is qs ∙ sum_by-IsPermutation (λ p. length p.
 one_more : (n : ℕ) → 1 + n ≡ suc n
 one_more n = omega arith
 
--- ---- what is told of parts of a value
+-- ---- the events of parts of a value
 
 -- these members, with their octets and rows
 record MembersIn (s : List Resolved) (cs : List Component) (vs : Row) (xs : List (List ℕ)) (rows : List FlatRow) (n : ℕ) : Type 0 where
@@ -118,7 +118,7 @@ one_piece x o rs h = (h.2 ∙ ap (λ q. x ++ q) h.1.0 ∙ append-nil x, h.1.1)
 leaf_row_is : (k : RowKind) (z : Numbers) → k ≡ LeafRow → header_row k z 0 [] [] ∷ [] ≡ rows_of (header z leaf_row)
 leaf_row_is k z e = ap (λ q. header_row q z 0 [] [] ∷ []) e
 
--- ---- what accounts tell of contents
+-- ---- what accounts say of contents
 
 no_octets : {s : List Resolved} {xs : List (List ℕ)} {rs : Rows} → TellsMembers s [] end xs rs → length (concat xs) ≡ 0
 no_octets no_member_told = refl
@@ -315,7 +315,7 @@ module _ (s : List Resolved) (schema : IsSchema s)
   ranked_present {c = c} h b one others (omitted fs a d e) = ranked_left (λ xs rs m. omitted_left a m) (λ xs rs m. omitted_back a m) fs (others fs d) e
   ranked_present h b one others (stood xs fs differs x d e) = ranked_stood h b differs xs fs (one xs x) (others fs d) e
 
-  -- ---- what stands within the headers of lists
+  -- ---- what is within the headers of lists
 
   sequence_inside : {t : ℕ} (tags : List Tag) {e : Bool} {cs : List Component} {vs : Row} (fs : List Event) → (tags ≡ [] → ⊥) → MembersTold s t cs vs vs (rest_if e ++ ends (length tags)) fs → Inside s tags (a_sequence e cs) (fields vs) fs
   sequence_inside tags {e} {cs} {vs} fs some m =

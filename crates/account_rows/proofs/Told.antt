@@ -1,4 +1,4 @@
--- What is told of a value, as a tree whose octets and rows are those of an account of it.
+-- The events of a value, as a tree whose octets and rows are those of an account of the value.
 use Rattle.std.proofs.Common.{◌≡◌, ℕ, suc, ◌+◌, ◌<◌, ◌≤◌, ◌^◌, Bool, true, List, [], ◌∷◌, ◌++◌, length, refl, sym, ap, subst, ◌∙◌, arith, append-nil, length-append}
 use Rattle.std.specs.Prelude.{Option, Some, None, slice_get}
 use Rattle.std.specs.List.{concat}
@@ -32,7 +32,7 @@ pub record ToldOf (s : List Resolved) (t : ℕ) (v : AbstractValue) (es : List E
   pub holds : (o : List ℕ) (rs : List FlatRow) → Told tree o rs → length o < 2 ^ 64 → HasRows s t v o rs
   pub as_many : (o : List ℕ) (a : Account) → Tells s t v o a → length o ≡ octets_in tree
 
--- ---- what stands within the headers
+-- ---- what is within the headers
 
 pub data Content : Type 0 where
   plain : Tree → Content
@@ -50,7 +50,7 @@ abbrev pub events_of : Content → List Event
 events_of (plain i) = flat i
 events_of (grouped o ms) = flats ms
 
--- contents octets, and the rows from the header round them on, by the numbers of that
+-- contents octets, and the rows from the header around them on, by the numbers of that header
 abbrev pub Means : RowKind → Content → List ℕ → (Numbers → List FlatRow) → Type 0
 Means k (plain i) x f = (inside : List FlatRow) × Told i x inside × ((z : Numbers) → f z ≡ header_row k z (rows_in i) [] [] ∷ inside)
 Means k (grouped o ms) x f =
@@ -62,7 +62,7 @@ abbrev pub octets_within : Content → ℕ
 octets_within (plain i) = octets_in i
 octets_within (grouped o ms) = members_in ms
 
--- members to be ordered stand in a header of their own
+-- members that are put in order are in a header of their own
 abbrev pub Suits : List Tag → RowKind → Content → Type 0
 Suits tags k (plain i) = Unit {0}
 Suits tags k (grouped o ms) = (k ≡ row_of_order o) × (tags ≡ [] → ⊥)
@@ -76,7 +76,7 @@ without_tag : (tags : List Tag) (k : RowKind) (c : Content) → Suits tags k c �
 without_tag tags k (plain i) u e = refl
 without_tag tags k (grouped o ms) u e = absurd (u.1 e)
 
--- contents and rows behind one header
+-- contents and rows in one header
 record Behind (k : RowKind) (c : Content) (g : Tag) (b : Bool) (o : List ℕ) (rs : List FlatRow) : Type 0 where
   contents : List ℕ
   from : Numbers → List FlatRow
@@ -121,7 +121,7 @@ abbrev rest_of : List FlatRow → List FlatRow
 rest_of [] = []
 rest_of (r ∷ rs) = rs
 
--- the contents of octets behind their tags, and the rows
+-- the contents of octets with these tags, and the rows
 record HeadedIn (tags : List Tag) (k : RowKind) (c : Content) (o : List ℕ) (rs : List FlatRow) : Type 0 where
   contents : List ℕ
   from : Numbers → List FlatRow
@@ -279,7 +279,7 @@ whole s header_is only {t = t} {tags = tags} {k = k} {v = v} i es d h =
 
 -- ---- components
 
--- c stands at a place of type t
+-- c is the component of type t at a place
 pub record Placed (s : List Resolved) (t i : ℕ) (c : Component) : Type 0 where
   pub tags : List Tag
   pub kind : Kind
@@ -352,9 +352,9 @@ absent_left (where_addition {o = o} {g = a}) {rs = rs} e m = record { all = abse
 pub omitted_left : {s : List Resolved} {c : Component} {cs : List Component} {v : AbstractValue} {vs : Row} {xs : List (List ℕ)} {rs : Rows} → DefaultIn s c v → TellsMembers s cs vs xs rs → LeftTold s c cs (present v vs) xs rs
 omitted_left {rs = rs} d m = record { all = default_row rs; told = default_told (d.value, d.has_default, d.same.are_alike) m; rows = ap (λ q. left_row q ∷ member_rows rs) (sym (needs_default d.has_default)); counted = refl }
 
--- ---- what an account tells of a component
+-- ---- what an account says of a component
 
--- absent, or the same as a DEFAULT: the others tell all octets
+-- the component is absent, or is the same as its DEFAULT, so the octets are those of the others
 pub absent_back : {s : List Resolved} {c : Component} {cs : List Component} {vs : Row} {xs : List (List ℕ)} {rs : Rows} → TellsMembers s (c ∷ cs) (absent vs) xs rs → (qs : Rows) × TellsMembers s cs vs xs qs
 absent_back (absent_told {rs = rs} n d) = (rs, d)
 absent_back (absent_default_told {rs = rs} x e d) = (rs, d)

@@ -1,4 +1,4 @@
--- Contents behind their tags, as events, as a tree and as octets.
+-- Contents with their tags, as events, as a tree and as octets.
 use Rattle.std.proofs.Common.{◌≡◌, ℕ, zero, suc, true, List, [], ◌∷◌, ◌++◌, length, refl, sym, ap, ◌∙◌, append_assoc, append-nil}
 use Rattle.std.specs.Prelude.{replicate}
 use Rattle.asn_base.specs.declared.tag.Tag.{Tag}

@@ -1,4 +1,4 @@
--- How many octets a tree stands for: their number doesn't depend on the order of members.
+-- How many octets a tree of events has. The number doesn't depend on the order of members.
 use Rattle.std.specs.Prelude.{ℕ, ◌+◌, true, length}
 use Rattle.encodings.specs.Fewest.{shortest_header}
 use Rattle.codec_code.specs.Events.{Tree, done, piece, lacking, within, ordered, Members, no_member, no_component}

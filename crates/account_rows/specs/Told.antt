@@ -1,5 +1,5 @@
--- Octets that a tree of events stands for, and beside them the rows of their account: one for each header, before those
--- of what stands in it, and one for each component that is left out.
+-- The octets of a tree of events, and the rows of their account. There is one row for each header, before the rows
+-- within it, and one for each component that is left out.
 use Rattle.std.specs.Prelude.{◌≡◌, ℕ, suc, ◌+◌, Bool, true, false, List, [], ◌∷◌, ◌++◌, length}
 use Rattle.std.specs.List.{concat}
 use Rattle.asn_base.specs.declared.tag.Tag.{Tag}
@@ -12,7 +12,7 @@ use Rattle.codec_code.specs.Events.{Tree, done, piece, lacking, within, ordered,
 use Rattle.codec_code.specs.Events.{member, row_of_order, Part, encodings_of, Arranged}
 use Rattle.octet_account.specs.Flat.{FlatRow, a_leaf, a_wrap, a_seq, a_seqof, a_set, a_setof, an_absent, a_default}
 
--- the numbers of the header with the fewest octets
+-- the numbers of the header with the fewest octets (X.690, 8.1.2, 8.1.3 and 10.1)
 abbrev pub header_numbers : Tag → Bool → ℕ → Numbers
 header_numbers g c n = record {
   identifier = length (identifier g.class g.number c);
@@ -20,7 +20,7 @@ header_numbers g c n = record {
   contents = n;
 }
 
--- the row of a header, of so many members that stand at these places
+-- the row of a header with n members, whose places are p, and with q the member at each place
 abbrev pub header_row : RowKind → Numbers → ℕ → List ℕ → List ℕ → FlatRow
 header_row Leaf z n p q = a_leaf z
 header_row Wrap z n p q = a_wrap z
@@ -29,12 +29,12 @@ header_row Set z n p q = a_set z n p q
 header_row SequenceOf z n p q = a_seqof z n
 header_row SetOf z n p q = a_setof z n p q
 
--- the row of a component that is left out
+-- the row of a component that is left out, which has a DEFAULT or not
 abbrev pub left_row : Bool → FlatRow
 left_row true = a_default
 left_row false = an_absent
 
--- how many rows stand next to each other
+-- how many rows are next to each other at the top of a tree
 abbrev pub rows_in : Tree → ℕ
 rows_in done = 0
 rows_in (piece x t) = rows_in t
@@ -65,7 +65,7 @@ abbrev mutual
       × (o ≡ shortest_header g true (length x) ++ (x ++ y))
       × (rs ≡ header_row (row_of_order a) (header_numbers g true (length x)) (rows_among ms) p q ∷ (inside ++ others))
 
-  -- the parts of the members that are written, and the rows of all
+  -- the parts of the encoded members, and the rows of all members
   pub PartsTold : Members → List Part → List FlatRow → Type 0
   PartsTold no_member ps rs = (ps ≡ []) × (rs ≡ [])
   PartsTold (no_component d ms) ps rs = (others : List FlatRow) × PartsTold ms ps others × (rs ≡ left_row d ∷ others)

@@ -1,4 +1,4 @@
-//! Laws of the rows that routines tell.
+//! Laws of the rows that routines give.
 
 ghost use Rattle.account_rows.specs.Meaning.{TellsRows};
 ghost use Rattle.account_rows.specs.Told.{Told};
@@ -15,15 +15,15 @@ ghost use Rattle.std.specs.Prelude.{List, ℕ};
 use asn_base::law::{alike_values, sameness};
 use encodings::{header_laws, leaf_laws};
 
-/// The events that the routine of a type tells of a value of the type are those of a tree, and whatever octets and rows
-/// this stands for are those of an account of the value, each of which tells as many octets.
+/// The routine of a type gives, for each value of the type, the events of a tree. The octets and rows of this tree are
+/// those of an account of the value, and each account of the value has the same number of octets.
 pub fn told_rows()
     ensures rows { (s : List Resolved) (t : ℕ) (v : AbstractValue) (es : List Event)
         → IsSchema s
         → IsValueWithoutNodes s t v
         → Steps s t (routine_at s t) v es
         → TellsRows s t v es }
-    // Octets that are told with rows are octets that the tree stands for.
+    // Octets that have rows are octets of the tree.
     ensures stand { (t : Tree) (o : List ℕ) (rs : List FlatRow) → Told t o rs → StandsFor t o }
 {
     sameness();

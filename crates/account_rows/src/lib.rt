@@ -1,4 +1,4 @@
-//! What rows of an account the routine of a type tells: definitions and laws, and no code that runs.
+//! The rows of an account that the routine of a type gives. The crate has definitions and laws, and no code that runs.
 #![tactic(auto)]
 
 pub mod law;

@@ -10,7 +10,7 @@ use Rattle.account_text.specs.proving.Stack.{AsAsked, Left, root, inside_of, is_
 abbrev pub MayStand : Bool → FlatRow → Type 0
 MayStand w r = is_left_out r ≡ true → w ≡ false
 
--- the rows behind one that has been taken, which opened these
+-- the rows after a row that was taken and that opened these
 abbrev pub Deeper : ℕ → List Open → List Open → List FlatRow → Type 0
 Deeper m [] fs rs = Left (suc m) fs rs
 Deeper m (g ∷ gs) fs rs = Left m (g ∷ fs) rs
@@ -34,7 +34,7 @@ module _ (m k : ℕ) (w : Bool) (fs : List Open) where
   abbrev before : Open
   before = record { left = k; all_written = w }
 
-  -- members behind the first
+  -- the members after the first
   behind_first : (ms : Rows) (rest : List FlatRow) → count ms ≡ k → AreRowsWithin (suc m) ms → AsAsked w ms → Left (suc (suc m)) fs rest
       → Left (suc m) (before ∷ fs) (member_rows ms ++ rest)
   behind_first ms rest n within asked others =
@@ -127,7 +127,7 @@ module _ (m k : ℕ) (w : Bool) (fs : List Open) where
   one_written (written a (default_row ms)) e h = absurd h
   one_written (written a (written b ms)) e h = absurd (omega arith)
 
-  -- the members of a header that a row opens, before those behind it
+  -- the members of a header that a row opens come before the rows after it
   back_list : (i : Inside) (z : Numbers) (r : FlatRow) (inside : List FlatRow) (rs : List FlatRow) (h : Left (suc m) (before ∷ fs) rs)
       → IsWithin (suc m) (header z i) → rows_of (header z i) ≡ r ∷ inside
       → Left (suc m) (whole ∷ fs) (r ∷ (inside ++ rs))
@@ -190,7 +190,7 @@ module _ (m k : ℕ) (w : Bool) (fs : List Open) where
   put_back a_default rs small may h =
       back_left_out (default_row h.members) a_default rs h refl ((omega arith), h.within) (asks_nothing w (default_row h.members) (may refl)) refl
 
--- ---- where no level is left, and where no member is
+-- ---- no level is left, or no member is
 
 pub none_deeper : (k : ℕ) (w : Bool) (fs : List Open) (rs : List FlatRow) → Left 0 (record { left = suc k; all_written = w } ∷ fs) rs → ⊥
 none_deeper k w fs rs h = no_level h.members h.as_many h.within

@@ -14,7 +14,7 @@ behind [] = []
 behind (t ∷ ts) = ts
 
 module _ {A : Type 0} (first : A → List Token → List Token) (P : A → Type 0) where
-  -- what stands there, if it is a list, before the bracket at its end
+  -- the elements that are there, if the tokens are those of a list, before the bracket at its end
   pub record StandsThere (now : List Token) (ts : List Token) : Type 0 where
     pub elements : List A
     pub allowed : AllByRecursion P elements
@@ -28,7 +28,7 @@ module _ {A : Type 0} (first : A → List Token → List Token) (P : A → Type 
   allowed_more [] x h p = (p, tt)
   allowed_more (y ∷ xs) x h p = (h.0, allowed_more xs x h.1 p)
 
-  -- where neither the bracket nor an element stands, there is no list
+  -- if the next token is neither the bracket nor that of an element, there is no list
   pub none_there : (now ts : List Token) → after_end_array now ≡ None → ((x : A) (us : List Token) → P x → now ≡ first x us → ⊥) → StandsThere now ts → ⊥
   none_there now ts no_end none h = go h.elements h.allowed h.there
     where

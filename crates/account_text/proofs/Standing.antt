@@ -13,7 +13,7 @@ use Rattle.octet_account.specs.Seen.{told_of, flat}
 use Rattle.octet_account.specs.declared.row.Row.{Row}
 use Rattle.std.specs.List.{AllByRecursion}
 
--- the innermost stands last
+-- the innermost is the last
 turned : (fs : List Open) (f : Open) → reverse (fs ++ f ∷ []) ≡ f ∷ reverse fs
 turned fs f = reverse-append fs (f ∷ [])
 

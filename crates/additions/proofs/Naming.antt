@@ -1,4 +1,4 @@
--- Where the first fault is.
+-- The place of the first fault.
 use Rattle.std.proofs.Common.{◌≡◌, ℕ, zero, suc, List, [], ◌∷◌, Some, sym, ap, ◌∙◌}
 use Rattle.std.specs.Prelude.{slice_get, Result, Ok, Err, MatchResult}
 use Rattle.type_table.specs.declared.table.Written.{Written}

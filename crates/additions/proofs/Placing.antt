@@ -166,7 +166,7 @@ follows cs n c b z l e q =
 not_of_group : (g : ℕ) (s : Standing) → is_addition s ≡ false → s ≡ Addition (Some g) → ⊥
 not_of_group g s e f = let x = ap is_addition f in absurd cc
 
--- no addition stands before n where none stands directly before it
+-- if no addition is directly before n, no addition is before n at all
 none_before : (marker : Bool) (cs : List Part) (n : ℕ) (c : Part) → slice_get cs n ≡ Some c →
     (FollowsAddition cs n → ⊥) → ArePlacedBefore marker cs n →
     (m : ℕ) (d : Part) → m < n → slice_get cs m ≡ Some d → IsAdded d → ⊥

@@ -1,4 +1,4 @@
--- Numbers that ascend behind those of the root.
+-- Numbers that ascend after those of the root.
 use Rattle.std.proofs.Common.{◌≡◌, inl, inr, ℕ, suc, ◌+◌, ◌-◌, ◌<◌, ◌≤◌, ℤ, ◌<ℤ◌, ◌≤ℤ◌, List, [], ◌∷◌, ◌++◌, length, length-append, Option, Some, None, refl, sym, ap, ◌∙◌, arith, subst}
 use Rattle.std.proofs.lemmas.Int.{ints}
 use Rattle.std.specs.Prelude.{slice_get, pos, ◌^◌, MatchOption}
@@ -18,7 +18,7 @@ back_get (x ∷ xs) ys k =
     let e : suc (length xs) + k ≡ suc (length xs + k) = omega arith in
     ap (slice_get (x ∷ (xs ++ ys))) e ∙ back_get xs ys k
 
--- what the loop over numbers keeps: those behind the first `from` ascend, as far as it came
+-- the invariant of the loop over numbers: those after the first `from` ascend, up to `at`
 abbrev pub Rises : List ℤ → ℕ → ℕ → Type 0
 Rises numbers from at = (root more : List ℤ) →
     numbers ≡ root ++ more →
@@ -28,7 +28,7 @@ Rises numbers from at = (root more : List ℤ) →
 pub rises_first : (numbers : List ℤ) (from : ℕ) → Rises numbers from (from + 1)
 rises_first numbers from = λ root more e l m lm k y z lk a b. absurd (omega (arith, lm, lk))
 
--- a number behind the root
+-- a number after those of the root
 behind_at : (numbers root more : List ℤ) (from at : ℕ) → numbers ≡ root ++ more → length root ≡ from → from ≤ at →
     slice_get numbers at ≡ slice_get more (at - from)
 behind_at numbers root more from at e l f =

@@ -45,7 +45,7 @@ lists d [] (y ∷ ys) = inr (λ e. cc)
 lists d (x ∷ xs) [] = inr (λ e. cc)
 lists d (x ∷ xs) (y ∷ ys) = both (λ e f. cc) (λ e. cc) (λ e. cc) (d x y) (lists d xs ys)
 
--- bits but for trailing zeros
+-- bits without trailing zeros
 abbrev ButForZeros : List Bool → List Bool → Type 0
 ButForZeros a b = (m : ℕ) × (n : ℕ) × (a ++ replicate m false ≡ b ++ replicate n false)
 
@@ -241,7 +241,7 @@ find {s} {n} {u} {v} d (one_element {v = w} {vs = ws} x a) = by (d w x) (find d 
         neither here e = unlike e
         neither (there i) e = none _ _ i e
 
--- what is left where one or another of two that are alike is taken out
+-- what is left if one or another of two that are alike is taken out
 swapped : {s : List Resolved} {n u : ℕ} {v w : AbstractValue} {ls ms ws : Row} → Alike s u v w → Inserted v ls ws → Inserted w ms ws → AreElements s n u ws → AlikeInAnyOrder s u ms ls
 swapped e here here (one_element x a) = any_order_self a
 swapped e here (there j) (one_element x a) = pair e (any_order_self (take_out j a).rest) j

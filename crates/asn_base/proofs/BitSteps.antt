@@ -37,7 +37,7 @@ in_front (b ∷ bs) (suc n) (suc i) h = in_front bs n i (omega arith)
 pub bit_at : (o : List ℕ) (unused j k : ℕ) → k < 8 → j < length o → 8 * j + k < 8 * length o - unused → get_or (take (8 * length o - unused) (flat_map bits_of_octet o)) (8 * j + k) false ≡ get_or (bits_of_octet (get_or o j 0)) k false
 bit_at o unused j k h l m = in_front (flat_map bits_of_octet o) (8 * length o - unused) (8 * j + k) m ∙ in_octets o j k h l
 
--- behind the end there are zeros
+-- after the end there are zeros
 pub behind : (bs : List Bool) (i : ℕ) → length bs ≤ i → get_or bs i false ≡ false
 behind [] i h = refl
 behind (b ∷ bs) zero h = absurd (omega arith)

@@ -1,5 +1,5 @@
--- How often values of a type stand in two rows, up to being alike: as often in both just where the rows are alike in
--- any order.
+-- How often values of a type are in two rows, up to being alike. They are as often in both exactly if the rows are
+-- alike in some order.
 use Rattle.std.proofs.Common.{arith, ◌≡◌, ℕ, suc, inl, inr, List, [], ◌∷◌, refl, sym, ap, subst, ◌∙◌}
 use Rattle.asn_base.specs.Abstract.{AbstractValue, Row, present, row_of_list}
 use Rattle.asn_base.specs.Decided.{Count, no_more, counted, passed, IsAsOften, AreAsOften}
@@ -81,7 +81,7 @@ one_fewer : {w : AbstractValue} {ls ws : Row} → Inserted w ls ws → members w
 one_fewer here = refl
 one_fewer (there i) = ap suc (one_fewer i)
 
--- what stands in one row stands as often in the other
+-- a value is as often in one row as in the other
 abbrev AsOften : List Resolved → ℕ → ℕ → Row → Row → Type 0
 AsOften s n u vs ws = (x : AbstractValue) (k : ℕ) → ValueIn s n u x → Count s u x vs (suc k) → Count s u x ws (suc k)
 

@@ -232,7 +232,7 @@ rows_step s b rows rows' i row r e k more a = (
 pub rows_done : (s : List Resolved) (b : ℕ) (rows : List (List ℕ)) (i : ℕ) → length s ≤ i → RowsSoFar s b rows i → AreDepths s b rows
 rows_done s b rows i l a t r e = let h = found_below s t r e in a.1 t r (omega arith) e
 
--- one more row behind those in memory
+-- one more row after those in memory
 pub rows_more : (vs ws : List (Vec ℕ Global)) (v : Vec ℕ Global) → ws ≡ vs ++ v ∷ [] → rows_of ws ≡ rows_of vs ++ v.items ∷ []
 rows_more vs ws v e = ap rows_of e ∙ mapped vs
   where

@@ -1,4 +1,4 @@
--- Whether a value is one of a kind that holds no others, where kind and value are known by equations.
+-- Whether a value is one of a kind without other values in it, if kind and value are known by equations.
 use Rattle.std.proofs.Common.{arith, ◌≡◌, ℕ, zero, suc, ◌+◌, ◌-◌, ◌*◌, ◌<◌, ◌≤◌, ◌^◌, ℤ, Bool, List, [], ◌∷◌, ◌++◌, length, map, drop, take, get_or, inl, inr, refl, sym, subst, ap, ◌∙◌}
 use Rattle.std.specs.Prelude.{◌↔◌, ◌⊎◌, IsTrue, IsUtf8, chars}
 use Rattle.std.specs.List.{AllByRecursion, flat_map}
@@ -21,7 +21,7 @@ drop_at f (x ∷ xs) (suc i) d h =
     let e : suc (i + 1) ≡ suc i + 1 = omega arith in
     drop_at f xs i d (omega arith) ∙ ap (λ k. f (get_or xs i d) ∷ drop k (f x ∷ map f xs)) e
 
--- the same where the element there is known
+-- the same if the element there is known
 pub drop_is : {A B : Type 0} (f : A → B) (xs : List A) (i : ℕ) (d : A) → i < length xs → d ≡ get_or xs i d → drop i (map f xs) ≡ f d ∷ drop (i + 1) (map f xs)
 drop_is f xs i d h e = drop_at f xs i d h ∙ ap (λ x. f x ∷ drop (i + 1) (map f xs)) (sym e)
 
@@ -44,7 +44,7 @@ drop_past [] (suc i) h = refl
 drop_past (x ∷ xs) zero h = absurd (omega arith)
 drop_past (x ∷ xs) (suc i) h = drop_past xs i (omega arith)
 
--- what holds of the whole just where it holds of what is left
+-- P holds for the whole exactly if it holds for what is left
 pub left_at : {B : Type 0} (P : List B → Type 0) (ys : List B) (left : List B) (i : ℕ) → drop i ys ≡ left → P ys ↔ P (drop i ys) → P ys ↔ P left
 left_at P ys left i e a = subst (λ q. P ys ↔ P q) e a
 

@@ -64,7 +64,7 @@ default_value e where_addition = absurd (cc)
 with_default : {s : List Resolved} {n t : ℕ} {p : Presence} {d : AbstractValue} → p ≡ default d → ValueIn s n t d → MayBeAbsent s n t p
 with_default {s} {n} {t} e v = subst (MayBeAbsent s n t) (sym e) (where_default v)
 
--- the element that stands at some place, and the others
+-- the element at some place, and the others
 pub record TakenOut (s : List Resolved) (n u : ℕ) (w : AbstractValue) (ws : Row) : Type 0 where
   pub it : ValueIn s n u w
   pub rest : AreElements s n u ws

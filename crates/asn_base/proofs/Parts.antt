@@ -284,7 +284,7 @@ one_node (fits_relative_oid a) = refl
 one_node (fits_utf8 u a) = refl
 one_node (fits_restricted c a) = refl
 
--- the nodes of components from a place on are those of the one there and of those behind it
+-- the nodes of components from a place on are those of the component there and of those after it
 pub row_at : (os : List (Option AbstractValue)) (i : ℕ) {o : Option AbstractValue} {os' : List (Option AbstractValue)} → drop i os ≡ o ∷ os' → row_nodes (row_of_options (drop i os)) ≡ nodes_of o + row_nodes (row_of_options os')
 row_at os i {o = None} {os' = os'} e =
     let h : row_nodes (row_of_options (drop i os)) ≡ row_nodes (row_of_options os') = ap (λ q. row_nodes (row_of_options q)) e in
@@ -294,6 +294,6 @@ row_at os i {o = Some v} e = ap (λ q. row_nodes (row_of_options q)) e
 pub list_at : (vs : List AbstractValue) (i : ℕ) {v : AbstractValue} {vs' : List AbstractValue} → drop i vs ≡ v ∷ vs' → row_nodes (row_of_list (drop i vs)) ≡ nodes v + row_nodes (row_of_list vs')
 list_at vs i e = ap (λ q. row_nodes (row_of_list q)) e
 
--- what is left behind one more of them
+-- what is left after one more of them
 pub left_behind : (before after one rest all : ℕ) → after ≡ before - one → before - (one + rest) ≡ all → after - rest ≡ all
 left_behind before after one rest all e f = omega arith

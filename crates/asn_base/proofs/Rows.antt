@@ -1,4 +1,4 @@
--- Worked rows: what is a value of a type, what is none, what is alike.
+-- Worked rows: which values are values of a type, which aren't, and which are alike.
 use Rattle.std.proofs.Common.{arith, lit<, ◌≡◌, ℕ, suc, ⊎_elim, inl, inr, true, false, List, [], ◌∷◌, length, refl, sym, ap, subst, ◌∙◌}
 use Rattle.std.specs.Prelude.{ℤ, pos, negsuc, Some, None, chars}
 use Rattle.std.proofs.lemmas.Int.{ints}
@@ -122,7 +122,7 @@ not_in_alphabet is_first e f = let h = ap first_of f in omega arith
 not_in_alphabet (is_later is_first) e f = let h = ap second_of f in omega arith
 not_in_alphabet (is_later (is_later m)) e f = end_of m (ap drop_two f)
 
--- a component that must stand; optional ones and additions may be absent
+-- a component that must be present; optional ones and additions may be absent
 five : {n : ℕ} → ValueIn s (suc n) 1 (integer (pos 5))
 five = value_in (record { found = refl }) (of_leaf (fits_integer (lit< tt) tt))
 
@@ -197,7 +197,7 @@ list_of_none a = by a refl
     by : {n : ℕ} {v : AbstractValue} → ValueIn s n 6 v → v ≡ list end → ⊥
     by (value_in i a) e = none_listed (value_at (same_kind (record { found = refl }) i) a) e
 
--- an alternative behind the marker, and none that the type lacks
+-- an alternative after the marker, and one that the type lacks
 new_alternative : ValueIn s 2 7 (alternative 1 (integer (pos 5)))
 new_alternative = value_in (record { found = refl }) (of_choice refl five)
 

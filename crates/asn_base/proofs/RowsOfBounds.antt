@@ -263,7 +263,7 @@ before_private g f n d = by g.class refl
     by Context e = inl (let x = ap class_rank e in let y = ap class_rank d in omega arith)
     by Private e = absurd (n e)
 
--- a tag doesn't stand before itself, nor [0] before [APPLICATION 1], nor [1] before [0]
+-- a tag isn't before itself, nor is [0] before [APPLICATION 1], nor [1] before [0]
 pub not_before_itself : (g : Tag) → TagBefore g g → ⊥
 not_before_itself g h = ⊎_elim (λ l. omega arith) (λ p. (let l = p.1 in omega arith)) h
 
@@ -284,7 +284,8 @@ seven_tags g h = let l = h 0 _ _ (record { found = refl }) in omega arith
 pub null_without_tag : AllTagged (record { tags = []; kind = a_null } ∷ []) → ⊥
 null_without_tag h = h 0 _ (record { found = refl })
 
--- an untagged CHOICE begins with the tags of its alternatives, those behind the marker too; a tagged one with its own
+-- An untagged CHOICE begins with the tags of its alternatives, those after the marker included. A tagged CHOICE begins
+-- with its own tag.
 abbrev an_alternative : List ℕ → ℕ → Alternative
 an_alternative x t = record { name = x; type = t }
 
@@ -353,7 +354,7 @@ component_name_twice a = a.names.distinct.0 is_first
 pub component_of_no_type : {e : Bool} → AreListed [] e (component a_name mandatory ∷ []) → ⊥
 component_of_no_type a = let l = a.types.0 in omega arith
 
--- a default is a value of its type: a NULL's is none that is a number
+-- a DEFAULT is a value of its type, so that of a NULL isn't a number
 abbrev IsNull : AbstractValue → Type 0
 IsNull null = Unit {0}
 IsNull v = ⊥
@@ -375,7 +376,7 @@ default_alone (value_in i a) = kind_alone (same_kind (record { found = refl }) i
 pub default_of_null : {e : Bool} → AreListed nulls e (component a_name (default (integer (pos 5))) ∷ []) → ⊥
 default_of_null a = default_alone (a.defaults.0 (integer (pos 5)) refl).shaped
 
--- members of a group stand together
+-- members of a group are next to each other
 abbrev of_group : ℕ → List ℕ → Component
 of_group g x = component x (addition false (Some g))
 
@@ -405,7 +406,7 @@ alternative_name_twice a = a.names.distinct.0 is_first
 pub no_marker_no_alternative : {s : List Resolved} → AreAlternatives s false (an_alternative a_name 0 ∷ []) (an_alternative b_name 1 ∷ []) → ⊥
 no_marker_no_alternative a = let l = ap length (a.marked refl) in omega arith
 
--- those behind the marker stand in the order of their tags, and each has one
+-- alternatives after the marker are in the order of their tags, and each has a tag
 pub alternatives_that_descend : {e : Bool} {root : List Alternative} (g f : Tag) → TagBefore g f → AreAlternatives (choices f g) e root (an_alternative a_name 0 ∷ an_alternative b_name 1 ∷ []) → ⊥
 alternatives_that_descend g f b a =
     let h : TagBefore f g = a.more_ascend.0.0 f g (first_tag (record { found = refl })) (first_tag (record { found = refl })) in

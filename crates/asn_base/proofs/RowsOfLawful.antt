@@ -154,7 +154,7 @@ choice_is = record {
 
 -- ---- each type
 
--- a default stands before an INTEGER alone
+-- only an INTEGER has a DEFAULT
 abbrev Defaults : Kind → Type 0
 Defaults k = AllByRecursion (λ c. (d : AbstractValue) → c.presence ≡ default d → c.type ≡ 1) (components k)
 

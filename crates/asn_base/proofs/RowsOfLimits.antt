@@ -1,4 +1,4 @@
--- Worked rows at the edges of the limits: what just holds, and one past it, which must not.
+-- Worked rows at the edges of the limits: what is within a limit, and what is one past it, which must not hold.
 use Rattle.std.proofs.Common.{arith, lit<, ◌≡◌, ℕ, zero, suc, ◌<◌, ◌≤◌, ◌^◌, ⊎_elim, inr, Bool, true, false, List, [], ◌∷◌, ◌++◌, length, map, refl, sym, ap, subst, ◌∙◌}
 use Rattle.std.proofs.lemmas.Int.{ints}
 use Rattle.std.specs.Prelude.{◌+◌, ◌-◌, ◌%◌, pos, negsuc, ◌<ℤ◌, Option, None, Some, slice_get}
@@ -17,7 +17,7 @@ use Rattle.asn_base.proofs.Rows.{row}
 use Rattle.asn_base.proofs.Lists.{or_else}
 use Rattle.asn_base.proofs.Schemas.{nil_right}
 
--- ---- names of any number, each longer than those behind it
+-- ---- names of any number, each longer than those after it
 
 abbrev letters : ℕ → List ℕ
 letters zero = []
@@ -51,7 +51,7 @@ all_distinct (suc n) = ((λ m. omega (arith, shorter n (97 ∷ letters n) m, let
 are_names : (n : ℕ) → AreNames (names n)
 are_names n = record { identifiers = all_identifiers n; distinct = all_distinct n }
 
--- ---- 256 components in a root, 64 behind a marker
+-- ---- 256 components in a root, 64 after a marker
 
 abbrev several : Presence → ℕ → List Component
 several p zero = []
@@ -136,7 +136,7 @@ additions_65 a =
     let m = ap length a.parts in
     omega (arith, l, m, a.few_more, several_long (addition false None) 65)
 
--- ---- 1,024 items in a root, 64 behind a marker: -n to -1
+-- ---- 1,024 items in a root, 64 after a marker: -n to -1
 
 abbrev items : ℕ → List Item
 items zero = []
@@ -239,7 +239,7 @@ alternatives_256 = record {
 pub alternatives_257 : {s : List Resolved} {e : Bool} {more : List Alternative} → AreAlternatives s e (alternatives 257) more → ⊥
 alternatives_257 a = omega (arith, a.few_root, alternatives_long 257)
 
--- 64 behind a marker: types 0 to 63 have the tags [64] to [1], and the alternatives are of types 63 to 0
+-- 64 alternatives after a marker: types 0 to 63 have the tags [64] to [1], and the alternatives are of types 63 to 0
 abbrev IsContext : Class → Type 0
 IsContext Universal = ⊥
 IsContext Application = ⊥

@@ -126,7 +126,7 @@ seven_elements = value_in (record { found = refl }) (of_set_of
     (one_element a_null_in (one_element a_null_in (one_element a_null_in (one_element a_null_in (one_element a_null_in (one_element a_null_in (one_element a_null_in no_element)))))))
     (inl (omega (arith, ints), omega (arith, ints))))
 
--- an extensible SET has values, and they are alike; named bits may be none, and have trailing zeros
+-- an extensible SET has values, and they are alike; there may be no named bits, and they may have trailing zeros
 extensible_set : ValueIn nulls 1 2 (fields end)
 extensible_set = value_in (record { found = refl }) (of_set no_component (λ g h l. h))
 

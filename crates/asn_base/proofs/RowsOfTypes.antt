@@ -67,7 +67,7 @@ at_most_64 (arcs a b c d e) = omega arith
 below_2_64 : {x y z : ℕ} {zs : List ℕ} → IsObjectIdentifier (x ∷ y ∷ z ∷ zs) → z < 2 ^ 64
 below_2_64 (arcs a b c d e) = d.0
 
--- an item behind the marker is one
+-- an item after the marker is an item
 new_item : Fits (an_enumerated (record { name = []; number = pos 0 } ∷ []) true (record { name = []; number = pos 2 } ∷ [])) (enumerated (pos 2))
 new_item = fits_enumerated (lit< tt) (inr (inl refl))
 
@@ -75,7 +75,7 @@ new_item = fits_enumerated (lit< tt) (inr (inl refl))
 at_most_nodes : {s : List Resolved} {t : ℕ} {v : AbstractValue} → IsValue s t v → nodes v ≤ 16777216
 at_most_nodes a = a.few_nodes
 
--- elements of a SET OF stand in any order, so that being alike is more than being equal
+-- elements of a SET OF may be in any order, so that being alike is more than being equal
 set_of_is_no_leaf : (c : Constraint) (u : ℕ) → IsLeaf (a_set_of c u) → ⊥
 set_of_is_no_leaf c u h = h
 

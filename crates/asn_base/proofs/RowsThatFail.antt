@@ -12,7 +12,7 @@ use Rattle.asn_base.specs.Tags.{first_tag, AllTellable}
 use Rattle.asn_base.proofs.Rows.{to_7, row}
 use Rattle.asn_base.proofs.Sameness.{by_at, same_kind}
 
--- ---- sizes and ranges: eight where at most seven are allowed
+-- ---- sizes and ranges: eight if at most seven are allowed
 
 pub nine : Fits (an_integer to_7) (integer (pos 9)) → ⊥
 nine (fits_integer l a) = ⊎_elim (λ h. (let g = h.1 in omega (arith, ints))) (λ b. b) a
@@ -49,7 +49,7 @@ other_character c (fits_restricted m a) = one_of_zero m.1.0 refl
 pub other_item : Fits (an_enumerated (record { name = []; number = pos 0 } ∷ []) false []) (enumerated (pos 1)) → ⊥
 other_item (fits_enumerated l h) = ⊎_elim (λ e. omega (arith, ints)) (λ b. b) h
 
--- a number is no value of a BOOLEAN, nor a text of an OCTET STRING
+-- a number isn't a value of a BOOLEAN, nor is a text one of an OCTET STRING
 pub number_of_boolean : Fits a_boolean (integer (pos 1)) → ⊥
 number_of_boolean f = elim f [ ]
 

@@ -1,4 +1,4 @@
--- What stands at a place where it was looked for.
+-- The element at a place that was looked for.
 use Rattle.std.proofs.Common.{arith, ◌≡◌, ◌<◌, ℕ, zero, suc, ℤ, List, [], ◌∷◌, length, get_or, map, inl, inr, sym, subst}
 use Rattle.asn_base.specs.declared.constraint.Range.{Range as Range'}
 use Rattle.asn_base.specs.declared.schema.Item.{Item as Item'}

@@ -1,4 +1,4 @@
--- What is answered is not refused, want of memory aside.
+-- A question with an answer has no fault other than `Memory`.
 use Rattle.std.proofs.Common.{◌≡◌, inl, inr, ℕ, List, refl, arith, subst}
 use Rattle.asn_base.specs.Abstract.{AbstractValue}
 use Rattle.asn_base.specs.Types.{Resolved}

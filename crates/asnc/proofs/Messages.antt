@@ -30,7 +30,7 @@ use Rattle.asnc.proofs.Weaker.{basic_of}
 pub type_there : {s : List Resolved} {n t : ℕ} {v : AbstractValue} → ValueIn s n t v → t < length s
 type_there {s} {n} {t} (value_in i o) = slice_get_within s t _ i.found
 
--- of two faults it is the one that isn't want of memory
+-- of two faults it is the one that isn't `Memory`
 only_trailing : {Z : Type 0} (r : Result Z ReadFault) (e : ReadFault) → r ≡ Err e → (e ≡ reading.Memory → ⊥)
     → (r ≡ Err reading.Trailing) ⊎ (r ≡ Err reading.Memory) → e ≡ reading.Trailing
 only_trailing r e q n (inl f) = let g = sym q ∙ f in cc
@@ -41,7 +41,7 @@ only_not_der : {Z : Type 0} (r : Result Z ReadFault) (e : ReadFault) → r ≡ E
 only_not_der r e q n (inl f) = let g = sym q ∙ f in cc
 only_not_der r e q n (inr f) = absurd (n (let g = sym q ∙ f in cc))
 
--- a refusal, but for want of memory, stands
+-- a fault other than `Memory` is true
 pub unread_by : {Z : Type 0} (s : List Resolved) (l : Rules) (t : ℕ) (o : List ℕ) (r : Result Z ReadFault) (e : ReadFault)
     → r ≡ Err e
     → (e ≡ reading.Memory → ⊥)
@@ -111,7 +111,7 @@ none_of {s = s} {l = l} {o = o} {e = e} t u i q y r =
     let n = subst (λ t. IsUnread s l t o e) (sym q) r in
     n.none i y
 
--- octets that encode a value of the named type, by the rules that are asked for, are refused for want of memory alone
+-- octets that encode a value of the named type by these rules have no fault other than `Memory`
 pub encoding_is_read : (p : Program) (s : List Resolved) (l : Rules) (name o : List ℕ) (e : Fault) (t : ℕ)
     (named : TypeNamed p name t)
     (i : IsEncoding s t o)
@@ -133,7 +133,7 @@ encoding_is_read p s l name o faults.TooLong t m i y r = absurd r
 encoding_is_read p s l name o (faults.Device n) t m i y r = absurd r
 encoding_is_read p s l name o (faults.NotAccount x) t m i y r = absurd r
 
--- an encoding of a value, by the rules that are asked for, is refused for want of memory alone
+-- an encoding of a value by these rules has no fault other than `Memory`
 pub never_refused : (p : Program) (s : List Resolved) (l : Rules) (name o : List ℕ) (v : AbstractValue) (e : Fault)
     (m : IsMessageOf p s name o v)
     → Says s l m.type m.ber.0 0 o

@@ -11,7 +11,7 @@ drop_here (y ∷ xs) zero x e = let s : y ≡ x = cc in ap (λ q. q ∷ xs) s
 drop_here (y ∷ xs) (suc i) x e =
     drop_here xs i x e ∙ ap (λ k. x ∷ drop k (y ∷ xs)) (let n : suc (i + 1) ≡ suc i + 1 = omega arith in n)
 
--- one open value more is told
+-- the path has one more open value
 pub one_more : (s : List Resolved) (os : List Open) (i : ℕ) (o : Open) (p q : List ℕ) → slice_get os i ≡ Some o
     → q ≡ with_open s p o
     → path_behind s p (drop i os) ≡ path_of s os

@@ -57,7 +57,7 @@ types =
 abbrev id : ℕ → TypeId
 id t = record { index = t }
 
--- in the second component its second alternative, there the element behind two, and nothing of it
+-- the path to the element after two, in the second alternative of the second component, of which nothing was decoded
 a_path :
     path_of types
     (record { ty = id 1; part = Some (Component 1); read = 1 }

@@ -1,5 +1,5 @@
--- Types of one name in two programs, of which the second may be a later version of the first, and how the messages of
--- each are read by the other (X.680, clauses 7, 20, 25 and 29).
+-- Types of one name in two programs, of which the second may be a later version of the first. Each program decodes the
+-- messages of the other (X.680, clauses 7, 20, 25 and 29).
 use Rattle.std.specs.Prelude.{◌≡◌, ◌⊎◌, ◌↔◌, ℕ, ◌<◌, List, Bool, IsTrue, length, string_bytes}
 use Rattle.asn_base.specs.Abstract.{AbstractValue}
 use Rattle.asn_base.specs.Same.{Same}
@@ -24,8 +24,8 @@ pub record IsCompared (p : Program) (s : List Resolved) (q : Program) (r : List 
   pub newer_there : newer < length r
   pub is : IsTrue b ↔ Later s older r newer
 
--- Types are not compared, for the reason that the refusal gives: the name finds no type in one program at least. `Memory`
--- says nothing of the programs.
+-- Types are not compared, for the reason that the refusal gives: the name finds no type in one program at least.
+-- `Memory` says nothing of the programs.
 abbrev pub IsNotCompared : Program → Program → List ℕ → Fault → Type 0
 IsNotCompared p q name faults.Memory = Unit {0}
 IsNotCompared p q name (faults.NoType x) =
@@ -43,7 +43,7 @@ pub record IsKeptAnswer (p : Program) (s : List Resolved) (name printed : List �
   pub text : printed ≡ print s type value
   pub skipped : k ≡ left_out s type v
 
--- The printed text is a value v of the older type as the newer one, which has this name, has it: what was appended is
+-- The printed text is that of value v of the older type in the newer type, which has this name. What was appended is
 -- absent, and no additions were skipped.
 pub record IsWidenedAnswer (q : Program) (r : List Resolved) (name printed : List ℕ) (k : ℕ) (v : AbstractValue)
     : Type 0 where

@@ -122,9 +122,9 @@ impl Kit {
     /// Reads the texts of modules, links them, and compiles their types. An empty list of texts is accepted too; its
     /// kit has no names.
     ///
-    /// The result is the first fault, in this order: of the octets and then of the tokens of each text in turn; of the
-    /// names of all modules; of tags; of constraints. Last come faults of additions after extension markers, of
-    /// DEFAULTs and of value assignments. `Memory`: an allocation failed.
+    /// The error is the first fault. For each text in turn the faults of its octets come first, and then those of its
+    /// tokens. The faults of names, of tags and of constraints follow. Last come those of additions after extension
+    /// markers, of DEFAULTs and of value assignments. `Memory`: an allocation failed.
     pub fn open(alloc: Global, texts: &[Vec<u8>]) -> Result<Kit, Fault>
         // The texts are accepted, as this program with these types.
         ensures opened { IfOk result (λ k. Accepted (map octets_of texts.now) k.program k.types) }
@@ -189,7 +189,7 @@ impl Kit {
 
     /// Returns the text of the account that [`Kit::der`] returns, in JSON without white space.
     ///
-    /// `NoType`, `NoValue`, `Value`, `TooLong` and `Memory` as for [`Kit::der`].
+    /// `NoType`, `NoValue`, `Value`, `TooLong` and `Memory` come as for [`Kit::der`].
     pub fn account(&self, alloc: Global, ty: &str, value: &str) -> Result<String, Fault>
         // The text is that of the account of the only DER encoding.
         ensures told { IfOk result (λ s.
@@ -209,8 +209,8 @@ impl Kit {
 
     /// Writes the octets that [`Kit::der`] returns to a sink, one octet after the other, and returns their account.
     ///
-    /// `NoType`, `NoValue`, `Value`, `TooLong` and `Memory` as for [`Kit::der`], before the first octet. `Device`: one
-    /// call of the sink failed, which isn't tried again; the fault has the number of octets that went out before.
+    /// `NoType`, `NoValue`, `Value`, `TooLong` and `Memory` come as for [`Kit::der`], before the first octet. `Device`:
+    /// one call of the sink failed, which isn't tried again; the fault has the number of octets that went out before.
     pub fn der_to<S: Sink>(
         &self,
         alloc: Global,
@@ -248,8 +248,8 @@ impl Kit {
         }
     }
 
-    /// Encodes a value of a type in canonical PER, unaligned: its bits, filled to octets (X.691, 11.1). Both are named as
-    /// for [`Kit::der`], and the value's notation is read under this type.
+    /// Encodes a value of a type in canonical PER, unaligned: its bits, filled to octets (X.691, 11.1). Both are named
+    /// as for [`Kit::der`], and the value's notation is read under this type.
     ///
     /// `NoType`: the first name is not that of a type. `NoValue`: the second name is not that of a value. `Value`: the
     /// notation stands for no value of the type. `TooLong`: there are more than 16,777,216 octets. `Memory`: an
@@ -305,10 +305,11 @@ impl Kit {
         )
     }
 
-    /// Finds the type of a name, written as `Module.Name`, by the module that assigns or imports it (X.680, clause 14.1).
-    /// None if no type has this name. The number is that of the type for the other calls of this kit.
+    /// Finds the type of a name, written as `Module.Name`, by the module that assigns or imports it (X.680, clause
+    /// 14.1). The result is None if no type has this name. The number is that of the type for the other calls of this
+    /// kit.
     pub fn type_named(&self, name: &str) -> Option<TypeId>
-        // It is a type of this name, and there is none if the answer is None.
+        // The type has this name. After None the kit has no type of this name.
         ensures named { MatchOption result
             ((t : ℕ) → TypeNamed self.now.program name.now t → ⊥)
             (λ id. TypeNamed self.now.program name.now id.index) }
@@ -321,8 +322,8 @@ impl Kit {
     /// Encodes a value that a program has made, by the distinguished rules (X.690, clauses 8, 10 and 11), and returns
     /// the octets with their account.
     ///
-    /// `NotOfType`: the value is not one of the type, or the kit has no such type. `TooLong`: the encoding has more than
-    /// 16,777,216 octets. `Memory`: an allocation failed.
+    /// `NotOfType`: the value is not one of the type, or the kit has no such type. `TooLong`: the encoding has more
+    /// than 16,777,216 octets. `Memory`: an allocation failed.
     pub fn encode(
         &self,
         alloc: Global,
@@ -368,9 +369,9 @@ impl Kit {
         write_uper(alloc, &self.packed, id, value)
     }
 
-    /// Decodes the value of a type that octets encode by the basic or by the distinguished rules. Its strings are slices
-    /// of the octets if they are primitive there. Beside the value is the number of skipped additions that the type
-    /// lacks. `Read::view` shows the value part by part, and [`View::to_value`] copies it.
+    /// Decodes the value of a type that octets encode by the basic or by the distinguished rules. Its strings are
+    /// slices of the octets if they are primitive there. Beside the value is the number of skipped additions that the
+    /// type lacks. `Read::view` shows the value part by part, and [`View::to_value`] copies it.
     ///
     /// The faults are those of [`ber_reader::read_ber`] and [`ber_reader::read_der`].
     pub fn decode<'a>(
@@ -407,9 +408,9 @@ impl Kit {
         print_view(alloc, &self.schema, id, view)
     }
 
-    /// Whether the type of this name in the newer kit is a later version of that in the older kit: the same with additions
-    /// appended at extension markers, at any depth (X.680, clauses 7, 20, 25 and 29). The type is named as
-    /// `Module.Name`, in each kit where it is assigned or where it is imported.
+    /// Whether the type of this name in the newer kit is a later version of that in the older kit. A later version is
+    /// the same type with additions appended at extension markers, at any depth (X.680, clauses 7, 20, 25 and 29). The
+    /// type is named as `Module.Name`, in each kit where it is assigned or where it is imported.
     ///
     /// `NoType`: at least one kit has no type of this name. `Memory`: an allocation failed.
     pub fn later(alloc: Global, older: &Kit, newer: &Kit, ty: &str) -> Result<bool, Fault>

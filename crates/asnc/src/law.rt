@@ -38,8 +38,8 @@ pub fn headline()
         IsRight xs first second o a }
 {}
 
-/// What [`crate::Kit::uper`] returns for texts that [`crate::Kit::open`] took is right, from the texts to the octets. They
-/// are the bits of the value, no others are, and they are read as a value that is the same, and as no other.
+/// What [`crate::Kit::uper`] returns for texts that [`crate::Kit::open`] took is right, from the texts to the octets.
+/// They are the bits of the value, no others are, and they are read as a value that is the same, and as no other.
 pub fn packed()
     ensures { (xs : List (List ℕ)) (p : Program) (s : List Resolved) (first second o : List ℕ) →
         Accepted xs p s →
@@ -107,8 +107,8 @@ pub fn reading()
 /// What [`crate::Kit::der`] returns for one version of a type is decoded by [`crate::Kit::ber`] of another version, if
 /// [`crate::Kit::later`] says yes of both.
 pub fn versions()
-    // The older version prints what it keeps of the value, and skips as many additions as it leaves out, unless the value
-    // has an alternative or an item that the older version doesn't know.
+    // The older version prints what it keeps of the value, and skips the additions that it leaves out. The exception is
+    // a value with an alternative or an item that the older version doesn't know.
     ensures older { (xs ys : List (List ℕ)) (p q : Program) (s r : List Resolved) (name second o printed : List ℕ)
         (a : Account) (k : ℕ) →
         Accepted xs p s →

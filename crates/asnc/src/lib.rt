@@ -1,5 +1,5 @@
-//! The compiler as one library. A command line, the texts of modules, a type and a value go in, and octets come out; or
-//! a type and octets go in, and a printed value comes out.
+//! The compiler as one library. From a command line, the texts of modules, a type and a value it makes octets. From a
+//! type and octets it makes a printed value.
 #![tactic(auto)]
 
 mod kit;

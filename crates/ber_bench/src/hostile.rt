@@ -2,24 +2,25 @@
 
 use std::alloc::{AllocError, Global};
 
-/// What a message is made of.
+/// The kinds of messages.
 #[derive(Clone, Copy)]
 pub enum Hostile {
-    /// A SEQUENCE OF small SEQUENCEs, each length of which has 127 octets.
+    /// A SEQUENCE OF small SEQUENCEs, in which each length has 127 octets.
     LongLengths,
-    /// An OCTET STRING in a segment in a segment, 400 levels of headers.
+    /// An OCTET STRING in segments that are nested in 400 levels of headers.
     Levels,
     /// A list of empty lists.
     EmptyElements,
 }
 
-/// How many octets a length in the longest form has.
+/// How many octets the longest form of a length has.
 const LONGEST: usize = 127;
 
-/// How many octets an element with such lengths has: four headers, and four octets of contents.
+/// How many octets an element with such lengths has: four headers and four contents octets.
 const LONG_ELEMENT: usize = 4 * (LONGEST + 1) + 4;
 
 impl Hostile {
+    /// The name of the message in print.
     pub fn name(self) -> &'static str {
         match self {
             Hostile::LongLengths => "lengths in their longest form",
@@ -28,7 +29,7 @@ impl Hostile {
         }
     }
 
-    /// The sample type that the message is one of.
+    /// The name of the message's sample type.
     pub fn ty(self) -> &'static str {
         match self {
             Hostile::LongLengths => "rows",
@@ -76,7 +77,7 @@ fn long_lengths(alloc: Global, size: usize) -> Result<Vec<u8>, AllocError> {
     Ok(out)
 }
 
-/// A header of one octet for the tag and one or three for the length, and the contents behind it.
+/// The contents octets after a header with one identifier octet and one or three length octets.
 fn wrapped(alloc: Global, tag: u8, contents: &[u8]) -> Result<Vec<u8>, AllocError> {
     let [.., high, low] = (contents.len() as u64).to_be_bytes();
     let mut out = Vec::with_capacity(alloc, contents.len().wrapping_add(4))?;
@@ -110,7 +111,7 @@ fn empty_elements(alloc: Global, size: usize) -> Result<Vec<u8>, AllocError> {
     Ok(out)
 }
 
-/// The message of about so many octets; that of 400 levels always has as many.
+/// The message with about this number of octets. The one with 400 levels always has the same number.
 pub fn message_of(alloc: Global, hostile: Hostile, size: usize) -> Result<Vec<u8>, AllocError> {
     match hostile {
         Hostile::LongLengths => long_lengths(alloc, size),

@@ -1,8 +1,8 @@
-//! Reads messages that cost a careless reader more than their length: one with each length in its longest form, one of
-//! 400 levels of headers, and one of empty elements.
+//! Decodes messages that would cost a careless decoder more than their length. One has each length in its longest form,
+//! one has 400 levels of headers, and one has empty elements.
 //!
-//! `ber_bench OCTETS ..`: messages of about so many octets; how many members are read stands on standard output, how
-//! long it took, in microseconds, and how many megabytes a second that is, on standard error.
+//! `ber_bench OCTETS ..`: the messages have about this number of octets. The number of decoded members is written to
+//! standard output. The time in microseconds, and the megabytes in each second, are written to standard error.
 #![tactic(auto)]
 
 mod hostile;
@@ -15,7 +15,7 @@ use std::process::ExitCode;
 use std::time::{Duration, Instant};
 use std::{env, io};
 
-/// How often a message is read; the least time counts.
+/// How often a message is decoded. The least time counts.
 const RUNS: usize = 5;
 
 const MESSAGES: [Hostile; 3] = [
@@ -24,7 +24,7 @@ const MESSAGES: [Hostile; 3] = [
     Hostile::EmptyElements,
 ];
 
-/// The number of members that are read of a message, none where it isn't read.
+/// The number of members in a decoded message, or None after a fault.
 fn members_in(rt: &HostRuntime, code: &Code, ty: &str, octets: &[u8]) -> Option<usize> {
     let id = type_named(ty)?;
     match read_ber(rt.alloc(), code, id, octets) {
@@ -33,7 +33,7 @@ fn members_in(rt: &HostRuntime, code: &Code, ty: &str, octets: &[u8]) -> Option<
     }
 }
 
-/// Reads a message of about so many octets.
+/// Decodes a message of about this number of octets.
 fn measure(rt: &HostRuntime, code: &Code, hostile: Hostile, size: usize) -> io::Result<()> {
     let octets = message_of(rt.alloc(), hostile, size)?;
     let mut least = Duration::MAX;
@@ -54,7 +54,7 @@ fn measure(rt: &HostRuntime, code: &Code, hostile: Hostile, size: usize) -> io::
     eprintln!(rt; "{name} of {count} octets: {micros} us, {rate} MB/s")
 }
 
-/// Reads each message in each size that the program's words tell.
+/// Decodes each message in each size that a word of the command line gives.
 fn measure_all(rt: &HostRuntime, code: &Code) -> io::Result<()> {
     for word in env::args(rt)?.skip(1) {
         let size = word.as_str().parse::<usize>().unwrap_or(0);

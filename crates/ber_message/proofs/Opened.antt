@@ -64,7 +64,7 @@ pub below_all : (n m : ℕ) (os : List Open) → n < m → Few n os → AllByRec
 below_all n m [] l h = tt
 below_all n m (o ∷ os) l h = (let a = h.0 in omega arith, below_all n m os l h.1)
 
--- so many tokens were taken
+-- the first i tokens were taken
 pub record Taken (tokens : List Token') (i : ℕ) (os : List Open) : Type 0 where
   pub seen : opens_from os (map token_of (drop i tokens)) ≡ opens (map token_of tokens)
   pub few : Few i os

@@ -148,7 +148,7 @@ headed {p} r o u e l =
       header = record { header = u.header; rest = u.contents ++ r; is_header = u.is_header; few = omega arith; long = refl; whole = e ∙ ap (λ q. q ++ r) u.whole ∙ append_assoc u.header u.contents r; follow = omega arith };
     }
 
--- a fault is want of memory, or another one
+-- a fault is `Memory`, or another one
 pub memory_or_not : (f : ReadFault) → (f ≡ faults.Memory) ⊎ (f ≡ faults.Memory → ⊥)
 memory_or_not faults.Memory = inl refl
 memory_or_not faults.MessageLimit = inr (λ e. cc)
@@ -170,7 +170,7 @@ memory_or_not faults.NotDer = inr (λ e. cc)
 pub is_memory : {P : Type 0} (f : ReadFault) → P → ((f ≡ faults.Memory → ⊥) → P → ⊥) → f ≡ faults.Memory
 is_memory f p h = ⊎_elim (λ e. e) (λ n. absurd (h n p)) (memory_or_not f)
 
--- what is read of octets behind which others stand
+-- what is decoded of octets that others follow
 pub record ReadOf (s : List Resolved) (t : TypeId) (o r : List ℕ) (room : ℕ) : Type 0 where
   pub last : State
   pub reads : Reads (λ u. routine_at s u) Takes t (front s o room) last

@@ -24,11 +24,11 @@ begun_both (ended ∷ xs) ys = begun_both xs ys
 begun_both (held k c x at ∷ xs) ys = begun_both xs ys
 begun_both (passed ∷ xs) ys = begun_both xs ys
 
--- the same state, where so many values may begin
+-- the same state, in which r values may begin
 abbrev pub with_room : State → ℕ → State
 with_room a r = record { schema = a.schema; here = a.here; outer = a.outer; values = a.values; marks = a.marks; told = a.told; room = r }
 
--- what was told between two states, and how many values began there
+-- the tokens that were added between two states, and how many values began there
 record Between (a b : State) (n : ℕ) : Type 0 where
   tokens : List Token
   told : b.told ≡ a.told ++ tokens
@@ -149,7 +149,7 @@ begin_told {t = t} x = one_told (begun t) refl (ap (λ q. q.told) x.answer.is)
 end_told : {a b : State} → Takes a ends b → Between a b 0
 end_told x = one_told ended refl (ap (λ q. q.told) x.answer.is)
 
--- ---- what a run tells
+-- ---- the tokens of a run
 
 pub record Longer (a b : State) : Type 0 where
   pub tokens : List Token
@@ -293,7 +293,7 @@ module _ (takes : (a b : State) (e : Event) → Answers a e b → Takes a e b) w
     same_routine : {t u : TypeId} → u ≡ t → routine u.index ≡ routine t.index
     same_routine e = ap (λ q. routine q.index) e
 
-    -- ---- where both come to an end
+    -- ---- both come to an end
 
     -- the one that may begin fewer comes to the same state, in which fewer may begin yet
     record Ahead (x z : State) (r : ℕ) (Z : State) : Type 0 where
@@ -329,7 +329,7 @@ module _ (takes : (a b : State) (e : Event) → Answers a e b → Takes a e b) w
           sum = (let u = b.one_less in let v = w.sum in let y = c.sum in omega arith);
         }
 
-    -- ---- where the one stops that may begin fewer
+    -- ---- the run in which fewer values may begin stops
 
     module _ (leaves : State → Question → State → Type 0) where
       -- it stops before a value that begins in the other one
@@ -417,7 +417,7 @@ module _ (takes : (a b : State) (e : Event) → Answers a e b → Takes a e b) w
     whole : {t : TypeId} {x z : State} → Reads routine Takes t x z → Does routine Takes (Call t ∷ []) x z
     whole r = reads call r.begun r.done r.ended finished
 
-    -- where fewer may begin than do, it isn't read
+    -- if fewer values may begin than do, it isn't read
     pub as_many_may : {t : TypeId} {x z Z : State} (r : ℕ) → Reads routine Takes t x z → Reads routine Takes t (with_room x r) Z → x.told ≡ [] → begun_in z.told ≤ r
     as_many_may {z = z} r d h e =
         let w = both_do r refl refl (whole d) (whole h) in

@@ -1,4 +1,4 @@
--- Where reading of a message stopped.
+-- The places where decoding of a message stopped.
 use Rattle.std.proofs.Common.{arith, Bool, ◌≡◌, ℕ, ◌<◌, ◌≤◌, List, [], length, ◌++◌, refl, sym, ap, subst, ◌∙◌, length-append}
 use Rattle.std.specs.Prelude.{Result, Ok, Err, IfOk}
 use Rattle.std.specs.Prelude.{Option, None}
@@ -52,7 +52,7 @@ pub place_told : {E : Type 0} (o : List ℕ) (z : State) (r : Result Whereabouts
 place_told o z (Ok w) h p = subst (λ q. q ≤ length o) (sym p) (is_within h)
 place_told o z (Err e) h p = p
 
--- what holds wherever a question leaves a source, holds where a run stops
+-- what holds after each question that leaves a source, holds when a run stops
 module _ {S : Type 0} (r : ℕ → List Step) (takes : S → Event → S → Type 0) (l : S → Question → S → Type 0) (Q : S → Type 0) (holds : (a : S) (q : Question) (b : S) → l a q b → Q b) where
   mutual
     at_stop : {ss : List Step} {x z : S} → Stops r takes l ss x z → Q z
@@ -66,7 +66,7 @@ module _ {S : Type 0} (r : ℕ → List Step) (takes : S → Event → S → Typ
     at_stop_then (not_ended g d n h) = holds _ _ _ h
     at_stop_then (stops_behind g d i s) = at_stop s
 
--- the faults that a question may be refused with, and what the state is behind it
+-- the faults that a question can have, and the state after it
 abbrev pub IsAsked : ReadFault → State → Type 0
 IsAsked Memory b = ⊥
 IsAsked MessageLimit b = ⊥
@@ -154,9 +154,9 @@ not_memory f m e = missing_memory (sym m ∙ e)
     missing_memory : Missing ≡ Memory → ⊥
     missing_memory h = cc
 
--- ---- where one more would begin than may
+-- ---- one more value would begin than may
 
--- no value begins or ends where none may begin
+-- no value begins or ends if none may begin
 left_open : {a b : State} {t : TypeId} {e : ReadFault} → Leaves a (to_begin t) b e → opens b.told ≡ opens a.told
 left_open (no_room n) = refl
 

@@ -80,7 +80,7 @@ same_last b all way os ps o p e f g h = (
   λ a. h.1 (last_same (map on_way os) (map on_way ps) (on_way o) (on_way p) (sym (map_last os o) ∙ ap (map on_way) (sym e) ∙ a ∙ ap (map on_way) f ∙ map_last ps p)).0,
 )
 
--- ---- where a way leads
+-- ---- the value to which a way leads
 
 pub entered_last : (all os : List Open) (o : Open) → all ≡ os ++ o ∷ [] → on_last entered all ≡ os ++ entered o ∷ []
 entered_last all os o e = ap (on_last entered) e ∙ on_last_one entered os o
@@ -132,7 +132,7 @@ one_at_most ended = omega arith
 one_at_most (held k c x at) = omega arith
 one_at_most passed = omega arith
 
--- so many tokens were taken, none of which begins a value where the way leads
+-- the first i tokens were taken, none of which begins a value to which the way leads
 pub record Passed (way : List Open) (tokens : List Token') (i : ℕ) (os : List Open) (begun : ℕ) : Type 0 where
   pub all : (n : ℕ) → BeginsBefore way os (map token_of (drop i tokens)) n → BeginsBefore way [] (map token_of tokens) (begun + n)
   pub few : Few i os

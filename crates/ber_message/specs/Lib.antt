@@ -1,5 +1,5 @@
--- What a message encodes, and the tokens that were read of it (`Messages`); which values are open after some tokens
--- (`Opened`); ways to a value that begins (`Ways`); where reading stops (`Stops`).
+-- The tokens of a decoded message and the value that it encodes (`Messages`), and the values that are open after some
+-- tokens (`Opened`). `Ways` has the ways to a value that begins, and `Stops` the places where decoding stops.
 pub mod Messages
 pub mod Opened
 pub mod Ways

@@ -24,7 +24,7 @@ use Rattle.ber_views.specs.Wants.{Reading, begun_as, number_as, Wants}
 use Rattle.ber_reader.proofs.Shapes.{shape_at, leaf_shape}
 use Rattle.ber_reader.proofs.Rows.{many, Ordered, ordered_none, ordered_absent, ordered_present, ordered_row, Mixed, mixed_none, mixed_more, mixed_row, joined_none, joined_more, found_below}
 
--- ---- what stands in the message
+-- ---- what is in the message
 
 pub stand_first : (m : List ℕ) (xs ys : List Token) → StandIn m (xs ++ ys) → StandIn m xs
 stand_first m [] ys a = tt
@@ -55,7 +55,7 @@ range_of a x b =
 stands_at : {m : List ℕ} {at : ℕ} {x : List ℕ} → IsSliceAt m at x → slice_range m at (at + length x) ≡ x
 stands_at {m} {at} {x} s = ap (λ q. slice_range q at (at + length x)) s.whole ∙ ap (λ q. slice_range (s.before ++ (x ++ s.behind)) q (q + length x)) (sym s.place) ∙ range_of s.before x s.behind
 
--- behind the first one
+-- the slice after the first octet
 stands_later : {m : List ℕ} {at n : ℕ} {x o : List ℕ} → IsSliceAt m at x → x ≡ n ∷ o → IsSliceAt m (suc at) o
 stands_later {n = n} {o = o} s e = record {
   before = s.before ++ n ∷ [];
@@ -101,14 +101,14 @@ none_passed : (n : ℕ) → AreShown (replicate n passed) []
 none_passed zero = tt
 none_passed (suc n) = none_passed n
 
--- tokens that hold nothing stand behind
+-- a token without contents octets follows
 shown_end : (ts : List Token) (ls : List Leaf) → AreShown ts ls → AreShown (ts ++ ended ∷ []) ls
 shown_end ts ls a = subst (λ q. AreShown (ts ++ ended ∷ []) q) (append-nil ls) (shown_both ts (ended ∷ []) ls [] a tt)
 
 shown_passed : (ts : List Token) (n : ℕ) (ls : List Leaf) → AreShown ts ls → AreShown (ts ++ replicate n passed) ls
 shown_passed ts n ls a = subst (λ q. AreShown (ts ++ replicate n passed) q) (append-nil ls) (shown_both ts (replicate n passed) ls [] a (none_passed n))
 
--- a member, and those behind it
+-- a member, and those after it
 shown_next : {all : List Token} (xs ts : List Token) (t : Tree) (ms : Members) → AreShown xs (leaves_of t) → AreShown ts (leaves_in ms) → xs ++ ts ≡ all → AreShown all (leaves_of t ++ leaves_in ms)
 shown_next xs ts t ms a b e = subst (λ q. AreShown q (leaves_of t ++ leaves_in ms)) e (shown_both xs ts (leaves_of t) (leaves_in ms) a b)
 
@@ -116,7 +116,7 @@ shown_more : {i : ℕ} {all : List Token} (xs ts : List Token) (t : Tree) (ms : 
 shown_more {i = i} xs ts t ms a b e = subst (λ q. AreShown q (leaves_of t ++ leaves_in ms)) e (shown_both xs ts (leaves_of t) (leaves_in ms) a b)
 
 module _ (s : List Resolved) (schema : IsSchema s) (g : Reading) (short : length g.message ≤ 16777216) (w0 : AbstractValue) where
-  -- what follows holds of each tree that shows the value, and what these tokens tell
+  -- the condition on what follows holds for each tree that shows the value and its tokens
   abbrev Tree_then : List Token → List Token → ℕ → Building → AbstractValue → Type 0
   Tree_then ts rest n b w = (t : Tree) → value_of t ≡ w → IsBorrowed g.message t → AreShown ts (leaves_of t) → Wants s g w0 rest 0 false (with_tree n t b)
 

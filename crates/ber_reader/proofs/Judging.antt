@@ -1,4 +1,4 @@
--- The first part that is no value of its type, and the innermost value that is none of its.
+-- The first part that isn't a value of its type, and the innermost value that isn't one of its type.
 use Rattle.std.proofs.Common.{arith, ◌≡◌, ℕ, zero, suc, ◌+◌, ◌≤◌, ◌<◌, Bool, true, false, List, [], ◌∷◌, ◌++◌, length, map, drop, get_or, refl, sym, ap, subst, ◌∙◌, IsTrue, ◌↔◌, append_assoc}
 use Rattle.std.proofs.lemmas.List.{append-nil, map-append}
 use Rattle.std.specs.Prelude.{Option, Some, None, Result, Ok, Err, OnOk, option_map, slice_get, if◌then◌else◌}
@@ -37,17 +37,17 @@ drop_none (suc i) = refl
 
 -- ---- pieces
 
--- behind pieces that are values of their types
+-- the first wrong one after pieces that are values of their types
 pub behind : {s : List Resolved} {ps qs : List Placed} {o : Option Placed} → FirstWrong s ps None → FirstWrong s qs o → FirstWrong s (ps ++ qs) o
 behind none_wrong g = g
 behind (right_here r h) g = right_here r (behind h g)
 
--- one that is none stays the first
+-- a first wrong one stays the first if others follow
 pub before : {s : List Resolved} {ps : List Placed} {p : Placed} (qs : List Placed) → FirstWrong s ps (Some p) → FirstWrong s (ps ++ qs) (Some p)
 before qs (wrong_here n) = wrong_here n
 before qs (right_here r h) = right_here r (before qs h)
 
--- the first that is none is none
+-- the first wrong one is wrong
 pub is_wrong : {s : List Resolved} {ps : List Placed} {p : Placed} → FirstWrong s ps (Some p) → IsWrong s p.piece
 is_wrong (wrong_here n) = n
 is_wrong (right_here r h) = is_wrong h
@@ -217,7 +217,7 @@ pub judged_itself : {s : List Resolved} {t : TypeNumber} {v : AbstractValue} {f 
     → IsJudged s t v f
 judged_itself {s} {t} {v} n w o = record { inner = piece t v; way = []; is_innermost = is_itself n w; own = o }
 
--- the value round a part
+-- the value around a part
 abbrev pub round : TypeNumber → Part → Open
 round t p = record { ty = id_of t; part = Some p; read = 0 }
 
@@ -238,7 +238,7 @@ on_ok (Err e) f p = p
 pub lead_itself : {s : List Resolved} {t : TypeNumber} {v : AbstractValue} (os : List Open) → (IsValue s t v → ⊥) → FirstWrong s (parts (kind_at s t) v) None → LeadOn s (piece t v) os os
 lead_itself {t = t} {v = v} os n w = record { way = []; whole = sym (append-nil os); lead = record { inner = piece t v; is_innermost = is_itself n w } }
 
--- through the part in which it stands
+-- the way leads through the part that has it
 pub lead_within : {s : List Resolved} {t u : TypeNumber} {v w : AbstractValue} {p : Part} {os ps all : List Open} (o : Open)
     → o.ty.index ≡ t
     → o.part ≡ Some p

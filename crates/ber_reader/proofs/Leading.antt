@@ -1,4 +1,4 @@
--- The way to the innermost value that is none of its type, among the tokens that show the value.
+-- The way to the innermost value that isn't one of its type, among the tokens that show the value.
 use Rattle.std.proofs.Common.{arith, ◌≡◌, ◌⊎◌, inl, inr, ℕ, zero, suc, ◌+◌, ◌<◌, true, false, List, [], ◌∷◌, ◌++◌, map, refl, sym, ap, subst, ◌∙◌, append_assoc}
 use Rattle.std.proofs.lemmas.List.{append-nil, map-append}
 use Rattle.std.specs.Prelude.{Some, None, Result, Ok, Err, IfOk, replicate, slice_get}
@@ -65,7 +65,7 @@ passed_over os o zero = refl
 passed_over os o (suc n) = passed_over os o n
 
 mutual
-  -- behind a whole value the part that it is was read
+  -- after a whole value the part that it is was decoded
   through : {s : List Resolved} {t : TypeNumber} {w : AbstractValue} {xs : List Token} → Shows s t w xs → (os : List Open) (o : Open) → opens_from (os ++ o ∷ []) xs ≡ os ++ behind_part o ∷ []
   through {t = t} (shows {ts = ts} i h e) os o =
       let inner = within h (os ++ entered o ∷ []) (opened (id_of t)) in
@@ -150,7 +150,7 @@ part_before {xs = xs} ys e p = record {
   opens_round = p.opens_round;
 }
 
--- the part that begins, of which is told before it, if so
+-- the part that begins, and the token before it, if there is one
 part_here : {s : List Resolved} {os : List Open} {o : Open} {p : Part} {t : TypeNumber} {w : AbstractValue} {xs ts : List Token} (ys : List Token) → ts ≡ xs ++ ys → part_or o.part o.read ≡ Some p → Shows s t w xs → HasPart s (placed p t w) os o ts
 part_here {o = o} {xs = xs} ys e f x = record { before = []; inner = xs; behind = ys; whole = e; shown = x; round = o; same = refl; is_part = f; opens_round = refl }
 
@@ -216,7 +216,7 @@ none_some e = absurd (cc)
 some_same : {A : Type 0} {x y : A} → Some x ≡ Some y → x ≡ y
 some_same e = cc
 
--- what stands in a row is what was put there, or stood there
+-- a value in a row was put there, or was in it before
 at_with : {v : AbstractValue} (ws : Row) (i j : ℕ) (w : AbstractValue) → at_row (with_at ws i w) j ≡ Some v → ((i ≡ j) × (w ≡ v)) ⊎ (at_row ws j ≡ Some v)
 at_with end i j w e = none_some e
 at_with (absent ws) zero zero w e = inl (refl, some_same e)
@@ -321,7 +321,7 @@ part_in {s} {q = q} (shows_choice {i = i} {a = b} {w = v} has x) f os o n m =
 
 -- ---- the way
 
--- a value begins among the tokens, and round it are open, in these, those of the way
+-- a value begins among the tokens, and the values of the way are open around it in these tokens
 record Reached (way os : List Open) (ts : List Token) : Type 0 where
   before : List Token
   value : TypeId
@@ -369,7 +369,7 @@ reach {s} {p} {way = way} (is_within {q = q} {o = o} {os = rest} f a j) (shows {
 
 -- ---- the first value to which it leads
 
--- so many values begin before one to which the way leads
+-- n values begin before one to which the way leads
 record Found (way os : List Open) (ts : List Token) (n : ℕ) : Type 0 where
   before : List Token
   value : TypeId
@@ -450,7 +450,7 @@ before_wrong {way = way} l h b =
       lead = record { inner = l.inner; is_innermost = same_way (on_last entered (opens f.before)) l.is_innermost f.leads };
     }
 
--- a way behind no others
+-- a way after no others
 pub way_alone : {s : List Resolved} {p q : Piece} {os all : List Open} → os ≡ [] → p ≡ q → LeadOn s p os all → LeadToWrong s q all
 way_alone {s} {p} {q} {os} {all} e f l =
     let g : all ≡ l.way = l.whole ∙ ap (λ z. z ++ l.way) e in
@@ -460,7 +460,7 @@ pub if_ok : {A E : Type 0} {P Q : A → Type 0} (r : Result A E) → ((a : A) �
 if_ok (Ok a) f p = f a p
 if_ok (Err e) f p = p
 
--- ---- one front before so many
+-- ---- one front before n values
 
 -- one more begins than do before it
 pub fewer_begin : {told : List Token} {n : ℕ} {os : List Open} → AreOpenBefore told n os → n < begun_in told
@@ -498,14 +498,14 @@ fronts_once (x ∷ xs) (y ∷ ys) vs ws t u e n =
     same_rest (held l c o at) k = k
     same_rest passed k = k
 
--- what is open before so many values is the same
+-- the values that are open before n others are determined
 pub open_once : {told : List Token} {n : ℕ} {os ps : List Open} → AreOpenBefore told n os → AreOpenBefore told n ps → os ≡ ps
 open_once a b =
     a.opened
     ∙ ap opens (fronts_once a.before b.before a.behind b.behind a.value b.value (sym a.whole ∙ b.whole) (a.as_many ∙ sym b.as_many))
     ∙ sym b.opened
 
--- where reading stops before so many values, and what isn't read is entered
+-- decoding stops before n values, and the value that isn't decoded is entered
 pub leads_there : {s : List Resolved} {t : TypeId} {o : List ℕ} {v : AbstractValue} {told all : List Token} {n : ℕ} {w : Whereabouts}
     → told ≡ all
     → IsBeforeWrong s (piece t.index v) told n

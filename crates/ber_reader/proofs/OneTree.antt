@@ -37,7 +37,7 @@ list_extent e = cc
 index_same : {i j d f : ℕ} → an_alternative i d ≡ an_alternative j f → i ≡ j
 index_same e = cc
 
--- two lists of one length that stand at the front
+-- two lists of one length at the front
 halves : (a b x y : List Node) → length a ≡ length b → a ++ x ≡ b ++ y → (a ≡ b) × (x ≡ y)
 halves [] [] x y l e = (refl, e)
 halves [] (n ∷ b) x y l e = absurd (omega arith)

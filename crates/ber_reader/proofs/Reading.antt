@@ -48,11 +48,11 @@ pub never_holds : {P Q : Type 0} (b : Bool) → b ≡ false → IsTrue b ↔ P �
 never_holds true e h p = absurd (let f = e in cc)
 never_holds false e h p = absurd (let f : false ≡ true = h.1 p in cc)
 
--- what was read is no value
+-- the decoded value isn't one of the type
 pub says_none : {s : List Resolved} {t : ℕ} {o : List ℕ} {ts : List Token} (m : IsMessage s t o ts) → (IsValueWithoutNodes s t m.value → ⊥) → SaysNoValue s t o
 says_none m n = record { value = m.value; count = m.count; is_said = m.is_said; few = m.few; short = m.short; is_none = n }
 
--- and why that is told
+-- why that is the fault
 pub refused_as_none : {s : List Resolved} {t : TypeId} {o : List ℕ} {ts : List Token} {e : ReadFault} (m : IsMessage s t.index o ts) → IsRead s t o → (IsValueWithoutNodes s t.index m.value → ⊥) → IsJudged s t.index m.value e → IsRefused s t o e
 unfolding says_none
 refused_as_none m r n j = no_value r (says_none m n) j
@@ -92,7 +92,7 @@ not_der_no_memory e = cc
 pub not_der_memory : (f : ReadFault) → f ≡ faults.NotDer → f ≡ faults.Memory → ⊥
 not_der_memory f e m = not_der_no_memory (sym e ∙ m)
 
--- a fault is want of memory, or another one
+-- a fault is `Memory`, or another one
 memory_or_not : (f : ReadFault) → (f ≡ faults.Memory) ⊎ (f ≡ faults.Memory → ⊥)
 memory_or_not faults.Memory = inl refl
 memory_or_not faults.MessageLimit = inr (λ e. cc)
@@ -111,16 +111,16 @@ memory_or_not faults.Trailing = inr (λ e. cc)
 memory_or_not faults.TooDeep = inr (λ e. cc)
 memory_or_not faults.NotDer = inr (λ e. cc)
 
--- a refusal that is excluded but for want of memory
+-- only `Memory` is left as the fault
 pub fault_memory : (f : ReadFault) → ((f ≡ faults.Memory → ⊥) → ⊥) → f ≡ faults.Memory
 fault_memory f n = ⊎_elim (λ e. e) (λ m. absurd (n m)) (memory_or_not f)
 
 -- ---- what is no value of its type
 
--- what is said is of a type that stands
+-- octets encode a value only of a type that is there
 pub says_type : {s : List Resolved} {r : Rules} {t k : ℕ} {w : AbstractValue} {o : List ℕ} → Says s r t w k o → t < length s
 says_type {s} {t = t} (says i h f) = found_below s t _ i.found
 
--- want of memory, or the fault of the value that was read
+-- `Memory`, or the fault of the value that was decoded
 pub told_or : {s : List Resolved} {t : ℕ} {v w : AbstractValue} (f : ReadFault) → v ≡ w → ((f ≡ faults.Memory → ⊥) → IsJudged s t v f) → (f ≡ faults.Memory) ⊎ IsJudged s t w f
 told_or {s} {t} f e j = ⊎_elim (λ m. inl m) (λ n. inr (subst (λ q. IsJudged s t q f) e (j n))) (memory_or_not f)

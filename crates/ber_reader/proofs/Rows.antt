@@ -1,4 +1,4 @@
--- Rows of components, by the members that stand in them.
+-- Rows of components, by the members in them.
 use Rattle.std.proofs.Common.{arith, ◌≡◌, ℕ, zero, suc, ◌+◌, ◌<◌, ◌⊎◌, inl, inr, true, false, List, [], ◌∷◌, length, refl, sym, ap, ◌∙◌}
 use Rattle.std.specs.Prelude.{Option, Some, None, cond, ◌==◌, slice_get, drop}
 use Rattle.std.proofs.Common.{slice_index_or}
@@ -23,7 +23,7 @@ many (present w ws) = suc (many ws)
 none_some : {A : Type 0} {x : A} → None ≡ Some x → ⊥
 none_some e = cc
 
--- a row is told by what stands at each place
+-- a row is given by what is at each place
 pub row_is : (n : ℕ) (ws : Row) (f : ℕ → Option AbstractValue) → many ws ≡ n → ((i : ℕ) → f i ≡ at_row ws i) → row_of_options (placed n f) ≡ ws
 row_is zero end f m h = refl
 row_is (suc n) end f m h = absurd (omega arith)
@@ -154,7 +154,7 @@ mixed_more n ws ms i t w v a l m = record { many_rows = with_many ws i w ∙ m.m
 pub mixed_row : (n : ℕ) (ws : Row) (ms : Members) → Mixed n ws ms → row_of_options (placed n (λ i. component_value ms i)) ≡ ws
 mixed_row n ws ms m = row_is n ws (λ i. component_value ms i) m.many_rows (λ i. m.each i)
 
--- the element at a place, and those behind it
+-- the element at a place, and those after it
 pub drop_at : {A : Type 0} (xs : List A) (i : ℕ) (d : A) → i < length xs → drop i xs ≡ slice_index_or xs i d ∷ drop (suc i) xs
 drop_at [] i d l = absurd (omega arith)
 drop_at (x ∷ xs) zero d l = refl

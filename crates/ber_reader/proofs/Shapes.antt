@@ -58,7 +58,7 @@ set_shape s all e (c ∷ cs) n =
     ap (λ q. shapes.Row (suc (fields_in q))) (assoc (ranked_from s all 1 cs) (rest_if e) (ends (suc n)))
     ∙ ap shapes.Row (let a = ranked_of s all 1 cs (rest_if e ++ ends (suc n)) in let b = no_rest e (suc n) in omega arith)
 
--- behind at least one header
+-- the shape after at least one header
 tagged_shape : (s : List Resolved) (k : Kind) (n : ℕ) → shape_in (body s k ++ ends (suc n)) ≡ shape_of k
 tagged_shape s a_boolean n = refl
 tagged_shape s (an_integer c) n = refl

@@ -12,12 +12,12 @@ use Rattle.octet_answers.specs.Found.{field_in}
 use Rattle.ber_reader.specs.Judged.{kind_at, element_of, alternatives, is_addition_in}
 use Rattle.ber_reader.specs.Stepped.{behind_heads, element_in, called_in, is_of_addition}
 
--- what a step reads, where there is one
+-- the result for a step, if there is one
 abbrev pub then_in : {A : Type 0} → (Step → Option A) → Option Step → Option A
 then_in f None = None
 then_in f (Some p) = f p
 
--- ---- behind the headers
+-- ---- after the headers
 
 heads_off : (tags : List Tag) (r : RowKind) (ss : List Step) → behind_heads (heads tags r ++ ss) ≡ behind_heads ss
 heads_off [] r ss = refl
@@ -228,7 +228,7 @@ alternative_stands s t i = of_type (λ k ss. then_in called_in (slice_get ss (su
 
 -- ---- what is looked up
 
--- what is told of a step that was looked up, or of none
+-- the result for a step that was looked up, or for no step
 pub looked_up : {A : Type 0} (f : Step → Option A) {o q : Option Step} {ss us : List Step} (i : ℕ) {a r : Option A} → o ≡ q → o ≡ slice_get ss i → ss ≡ us → then_in f (slice_get us i) ≡ a → r ≡ then_in f q → r ≡ a
 looked_up f i e g h t z = z ∙ ap (then_in f) (sym e ∙ g ∙ ap (λ q. slice_get q i) h) ∙ t
 

@@ -1,4 +1,4 @@
--- Worked rows: which parts values have, and which of them is told first.
+-- Worked rows: which parts values have, and which wrong part is reported first.
 use Rattle.std.proofs.Common.{◌≡◌, Bool, true, List, [], ◌∷◌, refl}
 use Rattle.std.specs.Prelude.{Some}
 use Rattle.asn_base.specs.Abstract.{AbstractValue, fields, list, alternative, null, end, absent, present}
@@ -31,7 +31,7 @@ an_addition_of_a_choice a b v = refl
 no_parts_of_null : (k : Kind) → parts k null ≡ []
 no_parts_of_null k = refl
 
--- behind a first element that is one of its type the second is told, whatever stands behind it
+-- after a first element that is one of its type the second is reported, whatever follows it
 the_second_element : (s : List Resolved) (u : TypeNumber) (v w x : AbstractValue)
     → IsValue s u v
     → (IsValue s u w → ⊥)

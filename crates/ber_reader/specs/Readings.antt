@@ -47,8 +47,8 @@ pub record IsStrictReading (s : List Resolved) (t : TypeNumber) (o : Octets) (r 
   pub reading : IsReading s t o r
   pub strict : Says s Distinguished t (value_of reading.tree) r.skipped o
 
--- At which octet a message is refused. It is where reading stops; or, if the type's routine reads the octets to their
--- end, it is the header of a part of a value, which is being read there.
+-- The octet of a fault of a message. It is where reading stops. If the type's routine reads the octets to their end, it
+-- is the header of a part of a value, and that part is being read there.
 pub data IsPlace (s : List Resolved) (t : TypeId) (o : Octets) (w : Whereabouts) : Type 0 where
   unread : (most : ℕ) → IsStop s t o most w → IsPlace s t o w
   judged : IsStopBefore s t o w → IsPlace s t o w

@@ -1,4 +1,4 @@
--- What a cursor is asked, where nothing answers.
+-- Questions to a cursor that have no answer.
 use Rattle.std.proofs.Common.{arith, ◌≡◌, ⊎_elim, ℕ, ◌<◌, Bool, true, false, List, [], length, sym, ap, subst, ◌∙◌}
 use Rattle.asn_base.specs.declared.tag.Tag.{Tag}
 use Rattle.asn_base.specs.Tags.{First}
@@ -21,7 +21,7 @@ OneUnit = (g f : Tag) (c d : Bool) (k j : ℕ) (x y r s o : List ℕ)
 pub not_none : {o : List ℕ} → 0 < length o → o ≡ [] → ⊥
 not_none l e = let m = ap length e in omega arith
 
--- no encoding stands next, though there are octets
+-- no encoding comes next, although there are octets
 pub stands_never : (a b : State) (f : Field) (there : Bool)
     → 0 < length a.here.octets
     → NoUnit a.here.octets
@@ -31,7 +31,7 @@ stands_never a b f true l n x = n x.tag x.constructed x.count x.contents x.rest 
 stands_never a b f false l n x =
     ⊎_elim (λ e. not_none l e) (λ o. n o.tag o.constructed o.count o.contents o.rest o.unit) x.next
 
--- nothing stands next, and the component must stand
+-- nothing comes next, although the component must be present
 pub missing_never : (a b : State) (f : Field) (there : Bool)
     → NoUnit []
     → a.here.octets ≡ []
@@ -42,7 +42,7 @@ missing_never a b f true n e m x =
     n x.tag x.constructed x.count x.contents x.rest (subst (λ q. UnitAt x.tag x.constructed x.count x.contents x.rest q) e x.unit)
 missing_never a b f false n e m x = false_true (sym m ∙ x.may_be)
 
--- another one stands next, and the component must stand
+-- another encoding comes next, although the component must be present
 pub other_never : (a b : State) (f : Field) (there : Bool) (g : Tag) (c : Bool) (k : ℕ) (y r : List ℕ)
     → OneUnit
     → UnitAt g c k y r a.here.octets

@@ -1,4 +1,4 @@
--- Contents octets that fail, and where a reader stands then.
+-- Contents octets with a fault, and the state of a reader after them.
 use Rattle.std.proofs.Common.{arith, ◌≡◌, ℕ, ◌+◌, ◌≤◌, Bool, true, false, List, length, refl, sym, ap, subst, ◌∙◌}
 use Rattle.codec_code.specs.declared.step.LeafKind.{LeafKind}
 use Rattle.codec_source.specs.Events.{to_hold}

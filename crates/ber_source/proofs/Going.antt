@@ -1,4 +1,4 @@
--- Additions that are passed, from where a cursor stood.
+-- Additions that are passed, from the place of a cursor on.
 use Rattle.std.proofs.Common.{◌≡◌, Bool, List, refl, sym, subst, ◌∙◌}
 use Rattle.std.specs.Prelude.{Option}
 use Rattle.codec_code.specs.declared.step.Field.{Field}
@@ -11,7 +11,7 @@ use Rattle.codec_source.specs.declared.fault.ReadFault.{ReadFault}
 use Rattle.ber_source.specs.declared.place.Place.{Place}
 use Rattle.ber_source.specs.Seen.{IsWithin, state_of}
 
--- by who is told
+-- for who receives the tokens
 module _ {T : Type 0} (suits : T → List Resolved → Type 0) (told : T → List Token) where
   -- whatever leads on from q leads on from p, to the same
   pub record IsPassing (ss : List Step) (e : Bool) (p q : Place T) : Type 0 where

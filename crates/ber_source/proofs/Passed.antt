@@ -66,7 +66,7 @@ component_alone {s} {ss} {e} {a} {b} {h} {g} {c} {k} {x} {r} {f} none one u i (p
     let z = one g h' c d k j x y r t a.here.octets u v in
     absurd (n f (subst (λ p. IsFound s p ss f) z.0 i))
 
--- no encoding stands next, though there are octets
+-- no encoding comes next, although there are octets
 pub no_unit_none : {s : List Resolved} {ss : List Step} {e : Bool} {a b : State} {f : Option Field}
     → NoUnit a.here.octets
     → 0 < length a.here.octets
@@ -76,7 +76,7 @@ no_unit_none none l (at_end_of_contents q) = not_none l q
 no_unit_none none l (at_component {g = g} {c = c} {k = k} {x = x} {rest = r} u i) = none g c k x r u
 no_unit_none none l (passes {g = g} {c = c} {k = k} {x = x} {rest = r} m u n z q) = none g c k x r u
 
--- what stands behind an addition; it is passed in an extensible type within the levels
+-- the state after an addition, which is passed in an extensible type within the levels
 pub record Behind (s : List Resolved) (ss : List Step) (e : Bool) (a : State) (k : ℕ) (x r : List ℕ) (f : Option Field) (b : State) : Type 0 where
   pub extensible : e ≡ true
   pub few_levels : length a.outer < 400

@@ -1,4 +1,4 @@
--- What isn't skipped, and what doesn't stand among the components of a SET.
+-- What isn't skipped, and what isn't among the components of a SET.
 use Rattle.std.proofs.Common.{◌≡◌, ℕ, Bool, true, false, List, [], ◌∷◌, ◌++◌, IsTrue, ◌↔◌, drop, sym, ap, subst, ◌∙◌}
 use Rattle.std.specs.Prelude.{Option, Some, None}
 use Rattle.asn_base.specs.declared.schema.TypeId.{TypeId}
@@ -14,7 +14,7 @@ use Rattle.octet_answers.specs.Found.{Passes, AreRead, is_extensible, last_steps
 use Rattle.octet_answers.specs.Left.{Blocks, Leaves, not_skipped, out_of_order, no_component, stood_before, not_all_read}
 use Rattle.ber_source.proofs.Windows.{fails}
 
--- the steps behind the last component that must stand
+-- the steps after the last component that must be present
 pub skip_steps : (a : State) (ss whole : List Step) (t : TypeId) → ss ≡ last_steps whole → whole ≡ routine_at a.schema t.index → ss ≡ last_steps (routine_at a.schema t.index)
 skip_steps a ss whole t e f = e ∙ ap last_steps f
 

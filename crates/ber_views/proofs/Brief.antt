@@ -1,4 +1,4 @@
--- The node of a value whose routine is a header round components.
+-- The node of a value whose routine is a header around components.
 use Rattle.std.proofs.Common.{◌≡◌, ℕ, List, ◌∷◌, ap, sym, ◌∙◌}
 use Rattle.codec_code.specs.declared.step.Head.{Head as Head'}
 use Rattle.codec_code.specs.declared.step.Step.{Step}

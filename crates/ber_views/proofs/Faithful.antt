@@ -1,4 +1,4 @@
--- What is built stays faithful to what is told, token by token.
+-- What is built stays faithful to the tokens, token by token.
 use Rattle.std.proofs.Common.{arith, ◌≡◌, ℕ, ◌+◌, true, false, List, [], ◌∷◌, ◌++◌, sym, ap, subst, ◌∙◌, append_assoc}
 use Rattle.std.proofs.lemmas.List.{append-nil}
 use Rattle.asn_base.specs.Abstract.{AbstractValue}
@@ -21,7 +21,7 @@ faithful_more s r told all t b c i e step f m w ts q =
     subst (λ z. IsBefore z m w ts c) i (step m w ts (subst (λ z. IsBefore z m w (t ∷ ts) b) (sym i)
     (f m w (t ∷ ts) (subst (λ z. Wants s m w z 0 false begun') (ap (λ z. z ++ ts) e ∙ append_assoc told (t ∷ []) ts) q))))
 
--- nothing is told yet
+-- there are no tokens yet
 pub faithful_first : (s : List Resolved) (told : List Token) (b : Build)
     → told ≡ []
     → ((m : Reading) (w : AbstractValue) (ts : List Token) → Wants s m w ts 0 false begun' → IsBefore s m w ts b)

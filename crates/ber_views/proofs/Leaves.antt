@@ -113,7 +113,7 @@ widened l r = record {
   is_joined = (let a = r.is_joined in let f = a.few in record { contents = a.contents; suits = a.suits; few = omega arith });
 }
 
--- what holds where it is Ok
+-- the property of a result that is Ok
 pub then_ok : {A E : Type 0} {P Q : Type 0} (r : Result A E) → (P → Q) → OnOk r P → OnOk r Q
 then_ok (Ok a) f p = f p
 then_ok (Err e) f p = tt

@@ -109,7 +109,7 @@ adding_more {ns} {old} {new} {rest} {behind} m a f =
       added = ap (λ q. q ++ m ∷ []) a.added ∙ append_assoc old a.done (m ∷ []);
     }
 
--- the number that is told is below 2^64
+-- the number is below 2^64
 pub small_more : {ns old new rest behind : List ℕ} (m : ℕ) → Adding ns old new rest → Front (Some m) behind rest → m < 2 ^ 64
 small_more {ns} {old} {new} {rest} {behind} m a f =
     let t = first_told a.left rest behind (Some m) a.spelled f in

@@ -1,4 +1,4 @@
--- Words in memory: one is taken out of a block and put back, or is put behind the others.
+-- Words in memory: one is taken out of a block and put back, or is put after the others.
 use Rattle.bits.specs.Ownership.{memory_owns, heap}
 use Rattle.std.proofs.Common.{◌≡◌, ℕ, ◌+◌, ◌-◌, ◌*◌, ◌<◌, ◌≤◌, List, [], ◌∷◌, ◌++◌, length, get_or, set, refl, sym, arith, w64, length-set, length-append}
 use Rattle.std.proofs.ptr.Rows.{El, apart, whole, snoc, spare, empty, glued}
@@ -30,7 +30,7 @@ abbrev pub words : El
 words = record { row = u64; laws = word_laws }
 
 module _ (ws : List ℕ) (n b o : ℕ) where
-  -- the words of a block, the room behind them, and the right to free it
+  -- the words of a block, the room after them, and the right to free it
   abbrev row_at : Fml
   row_at = part_at (Array u64 (length ws)) full_share ws b o
 
@@ -100,7 +100,7 @@ nowhere {𝓤 = 𝓤} 𝓛 ws n = fst∗ 𝓤 (never 𝓤) (sem 𝓛 (fsep (room
 module _ {M : Type 1} {𝓤 : Ura M} (𝓛 : Logic 𝓤) (b : ℕ) where
   open 𝓛 use {H}
 
-  -- room for a word is one place and the room behind it
+  -- room for a word is one place and the room after it
   row_room : (ws : List ℕ) (o : ℕ) → ent 𝓤 (sem 𝓛 (row u64 full_share ws b o)) (H.room (ty_array (ty_int w64) (length ws)) b o)
   row_room [] o = 𝓛.laws.room_nil (ty_int w64) b o
   row_room (x ∷ ws) o = qed 𝓛 (‵ (row u64 full_share (x ∷ ws) b o) ∷ []) ∵ fsplit ! $

@@ -171,7 +171,7 @@ module _ (ws : List ℕ) (n k left : ℕ) (bits b : List Bool) (h : Holds ws n b
 pub moved : (k number : ℕ) → k ≤ 64 → word 64 (number * 2 ^ (64 - k) % 2 ^ 64) ≡ word k number ++ replicate (64 - k) false
 moved k number l = word_cut 64 64 (number * 2 ^ (64 - k)) (omega arith) ∙ word_up k (64 - k) 64 number (omega (arith, l))
 
--- ---- where there is room, and a last word
+-- ---- there is room, and a last word
 
 pub words_of : (ws : List ℕ) (n : ℕ) (bits : List Bool) → Holds ws n bits → (z : ℕ) × (length ws * 64 ≡ n + z) × (z < 64)
 words_of ws n bits h = (h.fills.zeros, words_long ws n 64 0 bits (word 64 0) h refl (omega arith) (omega arith) (sym (append-nil (word 64 0))), h.fills.few)

@@ -1,4 +1,4 @@
--- The memory that a block owns and lends.
+-- The memory that a block owns, and that it gives out as a slice.
 use Rattle.std.specs.Prelude.{ℕ, List, length}
 use Rattle.std.specs.Allocator.{block_with_items}
 use Rattle.std.specs.contracts.impls.GlobalAllocator.TheImpl.{ghosts}

@@ -1,4 +1,4 @@
--- Numbers and octets as bits, the highest first: the form in which other crates say which bits are meant; no clause.
+-- Numbers and octets as bits, the most significant first (X.691, clause 11.3). Other crates specify bits in this form.
 use Rattle.std.specs.Prelude.{ℕ, zero, suc, ◌/◌, ◌%◌, ◌^◌, ◌==◌, Bool, List, [], ◌∷◌, flat_map}
 
 -- the low k bits of number n, the highest of them first

@@ -95,12 +95,12 @@ impl Memory {
         unsafe { *self.start.add(place) = word }
     }
 
-    /// The words in order, lent for as long as the block is.
+    /// The words in order, as a slice that borrows the block.
     pub(crate) fn lend(&self, len: usize) -> &[u64]
         requires { len ≡ length self.now.words }
         ensures { result.now ≡ self.now.words }
     {
-        // All these places hold words, and none is written while they are lent.
+        // All these places hold words, and no word is written as long as the slice exists.
         unsafe { slice::from_raw_parts(self.start, len) }
     }
 }

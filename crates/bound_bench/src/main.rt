@@ -1,6 +1,6 @@
-//! Finds what the constraints of modules leave, each at two sizes, and writes how many types each module has; then
-//! reads, types and prints long values, and writes how long their texts are. How long `bound` took, the least of five
-//! runs, and `value_at`, `typed` and `print`, in microseconds, is written on standard error.
+//! Finds which values the constraints of modules leave, for each module in two sizes, and writes how many types each
+//! has. Then it reads, types and prints long values, and writes how long their texts are. The times of `bound`, the
+//! least of five runs, and of `value_at`, `typed` and `print` are written to standard error, in microseconds.
 #![tactic(auto)]
 
 mod notations;
@@ -18,18 +18,18 @@ use trees::{
     ValueForm, ValueSyntax,
 };
 
-/// What a module is full of.
+/// The kinds of modules. `count` is the size of a module.
 #[derive(Clone, Copy)]
 enum Shape {
-    /// One constraint of so many numbers, the greatest first, and one behind it.
+    /// One constraint with `count` numbers, the greatest first, and one constraint after it.
     Numbers,
     /// The same in SIZE.
     Sizes,
-    /// So many ends that name a value, whose notation is a number.
+    /// A constraint with `count` ends, each of which is the name of a value whose notation is a number.
     NamedEnds,
-    /// So many values, each the name of the next one, and a type with one end that names the first.
+    /// A chain of `count` values, each the name of the next one, and a type with one end that names the first.
     Chain,
-    /// So many types, each with a constraint of its own behind the one before.
+    /// `count` types, each the one before with another constraint after it.
     Types,
 }
 
@@ -81,7 +81,7 @@ fn alone(alloc: Global, is_size: bool, range: RangeSyntax) -> Result<ConstraintS
     Ok(constraint(is_size, ranges))
 }
 
-/// `name ::= TYPE` with these constraints.
+/// The assignment `name ::= TYPE` with these constraints.
 fn type_of(
     alloc: Global,
     name: &str,
@@ -97,7 +97,7 @@ fn type_of(
     Ok(Assignment::Type(TypeAssignment { name, syntax }))
 }
 
-/// `name INTEGER ::= VALUE`.
+/// The assignment `name INTEGER ::= VALUE`.
 fn value_of(
     alloc: Global,
     name: &str,
@@ -121,7 +121,7 @@ fn integer(alloc: Global) -> TypeForm<TypeSyntax> {
     TypeForm::Simple(Simple::Integer(Vec::new(alloc)))
 }
 
-/// A type with a constraint of so many numbers or sizes, the greatest first, and one from 1 behind it.
+/// A type with a constraint of `count` numbers or sizes, the greatest first, and a constraint from 1 on after it.
 fn numbers(alloc: Global, is_size: bool, count: usize) -> Result<Vec<Assignment>, AllocError> {
     let mut ranges = Vec::new(alloc);
     for at in 0..count {
@@ -142,7 +142,7 @@ fn numbers(alloc: Global, is_size: bool, count: usize) -> Result<Vec<Assignment>
     Ok(all)
 }
 
-/// A type with a constraint of so many names of one value.
+/// A type with a constraint of `count` names of one value.
 fn named_ends(alloc: Global, count: usize) -> Result<Vec<Assignment>, AllocError> {
     let mut ranges = Vec::new(alloc);
     for _ in 0..count {
@@ -156,7 +156,7 @@ fn named_ends(alloc: Global, count: usize) -> Result<Vec<Assignment>, AllocError
     Ok(all)
 }
 
-/// A chain of so many values, and a type with an end that names the first.
+/// A chain of `count` values, and a type with an end that names the first.
 fn chain(alloc: Global, count: usize) -> Result<Vec<Assignment>, AllocError> {
     let mut all = Vec::new(alloc);
     for at in 1..count {
@@ -175,7 +175,7 @@ fn chain(alloc: Global, count: usize) -> Result<Vec<Assignment>, AllocError> {
     Ok(all)
 }
 
-/// So many types, each with a constraint behind the one before.
+/// `count` types, each the one before with another constraint after it.
 fn types(alloc: Global, count: usize) -> Result<Vec<Assignment>, AllocError> {
     let mut all = Vec::new(alloc);
     all.push(type_of(alloc, "T0", integer(alloc), Vec::new(alloc))?)?;
@@ -203,7 +203,7 @@ impl Shape {
         }
     }
 
-    /// So many parts as a module of 65,536 types and 4,096 type assignments has place for.
+    /// The greatest size for which a module has at most 65,536 types and 4,096 type assignments.
     fn most(self) -> usize {
         match self {
             Shape::Types => 4_000,
@@ -211,7 +211,7 @@ impl Shape {
         }
     }
 
-    /// The assignments of a module with so many parts.
+    /// The assignments of a module of this size.
     fn assignments(self, alloc: Global, count: usize) -> Result<Vec<Assignment>, AllocError> {
         match self {
             Shape::Numbers => numbers(alloc, false, count),
@@ -223,7 +223,7 @@ impl Shape {
     }
 }
 
-/// The module, linked; None where it is refused.
+/// The linked module, or None if it has a fault.
 fn linked_of(alloc: Global, shape: Shape, count: usize) -> Result<Option<Linked>, AllocError> {
     let module = Module {
         name: named(alloc, "M")?,
@@ -237,7 +237,7 @@ fn linked_of(alloc: Global, shape: Shape, count: usize) -> Result<Option<Linked>
     Ok(link(alloc, modules).ok())
 }
 
-/// How long `bound` takes, the least of five runs; how many types there are is written.
+/// The least time of five runs of `bound`. The number of types is written.
 fn least_time(rt: &HostRuntime, shape: Shape, count: usize) -> io::Result<Duration> {
     let mut least = Duration::MAX;
     let mut bounded = 0;

@@ -1,4 +1,4 @@
-//! Long notations of values: how long it takes to read them, to type them and to print their values.
+//! Long notations of values, and the times to read them, to type them and to print their values.
 
 ghost use Rattle.std.specs.Prelude.{IfOk, IfSome};
 ghost use Rattle.type_table.specs.Lists.{AreSound};
@@ -17,8 +17,8 @@ use trees::ValueSyntax;
 use typed_values::typed;
 use value_text::print;
 
-/// The types of the notations, as sample types have them too but for the last one, whose components have a DEFAULT of
-/// so many empty lists.
+/// The types of the notations. The sample types have all of them but the last, whose components have a DEFAULT of many
+/// empty lists.
 const TYPES: &str =
     "M DEFINITIONS ::= BEGIN N ::= SEQUENCE OF INTEGER L ::= SEQUENCE OF L O ::= OCTET STRING \
     D ::= SEQUENCE OF SEQUENCE {a L DEFAULT {{}";
@@ -27,22 +27,23 @@ const LISTS_IN_DEFAULT: usize = 2_000;
 
 const BEHIND_DEFAULT: &str = "}, b NULL} END";
 
-/// How often each notation is read, typed and printed; the least times are told.
+/// How often each notation is read, typed and printed. The least times are written.
 const RUNS: usize = 1;
 
-/// What a notation is full of.
+/// The kinds of notations.
 #[derive(Clone, Copy)]
 pub enum Notation {
     /// One list of numbers.
     Numbers,
-    /// Lists in lists, 62 of them deep, again and again.
+    /// Lists that are nested in 62 levels, again and again.
     Lists,
     /// One hexadecimal text.
     Digits,
-    /// One list of components, each with one beside it whose DEFAULT is left out.
+    /// One list of components. In each the second component is left out, because its value is its DEFAULT.
     Defaults,
 }
 
+/// All kinds of notations.
 pub const NOTATIONS: [Notation; 4] = [
     Notation::Numbers,
     Notation::Lists,
@@ -51,6 +52,7 @@ pub const NOTATIONS: [Notation; 4] = [
 ];
 
 impl Notation {
+    /// The name of the notation in print.
     pub fn name(self) -> &'static str {
         match self {
             Notation::Numbers => "numbers",
@@ -60,7 +62,7 @@ impl Notation {
         }
     }
 
-    /// The name of the type in the module, and of the sample type by which the value is printed.
+    /// The name of the type in the module, and that of the sample type by which the value is printed.
     fn types(self) -> (&'static str, &'static str) {
         match self {
             Notation::Numbers => ("N", "numbers"),
@@ -70,7 +72,7 @@ impl Notation {
         }
     }
 
-    /// What the notation begins with, what it is full of, and its end.
+    /// The beginning of the notation, the piece that is repeated, and the end.
     fn pieces(self) -> (&'static str, &'static str, &'static str) {
         match self {
             Notation::Numbers => ("{1", ", 1234567", "}"),
@@ -84,7 +86,7 @@ impl Notation {
         }
     }
 
-    /// A notation of about so many octets.
+    /// A notation of about this number of octets.
     fn text(self, alloc: Global, octets: usize) -> Result<Vec<u8>, AllocError> {
         let (first, piece, last) = self.pieces();
         let mut text = Vec::new(alloc);
@@ -114,7 +116,7 @@ const NEVER: Times = Times {
     printed: 0,
 };
 
-/// The module, linked; None where it is refused.
+/// The linked module, or None if it has a fault.
 fn linked_of(alloc: Global) -> Result<Option<Linked>, AllocError>
     ensures { IfOk result (λ o. IfSome o (λ l. AreSound l.types)) }
 {
@@ -205,8 +207,8 @@ fn read_once(
     type_once(rt, bounded, samples, notation, &syntax, times)
 }
 
-/// Reads, types and prints a notation of about so many octets. How many octets were printed is written on standard
-/// output, how long it took on standard error.
+/// Reads, types and prints a notation of about this number of octets. The number of printed octets is written to
+/// standard output, and the times to standard error.
 fn measure(
     rt: &HostRuntime,
     bounded: &Bounded<'_>,
@@ -248,7 +250,7 @@ fn measure_each(rt: &HostRuntime, bounded: &Bounded<'_>, samples: &Schema) -> io
     Ok(())
 }
 
-/// Each notation, of 4 MiB and of 8 MiB.
+/// Measures each notation, in 4 MiB and in 8 MiB.
 pub fn measure_all(rt: &HostRuntime) -> io::Result<()> {
     let samples = schema(rt.alloc())?;
     let Some(linked) = linked_of(rt.alloc())? else {

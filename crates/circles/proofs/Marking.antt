@@ -50,7 +50,7 @@ stays [] ys k j e = absurd cc
 stays (x ∷ xs) ys zero j e = e
 stays (x ∷ xs) ys (suc k) j e = stays xs ys k j e
 
--- what stands in a list with one item more stood there, or is that item
+-- an element of a list with one item more was in the list before, or is that item
 either : (xs : List ℕ) (x k j : ℕ) → slice_get (xs ++ x ∷ []) k ≡ Some j → StandsIn xs j ⊎ (x ≡ j)
 either [] x zero j e = let q : x ≡ j = cc in inr q
 either [] x (suc k) j e = absurd cc
@@ -129,7 +129,7 @@ marks_alike s Q P m m' w w' a to from = record {
   count = a.count;
 }
 
--- ---- the parts of types that are no lists
+-- ---- the parts of types that aren't lists
 
 reference_part : (i j : ℕ) → IsPart i (reference j) → i ≡ j
 reference_part i j referred = refl

@@ -1,9 +1,9 @@
-//! Writes values by the distinguished rules, into a list and to a sink that keeps nothing, reads what was written by
-//! the basic rules, and prints how many octets and rows of the account each has, and whether what was read is what was
-//! written. How long each took, in microseconds, and how many megabytes a second that is, stands on standard error.
+//! Encodes values by the distinguished rules, into a list and to a sink that keeps nothing, and decodes the encodings
+//! by the basic rules. It prints how many octets and rows of the account each has, and whether the decoded value is
+//! encoded the same again. The times in microseconds, and the megabytes in each second, are written to standard error.
 //!
-//! `codec_bench FILE .. -- TYPE VALUE ..`: values that the modules in the files name, each under a type; behind them
-//! values of growing size.
+//! `codec_bench FILE .. -- TYPE VALUE ..`: encodes values that the modules in the files name, each under a type, and
+//! after them values of growing size.
 #![tactic(auto)]
 
 mod named;
@@ -35,7 +35,7 @@ fn measure_shape(rt: &HostRuntime, code: &Code, shape: Shape<'_>) -> io::Result<
     measure(rt, code, subject)
 }
 
-/// All shapes.
+/// Measures values of all shapes.
 fn measure_shapes(rt: &HostRuntime, code: &Code) -> io::Result<()> {
     for size in [50_000, 100_000] {
         let rows = Shape::of("small SEQUENCEs", "rows", Made::Rows, size);

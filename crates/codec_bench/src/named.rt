@@ -12,18 +12,18 @@ use resolve::Referent;
 use std::{env, fs, io};
 use trees::ValueSyntax;
 
-/// How often a message is written in one run.
+/// How often a message is encoded in one run.
 const TIMES: usize = 1000;
 
-/// What the words of the program ask for: the texts of files up to the word `--`, and behind it the names of types and
-/// values.
+/// The contents of the command line: the texts of the files before the word `--`, and the names of types and values
+/// after it.
 #[derive(Drop)]
 struct Words {
     texts: Vec<Vec<u8>>,
     names: Vec<String>,
 }
 
-/// The texts and names that the program's words ask for.
+/// The texts and names on the command line.
 fn asked(rt: &HostRuntime) -> io::Result<Words> {
     let mut texts = Vec::new(rt.alloc());
     let mut names = Vec::new(rt.alloc());
@@ -40,7 +40,7 @@ fn asked(rt: &HostRuntime) -> io::Result<Words> {
     Ok(Words { texts, names })
 }
 
-/// The type that a word names as `Module.Type`.
+/// The type with the name `Module.Type`.
 fn type_at(modules: &Modules, word: &str) -> Option<TypeId>
     ensures { IfSome result (λ id. id.index < length modules.now.types) }
 {
@@ -51,7 +51,7 @@ fn type_at(modules: &Modules, word: &str) -> Option<TypeId>
     }
 }
 
-/// The module and the notation of the value that a word names as `Module.value`, where it is assigned.
+/// The module and the notation of the value with the name `Module.value`, or None if it isn't assigned.
 fn notation_at<'a>(modules: &'a Modules, word: &'a str) -> Option<(&'a str, &'a ValueSyntax)> {
     let (within, name) = word.split_once('.')?;
     match modules.linked().find(within, name) {
@@ -60,7 +60,7 @@ fn notation_at<'a>(modules: &'a Modules, word: &'a str) -> Option<(&'a str, &'a 
     }
 }
 
-/// Measures the value that a word names, under the type that another one names.
+/// Measures the value with a name, under the type with another name.
 fn measure_one(
     rt: &HostRuntime,
     modules: &Modules,
@@ -85,7 +85,7 @@ fn measure_one(
     measure(rt, code, subject)
 }
 
-/// Measures each value that the program's words name.
+/// Measures each value that the command line names.
 pub fn measure_named(rt: &HostRuntime) -> io::Result<()> {
     let asked = asked(rt)?;
     accepted_keep();

@@ -1,4 +1,4 @@
-//! How long it takes to write a value and to read it back.
+//! The times to encode a value and to decode it.
 
 use asn_base::schema::TypeId;
 use asn_base::value::Value;
@@ -8,10 +8,10 @@ use der_writer::{Sink, write_der, write_der_to};
 use std::io;
 use std::time::{Duration, Instant};
 
-/// How often a value is written so many times; the least time counts.
+/// How often the encodings of a value are repeated. The least time counts.
 const RUNS: usize = 3;
 
-/// A value of a type, which has so many members, and is written so many times one behind the other.
+/// A value of a type with this number of members. It is encoded a number of times, one encoding after another.
 #[derive(Clone, Copy)]
 pub struct Subject<'t> {
     pub name: &'t str,
@@ -43,7 +43,7 @@ impl Sink for Nowhere {
     }
 }
 
-/// The octets of the value, as they are written into a list; none where it isn't written.
+/// The octets of the value, encoded into a list. There are none after a fault.
 fn to_list(rt: &HostRuntime, code: &Code, subject: Subject<'_>) -> io::Result<Vec<u8>> {
     let mut least = Duration::MAX;
     let mut octets = Vec::new(rt.alloc());
@@ -64,7 +64,7 @@ fn to_list(rt: &HostRuntime, code: &Code, subject: Subject<'_>) -> io::Result<Ve
     Ok(octets)
 }
 
-/// Writes the value to a sink.
+/// Encodes the value to a sink.
 fn to_sink(rt: &HostRuntime, code: &Code, subject: Subject<'_>, count: usize) -> io::Result<()> {
     let mut least = Duration::MAX;
     for _ in 0..RUNS {
@@ -78,7 +78,7 @@ fn to_sink(rt: &HostRuntime, code: &Code, subject: Subject<'_>, count: usize) ->
     told(rt, "written to a sink", subject, count, least)
 }
 
-/// Reads octets of the value.
+/// Decodes the octets of the value.
 fn read(rt: &HostRuntime, code: &Code, subject: Subject<'_>, octets: &[u8]) -> io::Result<()> {
     let mut least = Duration::MAX;
     let mut is_read = true;
@@ -95,7 +95,7 @@ fn read(rt: &HostRuntime, code: &Code, subject: Subject<'_>, octets: &[u8]) -> i
     told(rt, "read", subject, octets.len(), least)
 }
 
-/// Says whether what is read of octets is written as they are.
+/// Prints whether the decoded value is encoded to the same octets.
 fn read_back(rt: &HostRuntime, code: &Code, subject: Subject<'_>, octets: &[u8]) -> io::Result<()> {
     let Ok(read) = read_ber(rt.alloc(), code, subject.id, octets) else {
         return Ok(());
@@ -130,7 +130,7 @@ fn told(
     )
 }
 
-/// Writes a value, and reads it back.
+/// Encodes a value, and decodes the encoding.
 pub fn measure(rt: &HostRuntime, code: &Code, subject: Subject<'_>) -> io::Result<()> {
     let octets = to_list(rt, code, subject)?;
     to_sink(rt, code, subject, octets.len())?;

@@ -1,4 +1,4 @@
--- What the steps of each part of a routine tell.
+-- The events of the steps of each part of a routine.
 use Rattle.std.proofs.Common.{◌≡◌, ℕ, zero, suc, ◌<◌, List, [], ◌∷◌, ◌++◌, refl, ap, ◌∙◌}
 use Rattle.std.specs.Prelude.{Bool, true, false, Some, slice_get, drop, replicate}
 use Rattle.asn_base.specs.declared.tag.Tag.{Tag}
@@ -45,7 +45,7 @@ sorted_in (each_sorted {xs = xs} {es = es} a d e) = (xs, es, a, d, e)
 pub pick_in : {s : List Resolved} {t : TypeNumber} {n i : ℕ} {ss : List Step} {w : AbstractValue} {es : List Event} → Steps s t (Pick n ∷ ss) (alternative i w) es → (u : TypeId) × (xs : List Event) × (fs : List Event) × (i < n) × (slice_get ss i ≡ Some (Call u)) × Steps s u.index (routine_at s u.index) w xs × Steps s t (drop n ss) (alternative i w) fs × (es ≡ xs ++ fs)
 pick_in (pick {u = u} {xs = xs} {es = es} lt at a d e) = (u, xs, es, lt, at, a, d, e)
 
--- a component is left out or written; a mark may stand behind it
+-- a component is left out or written, and a mark may follow it
 pub data Held (s : List Resolved) (t : TypeNumber) (f : Field') (mark : List Event) (ss : List Step) (ws : Row) (es : List Event) : Type 0 where
   not_held : (fs : List Event) → IsLeftOut s t f ws → Steps s t ss (fields ws) fs → es ≡ leaves_out (has_default f.need) ∷ fs → Held s t f mark ss ws es
   held : (w : AbstractValue) (xs fs : List Event) → IsWritten s t f ws w → Steps s f.ty.index (routine_at s f.ty.index) w xs → Steps s t ss (fields ws) fs → es ≡ xs ++ (mark ++ fs) → Held s t f mark ss ws es

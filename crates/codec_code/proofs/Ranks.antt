@@ -65,7 +65,7 @@ is_before g f h = ⊎_elim
     (and_both (class_rank g.class == class_rank f.class) (nat_lt g.number f.number) (eq-eqb (class_rank g.class) (class_rank f.class) r.0) (lt-ltb g.number f.number r.1)))
     h
 
--- a tag that isn't before another one stands behind it, or is the same
+-- a tag that isn't before another one is after it, or is the same
 record NotBefore (g f : Tag) : Type 0 where
   classes : class_rank f.class ≤ class_rank g.class
   numbers : class_rank g.class ≡ class_rank f.class → f.number ≤ g.number
@@ -84,7 +84,7 @@ less_or_equal zero (suc n) h = inl (omega arith)
 less_or_equal (suc m) zero h = absurd (omega arith)
 less_or_equal (suc m) (suc n) h = ⊎_elim (λ l. inl (omega arith)) (λ e. inr (ap suc e)) (less_or_equal m n (omega arith))
 
--- what stands before f stands before what isn't before f
+-- a tag before f is also before a tag that isn't before f
 still_before : (h f g : Tag) → TagBefore h f → NotBefore g f → TagBefore h g
 still_before h f g a n = ⊎_elim
     (λ l. inl (let k = n.classes in omega arith))
@@ -96,7 +96,7 @@ still_before h f g a n = ⊎_elim
 abbrev pub one_if : Bool → ℕ
 one_if b = if b then 1 else 0
 
--- how many of the components stand before a tag
+-- how many of the components are before a tag
 abbrev pub rank_at : List Resolved → List Component → Tag → ℕ
 rank_at s [] g = 0
 rank_at s (c ∷ cs) g = (if both_before (tags_at s c.type) (Some g) then 1 else 0) + rank_at s cs g
@@ -129,7 +129,7 @@ pub record HasRank (s : List Resolved) (cs : List Component) (p : Part) : Type 0
 ordered_two : (s : List Resolved) (cs : List Component) (p q : Part) → HasRank s cs p → HasRank s cs q → p.rank < q.rank → InTagOrder p.octets q.octets
 ordered_two s cs p q a b lt = record { former = a.tag; latter = b.tag; begins_former = a.begins; begins_latter = b.begins; before = in_tag_order s cs a.tag b.tag (let e = a.rank_is in let f = b.rank_is in omega arith) }
 
--- each rank is less than those behind it
+-- each rank is less than those after it
 abbrev pub RanksRise : List Part → Type 0
 RanksRise [] = Unit {0}
 RanksRise (p ∷ ps) = AllByRecursion (λ q. p.rank < q.rank) ps × RanksRise ps
@@ -139,7 +139,7 @@ ordered_all s cs [] a r = ascending_none
 ordered_all s cs (p ∷ []) a r = ascending_one
 ordered_all s cs (p ∷ q ∷ ps) a r = ascending_more (ordered_two s cs p q a.0 a.1.0 r.0.0) (ordered_all s cs (q ∷ ps) a.1 r.1)
 
--- ---- each rank stands once
+-- ---- each rank is there once
 
 abbrev pub one_at : ℕ → ℕ → ℕ
 one_at r n = one_if (n == r)
@@ -320,7 +320,7 @@ once_in s all (d ∷ ds) apart own r = ⊎_elim
 pub once : (s : List Resolved) (cs : List Component) → AllApart s (map (λ c. c.type) cs) → AllByRecursion (λ c. HasTag s c.type) cs → (r : ℕ) → members_at s cs r cs ≤ 1
 once s cs apart tagged r = once_in s cs cs apart (all_own s cs tagged) r
 
--- contents behind tags begin with the outermost
+-- contents with tags begin with the outermost tag
 pub framed_begins : {g : Tag} {gs : List Tag} {c : Bool} {x o : List ℕ} → Framed Distinguished (g ∷ gs) c x o → BeginsWith g o
 framed_begins (innermost {c = c} {h = h} {x = x} a) = record { constructed = c; count = length x; header = h; rest = x; is_header = a.header; whole = refl }
 framed_begins (outer {h = h} {y = y} f a) = record { constructed = true; count = length y; header = h; rest = y; is_header = a.header; whole = refl }

@@ -50,7 +50,7 @@ calls_over (a ∷ as') ss = calls_over as' ss
 same_call : (t t' : TypeId) → Some (Call t) ≡ Some (Call t') → t.index ≡ t'.index
 same_call t t' e = let f : Call t ≡ Call t' = cc in let g : t ≡ t' = cc in ap (λ q. q.index) g
 
--- ---- what is told of parts of a value
+-- ---- the events of parts of a value
 
 record MembersTold (s : List Resolved) (t n : ℕ) (cs : List Component) (vs ws : Row) (ss : List Step) (es : List Event) : Type 0 where
   tree : Tree
@@ -188,7 +188,7 @@ module _ (s : List Resolved) (schema : IsSchema s)
   ranked_present {c = c} h g b one others (omitted fs a d e) = ranked_absent (λ xs r. row_omitted s turn follow levels h b a r) fs (others fs d) (has_default (need_of c.presence)) e
   ranked_present h g b one others (stood xs fs differs x d e) = ranked_stood h g b differs xs fs (one xs x) (others fs d) e
 
-  -- ---- what stands within the headers of lists
+  -- ---- what is within the headers of lists
 
   sequence_inside : {t n : ℕ} (tags : List Tag) {e : Bool} {cs : List Component} {vs : Row} (fs : List Event) → GroupsAreWhole cs vs → MembersTold s t n cs vs vs (rest_if e ++ ends (length tags)) fs → Inside s n tags (a_sequence e cs) (fields vs) fs
   sequence_inside tags {e} {cs} {vs} fs g m =

@@ -16,7 +16,7 @@ drop_front : (xs ys : List Step) → drop (length xs) (xs ++ ys) ≡ ys
 drop_front [] ys = refl
 drop_front (x ∷ xs) ys = drop_front xs ys
 
--- where a routine stands: what is before it, itself, and what is behind it
+-- the steps before a routine, the routine, and the steps after it
 pub record RoutineStands (s : List Resolved) (n : ℕ) (rs : List Resolved) (t : ℕ) (r : Resolved) : Type 0 where
   pub front : List Step
   pub behind : List Step
@@ -75,7 +75,7 @@ less zero (suc n) = inl (omega arith)
 less (suc m) zero = inr (omega arith)
 less (suc m) (suc n) = ⊎_elim (λ l. inl (omega arith)) (λ g. inr (omega arith)) (less m n)
 
--- there is none behind the last type
+-- there is no type after the last one
 past : (s : List Resolved) (t : ℕ) → length s ≤ t → slice_get s t ≡ None
 past [] t h = refl
 past (r ∷ s) zero h = absurd (omega arith)

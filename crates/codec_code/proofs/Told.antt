@@ -1,4 +1,4 @@
--- What is told of a value, as a tree whose octets are an encoding of it.
+-- The events of a value, as a tree whose octets are an encoding of the value.
 use Rattle.std.proofs.Common.{◌≡◌, ℕ, suc, ◌<◌, ◌^◌, Bool, true, false, List, [], ◌∷◌, ◌++◌, length, refl, sym, ap, subst, ◌∙◌, arith, append-nil}
 use Rattle.std.specs.Prelude.{Option, Some, None, slice_get, IsSomeAnd}
 use Rattle.std.specs.List.{concat}
@@ -41,7 +41,7 @@ pub record HeldBy (s : List Resolved) (n : ℕ) (k : Kind) (v : AbstractValue) (
   pub same : AlikeBy s k v w
   pub is : Holds s Distinguished k w 0 c x
 
--- ---- what stands within the headers
+-- ---- what is within the headers
 
 pub data Content : Type 0 where
   plain : Tree → Content
@@ -63,7 +63,7 @@ abbrev pub Means : Content → List ℕ → Type 0
 Means (plain i) x = StandsFor i x
 Means (grouped o ms) x = (ps : List Part) × (qs : List Part) × PartsOf ms ps × Arranged o ps qs × (x ≡ concat (encodings_of qs))
 
--- members to be ordered stand in a header of their own
+-- members that are put in order are in a header of their own
 abbrev pub Suits : List Tag → RowKind → Content → Type 0
 Suits tags k (plain i) = Unit {0}
 Suits tags k (grouped o ms) = (k ≡ row_of_order o) × (tags ≡ [] → ⊥)
@@ -119,7 +119,7 @@ whole s header {t = t} {tags = tags} {k = k} {v = v} i es d h =
 
 -- ---- components
 
--- c stands at a place of type t
+-- c is the component of type t at a place
 pub record Placed (s : List Resolved) (t i : ℕ) (c : Component) : Type 0 where
   pub tags : List Tag
   pub kind : Kind

@@ -1,4 +1,4 @@
--- Contents behind their tags, as events, as a tree and as octets.
+-- Contents with their tags, as events, as a tree and as octets.
 use Rattle.std.proofs.Common.{◌≡◌, ℕ, zero, suc, ◌+◌, ◌<◌, ◌≤◌, ◌^◌, Bool, true, List, [], ◌∷◌, ◌++◌, length, refl, sym, ap, subst, ◌∙◌, arith, append_assoc, append-nil, length-append}
 use Rattle.std.specs.Prelude.{replicate}
 use Rattle.asn_base.specs.declared.tag.Tag.{Tag}
@@ -49,7 +49,7 @@ pub record Framed_in (tags : List Tag) (c : Bool) (P : List ℕ → Type 0) (o :
   pub more : length contents ≤ length o
   pub framed : length o < 2 ^ 64 → Framed Distinguished tags c contents o
 
--- contents of which P holds, behind one header
+-- contents for which P holds, in one header
 abbrev pub Behind : (List ℕ → Type 0) → Tag → Bool → List ℕ → Type 0
 Behind P g c o = (x : List ℕ) × P x × (o ≡ shortest_header g c (length x) ++ x)
 

@@ -24,7 +24,7 @@ use Rattle.codec_machine.proofs.Weigh.{room}
 
 module _ {S : Type 0} (s : List Resolved) (adds : S → List Event → S → Type 0) where
   module _ (id : TypeId) (others : Bor (List Step)) (v : Bor Value) (olds news : List Frame) (a b : S) where
-    -- an event, and the steps behind it
+    -- an event, and the steps after it
     acted : (x : Step) (es : List Event) → adds a es b → news ≡ olds ++ Routine id others v ∷ []
         → ((ys : List Event)
         → Steps s id.index others.now (abstract v.now) ys
@@ -180,7 +180,7 @@ module _ {S : Type 0} (s : List Resolved) (adds : S → List Event → S → Typ
         steps = subst (λ q. Steps s id.index q (abstract v.now) t.events) d (subst (λ q. Steps s id.index ss.now (abstract v.now) q) (append-nil t.events) o);
       }
 
--- of what the start can't be told, nothing can
+-- if there are no events for the start, there are none for a later state
 pub reached_untold : {S : Type 0} (s : List Resolved) (adds : S → List Event → S → Type 0) (id : TypeId)
     (ss : Bor (List Step)) (v : Bor Value) (olds mids mids' : List Frame) (a b : S) (fault : RunFault)
     → ss.now ≡ routine_at s id.index

@@ -1,4 +1,4 @@
--- What stands behind a step that tells something.
+-- What follows a step that has events.
 use Rattle.std.proofs.Common.{◌≡◌, ℕ, ◌<◌, List, [], ◌∷◌, refl, sym, ap, subst, ◌∙◌, drop}
 use Rattle.std.specs.Prelude.{Option, Some, None, slice_get}
 use Rattle.asn_base.specs.declared.schema.TypeId.{TypeId}
@@ -43,7 +43,7 @@ pub contents_of_leaf : {s : List Resolved} {t : ℕ} {k : LeafKind} {ss : List S
     → (x : List ℕ) × HasContents k v x
 contents_of_leaf (leaf {x = x} c d) = (x, c)
 
--- no call is told but behind `Pick`
+-- a call has events only after `Pick`
 pub no_call : {s : List Resolved} {t : ℕ} {u : TypeId} {ss : List Step} {v : AbstractValue} {es : List Event}
     → Steps s t (Call u ∷ ss) v es
     → ⊥
@@ -51,7 +51,7 @@ no_call d = elim d [ ]
 
 -- ---- components
 
--- a component of a SEQUENCE or SET, and what stands behind it
+-- a component of a SEQUENCE or SET, and what follows it
 pub data FieldTold (s : List Resolved) (t : ℕ) (f : Field') (ss : List Step) (v : AbstractValue) : Type 0 where
   not_held : LeavesOut s t f v → Tellable (Steps s t ss v) → FieldTold s t f ss v
   held : (w : AbstractValue)
@@ -110,7 +110,7 @@ written_once : {s : List Resolved} {t : ℕ} {f : Field'} {v w x : AbstractValue
     → w ≡ x
 written_once {f = f} o p = same_held (one_component f.place (sym o.is ∙ p.is) o.written.stands p.written.stands)
 
--- the component that is written is told
+-- the component that is written has events
 pub held_field : {s : List Resolved} {t : ℕ} {f : Field'} {ss : List Step} {v : AbstractValue} (w : AbstractValue)
     → WritesIt s t f v w
     → FieldTold s t f ss v
@@ -127,7 +127,7 @@ no_field n (held w o b d) = n.1 w o
 
 -- ---- elements
 
--- elements, and what stands behind them
+-- elements, and what follows them
 pub record ListTold (s : List Resolved) (t : ℕ) (T : Row → List Event → Type 0) (ss : List Step)
     (v : AbstractValue) : Type 0 where
   pub row : Row
@@ -166,7 +166,7 @@ of_part (part {xs = xs} {es = es} a d e) = record { first = record { events = xs
 
 -- ---- alternatives
 
--- an alternative, and what stands behind all calls
+-- an alternative, and what follows all calls
 pub record PickTold (s : List Resolved) (t n : ℕ) (ss : List Step) (v : AbstractValue) : Type 0 where
   pub number : ℕ
   pub type : TypeId

@@ -105,7 +105,7 @@ turned_by s adds T w olds news f a b h k' e ac =
           let z = r.less in omega (arith, k, m);
     }
 
--- what the last frame can't be told of, all frames can't
+-- if there are no events for the last frame, there are none for all frames
 pub untold_by : (s : List Resolved) (T : List Event → Type 0) (olds : List Frame) (f : Frame) (fault : RunFault)
     → ((ys : List Event) → Told s f ys → T ys)
     → IsToldNothing T fault

@@ -98,7 +98,7 @@ module _ (s : List Resolved) (id : TypeId) (olds : List Frame) where
           (let a = held_weight s f.ty ss.now (abstract w.now) e in let b = component_weight (total s) o.row f.place (abstract w.now) o.written.stands in let c = inner_at (total s) (abstract v.now) (fields o.row) o.is in omega arith) in omega arith;
     }
 
-    -- a component that holds no others, told at once
+    -- a component without other values in it, written at once
     pub field_whole : (f : Field') (news : List Frame) (w : Bor Value) (h : Head') (k : LeafKind) (x : List ℕ)
         → WritesIt s id.index f (abstract v.now) (abstract w.now)
         → routine_at s f.ty.index ≡ Head h ∷ Leaf k ∷ End ∷ []
@@ -117,7 +117,7 @@ module _ (s : List Resolved) (id : TypeId) (olds : List Frame) where
       less = (let h' = room (total s) (Field f) rest.now (abstract v.now) 0 (omega arith) in omega arith);
     }
 
-    -- where it has no contents
+    -- the value has no contents
     pub field_untold : (f : Field') (w : Bor Value) (h : Head') (k : LeafKind) (fault : RunFault)
         → WritesIt s id.index f (abstract v.now) (abstract w.now)
         → routine_at s f.ty.index ≡ Head h ∷ Leaf k ∷ End ∷ []

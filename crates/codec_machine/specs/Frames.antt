@@ -1,4 +1,4 @@
--- What frames stand for, and how many steps they can take.
+-- The events of frames, and how many steps frames can take.
 use Rattle.std.specs.Prelude.{◌≡◌, ℕ, suc, ◌+◌, ◌*◌, ◌<◌, List, [], ◌∷◌, ◌++◌, length, map, Option, Some, None}
 use Rattle.asn_base.specs.Abstract.{AbstractValue, abstract, fields, Row, row_of_list}
 use Rattle.asn_base.specs.Types.{TypeNumber, Resolved}
@@ -25,32 +25,32 @@ abbrev pub AddsWhole : {S : Type 0} → (S → List Event → S → Type 0) → 
 AddsWhole adds h k v a b =
     (x : List ℕ) × HasContents k v x × adds a (opens h.tag h.constructed h.row ∷ puts x ∷ closes ∷ []) b
 
--- no octets are contents of the value
+-- no octets are contents of this kind for the value
 abbrev pub HasNoContents : LeafKind → AbstractValue → Type 0
 HasNoContents k v = (x : List ℕ) → HasContents k v x → ⊥
 
--- a run that is refused as none of the type was asked for what tells nothing
+-- a run that stops with `NotOfType` had a value without events
 abbrev pub IsToldNothing : (List Event → Type 0) → RunFault → Type 0
 IsToldNothing T fault = fault ≡ NotOfType → (es : List Event) → T es → ⊥
 
--- the events that a frame still stands for
+-- the events that are left for a frame
 abbrev pub Told : List Resolved → Frame → List Event → Type 0
 Told s (Routine t steps v) es = Steps s t.index steps.now (abstract v.now) es
 Told s (ElementsLeft u vs) es = Elements s u.index (row_of_list (map abstract vs.now)) es
 Told s (PartsLeft u vs) es = Parts s u.index (row_of_list (map abstract vs.now)) es
 Told s (PartEnd r) es = es ≡ parts r ∷ []
 
--- the events that frames still stand for, where the last one goes first
+-- the events that are left for these frames, of which the last one comes first
 abbrev pub Left : List Resolved → List Frame → List Event → Type 0
 Left s [] es = es ≡ []
 Left s (f ∷ fs) es = (xs : List Event) × (ys : List Event) × Left s fs xs × Told s f ys × (es ≡ xs ++ ys)
 
--- some events are told
+-- some list of events meets T
 pub record Tellable (T : List Event → Type 0) : Type 0 where
   pub events : List Event
   pub told : T events
 
--- the frames with the one that goes on, where one does
+-- these frames, and the next one if there is one
 abbrev pub and_next : List Frame → Option Frame → List Frame
 and_next fs None = fs
 and_next fs (Some f) = fs ++ f ∷ []
@@ -65,8 +65,8 @@ abbrev pub weighs : ℕ → List Frame → ℕ
 weighs l [] = 0
 weighs l (f ∷ fs) = frame_weight l f + weighs l fs
 
--- Frames were pushed, and whatever they stand for completes what T asks, behind events that were told; where anything
--- is told by T, they stand for something; they can take fewer steps than w.
+-- Frames were pushed. After the events es, each list of events that is left for them makes a list that meets T. If some
+-- list of events meets T, some list is left for them. They can take fewer than w steps.
 pub record Replaced (s : List Resolved) (T : List Event → Type 0) (w : ℕ) (es : List Event) (olds news : List Frame)
     : Type 0 where
   pub pushed : List Frame
@@ -75,26 +75,26 @@ pub record Replaced (s : List Resolved) (T : List Event → Type 0) (w : ℕ) (e
   pub stays : (all : List Event) → T all → Tellable (Left s pushed)
   pub less : weighs (total s) pushed < w
 
--- the same, and the events were added
+-- the same, and the events were added to the state
 pub record Acted {S : Type 0} (s : List Resolved) (adds : S → List Event → S → Type 0) (T : List Event → Type 0) (w : ℕ)
     (olds : List Frame) (a : S) (news : List Frame) (b : S) : Type 0 where
   pub events : List Event
   pub added : adds a events b
   pub replaced : Replaced s T w events olds news
 
--- a component that isn't written
+-- a component that isn't encoded
 pub record LeavesOut (s : List Resolved) (t : TypeNumber) (f : Field') (v : AbstractValue) : Type 0 where
   pub row : Row
   pub is : v ≡ fields row
   pub left_out : IsLeftOut s t f row
 
--- a component that is written
+-- a component that is encoded
 pub record WritesIt (s : List Resolved) (t : TypeNumber) (f : Field') (v w : AbstractValue) : Type 0 where
   pub row : Row
   pub is : v ≡ fields row
   pub written : IsWritten s t f row w
 
--- the component is neither left out nor written
+-- the component is neither left out nor encoded
 abbrev pub HasNoField : List Resolved → TypeNumber → Field' → AbstractValue → Type 0
 HasNoField s t f v = (LeavesOut s t f v → ⊥) × ((w : AbstractValue) → WritesIt s t f v w → ⊥)
 
@@ -102,7 +102,7 @@ HasNoField s t f v = (LeavesOut s t f v → ⊥) × ((w : AbstractValue) → Wri
 abbrev pub steps_weight : ℕ → List Step → AbstractValue → ℕ
 steps_weight l ss v = suc (length ss * (2 + inner l v))
 
--- the same of steps of a type's routine
+-- the same for steps of the routine of type t
 abbrev pub ReplacedBy : List Resolved → TypeNumber → List Step → AbstractValue → List Event → List Frame → List Frame
     → Type 0
 ReplacedBy s t ss v = Replaced s (Steps s t ss v) (steps_weight (total s) ss v)
@@ -123,18 +123,18 @@ ActedBy s adds t ss v = Acted s adds (Steps s t ss v) (steps_weight (total s) ss
 abbrev pub IsUntold : List Resolved → TypeNumber → List Step → AbstractValue → RunFault → Type 0
 IsUntold s t ss v = IsToldNothing (Steps s t ss v)
 
--- some events were added, and whatever the new frames stand for completes what the old ones stand for; where the old
--- ones stand for anything, so do the new
+-- Some events were added, and each list of events that is left for the new frames completes one for the old frames. If
+-- some list is left for the old frames, some list is left for the new ones.
 pub record Turned {S : Type 0} (s : List Resolved) (adds : S → List Event → S → Type 0) (olds : List Frame) (a : S)
     (news : List Frame) (b : S) : Type 0 where
   pub events : List Event
   pub added : adds a events b
   pub left : (rest : List Event) → Left s news rest → Left s olds (events ++ rest)
   pub stays : (all : List Event) → Left s olds all → Tellable (Left s news)
-  -- and the machine can take fewer steps
+  -- the machine can take fewer steps than before
   pub less : weighs (total s) news < weighs (total s) olds
 
--- the same after any number of turns
+-- the same after any number of steps
 pub record Reached {S : Type 0} (s : List Resolved) (adds : S → List Event → S → Type 0) (olds : List Frame) (a : S)
     (news : List Frame) (b : S) : Type 0 where
   pub events : List Event

@@ -1,4 +1,4 @@
--- How many steps a machine can take for a value, where no routine has more than l steps.
+-- How many steps a machine can take for a value, if no routine has more than l steps.
 use Rattle.std.specs.Prelude.{ℕ, suc, ◌+◌, ◌*◌, List, length}
 use Rattle.asn_base.specs.Abstract.{AbstractValue, fields, list, alternative, Row, end, absent, present}
 use Rattle.asn_base.specs.Types.{Resolved}
@@ -16,7 +16,7 @@ abbrev mutual
   weights l (absent ws) = weights l ws
   weights l (present w ws) = suc (suc (weight l w + weights l ws))
 
--- the weight of what a value holds
+-- the weight of the values in a value
 abbrev pub inner : ℕ → AbstractValue → ℕ
 inner l (fields ws) = weights l ws
 inner l (list ws) = weights l ws

@@ -14,8 +14,8 @@ use asn_base::schema::TypeId;
 use asn_base::value::Value;
 use codec_code::{Code, Coding, Field, Step};
 
-/// What the frame does next, where it was the last of all, and the frame that goes on then, where it isn't the last of
-/// those that are left.
+/// Takes the next step of this frame, which was the last one. The result is the frame that comes next, or None if that
+/// is the last one in `frames`.
 pub(crate) fn turn<'a, B: Backend<'a>>(
     code: &'a Code,
     frame: Frame<'a>,
@@ -55,7 +55,7 @@ pub(crate) fn turn<'a, B: Backend<'a>>(
     }
 }
 
-/// A step of a routine, and the steps behind it.
+/// Takes a step of a routine. `rest` are the steps after it.
 fn act<'a, B: Backend<'a>>(
     code: &'a Code,
     id: TypeId,
@@ -103,7 +103,7 @@ fn act<'a, B: Backend<'a>>(
     }
 }
 
-/// A component of a SEQUENCE: at once where it holds no others.
+/// Takes the step of a component of a SEQUENCE. A component whose value holds no other values is written at once.
 fn field_step<'a, B: Backend<'a>>(
     code: &'a Code,
     id: TypeId,
@@ -140,7 +140,7 @@ fn field_step<'a, B: Backend<'a>>(
     }
 }
 
-/// A component of a SET.
+/// Takes the step of a component of a SET.
 fn ranked_step<'a, B: Backend<'a>>(
     code: &'a Code,
     id: TypeId,

@@ -1,4 +1,4 @@
-//! What a machine writes to.
+//! The backend of a machine: it receives the events of a routine.
 
 ghost use Rattle.asn_base.specs.Abstract.{abstract};
 ghost use Rattle.codec_code.specs.Events.{Event, opens, closes, leaves_out, parts};
@@ -12,43 +12,45 @@ use asn_base::value::Value;
 use codec_code::{Head, LeafKind};
 use std::alloc::AllocError;
 
-/// Takes what a routine tells, event by event: what its states mean of them is its own. It may keep the values whose
-/// contents it was told. It refuses for want of memory alone, and a value as contents that it has not.
+/// Takes the events of a routine, one after another. Each backend decides what its states mean, and it may keep the
+/// values whose contents it received. It fails only if an allocation fails, or if a value has no contents of the kind.
 pub trait Backend<'a> {
-    /// The second state is the first with the events added.
+    /// The second state is the first one with these events added.
     ghost adds: { Self → List Event → Self → Type 0 };
 
-    /// A header, round what follows up to where it closes.
+    /// Opens a header around what follows, up to the event that closes it. `AllocError` only if an allocation fails.
     fn open(&mut self, head: Head) -> Result<(), AllocError>
         ensures { OnOk result (adds self.old (opens head.tag head.constructed head.row ∷ []) self.new) };
 
-    /// The contents of a value that holds no others. `NotOfType`: the value has no such contents.
+    /// Adds the contents of a value without other values in it. `NotOfType`: the value has no contents of this kind.
+    /// `Memory`: an allocation failed.
     fn leaf(&mut self, kind: LeafKind, value: &'a Value) -> Result<(), RunFault>
         ensures ok { OnOk result (AddsLeaf adds kind (abstract value.now) self.old self.new) }
         ensures not_of_type { IfErr result (λ e. e ≡ NotOfType → HasNoContents kind (abstract value.now)) };
 
-    /// A header, the contents of a value that holds no others, and the end of the header. `NotOfType`: the value has no
-    /// such contents.
+    /// Adds a header, the contents of a value without other values in it, and the end of the header. `NotOfType`: the
+    /// value has no contents of this kind. `Memory`: an allocation failed.
     fn whole(&mut self, head: Head, kind: LeafKind, value: &'a Value) -> Result<(), RunFault>
         requires { head.row ≡ LeafRow }
         ensures ok { OnOk result (AddsWhole adds head kind (abstract value.now) self.old self.new) }
         ensures not_of_type { IfErr result (λ e. e ≡ NotOfType → HasNoContents kind (abstract value.now)) };
 
-    /// The nearest open header ends here.
+    /// Closes the innermost open header. `AllocError` only if an allocation fails.
     fn close(&mut self) -> Result<(), AllocError>
         ensures { OnOk result (adds self.old (closes ∷ []) self.new) };
 
-    /// A component isn't written: it is the same as its DEFAULT, or it has none and is absent.
+    /// Adds that a component isn't encoded: its value is the same as its DEFAULT, or it is absent and has no DEFAULT.
+    /// `AllocError` only if an allocation fails.
     fn leave_out(&mut self, with_default: bool) -> Result<(), AllocError>
         ensures { OnOk result (adds self.old (leaves_out with_default ∷ []) self.new) };
 
-    /// A member of a SET OF ends here (its rank is 0), or a component of a SET.
+    /// Ends a member of a SET OF, whose rank is 0, or a component of a SET. `AllocError` only if an allocation fails.
     fn part(&mut self, rank: usize) -> Result<(), AllocError>
         ensures { OnOk result (adds self.old (parts rank ∷ []) self.new) };
 
-    /// With no events a state is as it was.
+    /// A state to which no events are added is the same state.
     ghost nothing: { (a : Self) → adds a [] a };
 
-    /// What is added in two goes is added at once.
+    /// Events that are added in two parts are added together.
     ghost joins: { (a b c : Self) (es fs : List Event) → adds a es b → adds b fs c → adds a (es ++ fs) c };
 }

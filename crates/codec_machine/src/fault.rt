@@ -1,4 +1,4 @@
-//! Why a routine was not run to its end.
+//! Why a routine stopped before its end.
 
 ghost use Rattle.codec_machine.specs.declared.fault.RunFault.TheVariants.{Memory};
 ghost use Rattle.std.specs.Prelude.{◌≡◌};
@@ -6,8 +6,8 @@ ghost use Rattle.std.specs.Prelude.{◌≡◌};
 use std::alloc::{AllocError, AllocFailed};
 use thiserror::Error;
 
-/// Why a routine was not run to its end: `Memory`, where more memory was asked for and refused; `NotOfType`, where the
-/// routine tells nothing of the value, so that the value is none of the type.
+/// Why a routine stopped before its end. `Memory`: an allocation failed. `NotOfType`: the routine has no events for the
+/// value, so the value isn't one of the type.
 #[derive(Clone, Copy, Debug, PartialEq, Eq, Error)]
 pub enum RunFault {
     #[error("1 Memory")]

@@ -1,11 +1,11 @@
-//! What a machine has still to do.
+//! The work that a machine still has to do.
 
 use asn_base::schema::TypeId;
 use asn_base::value::Value;
 use codec_code::Step;
 
-/// Steps of a type's routine that are left for a value, elements that are left, members of a SET OF that are left, or
-/// the end of a member with its rank.
+/// The work that is left for a part of a value. It is the rest of a routine's steps, the rest of a list's elements, the
+/// rest of a SET OF's members, or the end of a member with its rank.
 #[derive(Clone, Copy)]
 pub(crate) enum Frame<'a> {
     Routine(TypeId, &'a [Step], &'a Value),

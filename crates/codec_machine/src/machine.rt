@@ -16,7 +16,10 @@ use asn_base::value::Value;
 use codec_code::{Code, Coding};
 use std::alloc::Global;
 
-/// Runs the type's routine over the value, and adds what it tells to the backend.
+/// Runs the routine of the type over the value, and adds its events to the backend.
+///
+/// `NotOfType`: the routine has no events for the value, so the value isn't one of the type. `Memory`: an allocation
+/// failed.
 pub fn run<'a, B: Backend<'a>>(
     alloc: Global,
     code: &'a Code,

@@ -1,4 +1,4 @@
-//! Parts of values, as steps ask for them.
+//! The parts of values that steps need.
 
 ghost use Rattle.asn_base.specs.Abstract.{AbstractValue, abstract, alternative, fields, list, row_of_list, row_of_options, Row};
 ghost use Rattle.codec_code.specs.Routines.{routine_at};
@@ -38,7 +38,7 @@ pub(crate) fn has_default(need: Need) -> bool
     }
 }
 
-/// The places of the components, where it is a value of a SEQUENCE or SET at all.
+/// The components of a value of a SEQUENCE or SET, or None for another value.
 fn fields_of(value: &Value) -> Option<&[Option<Value>]>
     ensures { MatchOption result ((row : Row) → abstract value.now ≡ fields row → ⊥)
         (λ vs. abstract value.now ≡ fields (row_of_options (map (option_map abstract) vs.now))) }
@@ -53,7 +53,7 @@ fn fields_of(value: &Value) -> Option<&[Option<Value>]>
     }
 }
 
-/// The elements, where it is a value of a SEQUENCE OF or SET OF at all.
+/// The elements of a value of a SEQUENCE OF or SET OF, or None for another value.
 pub(crate) fn elements_of(value: &Value) -> Option<&[Value]>
     ensures { MatchOption result ((row : Row) → abstract value.now ≡ list row → ⊥)
         (λ vs. abstract value.now ≡ list (row_of_list (map abstract vs.now))) }
@@ -68,8 +68,8 @@ pub(crate) fn elements_of(value: &Value) -> Option<&[Value]>
     }
 }
 
-/// The component's value, where it is to be written. `NotOfType`: there is no such component, or it is absent and must
-/// not be.
+/// The value of the component that is to be encoded, or None if the component is left out. `NotOfType`: there is no
+/// such component, or it is absent and must be present.
 pub(crate) fn written_value<'a>(
     code: &Code,
     id: TypeId,
@@ -86,7 +86,7 @@ pub(crate) fn written_value<'a>(
     }
 }
 
-/// The component at a place: absent, or its value. `NotOfType`: there is no such place.
+/// The value of the component at a place, or None if it is absent. `NotOfType`: there is no such place.
 fn value_at(values: &[Option<Value>], place: usize) -> Result<Option<&Value>, RunFault>
     ensures ok { IfOk result (λ o. component_at (row_of_options (map (option_map abstract) values.now)) place
         ≡ Some (option_map (λ w. abstract w.now) o)) }
@@ -143,7 +143,7 @@ fn is_left_out(code: &Code, id: TypeId, field: Field, value: &Value) -> bool
     has_default(field.need) && code.is_default(id, field.place, value)
 }
 
-/// The first of some values, and the others.
+/// The first value, and the values after it, or None if there are no values.
 pub(crate) fn first_value(values: &[Value]) -> Option<(&Value, &[Value])>
     ensures { MatchOption result (values.now ≡ []) (λ p. values.now ≡ p.0.now ∷ p.1.now) }
 {
@@ -154,7 +154,7 @@ pub(crate) fn first_value(values: &[Value]) -> Option<(&Value, &[Value])>
     }
 }
 
-/// The steps behind as many of them: none, where there are not so many.
+/// The steps after the first `count` ones.
 pub(crate) fn behind(steps: &[Step], count: usize) -> &[Step]
     ensures behind { result.now ≡ drop count steps.now }
     ensures few { length (drop count steps.now) ≤ length steps.now }
@@ -166,7 +166,7 @@ pub(crate) fn behind(steps: &[Step], count: usize) -> &[Step]
     }
 }
 
-/// The type that is called at a place. `NotOfType`: none is.
+/// The type of the call at a place. `NotOfType`: there is no call at that place.
 pub(crate) fn called(steps: &[Step], at: usize) -> Result<TypeId, RunFault>
     ensures ok { IfOk result (λ t. slice_get steps.now at ≡ Some (Call t)) }
     ensures refused { OnErr result ((u : TypeId') → slice_get steps.now at ≡ Some (Call u) → ⊥) }
@@ -180,8 +180,8 @@ pub(crate) fn called(steps: &[Step], at: usize) -> Result<TypeId, RunFault>
     }
 }
 
-/// The number of the alternative, and its value. `NotOfType`: there are not as many alternatives, or it is no value of
-/// a CHOICE at all.
+/// The number of the alternative, and its value. `NotOfType`: the value isn't one of a CHOICE, or there is no such
+/// alternative.
 pub(crate) fn chosen(value: &Value, alternatives: usize) -> Result<(usize, &Value), RunFault>
     ensures ok { IfOk result (λ p. (p.0 < alternatives) × (abstract value.now ≡ alternative p.0 (abstract p.1.now))) }
     ensures refused { OnErr result ((i : ℕ) (w : AbstractValue)
@@ -206,7 +206,7 @@ pub(crate) fn chosen(value: &Value, alternatives: usize) -> Result<(usize, &Valu
     }
 }
 
-/// The first of some steps, and the others.
+/// The first step, and the steps after it, or None if there are no steps.
 pub(crate) fn first_step(steps: &[Step]) -> Option<(Step, &[Step])>
     ensures { MatchOption result (steps.now ≡ []) (λ p. steps.now ≡ p.0 ∷ p.1.now) }
 {
@@ -217,8 +217,8 @@ pub(crate) fn first_step(steps: &[Step]) -> Option<(Step, &[Step])>
     }
 }
 
-/// The header and the kind of contents, where the routine of the type is a header of a value that holds no others, its
-/// contents and the end: that of a type with one tag.
+/// The header and the kind of contents of a type with one tag whose values hold no others. Its routine has three steps:
+/// a header, contents and the end. The result is None for another routine.
 #[inline(always)]
 pub(crate) fn leaf_of(code: &Code, id: TypeId) -> Option<(Head, LeafKind)>
     ensures steps { IfSome result (λ p. routine_at code.now id.index ≡ HeadStep p.0 ∷ Leaf p.1 ∷ End ∷ []) }
@@ -230,8 +230,8 @@ pub(crate) fn leaf_of(code: &Code, id: TypeId) -> Option<(Head, LeafKind)>
     }
 }
 
-/// The header and the kind of contents, where the steps are a header of a value that holds no others, its contents and
-/// the end: those of a type with one tag.
+/// The header and the kind of contents, if the steps are those of a type with one tag whose values hold no others.
+/// These are a header, contents and the end. The result is None for other steps.
 pub(crate) fn leaf_routine(steps: &[Step]) -> Option<(Head, LeafKind)>
     ensures steps { IfSome result (λ p. steps.now ≡ HeadStep p.0 ∷ Leaf p.1 ∷ End ∷ []) }
     ensures row { IfSome result (λ p. p.0.row ≡ LeafRow) }

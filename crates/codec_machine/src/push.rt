@@ -1,4 +1,4 @@
-//! Frames that steps leave.
+//! Frames for the work that steps leave.
 
 ghost use Rattle.asn_base.specs.Abstract.{abstract, row_of_list};
 ghost use Rattle.codec_code.specs.Steps as steps;
@@ -15,7 +15,7 @@ use asn_base::value::Value;
 use codec_code::{Code, Coding, Step};
 use std::alloc::AllocError;
 
-/// The frame that goes on: this one, or the last of all, which is taken from them.
+/// The frame that comes next: this one, or else the last one, which is removed from `frames`.
 pub(crate) fn next_of<'a>(frames: &mut Vec<Frame<'a>>, next: Option<Frame<'a>>) -> Option<Frame<'a>>
     ensures same { and_next frames.new.items result ≡ and_next frames.old.items next.entry }
     ensures last { result ≡ None → frames.new.items ≡ [] }
@@ -26,7 +26,7 @@ pub(crate) fn next_of<'a>(frames: &mut Vec<Frame<'a>>, next: Option<Frame<'a>>) 
     }
 }
 
-/// One frame more.
+/// Adds a frame. `AllocError` only if an allocation fails.
 pub(crate) fn add<'a>(frames: &mut Vec<Frame<'a>>, frame: Frame<'a>) -> Result<(), AllocError>
     ensures { OnOk result (frames.new.items ≡ frames.old.items ++ frame.entry ∷ []) }
 {
@@ -34,7 +34,8 @@ pub(crate) fn add<'a>(frames: &mut Vec<Frame<'a>>, frame: Frame<'a>) -> Result<(
     Ok(())
 }
 
-/// The next of some elements.
+/// Adds the frame for the elements after the first one. The result is the frame for the first element, or None if there
+/// are no elements.
 pub(crate) fn push_elements<'a>(
     code: &'a Code,
     id: TypeId,
@@ -56,7 +57,8 @@ pub(crate) fn push_elements<'a>(
     }
 }
 
-/// The next of some members of a SET OF.
+/// Adds the frames for the members of a SET OF after the first one, and for the end of the first one. The result is the
+/// frame for the first member, or None if there are no members.
 pub(crate) fn push_parts<'a>(
     code: &'a Code,
     id: TypeId,
@@ -79,7 +81,7 @@ pub(crate) fn push_parts<'a>(
     }
 }
 
-/// All elements, and the steps behind them.
+/// Adds the frame for the steps after this one. The result is the frame for all elements.
 pub(crate) fn push_each<'a>(
     code: &'a Code,
     id: TypeId,
@@ -101,7 +103,7 @@ pub(crate) fn push_each<'a>(
     }
 }
 
-/// All members of a SET OF, and the steps behind them.
+/// Adds the frame for the steps after this one. The result is the frame for all members of a SET OF.
 pub(crate) fn push_sorted<'a>(
     code: &'a Code,
     id: TypeId,
@@ -123,7 +125,7 @@ pub(crate) fn push_sorted<'a>(
     }
 }
 
-/// The alternative, and the steps behind all calls.
+/// Adds the frame for the steps after all calls. The result is the frame for the alternative.
 pub(crate) fn push_choice<'a>(
     code: &'a Code,
     id: TypeId,

@@ -12,7 +12,7 @@ abbrev head_or_0 : List ℕ → ℕ
 head_or_0 [] = 0
 head_or_0 (x ∷ xs) = x
 
--- ---- 300C 0402 0102 2C06 0401C3 0401A9: SEQUENCE {a OCTET STRING, b UTF8String}; a stands in the message at 4, b was
+-- ---- 300C 0402 0102 2C06 0401C3 0401A9: SEQUENCE {a OCTET STRING, b UTF8String}; a is at 4 in the message, b was
 -- joined
 
 abbrev message : List ℕ
@@ -33,7 +33,7 @@ shows_a_and_b = refl
 pub is_borrowed : IsBorrowed message row
 is_borrowed = (refl, (tt, tt))
 
--- its octets stand at no other place, and other octets don't stand there
+-- its octets are at no other place, and other octets aren't there
 pub not_one_earlier : StandsAt message (1 ∷ 2 ∷ []) (Some 3) → ⊥
 not_one_earlier e = let h : 2 ≡ 1 = ap head_or_0 e in omega (arith, h)
 
@@ -43,7 +43,7 @@ not_one_later e = let h : 2 ≡ 1 = ap head_or_0 e in omega (arith, h)
 pub not_past_the_end : StandsAt message (169 ∷ []) (Some 14) → ⊥
 not_past_the_end e = let h : 0 ≡ 169 = ap head_or_0 e in omega (arith, h)
 
--- nor is a tree borrowed where one string within it doesn't stand at its place
+-- nor is a tree borrowed if one string within it isn't at its place
 pub not_borrowed_within : IsBorrowed message (list (member 0 (leaf null) (member 0 (alternative 0 (leaf (octets (1 ∷ 2 ∷ []) (Some 3)))) no_member))) → ⊥
 not_borrowed_within b = not_one_earlier b.1.0
 
@@ -71,7 +71,7 @@ abbrev number_in : Option ℕ → ℕ
 number_in None = 0
 number_in (Some n) = n
 
--- what was primitive is no copy, and what was joined is told with no place
+-- a primitive string isn't a copy, and a joined one has no place
 pub octets_are_no_copy : IsShownAs false (1 ∷ 2 ∷ []) 4 (octets (1 ∷ 2 ∷ []) None) → ⊥
 octets_are_no_copy h = none_some h.1
 
@@ -157,7 +157,7 @@ elements_as_they_stand = refl
 pub second_alternative : value_of (alternative 1 (leaf null)) ≡ value.alternative 1 value.null
 second_alternative = refl
 
--- ---- what is told of a tree
+-- ---- the nodes of a tree
 
 pub first_of_a_number : component mixed 0 ≡ Some (leaf (boolean true))
 first_of_a_number = refl

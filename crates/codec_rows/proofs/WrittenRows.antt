@@ -1,5 +1,5 @@
--- Worked rows of what a writer promises: what went out to a sink, the order of members, the rows of an account and how
--- many octets it tells. Beside each that holds stand some that must not.
+-- Worked rows for what a writer promises: the octets in a sink, the order of members, the rows of an account, and the
+-- number of octets that it gives. For each row that holds there are others that must not hold.
 use Rattle.std.proofs.Common.{arith, lit<, ◌≡◌, ℕ, ◌<◌, ◌≤◌, true, false, List, [], ◌∷◌, length, inl, inr, refl, ap}
 use Rattle.std.specs.Prelude.{Some}
 use Rattle.asn_base.specs.declared.tag.Class.TheVariants.{Universal}
@@ -25,7 +25,7 @@ u1 = universal 1 (lit< tt) (lit< tt)
 abbrev u17 : Tag
 u17 = universal 17 (lit< tt) (lit< tt)
 
--- ---- what went out: the octets 300102 behind 05
+-- ---- what went out: the octets 300102 after 05
 
 abbrev sent : List ℕ
 sent = 48 ∷ 1 ∷ 2 ∷ []
@@ -61,11 +61,11 @@ two_of_three = record { fewer = lit< tt; taken = refl; one_failed = refl }
 pub none_of_three : SentFront before (holds [] 3) sent 0
 none_of_three = record { fewer = lit< tt; taken = refl; one_failed = refl }
 
--- all octets are no part of them
+-- all octets aren't a part of them
 pub not_three_of_three : SentFront before (holds sent 3) sent 3 → ⊥
 not_three_of_three s = let h : 3 < 3 = s.fewer in omega (arith, h)
 
--- more are told than went out, or fewer
+-- more octets are reported than went out, or fewer
 pub not_two_where_one_went : SentFront before (holds (48 ∷ []) 3) sent 2 → ⊥
 not_two_where_one_went s = let h : 2 ≡ 3 = ap length s.taken in omega (arith, h)
 
@@ -119,7 +119,7 @@ its_events = refl
 pub a_set_by_ranks : row_of_order by_rank ≡ Set
 a_set_by_ranks = refl
 
--- 3 members, of which one is left out; the header, and what is left out behind it
+-- three members, of which one is left out; the header, and the octets after it
 pub its_members : rows_among (member 0 (leaf_tree 255) (no_component true (member 0 (leaf_tree 0) no_member))) ≡ 3
 its_members = refl
 
@@ -190,7 +190,7 @@ two_deep = (small_one, (small_one, tt))
 pub not_one_deep : IsWithin 1 (header one (wrap_row leaf)) → ⊥
 not_one_deep h = h.1
 
--- ---- how many octets are told
+-- ---- how many octets are given
 
 pub eight_octets : octets_told (header z (seq_row no_row)) ≡ 8
 eight_octets = refl

@@ -3,10 +3,10 @@
 use octet_account::row::{Numbers, Places, Row, Told};
 use std::alloc::{AllocError, Global};
 
-/// Of more rows than these the first ones are shown, and how many there are.
+/// The most rows of an account that are printed. If there are more, their number is printed.
 const MOST_ROWS: usize = 12;
 
-/// Numbers with commas between, in brackets.
+/// Adds numbers in brackets, with commas between them.
 fn push_list(text: &mut String, numbers: &[u32]) -> Result<(), AllocError> {
     text.push('[')?;
     for i in 0..numbers.len() {
@@ -20,7 +20,7 @@ fn push_list(text: &mut String, numbers: &[u32]) -> Result<(), AllocError> {
     Ok(())
 }
 
-/// How many octets a header's identifier has, its length octets, and its contents.
+/// Adds the kind of a row, and how many identifier octets, length octets and contents octets its header has.
 fn push_numbers(text: &mut String, kind: &str, numbers: Numbers) -> Result<(), AllocError> {
     let identifier = numbers.identifier;
     let size = numbers.size;
@@ -29,7 +29,7 @@ fn push_numbers(text: &mut String, kind: &str, numbers: Numbers) -> Result<(), A
     Ok(())
 }
 
-/// The same, and the members at their places.
+/// Adds the same, and the members at their places.
 fn push_places(
     text: &mut String,
     kind: &str,
@@ -45,7 +45,7 @@ fn push_places(
     Ok(())
 }
 
-/// The same, and how many members there are.
+/// Adds the same, and how many members there are.
 fn push_members(
     text: &mut String,
     kind: &str,
@@ -73,9 +73,9 @@ fn push_row(text: &mut String, row: &Row) -> Result<(), AllocError> {
     Ok(())
 }
 
-/// The rows of an account from the root down: `["leaf",1,1,1]` tells how many octets identifier, length and contents
-/// have; `seq` and `seqof` also how many members follow; `set` and `setof` besides that the place of each member that
-/// is written, and for each place the member that stands there.
+/// The rows of an account, the root first. `["leaf",1,1,1]` gives how many identifier octets, length octets and
+/// contents octets there are. `seq` and `seqof` also give how many members follow. `set` and `setof` give that, the
+/// place of each encoded member, and for each place its member.
 pub fn text_of(alloc: Global, rows: &[Row]) -> Result<String, AllocError> {
     let mut text = String::from_str(alloc, "[")?;
     for i in 0..rows.len().min(MOST_ROWS) {
@@ -102,7 +102,7 @@ fn numbers_of(told: &Told) -> Option<Numbers> {
     }
 }
 
-/// How many octets the first row tells: those of its header and of its contents.
+/// How many octets the first row gives, for its header and its contents together.
 pub fn octets_of(rows: &[Row]) -> u64 {
     let Some(row) = rows.first() else {
         return 0;

@@ -5,13 +5,13 @@ use bits::buffer::BitBuf;
 use row_files::Row;
 use std::alloc::{AllocError, Global};
 
-/// The two numbers round a stroke.
+/// The two numbers before and after a slash.
 fn number_and_count(word: &str) -> Option<(u64, usize)> {
     let (number, count) = word.split_once('/')?;
     Some((number.parse::<u64>().ok()?, count.parse::<usize>().ok()?))
 }
 
-/// A digit for a bit, and a hyphen for none.
+/// The digit for a bit, or a hyphen for None.
 fn digit(bit: Option<bool>) -> &'static str {
     match bit {
         Some(true) => "1",
@@ -20,7 +20,7 @@ fn digit(bit: Option<bool>) -> &'static str {
     }
 }
 
-/// Tells the bit at a place that a word names.
+/// Writes the bit at a place that a word names.
 fn tell(bits: &BitBuf, place: &str, out: &mut String) -> Result<(), AllocError> {
     let bit = match place.parse::<usize>() {
         Ok(place) => digit(bits.get(place)),
@@ -30,7 +30,7 @@ fn tell(bits: &BitBuf, place: &str, out: &mut String) -> Result<(), AllocError> 
     Ok(())
 }
 
-/// Adds the low bits of a number, 64 at most.
+/// Adds the low bits of a number, at most 64.
 fn add(bits: &mut BitBuf, word: &str, out: &mut String) -> Result<(), AllocError> {
     match number_and_count(word) {
         Some((number, count)) if count <= 64 => bits.push_word(number, count),
@@ -41,8 +41,8 @@ fn add(bits: &mut BitBuf, word: &str, out: &mut String) -> Result<(), AllocError
     }
 }
 
-/// Does what one word asks for: `0` or `1` adds a bit, `NUMBER/COUNT` the low bits of a number, `pad` fills up to whole
-/// octets, and `@PLACE` tells the bit there.
+/// Does the step of one word. `0` and `1` add a bit, and `NUMBER/COUNT` adds the low bits of a number. `pad` fills the
+/// last octet, and `@PLACE` writes the bit there.
 fn step(bits: &mut BitBuf, word: &str, out: &mut String) -> Result<(), AllocError> {
     match word {
         "pad" => bits.pad(),
@@ -55,7 +55,7 @@ fn step(bits: &mut BitBuf, word: &str, out: &mut String) -> Result<(), AllocErro
     }
 }
 
-/// How many bits there are, and their octets where they are whole.
+/// Writes how many bits there are, and their octets if these are whole.
 fn finish(alloc: Global, bits: BitBuf, out: &mut String) -> Result<(), AllocError> {
     let count = bits.len();
     write!(out, "length {count}")?;
@@ -67,7 +67,7 @@ fn finish(alloc: Global, bits: BitBuf, out: &mut String) -> Result<(), AllocErro
     Ok(())
 }
 
-/// `bits NAME [STEP ..]`: what the steps tell, one after the other, and last how many bits there are and their octets.
+/// `bits NAME [STEP ..]`: what the steps write, in order, and then how many bits there are and their octets.
 pub fn answer(alloc: Global, row: &Row) -> Result<String, Refusal> {
     let mut out = String::new(alloc);
     let mut bits = BitBuf::new(alloc);

@@ -9,13 +9,13 @@ use crate::refusal::Refusal;
 use std::alloc::{AllocError, Global};
 use views::{Builder, View};
 
-/// `SEQUENCE {a OCTET STRING, b UTF8String}` from `300C 0402 0102 2C06 0401C3 0401A9`: `a` is a slice of the message,
-/// `b` was joined from segments.
+/// The message of a `SEQUENCE {a OCTET STRING, b UTF8String}`: `300C 0402 0102 2C06 0401C3 0401A9`. Component `a` is a
+/// slice of the message, and `b` is joined from segments.
 const MESSAGE: [u8; 14] = [
     0x30, 0x0C, 0x04, 0x02, 0x01, 0x02, 0x2C, 0x06, 0x04, 0x01, 0xC3, 0x04, 0x01, 0xA9,
 ];
 
-/// The view of `{a octets, b joined}`: octets that stand at place 4 of a message, and a text that was joined.
+/// The view of `{a octets, b joined}`, with octets at place 4 of a message and a joined text.
 pub fn strings<'a>(alloc: Global, octets: &'a [u8], joined: String) -> Result<View<'a>, AllocError>
     ensures { IfOk result (λ v. IsView v
         (fields 2
@@ -29,7 +29,7 @@ pub fn strings<'a>(alloc: Global, octets: &'a [u8], joined: String) -> Result<Vi
     Ok(builder.finish())
 }
 
-/// `built NAME`: what the view of the message shows.
+/// `built NAME`: what the view of the message gives.
 pub fn answer(alloc: Global) -> Result<String, Refusal> {
     let message = MESSAGE;
     let joined = String::from_str(alloc, "é")?;

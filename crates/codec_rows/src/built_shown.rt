@@ -1,4 +1,4 @@
-//! What a view shows, in words.
+//! The parts of a view, in words.
 
 ghost use Rattle.views.specs.Seen.{IsPart, IsView};
 ghost use Rattle.views.specs.Tree.{Tree};
@@ -15,7 +15,7 @@ fn place(alloc: Global, at: Option<usize>) -> Result<String, AllocError> {
     }
 }
 
-/// What a part shows that is a string.
+/// Writes a part that is a string.
 fn part(alloc: Global, part: &Part<'_, '_>, out: &mut String) -> Result<(), AllocError>
     requires { (t : Tree) × IsPart part.now t }
 {
@@ -31,7 +31,7 @@ fn part(alloc: Global, part: &Part<'_, '_>, out: &mut String) -> Result<(), Allo
     Ok(())
 }
 
-/// What the component with a number shows.
+/// Writes the component with this number.
 fn component(
     alloc: Global,
     whole: &Part<'_, '_>,
@@ -50,7 +50,7 @@ fn component(
     }
 }
 
-/// A value that is a string or isn't.
+/// Writes a component's value if it is a string.
 fn component_value(
     alloc: Global,
     value: &Option<Value>,
@@ -68,7 +68,7 @@ fn component_value(
     Ok(())
 }
 
-/// The components of a value.
+/// Writes the components of a value.
 fn values(alloc: Global, value: &Value, out: &mut String) -> Result<(), AllocError> {
     if let Value::Fields(values) = value {
         for value in values {
@@ -78,7 +78,7 @@ fn values(alloc: Global, value: &Value, out: &mut String) -> Result<(), AllocErr
     Ok(())
 }
 
-/// What the view of a SEQUENCE of strings shows, by its parts and as a value.
+/// The parts of the view of a SEQUENCE of strings, in words, and the same of its value.
 pub fn all(alloc: Global, view: &View<'_>) -> Result<String, AllocError>
     requires { (t : Tree) × IsView view.now t }
 {

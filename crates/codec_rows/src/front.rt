@@ -16,7 +16,7 @@ fn class_name(class: Class) -> &'static str {
     }
 }
 
-/// What a header tells.
+/// The words for a header.
 fn shown(alloc: Global, header: Header) -> Result<String, AllocError> {
     let class = class_name(header.tag.class);
     let number = header.tag.number;
@@ -29,7 +29,7 @@ fn shown(alloc: Global, header: Header) -> Result<String, AllocError> {
     format!(in alloc; "{class} {number} {form}, {count} octets before {contents}")
 }
 
-/// The header at the front of octets, or its fault.
+/// The header at the front of octets. The error is the words for its fault.
 pub fn header_of(alloc: Global, octets: &[u8]) -> Result<Header, Refusal> {
     match read_header(octets) {
         Ok(header) => Ok(header),
@@ -37,7 +37,7 @@ pub fn header_of(alloc: Global, octets: &[u8]) -> Result<Header, Refusal> {
     }
 }
 
-/// `front NAME [HEX]`: what the header at the front of the octets tells, or the fault.
+/// `front NAME [HEX]`: the words for the header at the front of the octets, or for its fault.
 pub fn answer(alloc: Global, row: &Row) -> Result<String, Refusal> {
     let octets = octets_in(alloc, word(row, 2))?;
     let header = header_of(alloc, octets.as_slice())?;

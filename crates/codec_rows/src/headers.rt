@@ -25,7 +25,7 @@ fn form(word: &str) -> Option<Form> {
     }
 }
 
-/// The tag of a class and a number, if there is one.
+/// The tag with this class and number, or None if the number is too great.
 fn tag(class: Class, number: u32) -> Option<Tag> {
     if number >= 2147483648 {
         return None;
@@ -36,7 +36,7 @@ fn tag(class: Class, number: u32) -> Option<Tag> {
     }
 }
 
-/// The header that a row asks for: its tag, its form and the length that it tells.
+/// The header that a row asks for: its tag, its form and the number of contents octets that it announces.
 fn header_in(row: &Row) -> Option<(Tag, Form, u64)> {
     let class = class(word(row, 2))?;
     let number = word(row, 3).parse::<u32>().ok()?;
@@ -50,7 +50,8 @@ fn written(alloc: Global, octets: &[u8], count: usize) -> Result<String, AllocEr
     format!(in alloc; "{hex}, of {count} octets")
 }
 
-/// `header NAME CLASS NUMBER FORM LENGTH [BEFORE]`: the octets before and those of the header, and how many those are.
+/// `header NAME CLASS NUMBER FORM LENGTH [BEFORE]`: the octets before the header and those of the header, and the
+/// number of the latter.
 pub fn header(alloc: Global, row: &Row) -> Result<String, Refusal> {
     let Some((tag, form, contents)) = header_in(row) else {
         return Err(told(alloc, &"no class, number, form and length"));

@@ -1,4 +1,4 @@
-//! A value that holds no others.
+//! Values without other values in them.
 
 use crate::front::header_of;
 use crate::refusal::{Refusal, told};
@@ -10,7 +10,7 @@ use octets::Form;
 use row_files::Row;
 use std::alloc::{AllocError, Global};
 
-/// The kind of this name.
+/// The kind with this name.
 pub fn kind_named(name: &str) -> Option<LeafKind> {
     match name {
         "boolean" => Some(LeafKind::Boolean),
@@ -31,7 +31,7 @@ pub fn kind_named(name: &str) -> Option<LeafKind> {
     }
 }
 
-/// The numbers in septets.
+/// The numbers of octets that have septets.
 fn arcs(alloc: Global, octets: &[u8]) -> Result<String, AllocError> {
     let mut text = String::new(alloc);
     let mut rest = octets;
@@ -52,7 +52,7 @@ fn arcs(alloc: Global, octets: &[u8]) -> Result<String, AllocError> {
     Ok(text)
 }
 
-/// What was read.
+/// The words for a value that was read.
 fn written(alloc: Global, leaf: Leaf) -> Result<String, AllocError> {
     match leaf {
         Leaf::Bool(truth) => format!(in alloc; "{truth}"),
@@ -73,7 +73,8 @@ fn written(alloc: Global, leaf: Leaf) -> Result<String, AllocError> {
     }
 }
 
-/// What these contents are read as, and whether they keep the distinguished rules; or the fault.
+/// The words for the value with these contents octets, and whether they keep the distinguished rules; or those for the
+/// fault.
 fn read(alloc: Global, kind: LeafKind, contents: &[u8]) -> Result<String, Refusal> {
     match read_leaf(kind, contents) {
         Ok(leaf) => {
@@ -87,7 +88,7 @@ fn read(alloc: Global, kind: LeafKind, contents: &[u8]) -> Result<String, Refusa
     }
 }
 
-/// The same of the contents behind a header.
+/// The words for the value with the contents octets after a header.
 fn read_encoding(alloc: Global, kind: LeafKind, octets: &[u8]) -> Result<String, Refusal> {
     let header = header_of(alloc, octets)?;
     if header.form == Form::Constructed {
@@ -99,7 +100,7 @@ fn read_encoding(alloc: Global, kind: LeafKind, octets: &[u8]) -> Result<String,
     }
 }
 
-/// `leaf NAME KIND HEX`: the value that a primitive encoding holds, or the fault of its header or of its contents.
+/// `leaf NAME KIND HEX`: the value of a primitive encoding, or the fault of its header or of its contents.
 pub fn answer(alloc: Global, row: &Row) -> Result<String, Refusal> {
     let Some(kind) = kind_named(word(row, 2)) else {
         return Err(told(alloc, &"no such kind"));

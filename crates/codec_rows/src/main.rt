@@ -1,9 +1,9 @@
-//! Answers rows of data by the public calls of the crates that codecs stand on, of the writer and of the readers, and
-//! prints each answer below its row's words.
+//! Answers rows of data by the public calls of codecs and of the crates that codecs use, and prints each answer below
+//! the words of its row.
 //!
-//! The files that its words name are files of rows. A row's first word is a command and its second the row's own name;
-//! each command is described where it is answered and at the head of the file that uses it. The answers that the stored
-//! run compares are written by hand, or counted by a second reader, not taken from this program.
+//! The words of the command line name files of rows. The first word of a row is a command, and the second is the name
+//! of the row. Each command is described at its function and at the head of the file that uses it. The answers of the
+//! stored run are written by hand, or counted by a second reader, not taken from this program.
 #![tactic(auto)]
 
 mod account;
@@ -36,7 +36,7 @@ use std::alloc::{AllocError, Global};
 use std::process::ExitCode;
 use std::{env, fs, io};
 
-/// What a row's command answers that asks for octets and values.
+/// The answer to a row whose command is about octets or values.
 fn answer_of(alloc: Global, schema: &Schema, code: &Code, row: &Row) -> Result<String, Refusal> {
     match row.command() {
         "front" => front::answer(alloc, row),
@@ -56,7 +56,7 @@ fn answer_of(alloc: Global, schema: &Schema, code: &Code, row: &Row) -> Result<S
     }
 }
 
-/// What a row's command answers that asks for what is read, and for views.
+/// The answer to a row whose command is about decoded messages or views.
 fn answer_of_reader(
     alloc: Global,
     schema: &Schema,
@@ -76,7 +76,7 @@ fn answer_of_reader(
     }
 }
 
-/// A row's words, and below them the lines of its answer, each behind two blanks.
+/// The words of a row, and below them the lines of its answer, each after two blanks.
 fn entry(alloc: Global, schema: &Schema, code: &Code, row: &Row) -> Result<String, AllocError> {
     let mut text = String::from_str(alloc, row.command())?;
     for word in row.words.iter().skip(1) {
@@ -91,7 +91,7 @@ fn entry(alloc: Global, schema: &Schema, code: &Code, row: &Row) -> Result<Strin
     indent(text, answer.as_str())
 }
 
-/// A text, and behind it the lines of an answer.
+/// A text, and after it the lines of an answer.
 fn indent(mut text: String, answer: &str) -> Result<String, AllocError> {
     for line in answer.lines() {
         text.push_str(if line.is_empty() { "\n" } else { "\n  " })?;
@@ -100,7 +100,7 @@ fn indent(mut text: String, answer: &str) -> Result<String, AllocError> {
     Ok(text)
 }
 
-/// A copy of the schema of all types, with the levels of its defaults.
+/// A copy of the schema of all sample types, with the levels of its DEFAULTs.
 fn copied(alloc: Global) -> Result<Schema, AllocError> {
     let mut copy = schema(alloc)?.copy(alloc)?;
     copy.measure(alloc)?;

@@ -1,4 +1,4 @@
-//! What is read of messages.
+//! The tokens of decoded messages.
 
 use crate::refusal::{Refusal, told};
 use crate::words::{octets_of, type_of};
@@ -9,13 +9,14 @@ use octets::Form;
 use row_files::Row;
 use std::alloc::{AllocError, Global};
 
-/// Of more tokens than these the first ones are shown, and how many there are.
+/// The most tokens that are printed. If there are more, their number is printed.
 const MOST_TOKENS: usize = 60;
 
-/// Of more contents octets than these the first eight are shown, and how many there are.
+/// The most contents octets that are printed in full. Of more octets the first eight are printed, and their number.
 const MOST_OCTETS: usize = 64;
 
-/// The digits of contents octets, a tilde before those of segments, and the place in the message of the first of them.
+/// Adds the digits of contents octets, after a tilde if they are in segments, and the place of the first of them in the
+/// message.
 fn push_held(
     text: &mut String,
     alloc: Global,
@@ -51,8 +52,8 @@ fn push_token(text: &mut String, alloc: Global, token: &Token) -> Result<(), All
     }
 }
 
-/// The tokens in order: a value in parentheses, a component's number before its value, contents octets with their
-/// place.
+/// The tokens in order. A value is in parentheses, the number of a component is before its value, and contents octets
+/// have their place.
 fn text_of(alloc: Global, tokens: &[Token]) -> Result<String, AllocError> {
     let mut text = String::new(alloc);
     for i in 0..tokens.len().min(MOST_TOKENS) {
@@ -65,7 +66,7 @@ fn text_of(alloc: Global, tokens: &[Token]) -> Result<String, AllocError> {
     Ok(text)
 }
 
-/// `read NAME TYPE HEX..`: what is read of the message, or the fault.
+/// `read NAME TYPE HEX..`: the tokens of the message, or the fault.
 pub fn answer(alloc: Global, code: &Code, row: &Row) -> Result<String, Refusal> {
     let id = type_of(alloc, row)?;
     let octets = octets_of(alloc, row)?;

@@ -1,4 +1,4 @@
-//! What is written of values in the packed encodings.
+//! The messages of values in the packed encodings.
 
 use crate::refusal::{Refusal, told};
 use crate::words::{type_of, value_at};
@@ -9,7 +9,7 @@ use packed_writer::write_uper;
 use row_files::Row;
 use std::alloc::Global;
 
-/// `uper NAME TYPE`: the octets of the value's message, or the fault.
+/// `uper NAME TYPE`: the octets of the value's message in unaligned PER, or the fault.
 pub fn answer(alloc: Global, schema: &Schema, row: &Row) -> Result<String, Refusal> {
     let id = type_of(alloc, row)?;
     let value = value_at(alloc, row, 0)?;

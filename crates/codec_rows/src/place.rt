@@ -1,4 +1,4 @@
-//! Where messages are refused.
+//! The places of faults in messages.
 
 use crate::refusal::{Refusal, told};
 use crate::words::{octets_of, type_of};
@@ -16,7 +16,7 @@ fn push_part(text: &mut String, part: Part) -> Result<(), AllocError> {
     }
 }
 
-/// The place of the octet, and the parts that were being read, from the outermost on.
+/// The fault, the place of the octet, and the parts that were being decoded, the outermost first.
 fn shown(alloc: Global, fault: ReadFault, found: &Whereabouts) -> Result<String, AllocError> {
     let place = found.place;
     let mut text = String::new(alloc);
@@ -29,8 +29,8 @@ fn shown(alloc: Global, fault: ReadFault, found: &Whereabouts) -> Result<String,
     Ok(text)
 }
 
-/// `place NAME TYPE HEX..`: the fault for which the message is refused, the place of its octet, from 0, and the parts
-/// that were being read.
+/// `place NAME TYPE HEX..`: the fault of the message, the place of its octet, from 0, and the parts that were being
+/// decoded.
 pub fn answer(alloc: Global, code: &Code, row: &Row) -> Result<String, Refusal> {
     let id = type_of(alloc, row)?;
     let octets = octets_of(alloc, row)?;

@@ -1,4 +1,4 @@
-//! A string in segments.
+//! Strings in segments.
 
 use crate::front::header_of;
 use crate::leaf::kind_named;
@@ -10,10 +10,10 @@ use row_files::Row;
 use segmented_strings::{Joined, read_segments};
 use std::alloc::{AllocError, Global};
 
-/// The most octets that are read.
+/// The greatest number of octets.
 const MOST: usize = 16_777_216;
 
-/// What was joined.
+/// The words for a joined string.
 fn written(alloc: Global, joined: &Joined) -> Result<String, AllocError> {
     match joined {
         Joined::Bits(unused, octets) => {
@@ -28,7 +28,7 @@ fn written(alloc: Global, joined: &Joined) -> Result<String, AllocError> {
     }
 }
 
-/// What these contents are joined to, where so many levels of headers may stand in them; or the fault.
+/// The string in these contents octets, in which headers may have at most `room` levels. The error is the fault.
 fn join(alloc: Global, kind: LeafKind, contents: &[u8], room: usize) -> Result<String, Refusal> {
     if contents.len() > MOST {
         return Err(told(alloc, &"too long"));
@@ -39,7 +39,7 @@ fn join(alloc: Global, kind: LeafKind, contents: &[u8], room: usize) -> Result<S
     }
 }
 
-/// The same of the contents behind a header, which tells the constructed form.
+/// The string in the contents octets after a header, which must be constructed.
 fn join_encoding(
     alloc: Global,
     kind: LeafKind,
@@ -56,9 +56,9 @@ fn join_encoding(
     }
 }
 
-/// `segments NAME KIND LEVELS HEX`: the string that a constructed encoding holds, where so many levels of headers may
-/// stand in its contents; or the fault of its header, or of its contents and at which of their octets it stands, from
-/// 0.
+/// `segments NAME KIND LEVELS HEX`: the string of a constructed encoding, in whose contents headers may have at most
+/// LEVELS levels. Otherwise the answer is the fault of its header, or that of its contents and the place of the octet,
+/// from 0.
 pub fn answer(alloc: Global, row: &Row) -> Result<String, Refusal> {
     let Some(kind) = kind_named(word(row, 2)) else {
         return Err(told(alloc, &"no such kind"));

@@ -1,4 +1,4 @@
-//! What is read of messages by the distinguished rules.
+//! Messages that are decoded by the distinguished rules.
 
 use crate::refusal::{Refusal, told};
 use crate::view::shown;
@@ -9,7 +9,7 @@ use codec_code::Code;
 use row_files::Row;
 use std::alloc::Global;
 
-/// `der NAME TYPE HEX..`: what `view` answers, where the message is one by the distinguished rules, or the fault.
+/// `der NAME TYPE HEX..`: the answer of `view` if the message keeps the distinguished rules, or else the fault.
 pub fn answer(alloc: Global, schema: &Schema, code: &Code, row: &Row) -> Result<String, Refusal> {
     let id = type_of(alloc, row)?;
     let octets = octets_of(alloc, row)?;

@@ -9,7 +9,7 @@ use codec_source::ReadFault;
 use row_files::Row;
 use std::alloc::{AllocError, Global};
 
-/// How many messages were tried, and how many of them were read, truncated, refused otherwise.
+/// How many messages were decoded, how many were truncated, and how many had another fault.
 #[derive(Drop)]
 struct Tried {
     read: usize,
@@ -17,7 +17,7 @@ struct Tried {
     refused: usize,
 }
 
-/// Reads one message more.
+/// Decodes one more message.
 fn try_one(
     alloc: Global,
     code: &Code,
@@ -34,7 +34,7 @@ fn try_one(
     Ok(())
 }
 
-/// Each proper front of the octets.
+/// Decodes each proper front of the octets.
 fn cut(alloc: Global, code: &Code, id: TypeId, octets: &[u8]) -> Result<Tried, AllocError> {
     let mut tried = Tried {
         read: 0,
@@ -47,7 +47,7 @@ fn cut(alloc: Global, code: &Code, id: TypeId, octets: &[u8]) -> Result<Tried, A
     Ok(tried)
 }
 
-/// The octets with one bit of one of them changed, each of its bits in turn.
+/// Decodes the octets with each bit of one octet changed in turn.
 fn change_one(
     alloc: Global,
     code: &Code,
@@ -70,7 +70,7 @@ fn change_one(
     Ok(())
 }
 
-/// The octets with one bit changed, each in turn.
+/// Decodes the octets with each bit changed in turn.
 fn change(
     alloc: Global,
     code: &Code,
@@ -100,8 +100,8 @@ fn push_tried(text: &mut String, tried: &Tried) -> Result<(), AllocError> {
     )
 }
 
-/// `sweep NAME TYPE HEX..`: how many of the message's proper fronts are read, and how many of the messages that differ
-/// from it in one bit.
+/// `sweep NAME TYPE HEX..`: how many of the message's proper fronts are decoded, and how many of the messages that
+/// differ from it in one bit.
 pub fn answer(alloc: Global, code: &Code, row: &Row) -> Result<String, Refusal> {
     let id = type_of(alloc, row)?;
     let mut octets = octets_of(alloc, row)?;

@@ -10,7 +10,7 @@ use codec_code::Code;
 use row_files::Row;
 use std::alloc::Global;
 
-/// The value of one of a row's texts, in memory of its own.
+/// The value of one of a row's texts, copied.
 fn copied(alloc: Global, row: &Row, place: usize) -> Result<Value, Refusal> {
     let value = value_at(alloc, row, place)?;
     Ok(value.copy(alloc)?)
@@ -45,7 +45,7 @@ pub fn alike(alloc: Global, schema: &Schema, row: &Row) -> Result<String, Refusa
     truth(alloc, same(&one, &other, schema, id))
 }
 
-/// `default NAME TYPE PLACE`: whether the component there has a DEFAULT that the value is the same as.
+/// `default NAME TYPE PLACE`: whether the component at this place has a DEFAULT that is the same as the value.
 pub fn default(alloc: Global, code: &Code, row: &Row) -> Result<String, Refusal> {
     let id = type_of(alloc, row)?;
     let value = copied(alloc, row, 0)?;

@@ -4,7 +4,7 @@ use asn_base::value::{BitString, Value};
 use bits::buffer::BitBuf;
 use std::alloc::{AllocError, Global};
 
-/// The bits of digits 0 and 1.
+/// The bits for the digits 0 and 1.
 fn bits_of(alloc: Global, digits: &str) -> Result<BitString, AllocError> {
     let mut bits = BitBuf::new(alloc);
     for digit in digits.as_bytes() {
@@ -21,7 +21,7 @@ fn bits_of(alloc: Global, digits: &str) -> Result<BitString, AllocError> {
     Ok(BitString::of(octets, unused))
 }
 
-/// The octets of hexadecimal digits.
+/// The octets of hexadecimal digits, or None if they aren't such digits.
 fn octets_of(alloc: Global, digits: &str) -> Option<Vec<u8>> {
     match hex::decode(alloc, digits) {
         Ok(octets) => Some(octets),
@@ -29,7 +29,7 @@ fn octets_of(alloc: Global, digits: &str) -> Option<Vec<u8>> {
     }
 }
 
-/// The text whose octets are told by hexadecimal digits.
+/// The text whose octets are these hexadecimal digits.
 fn text_of(alloc: Global, digits: &str) -> Result<Option<Value>, AllocError> {
     let Some(octets) = octets_of(alloc, digits) else {
         return Ok(None);
@@ -40,7 +40,7 @@ fn text_of(alloc: Global, digits: &str) -> Result<Option<Value>, AllocError> {
     }
 }
 
-/// Numbers with points between.
+/// The numbers of a text that has points between them.
 fn numbers_of(alloc: Global, text: &str) -> Result<Option<Vec<u64>>, AllocError> {
     let mut numbers = Vec::new(alloc);
     if text.is_empty() {
@@ -55,14 +55,14 @@ fn numbers_of(alloc: Global, text: &str) -> Result<Option<Vec<u64>>, AllocError>
     Ok(Some(numbers))
 }
 
-/// So many octets, each 0.
+/// This number of octets, each of which is 0.
 fn zeros(alloc: Global, count: usize) -> Result<Value, AllocError> {
     let mut octets = Vec::with_capacity(alloc, count)?;
     octets.resize(count, 0)?;
     Ok(Value::Octets(octets))
 }
 
-/// The value that holds no others.
+/// The value without other values in it for a kind and the rest of a word.
 fn leaf(alloc: Global, kind: &str, rest: &str) -> Result<Option<Value>, AllocError> {
     match kind {
         "true" => Ok(Some(Value::Bool(true))),
@@ -80,7 +80,7 @@ fn leaf(alloc: Global, kind: &str, rest: &str) -> Result<Option<Value>, AllocErr
     }
 }
 
-/// Takes so many from a stack, the last one first.
+/// Takes this number of values from a stack, the last one first.
 fn taken(
     alloc: Global,
     stack: &mut Vec<Option<Value>>,
@@ -96,7 +96,7 @@ fn taken(
     Ok(Some(all))
 }
 
-/// The same, where none is absent.
+/// Takes this number of values from a stack, none of which is absent.
 fn present(
     alloc: Global,
     stack: &mut Vec<Option<Value>>,
@@ -112,7 +112,7 @@ fn present(
     Ok(Some(all))
 }
 
-/// A list of so many values, each the one on top of the stack.
+/// A list of this number of values, each equal to the one on top of the stack.
 fn repeated(
     alloc: Global,
     stack: &mut Vec<Option<Value>>,
@@ -128,7 +128,7 @@ fn repeated(
     Ok(Some(Value::List(all)))
 }
 
-/// The alternative with a number.
+/// The alternative with this number, whose value is on top of the stack.
 fn alternative(
     alloc: Global,
     stack: &mut Vec<Option<Value>>,
@@ -140,7 +140,7 @@ fn alternative(
     }
 }
 
-/// The value that a word tells, which may hold those on top of the stack.
+/// The value of a word. It may hold the values on top of the stack.
 fn told(
     alloc: Global,
     stack: &mut Vec<Option<Value>>,
@@ -157,7 +157,7 @@ fn told(
     }
 }
 
-/// Puts what a word tells on the stack. It answers false where the word tells nothing.
+/// Puts the value of a word on the stack. The result is false if the word has no value.
 fn put(alloc: Global, stack: &mut Vec<Option<Value>>, word: &str) -> Result<bool, AllocError> {
     if word == "absent" {
         stack.push(None)?;
@@ -172,11 +172,11 @@ fn put(alloc: Global, stack: &mut Vec<Option<Value>>, word: &str) -> Result<bool
     }
 }
 
-/// The value of a text: each value's word stands before those of its members, as in `fields:2 int:1 absent`.
+/// The value of a text. The word of each value comes before the words of its members, as in `fields:2 int:1 absent`.
 ///
-/// `list:3`, `fields:3` and `alt:0` hold others, and `repeat:3` one other three times; `bits:011`, `octets:0A`,
-/// `zeros:300` (octets), `text:6162` (its octets), `oid:1.2.840`, `relative-oid:1`, `int:-5`, `enum:0`, `true`, `false`
-/// and `null` hold none. None where it is no value.
+/// `list:3`, `fields:3` and `alt:0` hold other values, and `repeat:3` holds another value three times. `bits:011`,
+/// `octets:0A`, `zeros:300` (octets), `text:6162` (its octets), `oid:1.2.840`, `relative-oid:1`, `int:-5`, `enum:0`,
+/// `true`, `false` and `null` hold none. The result is None if the text isn't that of a value.
 pub fn value_of(alloc: Global, text: &str) -> Result<Option<Value>, AllocError> {
     let mut words = Vec::new(alloc);
     for word in text.split_ascii_whitespace() {

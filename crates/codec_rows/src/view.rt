@@ -1,4 +1,4 @@
-//! What views of messages show.
+//! Views of messages, in words.
 
 ghost use Rattle.views.specs.Seen.{IsPart, IsView};
 ghost use Rattle.views.specs.Tree.{Tree};
@@ -13,7 +13,7 @@ use std::alloc::{AllocError, Global};
 use view_text::print_view;
 use views::{Part, View};
 
-/// So many octets, and where the first of them stands in the message.
+/// Adds the number of octets, and the place of the first of them in the message.
 fn push_place(out: &mut String, count: usize, at: Option<usize>) -> Result<(), AllocError> {
     match at {
         Some(at) => write!(out, "\n{count} octets borrowed at {at}"),
@@ -21,7 +21,7 @@ fn push_place(out: &mut String, count: usize, at: Option<usize>) -> Result<(), A
     }
 }
 
-/// Where the octets of a part stand that is a string.
+/// Adds the place of the octets of a part that is a string.
 fn push_string(out: &mut String, part: &Part<'_, '_>) -> Result<(), AllocError>
     requires { (t : Tree) × IsPart part.now t }
 {
@@ -37,7 +37,7 @@ fn push_string(out: &mut String, part: &Part<'_, '_>) -> Result<(), AllocError>
     Ok(())
 }
 
-/// Where the strings of a view stand, of the whole and of its members.
+/// Adds the places of the strings of a view, of the whole and of its members.
 fn push_strings(out: &mut String, view: &View<'_>) -> Result<(), AllocError>
     requires { (t : Tree) × IsView view.now t }
 {
@@ -51,7 +51,7 @@ fn push_strings(out: &mut String, view: &View<'_>) -> Result<(), AllocError>
     Ok(())
 }
 
-/// The text of the value, how many additions were skipped, and where its strings stand.
+/// The text of the value, how many additions were skipped, and the places of its strings.
 pub fn shown(alloc: Global, schema: &Schema, id: TypeId, read: &Read<'_>) -> Result<String, Refusal>
     requires { (t : Tree) × IsView read.now.view t }
 {
@@ -65,8 +65,8 @@ pub fn shown(alloc: Global, schema: &Schema, id: TypeId, read: &Read<'_>) -> Res
     Ok(text)
 }
 
-/// `view NAME TYPE HEX..`: the text of the value that is read of the message, how many additions were skipped and where
-/// its strings stand, or the fault.
+/// `view NAME TYPE HEX..`: the text of the decoded value, how many additions were skipped, and the places of its
+/// strings, or the fault.
 pub fn answer(alloc: Global, schema: &Schema, code: &Code, row: &Row) -> Result<String, Refusal> {
     let id = type_of(alloc, row)?;
     let octets = octets_of(alloc, row)?;

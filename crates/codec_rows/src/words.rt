@@ -1,4 +1,4 @@
-//! What the words and the texts of a row tell: a type, octets, a value.
+//! The type, octets and value that the words and texts of a row give.
 
 use crate::refusal::{Refusal, told};
 use crate::value::value_of;
@@ -8,7 +8,7 @@ use row_files::Row;
 use sample_types::type_named;
 use std::alloc::{AllocError, Global};
 
-/// A word of a row, empty where there is none.
+/// The word of a row at a place, or an empty one if the row is shorter.
 pub fn word(row: &Row, place: usize) -> &str {
     match row.words.get(place) {
         Some(word) => word.as_str(),
@@ -32,7 +32,7 @@ pub fn octets_in(alloc: Global, digits: &str) -> Result<Vec<u8>, Refusal> {
     }
 }
 
-/// Adds some octets so many times.
+/// Adds some octets this number of times.
 fn push_times(octets: &mut Vec<u8>, some: &[u8], times: usize) -> Result<(), AllocError> {
     for _ in 0..times {
         octets.extend_from_slice(some)?;
@@ -40,8 +40,8 @@ fn push_times(octets: &mut Vec<u8>, some: &[u8], times: usize) -> Result<(), All
     Ok(())
 }
 
-/// The octets that the words from the fourth on tell, one behind the other: hexadecimal digits, and `399*24` for so
-/// many times the same ones.
+/// The octets of the words from the fourth on, one word after another: hexadecimal digits, and `399*24` for repeated
+/// ones.
 pub fn octets_of(alloc: Global, row: &Row) -> Result<Vec<u8>, Refusal> {
     let mut octets = Vec::new(alloc);
     for word in row.words.iter().skip(3) {

@@ -1,4 +1,4 @@
-//! What is written of values.
+//! Encodings of values.
 
 use crate::account::{octets_of, text_of};
 use crate::refusal::{Refusal, told};
@@ -11,10 +11,10 @@ use octet_account::account::Account;
 use row_files::Row;
 use std::alloc::{AllocError, Global};
 
-/// More octets than these are told by their front and their number.
+/// The most octets that are printed in full. Of more octets the first eight are printed, and their number.
 const MOST_SHOWN: usize = 64;
 
-/// The digits of octets; of many those of the first eight, and how many there are.
+/// The digits of octets, or of many octets those of the first eight and their number.
 pub fn shown(alloc: Global, octets: &[u8]) -> Result<String, AllocError> {
     let count = octets.len();
     if count <= MOST_SHOWN {
@@ -25,7 +25,7 @@ pub fn shown(alloc: Global, octets: &[u8]) -> Result<String, AllocError> {
     Ok(text)
 }
 
-/// What is written of a value into a list: the digits of its octets, and below them its account.
+/// The digits of an encoding in a list, and below them its account.
 fn listed(alloc: Global, octets: &[u8], account: &Account) -> Result<String, AllocError> {
     let mut text = shown(alloc, octets)?;
     let rows = text_of(alloc, account.rows())?;
@@ -33,7 +33,7 @@ fn listed(alloc: Global, octets: &[u8], account: &Account) -> Result<String, All
     Ok(text)
 }
 
-/// `der NAME TYPE`: the octets that are written of the value and below them their account, or the fault.
+/// `der NAME TYPE`: the octets of the value's encoding and below them their account, or the fault.
 pub fn in_memory(alloc: Global, code: &Code, row: &Row) -> Result<String, Refusal> {
     let id = type_of(alloc, row)?;
     let value = value_at(alloc, row, 0)?;
@@ -43,26 +43,26 @@ pub fn in_memory(alloc: Global, code: &Code, row: &Row) -> Result<String, Refusa
     }
 }
 
-/// How many octets an account tells, and its rows.
+/// How many octets an account gives, and its rows.
 fn counted(alloc: Global, account: &Account) -> Result<String, AllocError> {
     let count = octets_of(account.rows());
     let rows = text_of(alloc, account.rows())?;
     format!(in alloc; "{count} octets {rows}")
 }
 
-/// What a sink holds, and how many of its calls failed.
+/// The octets in a sink, and how many of its calls failed.
 fn held(alloc: Global, sink: &Stops) -> Result<String, AllocError> {
     let octets = shown(alloc, sink.octets())?;
     let failures = sink.failures();
     format!(in alloc; "holds {octets}\nfailures {failures}")
 }
 
-/// A number that a word of the row tells, or 0.
+/// The number at a word of the row, or 0 if it isn't a number.
 fn number(row: &Row, place: usize) -> usize {
     word(row, place).parse::<usize>().unwrap_or(0)
 }
 
-/// What is answered where the value goes to the sink that a row tells.
+/// The answer for a value that is encoded to the sink that a row describes.
 fn sent(
     alloc: Global,
     code: &Code,
@@ -80,9 +80,9 @@ fn sent(
     format!(in alloc; "{answer}\n{held}")
 }
 
-/// `sink NAME TYPE LIMIT MOST [silent]`: the value goes to a sink that takes so many octets, at most so many a call,
-/// and then fails, by an error or silently. Told are the answer (how many octets the account tells, and its rows), what
-/// the sink holds, and how many of its calls failed.
+/// `sink NAME TYPE LIMIT MOST [silent]`: encodes the value to a sink that takes LIMIT octets, at most MOST in one call.
+/// After that the sink fails, by an error or silently. The answer has the number of octets in the account and its rows,
+/// the octets in the sink, and how many of its calls failed.
 pub fn to_sink(alloc: Global, code: &Code, row: &Row) -> Result<String, Refusal> {
     let id = type_of(alloc, row)?;
     let value = value_at(alloc, row, 0)?;

@@ -28,7 +28,7 @@ not_both e = absurd (cc)
 none_some : {A : Type 0} {t : TypeId} → None ≡ Some t → A
 none_some e = absurd (cc)
 
--- what a step asks for: the steps behind, the value before them, the state
+-- what a step asks for: the steps after it, the value before them, and the state
 pub record One {S : Type 0} (b c : List Step) (t u : Option TypeId) (y z : S) : Type 0 where
   pub behind : b ≡ c
   pub value : t ≡ u

@@ -1,4 +1,4 @@
--- Where frames stop.
+-- The frames at which a run stops.
 use Rattle.std.proofs.Common.{arith, ◌≡◌, inl, inr, ℕ, ◌<◌, List, [], ◌∷◌, ◌++◌, length, refl, sym, subst}
 use Rattle.std.specs.Prelude.{Option, Some, None, Result, Ok, Err, IfErr}
 use Rattle.asn_base.specs.declared.schema.TypeId.{TypeId}
@@ -87,7 +87,7 @@ module _ {S : Type 0} (r : ℕ → List Step) (takes : S → Event → S → Typ
   pub none_begun_stops : (t : TypeId) (b : List Step) (fs : List Frame) (x z : S) → ((a : S) → takes x (begins t) a → ⊥) → leaves x (to_begin t) z → ThenBeforeStops r takes leaves (Some t) b fs x z
   none_begun_stops t b fs x z n l = inl (inl (not_begun n l))
 
-  -- a value begins above the steps that go on behind it
+  -- a value begins above the steps that go on after it
   pub called_stops_before : (t : TypeId) (b ss : List Step) (olds mids : List Frame) (f : Frame) (x y z : S) → mids ≡ olds ++ f ∷ [] → f.steps.now ≡ b → ss ≡ r t.index → takes x (begins t) y → BeforeStops r takes leaves ss mids y z → ThenBeforeStops r takes leaves (Some t) b olds x z
   called_stops_before t b ss olds mids f x y z e fs gs k s = inner (subst (λ q. BeforeStops r takes leaves q mids y z) gs s)
     where

@@ -103,7 +103,7 @@ module _ {S : Type 0} (r : ℕ → List Step) (takes : S → Event → S → Typ
   pub goes_at : (news fs : List Frame) (f : Frame) (x : S) → news ≡ fs ++ f ∷ [] → Same (Before r takes f.steps.now fs x) (Goes r takes news x)
   goes_at news fs f x e = subst (λ q. Same (Before r takes f.steps.now fs x) (Goes r takes q x)) (sym e) (record { to = goes_from fs f x; from = goes_to fs f x })
 
-  -- a value begins above the steps that go on behind it
+  -- a value begins above the steps that go on after it
   pub called_before : (t : TypeId) (b ss : List Step) (olds mids : List Frame) (f : Frame) (x y : S) → mids ≡ olds ++ f ∷ [] → f.steps.now ≡ b → ss ≡ r t.index → takes x (begins t) y → Same (ThenBefore r takes (Some t) b olds x) (Before r takes ss mids y)
   called_before t b ss olds mids f x y e fs gs k = record { to = to; from = from }
     where

@@ -13,7 +13,7 @@ use Rattle.codec_source.proofs.Asking.{no_head, no_leaf, no_end}
 use Rattle.codec_source.proofs.Running.{same_then, asked_before, ended_before, never_asked, never_ended}
 use Rattle.codec_source.proofs.Halting.{asked_stops, before_none, nothing_asked, none_ended, ended_stops}
 
--- the three steps, and those behind the first ones
+-- the three steps, and those after the first ones
 abbrev pub at_header : Head' → LeafKind → List Step
 at_header h k = Head h ∷ Leaf k ∷ End ∷ []
 

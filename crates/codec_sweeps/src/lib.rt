@@ -1,6 +1,6 @@
-//! Tests of what is compiled, written by the distinguished rules and read by the basic ones, where each growth is
-//! refused in turn and each call of a sink fails in turn. There is no code but tests, and it stands at the top, so that
-//! no crate below is proved again for them.
+//! Tests of compiling, of encoding by the distinguished rules and of decoding. Allocations fail one after another, and
+//! calls of a sink fail one after another. The crate has only tests, and no other crate needs it, so that no other
+//! crate is proved again for them.
 #![tactic(auto)]
 
 #[cfg(test)]

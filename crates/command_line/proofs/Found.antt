@@ -8,12 +8,12 @@ use Rattle.clap.specs.declared.parser.matches.ArgMatches.TheViews.{out-SubComman
 use Rattle.clap.specs.declared.parser.matches.SubCommand.{SubCommand}
 use Rattle.command_line.specs.CommandLine.{first_word}
 
--- the text behind a reference that may be absent
+-- the text of a reference that may be absent
 pub text_or : (o : Option (Bor (List ℕ))) (d : Bor (List ℕ)) → (unwrap_or o d).now ≡ unwrap_or (option_map (λ s. s.now) o) d.now
 text_or None d = refl
 text_or (Some s) d = refl
 
--- the name of the command that was found stands beside its rows
+-- the name of the command that was found is next to its rows
 pub named_by : {Z : Type 0} (o : Option (Box SubCommand Z))
     → option_map (λ b. (out-SubCommand (box_value b)).name.now) o ≡ option_map (λ p. p.0) (subcommand_rows o)
 named_by None = refl

@@ -1,4 +1,4 @@
--- A fault that tells of a kind of failure refuses the words that show it.
+-- A fault for a kind of failure refuses the words that show it.
 use Rattle.std.proofs.Common.{◌≡◌, ◌⊎◌, inl, inr, sym, ap, ◌∙◌, List, [], Some, subst, option_map, codes}
 use Rattle.clap.specs.Words.{App, Row, Text, IsAmong, fault_of, matches_of, subcommand_of}
 use Rattle.clap.specs.declared.error.kind.ErrorKind.{ErrorKind}
@@ -34,7 +34,7 @@ pub refused_as : (a b : App) (N : Type 0) (words : List Text) (k : ErrorKind) (f
     → IsFaultOf k fault → IsRefusedBy b N words fault
 refused_as a b N words k fault e h f = refused_by b N words k fault (subst (λ x. (k ≡ kinds.OutOfMemory) ⊎ IsAmong k (fault_of x words)) e h) f
 
--- where a command has no job, the words are refused
+-- if a command has no job, the words are refused
 refused_without : (words : List Text) (command : Text) (rows : List Row) (fault : Fault)
     → fault_of asnc_app words ≡ []
     → option_map (λ p. p.0) (subcommand_of asnc_app words) ≡ Some command

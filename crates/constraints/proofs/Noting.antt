@@ -21,7 +21,7 @@ set_long [] i x = refl
 set_long (y ∷ xs) zero x = refl
 set_long (y ∷ xs) (suc i) x = ap suc (set_long xs i x)
 
--- what stands at place j afterwards is new, or stood there
+-- an element at place j afterwards is new, or was there before
 set_either : {A : Type 0} (xs : List A) (i j : ℕ) (x y : A) →
     slice_get (slice_set xs i x) j ≡ Some y →
     ((j ≡ i) × (y ≡ x)) ⊎ (slice_get xs j ≡ Some y)
@@ -35,7 +35,7 @@ set_either (z ∷ xs) (suc i) (suc j) x y e =
       | inr h ↦ inr h
     ]
 
--- what stood at place j stands there, or something at place i is new
+-- the element at place j is still there, or a new one is at place i
 set_kept : {A : Type 0} (xs : List A) (i j : ℕ) (x y : A) →
     slice_get xs j ≡ Some y →
     (slice_get (slice_set xs i x) j ≡ Some y) ⊎ (slice_get (slice_set xs i x) j ≡ Some x)

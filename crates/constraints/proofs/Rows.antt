@@ -36,7 +36,7 @@ holding =
 sizes_of_plain : map has_size plain ≡ false ∷ false ∷ false ∷ false ∷ false ∷ false ∷ []
 sizes_of_plain = refl
 
--- SIZE is taken by strings of bits, but for those with named bits
+-- strings of bits take SIZE, except those with named bits
 sizes_of_binary : map has_size binary ≡ true ∷ false ∷ true ∷ []
 sizes_of_binary = refl
 
@@ -52,7 +52,7 @@ markers_of_plain = refl
 markers_of_binary : map may_extend binary ≡ true ∷ true ∷ true ∷ []
 markers_of_binary = refl
 
--- no marker stands in the SIZE of a character string
+-- the SIZE of a character string has no marker
 markers_of_texts : map may_extend texts ≡ false ∷ false ∷ false ∷ false ∷ false ∷ []
 markers_of_texts = refl
 

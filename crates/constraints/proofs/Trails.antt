@@ -1,4 +1,4 @@
--- The types behind a type, one by one.
+-- The types that a type leads to, one by one.
 use Rattle.std.proofs.Common.{◌≡◌, ◌⊎◌, inl, inr, ℕ, zero, suc, ◌+◌, ◌-◌, ◌<◌, ◌≤◌, List, [], ◌∷◌, ◌++◌, Option, Some, None, length, refl, sym, ap, ◌∙◌, subst, arith}
 use Rattle.std.specs.Prelude.{slice_get}
 use Rattle.type_table.specs.Walks.{onward, follow}
@@ -72,7 +72,7 @@ core_behind ts i j c (suc s) e f g l = record {
   ends = g;
 }
 
--- a type behind another is of its kind
+-- a type that another leads to has the same kind
 pub kind_behind : (ts : List Type') (i j : ℕ) (k : Kind) → next ts i ≡ Some j → IsOfKind ts i k → IsOfKind ts j k
 kind_behind ts i j k e u = record {
   core = u.core;
@@ -84,7 +84,7 @@ kind_behind ts i j k e u = record {
 
 -- ---- trails
 
--- type at stands behind the last one of the list, which begins with type start
+-- the list begins with type start, and type at comes after its last one
 pub record IsFront (ts : List Type') (start at : ℕ) (v : List ℕ) : Type 0 where
   pub inside : (n i : ℕ) → slice_get v n ≡ Some i → i < length ts
   pub follows : (n i j : ℕ) → slice_get v n ≡ Some i → next ts i ≡ Some j →
@@ -138,7 +138,7 @@ module _ (ts : List Type') (start at : ℕ) (v w : List ℕ) (u : IsFront ts sta
         | inr g ↦ got_front v at start 0 g
       ]
 
-  -- the last one is behind nothing
+  -- the last one leads to nothing
   pub front_ends : (at' : List (Option ℕ)) → next ts at ≡ None → IsTrail ts at' start w
   front_ends at' f = subst (IsTrail ts at' start) (sym e) (record {
     inside = pushed_inside;

@@ -90,8 +90,8 @@ fn add_chars(codes: &mut Codes, chars: &CharsSyntax) -> Result<(), CharsFault>
     }
 }
 
-/// The codes, below 128, of the characters that texts and ranges allow (X.680, clauses 51.4 and 51.7), or the first fault
-/// of them.
+/// The codes, below 128, of the characters that texts and ranges allow (X.680, clauses 51.4 and 51.7), or the first
+/// fault of them.
 pub(crate) fn codes_at(chars: &[CharsSyntax]) -> Result<Codes, CharsFault>
     ensures found { MatchResult result
         (λ s. AreFit (map chars_of chars.now)

@@ -136,8 +136,8 @@ fn is_empty(shape: &Shape, limit: &Limit) -> bool
     limit.numbers.is_empty() || (has_alphabet(shape) && limit.codes.is_empty())
 }
 
-/// What the constraints of a type with this shape, read in a module, allow of what was allowed before them; or the
-/// fault of the first one that has a fault.
+/// The values that the constraints of a type with this shape in a module leave of those that were allowed before. The
+/// error is the fault of the first constraint with a fault.
 fn narrowed_by(
     alloc: Global,
     scope: &ReferenceTable<'_>,

@@ -1,4 +1,4 @@
--- Octets that go out behind others.
+-- Octets that go out after others.
 use Rattle.std.proofs.Common.{◌≡◌, ℕ, zero, suc, ◌+◌, ◌≤◌, List, [], ◌∷◌, ◌++◌, length, take, refl, sym, ap, subst, ◌∙◌, arith, length-append}
 use Rattle.std.specs.Prelude.{Ok, Err, Result}
 use Rattle.std.specs.Io.KnownBytes.{Appends}
@@ -31,7 +31,7 @@ front_first a b x y k s =
       one_failed = s.one_failed;
     }
 
--- and of what went out behind it
+-- the front that went out, with the one after it
 pub front_behind : (a b c : SinkState) (x y : List ℕ) (k : ℕ) → SentAll a b x → SentFront b c y k → SentFront a c (x ++ y) (length x + k)
 front_behind a b c x y k s t =
     let few = t.fewer in

@@ -3,7 +3,7 @@ use Rattle.std.proofs.Common.{◌≡◌, ℕ, zero, suc, ◌+◌, ◌<◌, ◌�
 use Rattle.der_parts.specs.declared.part.Part.{Part}
 use Rattle.der_parts.specs.Parts.{IsPart, Spell}
 
--- the octets of the next part, and those behind it
+-- the octets of the next part, and those after it
 pub record Next (p : Part) (ps : List Part) (y : List ℕ) : Type 0 where
   pub octets : List ℕ
   pub behind : List ℕ

@@ -1,8 +1,9 @@
--- What went out behind other octets.
+-- Octets that a sink receives after others.
 use Rattle.std.specs.Prelude.{◌≡◌, ℕ, ◌+◌, List, length, Result, MatchResult}
 use Rattle.sinks.specs.Sent.{SinkState, SentAll, SentFront}
 
--- behind so many octets all of these went out, or the first ones; the answer tells how many have gone out in all
+-- After `done` octets the sink took all octets of o, or the first ones. The result is how many octets it has taken in
+-- all.
 abbrev pub Sends : SinkState → SinkState → List ℕ → ℕ → Result ℕ ℕ → Type 0
 Sends a b o done r =
     MatchResult r

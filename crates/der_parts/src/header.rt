@@ -1,4 +1,4 @@
-//! A header in the fewest octets, without memory (X.690, 8.1.2, 8.1.3 and 10.1).
+//! Headers with the fewest octets, which take no memory (X.690, 8.1.2, 8.1.3 and 10.1).
 
 ghost use Rattle.encodings.specs.Fewest.{shortest_header, shortest_size};
 ghost use Rattle.encodings.specs.Header.{class_bits, form_bit, identifier};
@@ -10,8 +10,8 @@ use asn_base::tag::{Class, Tag};
 use leaf_contents::{push_digits, push_septets};
 use std::alloc::AllocError;
 
-/// Adds the header with the fewest octets that tells the tag, the form and so many octets of contents (X.690, 8.1.2,
-/// 8.1.3 and 10.1). An `Err` is want of memory, and adds nothing.
+/// Adds the header with the fewest octets for this tag, this form and this number of contents octets (X.690, 8.1.2,
+/// 8.1.3 and 10.1). `AllocError`: an allocation failed, and nothing was added.
 pub fn push_header(
     out: &mut Vec<u8>,
     tag: Tag,
@@ -30,7 +30,7 @@ pub fn push_header(
     }
 }
 
-/// The two octets of a header whose identifier and length have one octet each, and None for all others.
+/// The two octets of a header with one identifier octet and one length octet, or None if the header is longer.
 #[tactic(auto, unfolding(encodings::specs::Fewest::shortest_header, encodings::specs::Header::identifier))]
 pub(crate) fn short_header(tag: Tag, constructed: bool, contents: u64) -> Option<(u8, u8)>
     ensures { IfSome result (λ h. shortest_header tag constructed contents ≡ h.0 ∷ h.1 ∷ []) }
@@ -45,7 +45,7 @@ pub(crate) fn short_header(tag: Tag, constructed: bool, contents: u64) -> Option
     }
 }
 
-/// The header with the fewest octets that tells the tag, the form and so many octets of contents.
+/// The header with the fewest octets for this tag, this form and this number of contents octets.
 #[tactic(auto, unfolding(encodings::specs::Fewest::shortest_header))]
 pub(crate) fn header_octets(tag: Tag, constructed: bool, contents: u64) -> ArrayVec<u8, 24>
     ensures { result.items ≡ shortest_header tag constructed contents }
@@ -55,7 +55,7 @@ pub(crate) fn header_octets(tag: Tag, constructed: bool, contents: u64) -> Array
     out
 }
 
-/// The first identifier octet, whose last five bits are `low`.
+/// The first identifier octet, in which the last five bits are `low` (X.690, 8.1.2).
 fn first_octet(class: Class, constructed: bool, low: u8) -> u8
     requires { low < 32 }
     ensures { result ≡ class_bits class + form_bit constructed + low }
@@ -70,7 +70,7 @@ fn first_octet(class: Class, constructed: bool, low: u8) -> u8
     class_bits + form_bit + low
 }
 
-/// The identifier octets.
+/// The identifier octets of a tag (X.690, 8.1.2).
 #[tactic(auto, unfolding(encodings::specs::Header::identifier))]
 fn identifier_octets(tag: Tag, constructed: bool) -> ArrayVec<u8, 24>
     ensures octets { result.items ≡ identifier tag.class tag.number constructed }
@@ -87,7 +87,7 @@ fn identifier_octets(tag: Tag, constructed: bool) -> ArrayVec<u8, 24>
     out
 }
 
-/// Adds the length octets.
+/// Adds the fewest length octets for this number of contents octets (X.690, 8.1.3 and 10.1).
 fn push_size(out: &mut ArrayVec<u8, 24>, contents: u64)
     requires { length out.old.items ≤ 6 }
     ensures { out.new.items ≡ out.old.items ++ shortest_size contents }
@@ -100,7 +100,7 @@ fn push_size(out: &mut ArrayVec<u8, 24>, contents: u64)
     }
 }
 
-/// How many octets the number has.
+/// How many digits the number has in base 256.
 fn digit_count(number: u64) -> usize
     ensures count { result ≡ length (digits_of 256 number) }
     ensures most { result ≤ 8 }

@@ -1,4 +1,4 @@
-//! The octets of parts in a list.
+//! The octets of parts, added to a list.
 
 ghost use Rattle.asn_base.specs.Abstract.{abstract};
 ghost use Rattle.codec_code.specs.Steps.{HasContents};
@@ -13,7 +13,7 @@ use codec_code::LeafKind;
 use leaf_contents::{leaf_len, push_leaf};
 use std::alloc::AllocError;
 
-/// Adds the contents octets of a value, where it has any of this kind.
+/// Adds the contents octets of this kind for the value, if it has some. `AllocError` only if an allocation fails.
 fn push_contents(kind: LeafKind, value: &Value, out: &mut Vec<u8>) -> Result<(), AllocError>
     ensures { (x : List ℕ)
         → HasContents kind (abstract value.now) x
@@ -25,14 +25,14 @@ fn push_contents(kind: LeafKind, value: &Value, out: &mut Vec<u8>) -> Result<(),
     }
 }
 
-/// Adds octets that are held in place.
+/// Adds the octets in a small part. `AllocError` only if an allocation fails.
 fn push_small(small: &Small, out: &mut Vec<u8>) -> Result<(), AllocError>
     ensures { OnOk result (out.new.items ≡ out.old.items ++ held small.now) }
 {
     out.extend_from_slice(octets_held(small))
 }
 
-/// Adds the octets of a part.
+/// Adds the octets of a part. `AllocError` only if an allocation fails.
 fn push_part(part: &Part, out: &mut Vec<u8>) -> Result<(), AllocError>
     ensures { (x : List ℕ) → IsPart part.now x → OnOk result (out.new.items ≡ out.old.items ++ x) }
 {
@@ -45,8 +45,8 @@ fn push_part(part: &Part, out: &mut Vec<u8>) -> Result<(), AllocError>
     }
 }
 
-/// Adds the octets of parts, one behind the other, to those of a list. An `Err` is want of memory, and may have added
-/// some.
+/// Adds the octets of the parts to a list, one part after another. `AllocError`: an allocation failed, and some octets
+/// may have been added.
 pub fn push_parts(parts: &[Part], out: &mut Vec<u8>) -> Result<(), AllocError>
     ensures { (o : List ℕ) → Spell parts.now o → OnOk result (out.new.items ≡ out.old.items ++ o) }
 {

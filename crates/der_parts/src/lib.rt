@@ -1,5 +1,5 @@
-//! Parts of an encoding, in the order of writing, and the pass that writes them: forward, to any sink or behind the
-//! octets of a list. It only appends, and can fail by its output alone.
+//! Parts of an encoding in the order of encoding, and the pass that writes them to a sink or adds them to a list. The
+//! pass only appends octets, and it fails only if the sink or an allocation fails.
 #![tactic(auto)]
 
 mod header;

@@ -1,4 +1,4 @@
-//! Octets sent behind those that have gone out.
+//! Octets that are sent after others.
 
 ghost use Rattle.der_parts.specs.Parts.{held};
 ghost use Rattle.der_parts.specs.Sends.{Sends};
@@ -15,7 +15,8 @@ use asn_base::tag::Tag;
 use leaf_contents::{LeafOctets, push_septets};
 use sinks::{Sink, send_all};
 
-/// Sends octets, where `done` have gone out before. Both answers tell how many have gone out in all.
+/// Sends octets after `done` others. Both results are how many octets the sink has taken in all. The error means that a
+/// call of the sink failed.
 pub(crate) fn send_more<S: Sink>(sink: &mut S, done: u64, octets: &[u8]) -> Result<u64, u64>
     requires room { S.failed sink.old < u64.MAX }
     requires few { done + length octets.now < 2 ^ 64 }
@@ -30,7 +31,7 @@ pub(crate) fn send_more<S: Sink>(sink: &mut S, done: u64, octets: &[u8]) -> Resu
     }
 }
 
-/// Sends the header with the fewest octets that tells the tag, the form and so many octets of contents.
+/// Sends the header with the fewest octets for this tag, this form and this number of contents octets.
 pub(crate) fn send_header<S: Sink>(
     sink: &mut S,
     done: u64,
@@ -54,7 +55,7 @@ pub(crate) fn send_header<S: Sink>(
     }
 }
 
-/// Sends octets that are held in place.
+/// Sends the octets in a small part.
 pub(crate) fn send_small<S: Sink>(sink: &mut S, done: u64, small: Small) -> Result<u64, u64>
     requires room { S.failed sink.old < u64.MAX }
     requires few { done + length (held small) < 2 ^ 64 }
@@ -88,7 +89,7 @@ pub(crate) fn send_pieces<S: Sink>(sink: &mut S, done: u64, octets: &LeafOctets)
     }
 }
 
-/// Sends a number in septets, and then others.
+/// Sends a number in septets, and then the others.
 #[cycle(arcs)]
 fn send_numbers<S: Sink>(sink: &mut S, done: u64, first: u128, others: &[u64]) -> Result<u64, u64>
     requires room { S.failed sink.old < u64.MAX }
@@ -104,7 +105,7 @@ fn send_numbers<S: Sink>(sink: &mut S, done: u64, first: u128, others: &[u64]) -
     }
 }
 
-/// Sends the octets of bits.
+/// Sends the contents octets of a BIT STRING.
 fn send_bits<S: Sink>(
     sink: &mut S,
     done: u64,
@@ -128,7 +129,7 @@ fn send_bits<S: Sink>(
     }
 }
 
-/// Sends an octet, where there is one.
+/// Sends the last octet, if there is one.
 fn send_last<S: Sink>(sink: &mut S, done: u64, last: Option<u8>) -> Result<u64, u64>
     requires room { S.failed sink.old < u64.MAX }
     requires few { done + length (last_of last) < 2 ^ 64 }

@@ -1,4 +1,4 @@
-//! A header with its contents in a few octets, in place.
+//! Headers with their contents in a few octets, which are stored in place.
 
 ghost use Rattle.der_parts.specs.Parts.{held};
 ghost use Rattle.encodings.specs.Fewest.{shortest_header};
@@ -9,18 +9,18 @@ use crate::header::short_header;
 use asn_base::tag::Tag;
 use leaf_contents::LeafOctets;
 
-/// How many octets have room in place.
+/// The greatest number of octets in place.
 const ROOM: usize = 23;
 
-/// The first octets of an array, at most 23.
+/// Octets in place. They are the first `len` octets of the array, at most 23.
 #[derive(Clone, Copy)]
 pub struct Small {
     pub len: u8,
     pub octets: [u8; 23],
 }
 
-/// The header with the fewest octets and the contents behind it, where both have few octets and their octets stand in
-/// one piece; None for all others.
+/// The header with the fewest octets and the contents after it, as one part. The result is None if they have too many
+/// octets, or if the contents are in several pieces.
 pub fn small_part(tag: Tag, constructed: bool, octets: &LeafOctets) -> Option<Small>
     ensures held { IfSome result (λ s. held s
         ≡ shortest_header tag constructed (length (joined_pieces octets.now)) ++ joined_pieces octets.now) }
@@ -35,8 +35,8 @@ pub fn small_part(tag: Tag, constructed: bool, octets: &LeafOctets) -> Option<Sm
     }
 }
 
-/// The header with the fewest octets and one contents octet behind it, where the header has two octets; None for all
-/// others.
+/// The header with the fewest octets and one contents octet after it, as one part. The result is None if the header has
+/// more than two octets.
 pub fn small_octet(tag: Tag, constructed: bool, octet: u8) -> Option<Small>
     ensures { IfSome result (λ s. held s ≡ shortest_header tag constructed 1 ++ octet ∷ []) }
 {
@@ -83,7 +83,7 @@ fn behind_two(first: u8, second: u8, others: &[u8]) -> Small
     }
 }
 
-/// The first two octets, and others behind them.
+/// The first two octets, and then the others.
 fn with_others(two: [u8; 23], others: &[u8]) -> [u8; 23]
     requires { length others.now ≤ 21 }
     ensures { take (length others.now + 2) result ≡ take 2 two ++ others.now }
@@ -95,7 +95,7 @@ fn with_others(two: [u8; 23], others: &[u8]) -> [u8; 23]
     octets
 }
 
-/// The octets that are held.
+/// The octets in a small part.
 pub fn octets_held(small: &Small) -> &[u8]
     ensures { result.now ≡ held small.now }
 {

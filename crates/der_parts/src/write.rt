@@ -11,17 +11,17 @@ use leaf_contents::law::one_contents;
 use leaf_contents::leaf_octets;
 use sinks::Sink;
 
-/// Writes the parts to the sink, one behind the other, and takes no memory of its own. An `Err` tells how many octets
-/// went out before the one call of the sink that failed, which isn't tried again.
+/// Writes the parts to the sink, one after another. It takes no memory itself. The error is how many octets the sink
+/// took before the call that failed. That call isn't tried again.
 pub fn write_parts<S: Sink>(sink: &mut S, parts: &[Part]) -> Result<(), u64>
     requires room { S.failed sink.old < u64.MAX }
     requires spelled { (o : List ℕ) × Spell parts.now o × (length o < 2 ^ 64) }
-    // The sink has taken just their octets, and no call failed.
+    // The sink took exactly the octets of the parts, and no call failed.
     ensures ok { (o : List ℕ)
         → Spell parts.now o
         → OnOk result
         (SentAll (state (S.taken sink.old) (S.failed sink.old)) (state (S.taken sink.new) (S.failed sink.new)) o) }
-    // It has taken just the first n, fewer than there are, and one call failed.
+    // The sink took exactly the first n octets, which are fewer than all, and one call failed.
     ensures err { (o : List ℕ)
         → Spell parts.now o
         → IfErr result (λ n. SentFront
@@ -36,7 +36,7 @@ pub fn write_parts<S: Sink>(sink: &mut S, parts: &[Part]) -> Result<(), u64>
     }
 }
 
-/// Writes the parts, and tells how many octets went out in all.
+/// Writes the parts. Both results are how many octets the sink took in all.
 fn write_all_parts<S: Sink>(sink: &mut S, parts: &[Part]) -> Result<u64, u64>
     requires room { S.failed sink.old < u64.MAX }
     requires spelled { (o : List ℕ) × Spell parts.now o × (length o < 2 ^ 64) }
@@ -57,7 +57,7 @@ fn write_all_parts<S: Sink>(sink: &mut S, parts: &[Part]) -> Result<u64, u64>
     Ok(done)
 }
 
-/// Writes a part behind `done` octets.
+/// Writes a part after `done` octets.
 fn write_part<S: Sink>(sink: &mut S, done: u64, part: Part) -> Result<u64, u64>
     requires room { S.failed sink.old < u64.MAX }
     requires is { (x : List ℕ) × IsPart part x × (done + length x < 2 ^ 64) }

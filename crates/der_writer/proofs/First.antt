@@ -1,4 +1,4 @@
--- The first row of an account tells how many octets the encoding has.
+-- The first row of an account gives the number of octets of the encoding.
 use Rattle.std.proofs.Common.{arith, ◌≡◌, ℕ, ◌+◌, List, ◌++◌, Bool, length, refl, sym, ap, subst, length-append}
 use Rattle.asn_base.specs.declared.tag.Tag.{Tag}
 use Rattle.asn_base.specs.Abstract.{AbstractValue}

@@ -7,9 +7,9 @@ use std::alloc::AllocError;
 use thiserror::Error;
 use writing_table::MeasureFault;
 
-/// Why a value was not written: `Memory`, where more memory was asked for and refused; `NotOfType`, where it is no
-/// value of the type; `TooLong`, where its encoding has more than 16,777,216 octets; `Device`, where the sink failed,
-/// and just so many octets of the encoding went out.
+/// Why a value was not written. `Memory`: an allocation failed. `NotOfType`: the value isn't one of the type.
+/// `TooLong`: its encoding has more than 16,777,216 octets. `Device`: the sink failed after it took this number of
+/// octets of the encoding.
 #[derive(Clone, Copy, Debug, PartialEq, Eq, Error)]
 pub enum WriteFault {
     #[error("1 Memory")]

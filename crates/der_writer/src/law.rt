@@ -1,4 +1,4 @@
-//! The laws of encodings by the distinguished rules, for whoever signs or compares them.
+//! Laws of encodings by the distinguished rules, which signatures and comparisons rely on.
 
 ghost use Rattle.asn_base.specs.Abstract.{AbstractValue};
 ghost use Rattle.asn_base.specs.Same.{Same};
@@ -12,7 +12,7 @@ ghost use Rattle.std.specs.Prelude.{◌≡◌, ◌≤◌, List, length, ℕ};
 use asn_base::law::sameness;
 use encodings::schema_laws;
 
-/// One value has one encoding by the distinguished rules, and so have values that are the same.
+/// A value has at most one encoding by the distinguished rules, and values that are the same have the same encoding.
 pub fn one_encoding()
     ensures { (s : List Resolved) (t : ℕ) (v w : AbstractValue) (o p : List ℕ)
         → IsSchema s
@@ -24,7 +24,7 @@ pub fn one_encoding()
     schema_laws();
 }
 
-/// One encoding by the distinguished rules says one value: octets answered for a value are those of no other one.
+/// An encoding by the distinguished rules encodes only one value. So the octets of a value are those of no other value.
 pub fn one_value()
     ensures { (s : List Resolved) (t : ℕ) (v w : AbstractValue) (o : List ℕ)
         → IsSchema s
@@ -35,8 +35,8 @@ pub fn one_value()
     schema_laws();
 }
 
-/// Octets within the limit that encode a value of a type by the distinguished rules are its one encoding, and none by
-/// the basic rules is shorter.
+/// If octets within the limit encode a value by the distinguished rules, they are its only encoding by these rules. No
+/// encoding of the value by the basic rules is shorter.
 pub fn encodings_of_values()
     ensures { (s : List Resolved) (t : ℕ) (v : AbstractValue) (o : List ℕ)
         → IsSchema s

@@ -1,5 +1,5 @@
-//! The encoding of a value by the distinguished rules (X.690, 8, 10 and 11), in one forward pass: into a list, or to
-//! any sink. All lengths are known, and all memory is there, before the first octet goes out.
+//! Encodes values by the distinguished rules (X.690, 8, 10 and 11), in one forward pass into a list or to any sink.
+//! Before the first octet is written, all lengths are known and all memory is allocated.
 #![tactic(auto)]
 
 mod fault;

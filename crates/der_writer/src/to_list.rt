@@ -1,4 +1,4 @@
-//! The encoding of a value in a list.
+//! Encodes a value into a list.
 
 ghost use Rattle.asn_base.specs.Abstract.{abstract};
 ghost use Rattle.asn_base.specs.Typed.{IsValue};
@@ -20,30 +20,30 @@ use octet_account::law::one_account;
 use std::alloc::{AllocError, Global};
 use writing_table::{Part, measure};
 
-/// The octets that encode the value of the type by the distinguished rules (X.690, 8, 10 and 11), and the account of
-/// them.
+/// Encodes a value of the type by the distinguished rules (X.690, 8, 10 and 11). The results are the octets and their
+/// account.
 ///
-/// - `NotOfType`: just where it is no value of the type, or there is no such type.
-/// - `TooLong`: just where it is one, and its encoding has more than 16,777,216 octets.
-/// - `Memory`: more memory was asked for and refused.
+/// - `NotOfType`: exactly if the value isn't one of the type, or there is no such type.
+/// - `TooLong`: the value is one of the type, and its encoding has more than 16,777,216 octets.
+/// - `Memory`: an allocation failed.
 pub fn write_der(
     alloc: Global,
     code: &Code,
     id: TypeId,
     value: &Value,
 ) -> Result<(Vec<u8>, Account), WriteFault>
-    // The octets are the value's one encoding.
+    // The octets are the only encoding of the value by the distinguished rules.
     ensures encoding { IfOk result (λ w. IsEncoding code.now id.index (abstract value.now) w.0.items) }
-    // The account is theirs.
+    // The account is that of these octets.
     ensures account { IfOk result (λ w. Tells code.now id.index (abstract value.now) w.0.items w.1) }
-    // It is refused as no value just where it is none.
+    // `NotOfType` exactly if the value isn't one of the type.
     ensures not_of_type { IfErr result (λ e. e ≡ NotOfType → IsValue code.now id.index (abstract value.now) → ⊥) }
     ensures no_value { (IsValue code.now id.index (abstract value.now) → ⊥) → result ≡ Err NotOfType }
-    // Each encoding by the distinguished rules is then longer than 16,777,216 octets.
+    // After `TooLong` each encoding by the distinguished rules has more than 16,777,216 octets.
     ensures longer { IfErr result (λ e. e ≡ TooLong → (o : List ℕ)
         → Der code.now id.index (abstract value.now) 0 o
         → 16777216 < length o) }
-    // There is no device.
+    // `Device` is never the error.
     ensures no_device { IfErr result (λ e. (n : ℕ) → e ≡ Device n → ⊥) }
 {
     code.accepted();
@@ -58,7 +58,8 @@ pub fn write_der(
     }
 }
 
-/// The octets that parts spell, in a list with room for so many of them from the start.
+/// The octets of the parts, in a list with room for this number of them from the start. `AllocError` only if an
+/// allocation fails.
 fn joined(alloc: Global, parts: &[Part], octets: usize) -> Result<Vec<u8>, AllocError>
     ensures { (o : List ℕ) → Spell parts.now o → IfOk result (λ v. v.items ≡ o) }
 {

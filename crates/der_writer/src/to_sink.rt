@@ -1,4 +1,4 @@
-//! The encoding of a value to a sink.
+//! Encodes a value to a sink.
 
 ghost use Rattle.asn_base.specs.Abstract.{abstract};
 ghost use Rattle.asn_base.specs.Typed.{IsValue};
@@ -21,15 +21,16 @@ use sinks::Sink;
 use std::alloc::Global;
 use writing_table::measure;
 
-/// Writes the octets that encode the value of the type by the distinguished rules (X.690, 8, 10 and 11) to the sink,
-/// one behind the other, and answers the account of them: its first row tells how many went out. All growths and the
-/// refusals `Memory`, `NotOfType` and `TooLong` come before the first octet. A call of the sink may take a part of what
-/// it is given; the rest follows.
+/// Encodes a value of the type by the distinguished rules (X.690, 8, 10 and 11), and writes the octets to the sink in
+/// order. The result is their account, whose first row gives their number. All allocations, and the faults `Memory`,
+/// `NotOfType` and `TooLong`, come before the first octet. A call of the sink may take only the first part of its
+/// octets; the rest is written next.
 ///
-/// - `NotOfType`: just where it is no value of the type, or there is no such type.
-/// - `TooLong`: just where it is one, and its encoding has more than 16,777,216 octets.
-/// - `Memory`: more memory was asked for and refused.
-/// - `Device`: one call of the sink failed, and isn't tried again; just so many octets went out before it.
+/// - `NotOfType`: exactly if the value isn't one of the type, or there is no such type.
+/// - `TooLong`: the value is one of the type, and its encoding has more than 16,777,216 octets.
+/// - `Memory`: an allocation failed.
+/// - `Device`: a call of the sink failed, and isn't tried again. The fault has the exact number of octets that the sink
+///   took before.
 pub fn write_der_to<S: Sink>(
     alloc: Global,
     code: &Code,
@@ -38,22 +39,22 @@ pub fn write_der_to<S: Sink>(
     sink: &mut S,
 ) -> Result<Account, WriteFault>
     requires room { S.failed sink.old < u64.MAX }
-    // The sink has taken just the value's one encoding, and no call failed; the account is that of the encoding.
+    // The sink took exactly the value's only encoding, no call failed, and the account is that of the encoding.
     ensures sent { IfOk result (λ account. Went code.now id.index (abstract value.now)
         (state (S.taken sink.old) (S.failed sink.old))
         (state (S.taken sink.new) (S.failed sink.new))
         account) }
-    // It has taken just the first n octets of the encoding, fewer than there are, and one call failed.
+    // The sink took exactly the first n octets of the encoding, which are fewer than all, and one call failed.
     ensures device { IfErr result (λ e. (n : ℕ) → e ≡ Device n → WentInPart code.now id.index (abstract value.now)
         (state (S.taken sink.old) (S.failed sink.old))
         (state (S.taken sink.new) (S.failed sink.new))
         n) }
-    // Where it is refused before, nothing went out.
+    // After any other fault the sink has taken nothing.
     ensures refused { IfErr result (λ e. (e ≡ Memory) ⊎ ((e ≡ NotOfType) ⊎ (e ≡ TooLong)) → sink.new ≡ sink.old) }
-    // It is refused as no value just where it is none.
+    // `NotOfType` exactly if the value isn't one of the type.
     ensures not_of_type { IfErr result (λ e. e ≡ NotOfType → IsValue code.now id.index (abstract value.now) → ⊥) }
     ensures no_value { (IsValue code.now id.index (abstract value.now) → ⊥) → result ≡ Err NotOfType }
-    // Each encoding by the distinguished rules is then longer than 16,777,216 octets.
+    // After `TooLong` each encoding by the distinguished rules has more than 16,777,216 octets.
     ensures longer { IfErr result (λ e. e ≡ TooLong → (o : List ℕ)
         → Der code.now id.index (abstract value.now) 0 o
         → 16777216 < length o) }

@@ -26,7 +26,7 @@ told_header t c n h a =
     let z : Numbers = record { identifier = length i; size = length a.header.size; contents = n } in
     (z, record { is_header = a; identifier_told = refl; size_told = sym (ap length a.header.whole ∙ length-append i a.header.size); contents_told = refl })
 
--- what stands within headers that there are none of
+-- what is within headers if there are no tags
 abbrev WithinNone : List Tag → Inside → Type 0
 WithinNone ts i = ts ≡ [] → (a : Account) × (i ≡ wrap_row a)
 
@@ -75,7 +75,7 @@ raised_or zero (suc k) = inr (k, refl)
 raised_or (suc j) zero = inr (zero, refl)
 raised_or (suc j) (suc k) = ⊎_elim (λ e. inl (ap suc e)) (λ r. inr (suc r.0, ap suc r.1)) (raised_or j k)
 
--- where it was put in
+-- the place at which it was put in
 record PutAt (x : List ℕ) (ys zs : List (List ℕ)) : Type 0 where
   place : ℕ
   within : place < suc (length ys)

@@ -52,7 +52,7 @@ digit_back zero h = refl
 digit_back (suc zero) h = refl
 digit_back (suc (suc x)) h = absurd (omega arith)
 
--- the eight bits of an octet tell it
+-- the octet of eight bits
 abbrev pub octet_of : List Bool → ℕ
 octet_of (a ∷ b ∷ c ∷ d ∷ e ∷ f ∷ g ∷ h ∷ bs) = 128 * digit a + 64 * digit b + 32 * digit c + 16 * digit d + 8 * digit e + 4 * digit f + 2 * digit g + digit h
 octet_of bs = 0

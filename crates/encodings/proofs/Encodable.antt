@@ -1,4 +1,5 @@
--- Each value of a type of a schema has an encoding by the distinguished rules, or none at all: no lengths tell it.
+-- Each value of a type of a schema has an encoding by the distinguished rules, or none at all because no lengths are
+-- long enough for it.
 use Rattle.std.proofs.Common.{arith, ◌≡◌, ℕ, suc, ◌+◌, ◌<◌, ◌≤◌, ◌^◌, ◌⊎◌, inl, inr, ⊎_elim, Bool, true, false, List, [], ◌∷◌, ◌++◌, length, map, refl, sym, ap, subst, ◌∙◌, length-append}
 use Rattle.std.proofs.lemmas.List.{append-nil}
 use Rattle.std.proofs.lemmas.Int.Digits.{length-digits_of-le}
@@ -127,7 +128,7 @@ record PutRow (s : List Resolved) (n u : ℕ) (w : AbstractValue) (x : List ℕ)
   long : length (concat list) ≡ length x + length (concat xs)
   count : members row ≡ suc (members ws)
 
--- behind p, or in front of all
+-- the element is put after p, or before all others
 record PutBehind (s : List Resolved) (n u : ℕ) (w : AbstractValue) (p x : List ℕ) (ws : Row) (xs : List (List ℕ)) : Type 0 where
   put : PutRow s n u w x ws xs
   ascends : Ascending AtMost (p ∷ put.list)
@@ -329,7 +330,7 @@ module _ (s : List Resolved) (schema : IsSchema s)
   joined h a m (inr nd) (inl r) = inl (with_it nd m r)
   joined h a m (inr nd) (inr q) = inr (record { heavy = (let k = q.heavy in omega arith); none = none_member q nd })
 
-  -- contents that are alike are no shorter
+  -- contents that are alike aren't shorter
   no_shorter : {t n : ℕ} {tags : List Tag} {k : Kind} {v w x : AbstractValue} {b c : Bool} {o y : List ℕ} → Is s t tags k → Alike s t v w → Alike s t v x → Holds s Distinguished k w 0 b o → Holds s Basic k x n c y → n ≡ 0 → length o ≤ length y
   no_shorter {t} {k = k} {v = v} {w = w} {x = x} {o = o} {y = y} i e f h g z = by (follow t w v x (turn t v w e) f)
     where
@@ -423,10 +424,10 @@ module _ (s : List Resolved) (schema : IsSchema s)
       by (inl r) = (r.octets, (r.w, record { first = a; second = r.value; are_alike = r.same }, r.is), r.few)
       by (inr q) = absurd (let k = q.heavy in omega arith)
 
-  -- where it has none by the distinguished rules it has none by the basic ones
+  -- a value without an encoding by the distinguished rules has none by the basic ones
   pub encodable_or_none : (t : ℕ) (v : AbstractValue) → ValueIn s 64 t v → ((o : List ℕ) × Der s t v 0 o) ⊎ ((p : List ℕ) → Ber s t v 0 p → ⊥)
   encodable_or_none t v a = either (λ r. (r.octets, (r.w, record { first = a; second = r.value; are_alike = r.same }, r.is))) (λ q p b. q.none b.1.are_alike b.2 refl) (encoded a)
 
--- lengths that 126 octets tell
+-- a length has at most 126 octets
 pub few_digits : (n : ℕ) → n < 256 ^ 126 → length (digits_of 256 n) ≤ 126
 few_digits n h = length-digits_of-le 256 126 n (omega arith) h

@@ -65,7 +65,7 @@ frames_contents (outer {t = t} {h = h} {y = z} f a) (outer {h = h'} {y = z'} f' 
 pub unit_some : {o : List ℕ} → IsUnit o → 1 ≤ length o
 unit_some u = let l = ap length u.whole in omega (arith, l, header_some u.is_header, length-append u.header u.rest)
 
--- units one after the other are told apart
+-- a sequence of units has only one division into units
 pub units_list : (xs ys : List (List ℕ)) → AllByRecursion IsUnit xs → AllByRecursion IsUnit ys → concat xs ≡ concat ys → xs ≡ ys
 units_list [] [] a b e = refl
 units_list [] (y ∷ ys) a b e = absurd (let l = ap length e in omega (arith, l, unit_some b.0, length-append y (concat ys)))

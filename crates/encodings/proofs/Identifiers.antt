@@ -34,7 +34,7 @@ marked_front (a ∷ ds) (b ∷ es) d e x y h k f =
     let same : a ≡ b = omega arith in
     record { digits = (let t = r.digits in cc); last = r.last; rest = r.rest }
 
--- septets tell their number, and none begins others
+-- septets determine their number, and none begins others
 pub septets_front : (m n : ℕ) (x y : List ℕ) → septets m ++ x ≡ septets n ++ y → (m ≡ n) × (x ≡ y)
 septets_front m n x y e =
     let f : marked (digits_of 128 (m / 128)) (m % 128) ++ x ≡ marked (digits_of 128 (n / 128)) (n % 128) ++ y
@@ -62,7 +62,7 @@ class_back Private Application e = absurd (omega arith)
 class_back Private Context e = absurd (omega arith)
 class_back Private Private e = refl
 
--- the first octet tells class, form and five bits
+-- the first octet determines class, form and five bits
 record FirstOctet (b c : Class) (f g : Bool) (m n : ℕ) : Type 0 where
   classes : class_bits b ≡ class_bits c
   forms : f ≡ g

@@ -41,7 +41,7 @@ twos_value {o = o} {p = p} (negative l b e h) (not_negative m c f i) s =
 twos_value {o = o} {p = p} (negative l b e h) (negative m c f i) s =
     let n = ap (number_from_digits 256) s in let w = ap (λ q. 256 ^ length q) s in ap negsuc (omega arith)
 
--- what one header and contents tell at the front of octets
+-- one header and its contents at the front of octets are determined
 pub record SamePiece (c d : Bool) (p q x y : List ℕ) : Type 0 where
   pub forms : c ≡ d
   pub inside : p ≡ q

@@ -1,4 +1,5 @@
--- An encoding by the distinguished rules, but for the order in sets, is no longer than any of a value that is alike.
+-- An encoding by the distinguished rules, in any order within sets, isn't longer than any encoding of a value that is
+-- alike.
 use Rattle.std.proofs.Common.{arith, ◌≡◌, ℕ, ◌+◌, ◌≤◌, Bool, false, List, [], ◌∷◌, ◌++◌, length, replicate, refl, sym, ap, subst, ◌∙◌, length-append}
 use Rattle.std.specs.Prelude.{Option, Some, None}
 use Rattle.std.specs.List.{concat, AllByRecursion}
@@ -104,7 +105,7 @@ pub concat_permutes : {xs ys : List (List ℕ)} → Permutes xs ys → length (c
 concat_permutes permutes_none = refl
 concat_permutes (permutes_more {x = x} {xs = xs} p i) = omega (arith, concat_inserted i, concat_permutes p, length-append x (concat xs))
 
--- the element that stands at some place, and the others
+-- the element at some place, and the others
 pub record TakenOut (s : List Resolved) (r : Rules) (u : ℕ) (w : AbstractValue) (ws : Row) (n : ℕ) (xs : List (List ℕ)) : Type 0 where
   pub j : ℕ
   pub k : ℕ
@@ -123,7 +124,7 @@ take_out (there i) (element {j = j} {n = k} {x = x} {xs = xs} a es) =
 
 module _ (s : List Resolved) (turn : (t : ℕ) (v w : AbstractValue) → Alike s t v w → Alike s t w v) where
   mutual
-    -- an encoding by the distinguished rules but for the order has no more octets than any other
+    -- an encoding by the distinguished rules, in any order within sets, has no more octets than any other
     pub least : {r : Rules} {t j : ℕ} {v : AbstractValue} {o : List ℕ} → Says s Unsorted t v j o → j ≡ 0 → {w : AbstractValue} {n : ℕ} {p : List ℕ} → Alike s t v w → Says s r t w n p → n ≡ 0 → length o ≤ length p
     least (says i h fr) z (alike j a) (says k g fr') y =
         frames_least (strict_frame fr) (framed_at (same_tags i k) fr') (holds_least h z (alike_by_at (same_kind i j) a) (holds_at (same_kind i k) g) y)

@@ -44,7 +44,7 @@ pub record FramedIn (tags : List Tag) (c : Bool) (x : List ℕ) : Type 0 where
   pub framed : Framed Distinguished tags c x octets
   pub few : length octets ≤ length x + 133 * length tags
 
--- no lengths tell these contents, nor as many or more octets
+-- no lengths are long enough for these contents, nor for as many or more octets
 pub record NoFrame (most : ℕ) (tags : List Tag) (x : List ℕ) : Type 0 where
   pub heavy : most ≤ length x + 133 * length tags
   pub none : {c : Bool} {y p : List ℕ} → length x ≤ length y → Framed Basic tags c y p → ⊥

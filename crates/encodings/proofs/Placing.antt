@@ -112,7 +112,7 @@ found_at [] j h = absurd (omega arith)
 found_at (i ∷ p) zero h = (i, refl)
 found_at (i ∷ p) (suc j) h = found_at p j (omega arith)
 
--- places tell one order
+-- places determine the order
 pub one_standing : {p q : List ℕ} {xs zs ys : List (List ℕ)} → StandAt p q xs zs → StandAt p q xs ys → ys ≡ zs
 one_standing {p} {q} {xs} {zs} {ys} a b =
     same_lists zs ys (b.as_many ∙ sym a.as_many)

@@ -1,4 +1,4 @@
--- A schema with every kind of type, for worked rows; it is one whose types are told apart.
+-- A schema with every kind of type, for worked rows. Its types can be distinguished by their tags.
 use Rattle.std.proofs.Common.{arith, lit<, ◌≡◌, ℕ, zero, suc, ◌<◌, true, false, List, [], ◌∷◌, length, refl, sym, ap, subst, ◌∙◌}
 use Rattle.std.specs.Prelude.{◌+◌, pos, Option, Some, None, slice_get}
 use Rattle.std.specs.List.{AllByRecursion}

@@ -227,7 +227,7 @@ length_of_two h = let e = h.size_told in omega arith
 pub contents_of_two : HeaderTold u1 false 1 (1 ∷ 1 ∷ []) (two 2) → ⊥
 contents_of_two h = let e = h.contents_told in omega arith
 
--- places that are no permutation
+-- places that aren't a permutation
 pub twice_at_0 : (n : ℕ) (q : List ℕ) → ArePlaces n (0 ∷ 0 ∷ []) q → ⊥
 twice_at_0 n q a = let e = same_some (sym (a.there 0 0 refl) ∙ a.there 1 0 refl) in omega arith
 

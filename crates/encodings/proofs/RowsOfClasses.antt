@@ -131,7 +131,7 @@ unfolding identifier shortest_header
 without_addition = says (record { found = refl })
     (sequence (member false_0 (λ z d. must_stand d.0 d.1) (left_out refl no_member)) (extensible no_unknown)) (innermost (shortest_is u16 true 3 (lit< tt)))
 
--- SET {a [0] BOOLEAN, b [1] BOOLEAN, ...}: unknown additions before, between and behind the known components
+-- SET {a [0] BOOLEAN, b [1] BOOLEAN, ...}: unknown additions before, between and after the known components
 true_8 : Says more Distinguished 8 (boolean true) 0 (129 ∷ 1 ∷ 255 ∷ [])
 unfolding identifier shortest_header
 true_8 = says (record { found = refl }) (leaf (of_true (lit< tt) (lit< tt) refl)) (innermost (shortest_is c1 false 1 (lit< tt)))

@@ -114,12 +114,12 @@ pub nested_is : Says rows Distinguished 22 (list (present (list end) end)) 0 (48
 unfolding identifier shortest_header
 nested_is = says (record { found = refl }) (sequence_of (element (says (record { found = refl }) (sequence_of no_element) (innermost (shortest_is u16 true 0 (lit< tt)))) no_element)) (innermost (shortest_is u16 true 2 (lit< tt)))
 
--- a component that equals its DEFAULT may stand where additions were skipped within it
+-- a component that equals its DEFAULT may be encoded if additions were skipped within it
 pub default_with_addition : Says rows Distinguished 23 (fields (present (fields (present (integer (pos 7)) end)) end)) 1 (48 ∷ 8 ∷ 48 ∷ 6 ∷ 128 ∷ 1 ∷ 7 ∷ 129 ∷ 1 ∷ 5 ∷ [])
 unfolding identifier shortest_header
 default_with_addition = says (record { found = refl }) (sequence (member addition_skipped (λ z d. omega arith) no_member) closed) (innermost (shortest_is u16 true 8 (lit< tt)))
 
--- by the basic rules a default may stand: 30083106020101020102; and a SET or a SET OF may have any order
+-- by the basic rules a default may be encoded, as in 30083106020101020102, and a SET or SET OF may have any order
 integer_2 : Says rows Distinguished 1 (integer (pos 2)) 0 (2 ∷ 1 ∷ 2 ∷ [])
 unfolding identifier shortest_header
 integer_2 = says (record { found = refl }) (leaf (of_integer (small 2 (lit< tt)))) (innermost (shortest_is u2 false 1 (lit< tt)))
@@ -134,7 +134,7 @@ pub set_of_any_order : Says rows Basic 7 (list (present (integer (pos 2)) (prese
 unfolding identifier
 set_of_any_order = says (record { found = refl }) (set_of (element (basic_of integer_2) (element (basic_of integer_1) no_element)) tt) (innermost (record { header = short_header u17 true 6 (lit< tt); fewest = tt }))
 
--- and so it may by the distinguished rules but for the order
+-- by the distinguished rules without their order it may too
 pub set_of_unsorted : Says rows Unsorted 7 (list (present (integer (pos 2)) (present (integer (pos 1)) end))) 0 (49 ∷ 6 ∷ 2 ∷ 1 ∷ 2 ∷ 2 ∷ 1 ∷ 1 ∷ [])
 unfolding identifier shortest_header
 set_of_unsorted = says (record { found = refl }) (set_of (element (unsorted_of integer_2) (element (unsorted_of integer_1) no_element)) tt) (innermost (record { header = short_header u17 true 6 (lit< tt); fewest = (shortest_is u17 true 6 (lit< tt)).fewest }))

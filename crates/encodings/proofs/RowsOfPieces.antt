@@ -38,7 +38,7 @@ nested_text = says (record { found = refl })
 
 -- ---- pieces that hold nothing
 
--- a segment has the tag of OCTET STRING, whatever the string's: 120139 is none
+-- a segment has the tag of OCTET STRING, whatever the string's tag is: 120139 isn't a segment
 of_numeric : Header u18 false 1 (18 ∷ 1 ∷ [])
 unfolding identifier
 of_numeric = short_header u18 false 1 (lit< tt)
@@ -49,7 +49,7 @@ other_segment (segment {c = c} {h = h} {x = x} {p = p} {o = o} hd ps gs) e =
     let n = (any_front octet_string_tag u18 c false (length p) 1 h (18 ∷ 1 ∷ []) (p ++ o) (57 ∷ []) hd of_numeric (sym (append_assoc h p o) ∙ e)).numbers in
     omega arith
 
--- 0800: eight unused bits; 04: four of no octet; and no octet that tells them
+-- 0800 has eight unused bits, 04 has four of no octet, and the empty contents lack the octet with their number
 abbrev head_or_0 : List ℕ → ℕ
 head_or_0 [] = 0
 head_or_0 (x ∷ xs) = x
@@ -81,7 +81,7 @@ no_octet_256 s w = let a = subst (AllBelowBase 256) (sym (ap tail_of w.is)) w.ar
 pub none_of_closed : {s : List Resolved} {cs : List Component} {k : ℕ} {us : List (List ℕ)} → UnknownIf s cs false k us → (k ≡ 0) × (us ≡ [])
 none_of_closed closed = (refl, refl)
 
--- in some order stand as many, and mixed all of both
+-- lists in some order have as many elements, and a mixture has all of both
 inserted_one : {x : List ℕ} {xs ys : List (List ℕ)} → Inserted x xs ys → length ys ≡ suc (length xs)
 inserted_one here = refl
 inserted_one (there i) = ap suc (inserted_one i)
@@ -96,7 +96,7 @@ none_is_dropped m = elim m [ ]
 pub in_their_order : {x y : List ℕ} → Merges (x ∷ y ∷ []) [] (y ∷ x ∷ []) → x ≡ y
 in_their_order (merges_first m) = refl
 
--- 3006 800100 010100 says nothing of SEQUENCE {a BOOLEAN, ..., b [0] BOOLEAN}: components stand in their order
+-- 3006 800100 010100 isn't an encoding of SEQUENCE {a BOOLEAN, ..., b [0] BOOLEAN}: components are in their order
 is_0 : Is more 0 (u1 ∷ []) a_boolean
 is_0 = record { found = refl }
 
@@ -117,7 +117,7 @@ other_order (sequence (left_out m ms) u) e = let f : true ≡ false = m in cc
 other_order (sequence {us = us} (member {xs = xs} a nd ms) u) e = says_boolean (concat (xs ++ us)) a e
 other_order (leaf con) e = elim con [ ]
 
--- a segment of bits has the tag of BIT STRING: 0402 0080 is none
+-- a segment of bits has the tag of BIT STRING: 0402 0080 isn't a segment of bits
 of_octets : Header octet_string_tag false 2 (4 ∷ 2 ∷ [])
 unfolding identifier
 of_octets = short_header octet_string_tag false 2 (lit< tt)

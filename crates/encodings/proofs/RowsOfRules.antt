@@ -48,18 +48,18 @@ filled_down = inr (refl, tt)
 pub not_at_most : AtMost (1 ∷ 1 ∷ []) (1 ∷ []) → ⊥
 not_at_most h = ⊎_elim (λ l. omega arith) (λ p. let e : 1 ≡ 0 = p.1.0 in omega arith) h
 
--- [APPLICATION 31] stands before [0]
+-- [APPLICATION 31] is before [0]
 pub application_first : TagBefore (record { class = Application; number = 31; in_range = lit< tt; not_reserved = λ e. lit< tt }) c0
 application_first = inl (lit< tt)
 
--- runs: the last one begins behind the last component that must stand
+-- runs: the last one begins after the last component that must be present
 pub behind_the_last : last_run (a_component 14 optional ∷ a_component 0 mandatory ∷ a_component 9 optional ∷ []) ≡ a_component 9 optional ∷ []
 behind_the_last = refl
 
 pub up_to_the_next : first_run (a_component 14 optional ∷ a_component 0 mandatory ∷ a_component 9 optional ∷ []) ≡ a_component 14 optional ∷ a_component 0 mandatory ∷ []
 up_to_the_next = refl
 
--- SEQUENCE {a INTEGER OPTIONAL, b INTEGER} is none whose components are told apart
+-- the components of SEQUENCE {a INTEGER OPTIONAL, b INTEGER} can't be distinguished by their tags
 pub clash : RunsApart rows (a_component 1 optional ∷ a_component 1 mandatory ∷ []) → ⊥
 clash h = (h.0 refl).0 u2 (first_tag {ts = []} (record { found = refl })) (first_tag {ts = []} (record { found = refl }))
 
@@ -79,7 +79,7 @@ explicit_is_constructed w n (says i h fr) = not_constructed (framed_at (same_tag
     is_12 : Is rows 12 (c1 ∷ c2 ∷ []) a_boolean
     is_12 = record { found = refl }
 
--- SET {a [1] BOOLEAN, ...}: 31068001008101FF says {a TRUE} with one unknown addition, which may stand anywhere
+-- SET {a [1] BOOLEAN, ...}: 31068001008101FF encodes {a TRUE} with one unknown addition, which may be anywhere
 true_at : Says rows Distinguished 9 (boolean true) 0 (129 ∷ 1 ∷ 255 ∷ [])
 unfolding identifier shortest_header
 true_at = says (record { found = refl }) (leaf (of_true (lit< tt) (lit< tt) refl)) (innermost (shortest_is c1 false 1 (lit< tt)))
@@ -95,7 +95,7 @@ unknown_in_front = says (record { found = refl })
     (merges_second (merges_first merges_none)))
     (innermost (shortest_is u17 true 6 (lit< tt)))
 
--- 31068101FF8101FF says nothing of it: a known component stands twice
+-- 31068101FF8101FF isn't an encoding of it: a known component is there twice
 begins_known : BeginsWith c1 (129 ∷ 1 ∷ 255 ∷ [])
 unfolding identifier
 begins_known = record { constructed = false; count = 1; header = 129 ∷ 1 ∷ []; rest = 255 ∷ []; is_header = short_header c1 false 1 (lit< tt); whole = refl }

@@ -199,7 +199,8 @@ arcs_1_39 = refl
 arcs_2_0 : flat_map septets (joined (2 ∷ 0 ∷ [])) ≡ 80 ∷ []
 arcs_2_0 = refl
 
--- the greatest RELATIVE-OID, 64 such numbers, has 640 octets; the greatest OBJECT IDENTIFIER, where two are one, 630
+-- the greatest RELATIVE-OID, 64 such numbers, has 640 octets; the greatest OBJECT IDENTIFIER, in which two are one, has
+-- 630
 abbrev times : ℕ → ℕ → List ℕ
 times x zero = []
 times x (suc n) = x ∷ times x n

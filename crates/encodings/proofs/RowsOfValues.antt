@@ -1,4 +1,5 @@
--- Worked rows: the encoding of a value by the distinguished rules, where it says another value that is the same.
+-- Worked rows: the encoding of a value by the distinguished rules, which is also that of another value that is the
+-- same.
 use Rattle.std.proofs.Common.{arith, lit<, ◌≡◌, ◌∙◌, ⊎_elim, refl, ap}
 use Rattle.std.proofs.lemmas.Int.{ints}
 use Rattle.std.specs.Prelude.{ℤ, Option, Some, None, ℕ, suc, Bool, true, false, List, [], ◌∷◌, pos, negsuc}

@@ -1,4 +1,4 @@
--- Worked rows: strings, sets and defaults that the distinguished rules forbid, and components that cannot stand.
+-- Worked rows: strings, sets and defaults that the distinguished rules forbid, and components at a wrong place.
 use Rattle.std.proofs.Common.{arith, lit<, ◌≡◌, ℕ, ⊎_elim, Bool, true, false, List, [], ◌∷◌, ◌++◌, length, length-append, replicate, refl, sym, ap, subst, ◌∙◌}
 use Rattle.std.specs.Prelude.{flat_map}
 use Rattle.std.specs.List.{concat}
@@ -23,7 +23,7 @@ use Rattle.encodings.proofs.RowsThatHold.{short_header}
 use Rattle.encodings.proofs.RowsOfParts.{tags_ascend, default_present}
 use Rattle.encodings.proofs.RowsThatFail.{inside}
 
--- 2400 is no encoding of an OCTET STRING by the distinguished rules
+-- 2400 isn't an encoding of an OCTET STRING by the distinguished rules
 cut_string : {w : AbstractValue} {n : ℕ} {c : Bool} {x : List ℕ} → Holds rows Distinguished (an_octet_string any_size) w n c x → c ≡ true → ⊥
 cut_string (leaf (of_octets a e)) f = let g : false ≡ true = sym e ∙ f in cc
 
@@ -31,7 +31,7 @@ pub not_der_string : (w : AbstractValue) (n : ℕ) → Says rows Distinguished 3
 unfolding identifier
 not_der_string w n a = cut_string (inside {x = []} (record { found = refl }) (short_header u4 true 0 (lit< tt)) refl a) refl
 
--- 030204FF is none of a BIT STRING: the unused bits are not zero
+-- 030204FF isn't the encoding of a BIT STRING: the unused bits are not zero
 four_ones : List Bool
 four_ones = true ∷ true ∷ true ∷ true ∷ []
 
@@ -64,7 +64,7 @@ pub not_der_unused : (w : AbstractValue) (n : ℕ) → Says rows Distinguished 2
 unfolding identifier
 not_der_unused w n a = unused_bits (inside {x = 4 ∷ 255 ∷ []} (record { found = refl }) (short_header u3 false 2 (lit< tt)) refl a) refl
 
--- 03020680 is none under named bits: a zero bit trails
+-- 03020680 isn't an encoding under named bits: it has a trailing zero bit
 one_zero : WholeBits (true ∷ false ∷ []) (6 ∷ 128 ∷ [])
 one_zero = record { unused = 6; octets = 128 ∷ []; filling = false ∷ false ∷ false ∷ false ∷ false ∷ false ∷ []; few = lit< tt; are_octets = (lit< tt, tt); is = refl; bits = refl; as_many = refl }
 
@@ -75,7 +75,7 @@ pub not_der_trailing : (w : AbstractValue) (n : ℕ) → Says rows Distinguished
 unfolding identifier
 not_der_trailing w n a = trailing (inside {x = 6 ∷ 128 ∷ []} (record { found = refl }) (short_header u3 false 2 (lit< tt)) refl a) refl
 
--- 3000 says nothing of SEQUENCE {a BOOLEAN}: the component must stand
+-- 3000 isn't an encoding of SEQUENCE {a BOOLEAN}: the component must be present
 nothing_there : {w : AbstractValue} {n : ℕ} {c : Bool} {x : List ℕ} → Holds rows Basic (a_sequence false (a_component 0 mandatory ∷ [])) w n c x → x ≡ [] → ⊥
 nothing_there (sequence (left_out m ms) u) e = let f : true ≡ false = m in cc
 nothing_there (sequence {us = us} (member {x = x} {xs = xs} a nd ms) u) e = let l = ap length e in omega (arith, l, unit_some (says_unit rows_tagged a), length-append x (concat (xs ++ us)))
@@ -85,7 +85,7 @@ pub missing : (w : AbstractValue) (n : ℕ) → Says rows Basic 13 w n (48 ∷ 0
 unfolding identifier
 missing w n a = nothing_there (inside {x = []} (record { found = refl }) (short_header u16 true 0 (lit< tt)) refl a) refl
 
--- 30083106020101020102 is no encoding by the distinguished rules: a default stands
+-- 30083106020101020102 isn't an encoding by the distinguished rules: a default is encoded
 abbrev first_member : AbstractValue → AbstractValue
 first_member (fields (present v vs)) = v
 first_member v = v
@@ -110,7 +110,7 @@ not_der_default w n a =
     let s = says_same rows Basic Basic rows_tagged rows_tellable (basic_of a) default_present refl in
     default_stands (inside {x = 49 ∷ 6 ∷ 2 ∷ 1 ∷ 1 ∷ 2 ∷ 1 ∷ 2 ∷ []} (record { found = refl }) (short_header u16 true 8 (lit< tt)) refl a) s.values s.counts
 
--- 3106020102020101 is none of a SET OF by them: the greater encoding stands first
+-- 3106020102020101 isn't one of a SET OF by these rules: the greater encoding comes first
 element_unit : (n : ℕ) → IsUnit (2 ∷ 1 ∷ n ∷ [])
 unfolding identifier
 element_unit n = record { tag = u2; constructed = false; header = 2 ∷ 1 ∷ []; rest = n ∷ []; is_header = short_header u2 false 1 (lit< tt); whole = refl }
@@ -129,7 +129,7 @@ pub not_der_set_of : (w : AbstractValue) (n : ℕ) → Says rows Distinguished 7
 unfolding identifier
 not_der_set_of w n a = unsorted (inside {x = 2 ∷ 1 ∷ 2 ∷ 2 ∷ 1 ∷ 1 ∷ []} (record { found = refl }) (short_header u17 true 6 (lit< tt)) refl a) refl
 
--- 31068101FF800100 is none of a SET by them: the greater tag stands first
+-- 31068101FF800100 isn't one of a SET by these rules: the greater tag comes first
 true_unit : IsUnit (129 ∷ 1 ∷ 255 ∷ [])
 unfolding identifier
 true_unit = record { tag = c1; constructed = false; header = 129 ∷ 1 ∷ []; rest = 255 ∷ []; is_header = short_header c1 false 1 (lit< tt); whole = refl }
@@ -157,7 +157,8 @@ pub not_der_set : (w : AbstractValue) (n : ℕ) → Says rows Distinguished 11 w
 unfolding identifier
 not_der_set w n a = unsorted_set (inside {x = 129 ∷ 1 ∷ 255 ∷ 128 ∷ 1 ∷ 0 ∷ []} (record { found = refl }) (short_header u17 true 6 (lit< tt)) refl a) refl
 
--- 3006810105800107 says nothing of SEQUENCE {a [0] INTEGER OPTIONAL, ...}: a known component behind an unknown addition
+-- 3006810105800107 isn't an encoding of SEQUENCE {a [0] INTEGER OPTIONAL, ...}: a known component is after an unknown
+-- addition
 new_unit : IsUnit (129 ∷ 1 ∷ 5 ∷ [])
 unfolding identifier
 new_unit = record { tag = c1; constructed = false; header = 129 ∷ 1 ∷ []; rest = 5 ∷ []; is_header = short_header c1 false 1 (lit< tt); whole = refl }

@@ -1,4 +1,4 @@
--- Worked rows: octets that are no encodings, or none by the distinguished rules.
+-- Worked rows: octets that aren't encodings, or not by the distinguished rules.
 use Rattle.std.proofs.Common.{arith, lit<, ◌≡◌, ℕ, ◌≤◌, ◌^◌, Bool, true, false, List, [], ◌∷◌, ◌++◌, length, refl, sym, ap, subst, ◌∙◌, length-append, append_assoc}
 use Rattle.std.specs.Prelude.{ℤ}
 use Rattle.std.specs.Int.Digits.{number_from_digits}
@@ -25,7 +25,7 @@ framed_inside : {r : Rules} {g : Tag} {c d : Bool} {x y h o : List ℕ} → Fram
 framed_inside {g = g} {c = c} {d = d} {x = x} {y = y} {h = h} (innermost {h = h'} a) hd e =
     let r = any_front g g d c (length y) (length x) h' h y x a.header hd e in record { forms = r.forms; inside = r.rest }
 
--- what stands behind the one header of octets
+-- the contents after the only header of octets
 pub inside : {s : List Resolved} {r : Rules} {t : ℕ} {g : Tag} {k : Kind} {w : AbstractValue} {n : ℕ} {c : Bool} {h x o : List ℕ} → Is s t (g ∷ []) k → Header g c (length x) h → o ≡ h ++ x → Says s r t w n o → Holds s r k w n c x
 inside {s} {r} {k = k} {w = w} {n = n} {c = c} {x = x} i hd e (says {c = d} j h fr) =
     let f = framed_inside (framed_at (same_tags i j) fr) hd e in
@@ -82,7 +82,7 @@ pub needless_octet : (w : AbstractValue) (n : ℕ) → Says rows Basic 1 w n (2 
 unfolding identifier
 needless_octet w n a = needless (inside {x = 0 ∷ 5 ∷ []} is_1 (short_header u2 false 2 (lit< tt)) refl a) refl
 
--- 02810105 is no encoding by the distinguished rules: the length has fewer octets
+-- 02810105 isn't an encoding by the distinguished rules: the length has fewer octets
 long_one : Header u2 false 1 (2 ∷ 129 ∷ 1 ∷ [])
 unfolding identifier
 long_one = record { size = 129 ∷ 1 ∷ []; is_size = long {ds = 1 ∷ []} (record { some = lit< tt; at_most = lit< tt; octets = (lit< tt, tt); worth = refl }); whole = refl }

@@ -33,7 +33,7 @@ pub some_octet : {z : ℤ} {p : List ℕ} → TwosComplement z p → 1 ≤ lengt
 some_octet (not_negative l b g h) = l
 some_octet (negative l b g h) = l
 
--- a number that one octet can't hold has the shortest octets where they are two
+-- a number that one octet can't hold has two octets, the fewest
 two_octets : (z : ℤ) (o : List ℕ) → length o ≡ 2 → TwosComplement z o → ((x : ℕ) → TwosComplement z (x ∷ []) → ⊥) → Number z o
 two_octets z o e a f = record { is = a; shortest = λ p q. by p q }
   where
@@ -142,7 +142,7 @@ unfolding identifier
 octets_cut = says (record { found = refl }) (leaf (of_octets (cut (segment {x = 1 ∷ []} {p = 1 ∷ []} (short_header octet_string_tag false 1 (lit< tt)) (whole (lit< tt, tt)) (segment {x = 2 ∷ []} {p = 2 ∷ []} (short_header octet_string_tag false 1 (lit< tt)) (whole (lit< tt, tt)) no_segment))) tt))
     (innermost (record { header = short_header u4 true 6 (lit< tt); fewest = tt }))
 
--- NULL is 0500; {1 2 840 113549} is 06062A864886F70D; an item behind the marker is 0A0102
+-- NULL is 0500; {1 2 840 113549} is 06062A864886F70D; an item after the marker is 0A0102
 pub null_is : Says rows Distinguished 5 null 0 (5 ∷ 0 ∷ [])
 unfolding identifier shortest_header
 null_is = says (record { found = refl }) (leaf of_null) (innermost (shortest_is u5 false 0 (lit< tt)))

@@ -6,7 +6,7 @@ use Rattle.std.proofs.lemmas.Int.Digits.{number_after_append}
 use Rattle.asn_base.specs.Typed.{IsWithinLimit}
 use Rattle.encodings.specs.Contents.{TwosComplement, not_negative, negative, Number}
 
--- a number of so many digits
+-- a number with n digits
 record Digits (l m : ℕ) : Type 0 where
   octets : List ℕ
   long : length octets ≡ l

@@ -1,5 +1,5 @@
--- What an account tells is an encoding by the distinguished rules but for the order in sets, and the only one that it
--- tells.
+-- The octets that an account describes are an encoding by the distinguished rules, except for the order in sets. The
+-- account describes no other octets.
 use Rattle.std.proofs.Common.{arith, ◌≡◌, ℕ, suc, Bool, true, List, [], ◌∷◌, refl, sym, ap, subst, ◌∙◌}
 use Rattle.std.specs.List.{concat, AllByRecursion}
 use Rattle.std.proofs.lemmas.List.{append-nil}

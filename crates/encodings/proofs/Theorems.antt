@@ -1,4 +1,4 @@
--- What stands of encodings as wholes.
+-- Theorems on whole encodings.
 use Rattle.std.proofs.Common.{arith, ◌∙◌, ◌≡◌, ◌⊎◌, inl, inr, ⊎_elim, ℕ, ◌<◌, ◌≤◌, List, [], ◌++◌, length, refl, sym, subst}
 use Rattle.std.proofs.lemmas.List.{append-nil}
 use Rattle.asn_base.specs.Abstract.{AbstractValue}
@@ -59,7 +59,7 @@ module _ (turn : (s : List Resolved) (t : ℕ) (v w : AbstractValue) → Same s 
 pub none_begins_another : (s : List Resolved) (q r : Rules) (t u j k : ℕ) (v w : AbstractValue) (o p x y : List ℕ) → AllTagged s → Says s q t v j o → Says s r u w k p → o ++ x ≡ p ++ y → (o ≡ p) × (x ≡ y)
 none_begins_another s q r t u j k v w o p x y all a b e = units_front o p x y (says_unit all a) (says_unit all b) e
 
--- an encoding with something behind it is none
+-- an encoding with octets after it isn't an encoding
 pub nothing_behind : (o p x : List ℕ) → p ≡ o ++ x → ((y : List ℕ) → o ++ x ≡ p ++ y → (o ≡ p) × (x ≡ y)) → x ≡ []
 nothing_behind o p x e f = (f [] (sym e ∙ sym (append-nil p))).1
 

@@ -1,4 +1,4 @@
--- Octets say one value, with one number of levels, where first tags are distinct.
+-- Octets encode one value, with one number of levels, if first tags are distinct.
 use Rattle.std.proofs.Common.{arith, ◌≡◌, ℕ, zero, suc, ◌+◌, ◌⊎◌, inl, inr, ⊎_elim, Bool, true, false, cond, List, [], ◌∷◌, ◌++◌, length, map, refl, sym, ap, subst, ◌∙◌}
 use Rattle.std.specs.Prelude.{Option, Some, None, slice_get, ◌||◌, max}
 use Rattle.std.specs.List.{AllByRecursion}
@@ -16,7 +16,7 @@ use Rattle.encodings.proofs.LeafLevels.{contents_levels}
 use Rattle.encodings.proofs.Firsts.{FirstOf, says_first, one_tag, not_both, frames_contents, units_list, members_units, elements_units, unknown_units, all_appended}
 use Rattle.encodings.proofs.Least.{same_tags, same_kind, framed_at, alternative_type}
 
--- an unknown encoding at which no known component can stand
+-- an unknown encoding at a place where no known component can be
 record Foreign (s : List Resolved) (known : List Component) (x : List ℕ) : Type 0 where
   tag : Tag
   begins : BeginsWith tag x
@@ -50,7 +50,7 @@ abbrev head_of : List (List ℕ) → List ℕ
 head_of [] = []
 head_of (x ∷ xs) = x
 
--- a component that may be absent, behind which none must stand, is in the last run
+-- a component that may be absent, and after which none must be present, is in the last run
 in_last : (P : Component → Type 0) (c : Component) (cs : List Component) → any_mandatory cs ≡ false → is_mandatory c ≡ false → AllByRecursion P (last_run (c ∷ cs)) → P c
 in_last P c cs e f a =
     (subst (λ q. AllByRecursion P (cond q cs (c ∷ cs))) f (subst (λ q. AllByRecursion P (cond q (last_run cs) (cond (is_mandatory c) cs (c ∷ cs)))) e a)).0
@@ -93,7 +93,7 @@ run_rest P c cs f a = (subst (λ m. AllByRecursion P (cond m (c ∷ []) (c ∷ f
 none_later : (c : Component) (cs : List Component) → is_mandatory c ≡ false → any_mandatory (c ∷ cs) ≡ any_mandatory cs
 none_later c cs f = ap (λ m. m || any_mandatory cs) f
 
--- behind a component that is absent no encoding begins with its first tags
+-- after a component that is absent no encoding begins with its first tags
 not_next : {s : List Resolved} {r : Rules} {cs : List Component} {ws : Row} {n : ℕ} {ys : List (List ℕ)} → AllTagged s → (t : ℕ) (x : List ℕ) (xs us : List (List ℕ)) → FirstOf s t x → AllByRecursion (λ d. AreApart s t d.type) (first_run cs) → (any_mandatory cs ≡ false → AllByRecursion (λ u. FirstOf s t u → ⊥) us) → Members s r cs ws n ys → x ∷ xs ≡ ys ++ us → ⊥
 not_next all t x xs [] f apart out no_member e = let l = ap length e in omega arith
 not_next {s} all t x xs (u ∷ us) f apart out no_member e = (out refl).0 (subst (FirstOf s t) (ap head_of e) f)
@@ -239,7 +239,7 @@ same_place s (q ∷ qs) zero (suc j) a b x all e f g h = absurd (clash s q a b q
 same_place s (q ∷ qs) (suc i) zero a b x all e f g h = absurd (clash s q b a qs i x all.0 f e h g)
 same_place s (q ∷ qs) (suc i) (suc j) a b x all e f g h = ap suc (same_place s qs i j a b x all.1 e f g h)
 
--- what encodings of members tell of their values, and their levels
+-- encodings of members determine their values, and their levels
 record SameMembers (vs ws : Row) (j n : ℕ) (us us' : List (List ℕ)) (l m : ℕ) : Type 0 where
   rows : vs ≡ ws
   counts : j ≡ n
@@ -252,7 +252,7 @@ record SameSet (vs ws : Row) (j n : ℕ) (xs ys : List (List ℕ)) (l m : ℕ) :
   as_many : length xs ≡ length ys
   depths : l ≡ m
 
--- what octets tell: the value, how many additions are unknown, and the levels of headers
+-- octets determine the value, how many additions are unknown, and the levels of headers
 pub record SameValue (v w : AbstractValue) (j n l m : ℕ) : Type 0 where
   pub values : v ≡ w
   pub counts : j ≡ n

@@ -1,4 +1,4 @@
--- An encoding is a header and as many octets as it tells; so encodings are told apart, whatever zeros follow them.
+-- An encoding is a header and as many contents octets as it announces. So encodings differ, whatever zeros follow them.
 use Rattle.std.proofs.Common.{arith, ◌≡◌, ℕ, zero, suc, inl, inr, ⊎_elim, Bool, true, List, [], ◌∷◌, ◌++◌, length, refl, sym, ap, subst, ◌∙◌, append_assoc}
 use Rattle.asn_base.specs.declared.tag.Tag.{Tag}
 use Rattle.asn_base.specs.Abstract.{AbstractValue}
@@ -12,7 +12,7 @@ use Rattle.encodings.specs.Encoding.{Framed, bare, innermost, outer, Says, says,
 use Rattle.encodings.proofs.Fronts.{split_front}
 use Rattle.encodings.proofs.Identifiers.{any_front}
 
--- a header of some tag, and as many octets as it tells
+-- a header of some tag, and as many octets as it announces
 pub record IsUnit (o : List ℕ) : Type 0 where
   pub tag : Tag
   pub constructed : Bool
@@ -63,7 +63,7 @@ units_front x y p q u v e =
     let c = split_front u.rest v.rest p q r.counts r.rest in
     (u.whole ∙ ap (λ z. z ++ u.rest) r.headers ∙ ap (λ z. v.header ++ z) c.0 ∙ sym v.whole, c.1)
 
--- lists that are equal where they are, filled with zeros
+-- lists that are equal as far as both go, filled with zeros
 record Filled (x y : List ℕ) : Type 0 where
   a : List ℕ
   b : List ℕ

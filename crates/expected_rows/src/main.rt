@@ -1,9 +1,10 @@
-//! Compares what can come next in modules' texts by the rules of `expected_tokens` with what the parser takes.
+//! Compares the tokens that can come next in the text of a module by the rules of `expected_tokens` with those that the
+//! parser takes.
 //!
-//! The words of the command line are files of rows. Each text of a row is a module; its line tells at how many places,
-//! from the front of the text to its end, and with how many kinds of tokens at all of them the text can go on, where
-//! both agree at each place about each kind. Where they don't, a line tells the place, the token and which of the two
-//! takes it.
+//! The words of the command line are files of rows. Each text of a row is a module. For each place from the start of
+//! the text to its end, and for each kind of token, the program compares whether the text can go on with that kind. If
+//! the two always agree, the line of the text gives the number of places, and how many kinds can come next at all
+//! places together. Otherwise a line gives the place, the token, and which of the two takes it.
 #![tactic(auto)]
 
 use expected_tokens::{ALL, expected};
@@ -42,7 +43,7 @@ fn mark_text(mark: Mark) -> &'static str {
     }
 }
 
-/// A token of a kind, as it may be written.
+/// A spelling of a token of this kind.
 fn sample(kind: TokenKind) -> &'static str {
     match kind {
         TokenKind::TypeReference => "Zz",
@@ -56,7 +57,7 @@ fn sample(kind: TokenKind) -> &'static str {
     }
 }
 
-/// Whether the parser can go on, behind so many tokens of a text, with a piece of text.
+/// Whether the parser can go on with a piece of text after this number of tokens.
 fn is_taken(alloc: Global, front: &[u8], tokens: usize, piece: &str) -> Result<bool, AllocError> {
     let mut text = Vec::new(alloc);
     text.extend_from_slice(front)?;
@@ -75,13 +76,13 @@ fn is_taken(alloc: Global, front: &[u8], tokens: usize, piece: &str) -> Result<b
     }
 }
 
-/// Whether a kind is among others.
+/// Whether a kind is in the list.
 fn is_among(kinds: &[TokenKind], kind: TokenKind) -> bool {
     let wanted = sample(kind);
     kinds.iter().any(|other| sample(*other) == wanted)
 }
 
-/// Compares both at a place; answers how many kinds can stand there.
+/// Compares both at a place. The result is how many kinds can come next.
 fn compare_at(rt: &HostRuntime, text: &[u8], tokens: &[Token], place: usize) -> io::Result<usize> {
     let alloc = rt.alloc();
     let before = tokens.get(..place).unwrap_or(tokens);

@@ -1,4 +1,4 @@
--- Each kind of token stands in the list of all.
+-- Each kind of token is in the list of all kinds.
 use Rattle.std.proofs.Common.{refl}
 use Rattle.text.specs.declared.token.TokenKind.{TokenKind}
 use Rattle.text.specs.declared.token.TokenKind.TheVariants as kinds

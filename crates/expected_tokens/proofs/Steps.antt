@@ -136,7 +136,7 @@ pub pushed : {X : Type 0} (ys : List X) (x z : X) → IsOne (ys ++ x ∷ []) z �
 pushed [] x z = pushed_one x z
 pushed (y ∷ ys) x z = pushed_more ys (ys ++ x ∷ []) y x z (pushed ys x z)
 
--- an item that is pushed where a fact holds, and the fact about what is there then
+-- an item that is pushed if a fact holds, and the fact about what is there then
 pub put_there : {X : Type 0} (ys more : List X) (x z : X) (P : X → Type 0)
     → more ≡ ys ++ x ∷ []
     → (x ≡ z → P z)
@@ -158,7 +158,7 @@ put_there {X} ys more x z P e there only = (forth, back)
     back (inl i) = whole_list.1 (inl i)
     back (inr p) = whole_list.1 (inr (only p))
 
--- and where it doesn't
+-- the same if the fact doesn't hold
 pub put_nothing : {X : Type 0} (ys : List X) (z : X) (P : Type 0) → (P → ⊥) → IsOne ys z ↔ (IsOne ys z ⊎ P)
 put_nothing {X} ys z P never = (λ i. inl i, back)
   where
@@ -227,7 +227,7 @@ follows all vs iss ts k there left listed = (forth, back)
     back : CanFollow ts k → IsOne vs k
     back p = listed.1 (inr (goes_at iss all k there ((last_token iss k).0 (p.0, (left (k ∷ []) p.0).0 p.1))))
 
--- some stack is left just where there is one
+-- some stack is left exactly if there is one
 pub some_left : (iss : List (List Part)) (P : List Part → Type 0)
     → ((js : List Part) → IsOne iss js ↔ P js)
     → (iss ≡ [] → ⊥)

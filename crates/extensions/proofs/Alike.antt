@@ -1,5 +1,5 @@
--- Types that are the same behind references and tags, with constraints that leave the same: what one is in a schema, the
--- other is.
+-- Types that are the same after references and tags, with constraints that leave the same values. What one of them is
+-- in a schema, the other is.
 use Rattle.std.proofs.Common.{◌≡◌, ℕ, ℤ, pos, Option, Some, None, List, [], ◌∷◌, refl, sym, ap, subst, ◌∙◌}
 use Rattle.std.specs.Prelude.{◌↔◌, ◌⊎◌, map, slice_get}
 use Rattle.std.proofs.Common.{inl, inr}

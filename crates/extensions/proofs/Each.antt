@@ -137,7 +137,7 @@ at_list p i M N cs ds vs f a g =
     let same = same_list p i M N cs ds f g in
     subst (λ X. AreDefaultsOf p X ds vs) same.0 (subst (λ xs. AreDefaultsOf p M xs vs) same.1 a)
 
--- a type that is no list has none
+-- a type that isn't a list has none
 pub no_list : (p : Program) (i : ℕ) (t : Type') (k : Kind) (vs : List (Option AbstractValue))
     → slice_get p.types i ≡ Some t
     → t.kind ≡ k
@@ -219,7 +219,7 @@ settled p n rs s e = record {
   each = λ i r f. (s.each i r f).settled;
 }
 
--- ---- what is told
+-- ---- the faults
 
 pub tells_more : (P Q : ValueFault → Type 0) (w : Wrong) → ((f : ValueFault) → P f → Q f) → Tells P w → Tells Q w
 tells_more P Q Memory more t = tt
@@ -231,7 +231,7 @@ pub err_more : {A : Type 0} (r : Result A Wrong) (P Q : ValueFault → Type 0) �
 err_more (Ok a) P Q more t = tt
 err_more (Err w) P Q more t = tells_more P Q w more t
 
--- in a list that is type i a fault stands first
+-- a fault is the first one of the list that is type i
 pub first_at : (p : Program) (i : ℕ) (M : Name) (cs : List Part) (f : ValueFault) → IsList p i M cs → IsFirstIn p M cs f → IsFirstAt p i f
 first_at p i M cs f l s = record { within = M; parts = cs; list = l; first = s }
 

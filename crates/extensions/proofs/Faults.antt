@@ -1,4 +1,4 @@
--- A fault that stands excludes what is asked.
+-- A true fault excludes that all rules are kept.
 use Rattle.std.proofs.Common.{◌≡◌, ◌≤◌, ℕ, refl, sym, ap, subst, ◌∙◌}
 use Rattle.std.specs.Prelude.{Bool, List, [], Some, slice_get}
 use Rattle.asn_base.specs.Abstract.{AbstractValue}

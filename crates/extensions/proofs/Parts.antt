@@ -98,7 +98,7 @@ addition_more g no_alternative st i = addition_and g st i no_alternative
 addition_more g (root_and s j r) st i = root_and s j (addition_more g r st i)
 addition_more g (addition_and h s j r) st i = addition_and h s j (addition_more g r st i)
 
--- where there is an alternative behind the marker, an addition is written
+-- if there is an alternative after the marker, an addition is written
 one_added : {cs : List Part} {root more : List Alternative}
     → AreAlternativesOf cs root more
     → (more ≡ [] → ⊥)

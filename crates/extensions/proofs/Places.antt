@@ -1,4 +1,4 @@
--- The place that a fault is told of is one alone.
+-- A fault has only one place.
 use Rattle.std.proofs.Common.{◌≡◌, ◌<◌, ⊎_elim, ℕ, sym, ap, subst, ◌∙◌}
 use Rattle.std.proofs.lemmas.Bool.{cases_order}
 use Rattle.std.specs.Prelude.{slice_get}

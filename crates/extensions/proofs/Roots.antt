@@ -1,4 +1,4 @@
--- The items of an enumeration before and behind its marker.
+-- The items of an enumeration before and after its marker.
 use Rattle.std.proofs.Common.{◌≡◌, ◌+◌, ◌<◌, ◌≤◌, ◌⊎◌, inl, inr, ℕ, suc, ℤ, pos, max, Bool, false, ◌^◌, refl, sym, ap, subst, ◌∙◌, arith}
 use Rattle.std.specs.Prelude.{◌↔◌, List, [], ◌∷◌, ◌++◌, drop, length, Option, Some, None, slice_get}
 use Rattle.std.proofs.lemmas.List.{length-append}
@@ -95,7 +95,7 @@ numbers_long root more zs e =
     let d = length-append (written.root_numbers root) (written.addition_numbers root more) in
     omega (arith, a, b, c, d)
 
--- numbers that are distinct are so behind some of them
+-- distinct numbers stay distinct after the first ones are removed
 pub drop_distinct : (zs : List ℤ) (k : ℕ) → AreDistinct zs → AreDistinct (drop k zs)
 drop_distinct zs k d x t =
     d x (record {

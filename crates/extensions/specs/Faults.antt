@@ -1,6 +1,6 @@
--- What faults say of bounded modules: of a program p. Each is the first in this order: what stands behind markers, then
--- the DEFAULTs, by the numbers of the types that they are written in and in each from the front, then the values that
--- are assigned, by number.
+-- What the faults of a bounded program p mean (X.680, clauses 16, 20, 25, 27 and 29). A fault is the first one in this
+-- order. Markers and additions come first. Then come the DEFAULTs, by the numbers of the types that they are in and
+-- then by component, and at last the value assignments, by number.
 use Rattle.std.specs.Prelude.{◌≡◌, ◌<◌, ℕ, Bool, Some, [], List, slice_get}
 use Rattle.trees.specs.declared.types.ListKind.{ListKind}
 use Rattle.trees.specs.Values.{Name, Tree}
@@ -19,17 +19,17 @@ use Rattle.extensions.specs.Settles.{HasValue}
 use Rattle.extensions.specs.declared.fault.ExtFault.{ExtFault}
 use Rattle.extensions.specs.declared.fault.ExtFault.TheVariants.{Memory, Additions, Default, Assigned}
 
--- the fault, which is no want of memory, stands in notation n, read in module M under type i: so that stands for no
--- value of the type
+-- Notation n in module M has fault f, other than `Memory`, under type i. So it isn't the notation of a value of that
+-- type.
 pub record IsWrong (p : Program) (M : Name) (i : ℕ) (n : Tree) (f : ValueFault) : Type 0 where
   pub caused : f.cause ≡ causes.Memory → ⊥
   pub stands : typed.Stands p 64 16777216 [] M i n f
 
--- it stands in the DEFAULT of component c of a list that is written in module M
+-- the DEFAULT of component c of a list in module M has fault f
 abbrev pub IsWrongDefault : Program → Name → Part → ValueFault → Type 0
 IsWrongDefault p M c f = (n : Tree) × (c.presence ≡ default n) × IsWrong p M c.ty n f
 
--- in these components of a list it stands first
+-- f is the fault of the first DEFAULT of these components without a value
 pub record IsFirstIn (p : Program) (M : Name) (cs : List Part) (f : ValueFault) : Type 0 where
   pub number : ℕ
   pub part : Part
@@ -37,7 +37,7 @@ pub record IsFirstIn (p : Program) (M : Name) (cs : List Part) (f : ValueFault) 
   pub wrong : IsWrongDefault p M part f
   pub before : (m : ℕ) (c : Part) → m < number → slice_get cs m ≡ Some c → IsTypedDefault p M c
 
--- type i is a list with these components, written in module M
+-- type i is a list with these components, and it is in module M
 pub record IsList (p : Program) (i : ℕ) (M : Name) (cs : List Part) : Type 0 where
   pub type : Type'
   pub there : slice_get p.types i ≡ Some type
@@ -47,14 +47,14 @@ pub record IsList (p : Program) (i : ℕ) (M : Name) (cs : List Part) : Type 0 w
   pub marked : Bool
   pub is : type.kind ≡ members list marked cs
 
--- the DEFAULTs of type i, where it is a list, stand for values
+-- each DEFAULT of type i, if that is a list, has a value
 abbrev pub HasTypedDefaults : Program → ℕ → Type 0
 HasTypedDefaults p i = (M : Name) (cs : List Part) (m : ℕ) (c : Part) →
     IsList p i M cs →
     slice_get cs m ≡ Some c →
     IsTypedDefault p M c
 
--- of all DEFAULTs it stands in one first
+-- f is the fault of the first DEFAULT of the program without a value
 pub record IsFirstDefault (p : Program) (f : ValueFault) : Type 0 where
   pub number : ℕ
   pub within : Name
@@ -63,14 +63,14 @@ pub record IsFirstDefault (p : Program) (f : ValueFault) : Type 0 where
   pub first : IsFirstIn p within parts f
   pub before : (j : ℕ) → j < number → HasTypedDefaults p j
 
--- value i, which is assigned in module M, stands for a value of its type
+-- the notation of value assignment i is that of a value of its type
 abbrev pub IsTypedValue : Program → ℕ → Type 0
 IsTypedValue p i = (v : Value) (M x : Name) →
     slice_get p.values i ≡ Some v →
     IsAssignment p v.assignment M x →
     HasValue p M v.ty v.notation
 
--- of all values that are assigned it stands in one first
+-- f is the fault of the first value assignment of the program without a value
 pub record IsFirstValue (p : Program) (f : ValueFault) : Type 0 where
   pub number : ℕ
   pub value : Value
@@ -81,7 +81,7 @@ pub record IsFirstValue (p : Program) (f : ValueFault) : Type 0 where
   pub wrong : IsWrong p within value.ty value.notation f
   pub before : (j : ℕ) → j < number → IsTypedValue p j
 
--- the fault is one of this program, and the first in order; Memory says nothing
+-- The fault is one of this program, and the first in order. `Memory` has no condition.
 abbrev pub Stands : Program → ExtFault → Type 0
 Stands p Memory = Unit {0}
 Stands p (Additions f) = (f ≡ markers.Memory → ⊥) × additions.Stands p f

@@ -15,8 +15,8 @@ use Rattle.additions.specs.Additions.{KeepAdditions}
 use Rattle.spelled.specs.Spelled.{AreSpelled}
 use Rattle.settled.specs.Settled.{AreTypedDefaults, IsSettled}
 
--- what linking leaves of modules that were parsed: each name has one meaning, the lists and the names in them are as
--- they have to be, and they are spelled so
+-- The result of parsing and linking modules. Each name has one meaning, the lists and the names in them keep the rules,
+-- and they are spelled by the rules of the notation.
 pub record IsRead (p : Program) : Type 0 where
   pub apart : IsApart p.modules
   pub sound : IsSound p

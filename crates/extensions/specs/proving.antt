@@ -1,4 +1,4 @@
--- What only contracts inside the crate and proofs speak of.
+-- Definitions that only contracts inside the crate and proofs use.
 pub mod Tables
 pub mod Cores
 pub mod Items

@@ -1,4 +1,4 @@
-//! The schema of bounded modules: settled types are those of an accepted schema.
+//! The schema of bounded modules: their settled types are those of an accepted schema.
 
 ghost use Rattle.std.specs.Prelude.{◌≡◌, MatchResult};
 ghost use Rattle.asn_base.specs.Schemas.{IsSchema};
@@ -13,7 +13,7 @@ use constraints::Bounded;
 use settled::law::{settled_is_schema, tags_are_kept};
 use std::alloc::Global;
 
-/// The schema of settled types, of modules that keep all that is asked.
+/// The schema with these settled types, for modules that keep all rules.
 fn accepted(bounded: &Bounded<'_>, types: Vec<Resolved>) -> Schema
     requires read { IsRead bounded.now }
     requires settled { AreSettled bounded.now (types_of types.items) }
@@ -28,9 +28,11 @@ fn accepted(bounded: &Bounded<'_>, types: Vec<Resolved>) -> Schema
     Schema::of(types)
 }
 
-/// The schema of bounded modules: a type for each written one, by the same number ([`settled_types`]), which keeps what
-/// an accepted schema does. Or the first fault: 55, 56 or 57, what is wrong with the notation of a DEFAULT or of a
-/// value assignment, or `Memory`. The modules are as parsing and linking leave them.
+/// The schema of bounded modules. It has a type for each written type, with the same number, as in [`settled_types`],
+/// and has the properties of an accepted schema. The modules must be those that parsing and linking give.
+///
+/// The error is the first fault, in this order: `Additions` with `MarkerPlace`, `AdditionOrder` or `DefaultAddition`,
+/// `Default` for a DEFAULT, and `Assigned` for a value assignment. `Memory`: an allocation failed.
 pub fn settle<'a>(alloc: Global, bounded: &Bounded<'a>) -> Result<Schema, ExtFault<'a>>
     requires { IsRead bounded.now }
     ensures { MatchResult result (Settles bounded.now) (Stands bounded.now) }

@@ -15,7 +15,7 @@ use names::ValueAt;
 use std::alloc::Global;
 use typed_values::Defaults;
 
-/// Whether the value of this number stands for a value of its type.
+/// Checks that the notation of this value assignment is that of a value of its type.
 fn is_typed<'a>(
     alloc: Global,
     bounded: &Bounded<'a>,
@@ -40,7 +40,8 @@ fn is_typed<'a>(
     }
 }
 
-/// Whether each value assignment stands for a value of its type, or the first fault that stands in one.
+/// Checks that the notation of each value assignment is that of a value of its type (X.680, 16.2). The error is the
+/// fault of the first one that isn't, or `Memory`.
 pub(crate) fn all_typed<'a>(
     alloc: Global,
     bounded: &Bounded<'a>,

@@ -17,7 +17,7 @@ use trees::PresenceSyntax;
 use type_table::{ListMember, Shape, Written};
 use typed_values::Defaults;
 
-/// The value of a component's DEFAULT, which is read in this module; None where it has none.
+/// The value of a component's DEFAULT, whose notation is in this module, or None if the component has no DEFAULT.
 fn default_of<'a>(
     alloc: Global,
     bounded: &Bounded<'a>,
@@ -51,7 +51,7 @@ fn default_of<'a>(
     }
 }
 
-/// Adds a value, or that there is none.
+/// Adds a value, or None. `AllocError` only if an allocation fails.
 fn add(values: &mut Vec<Option<Shared>>, value: Option<Shared>) -> Result<(), AllocError>
     ensures { OnOk result (defaults_seen values.new.items ≡ defaults_seen values.old.items ++ option_map shared_seen value ∷ []) }
 {
@@ -59,7 +59,7 @@ fn add(values: &mut Vec<Option<Shared>>, value: Option<Shared>) -> Result<(), Al
     Ok(())
 }
 
-/// The values of the DEFAULTs of a list's components, which are read in this module.
+/// The values of the DEFAULTs of a list's components. The list is in this module.
 fn defaults_in<'a>(
     alloc: Global,
     bounded: &Bounded<'a>,
@@ -88,7 +88,7 @@ fn defaults_in<'a>(
     Ok(values)
 }
 
-/// The values of the DEFAULTs that are written in a type; none where it is no list.
+/// The values of the DEFAULTs in a type. The result is empty if the type isn't a list of components.
 fn defaults_at<'a>(
     alloc: Global,
     bounded: &Bounded<'a>,
@@ -124,7 +124,7 @@ fn defaults_at<'a>(
     }
 }
 
-/// Adds a list of values.
+/// Adds a list of values. `AllocError` only if an allocation fails.
 fn put(table: &mut Vec<Vec<Option<Shared>>>, values: Vec<Option<Shared>>) -> Result<(), AllocError>
     ensures { OnOk result (table_seen table.new.items ≡ table_seen table.old.items ++ defaults_seen values.items ∷ []) }
 {
@@ -132,8 +132,8 @@ fn put(table: &mut Vec<Vec<Option<Shared>>>, values: Vec<Option<Shared>>) -> Res
     Ok(())
 }
 
-/// The values of all DEFAULTs, by the numbers of the types that they are written in; or the first fault that stands in
-/// one.
+/// The values of all DEFAULTs, by the numbers of the types that they are in. The error is the fault of the first
+/// DEFAULT that isn't a value of its component's type, or `Memory`.
 pub(crate) fn all_defaults<'a>(
     alloc: Global,
     bounded: &Bounded<'a>,

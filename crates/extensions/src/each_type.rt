@@ -14,21 +14,21 @@ use asn_base::schema::{Resolved, TypeId};
 use constraints::Bounded;
 use std::alloc::{AllocError, Global};
 
-/// The numbers of types that are made already, by the number of what their constraints leave: the first one of each.
+/// For each number that `Bounded::limit_number` gives, the first type with that number that is made already.
 #[derive(Drop)]
 struct Firsts {
     numbers: Vec<Option<usize>>,
 }
 
 impl Firsts {
-    /// Of so many types none is made.
+    /// A table for `count` numbers, in which no type is noted. `AllocError` only if an allocation fails.
     fn none(alloc: Global, count: usize) -> Result<Self, AllocError> {
         Ok(Firsts {
             numbers: vec![in alloc; None; count]?,
         })
     }
 
-    /// The type that was made first with this number.
+    /// The type that is noted for this number, if there is one.
     fn first(&self, number: Option<usize>) -> Option<usize> {
         match number {
             None => None,
@@ -39,7 +39,7 @@ impl Firsts {
         }
     }
 
-    /// Notes that a type is made with this number, unless one was before.
+    /// Notes a type for this number, unless another type is noted for it already.
     fn note(&mut self, number: Option<usize>, ty: usize) {
         let Some(number) = number else {
             return;
@@ -50,7 +50,7 @@ impl Firsts {
     }
 }
 
-/// Whether two types are known to be the same behind references and tags, with constraints that leave the same.
+/// Whether two types are known to be the same after references and tags, with constraints that leave the same values.
 fn are_alike(bounded: &Bounded<'_>, one: TypeId, other: TypeId) -> bool
     requires one { one.index < length bounded.now.types }
     requires other { other.index < length bounded.now.types }
@@ -66,7 +66,7 @@ fn are_alike(bounded: &Bounded<'_>, one: TypeId, other: TypeId) -> bool
     }
 }
 
-/// A type that was made already, and is known to be the same behind references and tags as this one, which is not made.
+/// An earlier type that is known to be the same as this one after references and tags, or None.
 fn earlier(bounded: &Bounded<'_>, types: &[Resolved], firsts: &Firsts, ty: TypeId) -> Option<usize>
     requires there { ty.index < length bounded.now.types }
     requires few { length types.now ≤ ty.index }
@@ -86,7 +86,7 @@ fn earlier(bounded: &Bounded<'_>, types: &[Resolved], firsts: &Firsts, ty: TypeI
     }
 }
 
-/// The type of this number, of which only this is known.
+/// The resolved type with this number, made without the help of an earlier one.
 fn new_type(
     alloc: Global,
     bounded: &Bounded<'_>,
@@ -106,7 +106,7 @@ fn new_type(
     }
 }
 
-/// The type of this number, behind those that are made.
+/// The resolved type with this number. It shares what it can with an earlier type.
 fn type_of(
     alloc: Global,
     bounded: &Bounded<'_>,
@@ -134,7 +134,7 @@ fn type_of(
     }
 }
 
-/// Adds a type.
+/// Adds a type. `AllocError` only if an allocation fails.
 fn add(types: &mut Vec<Resolved>, one: Resolved) -> Result<(), AllocError>
     ensures { OnOk result (types_of types.new.items ≡ types_of types.old.items ++ resolved_of one ∷ []) }
 {
@@ -142,8 +142,8 @@ fn add(types: &mut Vec<Resolved>, one: Resolved) -> Result<(), AllocError>
     Ok(())
 }
 
-/// A type for each written one, by the same numbers. Those that are the same behind references and tags share what they
-/// are there.
+/// A resolved type for each written type, with the same number. Types that are the same after references and tags share
+/// what they are there. `AllocError` only if an allocation fails.
 pub(crate) fn all_types(
     alloc: Global,
     bounded: &Bounded<'_>,

@@ -13,8 +13,8 @@ fn are_equal_bits(first: &BitString, second: &BitString) -> bool
     first.unused == second.unused && first.octets == second.octets
 }
 
-/// Whether two values are equal in all parts: a value of a DEFAULT is not compared with what is left out of it. It
-/// calls itself once for each level of the values.
+/// Whether two values are equal in all parts. A component that is present is not equal to one that is absent because of
+/// its DEFAULT. The function calls itself once for each level of the values.
 #[cycle(equal)]
 pub(crate) fn are_equal(first: &Value, second: &Value) -> bool
     ensures { result ≡ true → abstract first.now ≡ abstract second.now }
@@ -41,7 +41,7 @@ pub(crate) fn are_equal(first: &Value, second: &Value) -> bool
     }
 }
 
-/// The same of components, which may be absent.
+/// Whether two rows of components, which may be absent, are equal in all parts.
 #[cycle(equal)]
 fn are_equal_fields(first: &[Option<Value>], second: &[Option<Value>]) -> bool
     ensures { result ≡ true → map (option_map abstract) first.now ≡ map (option_map abstract) second.now }
@@ -68,7 +68,7 @@ fn are_equal_fields(first: &[Option<Value>], second: &[Option<Value>]) -> bool
     true
 }
 
-/// The same of elements.
+/// Whether two lists of elements are equal in all parts.
 #[cycle(equal)]
 fn are_equal_lists(first: &[Value], second: &[Value]) -> bool
     ensures { result ≡ true → map abstract first.now ≡ map abstract second.now }

@@ -11,20 +11,22 @@ use crate::wrong::Wrong;
 use additions::ExtFault as AdditionFault;
 use typed_values::ValueFault;
 
-/// What is wrong. A fault of a notation tells it, the type that it is read under and the module where it stands.
+/// Why bounded modules have no schema. A `ValueFault` names the notation, the type of the value and the module of the
+/// notation.
 #[derive(Drop)]
 pub enum ExtFault<'a> {
-    /// There was not enough memory.
+    /// An allocation failed.
     Memory,
-    /// What stands behind an extension marker: 55, 56 or 57, with its module, the name of the assignment and the place.
+    /// An extension marker or an addition breaks a rule: `MarkerPlace`, `AdditionOrder` or `DefaultAddition`, with the
+    /// module, the name of the assignment and the offset.
     Additions(AdditionFault),
-    /// A DEFAULT stands for no value of its component's type (X.680, clause 25.1).
+    /// A DEFAULT isn't a value of its component's type (X.680, clause 25.1).
     Default(ValueFault<'a>),
-    /// A value assignment's notation stands for no value of its type (X.680, clause 16.2).
+    /// The notation of a value assignment isn't that of a value of its type (X.680, clause 16.2).
     Assigned(ValueFault<'a>),
 }
 
-/// The fault that what stands behind an extension marker is.
+/// The fault of bounded modules for this fault of a marker or an addition.
 pub(crate) fn of_additions<'a>(fault: AdditionFault) -> ExtFault<'a>
     ensures { (p : Program) → markers.Stands p fault → Stands p result }
 {
@@ -42,7 +44,7 @@ pub(crate) fn of_additions<'a>(fault: AdditionFault) -> ExtFault<'a>
     }
 }
 
-/// The fault that a value assignment stands for no value.
+/// The fault of bounded modules for a value assignment without a value.
 pub(crate) fn of_assigned<'a>(wrong: Wrong<'a>) -> ExtFault<'a>
     ensures { (p : Program) → KeepAdditions p.types → AreTypedDefaults p → Tells (IsFirstValue p) wrong.entry
         → Stands p result }

@@ -1,4 +1,4 @@
-//! The items of an enumeration, each with its number, in order of number.
+//! The items of an enumeration with their numbers, in the order of these.
 
 ghost use Rattle.std.specs.Prelude.{◌≡◌, ◌↔◌, ◌<◌, ◌≤◌, ◌+◌, ℕ, ℤ, false, Some, None, IfOk, drop, length, map, slice_get};
 ghost use Rattle.asn_base.specs.Names.{IsMember};
@@ -22,7 +22,7 @@ use std::alloc::{AllocError, Global};
 use trees::{EnumeratedItem, EnumeratedSyntax};
 use type_table::{NumberFault, item_numbers};
 
-/// An item with its number.
+/// An item with its number. `AllocError` only if an allocation fails.
 fn item(written: &EnumeratedItem, number: i128) -> Result<Item, AllocError>
     ensures { IfOk result (λ i. item_of i ≡ item_with (name_at written.now.name) number) }
 {
@@ -40,7 +40,7 @@ fn number_at(numbers: &[i128], at: usize) -> i128
     numbers[at]
 }
 
-/// Items, each with its number: of the numbers those from this place on.
+/// Items with their numbers. The first item has the number at place `from`.
 fn numbered(
     alloc: Global,
     written: &[EnumeratedItem],
@@ -58,7 +58,7 @@ fn numbered(
     Ok(all)
 }
 
-/// Items in order of number.
+/// The items in the order of their numbers.
 fn in_order(items: Vec<Item>) -> Result<Vec<Item>, AllocError>
     requires { DifferByNumber items.items }
     ensures members { IfOk result (λ v. (i : types.Item) →
@@ -70,7 +70,7 @@ fn in_order(items: Vec<Item>) -> Result<Vec<Item>, AllocError>
     Ok(all)
 }
 
-/// The items before the extension marker, in order of number.
+/// The items before the extension marker, in the order of their numbers.
 fn root(alloc: Global, given: &EnumeratedSyntax, numbers: &[i128]) -> Result<Vec<Item>, AllocError>
     requires sound { IsSoundEnumeration (root_of given.now) (more_of given.now) }
     requires numbers { numbers.now ≡ numbers_of (root_of given.now) (more_of given.now) }
@@ -84,7 +84,7 @@ fn root(alloc: Global, given: &EnumeratedSyntax, numbers: &[i128]) -> Result<Vec
     }
 }
 
-/// The items behind the extension marker; none where there is no marker.
+/// The items after the extension marker, or none if there is no marker.
 fn behind(given: &EnumeratedSyntax) -> &[EnumeratedItem]
     ensures { map trees.item_of result.now ≡ more_of given.now }
 {
@@ -94,7 +94,7 @@ fn behind(given: &EnumeratedSyntax) -> &[EnumeratedItem]
     }
 }
 
-/// The items behind the extension marker, in order of number.
+/// The items after the extension marker, in the order of their numbers.
 fn additions(
     alloc: Global,
     given: &EnumeratedSyntax,
@@ -112,7 +112,7 @@ fn additions(
     }
 }
 
-/// Whether an extension marker stands in an enumeration.
+/// Whether an enumeration has an extension marker.
 fn has_marker(given: &EnumeratedSyntax) -> bool
     ensures { result ≡ false ↔ behind_marker given.now ≡ None }
 {
@@ -122,8 +122,8 @@ fn has_marker(given: &EnumeratedSyntax) -> bool
     }
 }
 
-/// What an ENUMERATED type is in a schema: its items with their numbers (X.680, clauses 20.5 and 20.6), those of the
-/// root and those behind the marker each in order of number.
+/// The ENUMERATED type of a schema: its items with their numbers (X.680, clauses 20.5 and 20.6). Those of the root and
+/// those after the marker are each in the order of their numbers.
 pub(crate) fn enumeration(alloc: Global, given: &EnumeratedSyntax) -> Result<Core, AllocError>
     requires { IsSoundEnumeration (root_of given.now) (more_of given.now) }
     ensures { (p : Program) (i : ℕ) (M : Name) → IfOk result (λ c.

@@ -1,4 +1,4 @@
-//! What follows of programs that are settled. A caller calls a law to know it; it takes no memory and no time.
+//! Laws of settled programs. A caller calls a law to know it; it takes no memory and no time.
 
 ghost use Rattle.std.specs.Prelude.{◌≡◌, List};
 ghost use Rattle.std.specs.List.{All};
@@ -15,8 +15,8 @@ ghost use Rattle.extensions.specs.declared.fault.ExtFault.TheVariants.{Memory, A
 ghost use Rattle.extensions.specs.Faults.{IsFirstDefault, IsFirstValue, Stands};
 ghost use Rattle.extensions.specs.Settles.{IsRead, IsSettling};
 
-/// Modules in which a fault stands, other than want of memory, don't keep what is asked: so `settle` succeeds, memory
-/// apart, just where they do.
+/// Modules with a fault other than `Memory` don't keep all rules. So `settle` succeeds exactly if they do and no
+/// allocation fails.
 pub fn no_other()
     ensures { (p : Program) (e : ExtFault) → IsRead p → (e ≡ Memory → ⊥) → Stands p e → IsSettling p → ⊥ }
 {
@@ -25,8 +25,8 @@ pub fn no_other()
     value_notations::law::one_value();
 }
 
-/// What stands behind markers is told before the DEFAULTs, and these before the value assignments: where a fault of one
-/// of the three stands, none of the others does.
+/// Faults have an order: those of markers and additions come before those of DEFAULTs, and these before those of value
+/// assignments. If one of the three kinds is the first fault, neither of the others is.
 pub fn one_kind()
     ensures default_behind_markers { (p : Program) (e : AdditionFault) (f : ValueFault) → Stands p (Additions e)
         → Stands p (Default f) → ⊥ }
@@ -40,8 +40,8 @@ pub fn one_kind()
     value_notations::law::one_value();
 }
 
-/// A fault is told of one value assignment alone; and of one DEFAULT alone, where the values of all have at most 2^24
-/// nodes each.
+/// A fault is that of at most one value assignment. It is that of at most one DEFAULT if the value of each DEFAULT has
+/// at most 2^24 nodes.
 pub fn one_place()
     ensures default { (p : Program) (e f : ValueFault) → IsRead p → HaveFewNodes p → (d : IsFirstDefault p e)
         → (g : IsFirstDefault p f) →
@@ -54,7 +54,7 @@ pub fn one_place()
     value_notations::law::one_value();
 }
 
-/// Linked modules that are spelled as the notation asks are what `settle` takes.
+/// Linked modules that are spelled by the rules of the notation meet the condition of `settle`.
 pub fn linked_are_read()
     ensures { (ms : List ModuleTree) (p : Program) → Links ms p → All IsSpelledModule ms → IsRead p }
 {

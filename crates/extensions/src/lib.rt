@@ -1,5 +1,5 @@
-//! The schema of bounded modules, once their additions, their DEFAULTs and their value assignments are as they have to
-//! be.
+//! The schema of bounded modules, whose additions, DEFAULTs and value assignments are checked first (X.680, clauses 16,
+//! 20, 25, 27 and 29).
 #![tactic(auto)]
 
 mod accepted;

@@ -33,7 +33,7 @@ fn is_optional(part: &Part) -> bool
     }
 }
 
-/// A DEFAULT that shares its value.
+/// The presence of a component with a DEFAULT, which shares the value.
 fn default_value(default: &Option<Shared>) -> Result<Presence, AllocError>
     requires { default.now ≡ None → ⊥ }
     ensures { IfOk result (λ r. (v : AbstractValue) → option_map shared_seen default.now ≡ Some v
@@ -48,7 +48,7 @@ fn default_value(default: &Option<Shared>) -> Result<Presence, AllocError>
     }
 }
 
-/// Whether a component of the root may be absent; its DEFAULT is this value.
+/// The presence of a component in the root. `default` is the value of its DEFAULT, if it has one.
 fn in_root(part: &Part, default: &Option<Shared>) -> Result<Presence, AllocError>
     requires given { IsGiven (part_of part.now) (option_map shared_seen default.now) }
     ensures { (p : Program) (M : Name) →
@@ -63,7 +63,7 @@ fn in_root(part: &Part, default: &Option<Shared>) -> Result<Presence, AllocError
     }
 }
 
-/// Whether a component may be absent.
+/// The presence of a component. `default` is the value of its DEFAULT, if it has one.
 fn presence(part: &Part, default: &Option<Shared>) -> Result<Presence, AllocError>
     requires given { IsGiven (part_of part.now) (option_map shared_seen default.now) }
     requires plain { IsAdded (part_of part.now) → has_default (part_of part.now).presence ≡ false }
@@ -80,7 +80,7 @@ fn presence(part: &Part, default: &Option<Shared>) -> Result<Presence, AllocErro
     }
 }
 
-/// A component.
+/// A component with the value of its DEFAULT, if it has one.
 fn component(part: &Part, default: &Option<Shared>) -> Result<Component, AllocError>
     requires given { IsGiven (part_of part.now) (option_map shared_seen default.now) }
     requires plain { IsAdded (part_of part.now) → has_default (part_of part.now).presence ≡ false }
@@ -102,7 +102,7 @@ fn component(part: &Part, default: &Option<Shared>) -> Result<Component, AllocEr
     }
 }
 
-/// The components of a list, in order, of which these are the DEFAULTs.
+/// The components of a list, in order, with the values of their DEFAULTs.
 fn components(
     alloc: Global,
     parts: &[Part],
@@ -146,7 +146,7 @@ fn add(alternatives: &mut Vec<Alternative>, one: Alternative) -> Result<(), Allo
     Ok(())
 }
 
-/// Adds the next alternative, to those of the root or to those behind the marker.
+/// Adds the next alternative, to those of the root or to those after the marker.
 fn put(
     root: &mut Vec<Alternative>,
     additions: &mut Vec<Alternative>,
@@ -168,7 +168,7 @@ fn put(
     }
 }
 
-/// The alternatives of a CHOICE, in order: those of the root and those behind the marker.
+/// The alternatives of a CHOICE, in order: those of the root and those after the marker.
 fn alternatives(alloc: Global, marker: bool, parts: &[Part]) -> Result<Alternatives, AllocError>
     requires { AreBehind (map part_of parts.now) }
     ensures marker { IfOk result (λ a. a.extensible ≡ marker) }
@@ -187,7 +187,7 @@ fn alternatives(alloc: Global, marker: bool, parts: &[Part]) -> Result<Alternati
     })
 }
 
-/// What a SEQUENCE, SET or CHOICE is in a schema, where these are its DEFAULTs.
+/// The SEQUENCE, SET or CHOICE of a schema, with the values of its DEFAULTs.
 pub(crate) fn list_core(
     alloc: Global,
     kind: ListKind,

@@ -1,4 +1,4 @@
-//! Values that DEFAULTs share.
+//! Values that several DEFAULTs share.
 
 ghost use Rattle.std.specs.Prelude.{◌≡◌, IfOk, IfSome};
 ghost use Rattle.asn_base.specs.Abstract.{abstract};
@@ -19,7 +19,7 @@ pub(crate) struct Shared {
 }
 
 impl Shared {
-    /// The value alone.
+    /// A value that no other DEFAULT shares yet. `AllocError` only if an allocation fails.
     fn of(alloc: Global, value: Value) -> Result<Self, AllocError>
         ensures { IfOk result (λ s. shared_seen s ≡ abstract value) }
     {
@@ -28,7 +28,7 @@ impl Shared {
         })
     }
 
-    /// The same value once more.
+    /// Another handle to the same value. `AllocError` only if an allocation fails.
     fn share(&self) -> Result<Self, AllocError>
         ensures { IfOk result (λ s. shared_seen s ≡ shared_seen self.now) }
     {
@@ -38,13 +38,13 @@ impl Shared {
     }
 }
 
-/// For each value assignment the value of the latest DEFAULT that names it, if there is one.
+/// For each value assignment, the value of the latest DEFAULT that names it, if there is one.
 #[derive(Drop)]
 pub(crate) struct Pool {
     named: Vec<Option<Shared>>,
 }
 
-/// The number of the value that a notation names, where it is a name alone.
+/// The number of the value assignment that a notation names, if the notation is only a name.
 fn named_by(linked: &Linked, within: &str, notation: &ValueSyntax) -> Option<usize> {
     let ValueForm::Reference(reference) = &notation.form else {
         return None;
@@ -57,7 +57,7 @@ fn named_by(linked: &Linked, within: &str, notation: &ValueSyntax) -> Option<usi
 }
 
 impl Pool {
-    /// No value, of so many value assignments.
+    /// An empty pool for this number of value assignments. `AllocError` only if an allocation fails.
     pub(crate) fn of(alloc: Global, count: usize) -> Result<Self, AllocError> {
         let mut named = Vec::new(alloc);
         for step in 0..count {
@@ -66,7 +66,7 @@ impl Pool {
         Ok(Pool { named })
     }
 
-    /// The kept value of this number, where it is equal.
+    /// The value that is kept for this number, if it is equal to `value`.
     fn kept(&self, number: usize, value: &Value) -> Option<&Shared>
         ensures { IfSome result (λ r. shared_seen r.now ≡ abstract value.now) }
     {
@@ -82,7 +82,7 @@ impl Pool {
         }
     }
 
-    /// Keeps a value by this number.
+    /// Keeps a value for this number. `AllocError` only if an allocation fails.
     fn keep(&mut self, number: usize, value: &Shared) -> Result<(), AllocError> {
         if number < self.named.len() {
             self.named[number] = Some(value.share()?);
@@ -90,8 +90,9 @@ impl Pool {
         Ok(())
     }
 
-    /// The value of a DEFAULT, read in this module, in memory that it shares with the latest DEFAULT of the same name
-    /// if their values are equal. Without it components with one long DEFAULT would each have a copy.
+    /// The value of a DEFAULT in this module. It shares its memory with the latest DEFAULT that names the same value
+    /// assignment, if their values are equal. Otherwise components with one long DEFAULT would each have a copy.
+    /// `AllocError` only if an allocation fails.
     pub(crate) fn place(
         &mut self,
         alloc: Global,

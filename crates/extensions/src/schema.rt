@@ -1,4 +1,4 @@
-//! The types of bounded modules, once all that is asked of them is checked.
+//! The types of bounded modules, after all rules for them were checked.
 
 ghost use Rattle.std.specs.Prelude.{MatchResult};
 ghost use Rattle.asn_base.specs.Seen.{types_of};
@@ -16,11 +16,11 @@ use constraints::Bounded;
 use std::alloc::Global;
 use typed_values::Defaults;
 
-/// The types of the schema of bounded modules: one for each written type, by the same number. What stands behind
-/// extension markers is checked first, then each DEFAULT is typed (X.680, clause 25.1), in the order of written types,
-/// then each value assignment (clause
-/// 16.2). Or the first fault in this order: 55, 56 or 57, what is wrong with a notation, or `Memory`. The modules are
-/// as parsing and linking leave them.
+/// The types of the schema of bounded modules: one for each written type, with the same number. The modules must be
+/// those that parsing and linking give. First markers and additions are checked, then each DEFAULT in the order of
+/// written types (X.680, clause 25.1), and then each value assignment (clause 16.2).
+///
+/// The error is the first fault in this order: `Additions`, `Default` or `Assigned`. `Memory`: an allocation failed.
 pub fn settled_types<'a>(
     alloc: Global,
     bounded: &Bounded<'a>,

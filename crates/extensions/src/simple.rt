@@ -35,7 +35,7 @@ fn integer(
     }
 }
 
-/// A bit with a name.
+/// A named bit. `AllocError` only if an allocation fails.
 fn named_bit(bit: &WrittenBit) -> Result<NamedBit, AllocError>
     requires { bit.now.place ≤ 65535 }
     ensures { IfOk result (λ b. named_bit_of b ≡ named_bit' (bit_of bit.now)) }
@@ -46,7 +46,7 @@ fn named_bit(bit: &WrittenBit) -> Result<NamedBit, AllocError>
     })
 }
 
-/// Bits with names, in the order in which they are written.
+/// The named bits in the order of their notation.
 fn named_bits(alloc: Global, bits: &[WrittenBit]) -> Result<Vec<NamedBit>, AllocError>
     requires { IsSoundPlain (a_bit_string (map bit_of bits.now)) }
     ensures { IfOk result (λ v. map named_bit_of v.items ≡ map named_bit' (map bit_of bits.now)) }
@@ -58,7 +58,7 @@ fn named_bits(alloc: Global, bits: &[WrittenBit]) -> Result<Vec<NamedBit>, Alloc
     Ok(all)
 }
 
-/// A BIT STRING, whose bits have names or not.
+/// A BIT STRING, with or without named bits.
 fn bit_string(
     alloc: Global,
     bounded: &Bounded<'_>,
@@ -107,7 +107,7 @@ fn utf8_string(alloc: Global, bounded: &Bounded<'_>, ty: TypeId) -> Result<Core,
     }
 }
 
-/// One of four string types, whose characters are of one octet.
+/// A string of one of the four types with one octet a character.
 fn restricted_string(
     alloc: Global,
     bounded: &Bounded<'_>,
@@ -128,7 +128,7 @@ fn restricted_string(
     }
 }
 
-/// What a type that holds no other types is in a schema, with what its constraints leave of it.
+/// The kind in a schema of a type that holds no other types, with the values that its constraints leave.
 pub(crate) fn simple_core(
     alloc: Global,
     bounded: &Bounded<'_>,

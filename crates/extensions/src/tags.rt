@@ -1,4 +1,4 @@
-//! The tags that stand before the contents of a type.
+//! The tags before the contents of a type.
 
 ghost use Rattle.std.specs.Prelude.{◌≡◌, ◌<◌, ◌++◌, IfOk, OnOk, length, map};
 ghost use Rattle.tagging.specs.Tags.{Path, Tags, label, path_of};
@@ -11,7 +11,7 @@ use constraints::Bounded;
 use std::alloc::{AllocError, Global};
 use tagging::{FormedTag, TagForm, tags_of};
 
-/// Whether a tag stands in place of the tag after it.
+/// Whether a tag replaces the tag after it, as an implicit one does.
 fn replaces(form: TagForm) -> bool
     ensures { result ≡ is_implicit form }
 {
@@ -21,7 +21,7 @@ fn replaces(form: TagForm) -> bool
     }
 }
 
-/// Adds a tag, unless one before it stands in its place.
+/// Adds a tag, unless the tag before it replaces it.
 fn add(tags: &mut Vec<Tag>, replaced: bool, tag: Tag) -> Result<(), AllocError>
     ensures { OnOk result (map label tags.new.items ≡ map label tags.old.items ++ unless replaced (label tag)) }
 {
@@ -31,7 +31,7 @@ fn add(tags: &mut Vec<Tag>, replaced: bool, tag: Tag) -> Result<(), AllocError>
     Ok(())
 }
 
-/// Of the tags of a type those that stand before its contents.
+/// The tags of a type that are encoded before its contents: those that no tag replaces.
 fn standing(alloc: Global, path: &[FormedTag]) -> Result<Vec<Tag>, AllocError>
     ensures { IfOk result (λ v. map label v.items ≡ standing' (path_of path.now)) }
 {
@@ -44,8 +44,9 @@ fn standing(alloc: Global, path: &[FormedTag]) -> Result<Vec<Tag>, AllocError>
     Ok(tags)
 }
 
-/// The tags that stand before the contents of a type, the outermost first: of those that are written, automatic or its
-/// own each but one that an implicit tag stands in place of (X.680, clause 31.2.7; X.690, clause 8.14).
+/// The tags before the contents of a type, the outermost first. A written tag, an automatic tag or the type's own is
+/// one of these unless an implicit tag replaces it (X.680, clause 31.2.7; X.690, clause 8.14). `AllocError` only if an
+/// allocation fails.
 pub(crate) fn tags(alloc: Global, bounded: &Bounded<'_>, ty: TypeId) -> Result<Vec<Tag>, AllocError>
     requires { ty.index < length bounded.now.types }
     ensures { IfOk result (λ v. (p : Path) × Tags bounded.now.types ty.index p × (map label v.items ≡ standing' p)) }

@@ -46,7 +46,7 @@ fn elements_core(
     }
 }
 
-/// What a type is behind its references and tags.
+/// The shape of a type after its references and tags.
 fn behind(linked: &Linked, ty: TypeId) -> &Shape
     requires { ty.index < length linked.now.types }
     ensures { IsCoreType linked.now ty.index (kind_of result.now) }
@@ -56,7 +56,7 @@ fn behind(linked: &Linked, ty: TypeId) -> &Shape
     &linked.types()[core.index].shape
 }
 
-/// What a type holds in a schema.
+/// The kind of a type in a schema.
 fn core(
     alloc: Global,
     bounded: &Bounded<'_>,
@@ -78,10 +78,12 @@ fn core(
     }
 }
 
-/// The resolved type of a written one (X.680, clauses 17 to 33, 41 and 49 to 51): the tags that stand before its
-/// contents, what it is behind its references and tags, with what its constraints leave, the items of an enumeration by
-/// number, components and alternatives in order, and of a list the DEFAULTs, which are handed in, one of each
-/// component, None where it has none. It refuses for want of memory alone.
+/// The resolved type of a written one (X.680, clauses 17 to 33, 41 and 49 to 51). It has the tags before the type's
+/// contents, and the kind of the type after its references and tags, with the values that its constraints leave. Items
+/// of an enumeration are in the order of their numbers, and components and alternatives in their own order.
+///
+/// `defaults` has the value of each component's DEFAULT, or None if the component has none. `AllocError` only if an
+/// allocation fails.
 pub(crate) fn resolved(
     alloc: Global,
     bounded: &Bounded<'_>,
@@ -107,8 +109,8 @@ pub(crate) fn resolved(
     }
 }
 
-/// The resolved type of a written one that shares what another one is behind its tags: both are the same behind
-/// references and tags, and their constraints leave the same. It refuses for want of memory alone.
+/// The resolved type of a written one, which shares the kind of another type. Both types are the same after references
+/// and tags, and their constraints leave the same values. `AllocError` only if an allocation fails.
 pub(crate) fn shared(
     alloc: Global,
     bounded: &Bounded<'_>,

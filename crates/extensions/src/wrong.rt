@@ -1,4 +1,4 @@
-//! What reading one notation told, if it isn't a value.
+//! The result of reading a notation that isn't one of a value.
 
 ghost use Rattle.std.specs.Prelude.{◌≡◌, ◌<◌, ℕ, false, true, IfOk, IfErr, length};
 ghost use Rattle.asn_base.specs.Abstract.{abstract};
@@ -18,14 +18,14 @@ use std::alloc::Global;
 use trees::ValueSyntax;
 use typed_values::{Cause, Defaults, ValueFault, typed_with};
 
-/// Why there is no value: want of memory, or a fault that stands in a notation.
+/// Why there is no value: an allocation failed, or a notation has this fault.
 #[derive(Clone, Copy)]
 pub(crate) enum Wrong<'a> {
     Memory,
     At(ValueFault<'a>),
 }
 
-/// Whether it was memory that wanted.
+/// Whether the cause is that an allocation failed.
 fn ran_out(cause: Cause<'_>) -> bool
     ensures memory { result ≡ true → cause.entry ≡ causes.Memory }
     ensures another { result ≡ false → cause.entry ≡ causes.Memory → ⊥ }
@@ -36,7 +36,7 @@ fn ran_out(cause: Cause<'_>) -> bool
     }
 }
 
-/// The value that a notation stands for under a type, in the module where it is read.
+/// The value of a notation in this module, under a type. The error is the fault of the notation, or `Memory`.
 pub(crate) fn value_of<'a>(
     alloc: Global,
     bounded: &Bounded<'a>,

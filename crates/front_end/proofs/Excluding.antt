@@ -1,4 +1,4 @@
--- A fault that stands excludes that texts are accepted.
+-- A true fault excludes that texts are accepted.
 use Rattle.std.proofs.Common.{◌≡◌, ℕ, List, refl, subst}
 use Rattle.std.specs.List.{AllZip, All}
 use Rattle.std.proofs.lemmas.List.Elements.{All-from_recursion}
@@ -126,7 +126,7 @@ excluded l xs p (faults.Additions f) u h a = program_excluded l xs p (faults.Add
 excluded l xs p (faults.Default t) u h a = program_excluded l xs p (faults.Default t) u h.modules h.are h.stands a
 excluded l xs p (faults.Assigned t) u h a = program_excluded l xs p (faults.Assigned t) u h.modules h.are h.stands a
 
--- so a fault of texts that are accepted is want of memory
+-- so a fault of accepted texts is `Memory`
 pub is_memory : ((xs : List (List ℕ)) (p : Program) (e : FrontFault) → (e ≡ faults.Memory → ⊥) → Stands xs e →
     AreAccepted xs p → ⊥) → (xs : List (List ℕ)) (p : Program) (e : FrontFault) → Stands xs e → AreAccepted xs p →
     e ≡ faults.Memory

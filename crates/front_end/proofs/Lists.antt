@@ -1,4 +1,4 @@
--- Lists and what stands beside their elements.
+-- Lists, and lists beside them.
 use Rattle.std.proofs.Common.{◌≡◌, ℕ, zero, suc, ◌+◌, ◌<◌, List, [], ◌∷◌, ◌++◌, length, map, take, Some, refl, sym, ap, ◌∙◌, arith, subst, get_or}
 use Rattle.std.specs.Prelude.{slice_get}
 use Rattle.std.specs.List.{AllZip, AllByRecursion}
@@ -18,7 +18,7 @@ zip_push R [] (b ∷ ys) x y h r = absurd h
 zip_push R (a ∷ xs) [] x y h r = absurd h
 zip_push R (a ∷ xs) (b ∷ ys) x y h r = (h.0, zip_push R xs ys x y h.1 r)
 
--- one more element and what stands beside it
+-- one more element, and the one beside it
 pub zip_more : {A B X Y : Type 0} (R : X → Y → Type 0) (f : A → X) (g : B → Y) (xs : List A) (k : ℕ) (x : A)
     (old new : List B) (y : B) → k < length xs → x ≡ get_or xs k x → AllZip R (map f (take k xs)) (map g old) →
     new ≡ old ++ y ∷ [] → R (f x) (g y) → AllZip R (map f (take (k + 1) xs)) (map g new)
@@ -26,7 +26,7 @@ zip_more R f g xs k x old new y l e h n r =
     let q = ap (map g) n ∙ map-append g old (y ∷ []) in
     rw (one_taken f xs k x l e, q) (zip_push R (map f (take k xs)) (map g old) (f x) (g y) h r)
 
--- what stands beside an element
+-- the element beside an element
 pub zip_at : {X Y : Type 0} (R : X → Y → Type 0) (xs : List X) (ys : List Y) (k : ℕ) (x : X) → AllZip R xs ys →
     slice_get xs k ≡ Some x → (y : Y) × R x y
 zip_at R [] ys k x z e = absurd cc
@@ -43,7 +43,7 @@ zip_front R f (a ∷ xs) (suc k) [] i x z l e = absurd z
 zip_front R f (a ∷ xs) (suc k) (b ∷ ys) zero x z l e = let q : f a ≡ x = cc in (b, subst (λ w. R w b) q z.0)
 zip_front R f (a ∷ xs) (suc k) (b ∷ ys) (suc i) x z l e = zip_front R f xs k ys i x z.1 (omega (arith, l)) e
 
--- what holds of all that stands beside elements holds of each element of the other list
+-- what holds for all elements beside others holds for each element of the other list
 pub zip_all : {X Y : Type 0} (R : X → Y → Type 0) (P : Y → Type 0) (xs : List X) (ys : List Y) →
     ((x : X) (y : Y) → R x y → P y) → AllZip R xs ys → AllByRecursion P ys
 zip_all R P [] [] h z = tt
@@ -51,7 +51,7 @@ zip_all R P [] (b ∷ ys) h z = absurd z
 zip_all R P (a ∷ xs) [] h z = absurd z
 zip_all R P (a ∷ xs) (b ∷ ys) h z = (h a b z.0, zip_all R P xs ys h z.1)
 
--- one list at most stands beside another, where one element at most stands beside one
+-- at most one list is beside another, if at most one element is beside each
 pub zip_one : {X Y : Type 0} (R : X → Y → Type 0) (xs : List X) (ys zs : List Y) →
     ((x : X) (y z : Y) → R x y → R x z → y ≡ z) → AllZip R xs ys → AllZip R xs zs → ys ≡ zs
 zip_one R [] [] [] h a b = refl

@@ -1,4 +1,4 @@
--- A notation in which a fault stands has no value.
+-- A notation with a fault has no value.
 use Rattle.std.proofs.Common.{◌≡◌, ◌≤◌, ℕ, List, [], subst}
 use Rattle.asn_base.specs.Abstract.{AbstractValue}
 use Rattle.asn_base.specs.Typed.{nodes}

@@ -1,4 +1,4 @@
--- Of two faults that stand in the same texts each is of the same layer, and of the same text.
+-- Two true faults of the same texts are of the same layer, and of the same text.
 use Rattle.std.proofs.Common.{◌≡◌, ℕ, ◌<◌, ◌≤◌, ◌⊎◌, inl, inr, List, refl, sym, ap, ◌∙◌, subst, arith}
 use Rattle.std.proofs.lemmas.Bool.{cases_lt}
 use Rattle.std.specs.Prelude.{slice_get}
@@ -56,7 +56,7 @@ same_program l xs p q a b =
     let links = subst (λ ms. Links ms q) (l.list xs b.modules a.modules b.are a.are) b.links in
     l.program a.modules p q a.links.named a.links.program links.program
 
--- the program of what stands
+-- the program of modules that link
 program_of : {xs : List (List ℕ)} {p : Program} (ms : List ModuleTree) → AllZip IsModule xs ms → Links ms p → IsProgram xs p
 program_of ms z l = record { modules = ms; are = z; links = l }
 

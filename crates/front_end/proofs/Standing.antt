@@ -1,4 +1,4 @@
--- A fault of names, or of what is linked, stands in the texts; where what it tells of a value stands.
+-- A fault of names, or of linked modules, is one of the texts; and the place of a fault of a value.
 use Rattle.std.proofs.Common.{◌≡◌, ℕ, zero, suc, ◌<◌, List, [], ◌∷◌, length, Some, subst, arith}
 use Rattle.std.specs.Prelude.{slice_get}
 use Rattle.std.specs.List.{All, AllZip}

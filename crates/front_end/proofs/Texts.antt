@@ -22,7 +22,7 @@ use Rattle.front_end.specs.proving.Steps.{IsRefusedAt}
 use Rattle.front_end.proofs.Lists.{zip_front}
 use Rattle.names.specs.proving.Distinct.{item_at}
 
--- the text that is refused behind texts that are modules is the first one
+-- the text with a fault after texts that are modules is the first one
 pub first_refused : (xs : List (Vec ℕ Global)) (k : ℕ) (x : Vec ℕ Global) (t : List ℕ) (ms : List ModuleTree)
     (e : FrontFault) → k < length xs → x ≡ get_or xs k x → t ≡ octets_of x →
     AllZip IsModule (map octets_of (take k xs)) ms → IsRefusedAt k t e → Stands (map octets_of xs) e
@@ -79,7 +79,7 @@ not_inside : (a : Limits) (ts : List Lexeme) (m : ModuleTree) (i : ℕ) → (mod
 not_inside a ts m i h l none =
     none (length ts) l (omega arith) (subst (module_text a).CanGoOn (sym (all_between ts)) (whole_goes_on a m ts h))
 
--- nothing ends so where the whole is a module
+-- the text doesn't end too soon if the whole is a module
 no_end : (ts : List Lexeme) (m : ModuleTree) (i : ℕ) → (module_text (bounded 128)).Is m ts →
     Ends module_text (bounded 128) ts 0 i → (i < length ts) ⊎ (length ts ≤ i) → ⊥
 no_end ts m i h e (inl l) = not_inside (bounded 128) ts m i h l (e.always (bounded 128))
@@ -99,7 +99,7 @@ no_fault ts m (parsing.Limit l i) u s h =
     let b = s.to in
     not_inside (bounded 128) ts m i h (omega (arith, a, b)) s.stops.longest
 
--- a text is no module where its tokens are none
+-- a text isn't a module if its tokens aren't one
 pub no_module : OneTokens → (x : List ℕ) (f : SyntaxFault) (m : ModuleTree) → IsNoModule x f → IsModule x m → ⊥
 no_module one x f m n i =
     no_fault (lexemes x n.tokens) m f n.no_memory n.stands (tree_of_tokens one x n.tokens m i n.lexed.text)

@@ -25,9 +25,9 @@ pub struct Front {
 
 /// Returns the program and the types of texts, each of which is one module.
 ///
-/// The result is the first fault, in this order: of the octets and then of the tokens of each text in turn; of the
-/// names of all modules; of tags; of constraints; of additions after markers, of DEFAULTs and of value assignments.
-/// `Memory`: an allocation failed.
+/// The error is the first fault. For each text in turn the faults of its octets come first, and then those of its
+/// tokens. The faults of names, of tags and of constraints follow. Last come those of additions after extension
+/// markers, of DEFAULTs and of value assignments. `Memory`: an allocation failed.
 pub fn open(alloc: Global, texts: &[Vec<u8>]) -> Result<Front, FrontFault>
     // The texts are accepted, as this program with these types.
     ensures accepted { IfOk result (λ f. Accepted (map octets_of texts.now) f.linked f.schema) }

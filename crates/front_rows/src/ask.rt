@@ -1,4 +1,4 @@
-//! What rows ask.
+//! The answers to rows.
 
 ghost use Rattle.kernel.specs.Given.{IsLexed};
 
@@ -13,7 +13,7 @@ use std::alloc::{AllocError, Global};
 use syntax::parse;
 use text::{LexFault, Token};
 
-/// The number behind a word of a row, or 0.
+/// The number after a word of a row, or 0 if there is none.
 fn number_behind(row: &Row, word: &str) -> usize {
     let mut is_next = false;
     for other in &row.words {
@@ -68,7 +68,7 @@ fn put_value_answer(
     }
 }
 
-/// Writes the constraint that a row asks for, or the size.
+/// Writes the constraint or the size at the place that a row asks about.
 fn put_constraint_answer(
     alloc: Global,
     out: &mut String,
@@ -113,7 +113,7 @@ fn put_module_answer(
     }
 }
 
-/// What stands before and behind a text in the module that a command asks for.
+/// The text before and after a row's text in the module that a command asks for.
 fn around(command: &str) -> Option<(&'static str, &'static str)> {
     match command {
         "module" => Some(("", "")),
@@ -124,7 +124,7 @@ fn around(command: &str) -> Option<(&'static str, &'static str)> {
     }
 }
 
-/// Writes what a module is that has a text between these.
+/// Writes the module of a text with these texts before and after it.
 fn answer_module(
     alloc: Global,
     out: &mut String,
@@ -143,7 +143,7 @@ fn answer_module(
     }
 }
 
-/// Writes what a row asks of a text's tokens.
+/// Writes the answer to a row about the tokens of a text.
 fn answer_part(alloc: Global, out: &mut String, row: &Row, text: &[u8]) -> Result<(), AllocError> {
     let tokens = match text::lex(alloc, text) {
         Ok(tokens) => tokens,
@@ -157,7 +157,7 @@ fn answer_part(alloc: Global, out: &mut String, row: &Row, text: &[u8]) -> Resul
     }
 }
 
-/// Writes what is printed where memory runs out.
+/// Writes what is printed if an allocation fails.
 fn put_memory(out: &mut String, what: &[u8]) -> Result<(), AllocError> {
     if what == b"lexical items".as_slice() {
         write!(out, "{}", LexFault::Memory)
@@ -166,7 +166,7 @@ fn put_memory(out: &mut String, what: &[u8]) -> Result<(), AllocError> {
     }
 }
 
-/// Writes what a row asks of a text.
+/// Writes the answer to a row about a text.
 pub fn answer(alloc: Global, out: &mut String, row: &Row, octets: &[u8]) -> Result<(), AllocError> {
     if let Some((before, behind)) = around(row.command()) {
         return answer_module(alloc, out, row, octets, before, behind);

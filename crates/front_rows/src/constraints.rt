@@ -1,4 +1,4 @@
-//! Constraints as they are read.
+//! Syntax trees of constraints, in words.
 
 use crate::pieces::{put_between, put_reference, put_text};
 use std::alloc::AllocError;
@@ -11,7 +11,7 @@ fn put_end(out: &mut String, end: &EndSyntax) -> Result<(), AllocError> {
     }
 }
 
-/// Writes an end, or the word that stands where there is none.
+/// Writes an end, or the word for no end.
 fn put_end_or(out: &mut String, end: &Option<EndSyntax>, word: &str) -> Result<(), AllocError> {
     match end {
         Some(end) => put_end(out, end),
@@ -57,6 +57,7 @@ fn put_chars(out: &mut String, chars: &[CharsSyntax]) -> Result<(), AllocError> 
     Ok(())
 }
 
+/// Writes a constraint in parentheses.
 pub fn put_constraint(out: &mut String, constraint: &ConstraintSyntax) -> Result<(), AllocError> {
     match &constraint.form {
         ConstraintForm::Values(ranges) => {
@@ -77,7 +78,7 @@ pub fn put_constraint(out: &mut String, constraint: &ConstraintSyntax) -> Result
     }
 }
 
-/// Writes constraints, each behind a blank.
+/// Writes constraints, each after a blank.
 pub fn put_constraints(
     out: &mut String,
     constraints: &[ConstraintSyntax],

@@ -1,24 +1,27 @@
-//! Answers rows of tests by the public calls of `text`, `notation` and `syntax`: what each text is read as, or the
-//! fault that stands in it, a line each.
+//! Answers rows of tests by the public calls of `text`, `notation` and `syntax`. The answer for each text is one line,
+//! with the syntax tree of the text or its fault.
 //!
-//! The words of the command line are files of rows. What a row may ask:
+//! The words of the command line are files of rows. A row may ask for:
 //!
-//! - `tokens`: the tokens of the text, each with what it is, its place in octets and its spelling.
-//! - `value`, `constraint`, `size`: the tree at the first token, and the place behind it. `at N` begins at token N, and
-//!   `open N` takes so many things to be open already.
+//! - `tokens`: the tokens of the text, each with its kind, its span in octets and its spelling.
+//! - `value`, `constraint`, `size`: the tree at the first token, and the place after it. `at N` begins at token N. With
+//!   `open N` that many things are open already.
 //! - `module`: the module that the text is.
 //! - `type`, `assigned`, `body`: the module with the text as its type `T`, as the value of its `v U`, or between its
-//!   BEGIN and END. What is answered are its assignments. The text begins at token 6, 7 or 4.
-//! - `octets`: the octets that the text stands for.
-//! - `memory`: what is printed where memory runs out, of `lexical items` or `modules`.
+//!   BEGIN and END. The answer has the assignments. The text begins at token 6, 7 or 4.
+//! - `octets`: the octets of the text.
+//! - `memory`: what is printed if an allocation fails, for `lexical items` or `modules`.
 //!
-//! In a row with the word `brief` a tree is told only by `read`. Octets that are not printable ASCII are `\xNN`.
+//! In a row with the word `brief` the word `read` replaces each tree. Octets that aren't printable ASCII are written as
+//! `\xNN`.
 //!
-//! Trees are written as notation that tells apart what one notation may mean. `numbers{1 2}`, `items{1, 2}` and
-//! `fields{a = 1, b = 2}` are values in braces; a text stands between back quotes, two quotes as one. `<..>` stands
-//! around a type and the constraints behind it. Sizes and alphabets are `(SIZE 1..2)` and ``(FROM `a`..`z`)``. A list
-//! or an enumeration with an extension marker has `...` behind its word or its root items; a member behind the marker
-//! stands behind `+`, and one in version brackets behind `+` and their number.
+//! Trees are written in a notation in which different trees look different. `numbers{1 2}`, `items{1, 2}` and
+//! `fields{a = 1, b = 2}` are values in braces. A text is between back quotes, and a doubled quote of the notation is
+//! written once. `<..>` encloses a type with the constraints after it. Sizes and alphabets are `(SIZE 1..2)` and
+//! ``(FROM `a`..`z`)``.
+//!
+//! A list or an enumeration with an extension marker has `...` after its word or after its root items. A member after
+//! the marker has `+` before it, and one in version brackets `+` and the number of the brackets.
 #![tactic(auto)]
 
 mod ask;
@@ -36,7 +39,7 @@ use std::alloc::{AllocError, Global};
 use std::process::ExitCode;
 use std::{env, fs, io};
 
-/// The line of a text's answer: the text itself where a row's texts are lines, else its name, and what is answered.
+/// The line for a text: the text itself or, if texts aren't lines, its name, and then the answer.
 fn line_of(alloc: Global, row: &Row, text: &RowText) -> Result<String, AllocError> {
     let mut line = String::new(alloc);
     if row.has("lines") {

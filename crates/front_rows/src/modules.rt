@@ -1,4 +1,4 @@
-//! Modules as they are read.
+//! Syntax trees of modules, in words.
 
 use crate::pieces::{put_between, put_names};
 use crate::types::put_type;
@@ -21,6 +21,7 @@ fn put_assignment(out: &mut String, assignment: &Assignment) -> Result<(), Alloc
     }
 }
 
+/// Writes assignments, or `nothing` if there are none.
 pub fn put_assignments(out: &mut String, assignments: &[Assignment]) -> Result<(), AllocError> {
     if assignments.is_empty() {
         return out.push_str("nothing");
@@ -55,6 +56,7 @@ fn put_exports(out: &mut String, exports: &Option<Vec<At<String>>>) -> Result<()
     }
 }
 
+/// Writes a module.
 pub fn put_module(out: &mut String, module: &Module) -> Result<(), AllocError> {
     let tags = match module.tag_default {
         TagDefault::Explicit => "EXPLICIT",

@@ -1,4 +1,4 @@
-//! Small parts of what is written.
+//! Small parts of answers.
 
 use std::alloc::AllocError;
 use trees::{At, Reference};
@@ -22,7 +22,7 @@ pub fn put_text(out: &mut String, octets: &[u8]) -> Result<(), AllocError> {
     out.push('`')
 }
 
-/// Writes a name, behind the name of a module if one is given.
+/// Writes a name, or a module's name and the name after it.
 pub fn put_reference(out: &mut String, reference: &Reference) -> Result<(), AllocError> {
     if let Some(module) = &reference.module {
         write!(out, "{module}.")?;
@@ -30,7 +30,7 @@ pub fn put_reference(out: &mut String, reference: &Reference) -> Result<(), Allo
     out.push_str(reference.name.as_str())
 }
 
-/// Writes names with commas between them, or that there are none.
+/// Writes names with commas between them, or `none`.
 pub fn put_names(out: &mut String, names: &[At<String>]) -> Result<(), AllocError> {
     if names.is_empty() {
         return out.push_str("none");
@@ -44,7 +44,7 @@ pub fn put_names(out: &mut String, names: &[At<String>]) -> Result<(), AllocErro
     Ok(())
 }
 
-/// Writes what stands between parts, before each part but the first.
+/// Writes the mark between parts, unless this part is the first.
 pub fn put_between(out: &mut String, mark: &str, is_first: bool) -> Result<(), AllocError> {
     if is_first { Ok(()) } else { out.push_str(mark) }
 }

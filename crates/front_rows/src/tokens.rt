@@ -1,4 +1,4 @@
-//! Tokens and places.
+//! Tokens and places, in words.
 
 use crate::pieces::{put_between, put_octets};
 use std::alloc::AllocError;
@@ -31,7 +31,7 @@ fn mark_text(mark: Mark) -> &'static str {
     }
 }
 
-/// What a token is: a mark or a reserved word by its spelling, else in small letters.
+/// The kind of a token: a mark or a reserved word by its spelling, any other kind in small letters.
 fn kind_text(kind: TokenKind) -> &'static str {
     match kind {
         TokenKind::TypeReference => "type",
@@ -53,6 +53,7 @@ pub fn put_spelling(out: &mut String, text: &[u8], token: Token) -> Result<(), A
     }
 }
 
+/// Writes tokens, or `nothing` if there are none.
 pub fn put_tokens(out: &mut String, text: &[u8], tokens: &[Token]) -> Result<(), AllocError> {
     if tokens.is_empty() {
         return out.push_str("nothing");

@@ -1,4 +1,4 @@
-//! Types as they are read.
+//! Syntax trees of types, in words.
 
 use crate::constraints::put_constraints;
 use crate::pieces::{put_between, put_reference};
@@ -53,7 +53,7 @@ fn put_item_list(out: &mut String, items: &[EnumeratedItem]) -> Result<(), Alloc
     out.push('}')
 }
 
-/// Writes the items of the root and, behind the marker, the additions.
+/// Writes the items of the root and, after the marker, the additions.
 fn put_enumerated(out: &mut String, items: &EnumeratedSyntax) -> Result<(), AllocError> {
     out.push_str("ENUMERATED")?;
     put_item_list(out, &items.root)?;
@@ -92,7 +92,7 @@ fn put_presence(out: &mut String, presence: &PresenceSyntax) -> Result<(), Alloc
     }
 }
 
-/// Writes what stands before a member behind the marker: `+`, and the number of its brackets.
+/// Writes what is before a member: after the marker that is `+`, and the number of its brackets if it is in brackets.
 fn put_standing(out: &mut String, standing: Standing) -> Result<(), AllocError> {
     match standing {
         Standing::Root => Ok(()),
@@ -155,7 +155,7 @@ fn word_of_elements(kind: ElementsKind) -> &'static str {
     }
 }
 
-/// Whether constraints stand behind a type. The size of a list type stands before its OF.
+/// Whether there are constraints after a type. The size of a SEQUENCE OF or SET OF is before the OF.
 fn is_constrained(syntax: &TypeSyntax) -> bool {
     match &syntax.form {
         TypeForm::Elements(_, _) => false,
@@ -171,6 +171,7 @@ fn put_list_word(out: &mut String, kind: ListKind, marker: bool) -> Result<(), A
     Ok(())
 }
 
+/// Writes a type, in angle brackets with its constraints if it has some.
 #[cycle(put_type)]
 pub fn put_type(out: &mut String, syntax: &TypeSyntax) -> Result<(), AllocError> {
     let is_constrained = is_constrained(syntax);

@@ -1,4 +1,4 @@
-//! Values as they are read.
+//! Syntax trees of values, in words.
 
 use crate::pieces::{put_between, put_reference, put_text};
 use std::alloc::AllocError;
@@ -48,6 +48,7 @@ fn put_fields(out: &mut String, fields: &[Named<ValueSyntax>]) -> Result<(), All
     out.push('}')
 }
 
+/// Writes a value.
 #[cycle(put_value)]
 pub fn put_value(out: &mut String, value: &ValueSyntax) -> Result<(), AllocError> {
     match &value.form {

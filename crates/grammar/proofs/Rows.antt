@@ -1,4 +1,4 @@
--- Worked rows: what tokens say, what stands at a place, and what parts are.
+-- Worked rows: the trees of tokens, what is at a place, and what parts are.
 use Rattle.std.proofs.Common.{arith, ◌≡◌, ◌<◌, ◌≤◌, ℕ, ◌^◌, inl, inr, true, false, List, [], ◌∷◌, ◌++◌, length, length-append, Some, None, Ok, Err, refl, ap}
 use Rattle.text.specs.declared.token.TokenKind.TheVariants as kinds
 use Rattle.text.specs.declared.token.Mark.TheVariants.{Colon, Comma, Ellipsis, OpenBrace, CloseBrace, OpenVersion, CloseVersion}
@@ -45,7 +45,7 @@ a_value_name = refl
 a_number : lexeme_at (65 ∷ 98 ∷ 32 ∷ 99 ∷ 100 ∷ 32 ∷ 49 ∷ 48 ∷ []) kinds.Number 6 8 ≡ Number 10
 a_number = refl
 
--- ---- what stands at a place
+-- ---- what is at a place
 
 -- 2 to the 127 passes the limit, and one less doesn't
 least_too_great : small (2 ^ 127) ≡ false
@@ -87,13 +87,13 @@ passed_at_a_number = record {
 no_nesting_passed : PassesLimit number (bounded 0) too_great 0 0 Nesting → ⊥
 no_nesting_passed p = stops_at_the_number.longest p.further p.longer p.to p.goes_on
 
--- no limit is passed where the lexemes end
+-- no limit is passed if the lexemes end
 passed_before_the_end : {A : Type 0} (g : Limited A) (a : Limits) (ts : List Lexeme) (start : ℕ)
     → PassesLimit g a ts start (length ts) Nesting
     → ⊥
 passed_before_the_end g a ts start p = let lt = p.longer in let to = p.to in absurd (omega (arith, lt, to))
 
--- "," alone is no whole of ", ,", so their end is the first fault; of "," it is none
+-- "," alone isn't a whole of ", ,", so the end is the first fault, which it isn't for "," as a whole
 missing_comma : Ends (λ a. mark Comma ∙ mark Comma) (bounded 0) (Mark Comma ∷ []) 0 1
 missing_comma = record {
   stops = record { from = omega arith; to = omega arith; before = inl (inr (tt, refl)); longest = λ j lt le. absurd (omega (arith, lt, le)) };
@@ -156,7 +156,7 @@ never_whole x ts h = h
 one_listed : (listed (token Ident)).Is ((97 ∷ []) ∷ []) (a_name ∷ [])
 one_listed = ((97 ∷ [], []), refl, (a_name ∷ [], [], refl, refl, refl))
 
--- a, ..., b is a name, the marker and one behind it
+-- a, ..., b is a name, the marker, and a name after it
 marked_names :
     (extensible (token Ident) (token Ident)).Is ((97 ∷ []) ∷ [], Some ((98 ∷ []) ∷ [])) (a_name ∷ Mark Comma ∷ Mark Ellipsis ∷ Mark Comma ∷ b_name ∷ [])
 marked_names = (
@@ -171,7 +171,7 @@ marked_names = (
 unmarked_name : (extensible (token Ident) (token Ident)).Is ((97 ∷ []) ∷ [], None) (a_name ∷ [])
 unmarked_name = (a_name ∷ [], [], refl, one_listed, refl)
 
--- the marker alone is one where the root may be missing
+-- the marker by itself is such a list if the root may be missing
 marker_alone : (rootless (token Ident) (token Ident)).Is ([], Some []) (Mark Ellipsis ∷ [])
 marker_alone = inl ([], refl, ((tt, []), refl, (Mark Ellipsis ∷ [], [], refl, refl, refl)))
 
@@ -206,7 +206,7 @@ empty_brackets : addition_at small ident_at (Mark OpenVersion ∷ Mark CloseVers
 unfolding addition_at version_parts_at version_at listed_at ident_at
 empty_brackets = refl
 
--- a number of brackets that passes the limit is told
+-- a number of brackets that passes the limit is the fault
 great_brackets :
     addition_at small ident_at (Mark OpenVersion ∷ Number (2 ^ 127) ∷ Mark Colon ∷ a_name ∷ Mark CloseVersion ∷ []) ≡ Err (Beyond Integer 4)
 unfolding addition_at version_parts_at version_at

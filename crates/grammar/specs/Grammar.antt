@@ -1,5 +1,5 @@
--- A grammar: which lexemes are a whole, with which tree, and which lexemes are a prefix that can continue. Productions
--- are written in this form; no clause.
+-- A grammar: which lexemes are a whole, with which tree, and which lexemes are a prefix that can continue. The
+-- productions of X.680, clause 5, are written in this form.
 use Rattle.std.specs.Prelude.{◌≡◌, ℕ, zero, suc, List, [], ◌∷◌, ◌++◌, ◌⊎◌, IsTrue, Bool, Option, Some, None}
 use Rattle.std.proofs.Common.{inl, inr}
 use Rattle.text.specs.declared.token.Mark.{Mark as Mark'}

@@ -52,7 +52,7 @@ not_read p first second account t v (faults.Folder x) m h = absurd h
 not_read p first second account t v faults.TooLong m h = absurd h
 not_read p first second account t v (faults.Device n) m h = absurd h
 
--- where there is no verdict in the program of accepted texts, there is none of these
+-- if there is no verdict in the program of accepted texts, there is none for these texts
 pub not_judged : (xs : List (List ℕ)) (p : Program) (first second account : List ℕ) (e : Fault) → AreAccepted xs p →
     IsNotJudgedOn p first second account e → IsNotJudged xs first second account e
 not_judged xs p first second account faults.Memory a h = tt
@@ -81,7 +81,7 @@ not_text o t e n a i = n a (subst (λ x. IsTextOf x a) (sym e) i.is)
 pub in_text : (o t : List ℕ) (a : Account) → t ≡ o → IsUtf8 o → IsTextOf t a → IsAccountIn o a
 in_text o t a e u i = record { utf8 = u; is = subst (λ x. IsTextOf x a) e i }
 
--- ---- where there is a verdict
+-- ---- there is a verdict
 
 abbrev pub Refuses : Type 0
 Refuses = (p : Program) (first second : List ℕ) (t : ℕ) (v : AbstractValue) (e : Fault) → Keeps p →
@@ -110,7 +110,7 @@ Excludes = (xs : List (List ℕ)) (p : Program) (f : FrontFault) → (f ≡ text
 abbrev pub OneProgram : Type 0
 OneProgram = (xs : List (List ℕ)) (p q : Program) → AreAccepted xs p → AreAccepted xs q → p ≡ q
 
--- the same where the program is that of the texts
+-- the same if the program is that of the texts
 in_texts : Refuses → OneProgram → (xs : List (List ℕ)) (p q : Program) (s : List Resolved) (first second o account : List ℕ)
     (r : Verdict) (e : Fault) → Keeps p → AreAccepted xs p → AreAccepted xs q → IsVerdictOn p s first second o account r →
     IsNotJudgedOn q first second account e → e ≡ faults.Memory

@@ -35,7 +35,7 @@ of_texts : {xs : List (List ℕ)} {first second o account : List ℕ} (j : IsJud
     → Accepted xs j.program j.types
 of_texts j = j.accepted
 
--- after a yes the account is the one of the text, and tells how the octets are made up
+-- after a yes the account is the one of the text, and describes how the octets are made up
 tells : {xs : List (List ℕ)} {first second o account : List ℕ} (j : IsJudged xs first second o account Yes)
     → Tells j.types j.on.type j.on.value o j.on.told
 tells j = j.on.verdict.tells

@@ -1,5 +1,5 @@
--- What a verdict means for a value that texts name, what follows from a yes, and why there is no verdict: the answers
--- of the checker; no clause.
+-- The answers of the checker (X.690, clauses 8, 10 and 11): what a verdict means for a value that texts name, and what
+-- follows from a yes. They also say why there is no verdict.
 use Rattle.std.specs.Prelude.{◌≡◌, ℕ, List, IsUtf8, codes}
 use Rattle.asn_base.specs.Abstract.{AbstractValue}
 use Rattle.asn_base.specs.Typed.{IsValue}

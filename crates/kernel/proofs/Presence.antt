@@ -1,4 +1,4 @@
--- A part that is here is read, and one that is not is none.
+-- A part that is present is read, and an absent one gives None.
 use Rattle.std.proofs.Common.{◌≡◌, Bool, true, false, List, [], ◌∷◌, Option, Some, None, Ok, refl, ap}
 use Rattle.grammar.specs.Lexeme.{Lexeme}
 use Rattle.grammar.specs.Manies.{is_begun_by}

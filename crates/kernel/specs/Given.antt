@@ -1,4 +1,4 @@
--- What the reading functions take and return: the tokens of a text, and a tree or an error; no clause.
+-- What the reading functions take and return: the tokens of a text (X.680, clause 12), and a tree or an error.
 use Rattle.std.specs.Prelude.{◌≡◌, ℕ, List, Result, Ok, Err, length}
 use Rattle.std.specs.List.{AllByRecursion}
 use Rattle.text.specs.declared.token.Token.{Token}

@@ -1,5 +1,5 @@
-//! Tests of a kit's calls, where each growth is refused in turn and each call of a sink fails in turn. There is no code
-//! but tests, and it stands at the top, so that no crate below is proved again for them.
+//! Tests of the calls of a kit. Allocations fail one after another, and calls of a sink fail one after another. The
+//! crate has only tests, and no other crate needs it, so that no other crate is proved again for them.
 #![tactic(auto)]
 
 #[cfg(test)]

@@ -248,7 +248,7 @@ pub agree_not : (rs ss : List Range) (e : Range) (es left : List Range) {W : Typ
     → ⊥
 agree_not rs ss e es left q f w p = f (λ z h. w.0 p z (subst (λ x. IsEdgeOfSome x z) (sym q) (inl h)))
 
--- the edges of a range are its beginning and the number behind its end
+-- the edges of a range are its beginning and the number after its end
 pub at_edges : (P : ℤ → Type 0) (r : Range)
     → ((z : ℤ) → r.least ≡ Some z → P z)
     → ((g : ℤ) → r.greatest ≡ Some g → (z : ℤ) → IsBehind g z → P z)

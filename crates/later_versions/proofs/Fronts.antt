@@ -55,7 +55,7 @@ front_all f R xs ys i l m so = record {
   kept = λ j u v a b. so j u v (let w = slice_get_within (map f xs) j u a in let n = length-map xs f in omega (arith, w, n, l)) a b;
 }
 
--- not where one element doesn't
+-- not if one element doesn't
 pub front_not : {A B : Type 0} (f : A → B) (R : B → B → Type 0) (xs ys : List A) (i : ℕ) (x y : A)
     → i < length xs
     → i < length ys
@@ -66,7 +66,7 @@ pub front_not : {A B : Type 0} (f : A → B) (R : B → B → Type 0) (xs ys : L
     → ⊥
 front_not f R xs ys i x y l m e g n h = n (h.kept i (f x) (f y) (mapped_at f xs i x l e) (mapped_at f ys i y m g))
 
--- nor where one is dropped
+-- nor if one is dropped
 pub front_short : {A B : Type 0} (f : A → B) (R : B → B → Type 0) (xs ys : List A)
     → length ys < length xs
     → IsFront R (map f xs) (map f ys)
@@ -82,7 +82,7 @@ front_tail h = record {
   kept = λ i. h.kept (suc i);
 }
 
--- where as many stand in both, what is compared is the same
+-- if both have as many elements, what is compared is the same
 pub same_mapped : {A B : Type 0} (f : A → B) (xs ys : List A)
     → length xs ≡ length ys
     → IsFront (λ x y. f x ≡ f y) xs ys
@@ -135,7 +135,7 @@ drop_at f xs i d h =
     drop_more (map f xs) i (f d) (omega (arith, h, l))
     ∙ ap (λ q. q ∷ drop (i + 1) (map f xs)) (get_or-map f xs i d (f d) h)
 
--- what holds of the whole just where it holds of what is left
+-- P holds for the whole exactly if it holds for what is left
 pub left_at : {B : Type 0} (P : List B → Type 0) (ys left : List B) (i : ℕ)
     → drop i ys ≡ left
     → P ys ↔ P (drop i ys)

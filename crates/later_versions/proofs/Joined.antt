@@ -1,4 +1,4 @@
--- Groups that stand together are told by neighbours.
+-- Groups whose members are next to each other can be found by neighbours.
 use Rattle.std.proofs.Common.{arith, inl, inr, ◌≡◌, ℕ, zero, suc, ◌+◌, ◌-◌, ◌<◌, ◌≤◌, List, [], ◌∷◌, ◌++◌, length, refl, sym, ap, subst, ◌∙◌, true, false}
 use Rattle.std.specs.Prelude.{slice_get, ◌↔◌, Some}
 use Rattle.std.specs.List.{AllByRecursion}

@@ -183,7 +183,7 @@ left_behind f s us vs all i v w l e t z so =
     ap (λ q. left_list s q (drop i (map f vs))) n.0 ∙ ap (left_list s []) d in
     let b = so.left in let c = row_left s us (map f vs) in omega (arith, a, b, c)
 
--- one component more, where it is known whether it is present
+-- one component more, if it is known whether it is present
 pub kept_present : {V : Type 0} (f : V → AbstractValue) (s : List Resolved) (us : List ℕ) (vs all new : List (Option V)) (i u : ℕ) (o : Option V) (v one : V)
     → i < length vs
     → o ≡ get_or vs i o

@@ -1,4 +1,4 @@
--- What types hold, kind by kind, where both kinds are known by equations.
+-- The rules of types, kind by kind, if both kinds are known by equations.
 use Rattle.std.proofs.Common.{◌≡◌, ℕ, List, map, refl, sym, subst, Bool, true}
 use Rattle.std.specs.Prelude.{◌↔◌, IsTrue}
 use Rattle.asn_base.specs.declared.strings.StringKind.{StringKind}

@@ -1,4 +1,4 @@
--- Components, one by one, and what types hold, where both are known by equations.
+-- The rules of types for components, one by one, if both components are known by equations.
 use Rattle.std.proofs.Common.{arith, ◌≡◌, ℕ, suc, ℤ, pos, negsuc, ◌≤ℤ◌, ◌+◌, ◌-◌, ◌<◌, ◌≤◌, List, [], ◌∷◌, length, map, refl, sym, ap, subst, ◌∙◌, inl, inr, Bool, true, Some, None}
 use Rattle.std.specs.Prelude.{slice_get, ◌↔◌, IfSome, IsTrue, Option}
 use Rattle.std.specs.List.{AllByRecursion}
@@ -162,7 +162,7 @@ pub bits_distinct : (s : List Resolved) (k : Kind) (bs : List NamedBit)
     → AreDistinct (map (λ b. b.place) bs)
 bits_distinct s k bs h q = let l : AreNamedBits bs = subst (IsSound s) q h in l.places
 
--- ---- components behind a place
+-- ---- components after a place
 
 abbrev pub AddTo : List Component → ℕ → ℕ → Type 0
 AddTo cs from n = (j : ℕ) (d : Component) → from ≤ j → j < n → slice_get cs j ≡ Some d → is_addition d ≡ true

@@ -52,7 +52,7 @@ all_more : {A : Type 0} (P Q : A → Type 0) (xs : List A) → ((x : A) → P x 
 all_more P Q [] f a = tt
 all_more P Q (x ∷ xs) f a = (f x a.0, all_more P Q xs f a.1)
 
--- what is put behind the second list is put behind the first
+-- what is added to the second list is added to the first
 noted_twice : {A : Type 0} (P : A → Type 0) (xs ys zs : List A)
     → (more : List A) × (ys ≡ xs ++ more) × AllByRecursion P more
     → (more : List A) × (zs ≡ ys ++ more) × AllByRecursion P more
@@ -174,7 +174,7 @@ follow s t s' t' ps at l so (i ∷ places) v v' u u' m a b =
     let n = so.members h.0 (v, v') (f.0, g.0) (omega (arith, w, l)) h.1 (i, f.1, g.1) in
     follow s t s' t' ps at l so places f.0 g.0 u u' n f.2 g.2
 
--- where all pairs that were met are fine
+-- all pairs that were met are fine
 pub all_fine : (s : List Resolved) (t : ℕ) (s' : List Resolved) (t' : ℕ) (ps : List (ℕ × ℕ)) (at : ℕ)
     → length ps ≤ at
     → IsSoFar s t s' t' ps at
@@ -253,7 +253,7 @@ noted_next s s' p q old mid new n m a b k h more so = record {
       (more.0, more.1, all_more (λ r. r ≡ q) (IsMemberPair s s' p) more.0 (λ r e. subst (IsMemberPair s s' p) (sym e) m) more.2);
 }
 
--- behind the last member of one of the two
+-- after the last member of one of the two
 pub noted_all : (s s' : List Resolved) (p : ℕ × ℕ) (old new : Pairs) (n : ℕ)
     → (slice_get (members_of s p.0) n ≡ None) ⊎ (slice_get (members_of s' p.1) n ≡ None)
     → NotedTo s s' p old new n

@@ -1,4 +1,4 @@
--- Where bits stand, by their places.
+-- Bits in a list, by their places in the string.
 use Rattle.std.proofs.Common.{arith, inl, inr, ◌≡◌, ℕ, zero, suc, ◌+◌, ◌<◌, ◌≤◌, List, [], ◌∷◌, length, map, refl, sym, ap, subst, ◌∙◌, Bool, true, false, cond}
 use Rattle.std.specs.Prelude.{slice_get, ◌⊎◌, ◌↔◌, Some, None, Option, IsSome}
 use Rattle.std.specs.BTreeMap.{BTreeMap, get, is_at}
@@ -97,7 +97,7 @@ one_place {bs = z ∷ bs} d (is_later h) is_first e =
     absurd (d.0 (subst (λ p. IsMember p (map (λ b. b.place) bs)) e (mapped_member (λ b. b.place) h)))
 one_place d (is_later g) (is_later h) e = one_place d.1 g h e
 
--- the bit at the place that the map leads to is this one just where this one stands among them
+-- the map leads to this bit exactly if this bit is among them
 pub same_bit : (bs : List NamedBit) (m : BTreeMap ℕ ℕ) (k : ℕ) (b x : NamedBit)
     → ArePlaced bs m
     → AreDistinct (map (λ b. b.place) bs)

@@ -45,8 +45,8 @@ fn element_type(element: TypeId, place: usize) -> Option<TypeId>
     None
 }
 
-/// The type of the member at a place: of a component, of an alternative over both lists, or of the elements. None if
-/// there is no member there.
+/// The type of the member at a place: of a component, of an alternative over both lists, or of the elements. The result
+/// is None if there is no member there.
 pub(crate) fn member(core: &Core, place: usize) -> Option<TypeId>
     ensures { option_map (λ t. t.index) result ≡ slice_get (types_in (kind_of core.now)) place }
 {

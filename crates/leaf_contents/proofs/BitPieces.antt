@@ -44,7 +44,7 @@ filled_by s n os x few below is e = record {
   filled = (n, os, e, is);
 }
 
--- the bits of octets, but for the unused ones of the last, and this one cleared
+-- the bits of octets, without the unused ones of the last octet, in which these are cleared
 pub cleared_bits : (os front : List ℕ) (last clear n : ℕ) → os ≡ front ++ last ∷ [] → n < 8 → bits_of_octet clear ≡ take (8 - n) (bits_of_octet last) ++ replicate n false → all_bits (front ++ clear ∷ []) ≡ take (8 * length os - n) (all_bits os) ++ replicate n false
 cleared_bits os front last clear n e few is =
     let l : length os ≡ length front + 1 = ap length e ∙ length-append front (last ∷ []) in
@@ -123,7 +123,7 @@ none_ended s x n e f = record {
   pieces = filled_by [] 0 [] x (omega arith) tt refl f;
 }
 
--- ---- zeros behind
+-- ---- trailing zeros
 
 zeros_more : (m n : ℕ) → replicate (m + n) false ≡ replicate m false ++ replicate n false
 zeros_more zero n = ap (λ k. replicate k false) (let e : 0 + n ≡ n = omega arith in e)
@@ -133,7 +133,7 @@ zero_octets : (n : ℕ) → all_bits (replicate n 0) ≡ replicate (8 * n) false
 zero_octets zero = refl
 zero_octets (suc n) = ap (λ q. bits_of_octet 0 ++ q) (zero_octets n) ∙ sym (zeros_more 8 (8 * n)) ∙ ap (λ k. replicate k false) (let e : 8 + 8 * n ≡ 8 * suc n = omega arith in e)
 
--- with zeros behind the bits are alike
+-- bits are alike with zeros after them
 pub more_behind : (s t : List Bool) (x : List ℕ) (n : ℕ) → s ≡ t ++ replicate n false → TrimmedPieces t x → TrimmedPieces s x
 more_behind s t x n e p = record {
   bits = p.bits;

@@ -52,7 +52,7 @@ most_arcs n h =
     let below : n / 128 < 128 ^ 9 = omega arith in
     omega (arith, room_septets n, length-digits_of-le 128 9 (n / 128) (omega arith) below)
 
--- the septets of a number and of those behind it
+-- the septets of a number, and of those after it
 pub septets_from : (ns : List ℕ) (i : ℕ) → i < length ns → length (flat_map septets (drop i ns)) ≡ length (septets (get_or ns i 0)) + length (flat_map septets (drop (i + 1) ns))
 septets_from [] i h = absurd (omega arith)
 septets_from (n ∷ ns) zero h = length-append (septets n) (flat_map septets ns)

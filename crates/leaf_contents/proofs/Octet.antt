@@ -1,4 +1,4 @@
--- The last octet of bits: cleared ones, and where it ends.
+-- The last octet of bits: its cleared bits, and its end.
 use Rattle.std.proofs.Common.{arith, ◌≡◌, ℕ, ◌-◌, ◌*◌, ◌/◌, ◌<◌, Bool, false, [], ◌∷◌, ◌++◌, take, replicate, ap, sym, ◌∙◌}
 use Rattle.std.specs.Prelude.{◌==◌}
 use Rattle.asn_base.specs.Abstract.{bits_of_octet}

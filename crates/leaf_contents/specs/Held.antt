@@ -4,10 +4,10 @@ use Rattle.asn_base.specs.Abstract.{AbstractValue}
 use Rattle.codec_code.specs.declared.step.LeafKind.{LeafKind}
 use Rattle.codec_code.specs.Steps.{HasContents}
 
--- it has some
+-- the value has contents octets of this kind
 abbrev pub HasSome : LeafKind → AbstractValue → Type 0
 HasSome k v = (x : List ℕ) × HasContents k v x
 
--- it has none
+-- the value has no contents octets of this kind
 abbrev pub HasNone : LeafKind → AbstractValue → Type 0
 HasNone k v = (x : List ℕ) → HasContents k v x → ⊥

@@ -8,7 +8,7 @@ abbrev pub last_of : Option ℕ → Octets
 last_of None = []
 last_of (Some o) = o ∷ []
 
--- the octets, joined
+-- the octets of all pieces, in order
 abbrev pub joined_pieces : LeafOctets → Octets
 joined_pieces (One o) = o ∷ []
 joined_pieces (Few v) = v.items

@@ -30,7 +30,7 @@ pub(crate) fn is_relative_oid(numbers: &[u64]) -> bool
     !numbers.is_empty() && numbers.len() <= MAX_ARCS
 }
 
-/// The octets of an OBJECT IDENTIFIER, whose first two numbers are one (8.19.4).
+/// The contents octets of an OBJECT IDENTIFIER, which encode its first two numbers as one (8.19.4).
 pub(crate) fn object_identifier(numbers: &[u64]) -> LeafOctets<'_>
     requires { IsObjectIdentifier numbers.now }
     ensures { joined_pieces result ≡ flat_map septets (joined numbers.now) }
@@ -39,7 +39,7 @@ pub(crate) fn object_identifier(numbers: &[u64]) -> LeafOctets<'_>
     LeafOctets::Arcs(first, &numbers[2..])
 }
 
-/// The octets of a RELATIVE-OID.
+/// The contents octets of a RELATIVE-OID.
 pub(crate) fn relative_oid(numbers: &[u64]) -> LeafOctets<'_>
     requires { IsRelativeOid numbers.now }
     ensures { joined_pieces result ≡ flat_map septets numbers.now }

@@ -1,4 +1,4 @@
-//! The octets of a BIT STRING (X.690, 8.6 and 11.2).
+//! The contents octets of a BIT STRING (X.690, 8.6 and 11.2).
 
 ghost use Rattle.asn_base.specs.Abstract.{bits_of, bits_of_octet};
 ghost use Rattle.std.specs.Int.Digits.{AllBelowBase};
@@ -9,19 +9,19 @@ ghost use Rattle.std.specs.Prelude.{◌≡◌, ◌++◌, ◌∷◌, ◌<◌, ◌
 use crate::leaf::LeafOctets;
 use asn_base::value::BitString;
 
-/// They are octets.
+/// A law: each of the octets is below 256.
 pub(crate) fn are_octets(octets: &[u8])
     ensures { AllBelowBase 256 octets.now }
 {}
 
-/// No bits: an octet that tells no unused ones.
+/// The contents octets of no bits: one octet, which says that no bits are unused.
 fn no_bits<'a>() -> LeafOctets<'a>
     ensures { joined_pieces result ≡ 0 ∷ [] }
 {
     LeafOctets::Bits(0, &[], None)
 }
 
-/// The octet with so many of its last bits cleared.
+/// The octet whose last `unused` bits are cleared.
 fn cleared(octet: u8, unused: u8) -> u8
     requires { unused < 8 }
     ensures { bits_of_octet result ≡ take (8 - unused) (bits_of_octet octet) ++ replicate unused false }
@@ -38,7 +38,7 @@ fn cleared(octet: u8, unused: u8) -> u8
     }
 }
 
-/// All bits, with zeros in the unused ones (11.2.1).
+/// The contents octets of all bits, in which the unused bits are zeros (11.2.1).
 pub(crate) fn filled(bits: &BitString) -> LeafOctets<'_>
     ensures { FilledPieces (bits_of bits.now) (joined_pieces result) }
 {
@@ -51,7 +51,7 @@ pub(crate) fn filled(bits: &BitString) -> LeafOctets<'_>
     }
 }
 
-/// How many of an octet's last bits are zeros.
+/// How many zero bits are at the end of an octet.
 fn zeros_behind(octet: u8) -> u8
     requires { 0 < octet }
     ensures { EndsAt octet result }
@@ -80,7 +80,7 @@ fn zeros_behind(octet: u8) -> u8
     7
 }
 
-/// The octets without zeros behind.
+/// The octets without zero octets at their end.
 fn without_zeros(octets: &[u8]) -> &[u8]
     ensures { Front octets.now result.now }
 {
@@ -91,7 +91,8 @@ fn without_zeros(octets: &[u8]) -> &[u8]
     &octets[..count]
 }
 
-/// The bits of these octets and a last one, which isn't zero, without the zeros behind (11.2.2).
+/// The contents octets of the bits in `front` and a last octet, without the zero bits at the end (11.2.2). The last
+/// octet isn't zero.
 fn ended(front: &[u8], last: u8) -> LeafOctets<'_>
     requires { 0 < last }
     ensures { TrimmedPieces (flat_map bits_of_octet (front.now ++ last ∷ [])) (joined_pieces result) }
@@ -100,7 +101,7 @@ fn ended(front: &[u8], last: u8) -> LeafOctets<'_>
     LeafOctets::Bits(zeros_behind(last), front, Some(last))
 }
 
-/// The bits of these octets and a last one, without the zeros behind.
+/// The contents octets of the bits in `front` and a last octet, without the zero bits at the end.
 fn trimmed_octets(front: &[u8], last: u8) -> LeafOctets<'_>
     ensures { TrimmedPieces (flat_map bits_of_octet (front.now ++ last ∷ [])) (joined_pieces result) }
 {
@@ -114,7 +115,7 @@ fn trimmed_octets(front: &[u8], last: u8) -> LeafOctets<'_>
     }
 }
 
-/// The bits without the zeros behind.
+/// The contents octets of the bits without the zero bits at the end (11.2.2).
 pub(crate) fn trimmed(bits: &BitString) -> LeafOctets<'_>
     ensures { TrimmedPieces (bits_of bits.now) (joined_pieces result) }
 {

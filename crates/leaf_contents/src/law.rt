@@ -7,7 +7,7 @@ ghost use Rattle.std.specs.Prelude.{◌≡◌, List, ℕ};
 
 use encodings::leaf_laws;
 
-/// A value has one contents of a kind at most.
+/// A value has at most one string of contents octets of a kind.
 pub fn one_contents()
     ensures { (k : LeafKind) (v : AbstractValue) (x y : List ℕ) → HasContents k v x → HasContents k v y → x ≡ y }
 {

@@ -19,23 +19,24 @@ use asn_base::strings::StringKind;
 use asn_base::value::Value;
 use codec_code::LeafKind;
 
-/// The contents octets of a value, in pieces that take no memory.
+/// The contents octets of a value, as pieces that take no memory.
 #[derive(Drop)]
 pub enum LeafOctets<'a> {
     /// One octet: that of a BOOLEAN or a small number.
     One(u8),
     /// A few octets: those of a number.
     Few(ArrayVec<u8, 24>),
-    /// The value's own octets.
+    /// The octets in the value itself.
     Whole(&'a [u8]),
-    /// The number of unused bits, the value's own octets, and a last one.
+    /// The number of unused bits, octets of the value itself, and a last octet if there is one.
     Bits(u8, &'a [u8], Option<u8>),
-    /// A number in septets, and then each of the value's numbers.
+    /// A number in septets, and then each of these numbers in septets.
     Arcs(u128, &'a [u64]),
 }
 
-/// The contents octets of the value, where it has contents of this kind, and None where it has none: it is of another
-/// kind, or its numbers are those of no OBJECT IDENTIFIER or RELATIVE-OID.
+/// The contents octets of this kind for the value (X.690, 8.2 to 8.8, 8.19, 8.20, 8.23, 10 and 11). The result is None
+/// if the value is of another kind, or if its numbers aren't those of an OBJECT IDENTIFIER or RELATIVE-OID. It takes no
+/// memory.
 pub fn leaf_octets(kind: LeafKind, value: &Value) -> Option<LeafOctets<'_>>
     ensures { MatchOption result
         (HasNone kind (abstract value.now))
@@ -56,7 +57,8 @@ pub fn leaf_octets(kind: LeafKind, value: &Value) -> Option<LeafOctets<'_>>
     }
 }
 
-/// The one contents octet of a BOOLEAN, or of a small INTEGER or ENUMERATED; None for all others.
+/// The contents octet of a BOOLEAN, or of an INTEGER or ENUMERATED that has only one octet. The result is None for all
+/// other values.
 pub fn leaf_octet(kind: LeafKind, value: &Value) -> Option<u8>
     ensures { IfSome result (λ o. HasContents kind (abstract value.now) (o ∷ [])) }
 {
@@ -68,7 +70,7 @@ pub fn leaf_octet(kind: LeafKind, value: &Value) -> Option<u8>
     }
 }
 
-/// All bits are set for TRUE and none for FALSE (X.690, 8.2.2 and 11.1).
+/// The contents octet of a BOOLEAN: all bits are set for TRUE, and none for FALSE (X.690, 8.2.2 and 11.1).
 fn truth_octet(truth: bool) -> u8
     ensures { Contents Distinguished a_boolean (boolean truth) false (result ∷ []) }
 {
@@ -123,7 +125,7 @@ fn of_boolean(value: &Value) -> Option<LeafOctets<'_>>
     }
 }
 
-/// The octets of a number in two's complement.
+/// The octets of a number in two's complement (X.690, 8.3).
 fn number_pieces<'a>(number: i128) -> LeafOctets<'a>
     ensures { Number number (joined_pieces result) }
 {

@@ -1,4 +1,4 @@
-//! How many octets contents have.
+//! The number of contents octets.
 
 ghost use Rattle.asn_base.specs.Abstract.{abstract};
 ghost use Rattle.codec_code.specs.Steps.{HasContents};
@@ -13,7 +13,7 @@ use arrayvec::ArrayVec;
 use asn_base::value::Value;
 use codec_code::LeafKind;
 
-/// How many contents octets of this kind the value has, and None where it has none. It takes no memory.
+/// How many contents octets of this kind the value has, or None if it has none of this kind. It takes no memory.
 pub fn leaf_len(kind: LeafKind, value: &Value) -> Option<u64>
     ensures { MatchOption result (HasNone kind (abstract value.now))
         (λ n. (x : List ℕ) × HasContents kind (abstract value.now) x × (length x ≡ n)) }
@@ -38,7 +38,7 @@ pub fn octet_count(octets: &LeafOctets) -> u64
     }
 }
 
-/// How many septets a number takes.
+/// How many septets the number has.
 #[tactic(auto, using(crate::proofs::Digits::one_septet))]
 fn septet_count(number: u128) -> u64
     ensures count { length (septets number) ≡ result }
@@ -53,7 +53,7 @@ fn septet_count(number: u128) -> u64
     out.len() as u64
 }
 
-/// How many septets the numbers take.
+/// How many septets the numbers have together.
 fn all_septets(numbers: &[u64]) -> u64
     ensures count { length (flat_map septets numbers.now) ≡ result }
     ensures most { result ≤ 10 * length numbers.now }

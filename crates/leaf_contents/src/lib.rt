@@ -1,5 +1,5 @@
-//! The contents octets of values that hold no others, by the distinguished rules (X.690, 8.2 to 8.8, 8.19, 8.20, 8.23,
-//! 10 and 11), as pieces of the value and a few octets more, without memory.
+//! The contents octets of values without other values in them, by the distinguished rules (X.690, 8.2 to 8.8, 8.19,
+//! 8.20, 8.23, 10 and 11). They are pieces of the value and a few octets more, so they take no memory.
 #![tactic(auto)]
 
 mod arcs;

@@ -1,4 +1,4 @@
-//! The octets of INTEGER and ENUMERATED (X.690, 8.3 and 8.4).
+//! The contents octets of INTEGER and ENUMERATED (X.690, 8.3 and 8.4).
 
 ghost use Rattle.encodings.specs.Contents.{Number};
 ghost use Rattle.std.specs.Prelude.{◌≡◌, ◌<◌, ◌≤◌, ◌^◌, ◌∷◌, ◌↔◌, [], IfSome, IsTrue, length, pos, slice_index};
@@ -6,7 +6,7 @@ ghost use Rattle.std.specs.Prelude.{◌≡◌, ◌<◌, ◌≤◌, ◌^◌, ◌�
 use crate::buffer::{push_digits, turned};
 use arrayvec::ArrayVec;
 
-/// The fewest octets that are the number in two's complement.
+/// The fewest octets for the number in two's complement (8.3.2).
 pub(crate) fn number_octets(number: i128) -> ArrayVec<u8, 24>
     ensures { Number number result.items }
 {
@@ -18,7 +18,7 @@ pub(crate) fn number_octets(number: i128) -> ArrayVec<u8, 24>
     }
 }
 
-/// The octet that is the number in two's complement, where one octet is.
+/// The octet for the number in two's complement, or None if it needs more octets.
 pub(crate) fn one_octet(number: i128) -> Option<u8>
     ensures { IfSome result (λ o. Number number (o ∷ [])) }
 {
@@ -32,7 +32,7 @@ pub(crate) fn one_octet(number: i128) -> Option<u8>
     }
 }
 
-/// The same for a number that is not negative.
+/// The octet for a number that isn't negative, or None if it needs more octets.
 #[tactic(auto, using(crate::proofs::TwosComplement::one_number))]
 fn low_octet(number: u128) -> Option<u8>
     ensures { IfSome result (λ o. Number (pos number) (o ∷ [])) }
@@ -44,8 +44,8 @@ fn low_octet(number: u128) -> Option<u8>
     }
 }
 
-/// The fewest octets of a number that is not negative: its digits, behind a 0 where they would stand for a negative
-/// number.
+/// The fewest octets for a number that isn't negative: its digits in base 256, and a 0 before them if they would mean a
+/// negative number.
 fn unsigned_octets(number: u128) -> ArrayVec<u8, 24>
     ensures number { Number (pos number) result.items }
     ensures few { length result.items ≤ 17 }
@@ -61,7 +61,7 @@ fn unsigned_octets(number: u128) -> ArrayVec<u8, 24>
     out
 }
 
-/// Whether there is a first octet, and it is below 128.
+/// Whether there is a first digit, and it is below 128.
 fn starts_low(digits: &[u8]) -> bool
     ensures { IsTrue result ↔ (0 < length digits.now) × (slice_index digits.now 0 < 128) }
 {

@@ -1,4 +1,4 @@
-//! Contents octets behind those of a list.
+//! Contents octets that are added to a list.
 
 ghost use Rattle.asn_base.specs.Abstract.{abstract};
 ghost use Rattle.codec_code.specs.Steps.{HasContents};
@@ -16,7 +16,8 @@ use asn_base::value::Value;
 use codec_code::LeafKind;
 use std::alloc::AllocError;
 
-/// Adds the contents octets of this kind that the value has. An `Err` is want of memory, and adds nothing.
+/// Adds the contents octets of this kind for the value, which must have some. `AllocError`: an allocation failed, and
+/// nothing was added.
 pub fn push_leaf(kind: LeafKind, value: &Value, out: &mut Vec<u8>) -> Result<(), AllocError>
     requires { HasSome kind (abstract value.now) }
     ensures ok { (x : List ℕ)
@@ -31,7 +32,7 @@ pub fn push_leaf(kind: LeafKind, value: &Value, out: &mut Vec<u8>) -> Result<(),
     }
 }
 
-/// Adds the pieces, or nothing.
+/// Adds the pieces. `AllocError`: an allocation failed, and nothing was added.
 fn push_pieces(octets: &LeafOctets, out: &mut Vec<u8>) -> Result<(), AllocError>
     ensures ok { OnOk result (out.new.items ≡ out.old.items ++ joined_pieces octets.now) }
     ensures err { OnErr result (out.new.items ≡ out.old.items) }
@@ -46,7 +47,7 @@ fn push_pieces(octets: &LeafOctets, out: &mut Vec<u8>) -> Result<(), AllocError>
     }
 }
 
-/// Adds the pieces. An `Err` may have added some.
+/// Adds the pieces. `AllocError`: an allocation failed, and some octets may have been added.
 fn push_all_pieces(octets: &LeafOctets, out: &mut Vec<u8>) -> Result<(), AllocError>
     ensures ok { OnOk result (out.new.items ≡ out.old.items ++ joined_pieces octets.now) }
     ensures behind { StartsWith out.new.items out.old.items }
@@ -63,7 +64,7 @@ fn push_all_pieces(octets: &LeafOctets, out: &mut Vec<u8>) -> Result<(), AllocEr
     }
 }
 
-/// Adds the octets of bits. An `Err` may have added some.
+/// Adds the contents octets of a BIT STRING. `AllocError`: an allocation failed, and some octets may have been added.
 fn push_bits(
     unused: u8,
     whole: &[u8],
@@ -81,7 +82,7 @@ fn push_bits(
     }
 }
 
-/// Adds a number in septets, or nothing.
+/// Adds a number in septets. `AllocError`: an allocation failed, and nothing was added.
 #[tactic(auto, using(crate::proofs::Digits::one_septet))]
 fn push_arc(number: u128, out: &mut Vec<u8>) -> Result<(), AllocError>
     ensures ok { OnOk result (out.new.items ≡ out.old.items ++ septets number) }
@@ -95,7 +96,7 @@ fn push_arc(number: u128, out: &mut Vec<u8>) -> Result<(), AllocError>
     out.extend_from_slice(few.as_slice())
 }
 
-/// Adds numbers in septets. An `Err` may have added some.
+/// Adds numbers in septets. `AllocError`: an allocation failed, and some octets may have been added.
 fn push_arcs(numbers: &[u64], out: &mut Vec<u8>) -> Result<(), AllocError>
     ensures ok { OnOk result (out.new.items ≡ out.old.items ++ flat_map septets numbers.now) }
     ensures behind { StartsWith out.new.items out.old.items }

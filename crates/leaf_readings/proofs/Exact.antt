@@ -1,4 +1,4 @@
--- What is read of contents octets is one value, or else one fault stands, and never both.
+-- Contents octets have one value or one fault, and never both.
 use Rattle.std.proofs.Common.{arith, ◌≡◌, ℕ, ℤ, suc, pos, negsuc, ◌+◌, ◌*◌, ◌<◌, ◌≤◌, ◌^◌, Bool, false, List, [], ◌∷◌, ◌++◌, length, refl, sym, ap, subst, ◌∙◌, ⊎_elim, length-append}
 use Rattle.std.specs.Prelude.{flat_map, IfErr, IfOk, IsOk, Result, Ok, Err}
 use Rattle.std.proofs.lemmas.Bool.{cases_lt}
@@ -142,7 +142,7 @@ one_fault e f k x (enumerated_past n i) (enumerated_past m j) = refl
 one_fault e f k x (oid_past n i) (oid_past m j) = refl
 one_fault e f k x (relative_past n i) (relative_past m j) = refl
 
--- ---- so results are what stands
+-- ---- so results are the true ones
 
 pub is_ok : (k : LeafKind) (x : List ℕ) (r : Result Leaf LeafFault) → IfErr r (λ e. Stands e k x) → (v : AbstractValue) → IsReadAs k v x → IsOk r
 is_ok k x (Ok l) s v a = refl

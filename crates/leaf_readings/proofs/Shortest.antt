@@ -54,7 +54,7 @@ split n (d ∷ ds) =
 first_part : (x : ℕ) (xs : List ℕ) → number_from_digits 256 (x ∷ xs) ≡ x * 256 ^ length xs + number_from_digits 256 xs
 first_part x xs = let s = split (0 * 256 + x) xs in omega (arith, s)
 
--- below half of what as many octets tell, where the first one is
+-- a number with a small first octet is below half of what as many octets can hold
 low_below : (x : ℕ) (xs : List ℕ) → x < 128 → AllBelowBase 256 xs → 2 * number_from_digits 256 (x ∷ xs) < 256 ^ length (x ∷ xs)
 low_below x xs l all =
     let r = number_lt 256 xs all in

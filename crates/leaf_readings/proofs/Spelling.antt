@@ -1,4 +1,4 @@
--- Numbers in septets: at the front of octets, and one behind the other.
+-- Numbers in septets: at the front of octets, and one after another.
 use Rattle.std.proofs.Common.{arith, ◌≡◌, ℕ, zero, suc, ◌+◌, ◌-◌, ◌*◌, ◌/◌, ◌%◌, ◌<◌, ◌≤◌, ◌^◌, Bool, true, false, List, [], ◌∷◌, ◌++◌, length, map, take, drop, refl, sym, ap, subst, ◌∙◌, append_assoc, get_or, ⊎_elim, length-append}
 use Rattle.std.specs.Prelude.{flat_map, Option, Some, None}
 use Rattle.std.specs.List.{AllByRecursion}
@@ -111,7 +111,7 @@ map_append : (xs ys : List ℕ) → marked (xs ++ ys) ≡ marked xs ++ marked ys
 map_append [] ys = refl
 map_append (x ∷ xs) ys = ap (λ r. (128 + x) ∷ r) (map_append xs ys)
 
--- behind the digits of a number, septets go on to those of the whole
+-- after the digits of a number, septets go on to those of the whole number
 spelled : {h n : ℕ} {o rest : List ℕ} → Septets h o n rest → ((x : ℕ) (b : List ℕ) → o ≡ (128 + x) ∷ b → 0 < h * 128 + x) → marked (digits_of 128 h) ++ o ≡ septets n ++ rest
 spelled {h} {n} {rest = rest} (last_septet {x = x} l e) some =
     let high : n / 128 ≡ h = omega arith in
@@ -161,7 +161,7 @@ never_zero n (x ∷ o) rest e f = first_of (digits_of 128 (n / 128)) (n % 128) r
 some_septets : (n : ℕ) → 1 ≤ length (septets n)
 some_septets n = let e = length-append (marked (digits_of 128 (n / 128))) ((n % 128) ∷ []) in omega (arith, e)
 
--- ---- what stands at the front
+-- ---- what is at the front
 
 pub front_of : (told : Option ℕ) (o rest : List ℕ) → (get_or o 0 0 ≡ 128 → ⊥) → Behind 0 told rest o → Front told rest o
 front_of told o rest never b = record {
@@ -204,7 +204,7 @@ one_list (m ∷ ms) (n ∷ ns) e =
     let f = one_front m n (flat_map septets ms) (flat_map septets ns) e in
     ap (λ q. q ∷ ms) f.0 ∙ ap (λ q. n ∷ q) (one_list ms ns f.1)
 
--- where numbers begin octets that are numbers, so is what follows
+-- if numbers begin octets that are numbers, the rest of the octets are numbers too
 goes_on : (ms ns : List ℕ) (rest : List ℕ) → flat_map septets ns ≡ flat_map septets ms ++ rest → (ks : List ℕ) × (rest ≡ flat_map septets ks)
 goes_on [] ns rest e = (ns, sym e)
 goes_on (m ∷ ms) [] rest e = absurd (none_first [] refl m (flat_map septets ms ++ rest) (e ∙ append_assoc (septets m) (flat_map septets ms) rest))

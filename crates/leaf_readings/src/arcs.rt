@@ -24,7 +24,8 @@ fn stays_small(small: bool, number: Option<u128>) -> bool
     }
 }
 
-/// How many numbers in septets the octets are, and whether each is below 2^64. None if the octets aren't such numbers.
+/// How many numbers in septets the octets are, and whether each is below 2^64. The result is None if the octets aren't
+/// such numbers.
 #[tactic(auto, using(crate::proofs::Spelling::none_counted, crate::proofs::Spelling::one_counted, crate::proofs::Spelling::no_numbers))]
 fn count_arcs(octets: &[u8]) -> Option<(usize, bool)>
     ensures some { IfSome result (λ r. Counted r.0 r.1 [] octets.now) }

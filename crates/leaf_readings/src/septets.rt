@@ -57,7 +57,7 @@ fn read_septets(octets: &[u8], high: u128) -> Option<(Option<u128>, &[u8])>
     }
 }
 
-/// What follows septets, whatever they are worth. None if the octets end within them.
+/// What follows septets, whatever they are worth. The result is None if the octets end within them.
 #[tactic(auto, using(crate::proofs::Spelling::high_more, crate::proofs::Spelling::ends_before, crate::proofs::Spelling::none_ends))]
 fn behind_septets(octets: &[u8]) -> Option<&[u8]>
     ensures some { IfSome result (λ r. (high : ℕ) → (n : ℕ) × Septets high octets.now n r.now) }

@@ -1,5 +1,5 @@
-//! Reads texts of 8 MiB and of 16 MiB, and writes how many tokens each has.
-//! How long each took, in microseconds, is written on standard error.
+//! Reads texts of 8 MiB and of 16 MiB, and writes how many tokens each has. The time of each reading, in microseconds,
+//! is written to standard error.
 #![tactic(auto)]
 
 use std::alloc::{AllocError, Global};
@@ -7,10 +7,10 @@ use std::io;
 use std::process::ExitCode;
 use std::time::{Duration, Instant};
 
-/// A text that is one piece again and again, and from its middle on another.
+/// A text of one piece, repeated up to its middle, and then of another piece.
 struct Shape {
     name: &'static str,
-    /// 64 octets, as `second` too.
+    /// A piece of 64 octets, as `second` is.
     first: &'static str,
     second: &'static str,
 }
@@ -55,7 +55,7 @@ const SHAPES: [Shape; 5] = [
     },
 ];
 
-/// Each of the two pieces so many times.
+/// The text with each of the two pieces repeated this number of times.
 fn text_of(alloc: Global, shape: &Shape, times: usize) -> Result<Vec<u8>, AllocError> {
     let mut text = Vec::new(alloc);
     for piece in [shape.first, shape.second] {
@@ -66,7 +66,7 @@ fn text_of(alloc: Global, shape: &Shape, times: usize) -> Result<Vec<u8>, AllocE
     Ok(text)
 }
 
-/// The least time of five readings of a text, whose number of tokens is written.
+/// The least time of five readings of a text. The number of its tokens is written.
 fn least_time(rt: &HostRuntime, shape: &Shape, times: usize) -> io::Result<Duration> {
     let text = text_of(rt.alloc(), shape, times)?;
     let mut least = Duration::MAX;

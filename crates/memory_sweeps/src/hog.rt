@@ -4,16 +4,16 @@ ghost use Rattle.std.specs.Prelude.{◌≤◌};
 
 use std::alloc::{AllocError, Global};
 
-/// Blocks that nothing is written to.
+/// Blocks to which nothing is written.
 type Blocks = Vec<Vec<u8>>;
 
-/// The octets of a reserve.
+/// The number of octets of a reserve.
 const RESERVE: usize = 65536;
 
-/// More blocks than these are never taken.
+/// The greatest number of blocks.
 const MOST_BLOCKS: usize = 200_000;
 
-/// All memory that the allocator would give, but for some reserves.
+/// All memory that the allocator would give, except some reserves.
 #[derive(Drop)]
 pub struct Hog {
     blocks: Blocks,
@@ -21,7 +21,7 @@ pub struct Hog {
     reserves: Blocks,
 }
 
-/// Takes blocks of a size, until one is refused.
+/// Takes blocks of a size until an allocation fails.
 fn take_blocks(alloc: Global, blocks: &mut Blocks, size: usize) {
     for _ in 0..100_000 {
         if blocks.len() >= blocks.capacity() {
@@ -45,7 +45,7 @@ fn take_crumbs(alloc: Global, crumbs: &mut Blocks) {
 }
 
 impl Hog {
-    /// Takes all memory, but for as many reserves as there will be turns.
+    /// Takes all memory, except one reserve for each turn.
     pub fn new(alloc: Global, turns: usize) -> Result<Hog, AllocError> {
         let mut blocks = Vec::with_capacity(alloc, MOST_BLOCKS)?;
         let crumbs = Vec::with_capacity(alloc, 2 * MOST_BLOCKS)?;
@@ -63,8 +63,8 @@ impl Hog {
         })
     }
 
-    /// Leaves about this many octets, in one piece, until the filler is dropped. After that there is a whole reserve.
-    /// Each reserve is used once.
+    /// Leaves about this many octets, in one piece, until the filler is dropped. Then a whole reserve is free. Each
+    /// reserve is used once.
     pub fn leave(&mut self, alloc: Global, octets: usize) -> Option<Vec<u8>>
         requires { octets ≤ 65536 }
     {
@@ -73,7 +73,7 @@ impl Hog {
         Vec::with_capacity(alloc, RESERVE - octets).ok()
     }
 
-    /// Whether memory came to an end. There are runs of tests whose heap has none.
+    /// Whether all memory was taken. In some runs of tests the heap has no end.
     pub fn has_all(&self) -> bool {
         self.blocks.len() < MOST_BLOCKS
     }

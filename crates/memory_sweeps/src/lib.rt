@@ -1,5 +1,5 @@
-//! Tests of calls that take memory, where the memory is used up: each growth is refused in turn. There is no code but
-//! tests, and it stands at the top, so that no crate below is proved again for them.
+//! Tests of calls whose allocations fail one after another, because memory is used up. The crate has only tests, and no
+//! other crate needs it, so that no other crate is proved again for them.
 #![tactic(auto)]
 
 #[cfg(test)]

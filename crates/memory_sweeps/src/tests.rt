@@ -1,5 +1,5 @@
-//! Each call answers `Memory` or what it answers with ample memory. After a refusal, what it was lent to change is as
-//! it was, and the same call with ample memory gives the answer.
+//! Each call answers `Memory` or the same as with enough memory. After `Memory`, its mutable arguments are unchanged,
+//! and the same call with enough memory gives the answer.
 
 mod front;
 mod headers;
@@ -10,19 +10,21 @@ use crate::hog::Hog;
 use std::alloc::Global;
 use std::test::Fail;
 
-/// How many turns a sweep has. Each turn leaves a few octets more than the last one.
+/// How many turns a sweep has. Each turn leaves a few octets more than the turn before.
 const TURNS: usize = 3000;
 
-/// The octets that a turn leaves more than the last one.
+/// How many octets more a turn leaves than the turn before.
 const STEP: usize = 16;
 
-/// A call whose memory is refused.
+/// A call without enough memory.
 pub trait Starved {
-    /// The call in this turn: whether it gave the answer. Else it was refused for want of memory. Anything else fails.
+    /// The call in this turn: true if it gave the answer, and false if an allocation failed. Any other result is an
+    /// error.
     fn answers(&mut self, alloc: Global, turn: usize) -> Result<bool, Fail>;
 }
 
-/// How often a call was refused and how often it answered, in all turns. None where memory has no end.
+/// How often an allocation failed, and how often the call gave the answer, in all turns. The result is None if memory
+/// has no end.
 fn sweep<S: Starved>(alloc: Global, starved: &mut S) -> Result<Option<(usize, usize)>, Fail> {
     let mut hog = Hog::new(alloc, TURNS)?;
     if !hog.has_all() {

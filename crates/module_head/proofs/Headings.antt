@@ -170,7 +170,7 @@ list_no_all : (t : Lexeme) → either is_symbol is_semicolon t ≡ true → is_a
 list_no_all (Word All) e = absurd cc
 list_no_all t e = refl
 
--- what may not stand behind names
+-- lexemes that may not come after names
 abbrev after_names : Lexeme → Bool
 after_names = either is_symbol (with_comma (either no_lexeme no_lexeme))
 

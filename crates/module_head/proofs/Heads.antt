@@ -131,7 +131,7 @@ module _ (over : Limit → ℕ) (within : Limit → Type 0) (fits fits' : ℕ �
   unfolding head_at
   rule_head = rule_tests is_typeref head_ends (λ t e. e) no_more (rule_tail head_of rule_exporting loose_imports imports_no_exports)
 
--- ---- where more numbers fit, there are more heads
+-- ---- if more numbers fit, there are more heads
 
 more_made : {A B : Type 0} {a a' : Grammar A} (f : A → B) → Grows a a' → Grows (a ⇒ f) (a' ⇒ f)
 more_made {A} {B} {a} {a'} f g = made_grows a a' f g

@@ -271,7 +271,7 @@ arc_consumes = let k = rule_arc nowhere everywhere small small (λ n e. e) tt (�
 pub import_consumes : Consumes (import_from_at small)
 import_consumes = let k = rule_import nowhere everywhere small small (λ n e. e) tt (λ n e t. e) in consumes (import_from small) (import_from_at small) k.solid (k.sound tt)
 
--- arcs, which leave nothing behind
+-- arcs, which are read without a tree
 abbrev skipped : Read (List (Unit {0})) → Read (Unit {0})
 skipped r = made {B = Unit {0}} (λ (xs : List (Unit {0})). tt) r
 

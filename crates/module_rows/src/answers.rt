@@ -1,11 +1,11 @@
-//! Answers as they are printed.
+//! Answers in print.
 
 use crate::refusal::Refusal;
 use crate::words::{asked, wanted};
 use row_files::Row;
 use std::alloc::{AllocError, Global};
 
-/// A heading, and below it the line of each word that says what a row asks.
+/// A heading, and below it a line for each word of a row that asks for something.
 pub fn lines<F: Fn(&str) -> Result<String, AllocError>>(
     alloc: Global,
     row: &Row,
@@ -23,7 +23,7 @@ pub fn lines<F: Fn(&str) -> Result<String, AllocError>>(
     Ok(text)
 }
 
-/// The words of an answer, whether it is one or a fault.
+/// The words of an answer or of a fault.
 fn words_of(answer: Result<String, Refusal>) -> Result<String, AllocError> {
     match answer {
         Ok(words) | Err(Refusal::Told(words)) => Ok(words),
@@ -31,7 +31,7 @@ fn words_of(answer: Result<String, Refusal>) -> Result<String, AllocError> {
     }
 }
 
-/// What is said of an answer: itself where nothing is wanted, else whether it is what is wanted.
+/// The answer itself if the row wants none, or else whether it is the wanted one.
 fn judged(alloc: Global, row: &Row, answer: String) -> Result<String, AllocError> {
     match wanted(row) {
         None => Ok(answer),
@@ -40,7 +40,7 @@ fn judged(alloc: Global, row: &Row, answer: String) -> Result<String, AllocError
     }
 }
 
-/// A text, and behind it the lines of an answer, each behind two blanks.
+/// A text, and after it the lines of an answer, each after two blanks.
 fn indent(mut text: String, answer: &str) -> Result<String, AllocError> {
     for line in answer.lines() {
         text.push_str(if line.is_empty() { "\n" } else { "\n  " })?;
@@ -49,7 +49,7 @@ fn indent(mut text: String, answer: &str) -> Result<String, AllocError> {
     Ok(text)
 }
 
-/// A row's words, and below them what is said of its answer.
+/// The words of a row, and below them its answer, or whether that is the wanted one.
 pub fn entry(
     alloc: Global,
     row: &Row,

@@ -1,4 +1,4 @@
-//! What the constraints of types leave.
+//! The values that the constraints of types leave.
 
 ghost use Rattle.std.specs.Prelude.{◌<◌, length};
 
@@ -11,7 +11,7 @@ use constraints::{
 };
 use std::alloc::{AllocError, Global};
 
-/// Adds bounds, nothing where there are none.
+/// Adds bounds, if there are some.
 fn put_seen(out: &mut String, what: &str, bounds: Option<Bounds>) -> Result<(), AllocError> {
     let Some(bounds) = bounds else {
         return Ok(());
@@ -23,7 +23,7 @@ fn put_seen(out: &mut String, what: &str, bounds: Option<Bounds>) -> Result<(), 
     out.push_str(if bounds.extensible { ", ...;" } else { ";" })
 }
 
-/// Adds the characters of a string type, how many where there are some that can't be printed.
+/// Adds the characters of a string type, or only their number if some of them can't be printed.
 fn put_characters(
     alloc: Global,
     out: &mut String,
@@ -43,7 +43,7 @@ fn put_characters(
     }
 }
 
-/// Adds what a type's constraints leave: what the packed encoding sees, and what is allowed.
+/// Adds what the constraints of a type leave: the bounds that the packed encoding uses, and the allowed values.
 fn put_left(
     alloc: Global,
     out: &mut String,
@@ -63,7 +63,7 @@ fn put_left(
     }
 }
 
-/// Whether a number, or a size of a type that is no INTEGER, may be that of a value.
+/// Whether the type allows a number, or a size if it isn't an INTEGER.
 fn allows(bounded: &Bounded<'_>, ty: TypeId, number: &str) -> bool
     requires { ty.index < length bounded.now.types }
 {
@@ -78,7 +78,7 @@ fn allows(bounded: &Bounded<'_>, ty: TypeId, number: &str) -> bool
     }
 }
 
-/// Whether each character of a text may stand in a value.
+/// Whether the type allows each character of a text.
 fn allows_text(bounded: &Bounded<'_>, ty: TypeId, text: &str) -> bool
     requires { ty.index < length bounded.now.types }
 {
@@ -90,7 +90,7 @@ fn allows_text(bounded: &Bounded<'_>, ty: TypeId, text: &str) -> bool
     true
 }
 
-/// What is answered of `M.T`, `M.T=NUMBER` or `M.T:TEXT`.
+/// The line for `M.T`, `M.T=NUMBER` or `M.T:TEXT`.
 pub fn line(alloc: Global, bounded: &Bounded<'_>, word: &str) -> Result<String, AllocError> {
     let (name, number) = match word.split_once('=') {
         Some((name, number)) => (name, Some(number)),

@@ -1,4 +1,4 @@
-//! Faults of texts in words, with what is written at their places.
+//! Faults of texts in words, with the text at their places.
 
 use crate::places::place;
 use additions::ExtFault;
@@ -7,7 +7,7 @@ use front_end::FrontFault;
 use std::alloc::{AllocError, Global};
 use trees::Spot;
 
-/// The place of a fault that constraints have.
+/// The place of a fault of constraints.
 fn spot_of(fault: &BoundFault) -> Option<&Spot> {
     match fault {
         BoundFault::Memory => None,
@@ -20,7 +20,7 @@ fn spot_of(fault: &BoundFault) -> Option<&Spot> {
     }
 }
 
-/// The place of a fault of markers, of DEFAULTs or of values.
+/// The place of a fault of markers, DEFAULTs or values.
 fn front_spot_of(fault: &FrontFault) -> Option<&Spot> {
     match fault {
         FrontFault::Additions(
@@ -34,7 +34,7 @@ fn front_spot_of(fault: &FrontFault) -> Option<&Spot> {
     }
 }
 
-/// Words, and behind them a place, if there is one, with what is written there up to a blank.
+/// Words, and after them the place, if there is one, with the text there up to a blank.
 fn with_place(
     alloc: Global,
     texts: &[Vec<u8>],
@@ -48,13 +48,13 @@ fn with_place(
     Ok(words)
 }
 
-/// A fault of constraints.
+/// The words for a fault of constraints.
 pub fn unbound(alloc: Global, texts: &[Vec<u8>], fault: &BoundFault) -> Result<String, AllocError> {
     let words = format!(in alloc; "{fault}")?;
     with_place(alloc, texts, words, spot_of(fault))
 }
 
-/// A fault of texts; before that of a notation stands what kind of notation it is.
+/// The words for a fault of texts. For the fault of a notation they begin with the kind of notation.
 pub fn refused(alloc: Global, texts: &[Vec<u8>], fault: &FrontFault) -> Result<String, AllocError> {
     let notation = match fault {
         FrontFault::Default(_) => "DEFAULT ",

@@ -1,4 +1,4 @@
-//! The modules of a row, linked, and what is asked of them at each step from there.
+//! The linked modules of a row, and the answers about them after each further step.
 
 ghost use Rattle.std.specs.Prelude.{IfOk};
 ghost use Rattle.type_table.specs.Lists.{AreSound};
@@ -23,7 +23,7 @@ fn module(alloc: Global, text: &[u8]) -> Result<Module, Refusal> {
     syntax::parse(alloc, text, tokens.as_slice()).map_err(|fault| told(alloc, &fault))
 }
 
-/// The modules of texts, linked, or the fault that a text has or that linking tells, in words.
+/// The linked modules of texts. The error is the words for the fault of a text or of linking.
 fn linked(alloc: Global, texts: &[Vec<u8>]) -> Result<Linked, Refusal>
     ensures { IfOk result (λ l. AreSound l.types) }
 {
@@ -49,8 +49,8 @@ fn member_type(linked: &Linked, list: TypeId, name: &str) -> Option<TypeId> {
     }
 }
 
-/// The type that is named as `Module.Type`, or its member that is named as `Module.Type.member`; None where there is no
-/// such name.
+/// The type with the name `Module.Type`, or its member with the name `Module.Type.member`. The result is None if there
+/// is no such name.
 pub fn type_at(linked: &Linked, path: &str) -> Option<TypeId> {
     let (within, rest) = path.split_once('.')?;
     let (name, member) = match rest.split_once('.') {
@@ -64,7 +64,7 @@ pub fn type_at(linked: &Linked, path: &str) -> Option<TypeId> {
     }
 }
 
-/// What is asked of modules whose constraints have their meanings.
+/// The answer about modules whose constraints have their meanings.
 fn answer_bounded(
     alloc: Global,
     row: &Row,
@@ -89,7 +89,7 @@ fn answer_bounded(
     )
 }
 
-/// What is asked of modules whose types have tags.
+/// The answer about modules whose types have tags.
 fn answer_tagged(
     alloc: Global,
     row: &Row,
@@ -112,7 +112,7 @@ fn answer_tagged(
     }
 }
 
-/// What is asked of modules that are linked.
+/// The answer about linked modules.
 fn answer_linked(
     alloc: Global,
     row: &Row,
@@ -130,10 +130,10 @@ fn answer_linked(
     }
 }
 
-/// `link NAME [WORD ..]`: how many modules, types and values there are, and what each name means.
-/// `tags NAME [WORD ..]`: the tags of each type that is named.
-/// `bounds NAME [WORD ..]`: what the constraints of each type leave.
-/// `typed NAME [WORD ..]`: the value of each notation, or what is wrong with it.
+/// - `link NAME [WORD ..]`: how many modules, types and values there are, and what each name means.
+/// - `tags NAME [WORD ..]`: the tags of each of these types.
+/// - `bounds NAME [WORD ..]`: the values that the constraints of each type leave.
+/// - `typed NAME [WORD ..]`: the value of each notation, or its fault.
 pub fn answer(alloc: Global, row: &Row) -> Result<String, Refusal> {
     let texts = modules_of(alloc, row, false)?;
     let linked = linked(alloc, texts.as_slice())?;

@@ -1,4 +1,4 @@
-//! Modules that are linked.
+//! Linked modules, in words.
 
 use crate::answers::lines;
 use crate::shapes::put_shape;
@@ -6,7 +6,7 @@ use resolve::{Linked, Referent};
 use row_files::Row;
 use std::alloc::{AllocError, Global};
 
-/// The written types, a line each.
+/// The written types, each in a line.
 fn table(alloc: Global, linked: &Linked) -> Result<String, AllocError> {
     let mut text = String::new(alloc);
     for (number, written) in linked.types().iter().enumerate() {
@@ -17,7 +17,7 @@ fn table(alloc: Global, linked: &Linked) -> Result<String, AllocError> {
     Ok(text)
 }
 
-/// What a name of the form `Module.Name` means, or for the word `types` the table of written types.
+/// The meaning of a name of the form `Module.Name`. For the word `types` it is the table of written types.
 fn line(alloc: Global, linked: &Linked, name: &str) -> Result<String, AllocError> {
     let Some((within, local)) = name.split_once('.') else {
         return table(alloc, linked);
@@ -32,7 +32,7 @@ fn line(alloc: Global, linked: &Linked, name: &str) -> Result<String, AllocError
     }
 }
 
-/// The counts of what is linked, and below them what each name that the row asks for means.
+/// How many modules, types and values there are, and below that the meaning of each name that the row asks for.
 pub fn answer(alloc: Global, row: &Row, linked: &Linked) -> Result<String, AllocError> {
     let modules = linked.headers().len();
     let types = linked.types().len();

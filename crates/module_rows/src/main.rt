@@ -1,12 +1,14 @@
-//! Answers rows of data by the public calls of the crates that link, tag and bound modules, type values, accept schemas
-//! and compare their types, and prints each answer below its row's words.
+//! Answers rows of data by the public calls of some crates, and prints each answer below the words of its row. These
+//! crates link, tag and bound modules, type values, accept schemas and compare their types.
 //!
-//! The files that its words name are files of rows. A row's first word is a command and its second the row's own name:
-//! `link`, `tags`, `bounds`, `typed`, `settled`, `later` or `speed`, described where it is answered and at the head of
-//! the files that use it. The texts of a row are modules; one named `later` is of a second schema. In a row with
-//! `numbered` among its words each `#` of its texts is counted, from 0. A text named `wanted` is the answer that is
-//! wanted: it is said whether that is given, and where another one is, both are printed. What is wanted, and the answers
-//! that the stored run compares, are written by hand from the rules, not taken from this program.
+//! The words of the command line name files of rows. The first word of a row is a command, and the second is the name
+//! of the row. The commands are `link`, `tags`, `bounds`, `typed`, `settled`, `later` and `speed`. Each is described at
+//! its function and at the head of the files that use it.
+//!
+//! The texts of a row are modules, and one named `later` is a module of a second schema. In a row with the word
+//! `numbered` each `#` of its texts is replaced by a number, counted from 0. A text named `wanted` is the wanted
+//! answer. The program says whether the answer is that one, and otherwise prints both. Wanted answers, and those of the
+//! stored run, are written by hand from the rules, not taken from this program.
 #![tactic(auto)]
 
 mod answers;
@@ -34,7 +36,7 @@ use std::alloc::Global;
 use std::process::ExitCode;
 use std::{env, fs, io};
 
-/// What a row's command answers.
+/// The answer to a row, by its command.
 fn answer_of(alloc: Global, row: &Row) -> Result<String, Refusal> {
     match row.command() {
         "link" | "tags" | "bounds" | "typed" => linking::answer(alloc, row),
@@ -44,7 +46,7 @@ fn answer_of(alloc: Global, row: &Row) -> Result<String, Refusal> {
     }
 }
 
-/// Prints what is said of a row.
+/// Prints the answer to a row.
 fn tell(rt: &HostRuntime, row: &Row) -> io::Result<()> {
     if row.command() == "speed" {
         return speed::measure(rt, row);
@@ -53,7 +55,7 @@ fn tell(rt: &HostRuntime, row: &Row) -> io::Result<()> {
     println!(rt; "{text}")
 }
 
-/// Prints what is said of the rows of a file.
+/// Prints the answers to the rows of a file.
 fn tell_file(rt: &HostRuntime, file: &str) -> io::Result<()> {
     println!(rt; "{file}")?;
     let octets = fs::read(rt, file)?;

@@ -5,7 +5,7 @@ use asn_base::strings::StringKind;
 use asn_base::tag::{Class, Tag};
 use std::alloc::AllocError;
 
-/// Adds a tag as the notation writes it, its class in words but for context.
+/// Adds a tag in its notation. The class is written unless it is context-specific.
 pub fn put_tag(out: &mut String, tag: Tag) -> Result<(), AllocError> {
     let class = match tag.class {
         Class::Universal => "UNIVERSAL ",
@@ -17,7 +17,7 @@ pub fn put_tag(out: &mut String, tag: Tag) -> Result<(), AllocError> {
     write!(out, "[{class}{number}]")
 }
 
-/// Adds an end, or a word where there is none.
+/// Adds an end, or a word for no end.
 pub fn put_end(out: &mut String, end: Option<i128>, none: &str) -> Result<(), AllocError> {
     match end {
         Some(number) => write!(out, "{number}"),
@@ -25,7 +25,7 @@ pub fn put_end(out: &mut String, end: Option<i128>, none: &str) -> Result<(), Al
     }
 }
 
-/// Adds the ranges of what is allowed.
+/// Adds the ranges of allowed values.
 pub fn put_ranges(out: &mut String, ranges: &[Range]) -> Result<(), AllocError> {
     for range in ranges {
         out.push(' ')?;
@@ -36,17 +36,17 @@ pub fn put_ranges(out: &mut String, ranges: &[Range]) -> Result<(), AllocError> 
     Ok(())
 }
 
-/// Adds a comma, but in front of the first.
+/// Adds a comma, except before the first place.
 pub fn put_comma(out: &mut String, place: usize) -> Result<(), AllocError> {
     out.push_str(if place == 0 { "" } else { ", " })
 }
 
-/// Adds what stands before the members of a list, or the items of an enumeration: whether there can be more of them.
+/// Adds what is before the members of a list or the items of an enumeration: whether it is extensible, and a brace.
 pub fn put_marker(out: &mut String, is_extensible: bool) -> Result<(), AllocError> {
     out.push_str(if is_extensible { " ... {" } else { " {" })
 }
 
-/// The word of a string type.
+/// The keyword of a string type.
 pub fn string_word(kind: StringKind) -> &'static str {
     match kind {
         StringKind::Numeric => "NumericString",

@@ -1,4 +1,4 @@
-//! The values that notations stand for, or what is wrong with them.
+//! The values of notations, or their faults.
 
 ghost use Rattle.std.specs.Prelude.{◌<◌, length};
 ghost use Rattle.type_table.specs.Lists.{AreSound};
@@ -19,7 +19,7 @@ use typed_values::{Cause, Defaults, ValueFault, typed, typed_with};
 /// More levels than a value has.
 const LEVELS: u8 = 80;
 
-/// The name of a value by its number.
+/// The name of the value assignment with this number.
 fn value_name(linked: &Linked, number: usize) -> &str {
     match linked.values().get(number) {
         Some(value) if value.assignment < linked.assignments().len() => {
@@ -29,7 +29,7 @@ fn value_name(linked: &Linked, number: usize) -> &str {
     }
 }
 
-/// What tells more of a fault than a user is told: which value comes back, and the places in lists.
+/// Details of a fault that a user doesn't get: which value comes back to itself, and the places in lists.
 fn detail(alloc: Global, linked: &Linked, cause: Cause<'_>) -> Result<String, AllocError> {
     match cause {
         Cause::Circular(number, _, _) => {
@@ -44,8 +44,8 @@ fn detail(alloc: Global, linked: &Linked, cause: Cause<'_>) -> Result<String, Al
     }
 }
 
-/// A fault: what a user is told of it, with the place of the name that is wrong, or of the notation, and its class; and
-/// the notation with its type.
+/// The words for a fault: those for a user, the place of the wrong name or of the notation, its class, and the notation
+/// with its type.
 fn refused<'a>(
     alloc: Global,
     texts: &[Vec<u8>],
@@ -67,7 +67,7 @@ fn refused<'a>(
     format!(in alloc; "{words}{named}{detail}; {class}, notation{notation} under {module}.{name}")
 }
 
-/// A value, or a fault.
+/// The words for a value, or for a fault.
 fn told_of<'a>(
     alloc: Global,
     texts: &[Vec<u8>],
@@ -84,7 +84,7 @@ fn told_of<'a>(
     }
 }
 
-/// A value assignment by its names.
+/// The value assignment with this name.
 fn value_at<'a>(linked: &'a Linked, path: &str) -> Option<&'a ValueAt> {
     let (within, name) = path.split_once('.')?;
     match linked.meaning(within, name) {
@@ -93,7 +93,7 @@ fn value_at<'a>(linked: &'a Linked, path: &str) -> Option<&'a ValueAt> {
     }
 }
 
-/// What is answered of a notation that is read a second time by one table of DEFAULTs.
+/// The answer for a notation that is read a second time with one table of DEFAULTs.
 fn twice<'a>(
     alloc: Global,
     bounded: &Bounded<'a>,
@@ -110,7 +110,7 @@ fn twice<'a>(
     Ok(typed_with(alloc, bounded, &mut defaults, ty, within, notation))
 }
 
-/// What is answered of a notation, read alone and by a table of DEFAULTs.
+/// The answer for a notation that is read alone and with a table of DEFAULTs.
 fn answer<'a>(
     alloc: Global,
     texts: &[Vec<u8>],
@@ -133,7 +133,7 @@ fn answer<'a>(
     }
 }
 
-/// What is answered of `M.v` or `M.v=M.T`.
+/// The line for `M.v` or `M.v=M.T`.
 pub fn line(
     alloc: Global,
     texts: &[Vec<u8>],

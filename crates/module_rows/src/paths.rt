@@ -1,4 +1,4 @@
-//! The tags of types.
+//! The tags of types, in words.
 
 use crate::linking::type_at;
 use crate::marks::put_tag;
@@ -18,7 +18,7 @@ fn put_path(out: &mut String, path: &[FormedTag]) -> Result<(), AllocError> {
     Ok(())
 }
 
-/// The tags of a type that is named.
+/// The line for the tags of a type.
 pub fn line(alloc: Global, tagged: &Tagged<'_>, name: &str) -> Result<String, AllocError> {
     let Some(ty) = type_at(tagged.linked(), name) else {
         return format!(in alloc; "{name}: no type");

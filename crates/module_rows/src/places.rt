@@ -14,8 +14,7 @@ fn word_at(alloc: Global, octets: &[u8], at: usize) -> Result<Vec<u8>, AllocErro
     Ok(word)
 }
 
-/// A place, and what is written there, up to a blank, in the text of a module: in each whose first word is the module's
-/// name.
+/// A place, and the text there up to a blank, in each text whose first word is the name of the module.
 pub fn place(
     alloc: Global,
     texts: &[Vec<u8>],

@@ -10,10 +10,10 @@ use front_end::{Front, open};
 use row_files::Row;
 use std::alloc::{AllocError, Global};
 
-/// How many levels of types are told.
+/// How many levels of types are printed.
 const LEVELS: u8 = 3;
 
-/// What is answered of `M.T` or `M.T.member`.
+/// The line for `M.T` or `M.T.member`.
 fn line(alloc: Global, front: &Front, word: &str) -> Result<String, AllocError> {
     let Some(ty) = type_at(&front.linked, word) else {
         return format!(in alloc; "{word} no type");
@@ -23,7 +23,7 @@ fn line(alloc: Global, front: &Front, word: &str) -> Result<String, AllocError> 
     Ok(text)
 }
 
-/// How many types there are, and below that each that is named.
+/// How many types there are, and below that each type that the row asks for.
 fn told_types(alloc: Global, row: &Row, front: &Front) -> Result<String, AllocError> {
     let count = front.schema.types().len();
     let heading = format!(in alloc; "{count} types")?;
@@ -35,9 +35,9 @@ fn told_types(alloc: Global, row: &Row, front: &Front) -> Result<String, AllocEr
     )
 }
 
-/// `settled NAME [TYPE ..]`: how many types the schema of the row's modules has, and below that each type that is
-/// named, as `Module.Type` or `Module.Type.member`, with the types that it holds; or the fault that stands in the
-/// modules.
+/// `settled NAME [TYPE ..]`: how many types the schema of the row's modules has, and below that each type that the row
+/// asks for. A type is written as `Module.Type` or `Module.Type.member`, and is printed with the types in it. Otherwise
+/// the answer is the fault of the modules.
 pub fn answer(alloc: Global, row: &Row) -> Result<String, Refusal> {
     let texts = modules_of(alloc, row, false)?;
     match open(alloc, texts.as_slice()) {

@@ -44,7 +44,7 @@ fn keyword(keyword: Keyword) -> &'static str {
     }
 }
 
-/// Adds what stands before a member behind the marker: `+`, and the number of its brackets.
+/// Adds what is before a member: after the marker that is `+`, and the number of its brackets if it is in brackets.
 fn put_standing(out: &mut String, standing: Standing) -> Result<(), AllocError> {
     match standing {
         Standing::Root => Ok(()),
@@ -66,7 +66,7 @@ fn put_members(out: &mut String, members: &[ListMember]) -> Result<(), AllocErro
     out.push('}')
 }
 
-/// Adds a written type, the types in it by their numbers.
+/// Adds a written type, in which the types directly in it are written as numbers.
 pub fn put_shape(out: &mut String, shape: &Shape) -> Result<(), AllocError> {
     match shape {
         Shape::Simple(plain) => out.push_str(simple(plain)),

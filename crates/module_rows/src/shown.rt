@@ -1,9 +1,9 @@
-//! Values in words: those in braces stand there in order, and `-` stands for one that is absent.
+//! Values in words. The values in a value are between braces, in order, and `-` means an absent one.
 
 use asn_base::value::{BitString, Value};
 use std::alloc::AllocError;
 
-/// The bits of a string, the last one at most that its octets have.
+/// The bits of a string. The last octet may have unused bits.
 fn bits(out: &mut String, bits: &BitString) -> Result<(), AllocError> {
     out.push('\'')?;
     let octets = bits.octets.as_slice();
@@ -42,7 +42,7 @@ fn arcs(out: &mut String, arcs: &[u64]) -> Result<(), AllocError> {
     out.push('}')
 }
 
-/// The members of a value that is at least so many levels above the deepest that are told.
+/// The members of a value that is at least `levels` levels above the deepest ones that are printed.
 #[cycle(showing)]
 fn fields(out: &mut String, values: &[Option<Value>], levels: u8) -> Result<(), AllocError> {
     out.push('{')?;
@@ -70,7 +70,7 @@ fn list(out: &mut String, values: &[Value], levels: u8) -> Result<(), AllocError
     out.push(']')
 }
 
-/// Adds a value in words; `..` stands for those that are more levels below it than are told.
+/// Adds a value in words. `..` replaces each value that is more than `levels` levels down.
 #[cycle(showing)]
 pub fn put(out: &mut String, value: &Value, levels: u8) -> Result<(), AllocError> {
     if levels == 0 {

@@ -1,4 +1,4 @@
-//! How long it takes to settle long modules, and to compare their types.
+//! The times to settle long modules and to compare their types.
 
 ghost use Rattle.front_end.specs.Accepted.{Keeps};
 
@@ -16,7 +16,7 @@ use std::time::{Duration, Instant};
 use std::{io, slice};
 use tagging::tag;
 
-/// How long settling alone takes; None where memory runs out.
+/// The time to settle bounded modules, or None if an allocation fails.
 fn settling(rt: &HostRuntime, bounded: &Bounded<'_>) -> io::Result<Option<Duration>>
     requires { Keeps bounded.now }
 {
@@ -27,7 +27,7 @@ fn settling(rt: &HostRuntime, bounded: &Bounded<'_>) -> io::Result<Option<Durati
     Ok(Some(start.elapsed(rt)?))
 }
 
-/// How long it takes to settle linked modules; None where memory runs out.
+/// The time to settle linked modules, or None if an allocation fails.
 fn settling_linked(rt: &HostRuntime, linked: &Linked) -> io::Result<Option<Duration>>
     requires { Keeps linked.now }
 {
@@ -40,7 +40,7 @@ fn settling_linked(rt: &HostRuntime, linked: &Linked) -> io::Result<Option<Durat
     }
 }
 
-/// Writes how long a module takes to be opened, and to be settled.
+/// Writes the times to open a module and to settle it.
 fn measure_settling(rt: &HostRuntime, name: &str, text: &RowText) -> io::Result<()> {
     front_end::law::accepted_keep();
     let count = text.name.as_str();
@@ -60,7 +60,8 @@ fn measure_settling(rt: &HostRuntime, name: &str, text: &RowText) -> io::Result<
     eprintln!(rt; "{name}: {octets} octets, opened {opening} us, settled {settling} us")
 }
 
-/// A module of so many lists, each of which holds itself, the next one, or the first behind the last, and what is more.
+/// A module with a circle of lists. Each list holds itself and the next list, and the last holds the first. Each also
+/// has the text `more`.
 fn circle(alloc: Global, count: usize, more: &str) -> Result<Vec<u8>, AllocError> {
     let mut out = String::from_str(alloc, "M DEFINITIONS AUTOMATIC TAGS ::= BEGIN\n")?;
     for number in 0..count {
@@ -76,7 +77,7 @@ fn circle(alloc: Global, count: usize, more: &str) -> Result<Vec<u8>, AllocError
     Ok(out.into_bytes())
 }
 
-/// Such a module, opened, with its first type; None where memory runs out.
+/// The program of such a module, with its first type. The result is None if an allocation fails.
 fn opened(alloc: Global, count: usize, more: &str) -> Option<(Front, TypeId)> {
     let text = circle(alloc, count, more).ok()?;
     let front = open(alloc, slice::from_ref(&text)).ok()?;
@@ -84,8 +85,8 @@ fn opened(alloc: Global, count: usize, more: &str) -> Option<(Front, TypeId)> {
     Some((front, first))
 }
 
-/// Writes how long it takes to find that the first type of a circle of lists, each with an addition, is a later version
-/// of that of another one.
+/// Writes the time of a comparison of two circles of lists. Each list of the second circle has an addition more, so its
+/// first type is a later version of the first type of the first circle.
 fn measure_later(rt: &HostRuntime, name: &str, count: usize, later_count: usize) -> io::Result<()> {
     let first = opened(rt.alloc(), count, "");
     let second = opened(rt.alloc(), later_count, ", c NULL");
@@ -99,8 +100,8 @@ fn measure_later(rt: &HostRuntime, name: &str, count: usize, later_count: usize)
     eprintln!(rt; "{name}: {count} and {later_count} types, compared {comparing} us")
 }
 
-/// `speed NAME WORD`: opens and settles each text of the row by itself. `speed NAME later NUMBER NUMBER`: asks `later` of
-/// the first types of two modules of so many lists. How long it took is written on standard error.
+/// `speed NAME WORD`: opens and settles each text of the row by itself. `speed NAME later NUMBER NUMBER`: compares the
+/// first types of two modules with these numbers of lists by `later`. The times are written to standard error.
 pub fn measure(rt: &HostRuntime, row: &Row) -> io::Result<()> {
     let words = asked(rt.alloc(), row)?;
     let name = word(&words, 0);

@@ -1,10 +1,12 @@
 //! Types of a schema in words.
 //!
-//! Each type stands behind all its tags, `[1]` a context tag, and each member's type in its place; `..` stands for a
-//! type that is more levels down than are told. Behind the word of a list or an enumeration with an extension marker
-//! stands `...`; a member behind the marker stands behind `+`, and one in version brackets behind `+` and their number.
-//! Of a constraint the bounds that the packed encoding sees stand in parentheses, and behind them the ranges that a
-//! value may lie in; nothing where all is allowed. A DEFAULT is the printed value.
+//! Each type is written after all its tags, where `[1]` is a context-specific tag, and the types of members are written
+//! in their places. `..` replaces a type that is too many levels down. A list or an enumeration with an extension
+//! marker has `...` after its word. A member after the marker has `+` before it, and one in version brackets `+` and
+//! the number of the brackets.
+//!
+//! For a constraint the bounds that the packed encoding uses are in parentheses, and the ranges of allowed values
+//! follow. Nothing is written if all values are allowed. A DEFAULT is written as the printed value.
 
 use crate::marks::{put_comma, put_end, put_marker, put_ranges, put_tag, string_word};
 use asn_base::constraint::Constraint;
@@ -16,7 +18,7 @@ use asn_base::tag::Tag;
 use std::alloc::{AllocError, Global};
 use value_text::{Fault, print};
 
-/// Adds tags, each with a blank behind it.
+/// Adds tags, each with a blank after it.
 fn put_tags(out: &mut String, tags: &[Tag]) -> Result<(), AllocError> {
     for tag in tags {
         put_tag(out, *tag)?;
@@ -25,7 +27,7 @@ fn put_tags(out: &mut String, tags: &[Tag]) -> Result<(), AllocError> {
     Ok(())
 }
 
-/// Whether a constraint leaves all numbers, or all sizes.
+/// Whether a constraint leaves all numbers or all sizes.
 fn leaves_all(constraint: &Constraint, is_size: bool) -> bool {
     let least = if is_size { Some(0) } else { None };
     let seen = &constraint.visible;
@@ -39,7 +41,7 @@ fn leaves_all(constraint: &Constraint, is_size: bool) -> bool {
     allows_all && seen.least == least && seen.greatest.is_none() && !seen.extensible
 }
 
-/// Adds what a constraint leaves.
+/// Adds the values that a constraint leaves.
 fn put_constraint(
     out: &mut String,
     constraint: &Constraint,
@@ -60,7 +62,7 @@ fn put_constraint(
     }
 }
 
-/// Adds the characters of a string type, or how many there are where they are many.
+/// Adds the characters of a string type, or their number if there are many.
 fn put_codes(out: &mut String, codes: &[u8]) -> Result<(), AllocError> {
     let count = codes.len();
     match str::from_utf8(codes) {
@@ -69,7 +71,7 @@ fn put_codes(out: &mut String, codes: &[u8]) -> Result<(), AllocError> {
     }
 }
 
-/// Adds items with their numbers, behind others or not, each behind a mark.
+/// Adds items with their numbers, each after a mark. `before` is how many items are before these.
 fn put_items(
     out: &mut String,
     items: &[Item],
@@ -92,7 +94,7 @@ fn put_all_items(out: &mut String, items: &Items) -> Result<(), AllocError> {
     out.push('}')
 }
 
-/// Adds the bits that have names.
+/// Adds the named bits.
 fn put_bits(out: &mut String, bits: &[NamedBit]) -> Result<(), AllocError> {
     out.push_str(" {")?;
     for (place, bit) in bits.iter().enumerate() {
@@ -103,7 +105,7 @@ fn put_bits(out: &mut String, bits: &[NamedBit]) -> Result<(), AllocError> {
     out.push('}')
 }
 
-/// The word of a type's kind.
+/// The keyword of a type's kind.
 fn kind_of(core: &Core) -> &'static str {
     match core {
         Core::Boolean => "BOOLEAN",
@@ -124,7 +126,7 @@ fn kind_of(core: &Core) -> &'static str {
     }
 }
 
-/// Adds the mark of a member behind the extension marker.
+/// Adds the mark of a member after the extension marker.
 fn put_addition(out: &mut String, addition: Addition) -> Result<(), AllocError> {
     match addition.group {
         Some(group) => write!(out, "+{group} "),
@@ -153,7 +155,7 @@ fn put_presence(
     }
 }
 
-/// Adds components, at least so many levels above the deepest types that are told.
+/// Adds components that are at least `levels` levels above the deepest types that are printed.
 #[cycle(telling)]
 fn put_components(
     alloc: Global,
@@ -212,7 +214,7 @@ fn put_alternatives(
     out.push('}')
 }
 
-/// Adds what stands behind the word of a type's kind.
+/// Adds what follows the keyword of a type's kind.
 #[cycle(telling)]
 fn put_core(
     alloc: Global,
@@ -246,7 +248,7 @@ fn put_core(
     }
 }
 
-/// Adds a type with its tags and with the types that it holds, so many levels down.
+/// Adds a type with its tags and with the types in it, down to this number of levels.
 #[cycle(telling)]
 pub fn put_type(
     alloc: Global,

@@ -8,12 +8,12 @@ use later_versions::later;
 use row_files::Row;
 use std::alloc::{AllocError, Global};
 
-/// The program and the types of texts, or the fault that stands in them, in words.
+/// The program and the types of texts. The error is the words for their fault.
 fn opened(alloc: Global, texts: &[Vec<u8>]) -> Result<Front, Refusal> {
     open(alloc, texts).map_err(|fault| told(alloc, &fault))
 }
 
-/// Whether a type is a later version of another one, and that one of it.
+/// Whether a type is a later version of another one, and the other way round.
 fn both_ways(
     alloc: Global,
     first: &Front,
@@ -36,9 +36,9 @@ fn both_ways(
     })
 }
 
-/// `later NAME TYPE [TYPE]`: whether the type, or the second one if there is one, of the modules named `later` is a
-/// later version of the type of the other modules, and that one of it. Where no module is named `later`, both types are
-/// of the same modules.
+/// `later NAME TYPE [TYPE]`: whether a type of the modules named `later` is a later version of a type of the other
+/// modules, and the other way round. The second name, if there is one, is that of the type in the modules named
+/// `later`. If no module is named `later`, both types are in the same modules.
 pub fn answer(alloc: Global, row: &Row) -> Result<String, Refusal> {
     let words = asked(alloc, row)?;
     let name = word(&words, 0);

@@ -34,7 +34,7 @@ one_dot (m ∷ M) (n ∷ N) x y e p q =
 one_spelling : (text : List ℕ) (M N x y : Name) → IsQualified text M x → IsQualified text N y → (M ≡ N) × (x ≡ y)
 one_spelling text M N x y a b = one_dot M N x y (sym a.spelled ∙ b.spelled) a.plain b.plain
 
--- ---- what a name stands for
+-- ---- the meaning of a name
 
 one_some : {X : Type 0} (o : Option X) (x y : X) → o ≡ Some x → o ≡ Some y → x ≡ y
 one_some o x y e f = let g : Some x ≡ Some y = sym e ∙ f in cc
@@ -95,7 +95,7 @@ one_pair p first second t u M N n m apart a b =
 
 -- ---- the value
 
--- the value stands for the notation however it is told
+-- the value of a notation doesn't depend on how the notation is given
 moved : {p : Program} {t u : ℕ} {M N : Name} {n m : Tree} {v : AbstractValue} → AreSame t u M N n m →
     StandsFor p M t n v → StandsFor p N u m v
 moved {p} {t} {u} {M} {N} {n} {m} {v} e h =

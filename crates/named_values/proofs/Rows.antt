@@ -11,7 +11,7 @@ module_name = 77 ∷ []
 less_is_other : (n m : ℕ) → m < n → n ≡ m → ⊥
 less_is_other n m l e = omega (arith, l, e)
 
--- no dot stands in it
+-- the name has no dot
 no_dot : (i : ℕ) → i < length module_name → get_or module_name i 0 ≡ 46 → ⊥
 no_dot zero l e = less_is_other 77 46 (omega arith) e
 no_dot (suc i) l e = let k : suc i < 1 = l in absurd (omega (arith, k))

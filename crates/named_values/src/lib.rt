@@ -1,5 +1,5 @@
-//! Types and values of accepted modules by their names: what a text of the form `Module.Name` names. Also the value
-//! that the notation of a named value stands for under a named type.
+//! Finds types and values of accepted modules by their names, as in texts of the form `Module.Name`. It also finds the
+//! value of a named notation under a named type.
 #![tactic(auto)]
 
 pub mod law;

@@ -35,7 +35,7 @@ around : {X : Type 0} (xs : List X) (i : ℕ) (x : X) → i < length xs → x �
 around xs i x l e = ap (λ r. take i xs ++ r) (sym (drop_at xs i x l e)) ∙ take-append-drop i xs
 
 module _ (count : List AssignmentTree → ℕ) (add : (gs ks : List AssignmentTree) → count (gs ++ ks) ≡ count gs + count ks) (n : ℕ) where
-  -- the assignment at i passes the limit, where so many stand before it
+  -- the assignment at i passes the limit, because of how many come before it
   pub past_here : (gs : List Assignment) (i : ℕ) (g : Assignment) (k now : ℕ) → i < length gs → g ≡ get_or gs i g →
       now ≡ n → now + count (map given_of (drop i gs)) ≡ k + count (map given_of gs) → count (given_of g ∷ []) ≡ 1 →
       (x : Name) → name_of (given_of g) ≡ x → IsPastHere count n k (map given_of gs) x

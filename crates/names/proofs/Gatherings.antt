@@ -1,4 +1,4 @@
--- Assignments, imports and modules that are gathered one behind the other.
+-- Assignments, imports and modules that are gathered, one after another.
 use Rattle.std.proofs.Common.{◌≡◌, inl, inr, ℕ, ◌+◌, ◌++◌, List, [], ◌∷◌, Some, None, length, map, refl, sym, subst, ap, ◌∙◌, append_assoc, length-append, arith}
 use Rattle.std.proofs.lemmas.List.{append-nil, length-map, map-append}
 use Rattle.trees.specs.declared.place.Spot.{Spot}
@@ -84,7 +84,7 @@ placed_end k all old now names p =
     let e : p.done ≡ all = sym (append-nil p.done) ∙ p.splits in
     (p.named ∙ ap (named_from (length old.assignments.items) (length old.values.items)) e, subst (λ l. AreDistinct (map name_of l)) e p.distinct, subst (λ l. Adds k l old now) e p.adds)
 
--- what a fault 30 or want of memory leads to
+-- what follows from `Twice` or `Memory`
 tells : (Q : Name → Name → Type 0) (P : NameFault → Type 0) → P faults.Memory →
     ((s : Spot) → Q (module_told s) (name_told s) → P (faults.Twice s)) → (e : NameFault) → TellsTwice Q e → P e
 tells Q P m t faults.Memory q = m
@@ -95,7 +95,7 @@ tells Q P m t (faults.NotExported s) q = absurd q
 tells Q P m t (faults.Circular s) q = absurd q
 tells Q P m t (faults.UnknownModule s) q = absurd q
 
--- a name that is taken stands twice among all
+-- a name that is taken is twice among all
 taken_twice : (M x : Name) (xs ys all : List Name) (e : NameFault) → xs ++ x ∷ ys ≡ all → IsTaken M x xs e →
     IsRepeated M all e
 taken_twice M x xs ys all e q t =

@@ -1,4 +1,4 @@
--- Exports and imports that stand in tables of names, and in the modules that gave them.
+-- Exports and imports in tables of names, and in the modules that gave them.
 use Rattle.std.proofs.Common.{◌≡◌, ◌⊎◌, inl, inr, ℕ, zero, suc, ◌+◌, ◌<◌, List, [], ◌∷◌, length, Some, None, map, refl, sym, subst, ap, ◌∙◌, arith}
 use Rattle.std.specs.Prelude.{slice_get, Option, String}
 use Rattle.std.specs.Global.{Global}
@@ -24,9 +24,9 @@ pub all_stood : {Y : Type 0} (ys : List Y) (P : Y → Type 0) (n : ℕ) → n �
     ((k : ℕ) (y : Y) → k < n → slice_get ys k ≡ Some y → P y) → (y : Y) → StandsIn ys y → P y
 all_stood ys P n e f y s = let w = slice_get_within ys s.0 y s.1 in f s.0 y (omega (arith, w, e)) s.1
 
--- ---- the modules behind a table of names
+-- ---- the modules of a table of names
 
--- what stands in the table of a module
+-- what is in the table of a module
 pub record Tells (ms : List ModuleTree) (M : Name) (m : Module) : Type 0 where
   pub tree : ModuleTree
   pub there : StandsIn ms tree

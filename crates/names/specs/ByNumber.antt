@@ -1,5 +1,5 @@
--- The names of modules, and the types and values that they assign, numbered in the order of the texts: the form in
--- which a program refers to them; no clause.
+-- The names of modules (X.680, clause 13), and the types and values that they assign (clause 16), numbered in the order
+-- of the texts. A program refers to them by these numbers.
 use Rattle.std.specs.Prelude.{ℕ, suc, ◌+◌, List, [], ◌∷◌, ◌++◌, None, map, length}
 use Rattle.trees.specs.declared.module.TagDefault.{TagDefault}
 use Rattle.trees.specs.Values.{Name}

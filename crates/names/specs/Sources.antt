@@ -1,5 +1,5 @@
--- The form in which types and values are kept before the types in them are numbered, without addresses in memory; no
--- clause.
+-- The types and values of assignments (X.680, clause 16), before the types in them are numbered. They have no addresses
+-- in memory.
 use Rattle.std.specs.Prelude.{◌≡◌, ◌<◌, ℕ, List, Option, Some, None, map}
 use Rattle.std.specs.List.{AllByRecursion}
 use Rattle.trees.specs.Values.{Name, Tree, name_at, tree_of}

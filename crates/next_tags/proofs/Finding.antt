@@ -61,7 +61,7 @@ NoCall s g p = (u : TypeId) → p ≡ Call u → First s u.index g → ⊥
 pub chosen_here : (s : List Resolved) (g : Tag) (ss : List Step) (p : Step) (rest : List Step) (t : TypeId) → ss ≡ p ∷ rest → p ≡ Call t → First s t.index g → IsChosen s g ss 0 t
 chosen_here s g ss p rest t e f h = subst (λ q. IsChosen s g q 0 t) (sym (e ∙ ap (λ q. q ∷ rest) f)) (chosen h)
 
--- a step that is no call, and the call of a type that begins otherwise
+-- a step that isn't a call, and the call of a type that begins otherwise
 pub not_a_call : (s : List Resolved) (g : Tag) (p : Step) → ((u : TypeId) → p ≡ Call u → ⊥) → NoCall s g p
 not_a_call s g p n u e h = n u e
 

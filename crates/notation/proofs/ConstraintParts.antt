@@ -143,7 +143,7 @@ ellipsis_one : (t : Lexeme) → is_ellipsis t ≡ true → t ≡ Mark Ellipsis
 ellipsis_one (Mark Ellipsis) e = refl
 ellipsis_one t e = absurd cc
 
--- what stands behind a comma, if one stands here
+-- what follows a comma, if there is one here
 abbrev dots_read : Reader (Unit {0})
 dots_read = then_read (λ (p : Unit {0} × Unit {0}). p.1) (one_at is_comma) (one_at is_ellipsis)
 
@@ -204,7 +204,7 @@ module _ {over : Limit → ℕ} {within : Limit → Type 0} where
       apart : (t : Lexeme) → is_union t ≡ true → is_bar t ≡ false
       apart t e = subst (λ (t : Lexeme). is_bar t ≡ false) (sym (union_one t e)) refl
 
-  -- a part behind "|" or UNION
+  -- a part after "|" or UNION
   or_then_rule : {A : Type 0} {a : Grammar A} {starts ends : Lexeme → Bool} {read : Reader A}
       → Rules over within a starts ends read
       → Rules over within ((or ∙ a) ⇒ (λ p. p.1)) is_or ends (or_then_at read)
@@ -265,7 +265,7 @@ module _ {over : Limit → ℕ} {within : Limit → Type 0} where
       same (CString c ∷ ts) = rest c ts
       same (t ∷ ts) = refl
 
-  -- behind FROM
+  -- after FROM
   pub rule_from : Rules over within (behind (Word From) (parens (by_or chars))) is_from no_lexeme from_at
   unfolding from_at
   rule_from = rule_read from_at same (rule_behind rule_from_w (rule_parens (rule_by_or rule_chars or_apart) refl))

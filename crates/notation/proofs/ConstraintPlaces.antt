@@ -65,7 +65,7 @@ module _ (fits fits' : ℕ → Bool) (grows : (n : ℕ) → fits n ≡ true → 
       either_grows (parens (ranges fits) ⇒ values_in) (parens (ranges fits') ⇒ values_in) _ _ (made_grows (parens (ranges fits)) (parens (ranges fits')) values_in (parens_grows (ranges fits) (ranges fits') ranges_grows))
       (either_grows (parens (size fits)) (parens (size fits')) _ _ (parens_grows (size fits) (size fits') size_grows) (same_grows (parens (behind (Word From) (parens (by_or chars))) ⇒ chars_in)))
 
--- ---- what nothing goes on with is read wherever it stands
+-- ---- a part that nothing can continue is read in any place
 
 all_follow : (us : List Lexeme) → Follows no_lexeme us
 all_follow [] = tt
@@ -86,7 +86,7 @@ module _ {A : Type 0} (g : (ℕ → Bool) → Grammar A) (starts : Lexeme → Bo
   abbrev numberless : Limits
   numberless = record { nesting = 0; number = any; tag = any }
 
-  -- where a limit is passed, the lexemes can go on once it alone is raised
+  -- if a limit is passed, the lexemes can go on once only that limit is raised
   flat_passed : (l : Limit)
       → (b : Limits) × ((ts : List Lexeme) → Sound (past l) (flat g (raised l (bounded 0) b)) ts (read small ts))
   flat_passed Nesting = (bounded 0, (rules deeper refl).sound tt)

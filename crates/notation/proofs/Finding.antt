@@ -1,4 +1,4 @@
--- The reader of values refuses no front of what stands in braces, and reads each whole.
+-- The reader of values refuses no front of what is in braces, and reads each whole.
 use Rattle.std.proofs.Common.{◌≡◌, ℕ, inl, inr, Bool, true, false, List, [], ◌∷◌, ◌++◌, Ok, refl, sym, ap, subst, ◌∙◌ as ◌⋆◌, arith}
 use Rattle.std.proofs.lemmas.List.{append-nil}
 use Rattle.text.specs.declared.token.Mark.TheVariants.{Comma, Colon, CloseBrace}
@@ -93,7 +93,7 @@ module _ (within : Limit → Type 0) (fits fits' : ℕ → Bool)
       first t u (n ∷ ns, v, w, e, (p, q, d, hp, hq), h) =
           subst (λ (t : Lexeme). is_num t ≡ true) (sym (head_is t (Number n) u (q ++ w) (e ⋆ ap (λ (l : List Lexeme). l ++ w) (d ⋆ ap (λ (l : List Lexeme). l ++ q) hp.1)))) refl
 
-  -- the numbers behind two, and the end of the braces
+  -- the numbers after two, and the end of the braces
   two_numbers_front : (a b : ℕ) (u us : List Lexeme)
       → (more ∙ mark CloseBrace).CanGoOn u
       → Passes within us (two_numbers_at fits a b (u ++ us))
@@ -112,7 +112,7 @@ module _ (within : Limit → Type 0) (fits fits' : ℕ → Bool)
 
 -- ---- values in braces
 
--- behind a first token of a value in braces there stands no other number and no start of a value
+-- after a first token of a value in braces there is no other number and no start of a value
 abbrev pub ends_item : Lexeme → Bool
 ends_item (Mark Comma) = true
 ends_item (Mark Colon) = true
@@ -173,13 +173,13 @@ module _ (within : Limit → Type 0) (fits fits' : ℕ → Bool)
   unfolding fields_at
   ff = finds_body within (token Ident ∙ v) is_ident goes_on (named_at read) (finds_named within v (starts fits') goes_on read fv) refl refl member_solid (λ p. fields (members p.0))
 
-  -- behind the first token of items
+  -- after the first token of items
   items_next : (s : Lexeme)
       → Next v s (λ t. ends_item t ≡ true)
       → Next (listed v ∙ mark CloseBrace) s (λ t. ends_item t ≡ true)
   items_next s n = body_next within v (starts fits') goes_on read fv refl refl solid (λ p. items (trees p.0)) s (λ t. ends_item t ≡ true) n (λ x h. (refl, refl))
 
-  -- behind the first name of components
+  -- after the first name of components
   member_next : (x : List ℕ) → Next (token Ident ∙ v) (Ident x) (λ t. (starts fits') t ≡ true)
   member_next x = record { next = go }
     where
@@ -237,7 +237,7 @@ module _ (within : Limit → Type 0) (fits fits' : ℕ → Bool)
   two_shrink : (a b : ℕ) (us : List Lexeme) → Passes within us (two_numbers_at fits a b us)
   two_shrink a b us = two_numbers_front within fits fits' room a b [] us (inl ([], [], [], refl, refl, inl refl))
 
-  -- behind a number that may stand behind a front
+  -- after a number that may follow a front
   number_shrinks : (a : ℕ) (us : List Lexeme) → Passes within (Number a ∷ us) (by_number_at fits read a us)
   unfolding by_number_at
   number_shrinks a [] = fi.front [] (Number a ∷ []) fi.nil
@@ -246,7 +246,7 @@ module _ (within : Limit → Type 0) (fits fits' : ℕ → Bool)
       (fitting_shrinks within (fits b) b us (two_numbers_at fits a b us) (two_shrink a b us))
   number_shrinks a (t ∷ us) = fi.front [] (Number a ∷ t ∷ us) fi.nil
 
-  -- behind a number of a front
+  -- after a number of a front
   one_behind : (a : ℕ) → fits' a ≡ true → (us : List Lexeme) → Passes within us (by_number_at fits read a us)
   unfolding by_number_at
   one_behind a f [] = fi.front (Number a ∷ []) [] (inl (inl (one_number a f)))

@@ -16,7 +16,7 @@ use Rattle.notation.specs.Laws.{starts, goes_on, ValueLaws}
 use Rattle.notation.proofs.Values.{simple_whole, colon_stands, braced_whole}
 use Rattle.notation.proofs.Whole.{v_part, v_solid, v_number, v_name, v_behind_number, v_behind_name, zero_colon, zero_brace, zero_step, suc_step, suc_colon, suc_brace, value_finds}
 
--- ---- what is whole is read, where the next lexeme can't go on with it
+-- ---- a whole is read if the next lexeme can't continue it
 
 module _ (fits fits' : ℕ → Bool) (room : (n : ℕ) → fits' n ≡ true → Unit {0} → fits n ≡ true) where
   at_colon : (x : List ℕ) (us : List Lexeme) → Closed (free values) (Ident x ∷ []) us → Follows goes_on us
@@ -123,7 +123,7 @@ one_tree u v w (a, h) (b, l) =
     same n (inl p) (inr (g, k, q)) = absurd (k tt)
     same n (inr (g, k, p)) q = absurd (k tt)
 
--- where a limit is passed, the lexemes can go on once it alone is raised
+-- if a limit is passed, the lexemes can go on once only that limit is raised
 values_passed : (n : ℕ) (l : Limit)
     → (b : Limits) × ((ts : List Lexeme) → Sound (past l) (values (raised l (bounded n) b)) ts (value_at small n ts))
 values_passed n Nesting = (bounded (suc n), value_deeper small n)

@@ -228,7 +228,7 @@ module _ (over : Limit → ℕ) (fits fits' : ℕ → Bool) (grows : (n : ℕ) �
       step_sound (Mark OpenBrace ∷ ts) = open_brace ts
       step_sound (t ∷ ts) = lift (t ∷ ts) (stop (t ∷ ts)) (stop_sound over (simple fits') (t ∷ ts) (inl (inl refl)))
 
-  -- one more level round a value
+  -- one more level around a value
   inner_sound : (n : ℕ) (v : Grammar Tree) (read : Reader Tree)
       → ((us : List Lexeme) → Sound over v us (read us))
       → (ts : List Lexeme)
@@ -248,7 +248,7 @@ module _ (fits : ℕ → Bool) where
   past_any : (n : ℕ) → any n ≡ true
   past_any n = refl
 
-  -- What is read is so, where the faults of nesting and of numbers stand before the lexeme that passes the limit.
+  -- What is read stays so if the faults of nesting and of numbers are before the lexeme that passes the limit.
   unmoved : (over : Limit → ℕ)
       → over Nesting ≡ 0
       → Past (over Integer) ((n : ℕ) → fits n ≡ true)
@@ -267,7 +267,7 @@ module _ (fits : ℕ → Bool) where
   pub value_higher : (n : ℕ) (ts : List Lexeme) → Sound higher (value fits n) ts (value_at fits n ts)
   value_higher = unmoved higher refl tt
 
-  -- The same with all numbers, where the fault of a number stands behind it: it can stand there.
+  -- The same with all numbers, if the fault of a number is after that lexeme.
   pub value_wider : (n : ℕ) (ts : List Lexeme) → Sound wider (value any n) ts (value_at fits n ts)
   unfolding value_at
   value_wider zero ts =
@@ -276,7 +276,7 @@ module _ (fits : ℕ → Bool) where
       (λ ts. ([], Mark OpenBrace ∷ ts, refl, refl, inl (inl refl))) ts
   value_wider (suc n) ts = inner_sound wider fits any all_fit past_any n (value any n) (value_at fits n) (value_wider n) ts
 
-  -- And with one more level, where the fault of what opens stands behind it.
+  -- The same with one more level, if the fault of nesting is after that lexeme.
   pub value_deeper : (n : ℕ) (ts : List Lexeme) → Sound deeper (value fits (suc n)) ts (value_at fits n ts)
   unfolding value_at
   value_deeper zero ts =

@@ -29,12 +29,12 @@ head_of : {A B : Type 0} (kind : A → Lexeme) (b : Grammar B) (s : Lexeme) (u :
 head_of kind b s u (inl h) = head_one kind s u h
 head_of kind b s u (inr (x, p, q, e, hp, hq)) = (x, head_is s (kind x) u q (e ⋆ ap (λ (l : List Lexeme). l ++ q) hp))
 
--- no second token stands in a front of one
+-- a front of one token has no second token
 no_second : {A : Type 0} (kind : A → Lexeme) (s t : Lexeme) (u : List Lexeme) → (token kind).CanGoOn (s ∷ t ∷ u) → ⊥
 no_second kind s t u (inl e) = absurd cc
 no_second kind s t u (inr (x, e)) = absurd cc
 
--- a whole is not empty where it begins with a token
+-- a whole that begins with a token isn't empty
 full : {A : Type 0} (kind : A → Lexeme) (x : A) → (token kind).Is x [] → ⊥
 full kind x e = absurd cc
 
@@ -51,7 +51,7 @@ no_second_number : (fits : ℕ → Bool) (s t : Lexeme) (u : List Lexeme) → (n
 no_second_number fits s t u (inl e) = absurd cc
 no_second_number fits s t u (inr (n, f, e)) = absurd cc
 
--- nothing stands behind a number or a name
+-- nothing follows a number or a name
 record IsHead (s : Lexeme) : Type 0 where
   no_true : s ≡ (Word True) → ⊥
   no_minus : s ≡ (Mark Minus) → ⊥
@@ -282,7 +282,7 @@ module _ (within : Limit → Type 0) (fits fits' : ℕ → Bool)
     front = λ u us h. subst (λ (q : Read Tree). Passes within us q) (e (u ++ us)) (f.front u us h);
   }
 
-  -- where nothing more may be open
+  -- no more parts may be open
   pub zero_colon : (x : List ℕ) (us : List Lexeme)
       →
       Passes within ((Mark Colon) ∷ us) (opened zero ((Mark Colon) ∷ us) (value_at fits zero us >>= λ v. Ok (chosen x v.0, v.1)))

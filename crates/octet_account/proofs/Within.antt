@@ -44,7 +44,7 @@ small a l m =
     let f = a.contents_told in
     record { identifier_small = omega arith; size_small = omega arith; contents_small = omega arith }
 
--- as many rows as headers round what is within
+-- as many rows as headers around what is within
 headed_within : {ts : List Tag} {c : Bool} {x o : List ℕ} {i : Inside} {a : Account} (n : ℕ) → Headed ts c x i o a → length o ≤ 16777216 → IsInsideWithin n i → IsWithin (length ts + n) a
 headed_within n (headed_bare {a = a}) l w = subst (λ k. IsWithin k a) (let e : n ≡ 0 + n = omega arith in e) w
 headed_within n (headed_innermost {h = h} {x = x} {z = z} {i = i} k) l w =

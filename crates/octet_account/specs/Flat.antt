@@ -1,5 +1,5 @@
--- The form in which an account is read and written: a list of rows, from the root down, each before the rows of its
--- members; no clause.
+-- The form in which an account is read and written: a list of rows, the root first, each before the rows of its
+-- members. The headers in it are those of X.690, clause 8.1.
 use Rattle.std.specs.Prelude.{◌≡◌, ℕ, zero, suc, ◌≤◌, List, [], ◌∷◌, ◌++◌}
 use Rattle.std.specs.List.{AllByRecursion}
 use Rattle.encodings.specs.Account.{Numbers, Account, header, Inside, leaf_row, wrap_row, seq_row, seqof_row, set_row}

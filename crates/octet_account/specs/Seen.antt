@@ -1,4 +1,4 @@
--- The rows of an account without where they lie in memory.
+-- The rows of an account as definitions see them, without their places in memory.
 use Rattle.std.specs.Prelude.{List, map}
 use Rattle.encodings.specs.Account.{Numbers}
 use Rattle.octet_account.specs.declared.row.Numbers.{Numbers as Numbers'}

@@ -1,4 +1,4 @@
-//! An account of an encoding.
+//! Accounts of encodings.
 
 ghost use Rattle.std.specs.Prelude.{◌≡◌};
 ghost use Rattle.encodings.specs.Account.{Account as Account'};
@@ -9,8 +9,8 @@ use crate::ends::with_ends;
 use crate::row::Row;
 use std::marker::Model;
 
-/// How the octets of an encoding are made up, seen as a tree of headers: its rows are nested at most 400 deep, and
-/// numbers in them are at most 16,777,216.
+/// An account of how the octets of an encoding are made up (X.690, 8.1), seen as a tree of headers. Its rows are nested
+/// at most 400 deep, and each number in them is at most 16,777,216.
 #[derive(Drop)]
 pub struct Account {
     rows: Vec<Row>,
@@ -36,7 +36,8 @@ impl Model for Account {
 }
 
 impl Account {
-    /// The account whose rows these are. It takes no memory, and time in line with the number of rows.
+    /// The account with these rows, which must be those of an account, the root first. The call takes no memory, and
+    /// its time is linear in the number of rows.
     pub fn of(rows: Vec<Row>) -> Self
         requires { (a : Account') × AreRows a (flat rows.items) }
         ensures { AreRows result (flat rows.items) }
@@ -45,7 +46,7 @@ impl Account {
         Account { rows }
     }
 
-    /// Its rows, from the root down.
+    /// The rows of the account, the root first.
     pub fn rows(&self) -> &[Row]
         ensures { AreRows self.now (flat result.now) }
     {

@@ -1,11 +1,12 @@
-//! Where the members of SET and SET OF end, place by place: an index beside the rows, for their readers.
+//! The ends of the members of SET and SET OF by their places. They are an index beside the rows for readers of
+//! accounts.
 
 ghost use Rattle.std.specs.Prelude.{◌≡◌};
 ghost use Rattle.octet_account.specs.Seen.{flat, told_of};
 
 use crate::row::{Places, Row, Told};
 
-/// How many members or rows the row has right below it.
+/// How many members or rows are directly in this row.
 fn rows_below(told: &Told) -> u32 {
     match told {
         Told::Leaf(_) | Told::Absent | Told::Default => 0,
@@ -15,7 +16,7 @@ fn rows_below(told: &Told) -> u32 {
     }
 }
 
-/// How many octets a row tells with those of its header, where it has one.
+/// How many octets a row gives, those of its header included, or None if it has no header.
 fn octets_told(told: &Told) -> Option<u32> {
     let numbers = match told {
         Told::Leaf(numbers) | Told::Wrap(numbers) => numbers,
@@ -27,7 +28,7 @@ fn octets_told(told: &Told) -> Option<u32> {
     Some(header.saturating_add(numbers.contents))
 }
 
-/// The row after those of the member that begins at a row.
+/// The row after those of the member that begins at row `at`.
 fn next(rows: &[Row], at: u32) -> u32 {
     let first = at as usize;
     if first < rows.len() {
@@ -37,7 +38,7 @@ fn next(rows: &[Row], at: u32) -> u32 {
     }
 }
 
-/// How many rows a member has, of which this is the first one, before rows whose own spans are known.
+/// How many rows a member has whose first row this is. `behind` are the rows after that one, and their spans are known.
 fn span_of(told: &Told, behind: &[Row]) -> u32 {
     let mut at: u32 = 0;
     for _ in 0..rows_below(told) {
@@ -46,14 +47,14 @@ fn span_of(told: &Told, behind: &[Row]) -> u32 {
     at.saturating_add(1)
 }
 
-/// Puts a number at a place, where there is one.
+/// Sets the number at a place, if the place is there.
 fn put(numbers: &mut [u32], place: usize, number: u32) {
     if place < numbers.len() {
         numbers[place] = number;
     }
 }
 
-/// Puts at each place how many octets the member there tells.
+/// Sets for each place how many octets the member there has.
 fn put_sizes(ends: &mut [u32], places: &[u32], members: u32, rows: &[Row]) {
     let mut at: u32 = 0;
     let mut number: usize = 0;
@@ -72,7 +73,7 @@ fn put_sizes(ends: &mut [u32], places: &[u32], members: u32, rows: &[Row]) {
     }
 }
 
-/// Each number with those before it.
+/// Adds to each number all numbers before it.
 fn sum_up(numbers: &mut [u32]) {
     let mut sum: u32 = 0;
     for i in 0..numbers.len() {
@@ -81,7 +82,7 @@ fn sum_up(numbers: &mut [u32]) {
     }
 }
 
-/// The same members at their places, with the ends of these, before the members' rows.
+/// The same members at their places, with the ends of the places. `rows` begin with the rows of the members.
 fn places_with_ends(mut set: Box<Places>, rows: &[Row]) -> Box<Places>
     ensures members { result.value.members ≡ set.value.members }
     ensures places { result.value.places.items ≡ set.value.places.items }
@@ -98,7 +99,7 @@ fn places_with_ends(mut set: Box<Places>, rows: &[Row]) -> Box<Places>
     set
 }
 
-/// The row that tells the same, with what its readers need, before rows that have it.
+/// The same row with its span and the ends of its places. `behind` are the rows after it, which have these already.
 fn row_with_ends(told: Told, behind: &[Row]) -> Row
     ensures { told_of result.told ≡ told_of told }
 {
@@ -111,7 +112,7 @@ fn row_with_ends(told: Told, behind: &[Row]) -> Row
     Row { told, span }
 }
 
-/// Rows that tell the same, with what their readers need.
+/// The same rows with their spans and the ends of their places.
 pub(crate) fn with_ends(mut rows: Vec<Row>) -> Vec<Row>
     ensures { flat result.items ≡ flat rows.items }
 {

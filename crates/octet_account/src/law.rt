@@ -1,4 +1,4 @@
-//! Laws of accounts, for the crates above.
+//! Laws of accounts.
 
 ghost use Rattle.std.specs.Prelude.{◌≡◌, ◌≤◌, ℕ, List, length};
 ghost use Rattle.asn_base.specs.Abstract.{AbstractValue};
@@ -8,12 +8,12 @@ ghost use Rattle.asn_base.specs.Types.{Resolved};
 ghost use Rattle.encodings.specs.Account.{Account, Tells};
 ghost use Rattle.octet_account.specs.Flat.{FlatRow, AreRows, IsWithin};
 
-/// Rows are those of one account.
+/// Rows are those of at most one account.
 pub fn one_account()
     ensures { (a b : Account) (rs : List FlatRow) → AreRows a rs → AreRows b rs → a ≡ b }
 {}
 
-/// The account of a value's encoding, of at most 16,777,216 octets, keeps the bounds of accounts.
+/// The account of the encoding of a value, in at most 16,777,216 octets, keeps the bounds of accounts.
 pub fn accounts_within_bounds()
     ensures { (s : List Resolved) (t : ℕ) (v : AbstractValue) (o : List ℕ) (a : Account)
         → IsSchema s

@@ -1,4 +1,4 @@
-//! Accounts of encodings: header by header, how their octets are made up.
+//! Accounts of encodings. An account describes, header by header, how the octets are made up (X.690, 8.1).
 #![tactic(auto)]
 
 pub mod account;

@@ -4,7 +4,8 @@ ghost use Rattle.std.specs.Prelude.{◌≡◌, IfOk};
 
 use std::alloc::{AllocError, Global};
 
-/// How many octets a header's identifier has, its length, and the contents that it tells: each at most 16,777,216.
+/// The numbers of a header: how many identifier octets and how many length octets it has, and how many contents octets
+/// it announces. Each is at most 16,777,216.
 #[derive(Clone, Copy, Debug, PartialEq, Eq)]
 pub struct Numbers {
     pub identifier: u32,
@@ -12,20 +13,21 @@ pub struct Numbers {
     pub contents: u32,
 }
 
-/// The members of a SET or SET OF: how many rows follow, in order of definition or of the value; the place of each that
-/// is written, from 0 in the octets; and for each place the number of the member that stands there.
+/// The members of a SET or SET OF. `members` is the number of rows that follow, in the order of definition or of the
+/// value. `places` has the place of each encoded member in the octets, from 0. `inverse` has for each place the number
+/// of its member.
 #[derive(Drop)]
 pub struct Places {
     pub members: u32,
     pub places: Vec<u32>,
     pub inverse: Vec<u32>,
-    /// For each place how many octets there are up to the end of the member there. An account fills it for its readers,
-    /// and says nothing by it: who needs it has to see whether it is right.
+    /// For each place how many octets there are up to the end of its member. An account fills this list as a help for
+    /// readers, and it is no part of what the account says. A reader that uses it must check that it is right.
     pub ends: Vec<u32>,
 }
 
 impl Places {
-    /// The members at these places, of which no end is known yet.
+    /// The members at these places, whose ends aren't known yet. `AllocError` only if an allocation fails.
     pub fn of(
         alloc: Global,
         members: u32,
@@ -47,37 +49,37 @@ impl Places {
     }
 }
 
-/// One row of an account. Each row stands before those of its members.
+/// One row of an account. Each row comes before those of its members.
 #[derive(Drop)]
 pub enum Told {
-    /// A value that holds no others.
+    /// A value without other values in it.
     Leaf(Numbers),
-    /// An explicit tag; one row with those below it follows.
+    /// An explicit tag. One row, with the rows in it, follows.
     Wrap(Numbers),
-    /// A SEQUENCE, and how many members follow in order of definition.
+    /// A SEQUENCE, and how many members follow in the order of definition.
     Seq(Numbers, u32),
-    /// A SEQUENCE OF, and how many members follow in order of the value.
+    /// A SEQUENCE OF, and how many members follow in the order of the value.
     SeqOf(Numbers, u32),
     /// A SET.
     Set(Numbers, Box<Places>),
     /// A SET OF.
     SetOf(Numbers, Box<Places>),
-    /// A component without DEFAULT that is absent.
+    /// A component without a DEFAULT, which is absent.
     Absent,
-    /// A component that is the same as its DEFAULT.
+    /// A component that is left out because its value is the same as its DEFAULT.
     Default,
 }
 
-/// A row as an account keeps it.
+/// A row in an account.
 #[derive(Drop)]
 pub struct Row {
     pub told: Told,
-    /// How many rows the member has whose first row this is. An account fills it for itself.
+    /// How many rows the member has that begins with this row. Only an account sets it.
     pub(crate) span: u32,
 }
 
 impl Row {
-    /// The row that tells this.
+    /// The row with this content.
     pub fn of(told: Told) -> Self
         ensures { result.told ≡ told }
     {

@@ -1,4 +1,4 @@
--- A question is refused in one way, and never where it has an answer.
+-- A question is refused in one way, and never if it has an answer.
 use Rattle.std.proofs.Common.{arith, ◌≡◌, ⊎_elim, ℕ, ◌≤◌, Bool, true, false, List, [], ◌∷◌, ◌++◌, length, drop, refl, sym, ap, subst, ◌∙◌, length-append}
 use Rattle.std.specs.Prelude.{Option, Some, None}
 use Rattle.asn_base.specs.Abstract.{AbstractValue}

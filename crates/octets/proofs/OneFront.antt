@@ -1,4 +1,4 @@
--- One header or one fault stands at the front of octets.
+-- There is one header or one fault at the front of octets.
 use Rattle.std.proofs.Common.{arith, ◌≡◌, ℕ, ◌+◌, ◌*◌, ◌<◌, ◌≤◌, Bool, List, [], ◌∷◌, ◌++◌, length, map, refl, sym, ap, subst, ◌∙◌, append_assoc, length-append, ⊎_elim}
 use Rattle.std.specs.Prelude.{Result, IfErr, IsOk, Ok, Err}
 use Rattle.std.proofs.lemmas.Bool.{cases_lt}
@@ -15,7 +15,7 @@ use Rattle.octets.specs.Scans.{Septets, last_septet, more_septets}
 use Rattle.octets.proofs.Septets.{head_or_0, tail_of, at_least, spelling_read, once, never_zero}
 use Rattle.octets.proofs.Identified.{low, high}
 
--- septets behind some with the top bit
+-- septets after some with the top bit
 past : (ds : List ℕ) (h n : ℕ) (o rest y : List ℕ) → AllBelowBase 128 ds → o ≡ map (λ d. 128 + d) ds ++ y → Septets h o n rest → number_from_digits_after 128 h ds * 128 ≤ n
 past [] h n o rest y all e s = at_least s
 past (d ∷ ds) h n o rest y all e (last_septet l f) = absurd (let q = ap head_or_0 e in omega arith)
@@ -33,7 +33,7 @@ never_255 : {n : ℕ} {size : List ℕ} (x y : List ℕ) → LengthOf n size →
 never_255 x y (short l) e = let q = ap head_or_0 e in omega arith
 never_255 x y (long {ds = ds} f) e = let q : 255 ≡ 128 + length ds = ap head_or_0 e in let m : length ds ≤ 126 = f.at_most in omega arith
 
--- with something behind it, what is no tag's identifier is none still
+-- octets that aren't identifier octets still aren't if others follow
 bad_front : {o p : List ℕ} (x : List ℕ) → o ++ x ≡ p → HasBadTag o → HasBadTag p
 bad_front x e (of_number_0 c rest f) = of_number_0 c (rest ++ x) (sym e ∙ ap (λ q. q ++ x) f)
 bad_front x e (to_30 k c n rest l f) = to_30 k c n (rest ++ x) l (sym e ∙ ap (λ q. q ++ x) f)
@@ -71,7 +71,7 @@ module _ (identifiers : (b c : Class) (m n : ℕ) (f g : Bool) (x y : List ℕ) 
   behind_identifier : (t u : Tag) (c d : Bool) (x y : List ℕ) → identifier t.class t.number c ++ x ≡ identifier u.class u.number d ++ y → x ≡ y
   behind_identifier t u c d x y e = (identifiers t.class u.class t.number u.number c d x y e).3
 
-  -- behind a first octet of the long form septets stand
+  -- septets follow a first octet of the long form
   septets_behind : (t : Tag) (c d : Bool) (k : Class) (b y : List ℕ) → leading k d ∷ b ≡ identifier t.class t.number c ++ y → (31 ≤ t.number) × (b ≡ septets t.number ++ y)
   septets_behind t c d k b y e = ⊎_elim (λ l. absurd (below l)) (λ l. (l, ap tail_of (e ∙ ap (λ q. q ++ y) (high t.class t.number c l)))) (cases_lt t.number 31)
     where
@@ -163,7 +163,7 @@ module _ (identifiers : (b c : Class) (m n : ℕ) (f g : Bool) (x y : List ℕ) 
       let q = b.few in
       omega arith
 
-  -- no fault stands where a header does
+  -- there is no fault if there is a header
   pub never_both : (e : HeaderFault) (t : Tag) (c : Bool) (n k : ℕ) (o : List ℕ) → Stands e o → HeaderAt t c n k o → ⊥
   never_both Truncated t c n k o s b = early_header t c n k o s b
   never_both Indefinite t c n k o s b = indefinite_front o s (front_of t c n b.header o b.rest b.is_header b.whole)
@@ -182,7 +182,7 @@ module _ (identifiers : (b c : Class) (m n : ℕ) (f g : Bool) (x y : List ℕ) 
   indefinite_length o i (reserved t c rest e) = absurd (let q = ap head_or_0 (behind_identifier i.tag t i.constructed c (128 ∷ i.rest) (255 ∷ rest) (sym i.whole ∙ e)) in omega arith)
   indefinite_length o i (too_great t c {n = n} {size = size} rest l g e) = indefinite_front o i (great_front t c n size o rest l e)
 
-  -- one fault stands at most
+  -- there is at most one fault
   pub one_fault : (e f : HeaderFault) (o : List ℕ) → Stands e o → Stands f o → e ≡ f
   one_fault Truncated Truncated o s r = refl
   one_fault Truncated Indefinite o s r = absurd (indefinite_front o r (early_front o s))

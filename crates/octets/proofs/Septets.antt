@@ -43,7 +43,7 @@ map_append : (xs ys : List ℕ) → marked (xs ++ ys) ≡ marked xs ++ marked ys
 map_append [] ys = refl
 map_append (x ∷ xs) ys = ap (λ r. (128 + x) ∷ r) (map_append xs ys)
 
--- behind the digits of a number, septets go on to those of the whole
+-- after the digits of a number, septets go on to those of the whole number
 spelled : {h n : ℕ} {o rest : List ℕ} → Septets h o n rest → ((x : ℕ) (b : List ℕ) → o ≡ (128 + x) ∷ b → 0 < h * 128 + x) → marked (digits_of 128 h) ++ o ≡ septets n ++ rest
 spelled {h} {n} {rest = rest} (last_septet {x = x} l e) some =
     let high : n / 128 ≡ h = omega arith in

@@ -1,4 +1,4 @@
--- What is written behind the marker.
+-- The bits after those of the root.
 use Rattle.std.proofs.Common.{◌≡◌, ℕ, suc, Bool, true, false, List, [], ◌∷◌, ◌++◌, length, map, refl, sym, ap, subst, ◌∙◌, append_assoc, append-nil}
 use Rattle.std.specs.Prelude.{if◌then◌else◌, ◌||◌, ◌-◌, Option, Some, None}
 use Rattle.std.specs.List.{AllByRecursion}
@@ -101,7 +101,7 @@ or_false : (a b : Bool) → a || b ≡ false → (a ≡ false) × (b ≡ false)
 or_false true b e = absurd (cc)
 or_false false b e = (refl, e)
 
--- where none is present, none is written
+-- if none is present, none is written
 none_written : (ds : List (Addition Bits)) → any_set (c.addition_map ds) ≡ false → c.addition_bits ds ≡ []
 none_written [] e = refl
 none_written (alone (missing k) ∷ ds) e = none_written ds e
@@ -160,7 +160,7 @@ module _ (s : List Resolved) where
       ap any_stands (marker_first true x ms (ap is_addition (present_component (is_default s k w) k (bits_by (is_default s) s w k.type)) ∙ h.0))
       ∙ ap (λ q. q || any_stands (behind_marker ms)) (present_stands (is_default s k w) k (bits_by (is_default s) s w k.type) (addition_tested k.presence _ h.0))
 
-  -- the components of the root stand before those that are additions
+  -- the components of the root are before the additions
   any_behind : {n : ℕ} {ws : Row} (root more : List Component) → AllByRecursion (λ k. is_addition k ≡ false) root → AllByRecursion (λ k. is_addition k ≡ true) more → AreComponents s n (root ++ more) ws → any_stands (behind_marker (members_by (is_default s) s ws (root ++ more))) ≡ any_from (length root) ws
   any_behind [] more r h a = any_more h a
   any_behind (k ∷ root) more r h (component_absent {vs = ws} m a) = ap any_stands (marker_first false (missing k) (members_by (is_default s) s ws (root ++ more)) r.0) ∙ any_behind root more r.1 h a
@@ -184,7 +184,7 @@ past_end no_component = refl
 past_end (component_absent m a) = past_end a
 past_end (component_present m a) = past_end a
 
--- without a marker there is none
+-- without a marker there are no additions
 pub no_addition : (s : List Resolved) {n : ℕ} {ws : Row} (cs root more : List Component) → cs ≡ root ++ more → more ≡ [] → AllByRecursion (λ k. is_addition k ≡ false) root → AllByRecursion (λ k. is_addition k ≡ true) more → AreComponents s n cs ws → any_from (length (root_of (placed_from 0 cs))) ws ≡ false
 no_addition s {n} {ws} cs root more e m r h a =
     let l : length (root_of (placed_from 0 cs)) ≡ length root = ap (λ q. length (root_of (placed_from 0 q))) e ∙ root_number 0 root more r h in
@@ -193,7 +193,7 @@ no_addition s {n} {ws} cs root more e m r h a =
 
 -- ---- a whole SEQUENCE or SET
 
--- the root, and what is behind it
+-- the root, and what follows it
 pub whole : (s : List Resolved) (t : ℕ) (v : AbstractValue) (e : Bool) (i : ℕ) (xs : List (Member ℕ)) (ds : List (Addition ℕ)) → (e ≡ true → mark_bit i v ≡ any_set (c.addition_map (map (on_additions (member_at (members_of s t v))) ds))) → (e ≡ false → any_set (c.addition_map (map (on_additions (member_at (members_of s t v))) ds)) ≡ false) → steps_bits s t v (mark_if e i ++ (Map (length xs) ∷ (root_steps xs ++ rest_if e ds))) ≡ extended_bits e (presence_bits (map (member_at (members_of s t v)) xs) ++ member_bits (map (member_at (members_of s t v)) xs)) (c.addition_map (map (on_additions (member_at (members_of s t v))) ds)) (c.addition_bits (map (on_additions (member_at (members_of s t v))) ds))
 whole s t v e i xs ds h n = by e h n
   where

@@ -20,7 +20,7 @@ more_at j i [] a e = absurd (cc)
 more_at j zero (b ∷ as') a e = let k : j ≡ j + 0 = omega arith in ap (λ q. Some (steps.More q (id_of b.type))) k ∙ ap (λ q. Some (steps.More (j + 0) (id_of q.type))) (some_same e)
 more_at j (suc i) (b ∷ as') a e = let k : suc j + i ≡ j + suc i = omega arith in more_at (suc j) i as' a e ∙ ap (λ q. Some (steps.More q (id_of a.type))) k
 
--- what is there of the root, or behind it
+-- an alternative of the root, or one after it
 pub data Called (s : List Resolved) (e : Bool) (all as' more : List Alternative) (i : ℕ) (a : Alternative) : Type 0 where
   of_root : i < length as'
       → slice_get as' i ≡ Some a

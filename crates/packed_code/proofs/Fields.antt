@@ -11,7 +11,7 @@ use Rattle.packed_code.specs.declared.step.PackedStep.{PackedStep}
 use Rattle.packed_code.specs.Routines.{placed_from, place_in, field_at, root_steps, member_steps}
 use Rattle.packed_code.specs.Meaning.{members_of, is_written, bits_at, next_fields, map_bits, any_written, field_bits, steps_bits}
 
--- a component with these bits where it is written
+-- a component with these bits, if it is written
 abbrev pub made : Bool → Component → Bits → Member Bits
 made true c x = standing c x
 made false c x = missing c
@@ -113,7 +113,7 @@ module _ (ms : List (Member Bits)) where
       ap (λ q. bits_at ms (place_in m) ++ q) (bits_are xs)
       ∙ sym (bits_first (is_written ms (place_in m)) (component m) (bits_at ms (place_in m)) (map (member_at ms) xs) (unwritten ms (place_in m)))
 
--- the steps of the root's components, and those behind them
+-- the steps of the root's components, and those after them
 pub roots_write : (s : List Resolved) (t : ℕ) (v : AbstractValue) (xs : List (Member ℕ)) (ss : List PackedStep) → steps_bits s t v (root_steps xs ++ ss) ≡ member_bits (map (member_at (members_of s t v)) xs) ++ steps_bits s t v ss
 roots_write s t v [] ss = refl
 roots_write s t v (m ∷ xs) ss =

@@ -7,8 +7,8 @@ ghost use Rattle.std.specs.Prelude.{◌≡◌, ◌<◌, ◌≤◌, ◌++◌, ◌
 use bits::buffer::BitBuf;
 use std::alloc::AllocError;
 
-/// Adds the bits before the next of so many items that are left, and answers how many come next. `AllocError`: more
-/// memory was asked for and refused.
+/// Adds the bits before the next items, if `count` items are left. The result is how many items come next. `AllocError`
+/// only if an allocation fails.
 #[tactic(auto, using(crate::proofs::Parts::few_bits, crate::proofs::Parts::some_bits, crate::proofs::Parts::part_bits, crate::proofs::Parts::all_next, crate::proofs::Parts::part_next))]
 pub fn push_count(out: &mut BitBuf, count: usize) -> Result<usize, AllocError>
     ensures next { IfOk result (λ n. n ≡ items_next count) }

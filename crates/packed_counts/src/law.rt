@@ -1,11 +1,11 @@
-//! Items after their number, part by part.
+//! Items after their number, in one piece or in fragments (X.691, 11.9).
 
 ghost use Rattle.packed_counts.specs.Counts.{count_bits, items_next};
 ghost use Rattle.packed_encodings.specs.Lengths.{Counted, all_bits};
 ghost use Rattle.std.specs.Prelude.{ℕ, ◌<◌, ◌≤◌, ◌++◌, Bool, List, drop, length, take};
 
-/// The bits before items, and the items, are the items after their number: all of them at once where they are fewer than
-/// 16,384, else the next fragment before the others, counted.
+/// A number before items, and then the items, are an encoding of the items. Fewer than 16,384 items have one number.
+/// Otherwise the number is that of the next fragment, and the other items follow with numbers of their own.
 pub fn count_laws()
     ensures at_once { (xs : List (List Bool))
         → length xs < 16384

@@ -1,4 +1,4 @@
-//! Items after their number, in the packed encodings.
+//! Items after their number, in the packed encodings (X.691, 11.9).
 #![tactic(auto)]
 
 mod count;

@@ -1,4 +1,4 @@
-//! Numbers as bits.
+//! Numbers as bits (X.691, 11.3).
 
 ghost use Rattle.bits.specs.Words.{word};
 ghost use Rattle.std.specs.Prelude.{◌≡◌, ◌/◌, ◌%◌, ◌^◌, ◌==◌, ◌++◌, OnOk};
@@ -6,7 +6,7 @@ ghost use Rattle.std.specs.Prelude.{◌≡◌, ◌/◌, ◌%◌, ◌^◌, ◌==�
 use bits::buffer::BitBuf;
 use std::alloc::AllocError;
 
-/// Adds the low `width` bits of a number, the highest first. `AllocError`: more memory was asked for and refused.
+/// Adds the low `width` bits of a number, the most significant first. `AllocError` only if an allocation fails.
 #[tactic(auto, using(crate::proofs::Numbers::one_bit))]
 pub fn push_number(out: &mut BitBuf, number: u128, width: usize) -> Result<(), AllocError>
     ensures { OnOk result (out.new ≡ out.old ++ word width number) }
@@ -23,7 +23,7 @@ pub fn push_number(out: &mut BitBuf, number: u128, width: usize) -> Result<(), A
     Ok(())
 }
 
-/// The bit of a number at a place, from the lowest one.
+/// The bit of a number at a place, counted from the least significant bit.
 #[tactic(auto, using(crate::proofs::Numbers::none_high))]
 fn bit_at(number: u128, place: usize) -> bool
     ensures { result ≡ (number / 2 ^ place % 2 == 1) }

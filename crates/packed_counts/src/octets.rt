@@ -9,7 +9,7 @@ use crate::count::push_count;
 use bits::buffer::BitBuf;
 use std::alloc::AllocError;
 
-/// Adds octets, eight bits each. `AllocError`: more memory was asked for and refused.
+/// Adds octets, eight bits for each. `AllocError` only if an allocation fails.
 #[tactic(auto, using(crate::proofs::Parts::octets_are))]
 pub fn push_octets(out: &mut BitBuf, octets: &[u8]) -> Result<(), AllocError>
     ensures { OnOk result (out.new ≡ out.old ++ all_bits (map (word 8) octets.now)) }
@@ -17,8 +17,8 @@ pub fn push_octets(out: &mut BitBuf, octets: &[u8]) -> Result<(), AllocError>
     out.push_octets(octets)
 }
 
-/// Adds octets after their number, in fragments where they are many (X.691, 11.9.3). `AllocError`: more memory was asked
-/// for and refused.
+/// Adds octets after their number, in fragments if there are many (X.691, 11.9.3). `AllocError` only if an allocation
+/// fails.
 pub fn push_counted_octets(out: &mut BitBuf, octets: &[u8]) -> Result<(), AllocError>
     ensures { OnOk result (Adds (Counted (map (word 8) octets.now)) out.old out.new) }
 {

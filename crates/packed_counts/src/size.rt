@@ -1,4 +1,4 @@
-//! The number of items as SIZE bounds it (X.691, 16.6, 17.3, 20.4 and 11.9.4).
+//! The number of items by the bounds of SIZE (X.691, 16.6, 17.3, 20.4 and 11.9.4).
 
 ghost use Rattle.asn_base.specs.Seen.{bounds_of};
 ghost use Rattle.packed_counts.specs.Counts.{Adds, HasLeast, IsHead, IsRootHead};
@@ -11,7 +11,7 @@ use bits::buffer::BitBuf;
 use packed_code::{fewest, span};
 use std::alloc::AllocError;
 
-/// Whether the number is one of the root.
+/// Whether the number is a size of the root.
 fn is_in_root(bounds: &Bounds, count: i128) -> bool
     ensures { IsTrue result ↔ IsInRoot (bounds_of bounds.now) count }
 {
@@ -37,15 +37,15 @@ fn above(least: i128, count: usize) -> u128
     span(least, count as i128)
 }
 
-/// Whether an upper bound is one with which the number takes the fewest bits.
+/// Whether an upper bound is small enough for a number of constant width.
 fn is_small(greatest: i128) -> bool
     ensures { IsTrue result ↔ greatest <ℤ pos 65536 }
 {
     greatest < 65536
 }
 
-/// Adds what the root asks before so many items, and answers whether they follow at once; else they follow after their
-/// number, whatever it is.
+/// Adds the bits before items by the bounds of the root. The result is true if the items follow, and false if the items
+/// after their number follow.
 #[tactic(auto, using(crate::proofs::Sizes::no_greatest, crate::proofs::Sizes::large_greatest, crate::proofs::Sizes::no_least))]
 fn push_root_size(out: &mut BitBuf, bounds: &Bounds, count: usize) -> Result<bool, AllocError>
     requires least { HasLeast (bounds_of bounds.now) }
@@ -67,8 +67,8 @@ fn push_root_size(out: &mut BitBuf, bounds: &Bounds, count: usize) -> Result<boo
     Ok(false)
 }
 
-/// Adds what SIZE asks before so many items, and answers whether they follow at once; else they follow after their
-/// number, whatever it is (`push_count`). `AllocError`: more memory was asked for and refused.
+/// Adds the bits before items by the bounds of SIZE. The result is true if the items follow, and false if the items
+/// after their number follow (`push_count`). `AllocError` only if an allocation fails.
 #[tactic(auto, using(crate::proofs::Sizes::plain_head, crate::proofs::Sizes::head_inside, crate::proofs::Sizes::head_outside))]
 pub fn push_size(out: &mut BitBuf, bounds: &Bounds, count: usize) -> Result<bool, AllocError>
     requires least { HasLeast (bounds_of bounds.now) }

@@ -60,7 +60,8 @@ two_unknown = record {
   filled = padded 5 (lit≤ tt) (lit< tt) (lit< tt, (lit< tt, (lit< tt, (lit< tt, (lit< tt, (lit< tt, tt)))))) refl;
 }
 
--- SEQUENCE {a BOOLEAN, ..., b INTEGER (0..7), c INTEGER (0..7)} reads C0406800, which tells of one addition, as {a TRUE, b 5}
+-- SEQUENCE {a BOOLEAN, ..., b INTEGER (0..7), c INTEGER (0..7)} reads C0406800, which has one addition, as {a TRUE, b
+-- 5}
 abbrev with_two : List Resolved
 with_two = of_kind (a_sequence true (is_component 1 mandatory ∷ is_component 2 new ∷ is_component 2 new ∷ [])) ∷ of_kind a_boolean ∷ of_kind (an_integer (from_to 0 7)) ∷ []
 
@@ -76,8 +77,8 @@ fewer_told = record {
   filled = padded 6 (lit≤ tt) (lit< tt) (lit< tt, (lit< tt, (lit< tt, (lit< tt, tt)))) refl;
 }
 
--- T ::= SEQUENCE {s S DEFAULT {a TRUE}}, S ::= SEQUENCE {a BOOLEAN, ...} reads E0203400 as {s {a TRUE}}: it is the same as
--- the DEFAULT, but an addition was skipped within it
+-- The types are T ::= SEQUENCE {s S DEFAULT {a TRUE}} and S ::= SEQUENCE {a BOOLEAN, ...}. T reads E0203400 as {s {a
+-- TRUE}}. The value is the same as the DEFAULT, but an addition was skipped within it.
 abbrev with_default : List Resolved
 with_default = of_kind (a_sequence false (is_component 1 (default (fields (present (boolean true) end))) ∷ [])) ∷ of_kind (a_sequence true (is_component 2 mandatory ∷ [])) ∷ of_kind a_boolean ∷ []
 
@@ -253,7 +254,7 @@ none_between s t k tags w i is r =
     let p = only_filled s t 0 k (integer (pos 4)) w (false ∷ (true ∷ (true ∷ []))) (replicate 5 false) (96 ∷ []) i (four_bits is) refl r in
     four_excluded (allowed_there (subst (λ v. IsValue s t v) p.1 r.value).shaped is)
 
--- OCTET STRING reads no value from 800101: the number of octets, 1, is in two octets, where one is enough
+-- OCTET STRING reads no value from 800101: the number of octets, 1, is in two octets, although one is enough
 octets_counted : {w : AbstractValue} {b : Bits} → Leaf (an_octet_string any_size) w b → (xs : Items) × Counted xs b
 octets_counted (of_octets {o = o} below (sized e (narrow l m n f g h i j))) = absurd (no_number g)
   where

@@ -1,4 +1,4 @@
--- What stands of packed encodings as wholes.
+-- Theorems on whole packed encodings.
 use Rattle.std.proofs.Common.{arith, ◌≡◌, ℕ, List, [], ◌∷◌, ◌++◌, length, refl, sym, ap, subst, ◌∙◌, append_assoc, length-append}
 use Rattle.bits.specs.Words.{word, octet_bits}
 use Rattle.asn_base.specs.Abstract.{AbstractValue}

@@ -39,7 +39,7 @@ far_abs l m = by ((l +ℤ pos m) -ℤ l) (omega (arith, ints))
 far_is : (l g : ℤ) (m : ℕ) → g ≡ l +ℤ pos m → nat_abs (g -ℤ l) ≡ m
 far_is l g m e = ap (λ q. nat_abs (q -ℤ l)) e ∙ far_abs l m
 
--- it is as far as told
+-- the number is that far above the other one
 pub at_distance : (l v : ℤ) → l ≤ℤ v → v ≡ l +ℤ pos (nat_abs (v -ℤ l))
 at_distance l v h = let r = above l v h in r.1 ∙ ap (λ q. l +ℤ pos q) (sym (far_is l v r.0 r.1))
 

@@ -45,7 +45,7 @@ both c x n false l e = by (nat_lt c n)
     by true = refl
     by false = refl
 
--- where codes ascend, all are below a number if the last one is
+-- if codes ascend, all are below a number if the last one is
 pub last_tells : (n d : ℕ) (cs : List ℕ) → CodesAscend (d ∷ cs) → nat_lt (slice_index (d ∷ cs) (length (d ∷ cs) - 1)) n ≡ codes_below n (d ∷ cs)
 last_tells n d [] h = sym (and_true (nat_lt d n))
 last_tells n d (e ∷ cs) h =

@@ -26,10 +26,10 @@ use packed_counts::{push_count, push_size};
 use packed_encodings::function_laws;
 use std::alloc::{AllocError, Global};
 
-/// The most octets whose bits a list of bits can hold.
+/// The greatest number of octets whose bits fit in a list of bits.
 const MOST_OCTETS: usize = 1 << 58;
 
-/// How many bits there are. `AllocError`: more than a list of bits can hold.
+/// How many bits there are. `AllocError`: there are more than fit in a list of bits.
 fn bit_count(bits: &BitString) -> Result<usize, AllocError>
     ensures count { IfOk result (λ n. n ≡ length (bits_of bits.now)) }
     ensures inside { IfOk result (λ n. n ≤ 8 * length bits.now.octets.items) }
@@ -42,7 +42,7 @@ fn bit_count(bits: &BitString) -> Result<usize, AllocError>
     Ok(8 * octets - bits.unused as usize)
 }
 
-/// The first so many bits of octets.
+/// Adds the first `count` bits of octets.
 fn push_first(out: &mut BitBuf, octets: &[u8], count: usize) -> Result<(), AllocError>
     requires { count ≤ 8 * length octets.now }
     ensures { OnOk result (out.new ≡ out.old ++ take count (octet_bits octets.now)) }
@@ -56,7 +56,7 @@ fn push_first(out: &mut BitBuf, octets: &[u8], count: usize) -> Result<(), Alloc
     Ok(())
 }
 
-/// The first so many octets.
+/// The first `count` octets.
 fn front(octets: &[u8], count: usize) -> &[u8]
     requires { count ≤ length octets.now }
     ensures { result.now ≡ take count octets.now }
@@ -64,7 +64,7 @@ fn front(octets: &[u8], count: usize) -> &[u8]
     &octets[..count]
 }
 
-/// The highest bits of an octet, as a number.
+/// The first `count` bits of an octet, as a number.
 #[tactic(auto, using(crate::proofs::Front::high_bits))]
 fn high_bits(octet: u8, count: usize) -> u64
     requires { count ≤ 8 }
@@ -73,7 +73,7 @@ fn high_bits(octet: u8, count: usize) -> u64
     (octet as u64) >> (8 - count)
 }
 
-/// The first so many bits of octets after their number (16.11).
+/// Adds the first `count` bits of octets after their number (16.11).
 fn push_counted(out: &mut BitBuf, octets: &[u8], count: usize) -> Result<(), AllocError>
     requires { count ≤ 8 * length octets.now }
     ensures { OnOk result (Adds (Counted (singly (take count (octet_bits octets.now)))) out.old out.new) }
@@ -90,7 +90,7 @@ fn push_counted(out: &mut BitBuf, octets: &[u8], count: usize) -> Result<(), All
     Ok(())
 }
 
-/// The bits of a BIT STRING after their number, as SIZE bounds it (16.6 to 16.11).
+/// Adds the bits of a BIT STRING after their number, by the bounds of SIZE (16.6 to 16.11).
 pub(crate) fn push_bit_string(
     out: &mut BitBuf,
     size: &Constraint,
@@ -115,7 +115,7 @@ pub(crate) fn push_bit_string(
     }
 }
 
-/// The bits of a BIT STRING with named bits, without trailing zeros, after their number (16.2).
+/// Adds the bits of a BIT STRING with named bits, without trailing zeros, after their number (16.2).
 pub(crate) fn push_named_bits(
     alloc: Global,
     out: &mut BitBuf,
@@ -141,7 +141,7 @@ pub(crate) fn push_named_bits(
     }
 }
 
-/// All bits of octets but the last unused ones, after their number.
+/// Adds all bits of octets, except the last `unused` ones, after their number.
 fn push_filled(out: &mut BitBuf, octets: &[u8], unused: u8) -> Result<(), AllocError>
     requires { unused ≤ 8 * length octets.now }
     ensures { OnOk result (Adds (Counted (singly (take (8 * length octets.now - unused) (octet_bits octets.now))))

@@ -21,7 +21,7 @@ use packed_counts::push_number;
 use packed_encodings::function_laws;
 use std::alloc::AllocError;
 
-/// The bits that a place among so many takes.
+/// How many bits an index below `count` has.
 pub(crate) fn place_bits(count: usize) -> usize
     ensures is { result ≡ place_width count }
     ensures at_most { result ≤ 128 }
@@ -33,7 +33,8 @@ pub(crate) fn place_bits(count: usize) -> usize
     }
 }
 
-/// The place of the item with this number, where items ascend. Of others it may be None.
+/// The place of the item with this number, by a search that needs ascending items. For other items the result may be
+/// None.
 fn found(items: &[Item], number: i128) -> Option<usize>
     ensures { IfSome result (IsPlace (map item_of items.now) number) }
 {
@@ -48,7 +49,7 @@ fn found(items: &[Item], number: i128) -> Option<usize>
     }
 }
 
-/// The place of the item with this number, if there is one.
+/// The place of the item with this number, or None if there is no such item.
 fn looked_for(items: &[Item], number: i128) -> Option<usize>
     ensures { MatchOption result
         (HasNumber (map item_of items.now) number → ⊥)
@@ -62,7 +63,7 @@ fn looked_for(items: &[Item], number: i128) -> Option<usize>
     None
 }
 
-/// The place of an item among those of the root (14.2).
+/// Adds the index of an item in the root (14.2).
 fn push_root(out: &mut BitBuf, items: &Items, place: usize) -> Result<(), AllocError>
     ensures { OnOk result (out.new ≡ out.old
         ++ (root_bit items.now.extensible ++ word (place_width (length items.now.root.items)) place)) }
@@ -73,7 +74,7 @@ fn push_root(out: &mut BitBuf, items: &Items, place: usize) -> Result<(), AllocE
     push_number(out, place as u128, place_bits(items.root.len()))
 }
 
-/// The place of an item among those after the marker (14.3).
+/// Adds the index of an item after the marker (14.3).
 fn push_added(out: &mut BitBuf, place: usize) -> Result<(), AllocError>
     requires { place < 64 }
     ensures { OnOk result (out.new ≡ out.old ++ (true ∷ (false ∷ word 6 place))) }
@@ -84,7 +85,7 @@ fn push_added(out: &mut BitBuf, place: usize) -> Result<(), AllocError>
     Ok(())
 }
 
-/// The item with this number.
+/// Adds the index of the item with this number.
 fn push_item(out: &mut BitBuf, items: &Items, number: i128) -> Result<(), AllocError>
     requires items { AreItems items.now.extensible (map item_of items.now.root.items)
         (map item_of items.now.additions.items) }
@@ -117,7 +118,7 @@ fn push_item(out: &mut BitBuf, items: &Items, number: i128) -> Result<(), AllocE
     }
 }
 
-/// The item of an ENUMERATED.
+/// Adds the item of an ENUMERATED (14).
 pub(crate) fn push_enumerated(
     out: &mut BitBuf,
     items: &Items,

@@ -1,4 +1,4 @@
-//! Values of all kinds that hold no others.
+//! Values without other values in them, of all kinds.
 
 ghost use Rattle.asn_base.specs.Abstract.{abstract};
 ghost use Rattle.asn_base.specs.Schemas.{IsSound};
@@ -19,15 +19,15 @@ use asn_base::value::Value;
 use bits::buffer::BitBuf;
 use std::alloc::{AllocError, Global};
 
-/// Adds the bits of a value of a kind that holds no others (X.691, 12 to 14, 16 to 18, 24, 25 and 30). `AllocError`:
-/// more memory was asked for and refused.
+/// Adds the bits of a value without other values in it (X.691, 12 to 14, 16 to 18, 24, 25 and 30). `AllocError` only if
+/// an allocation fails.
 pub fn push_leaf(
     alloc: Global,
     out: &mut BitBuf,
     core: &Core,
     value: &Value,
 ) -> Result<(), AllocError>
-    // The type is one of some schema.
+    // The kind is that of a type in some schema.
     requires sound { (s : List Resolved) × IsSound s (kind_of core.now) }
     requires fits { Fits (kind_of core.now) (abstract value.now) }
     ensures { OnOk result (out.new ≡ out.old ++ leaf_bits (kind_of core.now) (abstract value.now)) }
@@ -55,7 +55,7 @@ pub fn push_leaf(
     }
 }
 
-/// A truth value: one bit (12.1).
+/// Adds the value of a BOOLEAN, which is one bit (12.1).
 fn push_boolean(out: &mut BitBuf, value: &Value) -> Result<(), AllocError>
     requires { Fits a_boolean (abstract value.now) }
     ensures { OnOk result (out.new ≡ out.old ++ leaf_bits a_boolean (abstract value.now)) }

@@ -1,4 +1,4 @@
-//! Values that hold no others, as bits of the packed encodings (X.691, 12 to 14, 16 to 18, 24, 25 and 30).
+//! Values without other values in them, as bits of the packed encodings (X.691, 12 to 14, 16 to 18, 24, 25 and 30).
 #![tactic(auto)]
 
 mod bit_string;

@@ -47,7 +47,7 @@ fn is_at_most(bounds: &Bounds, number: i128) -> bool
     }
 }
 
-/// The fewest octets of a number in two's complement after their number (11.8).
+/// Adds the fewest octets for a number in two's complement, after the number of these octets (11.8).
 fn push_signed(
     alloc: Global,
     out: &mut BitBuf,
@@ -62,7 +62,7 @@ fn push_signed(
     Ok(())
 }
 
-/// The fewest octets of a number that isn't negative, after their number (11.7).
+/// Adds the fewest octets for a number that isn't negative, after the number of these octets (11.7).
 fn push_unsigned(out: &mut BitBuf, number: u128) -> Result<(), AllocError>
     ensures { OnOk result (AddsUnsigned number out.old out.new) }
 {
@@ -77,7 +77,7 @@ fn push_unsigned(out: &mut BitBuf, number: u128) -> Result<(), AllocError>
     Ok(())
 }
 
-/// A number of the root (13.2).
+/// Adds a number of the root (13.2).
 fn push_in_root(
     alloc: Global,
     out: &mut BitBuf,
@@ -107,7 +107,7 @@ fn push_in_root(
     }
 }
 
-/// A number as its constraint bounds it (13.1).
+/// Adds a number by its bounds (13.1).
 fn push_bounded(
     alloc: Global,
     out: &mut BitBuf,
@@ -135,7 +135,7 @@ fn push_bounded(
     }
 }
 
-/// The number of an INTEGER.
+/// Adds the number of an INTEGER (13).
 pub(crate) fn push_integer(
     alloc: Global,
     out: &mut BitBuf,

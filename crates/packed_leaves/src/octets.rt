@@ -1,4 +1,4 @@
-//! Strings of octets, and contents that are octets (X.691, 17, 24, 25 and 30.6).
+//! Strings of octets, and contents octets (X.691, 17, 24, 25 and 30.6).
 
 ghost use Rattle.asn_base.specs.Abstract.{abstract};
 ghost use Rattle.asn_base.specs.Schemas.{AreBounds, IsSize};
@@ -24,12 +24,12 @@ use packed_counts::{push_counted_octets, push_octets, push_size};
 use packed_encodings::function_laws;
 use std::alloc::{AllocError, Global};
 
-/// They are octets.
+/// A law: each of the octets is below 256.
 pub(crate) fn are_octets(octets: &[u8])
     ensures { AllBelowBase 256 octets.now }
 {}
 
-/// Octets after their number.
+/// Adds octets after their number.
 fn push_counted(out: &mut BitBuf, octets: &[u8]) -> Result<(), AllocError>
     ensures { OnOk result (Adds (CountedOctets octets.now) out.old out.new) }
 {
@@ -37,7 +37,7 @@ fn push_counted(out: &mut BitBuf, octets: &[u8]) -> Result<(), AllocError>
     push_counted_octets(out, octets)
 }
 
-/// The contents octets of a value (X.690, 8) after their number.
+/// Adds the contents octets of a value (X.690, 8) after their number.
 pub(crate) fn push_contents(
     alloc: Global,
     out: &mut BitBuf,
@@ -57,7 +57,7 @@ pub(crate) fn push_contents(
     }
 }
 
-/// The same by a list of them.
+/// Adds the same contents octets, which are first collected in a list.
 fn push_collected(
     alloc: Global,
     out: &mut BitBuf,
@@ -72,7 +72,7 @@ fn push_collected(
     push_counted(out, octets.as_slice())
 }
 
-/// The octets of an OCTET STRING after their number, as SIZE bounds it (17.3 to 17.8).
+/// Adds the octets of an OCTET STRING after their number, by the bounds of SIZE (17.3 to 17.8).
 pub(crate) fn push_octet_string(
     out: &mut BitBuf,
     size: &Constraint,
@@ -95,7 +95,7 @@ pub(crate) fn push_octet_string(
     }
 }
 
-/// The octets of a UTF8String after their number: SIZE makes no difference (30.6).
+/// Adds the octets of a UTF8String after their number. Its SIZE makes no difference (30.6).
 pub(crate) fn push_utf8(
     out: &mut BitBuf,
     size: &Constraint,
@@ -110,7 +110,7 @@ pub(crate) fn push_utf8(
     Ok(())
 }
 
-/// The contents octets of an OBJECT IDENTIFIER after their number (24).
+/// Adds the contents octets of an OBJECT IDENTIFIER after their number (24).
 pub(crate) fn push_object_identifier(
     alloc: Global,
     out: &mut BitBuf,
@@ -124,7 +124,7 @@ pub(crate) fn push_object_identifier(
     Ok(())
 }
 
-/// The contents octets of a RELATIVE-OID after their number (25).
+/// Adds the contents octets of a RELATIVE-OID after their number (25).
 pub(crate) fn push_relative_oid(
     alloc: Global,
     out: &mut BitBuf,

@@ -22,8 +22,8 @@ use packed_counts::{push_count, push_size};
 use packed_encodings::function_laws;
 use std::alloc::AllocError;
 
-/// The codes of an alphabet in order, in how many bits a character is written, and whether by its code, where all codes
-/// fit, or by its place (30.5.4).
+/// An alphabet: its codes in order, and how many bits a character has. The bits are the code if all codes fit, or else
+/// its place in the alphabet (30.5.4).
 #[derive(Clone, Copy)]
 pub(crate) struct Alphabet<'a> {
     codes: &'a [u8],
@@ -31,7 +31,7 @@ pub(crate) struct Alphabet<'a> {
     by_code: bool,
 }
 
-/// Whether all codes are below a number, where they ascend: the last one is.
+/// Whether all codes are below 2^`width`. Since the codes ascend, only the last one is compared.
 fn are_below(codes: &[u8], width: usize) -> bool
     requires small { width ≤ 8 }
     requires ascend { CodesAscend codes.now }
@@ -56,7 +56,7 @@ fn alphabet_of(codes: &[u8]) -> Alphabet<'_>
     }
 }
 
-/// The place of a code in the alphabet, or how many codes there are where it isn't there.
+/// The place of a code in the alphabet, or the number of codes if it isn't there.
 fn place_of(codes: &[u8], code: u8) -> usize
     ensures { result ≡ code_place codes.now code }
 {
@@ -68,7 +68,7 @@ fn place_of(codes: &[u8], code: u8) -> usize
     codes.len()
 }
 
-/// A character: its code where all codes fit, else its place (30.5.4).
+/// Adds a character: its code if all codes fit, or else its place (30.5.4).
 fn push_character(out: &mut BitBuf, alphabet: Alphabet<'_>, code: u8) -> Result<(), AllocError>
     requires { IsOf alphabet.codes.now alphabet }
     ensures { OnOk result (out.new ≡ out.old ++ character_bits alphabet.entry.codes.now code) }
@@ -92,7 +92,7 @@ fn push_characters(out: &mut BitBuf, alphabet: Alphabet<'_>, text: &[u8]) -> Res
     Ok(())
 }
 
-/// Characters after their number.
+/// Adds characters after their number.
 fn push_counted(out: &mut BitBuf, alphabet: Alphabet<'_>, text: &[u8]) -> Result<(), AllocError>
     requires { IsOf alphabet.codes.now alphabet }
     ensures { OnOk result (Adds (Counted (map (character_bits alphabet.entry.codes.now) text.now)) out.old out.new) }
@@ -109,7 +109,7 @@ fn push_counted(out: &mut BitBuf, alphabet: Alphabet<'_>, text: &[u8]) -> Result
     Ok(())
 }
 
-/// The characters of a string after their number, as SIZE bounds it (30.5).
+/// Adds the characters of a string after their number, by the bounds of SIZE (30.5).
 pub(crate) fn push_text(
     out: &mut BitBuf,
     kind: StringKind,

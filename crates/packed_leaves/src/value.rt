@@ -1,4 +1,4 @@
-//! What a value holds, by its variant.
+//! The contents of values, by their variant.
 
 ghost use Rattle.asn_base.specs.Abstract.{abstract, bits, bits_of, boolean, enumerated, integer, octets, text};
 ghost use Rattle.std.specs.Prelude.{◌≡◌, ℕ, ℤ, Bool, List};

@@ -1,4 +1,4 @@
--- What a packed routine stands for when bits are read, step by step.
+-- The meaning of a packed routine for decoding bits, step by step (X.691, 11 to 30).
 use Rattle.std.specs.Prelude.{ℕ, zero, suc, ◌==◌, Bool, true, false, if◌then◌else◌, List, [], ◌∷◌, map, take, drop}
 use Rattle.std.specs.Prelude.{Option, Some, None, slice_get}
 use Rattle.asn_base.specs.Abstract.{AbstractValue, fields}
@@ -24,7 +24,7 @@ use Rattle.packed_reader.specs.Values.{Chosen, in_root, added, chosen_value, ele
 
 -- ---- components
 
--- a component that there isn't
+-- a component in place of one that isn't there
 abbrev pub no_component : Component
 no_component = record { name = []; type = 0; presence = mandatory }
 
@@ -32,7 +32,7 @@ no_component = record { name = []; type = 0; presence = mandatory }
 abbrev pub member_at : List Component → PackedField → Member ℕ
 member_at cs f = elim (slice_get cs f.place) [ None ↦ missing no_component | Some c ↦ standing c f.place ]
 
--- those of the next n steps
+-- the components of the next n steps
 abbrev pub next_members : List Component → ℕ → List PackedStep → List (Member ℕ)
 next_members cs n ss = map (member_at cs) (next_fields n ss)
 
@@ -55,13 +55,13 @@ structure_by s l value t e k ss n b =
 
 -- ---- alternatives
 
--- the call of the root with this rank, and its number
+-- the alternative of the root with this rank, and its number
 abbrev pub ranked_call : ℕ → List PackedStep → ℕ → Option Chosen
 ranked_call r [] i = None
 ranked_call r (steps.Root c ∷ ss) i = if c.rank == r then Some (in_root i c.ty.index) else ranked_call r ss (suc i)
 ranked_call r (st ∷ ss) i = ranked_call r ss (suc i)
 
--- the call of the addition with this number
+-- the addition with this number
 abbrev pub added_call : ℕ → List PackedStep → ℕ → Option Chosen
 added_call j [] i = None
 added_call j (steps.More k u ∷ ss) i = if k == j then Some (added i u.index) else added_call j ss (suc i)
@@ -74,7 +74,7 @@ or_refused e (Some c) = good c
 abbrev pub root_call : ℕ → List PackedStep → Bits → Outcome Chosen
 root_call width ss = judging (λ r. or_refused why.Outside (ranked_call r ss 0)) (field_from width)
 
--- one of the calls, as the first one, which is of the root, tells how
+-- the alternative that the bits select among these calls, of which the first is one of the root (X.691, 23)
 abbrev pub call_from : List PackedStep → Bits → Outcome Chosen
 call_from (steps.Root c ∷ ss) b =
     if c.extensible
@@ -91,7 +91,7 @@ size_in (a_sequence_of c u) = c
 size_in (a_set_of c u) = c
 size_in k = any_size
 
--- a value of type t by the steps of its routine
+-- a value of type t by these steps
 abbrev pub steps_from : List Resolved → ℕ → ReadsValue → TypeNumber → List PackedStep → ℕ → Bits
     → Reading (Taken AbstractValue)
 steps_from s l value t (steps.Mark m ∷ (steps.Map k ∷ ss)) n b = structure_by s l value t true k ss n b
@@ -105,7 +105,7 @@ steps_from s l value t (steps.Pick k ∷ ss) n b =
 steps_from s l value t [] n b = stop why.Outside b
 steps_from s l value t (st ∷ ss) n b = next (plain (leaf_from (kind_at s t) b)) (λ v r. read (taken v 0 n) r)
 
--- a value of type t, where each type has its routine
+-- a value of type t by the routines of all types
 abbrev pub value_by : List Resolved → ℕ → TypeNumber → ℕ → Bits → Reading (Taken AbstractValue)
 value_by s zero t n b = stop why.TooDeep b
 value_by s (suc l) t zero b = stop why.NodesLimit b

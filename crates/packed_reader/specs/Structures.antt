@@ -1,4 +1,4 @@
--- SEQUENCE and SET, read from the front of bits (X.691, 11.2, 19 and 21).
+-- SEQUENCE and SET, decoded from the front of bits (X.691, 11.2, 19 and 21).
 use Rattle.std.specs.Prelude.{ℕ, zero, suc, ◌+◌, ◌-◌, ◌==◌, nat_lt, Bool, true, false, not, ◌&&◌, if◌then◌else◌}
 use Rattle.std.specs.Prelude.{List, [], ◌∷◌, ◌++◌, length, map, drop}
 use Rattle.bits.specs.Words.{octet_bits}
@@ -23,21 +23,22 @@ abbrev pub all_clear : Bits → Bool
 all_clear [] = true
 all_clear (b ∷ bs) = not b && all_clear bs
 
--- Zero bits fill octets after so many bits: fewer than eight, and after none the eight of one octet (11.1).
+-- Zero bits fill the octets after `used` bits. There are fewer than eight of them, or the eight of one octet after no
+-- bits (11.1).
 abbrev pub is_filling : (used : ℕ) → Bits → Bool
 is_filling used z = all_clear z && (if used == 0 then length z == 8 else nat_lt (length z) 8)
 
--- bits that hold an encoding alone, filled to octets
+-- the bits of one encoding, filled to octets
 abbrev pub filled_from : {X : Type 0} → (Bits → Reading X) → Bits → Reading X
 filled_from f b =
     next (f b) (λ v z. if is_filling (length b - length z) z then read v [] else stop why.Padding z)
 
--- What octets are read as, with other bits after them. A fault within octets in fragments is at their end.
+-- The reading of octets that other bits follow. The place of a fault in octets in fragments is at their end.
 abbrev pub before_rest : {X : Type 0} → (whole : Bool) → Reading X → Bits → Reading X
 before_rest whole (read v z) r = read v r
 before_rest whole (refused e z) r = refused e (if whole then z ++ r else r)
 
--- an open type: an encoding alone, filled to octets, after their number (11.2)
+-- an open type: one encoding, filled to octets, after the number of these (11.2)
 abbrev pub open_from : {X : Type 0} → (Bits → Reading X) → Bits → Reading X
 open_from f b =
     next (plain (octets_from b))
@@ -45,34 +46,34 @@ open_from f b =
 
 -- ---- components
 
--- what reads a value of a type, where so many values may still begin
+-- a function that decodes a value of a type, given how many values may still begin
 abbrev pub ReadsValue : Type 0
 ReadsValue = TypeNumber → ℕ → Bits → Reading (Taken AbstractValue)
 
--- whether a component is present: a bit tells it, if it has one
+-- whether a component is present, which its bit says if it has one
 abbrev pub presence_from : Bool → Bits → Reading Bool
 presence_from true b = plain (bit_from b)
 presence_from false b = read true b
 
--- whether each of them is (19.2)
+-- whether each component is present (19.2)
 abbrev pub presences_from : List (Member ℕ) → Bits → Reading (List Bool)
 presences_from [] b = read [] b
 presences_from (m ∷ ms) b =
     next (presence_from (has_bit (component m).presence) b)
     (λ c r. next (presences_from ms r) (λ cs z. read (c ∷ cs) z))
 
--- the component in the value
+-- the component as a part of the value
 abbrev pub part_of : Member ℕ → Part
 part_of m = Component' (place_in m)
 
--- A value of a component must not be the same as its DEFAULT, unless additions were skipped within it (19.5).
+-- The value of a component must not be the same as its DEFAULT, unless additions were skipped within it (19.5).
 abbrev pub may_stand_so : List Resolved → Component → Taken AbstractValue → Bool
 may_stand_so s c w = not (w.skipped == 0 && is_default s c w.it)
 
 abbrev pub stood : Component → Taken AbstractValue → Taken (Member AbstractValue)
 stood c w = taken (standing c w.it) w.skipped w.left
 
--- A component that is present or not. Where it is not, its DEFAULT counts with its levels: at most l.
+-- A component that is present or absent. If it is absent, the levels of its DEFAULT are at most l.
 abbrev pub member_from : List Resolved → ℕ → ReadsValue → Member ℕ → Bool → ℕ → Bits
     → Reading (Taken (Member AbstractValue))
 member_from s l value m true n b =
@@ -97,7 +98,8 @@ members_from s l value (m ∷ ms) (c ∷ cs) n b =
 
 -- ---- additions
 
--- a group: a bit for each member that may be absent, and those that are present, of which there is one (19.9)
+-- a group: a bit for each member that may be absent, and then the present members, of which there is at least one
+-- (19.9)
 abbrev pub group_from : List Resolved → ℕ → ReadsValue → List (Member ℕ) → ℕ → Bits
     → Reading (Taken (List (Member AbstractValue)))
 group_from s l value ms n b =
@@ -127,7 +129,7 @@ lacking_addition (bracketed ms) = bracketed (map lacking ms)
 abbrev pub without : Addition ℕ → Taken (List (Addition AbstractValue)) → Taken (List (Addition AbstractValue))
 without d ts = taken (lacking_addition d ∷ ts.it) ts.skipped ts.left
 
--- a bit for each says whether it is present
+-- additions, where a bit for each says whether it is present
 abbrev pub additions_from : List Resolved → ℕ → ReadsValue → List (Addition ℕ) → Bits → ℕ → Bits
     → Reading (Taken (List (Addition AbstractValue)))
 additions_from s l value [] q n b = read (taken [] 0 n) b
@@ -138,24 +140,24 @@ additions_from s l value (d ∷ ds) (true ∷ q) n b =
     next (addition_from s l value d n b)
     (λ t r. next (additions_from s l value ds q t.left r) (λ ts z. read (joined t ts) z))
 
--- additions that the type lacks: their open types are skipped, and counted
+-- additions that the type lacks, whose open types are skipped and counted
 abbrev pub unknown_from : Bits → Bits → Reading ℕ
 unknown_from [] b = read 0 b
 unknown_from (false ∷ u) b = unknown_from u b
 unknown_from (true ∷ u) b =
     next (plain (octets_from b)) (λ o r. next (unknown_from u r) (λ k z. read (suc k) z))
 
--- one bit 0 and six bits of a number (11.6.1)
+-- the number of a small form: one bit 0, and the six bits of the number (11.6.1)
 abbrev pub count_from : Bits → Reading ℕ
 count_from b =
     next (tested not why.TooManyAdditions (λ r. plain (bit_from r)) b) (λ c r. plain (field_from 6 r))
 
--- a bit for each addition after their number, of which one is set (19.7, 19.8)
+-- the number of additions, and a bit for each, of which at least one is set (19.7 and 19.8)
 abbrev pub bitmap_from : Bits → Reading Bits
 bitmap_from b =
     next (count_from b) (λ n r. tested any_set why.NotCanonical (λ z. plain (several_bits (suc n) z)) r)
 
--- those of the type's n additions; the last ones may lack
+-- the bits of the type's n additions, of which the last ones may be missing
 abbrev pub own_bits : ℕ → Bits → Bits
 own_bits zero m = []
 own_bits (suc n) [] = false ∷ own_bits n []
@@ -171,15 +173,15 @@ extension_from s l value ds n b =
     next (additions_from s l value ds (own_bits (length ds) m) n r) (λ t y.
     next (unknown_from (drop (length ds) m) y) (λ k z. read (and_unknown t k) z)))
 
--- what follows the root: additions, where a bit 1 came before it
+-- the rest after the root: additions, if the first bit was 1
 abbrev pub rest_from : List Resolved → ℕ → ReadsValue → Bool → List (Addition ℕ) → ℕ → Bits
     → Reading (Taken (List (Addition AbstractValue)))
 rest_from s l value true ds n b = extension_from s l value ds n b
 rest_from s l value false ds n b = read (taken (map lacking_addition ds) 0 n) b
 
--- ---- the whole
+-- ---- the whole value
 
--- the root's components in the order in which they are encoded, and additions
+-- the components of the root in the order of the encoding, and the additions
 pub record Pieces : Type 0 where
   pub root : List (Member AbstractValue)
   pub more : List (Addition AbstractValue)
@@ -187,7 +189,7 @@ pub record Pieces : Type 0 where
 abbrev pub in_pieces : Taken (List (Member AbstractValue)) → Taken (List (Addition AbstractValue)) → Taken Pieces
 in_pieces t ds = taken (record { root = t.it; more = ds.it }) (t.skipped + ds.skipped) ds.left
 
--- an extensible type has a bit, 1 where additions are present (19.1)
+-- the bit of an extensible type, which is 1 if additions are present (19.1)
 abbrev pub mark_from : Bool → Bits → Reading Bool
 mark_from false b = read false b
 mark_from true b = plain (bit_from b)
@@ -202,7 +204,7 @@ pieces_from s l value e root ds n b =
 
 -- ---- components at their places
 
--- no component is present
+-- the row in which no component is present
 abbrev pub no_row : List Component → Row
 no_row [] = end
 no_row (c ∷ cs) = absent (no_row cs)
@@ -215,7 +217,7 @@ with_value zero w (present v ws) = present w ws
 with_value (suc i) w (absent ws) = absent (with_value i w ws)
 with_value (suc i) w (present v ws) = present v (with_value i w ws)
 
--- components that were read, each at its place
+-- decoded components, each at its place
 abbrev pub with_members : List (Member ℕ) → List (Member AbstractValue) → Row → Row
 with_members (m ∷ ms) (standing c w ∷ rs) ws = with_members ms rs (with_value (place_in m) w ws)
 with_members (m ∷ ms) (missing c ∷ rs) ws = with_members ms rs ws

@@ -1,4 +1,4 @@
--- Values of all types and messages, read from the front of bits (X.691, 11 to 30).
+-- Values of all types and messages, decoded from the front of bits (X.691, 11 to 30).
 use Rattle.std.specs.Prelude.{◌≡◌, ℕ, zero, suc, ◌+◌, ◌-◌, ◌==◌, nat_lt, Bool, true, false, if◌then◌else◌, List, [], ◌∷◌, length, Option, Some, None}
 use Rattle.std.specs.Prelude.{slice_get}
 use Rattle.bits.specs.Words.{octet_bits}
@@ -23,12 +23,12 @@ use Rattle.packed_reader.specs.Lists.{Element', row_of_elements, list_from}
 
 -- ---- alternatives
 
--- the number of the first alternative whose place in the canonical order of tags is r
+-- the number of the first alternative whose rank in the canonical order of tags is r
 abbrev pub ranked : List Resolved → (all : List Alternative) → ℕ → List Alternative → ℕ → Option ℕ
 ranked s all r [] i = None
 ranked s all r (a ∷ as') i = if rank s all a.type == r then Some i else ranked s all r as' (suc i)
 
--- an alternative of the root, or one after the marker, by its number among all, and its type
+-- an alternative of the root, or one after the marker, with its number among all and its type
 pub data Chosen : Type 0 where
   in_root : ℕ → TypeNumber → Chosen
   added : ℕ → TypeNumber → Chosen
@@ -78,7 +78,7 @@ structure_from s l value e cs root n b =
 abbrev pub elements_value : Taken (List Element') → Taken AbstractValue
 elements_value t = taken (list (row_of_elements t.it)) t.skipped t.left
 
--- a value of this kind, whose members have at most l levels
+-- a value of this kind, in which the members have at most l levels
 abbrev pub kind_from : List Resolved → ℕ → ReadsValue → Kind → ℕ → Bits → Reading (Taken AbstractValue)
 kind_from s l value (a_sequence e cs) n b = structure_from s l value e cs (root_of (placed_from 0 cs)) n b
 kind_from s l value (a_set e cs) n b = structure_from s l value e cs (canonical s (root_of (placed_from 0 cs))) n b
@@ -90,15 +90,15 @@ kind_from s l value (a_choice root e more) n b =
     next (plain (chosen_from s root e more b)) (λ c r. chosen_value value c n r)
 kind_from s l value k n b = next (plain (leaf_from k b)) (λ v r. read (taken v 0 n) r)
 
--- A value of type t with at most l levels, where so many values may still begin, this one too.
+-- A value of type t with at most l levels, if n values may still begin, this one included.
 abbrev pub value_from : List Resolved → ℕ → TypeNumber → ℕ → Bits → Reading (Taken AbstractValue)
 value_from s zero t n b = stop why.TooDeep b
 value_from s (suc l) t zero b = stop why.NodesLimit b
 value_from s (suc l) t (suc n) b =
     elim (slice_get s t) [ None ↦ stop why.Outside b | Some r ↦ kind_from s l (value_from s l) r.kind n b ]
 
--- bits that say a value of type t as it stands, with at most l levels; so many values may begin after it, where n might
--- begin from it on
+-- The bits are those of value w of type t in the form that is read, with at most l levels. If n values may still begin
+-- before it, w says how many may begin after it.
 pub record IsValueRead (s : List Resolved) (l t n : ℕ) (w : Taken AbstractValue) (x : Bits) : Type 0 where
   pub says_it : Says s lenient t w.it w.skipped x
   pub value : ValueIn s l t w.it
@@ -106,8 +106,8 @@ pub record IsValueRead (s : List Resolved) (l t n : ℕ) (w : Taken AbstractValu
 
 -- ---- messages
 
--- a value, and how many additions were skipped; or why octets are refused: there are more than 16,777,216, or there is a
--- fault at a bit, by its place from 0
+-- The decoded value, and how many additions were skipped. Or there is a fault: there are more than 16,777,216 octets,
+-- or the bit at this place, from 0, has a fault.
 pub data Answer : Type 0 where
   answers : AbstractValue → ℕ → Answer
   too_long : Answer
@@ -117,7 +117,7 @@ abbrev pub answer_of : (all : Bits) → Reading (Taken AbstractValue) → Answer
 answer_of b (read w r) = answers w.it w.skipped
 answer_of b (refused e r) = faulty e (length b - length r)
 
--- a message: a value alone, filled to octets, one at least
+-- a message: one value, filled to octets, of which there is at least one
 abbrev pub message_from : List Resolved → TypeNumber → Octets → Answer
 message_from s t [] = faulty (record { why = why.Truncated; path = [] }) 0
 message_from s t (x ∷ o) =

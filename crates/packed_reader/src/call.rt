@@ -1,4 +1,4 @@
-//! Which alternative of a CHOICE bits tell (X.691, 23).
+//! The alternative of a CHOICE that bits select (X.691, 23).
 
 ghost use Rattle.bits.specs.Left.{bits_left};
 ghost use Rattle.packed_reader.specs.Code.{HaveWidth, call_or, chosen_of};
@@ -12,7 +12,7 @@ use bits::cursor::Bits;
 use packed_code::PackedStep;
 use packed_readings::{Refusal, read_bit, read_field, read_small};
 
-/// An alternative: its number over the root and the additions, its type, and whether it is an open type.
+/// An alternative: its number among those of the root and then the additions, its type, and whether it is an open type.
 #[derive(Clone, Copy, PartialEq, Eq, Debug)]
 pub struct Call {
     pub number: usize,
@@ -20,7 +20,7 @@ pub struct Call {
     pub open: bool,
 }
 
-/// The alternative of the root at this place in the canonical order of tags.
+/// The alternative of the root with this rank in the canonical order of tags, or None.
 fn ranked(calls: &[PackedStep], rank: usize) -> Option<Call>
     ensures { call_or result ≡ ranked_call rank calls.now 0 }
 {
@@ -38,7 +38,7 @@ fn ranked(calls: &[PackedStep], rank: usize) -> Option<Call>
     None
 }
 
-/// The alternative after the marker with this number among those.
+/// The alternative after the marker with this number among those, or None.
 fn numbered(calls: &[PackedStep], number: usize) -> Option<Call>
     ensures { call_or result ≡ added_call number calls.now 0 }
 {
@@ -56,12 +56,12 @@ fn numbered(calls: &[PackedStep], number: usize) -> Option<Call>
     None
 }
 
-/// Takes the bits that tell which of a CHOICE's alternatives follows (X.691, 23). The calls are the steps of its routine
+/// Takes the bits that select an alternative of a CHOICE (X.691, 23). The calls are the steps of the CHOICE's routine
 /// after `PackedStep::Pick`.
 ///
-/// `Outside`: the root has no alternative at the place that is sent. `UnknownAlternative`: there is no such addition, or its
-/// number is not in the small form. The bits of the place or of the number are not taken then. `Truncated`: the bits end
-/// before.
+/// `Outside`: the root has no alternative with the encoded index. `UnknownAlternative`: there is no such addition, or
+/// its number isn't in the small form. After either fault the bits of the index or of the number aren't taken.
+/// `Truncated`: the bits end too soon.
 pub fn read_call(bits: &mut Bits<'_>, calls: &[PackedStep]) -> Result<Call, Refusal>
     requires { HaveWidth calls.now }
     ensures { call_from calls.now (bits_left bits.old) ≡ outcome_by chosen_of result (bits_left bits.new) }

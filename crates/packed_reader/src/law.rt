@@ -1,4 +1,4 @@
-//! Laws of what bits are read as.
+//! Laws of decoding bits.
 
 ghost use Rattle.asn_base.specs.Abstract.{AbstractValue};
 ghost use Rattle.asn_base.specs.Same.{Same};
@@ -20,8 +20,9 @@ use packed_encodings::{
 };
 use packed_readings::law::{count_laws, field_laws, leaf_laws, octets_laws};
 
-/// A value of any type is read as bits say it, within the limits on levels and on values: what is read is at the front,
-/// what is at the front is read whatever follows it, and a fault but Truncated is there whatever follows.
+/// A value of any type is decoded as bits encode it, within the limits on levels and on values. A decoded value is at
+/// the front. A value at the front is decoded, whatever follows it. A fault other than `Truncated` stays, whatever
+/// follows.
 pub fn value_laws()
     ensures { (s : List Resolved) (l t n : ℕ) → IsSchema s → IsExact (IsValueRead s l t n) (value_from s l t n) }
 {
@@ -35,16 +36,17 @@ pub fn value_laws()
     leaf_laws();
 }
 
-/// The steps of routines, where each type has its own, read what types say.
+/// The steps of routines, if each type has its own, decode what the types say.
 pub fn step_laws()
     ensures { (s : List Resolved) (l t n : ℕ) (b : List Bool)
         → IsSchema s
         → value_by s l t n b ≡ value_from s l t n b }
 {}
 
-/// What octets are read as, as a message of a type. One answer at most is given, since a function gives it.
+/// The result of decoding octets as a message of a type. There is at most one, since a function gives it.
 pub fn message_laws_of_reading()
-    // A value is answered just where the octets are a message that says it, with so many additions that the type lacks.
+    // A value is decoded exactly if the octets are a message that encodes it, with this number of additions that the
+    // type lacks.
     ensures answered { (s : List Resolved) (t k : ℕ) (w : AbstractValue) (o : List ℕ)
         → IsSchema s
         → AllBelowBase 256 o
@@ -58,14 +60,14 @@ pub fn message_laws_of_reading()
     ensures too_long { (s : List Resolved) (t : ℕ) (o : List ℕ)
         → IsSchema s
         → message_from s t o ≡ too_long ↔ 16777216 < length o }
-    // Octets that end within a message are truncated.
+    // Octets that end within a message have the fault `Truncated`.
     ensures truncated { (s : List Resolved) (t k : ℕ) (w : AbstractValue) (o m : List ℕ)
         → IsSchema s
         → Reads s t w k (o ++ m)
         → length (o ++ m) ≤ 16777216
         → 1 ≤ length m
         → (e : Fault) × (i : ℕ) × (message_from s t o ≡ faulty e i) × (e.why ≡ Truncated) }
-    // After the bits of a value others stand than those that fill its last octet.
+    // The fault `Padding` if the bits after those of a value aren't the ones that fill its last octet.
     ensures padding { (s : List Resolved) (t k : ℕ) (w : AbstractValue) (x p : List Bool) (o : List ℕ)
         → IsSchema s
         → AllBelowBase 256 o
@@ -76,7 +78,7 @@ pub fn message_laws_of_reading()
         → octet_bits o ≡ x ++ p
         → (Padded x o → ⊥)
         → message_from s t o ≡ faulty (record { why = Padding; path = [] }) (length x) }
-    // The message that a value is written as is read as one that is the same, with no additions that the type lacks.
+    // The message of a value is decoded as a value that is the same, without additions that the type lacks.
     ensures written { (s : List Resolved) (t : ℕ) (v : AbstractValue) (x : List Bool) (o : List ℕ)
         → IsSchema s
         → IsValue s t v
@@ -84,14 +86,14 @@ pub fn message_laws_of_reading()
         → Padded x o
         → length o ≤ 16777216
         → (w : AbstractValue) × Same s t v w × (message_from s t o ≡ answers w 0) }
-    // Another fault is the first one: it stays, at its place, whatever octets follow.
+    // Any other fault is the first one. It stays, at its place, whatever octets follow.
     ensures stays { (s : List Resolved) (t i : ℕ) (e : Fault) (o m : List ℕ)
         → IsSchema s
         → message_from s t o ≡ faulty e i
         → (e.why ≡ Truncated → ⊥)
         → length (o ++ m) ≤ 16777216
         → message_from s t (o ++ m) ≡ faulty e i }
-    // Its place is one of the bits, or their end.
+    // The place of a fault is one of the bits, or their end.
     ensures within { (s : List Resolved) (t i : ℕ) (e : Fault) (o : List ℕ)
         → IsSchema s
         → message_from s t o ≡ faulty e i

@@ -168,7 +168,7 @@ before_long o d e = e ∙ sym (octets_long o)
 
 -- ---- number after number
 
--- what is known of the whole, where more comes or not
+-- what is known of the whole, whether more comes or not
 abbrev pub AreSoFar : (ℕ → Option Refusal) → Outcome Bits → (more full : Bool) → (octets : List ℕ) → (unused : ℕ) → Bits → Type 0
 AreSoFar test whole true full o u b = IsSoFar test several_bits whole true full (octet_bits o) b
 AreSoFar test whole false full o u b = (v : Bits) × (whole ≡ found v b) × (u < 8) × (octet_bits o ≡ v ++ replicate u false)

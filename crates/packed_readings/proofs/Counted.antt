@@ -86,14 +86,14 @@ module _ {X : Type 0} (test : ℕ → Option Refusal) (items : Several X) (full 
           rest_is (bad f) e = absurd (not_both e)
       by (stops f s) g e = absurd (not_both e)
 
-  -- the same where the number is known by an equation, and how many were before too
+  -- the same if the number is known by an equation, and how many were before too
   pub told_at : (d : ℕ) (b m : Bits) (c e : Count) → d ≡ length before → c ≡ e → judging (total test d) (count_from full) b ≡ found c m → Told b ≡ found e m
   told_at d b m c e f g h = subst (λ q. judging (total test q) (count_from full) b ≡ found e m) f (subst (λ q. judging (total test d) (count_from full) b ≡ found q m) g h)
 
   pub stops_at : (d : ℕ) (b r : Bits) (e : Refusal) → d ≡ length before → judging (total test d) (count_from full) b ≡ stops e r → Told b ≡ stops e r
   stops_at d b r e f h = subst (λ q. judging (total test q) (count_from full) b ≡ stops e r) f h
 
--- no more bits are left behind items
+-- no more bits are left after items
 pub items_shorter : (form : Form) (n : ℕ) (b r : Bits) (before after : List ℕ) → Gained (several_of form n b) before after r → length r ≤ length b
 items_shorter forms.Octets n b r before after g = by ((octets_read n).sound b r g.values g.is).0 ((octets_read n).sound b r g.values g.is).2
   where
@@ -106,7 +106,7 @@ items_shorter (forms.Characters s) n b r before after g = by ((each (a_character
 
 -- ---- number after number
 
--- what is known of the whole, where more comes or not
+-- what is known of the whole, whether more comes or not
 abbrev pub IsSoFar : {X : Type 0} → (ℕ → Option Refusal) → Several X → Outcome (List X) → (more full : Bool) → (before : List X) → Bits → Type 0
 IsSoFar test items whole true full before b = (k : ℕ) × (length b < k) × (whole ≡ parts_from k test items full before b)
 IsSoFar test items whole false full before b = whole ≡ found before b

@@ -1,4 +1,4 @@
--- Bits, numbers of some bits, and several of them are read as they stand.
+-- Bits, numbers of some bits, and several of them are read as they are.
 use Rattle.std.proofs.Common.{arith, ◌≡◌, ℕ, zero, suc, ◌+◌, ◌*◌, ◌/◌, ◌%◌, ◌^◌, ◌<◌, ◌≤◌, ⊎_elim, Bool, true, false, List, [], ◌∷◌, ◌++◌, length, refl, sym, ap, subst, ◌∙◌, length-append, take, drop}
 use Rattle.std.specs.Prelude.{cond, ◌==◌, nat_lt, if◌then◌else◌}
 use Rattle.std.specs.Int.Digits.{digits_of, number_from_digits}
@@ -209,7 +209,7 @@ bits_read n = block (AreSeveral IsBit n) n (λ x. x)
 word_of_block : (n : ℕ) (x : Bits) → length x ≡ n → word n (worth x) ≡ x
 word_of_block n x l = ap (λ q. word q (worth x)) (sym l) ∙ word_worth x
 
--- the octets of so many bits
+-- the octets of this number of bits
 octets_of : (n : ℕ) (x : Bits) → length x ≡ 8 * n → AreSeveral IsOctet n (octets_in n x) x
 octets_of zero [] l = record { items = []; are = none_has; many = refl; whole = refl }
 octets_of zero (b ∷ x) l = absurd (omega arith)

@@ -1,4 +1,4 @@
--- Values of the kinds that hold no others are read as they stand.
+-- Values without other values in them are read as they are.
 use Rattle.std.proofs.Common.{◌≡◌, ℕ, suc, Bool, true, false, List, [], ◌∷◌, ◌++◌, length, map, refl, sym, ap, subst, ◌∙◌, ◌<◌, zero, arith}
 use Rattle.std.specs.Prelude.{not, ◌&&◌, if◌then◌else◌, pos, chars, IsUtf8}
 use Rattle.std.specs.Str.{is_utf8, IsAscii}

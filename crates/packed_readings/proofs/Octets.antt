@@ -1,4 +1,4 @@
--- Octets after their number are read as they stand.
+-- Octets after their number are read as they are.
 use Rattle.std.proofs.Common.{◌≡◌, ℕ, List, [], ◌∷◌, refl, ap, subst, ◌∙◌, map}
 use Rattle.std.specs.Int.Digits.{AllBelowBase}
 use Rattle.bits.specs.Words.{word}

@@ -1,4 +1,4 @@
--- Numbers of items, and items after their number, part by part, are read as they stand.
+-- Numbers of items, and items after their number, are read as they are, piece by piece.
 use Rattle.std.proofs.Common.{arith, ◌≡◌, ℕ, zero, suc, ◌+◌, ◌*◌, ◌^◌, ◌<◌, ◌≤◌, ◌⊎◌, inl, inr, ⊎_elim, Bool, true, false, List, [], ◌∷◌, ◌++◌, length, refl, sym, ap, subst, ◌∙◌, append_assoc, length-append}
 use Rattle.std.specs.Prelude.{◌==◌, ◌&&◌, nat_lt, if◌then◌else◌, Option, Some, None}
 use Rattle.std.proofs.lemmas.Bool.{lt-ltb, le-ltb, cases_lt, eq-eqb, eqb-true}
@@ -14,7 +14,7 @@ use Rattle.packed_readings.proofs.Fields.{if_true, if_false, bit, field, nothing
 
 -- ---- one number
 
--- what is told, by its first two bits
+-- the form of a number, by its first two bits
 data IsTold : ToldCount → Bits → Type 0 where
   told_7 : {n : ℕ} → n < 128 → IsTold (in_7_bits n) (false ∷ word 7 n)
   told_14 : {n : ℕ} → n < 16384 → IsTold (in_14_bits n) (true ∷ (false ∷ word 14 n))
@@ -205,7 +205,7 @@ each_long : {X : Type 0} {P : X → Bits → Type 0} {vs : List X} {xs : Items} 
 each_long none_has = refl
 each_long (one_has p e) = ap suc (each_long e)
 
--- a number that is told, and that the test passes where it is the last one
+-- a number, which passes the test if it is the last one
 abbrev Passed : (ℕ → Option Refusal) → ℕ → Count → Type 0
 Passed test d (last n) = test (d + n) ≡ None
 Passed test d (part m) = Unit {0}

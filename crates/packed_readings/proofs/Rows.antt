@@ -1,5 +1,5 @@
--- Rows of what bits are read as, by computation. Messages are octets; what is left is the filling, or what stands from
--- the place of a fault on.
+-- Rows of what bits are read as, by computation. Messages are octets. What is left is the filling, or the bits from the
+-- place of a fault on.
 use Rattle.std.proofs.Common.{◌≡◌, ℕ, Bool, true, false, List, [], ◌∷◌, ◌++◌, refl}
 use Rattle.std.specs.Prelude.{Option, Some, None, ℤ, pos, negsuc, replicate}
 use Rattle.asn_base.specs.declared.strings.StringKind.TheVariants.{Printable, Ia5}
@@ -84,7 +84,7 @@ past_limit = refl
 least_number : reads (an_integer any_number) (16 ∷ 128 ∷ replicate 15 0) ≡ found (integer (negsuc 170141183460469231731687303715884105727)) []
 least_number = refl
 
--- the number of octets has eight bits where seven are enough
+-- the number of octets has eight bits, although seven are enough
 long_length : reads (an_integer any_number) (128 ∷ 1 ∷ 5 ∷ []) ≡ stops why.NotCanonical (octet_bits (128 ∷ 1 ∷ 5 ∷ []))
 long_length = refl
 
@@ -123,7 +123,7 @@ at_most_5 = refl
 above_5 : reads (an_integer (bounded (Some (range None (Some (pos 5)) ∷ [])) None (Some (pos 5)) false)) (1 ∷ 6 ∷ []) ≡ stops why.Outside (octet_bits (1 ∷ 6 ∷ []))
 above_5 = refl
 
--- INTEGER (0..7, ...): 50 is 5, 808480 is 9; 808280 is 5 told as a number outside
+-- INTEGER (0..7, ...): 50 is 5, 808480 is 9, and 808280 is 5 as a number outside the root
 in_root : reads (an_integer (marked 0 7)) (80 ∷ []) ≡ found (integer (pos 5)) (zeros 4)
 in_root = refl
 
@@ -135,7 +135,7 @@ root_told_outside = refl
 
 -- ---- ENUMERATED
 
--- ENUMERATED {a, b, c}: 80 is c, C0 is none
+-- ENUMERATED {a, b, c}: 80 is c, and C0 isn't an item
 third_item : reads (an_enumerated (an_item 0 ∷ (an_item 1 ∷ (an_item 2 ∷ []))) false []) (128 ∷ []) ≡ found (enumerated (pos 2)) (zeros 6)
 third_item = refl
 
@@ -216,7 +216,7 @@ octets_outside = refl
 octets_told_outside : reads (an_octet_string (marked 1 2)) (129 ∷ 0 ∷ 129 ∷ 0 ∷ []) ≡ stops why.NotCanonical (word 7 1 ++ octet_bits (0 ∷ 129 ∷ 0 ∷ []))
 octets_told_outside = refl
 
--- SIZE (1..3 | 8) told by three bits: four octets are in the gap
+-- SIZE (1..3 | 8) with a number of three bits: four octets are in the gap
 octets_in_gap : reads (an_octet_string with_gap) (96 ∷ []) ≡ stops why.Outside (octet_bits (96 ∷ []))
 octets_in_gap = refl
 
@@ -283,10 +283,10 @@ ia5 = refl
 by_place : reads (a_restricted_string Printable (97 ∷ (98 ∷ (99 ∷ (100 ∷ (101 ∷ (120 ∷ (122 ∷ []))))))) (from_to 2 2)) (160 ∷ []) ≡ found (text (120 ∷ (97 ∷ []))) (zeros 2)
 by_place = refl
 
--- place 7 is none: the second character is at fault
+-- there is no place 7, so the second character has the fault
 no_place : reads (a_restricted_string Printable (97 ∷ (98 ∷ (99 ∷ (100 ∷ (101 ∷ (120 ∷ (122 ∷ []))))))) (from_to 2 2)) (188 ∷ []) ≡ stops why.Outside (true ∷ (true ∷ (true ∷ zeros 2)))
 no_place = refl
 
--- the code 1 is none of 0, 2, 3, which have two bits
+-- the code 1 isn't one of 0, 2, 3, which have two bits
 no_code : reads (a_restricted_string Ia5 (0 ∷ (2 ∷ (3 ∷ []))) any_size) (1 ∷ 64 ∷ []) ≡ stops why.Outside (octet_bits (64 ∷ []))
 no_code = refl

@@ -1,4 +1,4 @@
--- What is at a place where it was looked for, and what is said of a list by what is left of it.
+-- What is at a place that was looked for, and properties of a list that follow from what is left of it.
 use Rattle.std.proofs.Common.{arith, ◌≡◌, ◌+◌, ◌<◌, ◌≤◌, ℕ, zero, suc, ℤ, Bool, List, [], ◌∷◌, length, get_or, map, drop, inl, inr, refl, sym, subst, ap, ◌∙◌}
 use Rattle.std.specs.Prelude.{◌↔◌, ◌⊎◌, IsTrue}
 use Rattle.asn_base.specs.declared.constraint.Range.{Range as Range'}
@@ -67,7 +67,7 @@ drop_past [] (suc i) h = refl
 drop_past (x ∷ xs) zero h = absurd (omega arith)
 drop_past (x ∷ xs) (suc i) h = drop_past xs i (omega arith)
 
--- what holds of the whole just where it holds of what is left
+-- P holds for the whole exactly if it holds for what is left
 
 abbrev IsHeadOr : ℕ → List ℕ → Type 0
 IsHeadOr x [] = ⊥

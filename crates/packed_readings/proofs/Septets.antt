@@ -29,7 +29,8 @@ use Rattle.packed_readings.proofs.Ranges.{both_true, true_both}
 use Rattle.packed_readings.proofs.Sizes.{good_is, not_good}
 use Rattle.packed_readings.proofs.Octets.{octets}
 
--- septets, behind some that are worth `high`, are worth n, to the first without the top bit; what follows them
+-- Septets up to the first without the top bit have the number n, if those before them have the number `high`. The rest
+-- follows them.
 data Septets : ℕ → Octets → ℕ → Octets → Type 0 where
   last_septet : {high x n : ℕ} {rest : Octets} → x < 128 → n ≡ high * 128 + x → Septets high (x ∷ rest) n rest
   more_septets : {high x y n : ℕ} {o rest : Octets} → x < 128 → y ≡ 128 + x → Septets (high * 128 + x) o n rest → Septets high (y ∷ o) n rest
@@ -45,7 +46,7 @@ map_append : (xs ys : List ℕ) → marked (xs ++ ys) ≡ marked xs ++ marked ys
 map_append [] ys = refl
 map_append (x ∷ xs) ys = ap (λ r. (128 + x) ∷ r) (map_append xs ys)
 
--- behind the digits of a number, septets go on to those of the whole
+-- after the digits of a number, septets go on to those of the whole number
 spelled : {h n : ℕ} {o rest : List ℕ} → Septets h o n rest → ((x : ℕ) (b : List ℕ) → o ≡ (128 + x) ∷ b → 0 < h * 128 + x) → marked (digits_of 128 h) ++ o ≡ septets n ++ rest
 spelled {h} {n} {rest = rest} (last_septet {x = x} l e) some =
     let high : n / 128 ≡ h = omega arith in

@@ -1,4 +1,4 @@
--- What SIZE tells before items, and sized items, are read as they stand.
+-- The bits before items by the bounds of SIZE, and sized items, are read as they are.
 use Rattle.std.proofs.Common.{arith, ◌≡◌, ℕ, ◌+◌, ◌-◌, ◌<◌, ◌≤◌, ◌⊎◌, inl, inr, ⊎_elim, Bool, true, false, List, [], ◌∷◌, ◌++◌, length, refl, sym, ap, subst, ◌∙◌, append_assoc}
 use Rattle.std.proofs.lemmas.Int.{ints}
 use Rattle.std.proofs.lemmas.Bool.{lt-ltb, le-ltb, ltb-true, ltb-false, cases_lt}
@@ -57,7 +57,7 @@ in_order P c l u b e f =
     let m : IsLeast (λ z. P z × IfSome b.root (IsInSome z)) (Some l) = subst (IsLeast (λ z. P z × IfSome b.root (IsInSome z))) e b.least in
     m.1 u g.0
 
--- ---- what is told before items
+-- ---- the bits before items
 
 data IsRootSizing (c : Constraint) : Sizing → Bits → Type 0 where
   narrow_root : (l m n : ℕ)

@@ -29,7 +29,7 @@ one_sided : (x r : Bool) → r ≡ false → false ≡ at_first x false r
 one_sided true r e = refl
 one_sided false r e = sym e
 
--- the bits at a place tell, or those after it
+-- the bits at a place decide, or else those after it
 pub below_at : (xs ys : Bits) (i : ℕ) → is_below (drop i xs) (drop i ys) ≡ at_first (get_or xs i false) (get_or ys i false) (is_below (drop (suc i) xs) (drop (suc i) ys))
 below_at [] [] zero = refl
 below_at [] (y ∷ ys) zero = by y

@@ -1,4 +1,4 @@
--- What is promised of the octets that are written of a value.
+-- What is promised of the octets that are written for a value (X.691, 11.1).
 use Rattle.std.specs.Prelude.{◌≡◌, ◌≤◌, length}
 use Rattle.asn_base.specs.Abstract.{AbstractValue}
 use Rattle.asn_base.specs.Typed.{IsValue}
@@ -9,7 +9,7 @@ use Rattle.packed_encodings.specs.Lengths.{Bits}
 use Rattle.packed_encodings.specs.Packing.{Packed}
 use Rattle.packed_encodings.specs.Padding.{Padded}
 
--- they are the bits of a value of the type, filled to octets, and no others are
+-- The octets are the bits of a value of the type, filled to octets, and no other octets are.
 pub record IsMessage (s : List Resolved) (t : TypeNumber) (v : AbstractValue) (o : Octets) : Type 0 where
   pub value : IsValue s t v
   pub bits : Bits

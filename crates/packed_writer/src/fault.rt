@@ -1,4 +1,4 @@
-//! Why a value was not written.
+//! Why a value was not encoded.
 
 ghost use Rattle.packed_writer.specs.declared.fault.WriteFault.TheVariants.{Memory};
 ghost use Rattle.std.specs.Prelude.{◌≡◌};
@@ -6,8 +6,8 @@ ghost use Rattle.std.specs.Prelude.{◌≡◌};
 use std::alloc::AllocError;
 use thiserror::Error;
 
-/// Why a value was not written: `Memory`, where more memory was asked for and refused; `NotOfType`, where it is no
-/// value of the type; `TooLong`, where its encoding has more than 16,777,216 octets.
+/// Why a value was not encoded. `Memory`: an allocation failed. `NotOfType`: the value isn't one of the type.
+/// `TooLong`: its encoding has more than 16,777,216 octets.
 #[derive(Clone, Copy, Debug, PartialEq, Eq, Error)]
 pub enum WriteFault {
     #[error("1 Memory")]

@@ -1,4 +1,4 @@
-//! The components of a value that are written, and the bits that say which are (X.691, 19).
+//! The components of a value that are encoded, and the bits that say which these are (X.691, 19).
 
 ghost use Rattle.asn_base.specs.Abstract.{abstract};
 ghost use Rattle.packed_code.specs.Meaning as meaning;
@@ -16,7 +16,8 @@ use bits::buffer::BitBuf;
 use packed_code::{PackedCode, PackedField, PackedStep};
 use std::alloc::AllocError;
 
-/// The value of a component, where it is written: it is present, and not the same as its DEFAULT.
+/// The value of a component that is encoded, which is present and not the same as its DEFAULT (X.691, 19.5). The result
+/// is None for a component that isn't encoded.
 pub(crate) fn written<'a>(
     code: &PackedCode,
     typed: Typed<'a>,
@@ -42,7 +43,7 @@ pub(crate) fn written<'a>(
     Some(value)
 }
 
-/// Whether the component is written.
+/// Whether the component is encoded.
 fn is_written(code: &PackedCode, typed: Typed<'_>, field: PackedField) -> bool
     requires value { IsIn code.now typed }
     requires field { FieldFits code.now typed.id.index field }
@@ -55,7 +56,7 @@ fn is_written(code: &PackedCode, typed: Typed<'_>, field: PackedField) -> bool
     }
 }
 
-/// The field of a step of the root or of a group, if it is one.
+/// The field of a step of the root or of a group, or None for another step.
 pub fn field_of(step: PackedStep) -> Option<PackedField>
     ensures { MatchOption result (fields_in (step ∷ []) ≡ []) (λ f. fields_in (step ∷ []) ≡ f ∷ []) }
 {
@@ -70,7 +71,7 @@ pub fn field_of(step: PackedStep) -> Option<PackedField>
     }
 }
 
-/// So many next steps, or all that are left.
+/// The next `count` steps, or all if there are fewer.
 pub fn next(steps: &[PackedStep], count: usize) -> &[PackedStep]
     ensures { result.now ≡ take count steps.now }
 {
@@ -81,7 +82,7 @@ pub fn next(steps: &[PackedStep], count: usize) -> &[PackedStep]
     }
 }
 
-/// The steps after so many.
+/// The steps after the first `count` ones.
 pub fn after(steps: &[PackedStep], count: usize) -> &[PackedStep]
     requires { count ≤ length steps.now }
     ensures { result.now ≡ drop count steps.now }
@@ -89,7 +90,7 @@ pub fn after(steps: &[PackedStep], count: usize) -> &[PackedStep]
     &steps[count..]
 }
 
-/// The first of some steps, and the others.
+/// The first step, and the steps after it, or None if there are no steps.
 pub fn first(steps: &[PackedStep]) -> Option<(PackedStep, &[PackedStep])>
     ensures { MatchOption result (steps.now ≡ []) (λ p. steps.now ≡ p.0 ∷ p.1.now) }
 {
@@ -100,7 +101,8 @@ pub fn first(steps: &[PackedStep]) -> Option<(PackedStep, &[PackedStep])>
     }
 }
 
-/// A bit for each field of steps that has one: 1 where the component is written (19.2).
+/// Adds a bit for each field of these steps, which is 1 if the component is encoded (19.2). `AllocError` only if an
+/// allocation fails.
 pub(crate) fn push_map(
     code: &PackedCode,
     out: &mut BitBuf,
@@ -118,7 +120,7 @@ pub(crate) fn push_map(
     Ok(())
 }
 
-/// The bit of a step's field, if it has one.
+/// Adds the bit of a step's field, if it has one.
 fn push_presence(
     code: &PackedCode,
     out: &mut BitBuf,
@@ -142,7 +144,7 @@ fn push_presence(
     }
 }
 
-/// Whether a component of these steps is written.
+/// Whether a component of these steps is encoded.
 pub(crate) fn any_written(code: &PackedCode, typed: Typed<'_>, steps: &[PackedStep]) -> bool
     requires value { IsIn code.now typed }
     requires fields { FieldsFit code.now typed.id.index steps.now }
@@ -169,7 +171,8 @@ fn is_field_written(code: &PackedCode, typed: Typed<'_>, step: PackedStep) -> bo
     }
 }
 
-/// Whether the addition of the first step is written, if it is one: a component by itself, or a group.
+/// Whether the addition of the first step is encoded, which is a component by itself or a group. The result is None if
+/// the first step isn't that of an addition.
 fn addition(code: &PackedCode, typed: Typed<'_>, steps: &[PackedStep]) -> Option<bool>
     requires value { IsIn code.now typed }
     requires fields { FieldsFit code.now typed.id.index steps.now }
@@ -192,7 +195,7 @@ fn addition(code: &PackedCode, typed: Typed<'_>, steps: &[PackedStep]) -> Option
     }
 }
 
-/// Whether an addition of these steps is written.
+/// Whether an addition of these steps is encoded.
 fn any_addition(code: &PackedCode, typed: Typed<'_>, steps: &[PackedStep]) -> bool
     requires value { IsIn code.now typed }
     requires fields { FieldsFit code.now typed.id.index steps.now }
@@ -207,7 +210,7 @@ fn any_addition(code: &PackedCode, typed: Typed<'_>, steps: &[PackedStep]) -> bo
     false
 }
 
-/// Whether the first step is that of an addition that is written.
+/// Whether the first step is that of an addition that is encoded.
 fn is_added(code: &PackedCode, typed: Typed<'_>, steps: &[PackedStep]) -> bool
     requires value { IsIn code.now typed }
     requires fields { FieldsFit code.now typed.id.index steps.now }
@@ -220,7 +223,7 @@ fn is_added(code: &PackedCode, typed: Typed<'_>, steps: &[PackedStep]) -> bool
     }
 }
 
-/// A bit for each addition of these steps (19.8).
+/// Adds a bit for each addition of these steps (19.8).
 fn push_addition_map(
     code: &PackedCode,
     out: &mut BitBuf,
@@ -238,7 +241,7 @@ fn push_addition_map(
     Ok(())
 }
 
-/// The bit of the first step, if it is that of an addition.
+/// Adds the bit of the first step, if it is that of an addition.
 fn push_addition_bit(
     code: &PackedCode,
     out: &mut BitBuf,
@@ -259,7 +262,8 @@ fn push_addition_bit(
     }
 }
 
-/// Where an addition is written: how many additions there are, and a bit for each of them (19.7 and 19.8).
+/// If an addition is encoded, adds the number of additions and a bit for each of them (19.7 and 19.8). `AllocError`
+/// only if an allocation fails.
 pub(crate) fn push_bitmap(
     code: &PackedCode,
     out: &mut BitBuf,

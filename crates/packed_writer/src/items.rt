@@ -1,4 +1,4 @@
-//! Encodings of elements as items after their number, and their order in a SET OF (X.691, 20 and 22).
+//! The encodings of elements as items after their number, and the order of items in a SET OF (X.691, 20 and 22).
 
 ghost use Rattle.asn_base.specs.Seen.{bounds_of};
 ghost use Rattle.packed_counts.specs.Counts.{Adds, HasLeast};
@@ -18,7 +18,7 @@ use packed_encodings::{function_laws, order_laws};
 use std::alloc::AllocError;
 use std::cmp::Ordering;
 
-/// The bit at a place, 0 past the end.
+/// The bit at a place, or 0 past the end.
 fn bit_at(bits: &BitBuf, place: usize) -> bool
     ensures { result ≡ get_or bits.now place false }
 {
@@ -28,7 +28,7 @@ fn bit_at(bits: &BitBuf, place: usize) -> bool
     }
 }
 
-/// Whether the first bits are below the second, where the shorter ones are filled with zeros (22.1).
+/// Whether the first bits are before the second in the order of 22.1, where the shorter bits are filled with zeros.
 fn is_below(first: &BitBuf, second: &BitBuf) -> bool
     ensures { result ≡ computed.is_below first.now second.now }
 {
@@ -52,7 +52,7 @@ fn compare(first: &BitBuf, second: &BitBuf) -> Ordering
     }
 }
 
-/// Items in ascending order.
+/// Sorts the items in ascending order. `AllocError` only if an allocation fails.
 pub(crate) fn sort(items: &mut Vec<BitBuf>) -> Result<(), AllocError>
     ensures same { IsPermutation items.old.items items.new.items }
     ensures order { OnOk result (Ascending items.new.items) }
@@ -62,7 +62,7 @@ pub(crate) fn sort(items: &mut Vec<BitBuf>) -> Result<(), AllocError>
     Ok(())
 }
 
-/// All items, one after the other.
+/// Adds all items, one after another.
 fn push_all(out: &mut BitBuf, items: &[BitBuf]) -> Result<(), AllocError>
     ensures { OnOk result (out.new ≡ out.old ++ all_bits items.now) }
 {
@@ -72,7 +72,7 @@ fn push_all(out: &mut BitBuf, items: &[BitBuf]) -> Result<(), AllocError>
     Ok(())
 }
 
-/// Items after their number.
+/// Adds the number of the items, and then the items.
 fn push_counted(out: &mut BitBuf, items: &[BitBuf]) -> Result<(), AllocError>
     ensures { OnOk result (Adds (Counted items.now) out.old out.new) }
 {
@@ -88,7 +88,7 @@ fn push_counted(out: &mut BitBuf, items: &[BitBuf]) -> Result<(), AllocError>
     Ok(())
 }
 
-/// Items after their number, as SIZE bounds it.
+/// Adds the number of the items by the bounds of SIZE, and then the items. `AllocError` only if an allocation fails.
 pub(crate) fn push_items(
     out: &mut BitBuf,
     bounds: &Bounds,

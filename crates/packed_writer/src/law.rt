@@ -1,4 +1,4 @@
-//! What routines are, and what is written.
+//! Laws of routines and of encodings.
 
 ghost use Rattle.asn_base.specs.Abstract.{AbstractValue};
 ghost use Rattle.asn_base.specs.Same.{Same};
@@ -16,7 +16,7 @@ pub fn routines_fit()
     ensures { (s : List Resolved) (t : ℕ) → StepsFit s t (routine_at s t) }
 {}
 
-/// What is written of a value is read as a value that is the same, with no additions that the type lacks.
+/// The encoding of a value is decoded as a value that is the same, without additions that the type lacks.
 pub fn written_is_read()
     ensures { (s : List Resolved) (t : ℕ) (v : AbstractValue) (o : List ℕ)
         → IsMessage s t v o

@@ -1,4 +1,5 @@
-//! Values as messages of unaligned canonical PER (X.691): the steps of a type's packed routine are run over the value.
+//! Encodes values as messages of unaligned canonical PER (X.691). The steps of a type's packed routine are run over the
+//! value.
 #![tactic(auto)]
 
 mod default;

@@ -22,23 +22,23 @@ use packed_code::PackedCode;
 use packed_encodings::{computing_laws, message_laws, writing_laws};
 use std::alloc::Global;
 
-/// The octets that the bits of the value of the type are, filled with zero bits (X.691, 11.1).
+/// The message of a value in unaligned canonical PER: its bits, filled to octets with zero bits (X.691, 11.1).
 ///
-/// - `NotOfType`: just where it is no value of the type, or there is no such type.
-/// - `TooLong`: just where it is one, and its encoding has more than 16,777,216 octets.
-/// - `Memory`: more memory was asked for and refused.
+/// - `NotOfType`: exactly if the value isn't one of the type, or there is no such type.
+/// - `TooLong`: the value is one of the type, and its message has more than 16,777,216 octets.
+/// - `Memory`: an allocation failed.
 pub fn write_uper(
     alloc: Global,
     code: &PackedCode,
     id: TypeId,
     value: &Value,
 ) -> Result<Vec<u8>, WriteFault>
-    // The octets are the value's one message.
+    // The octets are the only message of the value.
     ensures message { IfOk result (λ o. IsMessage code.now id.index (abstract value.now) o.items) }
-    // It is refused as no value just where it is none.
+    // `NotOfType` exactly if the value isn't one of the type.
     ensures not_of_type { IfErr result (λ e. e ≡ NotOfType → IsValue code.now id.index (abstract value.now) → ⊥) }
     ensures no_value { (IsValue code.now id.index (abstract value.now) → ⊥) → result ≡ Err NotOfType }
-    // Its message is then longer than 16,777,216 octets.
+    // After `TooLong` the message has more than 16,777,216 octets.
     ensures longer { IfErr result (λ e. e ≡ TooLong → (b : List Bool) (o : List ℕ)
         → Packed code.now id.index (abstract value.now) b
         → Padded b o

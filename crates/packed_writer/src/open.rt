@@ -10,12 +10,13 @@ use packed_counts::push_counted_octets;
 use packed_encodings::function_laws;
 use std::alloc::{AllocError, Global};
 
-/// They are octets.
+/// A law: each of the octets is below 256.
 fn are_octets(octets: &[u8])
     ensures { AllBelowBase 256 octets.now }
 {}
 
-/// Bits as octets: zero bits fill the last one, and no bits are one octet 0 (11.1).
+/// The octets of bits. Zero bits fill the last octet, and no bits are one octet 0 (11.1). `AllocError` only if an
+/// allocation fails.
 pub(crate) fn filled(alloc: Global, bits: BitBuf) -> Result<Vec<u8>, AllocError>
     ensures { IfOk result (λ o. Padded bits o.items) }
 {
@@ -31,7 +32,8 @@ pub(crate) fn filled(alloc: Global, bits: BitBuf) -> Result<Vec<u8>, AllocError>
     Ok(octets)
 }
 
-/// A whole encoding, filled to octets, after their number.
+/// Adds a complete encoding as an open type: its octets after their number (11.2). `AllocError` only if an allocation
+/// fails.
 pub(crate) fn push_open(alloc: Global, out: &mut BitBuf, inner: BitBuf) -> Result<(), AllocError>
     ensures { OnOk result (out.new ≡ out.old ++ open_bits inner) }
 {

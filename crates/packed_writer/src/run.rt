@@ -1,4 +1,4 @@
-//! The steps of a routine, run over a value.
+//! Runs the steps of a routine over a value.
 
 ghost use Rattle.asn_base.specs.Abstract.{Row, abstract, list, row_of_list};
 ghost use Rattle.asn_base.specs.Same.{IsLeaf};
@@ -35,7 +35,7 @@ use packed_encodings::{computing_laws, function_laws};
 use packed_leaves::push_leaf;
 use std::alloc::{AllocError, Global};
 
-/// The bits of a value, by the routine of its type.
+/// Adds the bits of a value by the routine of its type. `AllocError` only if an allocation fails.
 #[cycle(writes)]
 pub(crate) fn push_value(
     alloc: Global,
@@ -55,7 +55,7 @@ pub(crate) fn push_value(
     Ok(())
 }
 
-/// The bits of steps, one after the other.
+/// Adds the bits of the steps, one step after another.
 #[cycle(writes)]
 fn push_steps(
     alloc: Global,
@@ -75,7 +75,7 @@ fn push_steps(
     Ok(())
 }
 
-/// The bits of the first step, which come before those of the others.
+/// Adds the bits of the first step, which come before those of the later steps.
 #[cycle(writes)]
 fn push_step(
     alloc: Global,
@@ -112,7 +112,7 @@ fn push_step(
     }
 }
 
-/// A value that holds no others.
+/// Adds the bits of a value without other values in it.
 fn push_contents(
     alloc: Global,
     code: &PackedCode,
@@ -129,7 +129,7 @@ fn push_contents(
     Ok(())
 }
 
-/// An INTEGER with both bounds: how far it is above the least number.
+/// Adds the bits of an INTEGER with both bounds: how far it is above the least number.
 fn push_offset(out: &mut BitBuf, value: &Value, least: i128, width: usize) -> Result<(), AllocError>
     requires { IsNumber (abstract value.now) }
     ensures { OnOk result (out.new ≡ out.old ++ number_bits least width (abstract value.now)) }
@@ -138,7 +138,7 @@ fn push_offset(out: &mut BitBuf, value: &Value, least: i128, width: usize) -> Re
     Ok(())
 }
 
-/// A component of the root, where it is written.
+/// Adds a component of the root, if it is encoded.
 #[cycle(writes)]
 fn push_field(
     alloc: Global,
@@ -161,7 +161,7 @@ fn push_field(
     }
 }
 
-/// A value within another one.
+/// A value in another value, which may have one level less.
 fn part<'a>(typed: Typed<'_>, id: TypeId, value: &'a Value) -> Typed<'a>
     ensures id { result.id ≡ id }
     ensures value { result.value.now ≡ value.now }
@@ -174,7 +174,7 @@ fn part<'a>(typed: Typed<'_>, id: TypeId, value: &'a Value) -> Typed<'a>
     }
 }
 
-/// An addition by itself, where it is written.
+/// Adds an addition by itself, if it is encoded.
 #[cycle(writes)]
 fn push_added(
     alloc: Global,
@@ -197,7 +197,7 @@ fn push_added(
     }
 }
 
-/// A value as an open type (11.2).
+/// Adds a value as an open type (11.2).
 #[cycle(writes)]
 fn push_opened(
     alloc: Global,
@@ -215,7 +215,8 @@ fn push_opened(
     Ok(())
 }
 
-/// The members of a group, where one of them is written: as an open type, their bits first (19.9).
+/// If a member of a group is encoded, adds the group as an open type, in which the bits for its members come first
+/// (19.9).
 #[cycle(writes)]
 fn push_group(
     alloc: Global,
@@ -240,7 +241,7 @@ fn push_group(
     Ok(())
 }
 
-/// The members of a group that are written.
+/// Adds the members of a group that are encoded.
 #[cycle(writes)]
 fn push_fields(
     alloc: Global,
@@ -261,7 +262,7 @@ fn push_fields(
     Ok(())
 }
 
-/// The component of a step, if it is that of one.
+/// Adds the component of a step, if the step is that of one.
 #[cycle(writes)]
 fn push_member(
     alloc: Global,
@@ -285,7 +286,7 @@ fn push_member(
     }
 }
 
-/// What SIZE allows of the elements of a list.
+/// The constraint on the size of a SEQUENCE OF or SET OF.
 pub fn size_of(schema: &Schema, id: TypeId) -> &Constraint
     requires { IsList schema.now id.index }
     ensures { IsListOf schema.now id.index (constraint_of result.now) }
@@ -316,7 +317,7 @@ fn elements_of<'a>(typed: Typed<'a>, id: TypeId) -> Elements<'a>
     }
 }
 
-/// The elements of a SEQUENCE OF after their number (20).
+/// Adds the elements of a SEQUENCE OF after their number (20).
 #[cycle(writes)]
 fn push_each(
     alloc: Global,
@@ -344,7 +345,7 @@ fn push_each(
     }
 }
 
-/// Elements, one after the other.
+/// Adds elements, one after another.
 #[cycle(writes)]
 fn push_all(
     alloc: Global,
@@ -362,7 +363,7 @@ fn push_all(
     Ok(())
 }
 
-/// One of the elements.
+/// The element at a place.
 fn element<'a>(elements: Elements<'a>, place: usize) -> Typed<'a>
     requires { place < length elements.values.now }
     ensures id { result.id ≡ elements.entry.id }
@@ -376,7 +377,7 @@ fn element<'a>(elements: Elements<'a>, place: usize) -> Typed<'a>
     }
 }
 
-/// Elements after their number, in fragments where they are many (11.9.3).
+/// Adds elements after their number, in fragments if there are many (11.9.3).
 #[cycle(writes)]
 fn push_counted(
     alloc: Global,
@@ -402,7 +403,7 @@ fn push_counted(
     Ok(())
 }
 
-/// Some of the elements.
+/// These elements, with the same type.
 fn among<'a>(elements: Elements<'a>, values: &'a [Value]) -> Elements<'a>
     ensures id { result.id ≡ elements.entry.id }
     ensures values { result.values.now ≡ values.now }
@@ -415,7 +416,7 @@ fn among<'a>(elements: Elements<'a>, values: &'a [Value]) -> Elements<'a>
     }
 }
 
-/// The members of a SET OF after their number, in ascending order of their bits (22).
+/// Adds the members of a SET OF after their number, in ascending order of their bits (22).
 #[cycle(writes)]
 fn push_sorted(
     alloc: Global,
@@ -443,7 +444,7 @@ fn push_sorted(
     Ok(())
 }
 
-/// The bits of each element in a list of their own.
+/// Collects the bits of each element in a list.
 #[cycle(writes)]
 fn collect(
     alloc: Global,
@@ -478,7 +479,7 @@ fn collect_one(
     Ok(())
 }
 
-/// The alternative of a CHOICE, after its place (23).
+/// Adds the index of an alternative of a CHOICE, and then the alternative (23).
 #[cycle(writes)]
 fn push_pick(
     alloc: Global,
@@ -501,7 +502,7 @@ fn push_pick(
     }
 }
 
-/// An alternative's place, and its value, whose type the step names.
+/// Adds the index of an alternative, and its value, whose type the step names.
 #[cycle(writes)]
 fn push_call(
     alloc: Global,
@@ -535,7 +536,7 @@ fn push_call(
     }
 }
 
-/// The same value, of this type.
+/// The same value, with this type.
 fn retyped<'a>(typed: Typed<'a>, id: TypeId) -> Typed<'a>
     ensures id { result.id ≡ id }
     ensures value { result.value.now ≡ typed.entry.value.now }
@@ -548,7 +549,7 @@ fn retyped<'a>(typed: Typed<'a>, id: TypeId) -> Typed<'a>
     }
 }
 
-/// The step at a place, if there is one.
+/// The step at a place, or None if there is no such place.
 fn call_at(calls: &[PackedStep], index: usize) -> Option<PackedStep>
     ensures { result ≡ slice_get calls.now index }
 {
@@ -559,7 +560,7 @@ fn call_at(calls: &[PackedStep], index: usize) -> Option<PackedStep>
     }
 }
 
-/// The place of an alternative among those of the root (23.4 to 23.7).
+/// Adds the index of an alternative in the root (23.4 to 23.7).
 fn push_place(out: &mut BitBuf, call: RootCall) -> Result<(), AllocError>
     ensures { OnOk result (out.new ≡ out.old ++ (root_bit call.extensible ++ word call.width call.rank)) }
 {
@@ -570,7 +571,7 @@ fn push_place(out: &mut BitBuf, call: RootCall) -> Result<(), AllocError>
     Ok(())
 }
 
-/// The place of an alternative among those after the marker (23.8).
+/// Adds the index of an alternative after the marker (23.8).
 fn push_added_place(out: &mut BitBuf, place: usize) -> Result<(), AllocError>
     ensures { OnOk result (out.new ≡ out.old ++ (true ∷ (false ∷ word 6 place))) }
 {

@@ -3,7 +3,7 @@
 use asn_base::schema::TypeId;
 use asn_base::value::Value;
 
-/// A value of a type, with at most so many levels.
+/// A value of a type, with at most this number of levels.
 #[derive(Clone, Copy)]
 pub(crate) struct Typed<'a> {
     pub id: TypeId,
@@ -11,7 +11,7 @@ pub(crate) struct Typed<'a> {
     pub levels: usize,
 }
 
-/// Elements of a type, each with at most so many levels.
+/// Elements of a type, each with at most this number of levels.
 #[derive(Clone, Copy)]
 pub(crate) struct Elements<'a> {
     pub id: TypeId,

@@ -1,4 +1,4 @@
-//! What a value holds, by its variant.
+//! The contents of values, by their variant.
 
 ghost use Rattle.asn_base.specs.Abstract.{AbstractValue, Row, abstract, alternative, fields, integer, list, row_of_list, row_of_options};
 ghost use Rattle.packed_writer.specs.proving.Values.{value_at};
@@ -50,7 +50,7 @@ pub(crate) fn chosen(value: &Value) -> (usize, &Value)
     }
 }
 
-/// The places of the components, where it is a value of a SEQUENCE or SET at all.
+/// The components of a value of a SEQUENCE or SET, or None for another value.
 pub(crate) fn fields_of(value: &Value) -> Option<&[Option<Value>]>
     ensures { MatchOption result ((row : Row) → abstract value.now ≡ fields row → ⊥)
         (λ vs. abstract value.now ≡ fields (row_of_options (map (option_map abstract) vs.now))) }
@@ -64,7 +64,7 @@ pub(crate) fn fields_of(value: &Value) -> Option<&[Option<Value>]>
     }
 }
 
-/// The component at a place, where it is present.
+/// The component at a place, or None if it is absent or there is no such place.
 pub(crate) fn component(value: &Value, place: usize) -> Option<&Value>
     ensures { MatchOption result
         (value_at (abstract value.now) place ≡ None)

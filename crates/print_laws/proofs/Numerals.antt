@@ -17,7 +17,7 @@ use Rattle.print_laws.specs.Lexing.{Speaks, ends, Ends}
 use Rattle.print_laws.proofs.Pieces.{standing, IsOne, one}
 use Rattle.print_laws.proofs.Tokens.{octet_in, octet_first, octet_next}
 
--- a first zero stands alone
+-- a first zero is the only digit
 record IsPlain (n : ℕ) (ds : List ℕ) : Type 0 where
   some : 0 < length ds
   first : 0 < n → 48 < get_or ds 0 0

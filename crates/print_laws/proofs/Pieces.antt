@@ -1,4 +1,4 @@
--- Parts of texts, one behind the other.
+-- Parts of texts, one after another.
 use Rattle.std.proofs.Common.{◌≡◌, ℕ, zero, suc, ◌+◌, ◌-◌, List, [], ◌∷◌, ◌++◌, length, take, drop, refl, sym, ap, subst, ◌∙◌, arith, append_assoc, length-append}
 use Rattle.std.specs.Prelude.{slice_range}
 use Rattle.std.specs.List.{AllByRecursion}
@@ -12,7 +12,7 @@ use Rattle.text.specs.Text.{Holds, holds_none, holds_gap, holds_token, IsSmall}
 use Rattle.grammar.specs.Lexeme.{Lexeme, lexeme_at, lexemes}
 use Rattle.print_laws.specs.Lexing.{Lexes, Speaks}
 
--- ---- what stands at a place
+-- ---- what is at a place
 
 pub octet_on : (x y : List ℕ) (i k : ℕ) → drop i x ≡ y → octet_at x (i + k) ≡ octet_at y k
 octet_on x y i k e = sym (get_or-drop i x k 0) ∙ ap (λ (l : List ℕ). octet_at l k) e
@@ -30,7 +30,7 @@ standing x w z i e =
     let n : (i + length w) - i ≡ length w = omega arith in
     ap (λ (k : ℕ). take k (drop i x)) n ∙ ap (take (length w)) e ∙ take-append_seam w z
 
--- ---- one behind the other
+-- ---- one after another
 
 holds_joined : (x : List ℕ) {i j k : ℕ} {ts us : List Token} → Holds x i j ts → Holds x j k us → Holds x i k (ts ++ us)
 holds_joined x {i} {j} {k} {ts} {us} (holds_none e) h = subst (λ (i : ℕ). Holds x i k us) (sym e) h

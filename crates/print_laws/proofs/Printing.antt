@@ -29,7 +29,7 @@ use Rattle.print_laws.proofs.Digits.{hex_said, bits_said, bits_text}
 use Rattle.print_laws.proofs.Strings.{text_said}
 use Rattle.print_laws.proofs.Octets.{utf8_below, codes_below}
 
--- the text has these tokens wherever it stands before what ends it, and they are the value's tree
+-- the text has these tokens in any place before what ends it, and they are the value's tree
 pub record Printed (s : List Resolved) (n t : ℕ) (v : AbstractValue) (w : List ℕ) : Type 0 where
   pub lexemes : List Lexeme
   pub speaks : Speaks Ends w lexemes
@@ -62,7 +62,7 @@ comma_said = joined Any Any (codes ",") (codes " ") (Mark Comma ∷ []) [] comma
 colon_said : Speaks Any (codes " : ") (Mark Colon ∷ [])
 colon_said = joined Any Any (codes " ") (codes ": ") [] (Mark Colon ∷ []) space (joined Ends Any (codes ":") (codes " ") (Mark Colon ∷ []) [] colon space (λ z q. ends_space z)) (λ z q. tt)
 
--- what stands in braces
+-- a text in braces
 braced : (w : List ℕ) (ls : List Lexeme) → Speaks Ends w ls → Speaks Ends (codes "{" ++ (w ++ codes "}")) (Mark OpenBrace ∷ (ls ++ (Mark CloseBrace ∷ [])))
 braced w ls a = joined Any Ends (codes "{") (w ++ codes "}") (Mark OpenBrace ∷ []) (ls ++ (Mark CloseBrace ∷ [])) open_brace
     (joined Ends Ends w (codes "}") ls (Mark CloseBrace ∷ []) a (weaker Any Ends (codes "}") (Mark CloseBrace ∷ []) close_brace (λ z q. tt)) (λ z q. ends_brace z)) (λ z q. tt)
@@ -238,7 +238,7 @@ module _ (s : List Resolved) (schema : IsSchema s) where
   abbrev member : ℕ → Grammar (Name × Tree)
   member n = token Ident ∙ value small n
 
-  -- components behind others
+  -- components after others
   record Rest (n : ℕ) (cs : List Component) (vs : Row) (w : List ℕ) : Type 0 where
     lexemes : List Lexeme
     speaks : Speaks Ends w lexemes

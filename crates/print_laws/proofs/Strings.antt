@@ -33,7 +33,7 @@ undoubled (c ∷ o) = of_test (c == 34) refl (undoubled o)
     of_test true e r = single_pair c (doubled o) e ∙ ap (λ l. c ∷ l) r
     of_test false e r = single_other c (doubled o) e ∙ ap (λ l. c ∷ l) r
 
--- ---- what stands between the quotes
+-- ---- what is between the quotes
 
 same_line_end : (c : ℕ) → is_line_end c ≡ false → ends_line c ≡ false
 unfolding ends_line

@@ -1,4 +1,4 @@
--- The tokens of printed values, wherever they stand.
+-- The tokens of printed values, in any place.
 use Rattle.std.proofs.Common.{◌≡◌, ℕ, zero, suc, ◌+◌, ◌-◌, ◌≤◌, ◌<◌, Bool, true, false, not, ◌&&◌, ◌||◌, List, [], ◌∷◌, ◌++◌, length, drop, Some, refl, sym, ap, subst, ◌∙◌, arith, inl, inr}
 use Rattle.std.specs.Prelude.{slice_range, slice_index, ⊤, ◌==◌, codes, IsFalse}
 use Rattle.std.specs.Char.{is_ascii_alphanumeric, is_ascii_alphabetic, is_ascii_uppercase}
@@ -75,7 +75,7 @@ name_on x w z i m e lt f =
           stops_is x (i + m) ∙ ap (λ (c : ℕ). stops c (octet_at x ((i + m) + 1))) a ∙ goes_on (octet_at w m) (octet_at x ((i + m) + 1)) g
     ]
 
--- a name by itself is a name wherever it stands
+-- a text that is a name by itself is a name in any place
 pub name_moved : (x w z : List ℕ) (i : ℕ) → IsName w 0 (length w) → drop i x ≡ w ++ z → Ends z → IsName x i (i + length w)
 name_moved x w z i n e q =
     let some : 1 ≤ length w = n.first.behind in

@@ -36,7 +36,7 @@ fields_back (m ∷ ms) = ap Some (named_back (m ∷ ms))
 
 -- ---- distinct names
 
--- a member stands at a place
+-- an element at a place is a member
 at_place : {A : Type 0} (x : A) (xs : List A) (i : ℕ) → slice_get xs i ≡ Some x → IsMember x xs
 at_place x [] i e = absurd cc
 at_place x (y ∷ xs) zero e = let q : y ≡ x = cc in subst (λ z. IsMember z (y ∷ xs)) q is_first
@@ -85,7 +85,7 @@ absent_too c (is_optional_addition e f) m = rw e (rw f refl)
 
 -- ---- fields
 
--- a field in front whose name is none of these components' changes nothing
+-- a field in front whose name isn't that of one of these components changes nothing
 pub one_more : {p : Program} {os : List ℕ} {M : Name} {fs : List (Name × Tree)} {cs : List Part} {r : Row} (f : Name × Tree)
     → (IsMember f.0 (part_names cs) → ⊥)
     → Fields p os M fs cs r

@@ -31,7 +31,7 @@ use Rattle.printed_values.proofs.Leaves.{below_two, bits_back, octets_back, char
 use Rattle.printed_values.proofs.Items.{found_item, own_item}
 use Rattle.printed_values.proofs.Lists.{values_back, fields_back, distinct, in_whole, distinct_part, placed, member_of_place, names_alike, absent_too, one_more}
 
--- the notation tells its value under a type of kind k by itself, whatever is being read and in whichever module
+-- the notation determines its value under a type of kind k by itself, in any module and whatever is being read
 pub record Told (p : Program) (k : Kind) (n : Tree) (v : AbstractValue) : Type 0 where
   pub own : IsOwn k n
   pub stands : (os : List ℕ) (M : Name) → NotationOf p os M k n v
@@ -168,7 +168,7 @@ module _ (laws : SchemaLaws) (p : Program) (Allows : ℕ → ℤ → Type 0) (Al
         stands = λ os M. notations.of_choice c.there (sym c.alike.name) (subst (λ (j : ℕ). Notation p os M j (tree_of s a.type v) v) c.alike.type (h os M));
       })
 
-  -- components as they stand in braces
+  -- components as they are in braces
   record Filled (cs : List Part) (ds : List Component) (vs : Row) : Type 0 where
     part : IsPartOf (field_names (members_of s ds vs)) (part_names cs)
     stand : (os : List ℕ) (M : Name) → Fields p os M (members_of s ds vs) cs vs

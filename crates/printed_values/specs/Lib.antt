@@ -1,4 +1,4 @@
--- What has to be believed: which values hold no text in which a line ends (`LineEnds`), and what it is for a text to be
--- read back as a value (`ReadBack`).
+-- What a reader has to believe: which values have no text with a line end in it (`LineEnds`), and when a printed text
+-- is read back as a value (`ReadBack`).
 pub mod LineEnds
 pub mod ReadBack

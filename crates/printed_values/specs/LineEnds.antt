@@ -1,5 +1,5 @@
--- The values whose printed text is read back: a text in which a line ends is printed as its octets, which are no
--- notation of a text (X.680, clauses 12.1.6 and 41).
+-- The values whose printed text is read back (X.680, clauses 12.1.6 and 41). A text with a line end in it is printed as
+-- its octets, which isn't a notation of a text.
 use Rattle.std.specs.Prelude.{◌≡◌, false}
 use Rattle.std.specs.List.{list_any}
 use Rattle.asn_base.specs.Abstract.{AbstractValue, text, fields, list, alternative, Row, end, absent, present}

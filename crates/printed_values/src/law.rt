@@ -18,8 +18,8 @@ ghost use Rattle.value_notations.specs.Notations.{Notation};
 ghost use Rattle.value_text.specs.Print.{print};
 ghost use Rattle.values.specs.Allowing.{Allows, AllowsCode};
 
-/// The tree of a printed value is a notation of this value under its type, in whichever module it is read, but where a
-/// line ends in one of its texts.
+/// The tree of a printed value is a notation of this value under its type, in any module. The exception is a value with
+/// a line end in one of its texts.
 pub fn printed_is_a_notation()
     ensures { (p : Program) (s : List Resolved) (os : List ℕ) (M : Name) (i : ℕ) (v : AbstractValue)
         → IsSchema s
@@ -31,8 +31,8 @@ pub fn printed_is_a_notation()
     schema_of::law::parts_are_written();
 }
 
-/// A printed text of at most 16,777,216 octets is read back as the value that was printed, but where a line ends in one
-/// of its texts.
+/// A printed text of at most 16,777,216 octets is read back as the value that was printed. The exception is a value
+/// with a line end in one of its texts.
 pub fn printed_is_read_back()
     ensures { (p : Program) (s : List Resolved) (M : Name) (i : ℕ) (v : AbstractValue)
         → IsApart p.modules

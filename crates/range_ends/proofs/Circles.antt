@@ -1,4 +1,4 @@
--- Where references end.
+-- The ends of references.
 use Rattle.std.proofs.Common.{◌≡◌, ◌⊎◌, inl, inr, ℕ, zero, suc, ◌+◌, ◌-◌, ◌<◌, ◌≤◌, Option, Some, None, refl, sym, ap, ◌∙◌, arith}
 use Rattle.type_table.specs.Walks.{onward, follow, EndsAt, IsWithin}
 use Rattle.type_table.specs.proving.Walks.{walk_walk}

@@ -1,4 +1,4 @@
--- Where many references lead.
+-- The places to which many references lead.
 use Rattle.std.proofs.Common.{◌≡◌, ◌⊎◌, inl, inr, ℕ, zero, suc, ◌+◌, ◌-◌, ◌<◌, ◌≤◌, List, [], ◌∷◌, ◌++◌, length, get_or, Option, Some, None, refl, sym, ap, ◌∙◌, arith, subst}
 use Rattle.std.specs.Prelude.{slice_get}
 use Rattle.std.proofs.lemmas.Option.{slice_get-get_or}
@@ -8,7 +8,7 @@ use Rattle.range_ends.specs.proving.Steps.{listed}
 use Rattle.range_ends.specs.proving.Far.{IsFar, AreFar}
 use Rattle.range_ends.proofs.Circles.{below, after_end}
 
--- no reference behind a place
+-- no reference leads on from a place
 pub far_none : (os : List (Option ℕ)) (i : ℕ) → listed os i ≡ None → IsFar os 1 i i
 far_none os i e = record { steps = 0; leads = refl; far = inl e }
 
@@ -51,7 +51,7 @@ split_on : (next : ℕ → Option ℕ) (r n c : ℕ) (o : Option ℕ) →
 split_on next r n c None go e = absurd cc
 split_on next r n c (Some j) go e = go j e
 
--- what is reached in many steps is reached from where the first ones lead
+-- a place that many steps reach is reached from the place that the first steps reach
 split : (next : ℕ → Option ℕ) (r n i c : ℕ) →
     follow next (r + n) i ≡ Some c →
     (b : ℕ) × (follow next r i ≡ Some b) × (follow next n b ≡ Some c)
@@ -61,7 +61,7 @@ split next (suc r) n i c e =
     let s : suc r + n ≡ suc (r + n) = omega arith in
     split_on next r n c (next i) (λ j f. split next r n j c f) (ap (λ k. follow next k i) (sym s) ∙ e)
 
--- what is reached in so many steps comes back
+-- a place that this number of steps reaches comes back to itself
 pub far_back : (next : ℕ → Option ℕ) (n s i c : ℕ) →
     IsWithin next n →
     i < n →
@@ -122,6 +122,6 @@ far_more os n cs qs c m a e h = rw e (record {
 pub far_all : (os : List (Option ℕ)) (n : ℕ) (cs : List ℕ) (m : ℕ) → AreFirstFar os n cs m → m ≡ length os → AreFar os n cs
 far_all os n cs m a e = record { all = a.long ∙ e; each = a.each }
 
--- what stands at a place of such a list
+-- the number at a place of such a list
 pub far_at : (os : List (Option ℕ)) (n : ℕ) (cs : List ℕ) (i : ℕ) → AreFar os n cs → i < length cs → IsFar os n i (get_or cs i 0)
 far_at os n cs i a l = a.each i (get_or cs i 0) (slice_get-get_or cs i 0 l)

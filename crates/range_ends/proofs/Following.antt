@@ -1,4 +1,4 @@
--- Where ends lead.
+-- The numbers to which ends lead.
 use Rattle.std.proofs.Common.{◌≡◌, ◌↔◌, ℕ, zero, suc, ◌<◌, ℤ, List, [], ◌∷◌, length, Option, Some, None, refl, sym, ap, ◌∙◌, subst, arith}
 use Rattle.std.specs.Prelude.{slice_get, Result, Ok, Err, MatchResult}
 use Rattle.trees.specs.Values.{Name, Tree, number, reference}
@@ -126,7 +126,7 @@ module _ (p : Program) (k : Kind) (os : List (Option ℕ)) (a : AreReferred p os
       let r = leads_ends j N m K l z to rest e in
       (r.0, ends_next (next p k os) i j r.0 (means_next i M n j at means) r.1, r.2)
 
-  -- the number that a value stands for is told at the end
+  -- the number of a value is that at the end
   stands_ends : (i : ℕ) (M : Name) (n : Tree) (z : ℤ) →
       IsValueAt p i M n →
       StandsFor p k M n z →

@@ -1,4 +1,4 @@
--- Where a type without named numbers is constrained, values lead where their references do.
+-- Under a constrained type without named numbers, values lead where their references do.
 use Rattle.std.proofs.Common.{◌≡◌, inl, inr, ℕ, ℤ, ◌<◌, List, length, get_or, Option, Some, None, refl, sym, ◌∙◌, arith}
 use Rattle.trees.specs.Values.{Name, Tree, reference}
 use Rattle.type_table.specs.Table.{Kind}

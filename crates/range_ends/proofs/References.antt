@@ -34,7 +34,7 @@ pub value_there : (p : Program) (M : Name) (q : Option Name) (x : Name) (r : Opt
 value_there p M q x r i w h f =
     w M x (assigned.Value i) (any_meaning p.modules M q x (assigned.Value i) ((h (assigned.Value i)).0 f))
 
--- a value stands at one number alone in one module
+-- a number is that of only one value in one module
 pub value_once : (p : Program) (i : ℕ) (M N : Name) (n m : Tree) →
     IsValueAt p i M n →
     IsValueAt p i N m →

@@ -86,7 +86,7 @@ member_into (suc n) bits c h s =
           (member_into n bits c (omega arith) (record { last = l; below = s.below; set = s.set }))
     ])
 
--- a code is a member just where it is below 128 and its bit is set
+-- a code is a member exactly if it is below 128 and its bit is set
 pub member_is : (bits c : ℕ) → IsMember c (codes_of bits) ↔ ((c < 128) × (bit_at bits c ≡ 1))
 member_is bits c = (
   λ m. let s = member_from 128 bits c (omega arith) (subst (λ (cs : List ℕ). IsMember c cs) (of_is bits) m) in (s.below, s.set),
@@ -282,7 +282,7 @@ masked first last c h k =
           (bit_at_ones (128 - (127 - min last 127)) c (let u = b.1 in omega arith), bit_at_mask_inside first 128 c b.0 k),
     )
 
--- no code is set just where the number is 0
+-- no code is set exactly if the number is 0
 none_by : (b : Bool) (bits : ℕ)
     → bits < 2 ^ 128
     → (b ≡ true → bits ≡ 0)

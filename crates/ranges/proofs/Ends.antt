@@ -47,7 +47,7 @@ greatest_of None (Some g) s =
 greatest_of (Some l) (Some g) s =
     (inl (s, omega (arith, ints)), λ z p. elim p [ inl i ↦ i.1 | inr q ↦ absurd q ])
 
--- a number in a range is below all in those behind it
+-- a number in a range is below all numbers in later ranges
 below_rest : (r : Range) (rs : List Range) (y z : ℤ)
     → AllByRecursion (EndsBefore r) rs
     → IsInRange y r
@@ -105,12 +105,12 @@ pub last_greatest : (xs : List Range') (d : Range')
 last_greatest [] d h a = absurd (omega arith)
 last_greatest (x ∷ xs) d h a = rw sub-one (greatest_is x xs d a)
 
--- where there is a range there is a number
+-- if there is a range, there is a number
 pub some_number : (rs : List Range) → AreApart rs → 0 < length rs → (z : ℤ) × IsInSome z rs
 some_number [] a h = absurd (omega arith)
 some_number (r ∷ rs) a h = let some = some_in r.least r.greatest a.0 in (some.0, inl (some.1, some.2))
 
--- the test whether there is no range answers whether there is no number
+-- the test whether there is no range decides whether there is no number
 pub none_if_empty : (xs : List Range') (b : Bool)
     → AreApart (map range_of xs)
     → b ≡ (length xs == 0)

@@ -30,7 +30,7 @@ in_joined_right r s z b i =
 pub joined_holds_some : (r s : Range) → HoldsSome r → HoldsSome (joined r s)
 joined_holds_some r s h = orders.joined_some r.least r.greatest s.greatest h
 
--- the ranges behind a joined one ascend from it
+-- the ranges after a joined one ascend from it
 pub ascend_joined : (r s : Range) (rs : List Range) → AreAscending (r ∷ s ∷ rs) → AreAscending (joined r s ∷ rs)
 ascend_joined r s [] a = tt
 ascend_joined r s (t ∷ rs) a = (orders.begins_trans r.least s.least t.least a.0 a.1.0, a.1.1)

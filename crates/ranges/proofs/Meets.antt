@@ -20,7 +20,7 @@ common_right : (r s : Range) (z : ℤ) → IsInRange z (common r s) → IsInRang
 common_right r s z i =
     (orders.later_from_right r.least s.least z i.0, orders.earlier_up_to_right r.greatest s.greatest z i.1)
 
--- a number of a range that ends first is in no range behind the other
+-- a number of a range that ends first is in no range after the other
 past : (r s : Range) (ss : List Range) (z : ℤ)
     → EndsAtMost r.greatest s.greatest
     → AllByRecursion (EndsBefore s) ss

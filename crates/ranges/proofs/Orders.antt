@@ -1,4 +1,4 @@
--- Where ranges begin and end.
+-- The beginnings and ends of ranges.
 use Rattle.std.proofs.Common.{inl, inr, ℤ, pos, ◌≤ℤ◌, ◌<ℤ◌, Some, None, arith}
 use Rattle.std.specs.Prelude.{◌⊎◌, IfSome, IsSomeAnd, Option}
 use Rattle.std.proofs.lemmas.Int.{ints, clamps, by_lt_z}
@@ -58,13 +58,13 @@ up_to_right None h z u = tt
 up_to_right (Some g) None z u = tt
 up_to_right (Some g) (Some h) z u = omega (arith, ints, clamps)
 
--- where an end does not lie before a beginning, what is past the one is past the other
+-- if an end isn't before a beginning, what is past the end is past the beginning
 pub from_touching : (g l : Option ℤ) (z : ℤ) → (Ends g l → ⊥) → IsSomeAnd g (λ g. g <ℤ z) → From l z
 from_touching None l z n p = absurd p
 from_touching (Some g) None z n p = tt
 from_touching (Some g) (Some l) z n p = by_lt_z g l (λ lt. absurd (n lt)) (λ le. omega (arith, ints))
 
--- an end that is later leaves a number where there was one
+-- a later end leaves a number that an earlier one left
 pub joined_some : (l g h : Option ℤ)
     → IfSome l (λ k. IfSome g (λ e. k ≤ℤ e))
     → IfSome l (λ k. IfSome (later g h) (λ e. k ≤ℤ e))

@@ -52,7 +52,7 @@ holds_at [] i d a h = absurd (omega arith)
 holds_at (x ∷ xs) zero d a h = a.0
 holds_at (x ∷ xs) (suc i) d a h = holds_at xs i d a.2 (omega arith)
 
--- behind a range that doesn't end below the number none does
+-- after a range that doesn't end below the number, no range does
 pub partitioned : (z : ℤ) (xs : List Range') → AreApart (map range_of xs) → IsPartitionedBy (below z) xs
 partitioned z [] a i j d h k b = absurd (omega arith)
 partitioned z (x ∷ xs) a zero zero d h k b = b

@@ -9,13 +9,13 @@ use Rattle.ranges.specs.Numbers.{EndsBefore}
 use Rattle.ranges.specs.proving.Meeting.{common, EndsAtMost, IsKept, Meets, meets_none, meets_with_none, meets_past_left, meets_past_right}
 use Rattle.ranges.specs.proving.Joining.{joined, Joins, joins_last, joins_apart, joins_touching}
 
--- a range that was pushed stands before the rest
+-- a range that was pushed is before the rest
 pub pushed : (all : List Range') (x : Range') (rest : List Range)
     → map range_of (all ++ (x ∷ [])) ++ rest ≡ map range_of all ++ (range_of x ∷ rest)
 pushed [] x rest = refl
 pushed (y ∷ all) x rest = ap (λ ys. range_of y ∷ ys) (pushed all x rest)
 
--- the ranges from place i on: that at i, then those behind it
+-- the ranges from place i on: the one at i, then those after it
 pub from_place : (xs : List Range') (i : ℕ) (d : Range')
     → i < length xs
     → map range_of (drop i xs) ≡ range_of (slice_index_or xs i d) ∷ map range_of (drop (i + 1) xs)

@@ -13,7 +13,7 @@ use Rattle.octet_answers.specs.States.{State, Token, component, chosen, begun, e
 use Rattle.octet_answers.specs.Answers.{Begins, Ends, Opens, Closes}
 use Rattle.reading_law.specs.Shows.{passed_in}
 
--- these octets stood at the front and were read
+-- these octets were at the front and were read
 pub record Along (a b : State) (o : List ℕ) : Type 0 where
   pub octets : a.here.octets ≡ o ++ b.here.octets
   pub form : b.here.constructed ≡ a.here.constructed

@@ -246,7 +246,7 @@ module _ (s : List Resolved) (tk : (a b : State) (e : Event) → Answers a e b �
   run_rest : (P : Component → Type 0) (c : Component) (cs : List Component) → is_mandatory c ≡ false → AllByRecursion P (first_run (c ∷ cs)) → AllByRecursion P (first_run cs)
   run_rest P c cs f a = (subst (λ m. AllByRecursion P (cond m (c ∷ []) (c ∷ first_run cs))) f a).1
 
-  -- an encoding of another type stands at the front
+  -- an encoding of another type is at the front
   record Other (t : ℕ) (o : List ℕ) : Type 0 where
     tag : Tag
     constructed : Bool
@@ -385,7 +385,7 @@ module _ (s : List Resolved) (tk : (a b : State) (e : Event) → Answers a e b �
           let f = heads_last gs k whole (fields_from 0 cs ++ tail) ∙ none_must cs 0 whole tail p e in
           subst (NoneFound s g) (sym f) (found_heads gs k (fields_from 0 cs ++ tail) (found_none 0 cs tail (subst (NoneFirst s g) (all_last cs e) a) n))
 
-  -- the additions behind the components of a SEQUENCE
+  -- the additions after the components of a SEQUENCE
   pub record RestTo (e : Bool) (x : State) : Type 0 where
     pub state : State
     pub leads : (j : ℕ) (z : State) → Does (λ a. routine_at s a) Takes (ends j) state z → Does (λ a. routine_at s a) Takes (rest_if e ++ ends j) x z

@@ -269,7 +269,7 @@ module _ (s : List Resolved) (tk : (a b : State) (e : Event) → Answers a e b �
   does_set {f = f} {r = r} {ss = ss} {x = x} (run_more g next p new v w) a d =
       reads (component (tk x (marked next g.place) (among (Ranked f r ∷ ss) (Some g.ty)) (record { field = g; next = next; pass = p; is_type = refl; is_new = new; is = refl }))) v.begun v.done v.ended (does_set w a d)
 
-  -- nothing is left behind the components
+  -- nothing is left after the components
   rest_done : (t : TypeNumber) {x z : State} (e : Bool) (j : ℕ) → IsInnermost s tk t x → x.here.octets ≡ [] → Does (λ a. routine_at s a) Takes (ends j) x z → Does (λ a. routine_at s a) Takes (rest_if e ++ ends j) x z
   rest_done t false j i o d = d
   rest_done t {x} true j i o d = goes_on (rest (tk x x skips (record { value = id_of t; others = i.0; is_open = i.1; pass = at_end_of_contents o }))) d

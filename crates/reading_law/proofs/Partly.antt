@@ -144,7 +144,7 @@ put {x = x} d (stands {w = v} {ws = ws} {j = j} {x = y} b p) (suc i) e f a l m =
     later_present w ws vs h zero g = g
     later_present w ws vs h (suc k) g = h k g
 
--- where those that must stand do, they are members
+-- if those that must be present are, they are members
 pub all_there : {s : List Resolved} {cs : List Component} {ws : Row} {n : ℕ} {xs : List (List ℕ)} (p : Partly s cs ws n xs)
     → ((i : ℕ) (c : Component) → slice_get cs i ≡ Some c → is_mandatory c ≡ true → IsPresentAt ws i)
     → (m : Members s Basic cs ws n xs) × (member_levels m ≡ partly_levels p)

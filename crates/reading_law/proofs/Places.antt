@@ -1,4 +1,4 @@
--- What was read stands at its place in the message.
+-- What was read is at its place in the message.
 use Rattle.std.proofs.Common.{arith, ◌≡◌, ℕ, ◌+◌, Bool, true, false, List, [], ◌∷◌, ◌++◌, length, refl, sym, ap, subst, ◌∙◌, append_assoc, length-append}
 use Rattle.std.proofs.lemmas.List.{append-nil}
 use Rattle.std.specs.Prelude.{Option, Some, None}
@@ -17,7 +17,7 @@ use Rattle.octet_answers.specs.Found.{Passes, at_end_of_contents, at_component, 
 use Rattle.octet_answers.specs.Answers.{Answers, Takes, StandsNext, MoreNext, AmongNext}
 use Rattle.reading_law.specs.Shows.{IsSliceAt, StandIn}
 
--- octets that are left stand in the message
+-- octets that are left are in the message
 abbrev pub Lies : List ℕ → Window → Type 0
 Lies m w = IsSliceAt m w.at w.octets
 
@@ -47,7 +47,7 @@ all_back : (m : List ℕ) (xs ys : List Window) → AllByRecursion (Lies m) (xs 
 all_back m [] ys a = a
 all_back m (x ∷ xs) ys a = all_back m xs ys a.1
 
--- octets behind others that stand in the message
+-- octets after others are in the message
 pub further : {m : List ℕ} {at : ℕ} (h x : List ℕ) {o : List ℕ} → IsSliceAt m at o → o ≡ h ++ x → IsSliceAt m (at + length h) x
 further h x s e = record {
   before = s.before ++ h;
@@ -68,7 +68,7 @@ nearer x r s e = record {
 pub at_place : {m : List ℕ} {i j : ℕ} {x : List ℕ} → IsSliceAt m i x → i ≡ j → IsSliceAt m j x
 at_place {m} {x = x} s e = subst (λ q. IsSliceAt m q x) e s
 
--- the contents at the front, and what stands behind them
+-- the contents at the front, and what follows them
 inner_lies : {m : List ℕ} (w : Window) {g : Tag} {c : Bool} {k : ℕ} {x r : List ℕ} → Lies m w → UnitAt g c k x r w.octets → IsSliceAt m (w.at + k) x
 inner_lies w {x = x} {r = r} l u = at_place (nearer x r (further u.header (x ++ r) l u.whole) refl) (let e = u.long in omega arith)
 

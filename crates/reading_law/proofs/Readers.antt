@@ -1,4 +1,4 @@
--- What octets say is read: values, one by one, and headers round them.
+-- Octets are read as what they encode: values, one by one, and headers around them.
 use Rattle.std.proofs.Common.{arith, ◌≡◌, ℕ, zero, suc, ◌+◌, ◌<◌, ◌≤◌, Bool, true, List, [], ◌∷◌, ◌++◌, length, take, refl, sym, ap, subst, ◌∙◌, append_assoc, length-append}
 use Rattle.std.proofs.lemmas.List.{append-nil}
 use Rattle.std.proofs.Math.Seq.{take-append_seam}
@@ -51,7 +51,7 @@ unit_at f rest all e l = record {
   whole = e ∙ ap (λ q. q ++ rest) f.whole ∙ append_assoc f.header f.contents rest;
 }
 
--- behind what was read
+-- the state after what was read
 pub record Past (x y : State) (rest : List ℕ) (more : List ℕ) (m : ℕ) : Type 0 where
   pub octets : y.here.octets ≡ rest
   pub form : y.here.constructed ≡ x.here.constructed

@@ -1,4 +1,4 @@
--- Runs of a routine, with a bound on how deep values stand in one another.
+-- Runs of a routine, with a bound on the nesting of values.
 use Rattle.std.proofs.Common.{arith, ◌≡◌, ℕ, suc, ◌+◌, ◌<◌, ◌≤◌, List, [], ◌∷◌, ◌++◌, length, refl, ap}
 use Rattle.std.specs.Prelude.{Some, None, drop, take}
 use Rattle.asn_base.specs.declared.tag.Tag.{Tag}
@@ -16,7 +16,7 @@ use Rattle.octet_answers.specs.States.{State}
 use Rattle.octet_answers.specs.Answers.{Takes, Begins, Ends, Opens, Closes, Holds, Skips, IsNext, IsAbsent, Chooses}
 
 module _ (s : List Resolved) where
-  -- the same as `Does`, where values stand in one another at most so deep
+  -- the same as `Does`, with at most n levels of values
   pub data Runs : ℕ → List Step → State → State → Type 0 where
     run_ended : {n : ℕ} {x : State} → Runs n [] x x
     run_on : {n : ℕ} {ss behind : List Step} {x y z : State}
@@ -46,7 +46,7 @@ module _ (s : List Resolved) where
       let n = suc v.0 + r.0 in
       (n, run_value {m = v.0} (omega arith) q g v.1 e (wider n (omega arith) r.1))
 
-  -- a value, from before its begin to behind its end
+  -- a value, from before its begin to after its end
   pub record RunsValue (n : ℕ) (t : TypeId) (x z : State) : Type 0 where
     pub depth : ℕ
     pub less : depth < n

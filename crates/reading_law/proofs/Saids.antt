@@ -313,7 +313,7 @@ sequence_body {x = x} m u =
       none = λ c. absurd c;
     }
 
--- the additions behind the components of the innermost value
+-- the additions after the components of the innermost value
 rest_read : {s : List Resolved} {n t : ℕ} {tags : List Tag} {cs : List Component} {x z : State} (e : Bool) (m : ℕ) (vs : List TypeId)
     → Is s t tags (a_sequence e cs)
     → Fine s x

@@ -179,7 +179,7 @@ pub all_passed : {s : List Resolved} {cs : List Component} {ws : Row} {ts : List
 all_passed zero m = m
 all_passed (suc n) m = passed_mixed (all_passed n m)
 
--- no component stands next
+-- no component comes next
 pub set_end : {s : List Resolved} {cs : List Component} {e : Bool} {a b : State} → length a.outer ≤ 400 → Skipped s cs e a b → SetRead s cs e a b
 set_end {s} {cs} {e} {a} {b} l k =
     let p = all_missing {s = s} cs in
@@ -271,7 +271,7 @@ set_more {s} {cs} {e} {a} {x} {y} {d} {b} i c k at new al m told l v r =
     by_only [] vs f g z = g z
     by_only (u ∷ us) vs f g z = f (omega arith)
 
--- all components, and behind them nothing is left
+-- all components, and nothing is left after them
 pub record SetEnd (s : List Resolved) (n : ℕ) (cs : List Component) (e : Bool) (steps : List Step) (x z : State) : Type 0 where
   pub state : State
   pub read : SetRead s cs e x state

@@ -98,7 +98,7 @@ unknown_read {e = e} {a = a} l r =
 pub nothing_unknown : {s : List Resolved} (known : List Component) (a : State) → length a.outer ≤ 400 → UnknownRead s known false a a
 nothing_unknown known a l = record { count = 0; encodings = []; unknown = closed; few = omega arith; along = stays a a refl refl refl refl; marks = refl; told = sym (append-nil a.told) }
 
--- ---- the components behind the last one that must stand
+-- ---- the components after the last one that must be present
 
 pub need_is : (p : Presence) → may_be_absent (need_of p) ≡ not (elim p [ mandatory ↦ true | optional ↦ false | default d ↦ false | addition o g ↦ false ])
 need_is mandatory = refl
@@ -192,7 +192,7 @@ none_fields i (c ∷ cs) tail n = (
   none_fields (suc i) cs tail (λ e j. n e (not_yet (λ b. n b.0 (found b.1 b.2)) j)),
 )
 
--- what no step behind the last component that must stand begins with, none of the last components does
+-- if no step after the last component that must be present begins with a tag, none of the last components does
 pub none_last : {s : List Resolved} {g : Tag} (gs : List Tag) (k : RowKind) (cs : List Component) (tail : List Step) → NoneMust tail → NoneFound s g (last_steps (heads gs k ++ (fields_from 0 cs ++ tail))) → NoneFirst s g (last_run cs)
 none_last {s} {g} gs k cs tail p n = by (any_mandatory cs) refl
   where

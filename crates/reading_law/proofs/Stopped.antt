@@ -1,4 +1,4 @@
--- Where reading stopped, what isn't read stands at its place in the message, and so does what was read.
+-- If reading stopped, what isn't read is at its place in the message, and so is what was read.
 use Rattle.std.proofs.Common.{Bool, ℕ, ◌+◌, ◌≤◌, List, [], length, take, drop, refl, sym, ap}
 use Rattle.std.proofs.lemmas.List.{append-nil, take-append-drop, length-take-le}
 use Rattle.std.specs.Prelude.{Option}

@@ -1,4 +1,4 @@
--- A routine stops in one way, and where it stops it reads no value.
+-- A routine stops in one way, and if it stops it reads no value.
 use Rattle.std.proofs.Common.{arith, Bool, true, false, ◌≡◌, ℕ, ◌≤◌, List, [], ◌++◌, length, refl, sym, ap, subst, length-append}
 use Rattle.std.proofs.lemmas.List.{append-nil}
 use Rattle.std.specs.Prelude.{Option, Some, None}
@@ -38,7 +38,7 @@ or_type d (Some t) = t
 none_some : {A : Type 0} {t : TypeId} → None ≡ Some t → A
 none_some e = absurd (cc)
 
--- what a step asks for: the steps behind, the value before them, the state
+-- what a step asks for: the steps after it, the value before them, and the state
 record One {S : Type 0} (b c : List Step) (t u : Option TypeId) (y z : S) : Type 0 where
   behind : b ≡ c
   value : t ≡ u

@@ -36,11 +36,11 @@ pub record ValueRead (s : List Resolved) (t : TypeNumber) (a b : State) : Type 0
   pub shown : Shows s t value tokens
   pub counted : passed_in tokens ≡ count
 
--- values that stand less deep in one another are read so
+-- values of fewer levels are read so
 abbrev pub Below : List Resolved → ℕ → Type 0
 Below s n = (t : TypeNumber) (a b : State) → t < length s → Fine s a → RunsValue s n (id_of t) a b → ValueRead s t a b
 
--- behind steps of a routine
+-- after steps of a routine
 pub record Then (s : List Resolved) (n : ℕ) (R : State → Type 0) (tail : List Step) (z : State) : Type 0 where
   pub state : State
   pub read : R state

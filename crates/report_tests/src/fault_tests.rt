@@ -1,4 +1,4 @@
-//! Faults, tested apart from any text that has them.
+//! Tests of faults, without the texts that would have them.
 
 use account_text::Stop;
 use additions::ExtFault;
@@ -18,7 +18,8 @@ use text::LexFault;
 use told_values::{Reason, ValueTold};
 use trees::Spot;
 
-/// For each fault its number, the exit status, the line that reports it, and what it prints.
+/// The wanted table. Each fault has its number, the exit status, the line that reports it, and the line that it prints
+/// itself.
 const TOLD: &str = "\
 1 3 error 1 Memory: out of memory | error 1 Memory: out of memory
 3 3 error 3 File: w\\u{A}x could not be read | error 3 File: w
@@ -131,7 +132,7 @@ const TEXT: &str = "M DEFINITIONS ::= BEGIN T ::= INTEGER w T ::= 7 END";
 /// The offset of the name w in the module.
 const PLACE: usize = 38;
 
-/// The faults of no text, by their numbers in this table.
+/// The faults that aren't those of a text, by their numbers in this table.
 fn call_fault(number: usize, words: String) -> Option<Fault> {
     match number {
         0 => Some(Fault::Memory),
@@ -226,7 +227,7 @@ fn bound_fault(number: usize, spot: Spot) -> Option<BoundFault> {
     }
 }
 
-/// The faults of what follows markers, by number.
+/// The faults of extension markers and additions, by number.
 fn addition_fault(number: usize, spot: Spot) -> Option<ExtFault> {
     match number {
         53 => Some(ExtFault::Memory),
@@ -237,7 +238,7 @@ fn addition_fault(number: usize, spot: Spot) -> Option<ExtFault> {
     }
 }
 
-/// The reasons why a notation stands for no value, by number.
+/// The reasons why a notation isn't that of a value of its type, by number.
 fn reason(number: usize) -> Option<Reason> {
     match number {
         57 => Some(Reason::Depth),
@@ -281,7 +282,7 @@ fn read_fault(number: usize) -> Option<ReadFault> {
     }
 }
 
-/// The part of a value that a fault of octets has: empty for one number, long for another, and short for the rest.
+/// The part of a value in a fault of octets: empty for one number, long for another, and short for the rest.
 fn path_told(number: usize) -> &'static str {
     match number {
         89 => "",
@@ -290,7 +291,7 @@ fn path_told(number: usize) -> &'static str {
     }
 }
 
-/// Where the text stops being an account, by number.
+/// The place at which the text stops being that of an account, by number.
 fn stop(number: usize) -> Option<Stop> {
     match number {
         91 => Some(Stop::NotText(7)),

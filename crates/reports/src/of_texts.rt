@@ -50,7 +50,7 @@ pub(crate) fn found(
     format!(in alloc; "found '{spelled}'")
 }
 
-/// The token with which a construct begins that this compiler leaves out. Empty for another fault.
+/// The token with which a construct begins that this compiler leaves out. The result is empty for another fault.
 pub(crate) fn left_out(
     alloc: Global,
     text: &[u8],

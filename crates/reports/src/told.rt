@@ -17,7 +17,8 @@ use messages::Fault;
 use shown_texts::{context, escaped, line_and_column, on_one_line};
 use std::alloc::{AllocError, Global};
 
-/// What follows the name of a fault: the construct that this compiler leaves out. Empty for another fault.
+/// What follows the name of a fault: the construct that this compiler leaves out. The result is empty for another
+/// fault.
 fn construct(alloc: Global, text: &[u8], fault: &Fault) -> Result<String, AllocError> {
     let Fault::Front(FrontFault::Tree(_, inner)) = fault else {
         return Ok(String::new(alloc));

@@ -46,7 +46,7 @@ table_of g ns hs as' ts en eh ea all =
     (subst (λ h. AreNumbered ns (map header_of h) (map assignment_of g.tables.assignments.items) (sources_of g.tables.roots.items) ts) eh
     (subst (λ a. AreNumbered ns (map header_of hs) (map assignment_of a) (sources_of g.tables.roots.items) ts) ea all))
 
--- a type of the table that comes back to itself, told with its module and its assignment
+-- a type of the table that comes back to itself is reported with its module and its assignment
 pub circular_fault : (g : ModuleTables) (hs : List Header) (as' : List AssignedAt) (ts : List Type') (i : ℕ) (w : Type')
     (e : NameFault) → hs ≡ g.headers.items → as' ≡ g.tables.assignments.items → IsTableFrom g ts →
     slice_get ts i ≡ Some w → IsCircular ts i →

@@ -30,7 +30,7 @@ pub turn_there : {X Y : Type 0} (f : X → Y) (xs : List X) (zs : List Y) (i : �
     i < length xs → x ≡ get_or xs i x → slice_get zs i ≡ Some (f x)
 turn_there f xs zs i x e l h = ap (λ z. slice_get z i) (sym e) ∙ item_at f xs i x l h
 
--- ---- where an assignment stands
+-- ---- the module of an assignment
 
 one_header : (p : Program) (o o' : ℕ) (M N : Name) (d d' : TagDefault) → o ≡ o' →
     slice_get p.headers o ≡ Some (M, d) → slice_get p.headers o' ≡ Some (N, d') → M ≡ N
@@ -48,7 +48,7 @@ moved p k M N x y q r a = subst (λ z. IsAssignment p k N z) (sym r) (subst (λ 
 
 -- ---- what holds of type or value i
 
--- the list of type i is as it has to be
+-- the list of type i keeps the rules
 abbrev pub SoundAt : Program → ℕ → Type 0
 SoundAt p i = (t : Type') → slice_get p.types i ≡ Some t → IsSoundKind t.kind
 

@@ -56,7 +56,7 @@ pub fields_names : (v : ValueSyntax) (fs : Vec (Named ValueSyntax) Global) →
 fields_names v fs e =
     ap qualified (by_form v (forms.Fields fs) e) ∙ ap (λ ms. qualified_fields (members ms)) (same_members _ (λ n. refl) fs.items) ∙ all_fields (map member_of fs.items)
 
--- what a name behind the name of module N stands for is no value
+-- a name after the name of module N isn't that of a value
 pub behind_none : (ms : List (Name × Module)) (M : Name) (o : Option Name) (N x m y : Name) → o ≡ Some N → m ≡ M →
     y ≡ x → ((i : ℕ) → Refers ms M o x (assigned.Value i) → ⊥) →
     (m ≡ M) × (K : Name) × StandsIn (behind_module o x) (K, y) × ((i : ℕ) → Refers ms M (Some K) y (assigned.Value i) → ⊥)

@@ -1,4 +1,4 @@
--- Names behind modules' names in lists that are gone through from the front.
+-- Names after modules' names in lists, which are gone through from the front.
 use Rattle.std.proofs.Common.{◌≡◌, ◌<◌, ◌≤◌, ◌+◌, inl, inr, ℕ, List, [], ◌++◌, length, map, drop, get_or, sym, subst, ap}
 use Rattle.trees.specs.Values.{Name}
 use Rattle.names.specs.declared.fault.NameFault.{NameFault}
@@ -48,7 +48,7 @@ module _ (ms : List (Name × Module)) (M : Name) where
   pub left_start : (whole : List (Name × Name)) → Left whole whole
   left_start whole = record { good = λ h. h; fault = λ e u. u }
 
-  -- a list of things, of which f tells the names once they are seen by g: thing x stands at i, and those before it are
+  -- a list of things, where f gives the names in the view g of a thing; thing x is at place i, and those before it are
   -- done
   module _ {X Y : Type 0} (f : Y → List (Name × Name)) (g : X → Y) (xs : List X) (whole : List (Name × Name)) (i : ℕ) where
     front : (x : X) → i < length xs → x ≡ get_or xs i x →

@@ -1,11 +1,11 @@
--- A code of values as they are written, by which a proof tells them apart: the parts in postfix order, which three
--- stacks put together again.
+-- A code for written values, by which proofs show that two values differ. It has the parts of a value in postfix order,
+-- and three stacks give the value back.
 use Rattle.std.specs.Prelude.{◌≡◌, ◌⊎◌, ℕ, zero, suc, ℤ, List, [], ◌∷◌, ◌++◌, Option}
 use Rattle.std.proofs.Common.{refl, ap, ◌∙◌, inl, inr, append_assoc}
 use Rattle.std.specs.Coded.{Coded, code_by, coded_ℕ, coded_ℤ, coded_list, coded_option, coded×, coded⊎}
 use Rattle.trees.specs.Values.{Tree, yes, no, null, number, binary, hex, chars, reference, chosen, nothing, numbers, items, fields, Trees, no_tree, tree_and, Members, no_member, member_and}
 
--- what joins the newest parts, and leaves
+-- a part of the code: it joins the newest values, or it is a value without others
 abbrev Part : Type 0
 Part = ℕ ⊎ (ℤ ⊎ (List ℕ ⊎ (List ℕ ⊎ (List ℕ ⊎ ((Option (List ℕ) × List ℕ) ⊎ (List ℕ ⊎ (List ℕ ⊎ List ℕ)))))))
 

@@ -1,4 +1,4 @@
--- What a search for a name answers.
+-- The results of a search for a name (X.680, clauses 13 and 14).
 use Rattle.std.specs.Prelude.{◌≡◌, ℕ, Option, Some, None, String, option_map, slice_get, string_bytes}
 use Rattle.std.specs.Global.{Global}
 use Rattle.trees.specs.Values.{Name, tree_of}
@@ -10,12 +10,11 @@ use Rattle.resolve.specs.declared.linked.Referent.{Referent}
 use Rattle.resolve.specs.declared.linked.Referent.TheVariants.{TypeNamed, ValueNamed}
 use Rattle.resolve.specs.Program.{Program}
 
--- name x, behind a module's name if one is given, stands for a in module M
+-- name x, or N.x if a module's name N is given, means a in module M
 abbrev pub RefersTo : Program → Name → Option (String Global) → Name → Assigned → Type 0
 RefersTo p M o x a = Refers p.modules M (option_map string_bytes o) x a
 
--- nothing where name x, read in module M, has no meaning; a type's number, or the value as it is written, where it has
--- one
+-- None if name x has no meaning in module M; otherwise the number of the type, or the value in its notation
 abbrev pub Finds : Program → Name → Name → Option Referent → Type 0
 Finds p M x None = (a : Assigned) → Meaning p.modules M x a → ⊥
 Finds p M x (Some (TypeNamed t)) = Meaning p.modules M x (assigned.Type t.index)

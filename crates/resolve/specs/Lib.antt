@@ -1,7 +1,7 @@
--- What has to be believed: what linked modules are seen as (`Program`), names behind modules' names (`Qualified`), what
--- sound programs keep and what faults say of others (`Sound`), what linking answers (`Links`) and what a search for a
--- name answers (`Finds`). What stands in `proving` only contracts inside the crate and proofs speak of; `Codes` tells
--- values apart where a proof has to.
+-- What a reader has to believe: what definitions see of linked modules (`Program`), names after modules' names
+-- (`Qualified`), the rules of sound programs and the meaning of faults (`Sound`). The results of linking are in
+-- `Links`, and those of a search for a name in `Finds`. Only contracts inside the crate and proofs use what is in
+-- `proving`. `Codes` helps proofs to show that two values differ.
 pub mod Program
 pub mod Qualified
 pub mod Sound

@@ -33,8 +33,8 @@ pub record Links (ms : List ModuleTree) (p : Program) : Type 0 where
   pub unfolds : AllUnfold p.types
   pub sound : IsSound p
 
--- The fault stands: memory ran out, or something is wrong with the names, with the types that they stand for, or with
--- what stands in those.
+-- The fault is a true one: an allocation failed, or there is something wrong with the names, with the types that they
+-- mean, or with what these types contain.
 abbrev pub IsLinkFault : List ModuleTree → NameFault → Type 0
 IsLinkFault ms faults.Memory = Unit {0}
 IsLinkFault ms e =
@@ -42,7 +42,7 @@ IsLinkFault ms e =
     ⊎ (IsTableFault (scopes_from 0 0 ms) (headers_of ms) (owned_from 0 ms) (roots_of ms) e
     ⊎ ((p : Program) × IsProgramOf ms p × IsSoundFault p e))
 
--- a fault that stands in modules, other than want of memory, excludes that they can be linked
+-- modules with a fault other than `Memory` can't be linked
 abbrev pub FaultsExclude : Type 0
 FaultsExclude = (ms : List ModuleTree) (p : Program) (e : NameFault) →
     (e ≡ faults.Memory → ⊥) →

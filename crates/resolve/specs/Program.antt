@@ -1,4 +1,4 @@
--- Linked modules as they are seen: their names, and their types and values by number; no clause.
+-- Linked modules as definitions see them: their names, and their types and values by number (X.680, clauses 13 and 16).
 use Rattle.std.specs.Prelude.{◌≡◌, ◌<◌, ℕ, Some, List, map, slice_get, length}
 use Rattle.trees.specs.Values.{Name}
 use Rattle.trees.specs.declared.module.TagDefault.{TagDefault}
@@ -26,7 +26,7 @@ pub record Program : Type 0 where
   -- all value assignments, by number
   pub values : List Value
 
--- the program that is seen of names, headers, assignments, types and values as they lie in memory
+-- the program of names, headers, assignments, types and values in memory
 abbrev pub program_seen :
     List (Name × Module) → List Header → List AssignedAt → List Written → List ValueAt → Program
 program_seen ms hs gs ts vs = record {
@@ -37,17 +37,17 @@ program_seen ms hs gs ts vs = record {
   values = map value_of vs;
 }
 
--- what a name is assigned is there
+-- the type or value with this number is in the program
 abbrev pub IsThere : Program → Assigned → Type 0
 IsThere p (assigned.Type i) = i < length p.types
 IsThere p (assigned.Value i) = i < length p.values
 
--- what a linked program keeps
+-- the properties of every linked program
 pub record IsWhole (p : Program) : Type 0 where
   pub linked : IsLinked p.types
-  -- what a name stands for is there
+  -- the meaning of each name is in the program
   pub names : (M x : Name) (a : Assigned) → Meaning p.modules M x a → IsThere p a
-  -- so are the type of each value, the assignment of each type and value, and the module of each assignment
+  -- the type of each value, the assignment of each type and value, and the module of each assignment are in the program
   pub valued : (i : ℕ) (v : Value) → slice_get p.values i ≡ Some v →
       (v.ty < length p.types) × (v.assignment < length p.assignments)
   pub typed : (i : ℕ) (t : Type') → slice_get p.types i ≡ Some t → t.assignment < length p.assignments

@@ -9,7 +9,7 @@ use Rattle.names.specs.declared.scope.Assigned.TheVariants as assigned
 use Rattle.names.specs.Names.{Module, Refers}
 use Rattle.type_table.specs.Table.{Part, Kind, members, Type'}
 
--- what f makes of each element, all in one list, in order
+-- the lists that f gives for the elements, joined in order
 abbrev pub each : {X Y : Type 0} → (X → List Y) → List X → List Y
 each f [] = []
 each f (x ∷ xs) = f x ++ each f xs

@@ -1,5 +1,5 @@
--- What lists in written types and names in notations have to keep (X.680, clauses 14.6, 19, 20, 22, 25, 27 and 29), and
--- what errors say of other programs.
+-- The rules for lists in written types and for names in notations (X.680, clauses 14.6, 19, 20, 22, 25, 27 and 29), and
+-- the meaning of faults in other programs.
 use Rattle.std.specs.Prelude.{◌≡◌, ◌⊎◌, ℕ, Some, slice_get}
 use Rattle.trees.specs.Values.{Name}
 use Rattle.names.specs.declared.fault.NameFault.{NameFault}
@@ -30,7 +30,7 @@ ValuesMean p = (i : ℕ) (v : Value) (M x : Name) →
     IsAssignment p v.assignment M x →
     MeanValues p.modules M (qualified v.notation)
 
--- the lists of a program, and the names in its types and values, are as is required of linked modules
+-- the lists of a program, and the names in its types and values, keep the rules for linked modules
 pub record IsSound (p : Program) : Type 0 where
   -- the names and numbers of a list are distinct, and no limit is passed
   pub lists : AreSound p.types
@@ -41,7 +41,7 @@ pub record IsSound (p : Program) : Type 0 where
 
 -- ---- faults
 
--- name x, behind the name of a module in module M, stands for no value
+-- N.x for a module's name N isn't a value in module M
 pub record IsNoValue (p : Program) (M x : Name) : Type 0 where
   pub owner : Name
   pub assigns : Name
@@ -50,12 +50,12 @@ pub record IsNoValue (p : Program) (M x : Name) : Type 0 where
       ⊎ IsValueIn p M assigns (λ v. StandsIn (qualified v.notation) (owner, x))
   pub nothing : (i : ℕ) → Refers p.modules M (Some owner) x (assigned.Value i) → ⊥
 
--- name x stands twice in the list of a type in module M, or its number does
+-- name x is twice in the list of a type in module M, or its number is
 pub record IsListedTwice (p : Program) (M x : Name) : Type 0 where
   pub assigns : Name
   pub written : IsTypeIn p M assigns (λ t. IsTwiceIn t.kind x)
 
--- a list in the assignment of name x in module M is in a circle
+-- the list of a type in the assignment of name x in module M is in a circle of DEFAULTs
 pub record IsInCircle (p : Program) (M x : Name) : Type 0 where
   pub number : ℕ
   pub written : Type'
@@ -63,11 +63,11 @@ pub record IsInCircle (p : Program) (M x : Name) : Type 0 where
   pub stands : IsAssignment p written.assignment M x
   pub circle : IsDefaultCircle p.types number
 
--- in the assignment of name x in module M a type has the kind of which Q holds
+-- Q holds for the kind of a type in the assignment of name x in module M
 abbrev pub HasKind : Program → Name → Name → (Kind → Type 0) → Type 0
 HasKind p M x Q = IsTypeIn p M x (λ t. Q t.kind)
 
--- why lists and names are not as they have to be
+-- a reason why the lists or names of a program break a rule
 abbrev pub IsSoundFault : Program → NameFault → Type 0
 IsSoundFault p faults.Memory = Unit {0}
 IsSoundFault p (faults.Twice s) = IsListedTwice p (module_told s) (name_told s)

@@ -1,3 +1,3 @@
--- What only contracts inside the crate and proofs speak of.
+-- Definitions that only contracts inside the crate and proofs use.
 pub mod Unknown
 pub mod Assembled

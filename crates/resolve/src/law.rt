@@ -9,7 +9,7 @@ ghost use Rattle.resolve.specs.Program.{Program};
 use names::law::{apart, name_faults_exclude};
 use type_table::law::{one_table, table_faults_exclude};
 
-/// Modules have one program at most.
+/// Modules have at most one program.
 pub fn one_program()
     ensures { (ms : List ModuleTree) (p q : Program) → AreNamed ms → IsProgramOf ms p → IsProgramOf ms q → p ≡ q }
 {
@@ -17,8 +17,8 @@ pub fn one_program()
     one_table();
 }
 
-/// A fault that stands in modules, other than want of memory, excludes that they can be linked: so [`crate::link`] is
-/// Ok just where they can be.
+/// Modules with a fault other than `Memory` can't be linked. So [`crate::link`] is Ok exactly if the modules can be
+/// linked and no allocation fails.
 pub fn link_faults_exclude()
     ensures { FaultsExclude }
 {

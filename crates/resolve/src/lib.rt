@@ -1,5 +1,5 @@
-//! Modules that are linked: what their names stand for, their types by number, and that names in notations stand for
-//! values.
+//! Linked modules: the meanings of their names, and their types with their numbers (X.680, clauses 13, 14 and 16). Each
+//! name after a module's name in a notation is that of a value.
 #![tactic(auto)]
 
 pub mod law;

@@ -23,23 +23,24 @@ use type_table::law::{numbered_linked, numbered_there};
 use type_table::number::number_all;
 use type_table::unfolding::unfold_all;
 
-/// What a name stands for.
+/// The meaning of a name.
 #[derive(Drop)]
 pub enum Referent<'a> {
     /// A type, by its number in the table of written types.
     TypeNamed(TypeId),
-    /// A value, as it is written.
+    /// A value in its notation.
     ValueNamed(&'a ValueSyntax),
 }
 
-/// Where something is written: its module and the assignment that it stands in, by their names.
+/// The names of the module and of the assignment in which something is written.
 #[derive(Clone, Copy, Debug, Drop)]
 pub struct Home<'a> {
     pub module: &'a str,
     pub name: &'a str,
 }
 
-/// Modules whose names have their meanings and whose types unfold. It owns the table of their written types.
+/// Linked modules: each of their names has a meaning and each of their types unfolds. The table of written types
+/// belongs to them.
 #[derive(Drop)]
 pub struct Linked {
     names: Names,
@@ -69,7 +70,7 @@ impl Model for Linked {
     ghost invariant = { λ l. IsKept l.names l.headers.items l.assignments.items l.types.items l.values.items l.cores };
 }
 
-/// The fault that a type comes back to itself.
+/// The fault `Circular` for a type that comes back to itself. `Memory` only if an allocation fails.
 fn circular_at(
     alloc: Global,
     headers: &[Header],
@@ -94,8 +95,9 @@ fn circular_at(
 }
 
 impl Linked {
-    /// What a name stands for in a module (X.680, clause 13): what the module assigns it, or the module which it is
-    /// imported from. Nothing where there is no such module, or where the name has no meaning in it.
+    /// The meaning of a name in a module (X.680, clause 13): what the module assigns to it, or what the name means in
+    /// the module that it is imported from. The result is None if there is no such module, or if the name has no
+    /// meaning in it.
     pub fn find(&self, within: &str, name: &str) -> Option<Referent<'_>>
         ensures { Finds self.now within.now name.now result }
     {
@@ -108,30 +110,31 @@ impl Linked {
         }
     }
 
-    /// What a name stands for in a module, by number: what [`Linked::find`] answers without the value's notation.
+    /// The meaning of a name in a module, as the number of a type or of a value. It is the answer of [`Linked::find`]
+    /// without the notation of the value.
     pub fn meaning(&self, within: &str, name: &str) -> Option<Assigned>
         ensures { (a : Assigned) → (result ≡ Some a ↔ Meaning self.now.modules within.now name.now a) }
     {
         self.names.find(within, name)
     }
 
-    /// What a name, behind the name of a module if one is given, stands for in a module, by number. `M.x` may stand in
-    /// M itself, or where x is imported from M (X.680, clause 14.2).
+    /// The meaning of a name, or of a name after a module's name, in a module, as a number. `M.x` has a meaning in M
+    /// itself and where x is imported from M (X.680, clause 14.2).
     pub fn refers(&self, within: &str, owner: &Option<String>, name: &str) -> Option<Assigned>
         ensures { (a : Assigned) → (result ≡ Some a ↔ RefersTo self.now within.now owner.now name.now a) }
     {
         self.names.refers(within, owner, name)
     }
 
-    /// What every linked program keeps: all that names and types refer to is there, and types unfold.
+    /// A property of all linked modules: all that names and types refer to is there, and each type unfolds.
     pub fn whole(&self)
         ensures { IsWhole self.now }
     {
         let _types = &self.types;
     }
 
-    /// The type behind all references and tags that a type is: itself, where it is neither. All cores are found once,
-    /// in time that grows with the number of types.
+    /// The core of a type: the type after all its references and tags. It is the type itself if that is neither. The
+    /// cores were found when the modules were linked, so the call takes constant time.
     pub fn core(&self, ty: TypeId) -> TypeId
         requires { ty.index < length self.now.types }
         ensures core { IsCore self.now.types ty.index result.index }
@@ -142,7 +145,7 @@ impl Linked {
         }
     }
 
-    /// Where an assignment is written.
+    /// The module and the name of an assignment.
     pub fn assigned(&self, assignment: usize) -> Home<'_>
         requires { assignment < length self.now.assignments }
         ensures { IsAssignment self.now assignment result.module.now result.name.now }
@@ -155,7 +158,7 @@ impl Linked {
         }
     }
 
-    /// Where a type is written.
+    /// The module and the name of the assignment in which a type is written.
     pub fn home(&self, ty: TypeId) -> Home<'_>
         requires { ty.index < length self.now.types }
         ensures { IsHome self.now ty.index result.module.now result.name.now }
@@ -163,7 +166,7 @@ impl Linked {
         self.assigned(self.types[ty.index].assignment)
     }
 
-    /// The modules, in order.
+    /// The names and tag defaults of the modules, in order.
     pub fn headers(&self) -> &[Header]
         ensures { map header_of result.now ≡ self.now.headers }
     {
@@ -178,7 +181,7 @@ impl Linked {
         &self.types
     }
 
-    /// The values that have names, each at its number.
+    /// The assigned values, each at its number.
     pub fn values(&self) -> &[ValueAt]
         ensures { map value_of result.now ≡ self.now.values }
     {
@@ -192,7 +195,10 @@ impl Linked {
         &self.assignments
     }
 
-    /// The program of what is gathered. The type of assignment n is type n.
+    /// Links the tables of modules. The type of assignment n gets the number n.
+    ///
+    /// `UnknownName`: a reference leads to no type. `Limit`: too many types are written. `Circular`: a type comes back
+    /// to itself. `Memory`: an allocation failed.
     pub(crate) fn of(alloc: Global, gathered: ModuleTables) -> Result<Linked, NameFault>
         requires ready { IsReady gathered }
         requires few { length gathered.tables.roots.items ≤ 65536 }

@@ -1,4 +1,4 @@
-//! Linking modules.
+//! Linking of modules.
 
 ghost use Rattle.std.specs.Prelude.{map, IfOk, IfErr};
 ghost use Rattle.trees.specs.Modules.{module_tree_of};
@@ -16,7 +16,7 @@ use std::alloc::Global;
 use trees::Module;
 use type_table::number::too_many;
 
-/// The program of what is gathered.
+/// Links the tables of modules, and checks their lists and the names in their notations.
 fn assemble(alloc: Global, gathered: ModuleTables) -> Result<Linked, NameFault>
     requires ready { IsReady gathered }
     ensures assembled { IfOk result (IsAssembled gathered) }
@@ -40,7 +40,15 @@ fn assemble(alloc: Global, gathered: ModuleTables) -> Result<Linked, NameFault>
     }
 }
 
-/// Gives the names of modules their meanings, and their types numbers.
+/// Links modules: gives each name its meaning and each type its number (X.680, clauses 13, 14, 16, 19, 20, 22, 25, 27
+/// and 29).
+///
+/// - `Limit`: a limit is passed. `Memory`: an allocation failed.
+/// - `Twice`: a name is given twice, or a list has a name or a number twice.
+/// - `UnknownModule`: names are imported from a module that isn't given. `NotExported`: the other module doesn't export
+///   the name.
+/// - `UnknownName`: a name has no meaning, or not the meaning that is needed, in its module.
+/// - `Circular`: a type comes back to itself, or a component with a DEFAULT leads back to the list that holds it.
 pub fn link(alloc: Global, modules: Vec<Module>) -> Result<Linked, NameFault>
     ensures linked { IfOk result (Links (map module_tree_of modules.items)) }
     ensures fault { IfErr result (IsLinkFault (map module_tree_of modules.items)) }

@@ -1,4 +1,4 @@
-//! Names behind modules' names in values, constraints and types: each stands for a value.
+//! Names after modules' names in values, constraints and types: each must be that of a value (X.680, clause 14.6).
 
 ghost use Rattle.std.specs.Prelude.{◌≡◌, List, true, false, map, option_map};
 ghost use Rattle.trees.specs.Constraints.{end_of, range_of, constraint_of};
@@ -18,7 +18,7 @@ use trees::{
 };
 use type_table::{ListMember, Shape, Written};
 
-/// Whether a name, behind the name of a module, stands for a value.
+/// Whether a name, which may be after a module's name, is that of a value.
 fn is_value(linked: &Linked, within: &str, given: &Reference) -> bool
     ensures yes { result ≡ true → MeansValue linked.now within.now given.now }
     ensures no { result ≡ false → MeansValue linked.now within.now given.now → ⊥ }
@@ -30,7 +30,8 @@ fn is_value(linked: &Linked, within: &str, given: &Reference) -> bool
     }
 }
 
-/// A name, behind the name of a module if one is given, stands for a value.
+/// Checks that a name after a module's name is that of a value. Other names pass. `UnknownName`: it isn't. `Memory`: an
+/// allocation failed.
 fn qualified_name(
     alloc: Global,
     linked: &Linked,
@@ -51,7 +52,7 @@ fn qualified_name(
     }
 }
 
-/// The names in a value.
+/// Checks the names in a value.
 #[cycle(values)]
 pub(crate) fn names_in_value(
     alloc: Global,
@@ -78,7 +79,7 @@ pub(crate) fn names_in_value(
     }
 }
 
-/// The names in values that stand one behind the other.
+/// Checks the names in values that follow one another.
 #[cycle(values)]
 fn names_in_items(
     alloc: Global,
@@ -94,7 +95,7 @@ fn names_in_items(
     Ok(())
 }
 
-/// The names in values with identifiers.
+/// Checks the names in values with identifiers.
 #[cycle(values)]
 fn names_in_fields(
     alloc: Global,
@@ -110,7 +111,7 @@ fn names_in_fields(
     Ok(())
 }
 
-/// The name at an end of a range.
+/// Checks the name at an end of a range.
 fn names_in_end(
     alloc: Global,
     linked: &Linked,
@@ -125,7 +126,7 @@ fn names_in_end(
     }
 }
 
-/// The name at an end of a range, if the end is given.
+/// Checks the name at an end of a range, if that end is given.
 fn names_in_bound(
     alloc: Global,
     linked: &Linked,
@@ -140,7 +141,7 @@ fn names_in_bound(
     }
 }
 
-/// The names at the ends of a range.
+/// Checks the names at the ends of a range.
 fn names_in_range(
     alloc: Global,
     linked: &Linked,
@@ -159,7 +160,7 @@ fn names_in_range(
     }
 }
 
-/// What is written with names, of which some stand behind a module's name.
+/// A notation with names, of which some may be after a module's name.
 trait Naming {
     ghost Seen: { Type 0 };
 
@@ -167,12 +168,12 @@ trait Naming {
 
     ghost names: { Seen → List (Name × Name) };
 
-    /// The names that stand behind a module's name.
+    /// Checks the names after modules' names.
     fn check(&self, alloc: Global, linked: &Linked, within: &str) -> Result<(), NameFault>
         ensures { Answers linked.now within.now (names (view self.now)) result };
 }
 
-/// The names in all of these.
+/// Checks the names in all of these.
 fn names_in_all<T: Naming>(
     alloc: Global,
     linked: &Linked,
@@ -202,7 +203,7 @@ impl Naming for RangeSyntax {
     }
 }
 
-/// The names in a constraint.
+/// Checks the names in a constraint.
 fn names_in_constraint(
     alloc: Global,
     linked: &Linked,
@@ -233,7 +234,7 @@ impl Naming for ConstraintSyntax {
     }
 }
 
-/// The names in a DEFAULT.
+/// Checks the names in a DEFAULT.
 fn names_in_presence(
     alloc: Global,
     linked: &Linked,
@@ -265,7 +266,7 @@ impl Naming for ListMember {
     }
 }
 
-/// The names in the DEFAULTs at a type.
+/// Checks the names in the DEFAULTs of a type's components.
 fn names_in_shape(
     alloc: Global,
     linked: &Linked,
@@ -283,7 +284,7 @@ fn names_in_shape(
     }
 }
 
-/// The names in the DEFAULTs and the constraints of a type.
+/// Checks the names in the DEFAULTs and the constraints of a type.
 pub(crate) fn names_in_type(
     alloc: Global,
     linked: &Linked,

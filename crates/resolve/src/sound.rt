@@ -1,4 +1,4 @@
-//! What the lists in written types, and the names in notations, have to keep.
+//! The checks of the lists in written types, of DEFAULTs, and of the names in notations.
 
 ghost use Rattle.std.specs.Prelude.{◌≡◌, IfErr, OnOk};
 ghost use Rattle.names.specs.declared.fault.NameFault.{NameFault as NameFault'};
@@ -17,7 +17,7 @@ use names::fault::spot;
 use std::alloc::Global;
 use type_table::lists::sound_shape;
 
-/// The lists in all types: names and numbers are distinct, and no limit is passed.
+/// Checks the lists in all types: names and numbers are distinct, and no limit is passed.
 fn sound_lists(alloc: Global, linked: &Linked) -> Result<(), NameFault>
     ensures good { OnOk result (AreSound linked.now.types) }
     ensures fault { IfErr result (IsSoundFault linked.now) }
@@ -31,7 +31,7 @@ fn sound_lists(alloc: Global, linked: &Linked) -> Result<(), NameFault>
     Ok(())
 }
 
-/// No component with a DEFAULT has a type that leads back to the list that holds it (X.680, clause 25.7).
+/// Checks that no component with a DEFAULT has a type that leads back to the list that holds it (X.680, clause 25.7).
 fn no_default_circles(alloc: Global, linked: &Linked) -> Result<(), NameFault>
     ensures good { OnOk result (NoDefaultCircles linked.now.types) }
     ensures fault { IfErr result (IsSoundFault linked.now) }
@@ -46,7 +46,7 @@ fn no_default_circles(alloc: Global, linked: &Linked) -> Result<(), NameFault>
     }
 }
 
-/// The names in all types.
+/// Checks the names in all types.
 fn names_in_types(alloc: Global, linked: &Linked) -> Result<(), NameFault>
     ensures good { OnOk result (TypesMean linked.now) }
     ensures fault { IfErr result (IsSoundFault linked.now) }
@@ -59,7 +59,7 @@ fn names_in_types(alloc: Global, linked: &Linked) -> Result<(), NameFault>
     Ok(())
 }
 
-/// The names in all values that are assigned.
+/// Checks the names in all assigned values.
 fn names_in_values(alloc: Global, linked: &Linked) -> Result<(), NameFault>
     ensures good { OnOk result (ValuesMean linked.now) }
     ensures fault { IfErr result (IsSoundFault linked.now) }
@@ -73,8 +73,11 @@ fn names_in_values(alloc: Global, linked: &Linked) -> Result<(), NameFault>
     Ok(())
 }
 
-/// Lists are as they have to be, no default depends on itself, and each name behind a module's name, in a DEFAULT, a
-/// constraint or a value that is assigned, stands for a value there (X.680, clause 14.6).
+/// Checks the lists and DEFAULTs of linked modules, and each name after a module's name in a DEFAULT, a constraint or
+/// an assigned value. Such a name must be that of a value (X.680, clause 14.6).
+///
+/// `Twice`: a list has a name or a number twice. `Limit`: a list passes a limit. `Circular`: a component with a DEFAULT
+/// leads back to its list. `UnknownName`: such a name isn't that of a value. `Memory`: an allocation failed.
 pub(crate) fn sound(alloc: Global, linked: &Linked) -> Result<(), NameFault>
     ensures ok { OnOk result (IsSound linked.now) }
     ensures fault { IfErr result (IsSoundFault linked.now) }
@@ -86,7 +89,7 @@ pub(crate) fn sound(alloc: Global, linked: &Linked) -> Result<(), NameFault>
     Ok(())
 }
 
-/// A program in which a fault stands, other than want of memory, is not sound.
+/// A program with such a fault, other than `Memory`, isn't sound.
 pub fn faults_exclude_sound()
     ensures { (p : Program) (e : NameFault') → (e ≡ faults.Memory → ⊥) → IsSoundFault p e → IsSound p → ⊥ }
 {}

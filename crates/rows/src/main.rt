@@ -1,13 +1,15 @@
-//! Answers rows of data by the calls that the program `asnc` makes, prints each answer below its row's words, and says
-//! where it is another one than the row wants.
+//! Answers rows of data by the calls that the program `asnc` makes, and prints each answer below the words of its row.
+//! It also prints each answer that isn't the one that its row wants.
 //!
-//! The files that its words name are files of rows. A row's first word is a command and its second the row's own name:
-//! `line`, `asnc`, `job`, `octcheck`, `octjob` and `sweep`, each described where it is answered and at the head of the files that use it. A text of a
-//! row that is named `wanted` is the answer that it has to have, as `wanted` says; nothing of it is known here. The
-//! answers that the stored run compares, and what rows want, are written by hand or made by other tools, not taken from
-//! this program, but for those of `hints.rows` and lists of expected tokens, which were compared by hand with the
-//! grammar. A row with `caret` among its words is told with the line of its fault, and a row with `numbered` among its
-//! words has each `#` of its texts counted, from 0.
+//! The words of the command line name files of rows. The first word of a row is a command, and the second is the name
+//! of the row. The commands are `line`, `asnc`, `job`, `octcheck`, `octjob` and `sweep`. Each is described at its
+//! function and at the head of the files that use it. If a row has a text named `wanted`, its answer must be that text,
+//! as the module `wanted` says. This program doesn't know these answers.
+//!
+//! The answers of the stored run and of the rows were written by hand or made by other tools, not taken from this
+//! program. The exceptions are those of `hints.rows` and lists of expected tokens, which were compared by hand with the
+//! grammar. The answer to a row with the word `caret` includes the line of its fault. In a row with the word `numbered`
+//! each `#` of its texts is replaced by a number, counted from 0.
 #![tactic(auto)]
 
 mod programs;
@@ -23,7 +25,7 @@ use std::alloc::{AllocError, Global};
 use std::process::ExitCode;
 use std::{env, fs, io};
 
-/// What a row's command answers.
+/// The answer to a row, by its command.
 fn answer_of(alloc: Global, row: &Row) -> Result<String, Refusal> {
     match row.command() {
         "line" => programs::line(alloc, row),
@@ -36,8 +38,8 @@ fn answer_of(alloc: Global, row: &Row) -> Result<String, Refusal> {
     }
 }
 
-/// A row's words, and below them the lines of its answer, each behind two blanks, and what is wanted where that is
-/// another.
+/// The words of a row, and below them the lines of its answer, each after two blanks. If the row wants another answer,
+/// that follows.
 fn entry(alloc: Global, row: &Row, count: &mut Count) -> Result<String, AllocError> {
     let mut text = String::from_str(alloc, row.command())?;
     for word in row.words.iter().skip(1) {
@@ -57,7 +59,7 @@ fn entry(alloc: Global, row: &Row, count: &mut Count) -> Result<String, AllocErr
     Ok(text)
 }
 
-/// Puts the lines of an answer behind a text, long ones by their fronts.
+/// Adds the lines of an answer, each after two blanks. Of a long line it adds only the beginning.
 fn indent(alloc: Global, text: &mut String, answer: &str) -> Result<(), AllocError> {
     for line in answer.lines() {
         let line = shown(alloc, line)?;
@@ -82,7 +84,7 @@ fn answer_file(rt: &HostRuntime, file: &str, count: &mut Count) -> io::Result<()
     Ok(())
 }
 
-/// Status 1 where an answer is another than its row wants.
+/// The status is 1 if an answer isn't the one that its row wants.
 fn main(rt: HostRuntime) -> io::Result<ExitCode> {
     let mut count = Count::default();
     for file in env::args(&rt)?.skip(1) {

@@ -1,4 +1,4 @@
-//! What the programs asnc and octcheck answer to their words and to texts.
+//! The answers of the programs asnc and octcheck to their words and to texts.
 
 use crate::refusal::Refusal;
 use crate::requests::{asked, texts_of, word};
@@ -10,7 +10,7 @@ use reports::report;
 use row_files::{Row, RowText};
 use std::alloc::{AllocError, Global};
 
-/// The octets of files by their names, from a row's texts, in whose names `\n` stands for a line end.
+/// The octets of files, by their names, from the texts of a row. In the name of a text `\n` means a line end.
 fn octets_in(alloc: Global, row: &Row, files: &[String]) -> Result<Vec<Vec<u8>>, Fault> {
     let mut all = Vec::new(alloc);
     for file in files {
@@ -23,7 +23,7 @@ fn octets_in(alloc: Global, row: &Row, files: &[String]) -> Result<Vec<Vec<u8>>,
     Ok(all)
 }
 
-/// The octets that a job gives, those of a file from a row's texts.
+/// The octets that a job gives. Those of a file are in a text of the row.
 fn given_in(alloc: Global, row: &Row, given: &Given) -> Result<Vec<u8>, Fault> {
     match given {
         Given::Nothing => Ok(Vec::new(alloc)),
@@ -32,7 +32,7 @@ fn given_in(alloc: Global, row: &Row, given: &Given) -> Result<Vec<u8>, Fault> {
     }
 }
 
-/// The octets of a file from a row's texts.
+/// The octets of a file, from a text of the row.
 fn octets_of(row: &Row, file: &String) -> Result<Vec<u8>, Fault> {
     match row.texts.iter().find(|t| t.name.as_str() == file.as_str()) {
         Some(text) => Ok(text.octets.clone()?),
@@ -40,7 +40,7 @@ fn octets_of(row: &Row, file: &String) -> Result<Vec<u8>, Fault> {
     }
 }
 
-/// The value that octets encode, and how many additions were skipped, a line each.
+/// The value that octets encode, and how many additions were skipped, each in a line.
 fn value_of(alloc: Global, job: &Job, kit: &Kit, octets: &[u8]) -> Result<String, Fault> {
     let rules = if job.strict { Rules::Der } else { Rules::Ber };
     let (mut text, skipped) = kit.ber(alloc, job.ty.as_str(), octets, rules)?;
@@ -49,7 +49,7 @@ fn value_of(alloc: Global, job: &Job, kit: &Kit, octets: &[u8]) -> Result<String
     Ok(text)
 }
 
-/// What a job of asnc asks for: octets, in hexadecimal, a value, an account, or the listing.
+/// The result of a job of asnc: octets in hexadecimal, a value, an account, or the listing.
 fn kit_work(alloc: Global, job: &Job, texts: &[Vec<u8>], octets: &[u8]) -> Result<String, Fault> {
     let kit = Kit::open(alloc, texts)?;
     match job.verb {
@@ -67,7 +67,7 @@ fn kit_work(alloc: Global, job: &Job, texts: &[Vec<u8>], octets: &[u8]) -> Resul
     }
 }
 
-/// What a job asks for. The octets are those that it gives, and the account's text is what its account's file holds.
+/// The result of a job. `octets` are those that it gives, and `account` are those in its account's file.
 fn work(
     alloc: Global,
     job: &Job,
@@ -83,7 +83,7 @@ fn work(
     Ok(String::from_str(alloc, answer(verdict))?)
 }
 
-/// What is told of a job: what it asks for, or the line of its fault.
+/// The answer to a job: its result, or the line of its fault.
 fn outcome(
     alloc: Global,
     job: &Job,
@@ -101,7 +101,7 @@ fn outcome(
     }
 }
 
-/// What is told of a fault without texts.
+/// The answer for a fault that needs no texts.
 fn refused(alloc: Global, fault: &Fault) -> Refusal {
     let status = status(fault);
     match format!(in alloc; "status {status}: {fault}") {
@@ -110,7 +110,7 @@ fn refused(alloc: Global, fault: &Fault) -> Refusal {
     }
 }
 
-/// A word by its place, or another where there is none.
+/// The word at a place, or the other one if the list is shorter.
 fn word_or<'a>(words: &[&'a str], place: usize, other: &'a str) -> &'a str {
     match word(words, place) {
         "" => other,
@@ -118,7 +118,7 @@ fn word_or<'a>(words: &[&'a str], place: usize, other: &'a str) -> &'a str {
     }
 }
 
-/// The names of texts that are files.
+/// The names of the texts that are files.
 fn names_of(alloc: Global, texts: &[RowText]) -> Result<Vec<String>, AllocError> {
     let mut names = Vec::new(alloc);
     for text in texts {
@@ -129,8 +129,8 @@ fn names_of(alloc: Global, texts: &[RowText]) -> Result<Vec<String>, AllocError>
     Ok(names)
 }
 
-/// `line NAME [TYPE [VALUE]]`: what is told of a value in the row's texts, `M.v` under `M.T` where no other names are
-/// given.
+/// `line NAME [TYPE [VALUE]]`: the answer for a value in the texts of the row. Without other names that is `M.v` under
+/// `M.T`.
 pub fn line(alloc: Global, row: &Row) -> Result<String, Refusal> {
     let words = asked(alloc, row)?;
     let job = Job {
@@ -148,7 +148,7 @@ pub fn line(alloc: Global, row: &Row) -> Result<String, Refusal> {
     Ok(outcome(alloc, &job, texts.as_slice(), &[], &[])?)
 }
 
-/// The words of a program's command line: those behind the row's name. `\n` stands for a line end.
+/// The words of a program's command line, which are those after the name of the row. `\n` means a line end.
 fn command_line(alloc: Global, row: &Row, program: &str) -> Result<Vec<String>, AllocError> {
     let mut words = Vec::new(alloc);
     words.push(String::from_str(alloc, program)?)?;
@@ -167,7 +167,7 @@ fn job_in(alloc: Global, row: &Row, program: &str) -> Result<Job, Refusal> {
     }
 }
 
-/// What a row's job hands in, from the row's texts.
+/// A row's job, and the octets and account that it names, from the texts of the row.
 #[derive(Drop)]
 pub struct Asked {
     pub job: Job,
@@ -176,7 +176,7 @@ pub struct Asked {
     pub texts: Vec<Vec<u8>>,
 }
 
-/// What a row's job names, in the order of its words.
+/// The octets and the account that a row's job names, in the order of its words.
 fn named_in(alloc: Global, row: &Row, job: Job) -> Result<Asked, Fault> {
     let octets = given_in(alloc, row, &job.octets)?;
     let account = if job.account.is_empty() {
@@ -193,7 +193,7 @@ fn named_in(alloc: Global, row: &Row, job: Job) -> Result<Asked, Fault> {
     })
 }
 
-/// What the words of a row's command line for a program name.
+/// The job, the octets and the account that the command line of a row names.
 pub fn asked_in(alloc: Global, row: &Row, program: &str) -> Result<Asked, Refusal> {
     let job = job_in(alloc, row, program)?;
     match named_in(alloc, row, job) {
@@ -202,8 +202,8 @@ pub fn asked_in(alloc: Global, row: &Row, program: &str) -> Result<Asked, Refusa
     }
 }
 
-/// `asnc NAME WORD..` and `octcheck NAME WORD..`: what the program prints for these words, with the row's texts as its
-/// files.
+/// `asnc NAME WORD..` and `octcheck NAME WORD..`: the output of the program for these words, with the texts of the row
+/// as its files.
 pub fn run(alloc: Global, row: &Row, program: &str) -> Result<String, Refusal> {
     let Asked {
         job,
@@ -220,7 +220,7 @@ pub fn run(alloc: Global, row: &Row, program: &str) -> Result<String, Refusal> {
     )?)
 }
 
-/// `job NAME WORD..` and `octjob NAME WORD..`: what these words of asnc, or of octcheck, ask for, a line each.
+/// `job NAME WORD..` and `octjob NAME WORD..`: the job of asnc or octcheck for these words, a line for each part.
 pub fn job_of(alloc: Global, row: &Row, program: &str) -> Result<String, Refusal> {
     let job = job_in(alloc, row, program)?;
     let verb = match job.verb {

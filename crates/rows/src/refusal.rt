@@ -1,9 +1,9 @@
-//! Why a row has no other answer than some words.
+//! Why a row has no answer, except words.
 
 use std::alloc::{AllocError, AllocFailed, Global};
 use std::fmt;
 
-/// Want of memory, or what is told.
+/// `Memory`: an allocation failed. `Told`: the words of a fault.
 #[derive(Drop)]
 pub enum Refusal {
     Memory,
@@ -22,7 +22,7 @@ impl<T: Drop> From<AllocFailed<T>> for Refusal {
     }
 }
 
-/// What a fault prints.
+/// The words that a fault prints.
 pub fn told<F: fmt::Display>(alloc: Global, fault: &F) -> Refusal {
     match fault.to_string(alloc) {
         Ok(words) => Refusal::Told(words),

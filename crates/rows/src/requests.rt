@@ -1,15 +1,15 @@
-//! The parts of a row.
+//! The words and texts of a row.
 
 use crate::wanted::is_wanted;
 use row_files::Row;
 use std::alloc::{AllocError, Global};
 
-/// Whether a word says how a row's texts are written or how a fault in them is told, and nothing of what is asked.
+/// Whether a word changes how texts are read or how a fault is printed, and isn't part of what the row asks.
 fn is_form(word: &str) -> bool {
     matches!(word, "lines" | "repeat" | "hex" | "numbered" | "caret")
 }
 
-/// The words of a row that say what is asked of which name: those behind its command and its own name.
+/// The words of a row after its command and its name, without those that change how texts are read.
 pub fn asked(alloc: Global, row: &Row) -> Result<Vec<&str>, AllocError> {
     let mut words = Vec::new(alloc);
     for word in row.words.iter().skip(2) {
@@ -20,7 +20,7 @@ pub fn asked(alloc: Global, row: &Row) -> Result<Vec<&str>, AllocError> {
     Ok(words)
 }
 
-/// A word by its place, empty where there is none.
+/// The word at a place, or an empty one if the list is shorter.
 pub fn word<'a>(words: &[&'a str], place: usize) -> &'a str {
     match words.get(place) {
         Some(word) => word,
@@ -28,7 +28,7 @@ pub fn word<'a>(words: &[&'a str], place: usize) -> &'a str {
     }
 }
 
-/// A text with each `#` counted, from 0.
+/// A text in which each `#` is replaced by a number, counted from 0.
 fn numbered(alloc: Global, text: &[u8]) -> Result<Vec<u8>, AllocError> {
     let mut out = Vec::new(alloc);
     let mut count: usize = 0;
@@ -44,7 +44,7 @@ fn numbered(alloc: Global, text: &[u8]) -> Result<Vec<u8>, AllocError> {
     Ok(out)
 }
 
-/// The octets of a row's files. In a row with the word `numbered` each `#` stands for how many stand before it.
+/// The octets of a row's files. In a row with the word `numbered` each `#` is replaced by the number of earlier ones.
 pub fn texts_of(alloc: Global, row: &Row) -> Result<Vec<Vec<u8>>, AllocError> {
     let mut all = Vec::new(alloc);
     for text in &row.texts {

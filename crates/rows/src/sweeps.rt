@@ -1,4 +1,4 @@
-//! What the checker says of an account and of octets once something in them is changed.
+//! The checker's verdicts after a change of an account or of octets.
 
 use crate::programs::{Asked, asked_in};
 use crate::refusal::{Refusal, told};
@@ -12,7 +12,7 @@ const KINDS: [&str; 8] = [
     "leaf", "wrap", "seq", "seqof", "set", "setof", "absent", "default",
 ];
 
-/// How often something was changed, and what was said then.
+/// How often the verdict was yes, how often it was no, and how often there was none, after changes of one kind.
 #[derive(Clone, Copy, Default)]
 struct Tally {
     yes: usize,
@@ -21,14 +21,14 @@ struct Tally {
 }
 
 impl Tally {
-    /// A line of what was said of so many changes.
+    /// A line with the verdicts after changes of one kind.
     fn line(&self, alloc: Global, what: &str) -> Result<String, AllocError> {
         let Tally { yes, no, refused } = *self;
         format!(in alloc; "\n{what}: {yes} yes, {no} no, {refused} refused")
     }
 }
 
-/// Judges changed octets or a changed account of what is asked.
+/// Asks for a verdict on changed octets or on a changed account.
 fn tried(
     alloc: Global,
     asked: &Asked,
@@ -47,19 +47,19 @@ fn tried(
     Ok(())
 }
 
-/// A part of a text, from its first octet to the one behind it.
+/// A part of a text: the place of its first octet, and the place after its last one.
 #[derive(Clone, Copy)]
 struct Span {
     start: usize,
     end: usize,
 }
 
-/// The part of a text that a span has.
+/// The part of a text in a span.
 fn part(text: &str, span: Span) -> &str {
     text.get(span.start..span.end).unwrap_or("")
 }
 
-/// A text with another part in the place of a span.
+/// A text in which the span is replaced by another part.
 fn replaced(alloc: Global, text: &str, span: Span, part: &str) -> Result<String, AllocError> {
     let mut out = String::from_str(alloc, text.get(..span.start).unwrap_or(""))?;
     out.push_str(part)?;
@@ -114,7 +114,7 @@ fn rows(alloc: Global, text: &str) -> Result<Vec<Span>, AllocError> {
     Ok(spans)
 }
 
-/// Each number one up and one down.
+/// Changes each number to the next greater and to the next smaller one.
 fn other_numbers(alloc: Global, asked: &Asked, text: &str) -> Result<Tally, AllocError> {
     let mut tally = Tally::default();
     for span in &numbers(alloc, text)? {
@@ -130,7 +130,7 @@ fn other_numbers(alloc: Global, asked: &Asked, text: &str) -> Result<Tally, Allo
     Ok(tally)
 }
 
-/// A row and the comma beside it.
+/// The span of a row and of the comma next to it.
 fn with_comma(text: &str, span: Span) -> Span {
     let behind = Span {
         start: span.end,
@@ -149,7 +149,7 @@ fn with_comma(text: &str, span: Span) -> Span {
     }
 }
 
-/// Each row left out.
+/// Leaves out each row in turn.
 fn fewer_rows(alloc: Global, asked: &Asked, text: &str) -> Result<Tally, AllocError> {
     let mut tally = Tally::default();
     for span in &rows(alloc, text)? {
@@ -165,7 +165,7 @@ fn fewer_rows(alloc: Global, asked: &Asked, text: &str) -> Result<Tally, AllocEr
     Ok(tally)
 }
 
-/// Each row twice.
+/// Repeats each row in turn.
 fn more_rows(alloc: Global, asked: &Asked, text: &str) -> Result<Tally, AllocError> {
     let mut tally = Tally::default();
     for span in &rows(alloc, text)? {
@@ -183,7 +183,7 @@ fn more_rows(alloc: Global, asked: &Asked, text: &str) -> Result<Tally, AllocErr
     Ok(tally)
 }
 
-/// The name of a row's kind.
+/// The span of the name of a row's kind.
 fn kind_span(text: &str, row: Span) -> Span {
     let start = row.start.saturating_add(2);
     let rest = text.get(start..row.end).unwrap_or("");
@@ -194,7 +194,7 @@ fn kind_span(text: &str, row: Span) -> Span {
     }
 }
 
-/// A row with each kind that isn't its own.
+/// Changes the kind of one row to each other kind.
 fn as_other_kinds(
     alloc: Global,
     asked: &Asked,
@@ -218,7 +218,7 @@ fn as_other_kinds(
     Ok(())
 }
 
-/// Each row with each other kind.
+/// Changes the kind of each row to each other kind.
 fn other_kinds(alloc: Global, asked: &Asked, text: &str) -> Result<Tally, AllocError> {
     let mut tally = Tally::default();
     for row in &rows(alloc, text)? {
@@ -227,7 +227,7 @@ fn other_kinds(alloc: Global, asked: &Asked, text: &str) -> Result<Tally, AllocE
     Ok(tally)
 }
 
-/// Octets with one bit changed.
+/// The octets with one bit changed.
 fn with_bit(alloc: Global, octets: &[u8], place: usize, bit: u8) -> Result<Vec<u8>, AllocError> {
     let mut out = Vec::new(alloc);
     let mut at: usize = 0;
@@ -238,7 +238,7 @@ fn with_bit(alloc: Global, octets: &[u8], place: usize, bit: u8) -> Result<Vec<u
     Ok(out)
 }
 
-/// An octet with each of its bits changed.
+/// Changes each bit of one octet in turn.
 fn other_bits_of(
     alloc: Global,
     asked: &Asked,
@@ -253,7 +253,7 @@ fn other_bits_of(
     Ok(())
 }
 
-/// Each bit of the octets changed.
+/// Changes each bit of the octets in turn.
 fn other_bits(alloc: Global, asked: &Asked, text: &str) -> Result<Tally, AllocError> {
     let mut tally = Tally::default();
     for place in 0..asked.octets.len() {
@@ -262,7 +262,7 @@ fn other_bits(alloc: Global, asked: &Asked, text: &str) -> Result<Tally, AllocEr
     Ok(tally)
 }
 
-/// What is said of the account as it is, and of each change of it or of the octets.
+/// A line with the verdict on the account itself, and one for each kind of change.
 fn lines(alloc: Global, asked: &Asked, text: &str) -> Result<String, AllocError> {
     let mut out = other_numbers(alloc, asked, text)?.line(alloc, "numbers")?;
     let less = fewer_rows(alloc, asked, text)?.line(alloc, "rows left out")?;
@@ -275,9 +275,10 @@ fn lines(alloc: Global, asked: &Asked, text: &str) -> Result<String, AllocError>
     Ok(out)
 }
 
-/// `sweep NAME WORD..`: the words of octcheck, whose account gets a yes, and has no white space. What is said of it; and
-/// how often a yes, a no and a refusal are said where each number is one up or down, each row is left out, doubled or of
-/// another kind, or each bit of the octets is changed.
+/// `sweep NAME WORD..`: the words are those of octcheck, for an account without white space whose verdict is yes. The
+/// answer is that verdict, and for each kind of change how often the verdict was yes, how often it was no, and how
+/// often there was none. The changes are: each number one up or down, each row left out, doubled or of another kind,
+/// and each bit of the octets.
 pub fn sweep(alloc: Global, row: &Row) -> Result<String, Refusal> {
     let asked = asked_in(alloc, row, "octcheck")?;
     let text = str::from_utf8(asked.account.as_slice())

@@ -1,24 +1,24 @@
-//! What a row wants its answer to be: its text that is named `wanted`.
+//! The answer that a row wants: its text named `wanted`.
 //!
-//! Blanks and ends of lines don't count. Where the text ends with `..`, the answer begins with what stands before
-//! these.
+//! Blanks and line ends don't count. If the text ends with `..`, only the beginning of the answer is compared, with
+//! what is before the `..`.
 
 use row_files::{Row, RowText};
 use std::alloc::{AllocError, Global};
 
-/// How many rows want an answer, and how many of these have another.
+/// How many rows want an answer, and how many of these have another answer.
 #[derive(Clone, Copy, Default)]
 pub struct Count {
     pub compared: usize,
     pub different: usize,
 }
 
-/// Whether a text of a row is no module's text, but says what is wanted.
+/// Whether a text of a row isn't a module, but the wanted answer.
 pub fn is_wanted(text: &RowText) -> bool {
     text.name.as_str() == "wanted"
 }
 
-/// The octets of a text but for blanks and ends of lines.
+/// The octets of a text without blanks and line ends.
 fn dense(alloc: Global, text: &[u8]) -> Result<Vec<u8>, AllocError> {
     let mut out = Vec::new(alloc);
     for octet in text {
@@ -29,7 +29,7 @@ fn dense(alloc: Global, text: &[u8]) -> Result<Vec<u8>, AllocError> {
     Ok(out)
 }
 
-/// Whether an answer is the one that is wanted.
+/// Whether an answer is the wanted one.
 fn is_as_wanted(alloc: Global, wanted: &[u8], answer: &str) -> Result<bool, AllocError> {
     let wanted = dense(alloc, wanted)?;
     let answer = dense(alloc, answer.as_bytes())?;
@@ -39,10 +39,10 @@ fn is_as_wanted(alloc: Global, wanted: &[u8], answer: &str) -> Result<bool, Allo
     })
 }
 
-/// How many octets of a line are shown at most.
+/// The most octets of a line that are printed.
 const SHOWN: usize = 1024;
 
-/// A line, or its front and how many octets it has where these are many.
+/// The line, or of a long line its first octets and its number of octets.
 pub fn shown(alloc: Global, line: &str) -> Result<String, AllocError> {
     match line.get(..64) {
         Some(front) if line.len() > SHOWN => {
@@ -53,7 +53,7 @@ pub fn shown(alloc: Global, line: &str) -> Result<String, AllocError> {
     }
 }
 
-/// What a row wants where its answer is another. The row is counted where it wants something.
+/// The wanted answer, if the row's answer is another one. Counts the row if it wants an answer.
 pub fn differs<'a>(
     alloc: Global,
     row: &'a Row,

@@ -69,7 +69,7 @@ member_of_two : {A : Type 0} {x y z : A} {xs : List A} → IsMember x xs → xs 
 member_of_two is_first e = inl (cc)
 member_of_two (is_later m) e = inr (member_of_one m (tails e))
 
--- a default stands before an INTEGER, a SET OF such numbers, or a list without defaults alone
+-- only an INTEGER, a SET OF such numbers and a list without defaults have a DEFAULT
 data IsPlain (t : ℕ) : Type 0 where
   a_number : t ≡ 1 → IsPlain t
   a_set_of_numbers : t ≡ 16 → IsPlain t
@@ -109,7 +109,7 @@ record Fine (s : List Resolved) (p : Told) : Type 0 where
   defaults : Defaults p.kind
 
 module _ (s : List Resolved) (are : AreTold all_told s) where
-  -- a type that is told stands there
+  -- a described type is there
   is : (t : ℕ) (p : Told) → slice_get all_told t ≡ Some p → (r : Resolved) × (slice_get s t ≡ Some r) × IsTold r p
   is t p e = there all_told s t p are e
 

@@ -1,4 +1,4 @@
--- Types as they are told.
+-- Types by their descriptions.
 use Rattle.std.proofs.Common.{arith, ◌≡◌, ℕ, zero, suc, ◌+◌, ◌<◌, List, [], ◌∷◌, ◌++◌, length, refl, sym, ap, subst, ◌∙◌, Option, Some, None, take}
 use Rattle.std.specs.Prelude.{slice_get}
 use Rattle.asn_base.specs.declared.schema.Resolved.{Resolved as Resolved'}
@@ -13,7 +13,7 @@ pub pushed : (ts : List Resolved') (t : Resolved') → types_of (ts ++ (t ∷ []
 pushed [] t = refl
 pushed (u ∷ ts) t = ap (λ q. resolved_of u ∷ q) (pushed ts t)
 
--- one more is told at its number
+-- one more type is described at its number
 more : (ps : List Told) (n : ℕ) (s : List Resolved) (r : Resolved) (p : Told) → AreTold (take n ps) s → slice_get ps n ≡ Some p
     → numbers_of r.tags ≡ p.numbers
     → r.kind ≡ p.kind
@@ -33,7 +33,7 @@ told_more ps n s new r p a e g k is =
     let one : suc n ≡ n + 1 = omega arith in
     subst (λ q. AreTold (take (n + 1) ps) q) (sym is) (subst (λ q. AreTold (take q ps) (s ++ (r ∷ []))) one (more ps n s r p a e g k))
 
--- what is told of the type with a number
+-- the description of the type with a number
 pub record IsTold (r : Resolved) (p : Told) : Type 0 where
   pub numbers : numbers_of r.tags ≡ p.numbers
   pub kind : r.kind ≡ p.kind
@@ -46,7 +46,7 @@ there (q ∷ ps) (r ∷ s) zero p a e =
     (r, refl, record { numbers = a.0.0 ∙ ap (λ x. x.numbers) (some_same e); kind = a.0.1 ∙ ap (λ x. x.kind) (some_same e) })
 there (q ∷ ps) (r ∷ s) (suc t) p a e = there ps s t p a.1 e
 
--- and what is there is told
+-- each type that is there is described
 pub told_there : (ps : List Told) (s : List Resolved) (t : ℕ) (r : Resolved) → AreTold ps s → slice_get s t ≡ Some r → (p : Told) × (slice_get ps t ≡ Some p) × IsTold r p
 told_there [] [] t r a e = absurd cc
 told_there [] (q ∷ s) t r a e = absurd a

@@ -26,7 +26,7 @@ group_alike c (has_default e f n) = rw e (rw f refl)
 group_alike c (is_addition e f) = rw e (rw f refl)
 group_alike c (is_optional_addition e f) = rw e (rw f refl)
 
--- the component is to stand where its group does
+-- the component must be present if its group is
 abbrev IsDue : ℕ → Presence → Type 0
 IsDue g q = q ≡ types.addition false (Some g)
 

@@ -138,13 +138,13 @@ each (suc (suc (suc (suc (suc i))))) r e = absurd cc
 holds : IsSchemaOf p Any NoCode s
 holds = record { as_many = refl; each = each }
 
--- ---- what is none of it
+-- ---- what isn't the schema's type
 
 -- TRUE stands for no other value
 no_false : Notation p [] (77 ∷ []) 2 yes (boolean false) → ⊥
 no_false (notation k (own o) (of_leaf l)) = elim l [ ]
 
--- FALSE where TRUE is written
+-- FALSE in place of TRUE
 other_default : IsPresenceOf p (77 ∷ []) b_part (types.default (boolean false)) → ⊥
 unfolding b_part
 other_default (schema_of.has_default {n} e f h) = no_false (let g : default yes ≡ default n = f in let q : n ≡ yes = cc in subst (λ (n : Tree). Notation p [] (77 ∷ []) 2 n (boolean false)) q h)
@@ -158,7 +158,7 @@ other_type : IsComponentOf p (77 ∷ []) a_part (record { name = 97 ∷ []; type
 unfolding a_part
 other_type h = let e : 2 ≡ 1 = h.type in omega (arith, e)
 
--- one that must stand where it may be absent
+-- a component that must be present, but may be absent
 other_presence : IsPresenceOf p (77 ∷ []) c_part types.mandatory → ⊥
 unfolding c_part
 other_presence (schema_of.is_mandatory e f) = cc
@@ -167,7 +167,7 @@ other_presence (schema_of.is_mandatory e f) = cc
 other_kind : (i : ℕ) (M : Name) → IsKindOf p Any NoCode i M (simple a_boolean) (types.an_integer any_number) → ⊥
 other_kind i M h = elim h [ ]
 
--- ---- `ENUMERATED {r, l(-5), ..., n}`: the items of the root in order of number, and those behind the marker
+-- ---- `ENUMERATED {r, l(-5), ..., n}`: the items of the root in order of number, and those after the marker
 
 the_root : List Item
 the_root = (114 ∷ [], None) ∷ (108 ∷ [], Some (negsuc 4)) ∷ []

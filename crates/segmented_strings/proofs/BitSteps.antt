@@ -98,8 +98,8 @@ one_within r s t c x rest o u p m w =
     moved : (q : List ℕ) → (u.header ++ x) ++ rest ≡ q → (g : BitSegments (s ++ t) ((u.header ++ x) ++ rest)) → bit_segment_levels g ≤ suc r → BitsWithin (suc r) (s ++ t) q
     moved q e g l = subst (λ z. BitsWithin (suc r) (s ++ t) z) e (record { segments = g; few = l })
 
--- what stands before the rest, which is there, holds a multiple of eight bits, and whatever the rest holds goes on
--- behind them
+-- The contents before the rest hold a multiple of eight bits, and the rest isn't empty. The bits of the rest follow
+-- them.
 pub record BitsSoFar (room : ℕ) (contents rest old now : List ℕ) : Type 0 where
   pub string : List Bool
   pub octets : List ℕ

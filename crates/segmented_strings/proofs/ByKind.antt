@@ -28,7 +28,7 @@ use Rattle.segmented_strings.specs.Joining.{Tells, IsJoinedAs, Reads, HasFewUnus
 use Rattle.segmented_strings.specs.Texts.{is_text, IsTextRefused, text_memory, text_unsuited}
 use Rattle.segmented_strings.proofs.BitSteps.{counted}
 
--- ---- what is told
+-- ---- the faults
 
 take_front : (s f : List Bool) (n : ℕ) → n ≡ length s → take n (s ++ f) ≡ s
 take_front [] f zero e = refl
@@ -201,7 +201,7 @@ want_of_memory k o f e = subst (IsTextRefused k o) (sym e) text_memory
 pub other_kind : (k : LeafKind) (room : ℕ) (x : List ℕ) → holding k ≡ nothing → IsRefused (Fails k room) (At 0 whys.UnexpectedTag) x
 other_kind k room x h = at_place (never_constructed h) (omega arith)
 
--- where the octets are those of a value, only want of memory is told
+-- if the octets are those of a value, `Memory` is the only fault
 only_memory : (k : LeafKind) (room : ℕ) (x : List ℕ) (f : SegmentsFault) → ((i : ℕ) (e : Why) → Fails k room e i x → ⊥) → IsRefused (Fails k room) f x → f ≡ Memory
 only_memory k room x Memory n for_memory = refl
 only_memory k room x (At i e) n (at_place f b) = absurd (n i e f)

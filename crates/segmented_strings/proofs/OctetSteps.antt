@@ -32,7 +32,7 @@ pub segment_within : (room : ℕ) (t : List ℕ) {octets behind old new : List �
 segment_within room t {octets = o} {behind = b} j w =
     subst (λ q. OctetsWithin q (j.string ++ t) o) (sym j.deep) (one_within j.below j.string t j.constructed j.contents b o j.unit j.holds (subst (λ q. OctetsWithin q t b) j.deep w))
 
--- what stands before the rest holds a string, and whatever the rest holds goes on behind it
+-- the contents before the rest hold a string, and the octets of the rest follow it
 pub record OctetsSoFar (room : ℕ) (contents rest old now : List ℕ) : Type 0 where
   pub string : List ℕ
   pub joined : now ≡ old ++ string

@@ -1,4 +1,4 @@
--- One string is held, or one fault stands.
+-- Contents octets have one string or one fault.
 use Rattle.std.proofs.Common.{arith, ◌≡◌, ℕ, zero, suc, ◌+◌, ◌-◌, ◌*◌, ◌%◌, ◌<◌, ◌≤◌, Bool, true, false, List, [], ◌∷◌, ◌++◌, length, refl, sym, ap, subst, ◌∙◌, append_assoc, length-append}
 use Rattle.std.specs.Prelude.{flat_map, max}
 use Rattle.std.proofs.lemmas.List.{append-nil}

@@ -28,7 +28,7 @@ same_parts (x ∷ a) (y ∷ h) b r l e =
     let f : a ≡ h = p.fronts in
     record { fronts = cc; rests = p.rests }
 
--- octets that are cut behind a header, and behind its contents
+-- octets that are cut after a header, and after its contents
 pub unit_of : (g t : Tag) (c : Bool) (n k : ℕ) (o a b x y : List ℕ) → HeaderAt g c n k o → g ≡ t → o ≡ a ++ b → length a ≡ k → b ≡ x ++ y → length x ≡ n → UnitAt t c x y o
 unit_of g t c n k o a b x y h same cut la behind lx =
     let p = same_parts a h.header b h.rest (la ∙ sym h.long) (sym cut ∙ h.whole) in

@@ -30,12 +30,13 @@ pub enum Joined {
 /// again. Only the last segment of a BIT STRING may have unused bits. Time and memory grow with the octets: a length in
 /// a header is checked against the octets that are there before it is used.
 ///
-/// The error is the first fault, with its place among the octets. For each header these are checked in order: `Header`:
-/// no header is there with its contents within those of the header around it; `TooDeep`: the header passes the limit;
-/// `UnexpectedTag`: it has another tag. `EmptySegments`: the first segment of a BIT STRING is missing. `BadContents`: a
-/// segment has contents of no bits, or has unused bits and isn't the last. `BadContents` at 0: a joined string isn't
-/// UTF-8, or has a character that its type doesn't have. `UnexpectedTag` at 0: the kind isn't a string, so it has no
-/// constructed form.
+/// The error is the first fault, with its place among the octets. Each header is checked in this order. `Header`: there
+/// is no header, or its contents go on past those of the header around it. `TooDeep`: the header passes the limit.
+/// `UnexpectedTag`: it has another tag.
+///
+/// `EmptySegments`: the first segment of a BIT STRING is missing. `BadContents`: a segment has contents of no bits, or
+/// has unused bits and isn't the last. `BadContents` at 0: a joined string isn't UTF-8, or has a character that its
+/// type doesn't have. `UnexpectedTag` at 0: the kind isn't a string, so it has no constructed form.
 pub fn read_segments(
     alloc: Global,
     kind: LeafKind,

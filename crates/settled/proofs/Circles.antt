@@ -1,4 +1,4 @@
--- No component with a DEFAULT of a settled schema leads back to the components among which it stands.
+-- No component with a DEFAULT of a settled schema leads back to the list of components that it is in.
 use Rattle.std.proofs.Common.{◌≡◌, ℕ, List, [], ◌∷◌, length, Option, Some, None, refl, sym, ap, subst, ◌∙◌}
 use Rattle.std.specs.Prelude.{ℤ, slice_get}
 use Rattle.std.proofs.lemmas.Option.{same_Some}
@@ -18,7 +18,7 @@ use Rattle.settled.proofs.Cores.{joined, reaches_core, is_kind}
 use Rattle.settled.proofs.Written.{part_of, IsListWith, list_with, default_written}
 
 module _ (p : Program) (A : ℕ → ℤ → Type 0) (C : ℕ → ℕ → Type 0) (s : List Resolved) (of : IsSchemaOf p A C s) (places : HasPlaces p.types) where
-  -- where a type of the schema leads, the written one does
+  -- the written type leads where the type of the schema does
   record IsReached (k : types.Kind) (t : ℕ) : Type 0 where
     end : ℕ
     tags : List Tag

@@ -1,4 +1,4 @@
--- What a type is behind its references and tags, and that it is reached.
+-- What a type is after its references and tags, and that it reaches that type.
 use Rattle.std.proofs.Common.{◌≡◌, ℕ, zero, suc, ◌<◌, ◌≤◌, List, [], ◌∷◌, length, Option, Some, None, refl, sym, ap, subst, ◌∙◌}
 use Rattle.std.specs.Prelude.{slice_get}
 use Rattle.std.proofs.lemmas.Option.{same_Some, none-some}
@@ -48,7 +48,7 @@ part_behind (simple p) j e = absurd (none-some j e)
 part_behind (members l m cs) j e = absurd (none-some j e)
 part_behind (elements y m) j e = absurd (none-some j e)
 
--- a type reaches what stands behind its references and tags
+-- a type reaches the type after its references and tags
 reaches_next : (ts : List Type') (i j k : ℕ) → next ts i ≡ Some j → Reaches ts j k → Reaches ts i k
 reaches_next ts i j k e r = go (slice_get ts i) refl
   where

@@ -28,7 +28,7 @@ use Rattle.settled.proofs.TagLists.{alternatives_of, choice_of, is_choice, chose
 pub is_at : (ts : List Type') (i : ℕ) (t : Type') (k : Kind) → slice_get ts i ≡ Some t → t.kind ≡ k → Is ts i k t.default t.place
 is_at ts i t k e f = record { constraints = t.constraints; assignment = t.assignment; found = e ∙ ap (λ k. Some (record t { kind = k })) f }
 
--- nothing stands behind what has tags by its kind
+-- a type that has tags by its kind leads to no other type
 ends : (k : Kind) (p : Path) → own k ≡ Some p → behind_kind k ≡ None
 ends (simple s) p e = refl
 ends (members y m cs) p e = refl
@@ -39,7 +39,7 @@ ends (tagged t k j) p e = absurd cc
 next_is : {ts : List Type'} {i : ℕ} {k : Kind} {d : TagDefault} {l : Option (ℕ × ℕ)} → Is ts i k d l → next ts i ≡ behind_kind k
 next_is is = ap behind_of is.found
 
--- where a type bears no tags, nor does the type behind its references
+-- if a type bears no tags, nor does the type after its references
 untagged_core : (ts : List Type') (n i c : ℕ) → Written ts i [] → follow (next ts) n i ≡ Some c → Written ts c []
 untagged_core ts zero i c w e = let q : i ≡ c = cc in subst (λ i. Written ts i []) q w
 untagged_core ts (suc n) i c (core {k} is o) e =
@@ -62,7 +62,7 @@ own_none ts c t e n (core {k} is o) =
     kind_in (Some t) = t.kind
 own_none ts c t e n (behind is w) = let q = sym (next_is is) ∙ n in absurd cc
 
--- what is behind a type's references is one type
+-- the references of a type end at one type
 one_end : (f : ℕ → Option ℕ) (k m i c d : ℕ) → follow f k i ≡ Some c → f c ≡ None → follow f m i ≡ Some d → f d ≡ None → c ≡ d
 one_end f k m i c d e n g o =
     elim (cases_order k m) [

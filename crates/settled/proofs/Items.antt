@@ -30,7 +30,7 @@ ascending_distinct (i ∷ is) a = (
   ascending_distinct is a.1,
 )
 
--- items that ascend and whose numbers are among these are no more
+-- items that ascend, and whose numbers are among these, aren't more than these
 no_more_items : (is : List types.Item) (zs : List ℤ) → NumbersAscend is → ((i : types.Item) → IsMember i is → IsMember i.number zs) → length is ≤ length zs
 no_more_items is zs a f =
     let l = no_more (map (λ (i : types.Item). i.number) is) zs (ascending_distinct is a)
@@ -82,7 +82,7 @@ module _ (root : List Item) (more : Option (List Item)) (in_root added : List ty
       let same = one_place names j.name f.place g.place sound.names p q in
       same_Some i.number j.number (sym f.numbered ∙ ap (slice_get (numbers_of root (additions_of more))) same ∙ g.numbered)
 
-  -- a number of the root is none behind the marker
+  -- a number of the root isn't one after the marker
   apart : (i j : types.Item) → IsMember i in_root → IsMember j added → i.number ≡ j.number → ⊥
   apart i j m n e =
       let f = written_root i m in

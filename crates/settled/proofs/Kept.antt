@@ -45,7 +45,7 @@ module _ (p : Program) (A : ℕ → ℤ → Type 0) (C : ℕ → ℕ → Type 0)
   lists cs k t d = all_apart s cs (λ i j c e l g h. apart c.ty e.ty (d i j c e l g h (t i j)))
 
   module _ (tagged : IsTagged p.types) where
-    -- the types of lists differ where they have to
+    -- the types of lists differ where the rules ask for it
     distinct : (c : ℕ) (t : Type') (k : ListKind) (m : Bool) (cs : List Part) → slice_get p.types c ≡ Some t → t.kind ≡ members k m cs → Distinct p.types k cs
     distinct c t k m cs e f = tagged.distinct c k m cs t.default t.place (is_at p.types c t (members k m cs) e f)
 

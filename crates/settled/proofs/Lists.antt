@@ -67,7 +67,7 @@ none_twice (x ∷ xs) d = (
 pub less_or_more : (i j : ℕ) → (i ≡ j) ⊎ ((i < j) ⊎ (j < i))
 less_or_more i j = grind arith
 
--- what stands at two places of distinct members stands at one
+-- two places of distinct members with the same element are the same
 pub one_place : {A : Type 0} (xs : List A) (x : A) (i j : ℕ) → modules.AreDistinct xs → slice_get xs i ≡ Some x →
     slice_get xs j ≡ Some x → i ≡ j
 one_place xs x i j d e f =
@@ -84,7 +84,7 @@ value_member f [] x m = elim m [ ]
 value_member f (y ∷ xs) x is_first = is_first
 value_member f (y ∷ xs) x (is_later m) = is_later (value_member f xs x m)
 
--- ---- members that are distinct are no more than those among which they are
+-- ---- distinct members aren't more than those among which they are
 
 -- the list without the member
 abbrev without : {A : Type 0} (x : A) (ys : List A) → IsMember x ys → List A
@@ -112,7 +112,7 @@ no_more (x ∷ xs) ys d f =
     let b = one_less x ys m in
     omega (arith, a, b)
 
--- ---- two lists behind each other
+-- ---- two lists, one after the other
 
 pub in_front : {A : Type 0} (xs ys : List A) (n : ℕ) (x : A) → n < length xs → slice_get (xs ++ ys) n ≡ Some x → slice_get xs n ≡ Some x
 in_front [] ys n x l e = absurd (omega (arith, l))
@@ -124,7 +124,7 @@ in_back [] ys n x l e = (n, e)
 in_back (y ∷ xs) ys zero x l e = absurd (omega (arith, l))
 in_back (y ∷ xs) ys (suc n) x l e = in_back xs ys n x (omega (arith, l)) e
 
--- what stands at a place of a list does so of its values
+-- an element at a place of a list has its value at that place of the values
 pub value_at : {A B : Type 0} (f : A → B) (xs : List A) (n : ℕ) (x : A) → slice_get xs n ≡ Some x → slice_get (map f xs) n ≡ Some (f x)
 value_at f xs n x e = slice_get-map f xs n ∙ ap (option_map f) e
 
@@ -143,7 +143,7 @@ pub some_member : {A : Type 0} (x : A) (xs : List A) → IsMember x xs → 1 ≤
 some_member x [] m = elim m [ ]
 some_member x (y ∷ xs) m = omega arith
 
--- members that are distinct in one value are distinct in another that tells the first
+-- members that are distinct by one value are distinct by another that determines the first
 pub distinct_by : {A B C : Type 0} (f : A → B) (g : A → C) (xs : List A) → ((x y : A) → IsMember x xs → IsMember y xs → g x ≡ g y → f x ≡ f y) →
     AreDistinct (map f xs) → AreDistinct (map g xs)
 distinct_by f g [] h d = tt

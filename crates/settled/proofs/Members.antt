@@ -24,7 +24,7 @@ use Rattle.schema_of.specs.SchemaOf.{IsPresenceOf, is_mandatory, is_optional, ha
 use Rattle.settled.proofs.Lists.{place_of, of_back, all_members, value_of, less_or_more, none_twice}
 use Rattle.settled.proofs.Written.{written_component}
 
--- ---- where a component stands
+-- ---- the place of a component
 
 abbrev added : Presence → Bool
 added q = adds (record { name = []; type = 0; presence = q })
@@ -80,11 +80,11 @@ resolved_group c n (is_optional_addition {g = k} f g) e = same_group c.standing 
 
 -- ---- root, then additions
 
--- behind an addition stand additions alone
+-- after an addition there are only additions
 abbrev AreInOrder : List Component → Type 0
 AreInOrder ds = (m n : ℕ) (d e : Component) → m < n → slice_get ds m ≡ Some d → slice_get ds n ≡ Some e → adds d ≡ true → adds e ≡ true
 
--- what stands between two of a group is of the group
+-- a component between two of a group is of the group
 abbrev AreTogether : List Component → Type 0
 AreTogether ds = (l m n g : ℕ) (d e b : Component) → l < m → m < n → slice_get ds l ≡ Some d → slice_get ds m ≡ Some e → slice_get ds n ≡ Some b → IsOfGroup g d → IsOfGroup g b → IsOfGroup g e
 
@@ -165,7 +165,7 @@ same_names (component_and {c} {cs} {d} {ds} a as') = ap (λ x. x ∷ map (λ d. 
 names_kept : (xs ys : List Name) → xs ≡ ys → AllByRecursion IsIdentifier ys → modules.AreDistinct ys → AreNames xs
 names_kept xs ys e i d = subst AreNames (sym e) (record { identifiers = i; distinct = none_twice ys d })
 
--- all members of a written list stand where they may
+-- all members of a written list are where they may be
 abbrev pub ArePlaced : Bool → List Part → Type 0
 ArePlaced marker cs = (n : ℕ) (c : Part) → slice_get cs n ≡ Some c → IsPlaced marker cs n c
 

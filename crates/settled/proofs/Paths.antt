@@ -1,4 +1,4 @@
--- Tags that stand, beside the path that they are of.
+-- Tags that are encoded, beside the path that they are of.
 use Rattle.std.proofs.Common.{◌≡◌, ℕ, zero, suc, ◌<◌, ◌≤◌, List, [], ◌∷◌, length, Some, refl, ap, subst, ◌∙◌, arith}
 use Rattle.std.proofs.Props.{props}
 use Rattle.std.specs.Prelude.{map, slice_get, IfSome}
@@ -63,14 +63,14 @@ same_tags (g ∷ gs) (h ∷ hs) e =
     let y = same_tags gs hs r in
     cc
 
--- ---- what stands
+-- ---- tags that are encoded
 
 pub none_stands : (p : Path) → [] ≡ standing p → p ≡ []
 none_stands [] e = refl
 none_stands ((l, Implicit) ∷ p) e = absurd cc
 none_stands ((l, Explicit) ∷ p) e = absurd cc
 
--- the first tag that stands is the first that is written
+-- the first tag that is encoded is the first that is written
 pub record StartsWith (l : Label) (p : Path) : Type 0 where
   pub form : TagForm
   pub rest : Path
@@ -85,7 +85,7 @@ few_without : (ls : List Label) → length (without_first ls) ≤ length ls
 few_without [] = omega arith
 few_without (l ∷ ls) = omega arith
 
--- no more tags stand than are written
+-- at most as many tags are encoded as are written
 few_stand : (p : Path) → length (standing p) ≤ length p
 few_stand [] = omega arith
 few_stand ((l, Implicit) ∷ p) = omega (arith, few_stand p, few_without (standing p))

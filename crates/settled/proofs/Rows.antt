@@ -1,4 +1,4 @@
--- Types with the tags that stand before their contents, and items in order.
+-- Types with the tags before their contents, and items in order.
 use Rattle.std.proofs.Common.{◌≡◌, ℕ, zero, suc, ◌<◌, true, false, List, [], ◌∷◌, Option, Some, None, refl, subst, arith, lit<}
 use Rattle.std.proofs.lemmas.Option.{same_Some}
 use Rattle.std.specs.Prelude.{ℤ, pos, negsuc, slice_get}
@@ -23,7 +23,8 @@ use Rattle.settled.specs.Settled.{standing, HasTags, ItemsAscend, IsSettledType,
 
 -- ---- the worked example of X.690, clause 8.14, in a module with EXPLICIT TAGS: `Type1 ::= VisibleString`,
 -- `Type2 ::= [APPLICATION 3] IMPLICIT Type1`, `Type3 ::= [2] Type2`, `Type4 ::= [APPLICATION 7] IMPLICIT Type3` and
--- `Type5 ::= [2] IMPLICIT Type2`. Before the contents of "Jones" stand 1A 05; 43 05; A2 07 43 05; 67 07 43 05; 82 05.
+-- `Type5 ::= [2] IMPLICIT Type2`. The octets before the contents of "Jones" are 1A 05; 43 05; A2 07 43 05; 67 07 43 05;
+-- and 82 05.
 
 visible_string : Tag
 visible_string = record { class = Universal; number = 26; in_range = lit< tt; not_reserved = λ e. lit< tt }
@@ -168,7 +169,7 @@ stands : IsAssignment the_tagged 0 (77 ∷ []) (84 ∷ [])
 unfolding the_tagged
 stands = record { owner = 0; tags = ExplicitTags; assigned = refl; header = refl }
 
--- both types are BOOLEAN behind the tag
+-- both types are BOOLEAN after the tag
 is_boolean : (i : ℕ) → IsCore the_tagged.types i 1 → IsTypeOf the_tagged (Allows the_tagged) (AllowsCode the_tagged) i types.a_boolean
 unfolding the_tagged
 is_boolean i l = record {

@@ -36,7 +36,7 @@ use Rattle.settled.proofs.Cores.{kind_of_core, is_kind}
 use Rattle.settled.proofs.Written.{written_component, default_written}
 use Rattle.settled.proofs.Members.{ArePlaced, listed, alternatives_in_root, alternatives_behind, alternatives_marked, alternative_names, bits_kept}
 
--- what a type of this kind keeps of the tags of those that stand in it
+-- the rules of a type of this kind for the tags of the types in it
 abbrev KeepsTags : List Resolved → types.Kind → Type 0
 KeepsTags s (types.a_set e cs) = AllByRecursion (λ c. HasTag s c.type) cs
 KeepsTags s (types.a_choice root e more) = AllByRecursion (λ a. HasTag s a.type) (root ++ more) × TagsAscend s more

@@ -75,7 +75,7 @@ pub all_shifted : (c : Part) (cs : List Part) (q r : ℕ) → MayBeAbsent cs q r
 all_shifted c cs q r m zero z l u h = absurd (omega (arith, l))
 all_shifted c cs q r m (suc n) z l u h = m n z (omega arith) (omega arith) h
 
--- what holds of each component that can stand next holds of the run
+-- what holds for each component that can come next holds for the run
 pub run_of : (p : Program) (M : Name) (Q : ℕ → Type 0) {cs : List Part} {ds : List Component} → AreComponentsOf p M cs ds →
     ((q : ℕ) (c : Part) → slice_get cs q ≡ Some c → MayBeAbsent cs 0 q → Q c.ty) → AllByRecursion (λ d. Q d.type) (first_run ds)
 run_of p M Q schema_of.no_component f = tt

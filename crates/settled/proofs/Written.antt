@@ -1,4 +1,4 @@
--- What stands in a type of the schema, and where it is written.
+-- The types in a type of the schema, and where they are written.
 use Rattle.std.proofs.Common.{◌≡◌, ℕ, zero, suc, ◌<◌, ◌≤◌, Bool, true, false, List, [], ◌∷◌, ◌++◌, length, Option, Some, None, refl, sym, ap, subst, ◌∙◌}
 use Rattle.std.specs.Prelude.{ℤ, map, slice_get}
 use Rattle.std.proofs.lemmas.Option.{same_Some, none-some}
@@ -46,7 +46,7 @@ written_alternative (suc n) a (root_and f h hs) e = let r = written_alternative 
 written_alternative zero a (addition_and {c} {a = b} g f h hs) e = record { part = c; there = refl; alike = subst (λ z. IsAlternativeOf c z) (same_Some b a e) h }
 written_alternative (suc n) a (addition_and g f h hs) e = let r = written_alternative n a hs e in record { part = r.part; there = r.there; alike = r.alike }
 
--- ---- what stands in a type
+-- ---- the types in a type
 
 member_type : {p : Program} {M : Name} {l : ListKind} {m : Bool} {cs : List Part} (ds : List Component) (u : ℕ) →
     AreComponentsOf p M cs ds → IsMember u (map (λ d. d.type) ds) → IsPart u (members l m cs)
@@ -60,7 +60,7 @@ one_element : (u j : ℕ) → IsMember u (j ∷ []) → u ≡ j
 one_element u j is_first = refl
 one_element u j (is_later m) = elim m [ ]
 
--- the types that stand in a type of the schema stand in the written one
+-- the types in a type of the schema are in the written one
 pub part_of : {p : Program} {A : ℕ → ℤ → Type 0} {C : ℕ → ℕ → Type 0} {i : ℕ} {M : Name} {K : Kind} {k : types.Kind} (u : ℕ) → IsKindOf p A C i M K k → IsMember u (types_in k) → IsPart u K
 part_of u schema_of.boolean h = elim h [ ]
 part_of u (schema_of.integer f) h = elim h [ ]

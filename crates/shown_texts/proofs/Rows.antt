@@ -16,7 +16,7 @@ pub line_behind_cr : line_of (65 ∷ 13 ∷ 66 ∷ []) 2 ≡ 2
 unfolding line_of
 line_behind_cr = refl
 
--- CR with LF behind it ends a line once, with the LF
+-- CR with LF after it ends a line once, at the LF
 pub line_behind_both : line_of (65 ∷ 13 ∷ 10 ∷ 66 ∷ []) 3 ≡ 2
 unfolding line_of
 line_behind_both = refl

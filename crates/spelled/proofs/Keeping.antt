@@ -99,7 +99,7 @@ keeps_listed a P k =
     (keeps_pair a (many (behind (Mark Comma) a)) P (AllByRecursion P) k (keeps_many (behind (Mark Comma) a) P (keeps_behind (Mark Comma) a P k)))
     (λ p h. (omega arith, h))
 
--- what stands between two parts that say nothing
+-- a part between two parts without trees
 keeps_inside : {A : Type 0} (l r : Mark') (a : Grammar A) (P : A → Type 0)
     → Keeps a P
     → Keeps ((mark l ∙ (a ∙ mark r)) ⇒ (λ p. p.1.0)) P
@@ -131,7 +131,7 @@ pub keeps_marked : {B : Type 0} (b : Grammar B) (Q : B → Type 0) → Keeps b Q
 keeps_marked b Q k =
     keeps_behind (Mark Ellipsis) (many (behind (Mark Comma) b)) (AllByRecursion Q) (keeps_many (behind (Mark Comma) b) Q (keeps_behind (Mark Comma) b Q k))
 
--- the parts before the marker, and those behind it
+-- the parts before the marker, and those after it
 abbrev pub OfListing : {A B : Type 0} → (A → Type 0) → (B → Type 0) → List A × Option (List B) → Type 0
 OfListing P Q l = AllByRecursion P l.0 × OfOption (AllByRecursion Q) l.1
 

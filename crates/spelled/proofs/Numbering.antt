@@ -42,10 +42,10 @@ assignments_spelled (m ∷ ms) h =
     all_joined IsSpelledAssignment m.assignments (all_assignments ms) (All-head IsSpelledModule m ms h)
     (assignments_spelled ms (All-tail IsSpelledModule m ms h))
 
--- ---- the types that stand in them
+-- ---- the types in them
 
 abbrev mutual
-  -- how many types stand in a type, itself among them
+  -- how many types are in a type, itself included
   size : TypeTree → ℕ
   size (a_type f cs) = suc (form_size f)
 
@@ -60,7 +60,7 @@ abbrev mutual
   members_size no_member = zero
   members_size (member_and x t o g ms) = size t + members_size ms
 
--- where types of at least this size are spelled
+-- types of at least this size are spelled by the rules
 abbrev IsSpelledFrom : ℕ → Source → Type 0
 IsSpelledFrom n s = n ≤ size s.tree → IsSpelledSource s
 
@@ -76,7 +76,7 @@ members_spelled n a i k whole no_member le h = tt
 members_spelled n a i k whole (member_and x t o g us) le h =
     ((λ small. (h (omega (arith, small, le))).1), members_spelled n a i (suc k) whole us (omega (arith, le)) (λ small. (h small).2))
 
--- a type that stands directly in another one is smaller
+-- a type directly in another one is smaller
 parts_spelled : (n a i : ℕ) (t : TypeTree)
     → (n ≤ size t → IsSpelledTree t)
     → AllByRecursion (IsSpelledFromLess n) (parts_of a i t)

@@ -63,7 +63,7 @@ boolean = a_type (a_simple a_boolean) []
 abbrev misspelled : TypeTree
 misspelled = a_type (a_simple (an_integer ((capital, pos 1) ∷ []))) []
 
--- a BOOLEAN, behind the marker
+-- a BOOLEAN after the marker
 abbrev added : TypeMembers
 added = member_and a boolean mandatory (Addition None) no_member
 

@@ -1,5 +1,5 @@
-//! Calls whose memory is refused, growth by growth: all memory is taken first, and then a call is left a few octets
-//! more each turn.
+//! Calls whose allocations fail one after another. First all memory is taken, and then each turn leaves a call a few
+//! octets more than the turn before.
 #![tactic(auto)]
 
 mod hog;

@@ -1,4 +1,4 @@
-//! Turns, each of which leaves a call a few octets more than the last one.
+//! Turns, each of which leaves a call a few octets more than the turn before.
 
 use crate::hog::Hog;
 use std::alloc::{AllocError, Global};
@@ -6,10 +6,10 @@ use std::alloc::{AllocError, Global};
 /// How many turns a sweep has.
 const TURNS: usize = 3000;
 
-/// The octets that a turn leaves more than the last one.
+/// How many octets more a turn leaves than the turn before.
 const STEP: usize = 16;
 
-/// What a call answered: what it answers with ample memory, that memory was refused, or anything else.
+/// The result of a call: the same as with enough memory, `Memory`, or anything else.
 #[derive(Clone, Copy, Debug, PartialEq, Eq)]
 pub enum Turn {
     Right,
@@ -17,14 +17,14 @@ pub enum Turn {
     Wrong,
 }
 
-/// A call whose memory is refused.
+/// A call without enough memory.
 pub trait Starved {
-    /// The call, anew in each turn.
+    /// The call, which is made again in each turn.
     fn call(&mut self, alloc: Global) -> Turn;
 }
 
-/// How a sweep went: how often the call was refused and how often it was right; or the turn in which it answered
-/// something else, or was refused with ample memory; or that memory has no end here.
+/// The result of a sweep. `Endless`: memory has no end here. `Wrong`: in this turn the call had another result, or it
+/// failed with enough memory. `Through`: how often an allocation failed, and how often the call was right.
 #[derive(Clone, Copy, Debug, PartialEq, Eq)]
 pub enum Swept {
     Endless,
@@ -32,7 +32,8 @@ pub enum Swept {
     Through { refused: usize, right: usize },
 }
 
-/// Calls with ever more memory. A call that was refused is made again with ample memory, and must then be right.
+/// Makes a call with more memory in each turn. If an allocation fails, the call is made again with enough memory, and
+/// must then be right.
 pub fn sweep<S: Starved>(alloc: Global, starved: &mut S) -> Result<Swept, AllocError> {
     let mut hog = Hog::new(alloc, TURNS)?;
     if !hog.has_all() {

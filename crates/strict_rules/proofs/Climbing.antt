@@ -22,7 +22,7 @@ none_some e = cc
 some_same : {A : Type 0} {x y : A} → Some x ≡ Some y → x ≡ y
 some_same e = cc
 
--- what stands at a place
+-- the element at a place
 pub got : {A : Type 0} (xs : List A) (i : ℕ) (y d : A) → slice_get xs i ≡ Some y → d ≡ get_or xs i d → d ≡ y
 got [] i y d e f = absurd (none_some e)
 got (x ∷ xs) zero y d e f = f ∙ some_same e
@@ -86,7 +86,7 @@ both_ways s [] g o n = elim o [ ]
 both_ways s (c ∷ cs) g (of_first h) n = n.0 h
 both_ways s (c ∷ cs) g (of_later o) n = both_ways s cs g o n.1
 
--- tags that ascend behind the last one
+-- tags that ascend after the last one
 pub data Ascends : Option Tag → List (List ℕ) → Type 0 where
   ascends_none : {last : Option Tag} → Ascends last []
   ascends_more : {last : Option Tag} {g : Tag} {z : List ℕ} {zs : List (List ℕ)} → IsUnit g z → IsBehind last g → Ascends (Some g) zs → Ascends last (z ∷ zs)
@@ -123,7 +123,7 @@ known_units parted_none = tt
 known_units (parted_known {g = g} u o p) = ((g, u), known_units p)
 known_units (parted_other u n p) = known_units p
 
--- the units that are left, behind the last tag
+-- the units that are left after the last tag
 pub record ClimbsFrom (s : List Resolved) (cs : List Component) (zs us : List (List ℕ)) (last : Option Tag) (rest : List ℕ) (whole : Bool) : Type 0 where
   pub todo : List (List ℕ)
   pub known : List (List ℕ)
@@ -144,7 +144,7 @@ climbs_begin law s cs ys zs us o u p = record {
   none_yet = (λ h. h.1, λ h. (refl, h));
 }
 
--- what stands first among what is left
+-- the first of the units that are left
 pub data FirstParted (s : List Resolved) (cs : List Component) (x : List ℕ) : List (List ℕ) → List (List ℕ) → List (List ℕ) → Type 0 where
   first_known : {more known others : List (List ℕ)} → Parted s cs more known others → FirstParted s cs x more (x ∷ known) others
   first_other : {more known others : List (List ℕ)} → Parted s cs more known others → FirstParted s cs x more known (x ∷ others)
@@ -227,7 +227,7 @@ behind_some b last f g e h = subst (λ q. IsTrue b ↔ IsBehind q g) (sym e) h
 
 -- ---- the only encoding of a type
 
--- it stands in what is left
+-- the encoding is in what is left
 pub record StandsFrom (s : List Resolved) (t : ℕ) (x rest : List ℕ) : Type 0 where
   pub todo : List (List ℕ)
   pub units : AreUnits todo rest

@@ -38,7 +38,7 @@ none_some e = cc
 pub no_some : {A : Type 0} {x : A} {P : Type 0} → None ≡ Some x → P
 no_some e = absurd (none_some e)
 
--- what is decided of one thing is decided of another that holds just where it does
+-- a decision on one thing is one on another that holds exactly if the first does
 pub decides_as : {P Q : ℕ → Type 0} (r : Option Bool) → ((j : ℕ) → P j → Q j) → ((j : ℕ) → Q j → P j) → Decides P r → Decides Q r
 decides_as None f g d = λ j q. d j (g j q)
 decides_as (Some b) f g d = (d.0, f d.0 d.1, d.2)
@@ -52,7 +52,7 @@ within_short : {ss rs : List Step} {o x : List ℕ} → IsWithin ss o rs x → l
 within_short (no_head b) l = l
 within_short (in_head i w) l = within_short w (inside_short i l)
 
--- the steps behind the headers, and what is within them
+-- the steps after the headers, and what is within them
 pub record IsSomewhere (st : List Step) (o : List ℕ) : Type 0 where
   pub steps : List Step
   pub contents : List ℕ
@@ -341,7 +341,7 @@ module _ (law : HeadersApart) {s : List Resolved} (sch : IsSchema s) where
     pub there : (j : ℕ) → (sorted ≡ true → Ascending AtMost encodings) → Elements s Distinguished u.index (row_of_list vs) j encodings → Holds s Distinguished k (list (row_of_list vs)) j (form_of k) x
     pub back : (j : ℕ) → Holds s Distinguished k (list (row_of_list vs)) j (form_of k) x → Elements s Distinguished u.index (row_of_list vs) j encodings × (sorted ≡ true → Ascending AtMost encodings)
 
-  -- and the steps that tell their type
+  -- the steps that give their type
   pub record ListGiven (t n : ℕ) (ss : List Step) (vs : List AbstractValue) (k : Kind) (x : List ℕ) : Type 0 where
     pub element : TypeId
     pub sorted : Bool
@@ -410,7 +410,7 @@ type_there : (i : ℕ) (o : Option Resolved) (c : Component) → of_type i o ≡
 type_there i None c e = absurd (none_some e)
 type_there i (Some r) c e = (r, refl, e)
 
--- the component's DEFAULT is what it is told to be
+-- the component's DEFAULT is the one of the type
 pub is_default_in : {s : List Resolved} {t i : ℕ} {c : Component} {w : AbstractValue} → component_in s t i ≡ Some c → IsDefaultAt s t i w → IsDefault s c w
 is_default_in {s} {t} {i} {c} {w} e a =
     let same : a.component ≡ c = some_same (sym (ap (of_type i) a.is.found ∙ a.stands) ∙ e) in

@@ -225,7 +225,7 @@ choice_form h (sequence_of es) = absurd h
 choice_form h (set_of es st) = absurd h
 choice_form h (choice g a) = refl
 
--- contents behind headers by the distinguished rules are those behind any
+-- the contents in headers by the distinguished rules are those in any headers
 pub same_frame : HeadersApart → {s : List Resolved} {r : Rules} {k : Kind} {v : AbstractValue} {n : ℕ} {c : Bool} {x y o : List ℕ} (tags : List Tag) → (tags ≡ [] → IsChoice k) → Framed Distinguished tags (form_of k) y o → Framed r tags c x o → Holds s r k v n c x → Holds s r k v n (form_of k) y
 same_frame law {s} {r} {k} {v} {n} {c} {x} {y} [] ch f g h =
     subst (λ q. Holds s r k v n (form_of k) q) (sym (bare_is g) ∙ bare_is f) (subst (λ q. Holds s r k v n q x) (choice_form (ch refl) h) h)
@@ -278,7 +278,7 @@ members_of law {s} {u = u} {ws = ws} {n = n} xs all a (set_of {xs = ys} es st) e
     let f = units_list law ys xs (elements_units all es) a e in
     (subst (λ q. Elements s Distinguished u ws n q) f es, subst (Ascending AtMost) f st)
 
--- the elements, whose encodings are told
+-- the elements, with their encodings
 pub record ListParts (s : List Resolved) (r : Rules) (u : TypeNumber) (ws : Row) (n : ℕ) (o : List ℕ) : Type 0 where
   pub encodings : List (List ℕ)
   pub elements : Elements s r u ws n encodings

@@ -15,7 +15,7 @@ no n = (λ t. absurd (cc), λ p. absurd (n p))
 
 -- ---- encodings that ascend
 
--- the units that are left, behind one that was last
+-- the units that are left after the last one
 pub record AscendsFrom (all : List (List ℕ)) (last rest : List ℕ) : Type 0 where
   pub todo : List (List ℕ)
   pub units : AreUnits todo rest
@@ -52,7 +52,7 @@ front_of law (y ∷ todo) {o} {x} {rest} u i e =
       units = record { units = u.units.1; whole = r.rests; short = (let a = ap length e in let b = length-append x rest in let c = u.short in omega arith) };
     }
 
--- and none stands there where nothing is left
+-- there is no unit if nothing is left
 pub front_there : {todo : List (List ℕ)} {o : List ℕ} → AreUnits todo o → (length o ≡ 0 → ⊥) → ((g : Tag) (x r : List ℕ) → IsUnit g x → o ≡ x ++ r → length o ≤ 16777216 → ⊥) → ⊥
 front_there {todo = []} u n f = n (ap length u.whole)
 front_there {todo = y ∷ ys} u n f = f u.units.0.0 y (concat ys) u.units.0.1 u.whole u.short

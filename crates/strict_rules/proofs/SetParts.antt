@@ -130,7 +130,7 @@ first_or_later (has_later h) = inr h
 must_be_later : {x y : List ℕ} {xs : List (List ℕ)} → Has x (y ∷ xs) → (x ≡ y → ⊥) → Has x xs
 must_be_later h n = ⊎_elim (λ e. absurd (n e)) (λ l. l) (first_or_later h)
 
--- one row's encodings are told by where they stand
+-- the encodings of one row are determined by their places
 members_one : HeadersApart → {s : List Resolved} {q r : Rules} {cs : List Component} {ws : Row} {j n : ℕ} {xs ys : List (List ℕ)} → AllTagged s → AllApart s (map (λ c. c.type) cs) → Members s q cs ws j xs → Members s r cs ws n ys → ((x : List ℕ) → Has x xs → Has x ys) → xs ≡ ys
 members_one law all a no_member no_member f = refl
 members_one law all a (left_out m ms) (left_out m' ms') f = members_one law all a.1 ms ms' f
@@ -140,7 +140,7 @@ members_one law {s} {cs = c ∷ cs} all a (member {x = x} {xs = xs} b nd ms) (me
     (λ z h. must_be_later (f z (has_later h)) (λ e. none_of law cs a.0 (says_begins all b') (subst (λ l. IsKnown s cs l) e (all_has (IsKnown s cs) (all_known all ms) h)))) in
     cc
 
--- where each stands
+-- the place of each encoding
 placed : HeadersApart → {s : List Resolved} {r : Rules} {cs : List Component} {ws : Row} {n : ℕ} {xs : List (List ℕ)} (ys : List (List ℕ)) → AllTagged s → AllApart s (map (λ c. c.type) cs) → Members s r cs ws n xs → ((x : List ℕ) → Has x xs → Has x ys) → ((y : List ℕ) → Has y ys → IsKnown s cs y → Has y xs) → ArePlaced s ys cs ws xs
 placed law ys all a no_member inn out = placed_none
 placed law {s} {cs = c ∷ cs} ys all a (left_out m ms) inn out =

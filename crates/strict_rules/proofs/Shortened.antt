@@ -17,7 +17,7 @@ none_left : (r : List ℕ) → length r ≡ 0 → r ≡ []
 none_left [] e = refl
 none_left (x ∷ r) e = absurd (omega arith)
 
--- a header that stands there, with the fewest octets
+-- a header with the fewest octets that is there
 pub is_inside : (h : Head') {g : Tag} {c : Bool} {k : ℕ} {x r o : List ℕ} → ((t : Tag) (c : Bool) (n : ℕ) (p : List ℕ) → Header t c n p → length (shortest_header t c n) ≤ length p) → UnitAt g c k x r o → g ≡ h.tag → c ≡ h.constructed → k ≡ length (shortest_header g c (length x)) → length r ≡ 0 → IsInside h x o
 is_inside h {g} {c} {k} {x} {r} {o} least u e f l z =
     let l1 = u.long in
@@ -41,7 +41,7 @@ inside_unit {h} {x} {o} i l = record {
 pub inside_short : {h : Head'} {x o : List ℕ} → IsInside h x o → length o ≤ 16777216 → length x ≤ 16777216
 inside_short {h} {x} {o} i l = let a = ap length i.whole in let b = length-append i.header x in omega arith
 
--- what stands at the front of such octets
+-- the unit at the front of such octets
 pub front_inside : HeadersApart → {h : Head'} {g : Tag} {c : Bool} {k : ℕ} {x y r o : List ℕ} (i : IsInside h x o) → length o ≤ 16777216 → UnitAt g c k y r o → SameUnit g h.tag c h.constructed k (length i.header) y x r []
 front_inside law i l u = same_unit law u (inside_unit i l)
 

@@ -1,4 +1,4 @@
--- Encodings one behind the other are told apart.
+-- Encodings that follow one another have only one division.
 use Rattle.std.proofs.Common.{arith, ◌≡◌, ℕ, zero, suc, ◌+◌, ◌≤◌, Bool, List, [], ◌∷◌, ◌++◌, length, drop, refl, sym, ap, subst, ◌∙◌, append_assoc, length-append}
 use Rattle.std.specs.Prelude.{Option, Some, None, slice_get}
 use Rattle.std.specs.List.{concat, AllByRecursion}
@@ -36,11 +36,11 @@ drop_by [] (suc i) e = absurd (let l = ap length e in omega arith)
 drop_by (x ∷ xs) zero e = (ap head_in e, ap tail_in e)
 drop_by (x ∷ xs) (suc i) e = drop_by xs i e
 
--- what stands at a place of a list, and behind it
+-- the element at a place of a list, and those after it
 pub drop_next : {A : Type 0} (xs : List A) (i : ℕ) {y : A} {ys : List A} → drop i xs ≡ y ∷ ys → (slice_get xs i ≡ Some y) × (drop (i + 1) xs ≡ ys)
 drop_next xs i {ys = ys} e = let r = drop_by xs i e in (r.0, subst (λ q. drop q xs ≡ ys) (let z : suc i ≡ i + 1 = omega arith in z) r.1)
 
--- two that stand at one front are one
+-- two units at one front are the same
 pub record OneUnit (g f : Tag) (x y p q : List ℕ) : Type 0 where
   pub tags : g ≡ f
   pub octets : x ≡ y

@@ -35,8 +35,8 @@ drop_end f (x ∷ xs) (suc i) h = drop_end f xs i (omega arith)
 
 -- ---- components
 
--- Those that are left, the whole being of these components, this row and these encodings: what is left is said by the
--- distinguished rules just where the whole is, and whether additions were skipped so far is known.
+-- The members that are left, of a whole with these components, this row and these encodings. What is left is encoded by
+-- the distinguished rules exactly if the whole is. Whether additions were skipped so far is known.
 pub record MembersLeft (s : List Resolved) (n : ℕ) (cs : List Component) (ws : Row) (xs : List (List ℕ)) (i : ℕ) (os : List (Option AbstractValue)) (todo : List (List ℕ)) (whole : Bool) : Type 0 where
   pub left : List Component
   pub is_left : drop i cs ≡ left
@@ -64,7 +64,7 @@ members_end {s} {os = []} {whole = whole} m e = by m.says_them m.back
     by no_member b = let r = b 0 no_member in (refl, (r.0, r.1, (λ w. r.2.1 (w, refl), λ z. (r.2.0 z).0)))
 members_end {os = o ∷ os} m e = absurd (let l = ap length e in omega arith)
 
--- the encoding of a part stands first, if it has one
+-- the encoding of a part comes first, if it has one
 abbrev pub IsFront : Option AbstractValue → List ℕ → List (List ℕ) → List (List ℕ) → Type 0
 IsFront None x more todo = todo ≡ more
 IsFront (Some v) x more todo = todo ≡ x ∷ more

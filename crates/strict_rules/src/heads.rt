@@ -49,8 +49,8 @@ fn inside(head: Head, octets: &[u8]) -> Option<&[u8]>
     Some(unit.contents)
 }
 
-/// The steps after the headers that steps begin with, and the contents that the octets have within these headers. None
-/// if the octets don't have these headers by the distinguished rules.
+/// The steps after the headers that steps begin with, and the contents that the octets have within these headers. The
+/// result is None if the octets don't have these headers by the distinguished rules.
 pub(crate) fn within_heads<'s, 'o>(
     steps: &'s [Step],
     octets: &'o [u8],

@@ -98,7 +98,7 @@ fn is_behind(last: Option<Tag>, tag: Tag) -> bool
 }
 
 /// The last tag of a component's encoding, once an encoding of this tag is added, and whether that one is a
-/// component's. None if it is a component's, and out of order.
+/// component's. The result is None if it is a component's, and out of order.
 fn next_last(
     code: &Code,
     steps: &[Step],

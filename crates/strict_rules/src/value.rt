@@ -129,7 +129,7 @@ fn is_default(code: &Code, id: TypeId, place: usize, value: &Value, whole: bool)
 }
 
 /// Whether octets that encode a value of the type by the basic rules do so by the distinguished ones, and if so,
-/// whether no additions were skipped. None if they don't.
+/// whether no additions were skipped. The result is None if they don't.
 #[cycle(strict)]
 fn strict_value(code: &Code, id: TypeId, levels: u8, value: &Value, octets: &[u8]) -> Option<bool>
     ensures { ValueGiven code.now id.index levels (abstract value.now) octets.now

@@ -58,7 +58,7 @@ assignment_same fits n (t ∷ ts) = refl
 
 -- ---- what is read is so
 
--- behind a lexeme that a reader reads
+-- after a lexeme that a reader reads
 behind_sound : {A : Type 0} (over : Limit → ℕ) (m : Lexeme) (mark : Reader (Unit {0})) (a : Grammar A) (read : Reader A)
     → SoundReader over (token (λ (x : Unit {0}). m)) mark
     → SoundReader over a read

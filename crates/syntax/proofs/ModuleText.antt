@@ -41,9 +41,9 @@ module_with fits a = (head fits ∙ body a) ⇒ made_of
 abbrev many_read : (ℕ → Bool) → ℕ → Reader (List AssignmentTree)
 many_read fits n ts = many_at begins_assignment (assignment_at fits n) (length ts) ts
 
--- ---- what may stand behind what
+-- ---- which lexemes may follow which
 
--- what may stand behind assignments, that is no end
+-- a lexeme that may come after assignments, and isn't an end
 abbrev more : Lexeme → Bool
 more = either begins_assignment assignment_ends
 
@@ -135,7 +135,7 @@ module _ (laws : ModuleLaws) where
   itself : (n : ℕ) → Allows (bounded n) (bounded n)
   itself n = record { number = λ k e. e; tag = laws.small_tags; own = laws.tags_small }
 
-  -- where a limit is passed, the lexemes can go on once it alone is raised
+  -- if a limit is passed, the lexemes can go on once only that limit is raised
   passed : (n : ℕ) (l : Limit)
       →
       (b : Limits) × ((ts : List Lexeme) → Sound (past l) (module_text (raised l (bounded n) b)) ts (module_at small n ts))

@@ -22,7 +22,7 @@ use Rattle.tagging.specs.proving.Lists.{Collected, none, one, tag_lists, Passes,
 use Rattle.tagging.specs.Tagged.{Clash}
 use Rattle.tagging.proofs.Tables.{contains_at, contained_at}
 
--- what can stand together with the member at a place can with that behind it, where the one at this place may be absent
+-- if the member at a place may be absent, what can come together with it can with the next one
 together_next : (k : ListKind) (cs : List Part) (p q : ℕ) (c : Part) → slice_get cs q ≡ Some c → Passes k c →
     Together k cs p q → Together k cs p (q + 1)
 together_next Sequence cs p q c e h t = λ r d l m f. elim (cases_lt r q) [
@@ -279,7 +279,7 @@ clash_met ts k cs vs q us keys x col l e f b h =
       },
     )
 
--- where all members are clear the list is distinct
+-- if all members are clear, the list is distinct
 pub distinct_all : (ts : List Type') (k : ListKind) (cs : List Part) (n : ℕ) → length cs ≤ n →
     ((p : ℕ) → IsClear ts k cs p n) → Distinct ts k cs
 distinct_all ts k cs n l all p q c d m e f t = let w = slice_get_within cs q d f in all p q c d m (omega (arith, w, l)) e f t

@@ -50,7 +50,7 @@ part_there [] n m e = absurd cc
 part_there (x ∷ ms) zero m e = let q : x ≡ m = cc in ap (λ z. Some (part_of z)) q
 part_there (x ∷ ms) (suc n) m e = part_there ms n m e
 
--- the member that bears a tag, where its name is written
+-- the member that bears a tag, at the place of its name
 pub bearing_at : (ts : List Type') (ms : List ListMember) (n : ℕ) (m : ListMember) (at : ℕ) →
     at ≡ m.name.at →
     BearsAt ts (map part_of ms) true n →
@@ -86,7 +86,7 @@ pub clear_before : (ts : List Type') (k : ListKind) (cs : List Part) (q : ℕ) �
 clear_before ts k cs q f m n l c =
     f m n c.first c.second c.before l c.at_first c.at_second c.together c.tag c.in_first c.in_second
 
--- the member that clashes with one before it, where its name is written
+-- the member that clashes with one before it, at the place of its name
 pub clashing_at : (ts : List Type') (k : ListKind) (ms : List ListMember) (n : ℕ) (m : ListMember) (o : Option ℕ) (at : ℕ) →
     at ≡ m.name.at →
     o ≡ Some n →

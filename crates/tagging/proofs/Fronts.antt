@@ -1,4 +1,4 @@
--- The outermost tags of members, and the tags that can stand first.
+-- The outermost tags of members, and the tags that can be first.
 use Rattle.std.proofs.Common.{◌≡◌, ◌⊎◌, inl, inr, ℕ, zero, suc, ◌+◌, ◌-◌, ◌<◌, Bool, false, List, [], ◌∷◌, ◌++◌, length, Option, Some, None, refl, sym, ap, ◌∙◌, arith, subst}
 use Rattle.std.specs.Prelude.{slice_get, slice_index_or, Contains, All, MatchResult, Result, Ok, Err, Vec}
 use Rattle.std.specs.Global.{Global}
@@ -155,7 +155,7 @@ own_stops ts i c n k d l p h e w =
     let y = sym (ap (λ o. onward o (λ q. walk ts n q)) x) ∙ w in
     absurd cc
 
--- what is behind an untagged CHOICE's references is the CHOICE
+-- the references of an untagged CHOICE lead to the CHOICE
 untagged_core : (ts : List Type') (i c n : ℕ) (k : Kind) (d : TagDefault) (l : Option (ℕ × ℕ)) → Written ts i [] →
     walk ts n i ≡ Some c → next ts c ≡ None → Is ts c k d l → own k ≡ Some []
 untagged_core ts i c zero k d l (core h e) w f g = let s : i ≡ c = cc in let q = same_at ts i c s h g in ap own (sym q) ∙ e

@@ -47,7 +47,7 @@ same_default {d = d} x y = ap default_in (sym x.found ∙ y.found)
     default_in None = d
     default_in (Some t) = t.default
 
--- where nothing stands behind, the type has its own tags
+-- a type that leads to no other type has its own tags
 own_of : (k : Kind) → behind_kind k ≡ None → (p : Path) × (own k ≡ Some p)
 own_of (simple n) e = (_, refl)
 own_of (members Sequence m cs) e = (_, refl)

@@ -19,7 +19,7 @@ use Rattle.tagging.specs.Tags.{Label, Path, own, core, behind, inside, Tags, as_
 use Rattle.tagging.specs.First.{First, is_addition, may_be_absent, outermost, alternative, Together}
 use Rattle.tagging.specs.Tagged.{Bears, IsOverfull, IsImplicit, IsUntagged, IsMixed, HasClash}
 
--- a type of a table, which stands in a module with this tag default
+-- a type of a table, which is in a module with this tag default
 abbrev written : Kind → TagDefault → Option (ℕ × ℕ) → Type'
 written k d p = record { kind = k; constraints = []; default = d; place = p; assignment = 0 }
 
@@ -240,7 +240,7 @@ through_reference = record { tag = zero_tag; inner = 1; default = tags.Explicit;
 explicit_there : Tags (choice_tagged word.Absent tags.Implicit) 0 (((Context, 0), Explicit) ∷ [])
 explicit_there = as_written refl (inside (here refl) (behind (here refl) (core (here refl) refl)) refl)
 
--- a tag behind the reference: no untagged CHOICE
+-- a tag after the reference: no untagged CHOICE
 passing_a_tag :
     Tags
     (tag_before 1 ∷ written (reference 2) tags.Explicit None ∷ written
@@ -262,7 +262,7 @@ extended_clash = clash_of 0 1 (here refl) (omega arith) refl refl both (integer_
     both zero c l m e = absent_as (part 1 optional) c e refl
     both (suc r) c l m e = absurd (omega arith)
 
--- SEQUENCE {a INTEGER, ..., b INTEGER, c INTEGER}: a stands before all additions, but b may be absent
+-- SEQUENCE {a INTEGER, ..., b INTEGER, c INTEGER}: a is before all additions, but b may be absent
 abbrev behind_mandatory : List Part
 behind_mandatory = part 1 mandatory ∷ addition 2 mandatory None ∷ addition 3 mandatory None ∷ []
 
@@ -316,7 +316,7 @@ mixed_refused = record {
     none_bears (suc zero) c e f g = let s : addition 2 mandatory None ≡ c = cc in let h = subst (λ x. is_addition x.standing ≡ false) (sym s) f in absurd cc
     none_bears (suc (suc n)) c e f g = absurd cc
 
--- where a member of the root bears a tag too, the list is not tagged automatically, and is no such list
+-- if a member of the root bears a tag too, the list isn't tagged automatically, and breaks no rule
 abbrev both_bear : List Part
 both_bear = part 1 mandatory ∷ addition 2 mandatory None ∷ []
 

@@ -1,4 +1,4 @@
--- The way through references, and the tags that stand behind them.
+-- The way through references, and the tags after them.
 use Rattle.std.proofs.Common.{◌≡◌, ℕ, suc, ◌+◌, ◌<◌, ◌≤◌, false, List, ◌∷◌, length, Option, Some, refl, sym, ap, ◌∙◌, arith, subst}
 use Rattle.asn_base.specs.declared.tag.Tag.{Tag}
 use Rattle.trees.specs.declared.types.Keyword.{Keyword}
@@ -79,7 +79,7 @@ count_unique ts i m n (one_more {j = j} {n = m'} h v) (one_more {j = q} {n = n'}
     let t : j ≡ q = cc in
     ap suc (count_unique ts q m' n' (subst (λ z. TagCount ts z m') t v) w)
 
--- what holds of the number of tags behind some that are passed holds of the whole number
+-- the number of tags from `at` on, with the passed ones, is the whole number
 abbrev pub Passed : List Type' → ℕ → ℕ → ℕ → Type 0
 Passed ts start at passed = (n : ℕ) → TagCount ts at n → TagCount ts start (passed + n)
 

@@ -45,7 +45,7 @@ part_more cs i c l e = take_next (map part_of cs) i (part_of c) (part_at cs i c 
 pub parts_long : (cs : List ListMember) → length (map part_of cs) ≡ length cs
 parts_long cs = length-map cs part_of
 
--- a list has a member where its members as definitions see them have one
+-- a list has a member if its members as definitions see them have one
 pub any_seen : {X Y : Type 0} (f : Y → Bool) (g : X → Y) (xs : List X) →
     list_any f (map g xs) ≡ list_any (λ x. f (g x)) xs
 any_seen f g [] = refl
@@ -63,7 +63,7 @@ contains_at (y ∷ ys) (suc i) x e = let h = contains_at ys i x e in (suc h.0, o
 pub contained_at : {X : Type 0} (xs : List X) (x : X) (h : Contains xs x) → slice_get xs h.0 ≡ Some x
 contained_at xs x h = slice_get_read xs (length xs) h.0 x refl h.1 (sym h.2)
 
--- a shape that is no tag
+-- a shape that isn't a tag
 pub no_tag : (s : Shape) → ((t : Tag) (k : Keyword) (j : ℕ) → s ≡ shapes.Tagged t k j → ⊥) →
     is_tagged (kind_of s) ≡ false
 no_tag (shapes.Simple x) f = refl
@@ -72,7 +72,7 @@ no_tag (shapes.Tagged t k j) f = absurd (f t k j refl)
 no_tag (shapes.Members k m cs) f = refl
 no_tag (shapes.Elements k j) f = refl
 
--- where a type stands that linked modules tell of
+-- the module and the assignment of a type in linked modules
 pub stands_home : (p q : Program) (i : ℕ) (t : Type') (M x : List ℕ) → q ≡ p → slice_get p.types i ≡ Some t →
     ((u : Type') → slice_get q.types i ≡ Some u → IsAssignment q u.assignment M x) → IsWrittenIn p i M x
 stands_home p q i t M x e f h = record { type = t; found = f; assigned = subst (λ z. IsAssignment z t.assignment M x) e (h t (ap (λ z. slice_get z.types i) e ∙ f)) }

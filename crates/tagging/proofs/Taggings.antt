@@ -67,7 +67,7 @@ pub inside_table : (ts : List Type') (i j : ℕ) (t : Tag) (w : Keyword) (d : Ta
     IsLinked ts → Is ts i (tagged t w j) d p → j < length ts
 inside_table ts i j t w d p k h = k.closed i j (ap behind_of h.found)
 
--- where each type breaks no rule, the table is tagged
+-- if each type breaks no rule, the table is tagged
 below : {X : Type 0} (xs : List X) (i : ℕ) (x : X) → slice_get xs i ≡ Some x → i < length xs
 below [] i x e = absurd cc
 below (y ∷ ys) zero x e = omega arith
@@ -143,7 +143,7 @@ one_each ts l t i k m cs d p n c h w e =
     let u = tags_exist ts c.ty l there in
     first_of ts c.ty u.0 u.1 (bears ts k cs n c w (t.bear i k m cs d p h) e)
 
--- no fault stands in tagged modules
+-- tagged modules have no fault
 pub no_other_fault : (p : Program) (e : TagFault) → (e ≡ faults.Memory → ⊥) → Stands p e → IsTagged p.types → ⊥
 no_other_fault p faults.Memory n s t = n refl
 no_other_fault p (faults.Limit limits.Tags x) n s t = none_breaks p.types TagsRule s.ty s.has t

@@ -45,7 +45,7 @@ same_place x e f a b s t (holds_token {i = i} u n v h) (holds_token u' n' v' h')
     let r = same_token x u' u i n' n v' v in
     same_place x e f a b s.1 t.1 h (rw r at h')
 
--- ---- at one place stands one fault
+-- ---- one place has one fault
 
 -- faults of one sort begin with one class of octets
 abbrev sort_of : Start → ℕ

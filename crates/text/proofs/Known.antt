@@ -90,7 +90,7 @@ behind_octet x i j u le lt h =
     let b = IsCharBoundary-after_ascii x (j - 1) u (omega arith) (h (j - 1) (omega arith) (omega arith)) in
     rw e at b
 
--- behind an octet that is known
+-- after an octet that is known
 behind_known : (x : List ℕ) (i c j : ℕ) → IsUtf8 x → octet_at x i ≡ c → 0 < c → c < 128 → j ≡ i + 1 → IsCharBoundary x j
 behind_known x i c j u e pos lt f = rw f (IsCharBoundary-after_ascii x i u (within x i c e pos) (omega (arith, e)))
 

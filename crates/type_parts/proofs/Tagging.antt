@@ -102,7 +102,7 @@ fails f ts errors.Memory h = tt
 fails f ts (errors.Unexpected n) h = made_fails f (tag_end_at small ts) _ (end_is ts ⋆ h)
 fails f ts (errors.Limit l n) h = made_fails f (tag_end_at small ts) _ (end_is ts ⋆ h)
 
--- us stands behind the word of the class
+-- us comes after the word of the class
 pub tag_is : (ts us rest : List Lexeme) (n : ℕ) (g : Tag)
     → (class_at ts).1 ≡ us
     → low_end_at us ≡ Ok (n, rest)

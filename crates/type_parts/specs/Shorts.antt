@@ -1,4 +1,5 @@
--- The readers of names with numbers leave no more lexemes than they get. The type that a name in memory stands for.
+-- The readers of names with numbers leave no more lexemes than they get. The file also has the type that a name in
+-- memory stands for.
 use Rattle.std.proofs.Common.{ℕ, ◌≤◌, Bool, List, [], ◌∷◌, length, Ok, arith}
 use Rattle.text.specs.declared.token.Mark.TheVariants.{Minus}
 use Rattle.grammar.specs.Lexeme.{Lexeme, Number, Mark}

@@ -1,4 +1,4 @@
--- What may stand in braces is read where it begins.
+-- What may be in braces is read where it begins.
 use Rattle.std.proofs.Common.{◌≡◌, Bool, true, false, List, [], ◌∷◌, Option, Some, None, Ok, refl, ap}
 use Rattle.grammar.specs.Lexeme.{Lexeme}
 use Rattle.grammar.specs.Manies.{is_begun_by}

@@ -29,7 +29,7 @@ use Rattle.type_syntax.specs.TypeReading.{component_at, bare_at, body_at, choice
 use Rattle.type_syntax.specs.Listings.{form_tree}
 use Rattle.type_syntax.proofs.Typing.{types_read}
 
--- ---- where nothing more may be open, what is inside is not read
+-- ---- if nothing more may be open, what is inside is not read
 
 abbrev list_pair : Bool → Option ConstraintTree × TypeTree → TypeTree
 list_pair set p = list_of set p.0 p.1

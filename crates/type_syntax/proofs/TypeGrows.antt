@@ -1,4 +1,4 @@
--- Where more numbers are allowed, more types are.
+-- If more numbers are allowed, more types are.
 use Rattle.std.proofs.Common.{◌≡◌, ℕ, zero, suc, inl, inr, Bool, true, List}
 use Rattle.grammar.specs.Lexeme.{Lexeme}
 use Rattle.grammar.specs.Grammar.{Grammar, number_of, ◌∙◌, ◌∣◌, ◌⇒◌, many, optional, behind, listed, braces, parens, cut_off, opens, addition}

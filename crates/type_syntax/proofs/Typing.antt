@@ -97,7 +97,7 @@ at n a = record { nesting = n; number = a.number; tag = a.tag }
 at_same : (P : ℕ → Type 0) (n m : ℕ) → m ≡ n → P n → P m
 at_same P n m e h = subst P (sym e) h
 
--- where less is within the limits, more is a way out
+-- if less is within the limits, more is a way out
 finds_weaker : {A : Type 0} (within within' : Limit → Type 0) (g : Grammar A) (starts ends : Lexeme → Bool)
     (read : Reader A)
     → ((l : Limit) → within l → within' l)

@@ -83,7 +83,7 @@ row_fits n k used h =
     stands_among q used (subst (λ z. StandsIn used z) (sym r.1) (h r.0 r.2 r.3))) in
     omega (arith, l, length_up n k)
 
--- ---- the least number from n on that is none of these
+-- ---- the least number from n on that isn't in the list
 
 pub one_free : (used other : List ℤ) (n y z : ℕ) → ((w : ℤ) → StandsIn used w → StandsIn other w) →
     ((w : ℤ) → StandsIn other w → StandsIn used w) → IsFree used n y → IsFree other n z → y ≡ z
@@ -103,7 +103,7 @@ taken_more used n m h s k l r = elim (cases_lt k m) [
   | inr b ↦ (let e : k ≡ m = omega (arith, b, r) in subst (λ z. StandsIn used (pos z)) (sym e) s)
 ]
 
--- where as many are taken as the list has, the next is free
+-- if as many numbers are taken as the list has, the next one is free
 pub taken_all : (used : List ℤ) (n m : ℕ) → n + length used ≤ m → AreTaken used n m → StandsIn used (pos m) → ⊥
 taken_all used n m l h s =
     let all = taken_more used n m h s in

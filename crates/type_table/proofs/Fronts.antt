@@ -26,13 +26,13 @@ module _ {A : Type 0} (zs : List A) (i : ℕ) (x : A) (e : slice_get zs i ≡ So
   pub front_more : take (i + 1) zs ≡ take i zs ++ x ∷ []
   front_more = take_more zs i x within ∙ ap (λ y. take i zs ++ y ∷ []) (sym read)
 
-  -- what stands before it too stands twice
+  -- an element that is also before its place is there twice
   pub front_twice : StandsIn (take i zs) x → StandsTwice zs x
   front_twice s =
       let around : take i zs ++ x ∷ drop (i + 1) zs ≡ zs = ap (λ r. take i zs ++ r) (sym (drop_at zs i x within read)) ∙ take-append-drop i zs in
       subst (λ y. StandsTwice y x) around (twice_across (take i zs) (x ∷ drop (i + 1) zs) x s (0, refl))
 
-  -- one that doesn't stand there yet
+  -- an element that isn't there yet
   pub front_distinct : AreDistinct (take i zs) → (StandsIn (take i zs) x → ⊥) → AreDistinct (take (i + 1) zs)
   front_distinct d fresh = subst AreDistinct (sym front_more) (distinct_more (take i zs) x d fresh)
 

@@ -15,7 +15,7 @@ core_steps ts i j c zero w f e l =
 core_steps ts i j c (suc k) w f e l =
     record { steps = k; few = omega arith; leads = sym (ap (λ o. onward o (λ q. walk ts k q)) e) ∙ w; ends = f }
 
--- the type behind a reference or tag has the same core
+-- the type that a reference or a tag leads to has the same core
 pub core_on : (ts : List Type') (i j c : ℕ) → IsCore ts i c → next ts i ≡ Some j → IsCore ts j c
 core_on ts i j c u e = core_steps ts i j c u.steps u.leads u.ends e u.few
 

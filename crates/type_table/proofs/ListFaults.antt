@@ -32,7 +32,7 @@ kind_limit M a k l (faults.NotExported s) h t = absurd t
 kind_limit M a k l (faults.Circular s) h t = absurd t
 kind_limit M a k l (faults.UnknownModule s) h t = absurd t
 
--- a name that stands twice in the list
+-- a name that is twice in the list
 pub kind_repeated : (M a : Name) (k : Kind) (xs : List Name) (e : NameFault) →
     ((y : Name) → StandsTwice xs y → IsTwiceIn k y) → IsRepeated M xs e → IsKindFault M a k e
 kind_repeated M a k xs e f t = kind_twice M a k (λ m y. (m ≡ M) × StandsTwice xs y) e (λ m y q. (q.0, f y q.1)) t
@@ -62,7 +62,7 @@ kind_numbered M a k xs zs keys i x z e f name here kept t =
     kind_twice M a k (λ m y. (m ≡ M) × (y ≡ x) × StandsIn keys z) e
     (λ m y q. (q.0, f y (inr (record { place = i; number = z; named = name ∙ ap Some (sym q.1); has = here; twice = kept_in_twice zs keys i z here kept q.2 })))) t
 
--- this number stands twice
+-- this number is there twice
 pub kind_again : {Z : Type 0} (M a : Name) (k : Kind) (xs : List Name) (zs : List Z) (i : ℕ) (x : Name) (z : Z)
     (e : NameFault) → ((y : Name) → IsTwiceAmong xs zs y → IsTwiceIn k y) → slice_get xs i ≡ Some x →
     slice_get zs i ≡ Some z →

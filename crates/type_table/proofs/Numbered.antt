@@ -182,7 +182,7 @@ module _ (ms : List (Name × Module)) (hs : List (Name × TagDefault)) (gs : Lis
     pub roots_there : length roots ≤ length ts
     roots_there = omega (arith, as_long, ap length all.all, length-append roots (all_parts 0 all.sources))
 
-    -- each type stands in an assignment
+    -- each type is in an assignment
     pub assignment_there : (i : ℕ) (t : Type') → slice_get ts i ≡ Some t → t.assignment < length gs
     assignment_there i t e =
         let n = entry i t e in

@@ -41,7 +41,7 @@ front_written earlier n y f = record {
       omega (arith, a, b);
 }
 
--- where n is counted, the front is behind it
+-- if n is counted, the front is after it
 front_counted : (earlier : List ℤ) (n k : ℕ) → n ≤ k → IsFront earlier n → IsFront (pos k ∷ earlier) (suc k)
 front_counted earlier n k l f =
     let e : max n (suc k) ≡ suc k = omega (arith, l) in

@@ -1,4 +1,4 @@
--- Each type that stands in an assignment is numbered, so a fault of the table excludes a table.
+-- Each type in an assignment has a number, so a fault of the table excludes a table.
 use Rattle.std.proofs.Common.{◌≡◌, ℕ, zero, suc, ◌+◌, ◌≤◌, List, [], length, Some, refl, sym, subst, ap, ◌∙◌, arith}
 use Rattle.std.specs.Prelude.{slice_get}
 use Rattle.std.proofs.lemmas.Option.{slice_get_within, same_Some}

@@ -1,4 +1,4 @@
--- What stands at a type, and the types that stand directly in it.
+-- The kind of a type, and the types directly in it.
 use Rattle.std.proofs.Common.{◌≡◌, ℕ, zero, suc, ◌+◌, List, [], Some, refl, sym, subst, ap, ◌∙◌, arith}
 use Rattle.std.specs.Prelude.{slice_get, Bool, Option}
 use Rattle.asn_base.specs.declared.tag.Tag.{Tag}

@@ -17,7 +17,7 @@ use Rattle.type_table.specs.Faults.{IsNumberingFault}
 use Rattle.type_table.specs.proving.Checks.{IsSourceFault}
 use Rattle.names.specs.proving.Distinct.{left, right, at_all}
 
--- every type that still waits stands in an assignment
+-- every type that still waits is in an assignment
 abbrev AllOccur : List Source → List Source → Type 0
 AllOccur roots ss = AllByRecursion (λ s. Occurs roots s.assignment s.tree) ss
 
@@ -47,7 +47,7 @@ members_of_one : (Q : ℕ → Type 0) (a i n : ℕ) (ms : TypeMembers) → Q a �
 members_of_one Q a i n no_member q = tt
 members_of_one Q a i n (member_and x t o g ms) q = (q, members_of_one Q a i (suc n) ms q)
 
--- the parts of a type stand in its assignment
+-- the parts of a type are in its assignment
 pub parts_of_one : (Q : ℕ → Type 0) (a i : ℕ) (t : TypeTree) → Q a →
     AllByRecursion (λ s. Q s.assignment) (parts_of a i t)
 parts_of_one Q a i (a_type (a_simple p) cs) q = tt
@@ -65,7 +65,7 @@ all_append i (x ∷ xs) ys =
 all_one : (i : ℕ) (s : Source) → all_parts i (s ∷ []) ≡ parts_of s.assignment i s.tree
 all_one i s = append-nil (parts_of s.assignment i s.tree)
 
--- b lies behind a, and not c further
+-- b is from a on, and below a + c
 beyond : (a b c : ℕ) → a ≤ b → b < a + c → (q : ℕ) × (b ≡ a + q) × (q < c)
 beyond zero b c l m = (b, omega arith, omega (arith, m))
 beyond (suc a) zero c l m = absurd (omega (arith, l))

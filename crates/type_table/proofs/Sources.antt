@@ -1,4 +1,4 @@
--- What stands at a number.
+-- The source with a number.
 use Rattle.std.proofs.Common.{◌≡◌, ℕ, ◌<◌, ◌+◌, List, length, Some, sym, subst, ap, ◌∙◌}
 use Rattle.std.specs.Prelude.{slice_get}
 use Rattle.trees.specs.Values.{Name}
@@ -24,7 +24,7 @@ unknown_source ms hs gs i n s M d owner x (faults.NotExported t) g h u = absurd 
 unknown_source ms hs gs i n s M d owner x (faults.Circular t) g h u = absurd u
 unknown_source ms hs gs i n s M d owner x (faults.UnknownModule t) g h u = absurd u
 
--- a type whose parts are too many stands in the assignment that the fault tells
+-- a type with too many parts is in the assignment that the fault gives
 pub limit_source : (ms : List (Name × Module)) (hs : List (Name × TagDefault)) (gs : List (ℕ × Name)) (i n : ℕ)
     (s : Source) (M : Name) (d : TagDefault) (owner : ℕ) (x : Name) (e : NameFault) →
     slice_get gs s.assignment ≡ Some (owner, x) → slice_get hs owner ≡ Some (M, d) → 65536 < n + length (parts_of s.assignment i s.tree) → IsTypesLimit M x e → IsSourceFault ms hs gs i n s e

@@ -1,4 +1,4 @@
--- The tree of a type in memory, one level at a time, and the types that stand directly in it.
+-- The tree of a type in memory, one level at a time, and the types directly in it.
 use Rattle.std.proofs.Common.{◌≡◌, ℕ, suc, List, [], ◌∷◌, length, map, refl, sym, ap, ◌∙◌}
 use Rattle.std.proofs.lemmas.List.{length-map}
 use Rattle.trees.specs.Values.{Name}

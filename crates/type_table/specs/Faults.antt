@@ -1,4 +1,5 @@
--- What faults of types say: the module and the name that they tell. Where in the text they point isn't said.
+-- What faults of types mean (X.680, clause 16): the module and the name that they give. The offset in the text that
+-- they give isn't specified.
 use Rattle.std.specs.Prelude.{◌≡◌, ℕ, List, Some, slice_get}
 use Rattle.trees.specs.Values.{Name}
 use Rattle.trees.specs.Types.{TypeTree}
@@ -12,7 +13,7 @@ use Rattle.names.specs.Sources.{Source}
 use Rattle.type_table.specs.Numbering.{Occurs, AreMore, AreNumbered, RefersToNothing, form_of}
 use Rattle.type_table.specs.Table.{Type', IsCircular}
 
--- a name in assignment a stands for no type, and M is the module in which the assignment stands
+-- A reference in the assignment refers to name x, which is not the name of a type. M is the module of the assignment.
 pub record HasUnknown
     (ms : List (Name × Module)) (hs : List (Name × TagDefault)) (gs : List (ℕ × Name))
     (roots : List Source) (M x : Name) : Type 0 where
@@ -26,7 +27,7 @@ pub record HasUnknown
   pub header : slice_get hs owner ≡ Some (M, default)
   pub unknown : RefersToNothing ms M (form_of tree) x
 
--- behind 65,536 others stands a type in the assignment of name x in module M
+-- There are more than 65,536 written types. The type after the first 65,536 is in the assignment of name x in module M.
 pub record HasTooMany
     (hs : List (Name × TagDefault)) (gs : List (ℕ × Name)) (roots : List Source) (M x : Name) : Type 0 where
   pub assignment : ℕ
@@ -36,7 +37,7 @@ pub record HasTooMany
   pub assigned : slice_get gs assignment ≡ Some (owner, x)
   pub header : slice_get hs owner ≡ Some (M, default)
 
--- why types can't be numbered
+-- a reason why types can't be numbered
 abbrev pub IsNumberingFault :
     List (Name × Module) → List (Name × TagDefault) → List (ℕ × Name) → List Source → NameFault → Type 0
 IsNumberingFault ms hs gs roots faults.Memory = Unit {0}
@@ -44,7 +45,7 @@ IsNumberingFault ms hs gs roots (faults.UnknownName s) = HasUnknown ms hs gs roo
 IsNumberingFault ms hs gs roots (faults.Limit limits.Types s) = HasTooMany hs gs roots (module_told s) (name_told s)
 IsNumberingFault ms hs gs roots e = ⊥
 
--- type i comes back to itself; it stands in the assignment of name x in module M
+-- type i comes back to itself, and it is in the assignment of name x in module M
 pub record IsCircularAt
     (ms : List (Name × Module)) (hs : List (Name × TagDefault)) (gs : List (ℕ × Name))
     (roots : List Source) (M x : Name) : Type 0 where
@@ -59,7 +60,7 @@ pub record IsCircularAt
   pub assigned : slice_get gs written.assignment ≡ Some (owner, x)
   pub header : slice_get hs owner ≡ Some (M, default)
 
--- why types can't be linked
+-- a reason why types can't be linked
 abbrev pub IsTableFault :
     List (Name × Module) → List (Name × TagDefault) → List (ℕ × Name) → List Source → NameFault → Type 0
 IsTableFault ms hs gs roots (faults.Circular s) = IsCircularAt ms hs gs roots (module_told s) (name_told s)

@@ -1,15 +1,15 @@
--- The numbers of the items of enumerations (X.680, clauses 20.5 and 20.6). An item is its name, and its number if one
--- is written.
+-- The numbers of the items of enumerations (X.680, clauses 20.5 and 20.6).
 use Rattle.std.specs.Prelude.{◌<◌, ◌≤◌, ℕ, zero, suc, max, ℤ, pos, negsuc, Bool, cond, List, [], ◌∷◌, ◌++◌, length, Option, Some, None}
 use Rattle.std.specs.List.{list_any}
 use Rattle.std.specs.Ordering.{int_eq}
 use Rattle.trees.specs.Values.{Name}
 use Rattle.names.specs.Modules.{StandsIn}
 
+-- an item: its name, and its number if one is written
 abbrev pub Item : Type 0
 Item = Name × Option ℤ
 
--- the items behind the marker, if there is one
+-- the items after the marker, or none if there is no marker
 abbrev pub additions_of : Option (List Item) → List Item
 additions_of None = []
 additions_of (Some is) = is
@@ -20,19 +20,20 @@ given_numbers [] = []
 given_numbers ((x, None) ∷ is) = given_numbers is
 given_numbers ((x, Some z) ∷ is) = z ∷ given_numbers is
 
--- n lies above z
+-- n is greater than z
 abbrev pub IsAbove : ℕ → ℤ → Type 0
 IsAbove n (pos m) = m < n
 IsAbove n (negsuc m) = Unit {0}
 
--- n is the least number from 0 that is none of `used` and lies above each of `earlier`
+-- n is the least number from 0 on that isn't in `used` and is greater than each number in `earlier`
 pub record IsNext (used earlier : List ℤ) (n : ℕ) : Type 0 where
   pub unused : StandsIn used (pos n) → ⊥
   pub above : (z : ℤ) → StandsIn earlier z → IsAbove n z
   pub least : (m : ℕ) → (StandsIn used (pos m) → ⊥) → ((z : ℤ) → StandsIn earlier z → IsAbove m z) → n ≤ m
 
--- The numbers of root items: what is written; and for the items without a number, in order, the successive numbers from
--- 0 that are written behind no root item. `earlier` are the numbers of those without one that stand before.
+-- The numbers of root items (X.680, clause 20.5). An item has its written number. Each item without one gets the next
+-- number from 0 on that no root item has in writing. `earlier` holds the numbers of the earlier items without a written
+-- one.
 pub data AreRootNumbers (given : List ℤ) : (earlier : List ℤ) → List Item → List ℤ → Type 0 where
   no_root_item : {earlier : List ℤ} → AreRootNumbers given earlier [] []
   root_written : {earlier : List ℤ} (x : Name) (z : ℤ) {is : List Item} {zs : List ℤ} →
@@ -43,8 +44,8 @@ pub data AreRootNumbers (given : List ℤ) : (earlier : List ℤ) → List Item 
       AreRootNumbers given (pos n ∷ earlier) is zs →
       AreRootNumbers given earlier ((x, None) ∷ is) (pos n ∷ zs)
 
--- The numbers of additions: what is written; and for each without a number the least from 0 that no root item has and
--- that lies above each earlier addition's.
+-- The numbers of additions (X.680, clause 20.6). An addition has its written number. Each addition without one gets the
+-- least number from 0 on that no root item has and that is greater than those of all earlier additions.
 pub data AreAdditionNumbers (root : List ℤ) : (earlier : List ℤ) → List Item → List ℤ → Type 0 where
   no_addition : {earlier : List ℤ} → AreAdditionNumbers root earlier [] []
   addition_written : {earlier : List ℤ} (x : Name) (z : ℤ) {is : List Item} {zs : List ℤ} →
@@ -55,53 +56,55 @@ pub data AreAdditionNumbers (root : List ℤ) : (earlier : List ℤ) → List It
       AreAdditionNumbers root (pos n ∷ earlier) is zs →
       AreAdditionNumbers root earlier ((x, None) ∷ is) (pos n ∷ zs)
 
--- ---- the same, computed; the law `numbers_of_items` ties the two
+-- ---- functions that compute the same numbers; the law `numbers_of_items` says that they agree
 
--- z is one of these
+-- whether z is in the list
 abbrev pub is_among : ℤ → List ℤ → Bool
 is_among z zs = list_any (int_eq z) zs
 
--- the first of n, n + 1 .. that is none of these, if it is among the next `turns` numbers
+-- the first number from n on that isn't in the list, if it is one of the next `turns` numbers
 abbrev pub first_free : (turns n : ℕ) → List ℤ → ℕ
 first_free zero n used = n
 first_free (suc turns) n used = cond (is_among (pos n) used) (first_free turns (suc n) used) n
 
--- the least number from n on that is none of these: they can't take up more numbers than they are
+-- The least number from n on that isn't in the list. A list has at most as many numbers as its length.
 abbrev pub free : ℕ → List ℤ → ℕ
 free n used = first_free (length used) n used
 
--- the number that is written, or the least from n on that is none of these
+-- the written number, or else the least number from n on that isn't in the list
 abbrev pub number_or : ℕ → List ℤ → Option ℤ → ℤ
 number_or n used (Some z) = z
 number_or n used None = pos (free n used)
 
--- the first number from 0 above those that were counted: n, or one more than the one that is counted now
+-- the number from which to count on: n after a written number, else one more than the number that this item gets
 abbrev pub counted_to : ℕ → List ℤ → Option ℤ → ℕ
 counted_to n used (Some z) = n
 counted_to n used None = suc (free n used)
 
+-- the numbers of these root items, if the count is at n and `given` holds the written numbers
 abbrev pub root_from : List ℤ → ℕ → List Item → List ℤ
 root_from given n [] = []
 root_from given n (i ∷ is) = number_or n given i.1 ∷ root_from given (counted_to n given i.1) is
 
+-- the numbers of root items (X.680, clause 20.5)
 abbrev pub root_numbers : List Item → List ℤ
 root_numbers is = root_from (given_numbers is) 0 is
 
--- the least number from 0 above this one
+-- the least number from 0 on that is greater than this one
 abbrev pub past : ℤ → ℕ
 past (pos n) = suc n
 past (negsuc n) = 0
 
--- `n`: the first number from 0 above those of the additions so far
+-- the numbers of these additions, if n is the least number from 0 on that is greater than those of earlier additions
 abbrev pub additions_from : List ℤ → ℕ → List Item → List ℤ
 additions_from root n [] = []
 additions_from root n (i ∷ is) =
     number_or n root i.1 ∷ additions_from root (max n (past (number_or n root i.1))) is
 
--- the numbers of additions behind these root items
+-- the numbers of additions after these root items (X.680, clause 20.6)
 abbrev pub addition_numbers : List Item → List Item → List ℤ
 addition_numbers root is = additions_from (root_numbers root) 0 is
 
--- the numbers of root items and additions
+-- the numbers of root items, and then those of additions
 abbrev pub numbers_of : List Item → List Item → List ℤ
 numbers_of root more = root_numbers root ++ addition_numbers root more

@@ -1,7 +1,7 @@
--- What has to be believed: following references (`Walks`), written types by number and what they unfold to (`Table`),
--- which number each type gets (`Numbering`), the numbers of items (`Items`), what lists have to keep (`Lists`), what
--- faults say (`Faults`, `ListFaults`), and how all that is seen in memory (`Seen`). What stands in `proving` only
--- contracts inside the crates and proofs speak of.
+-- What a reader has to believe: following references (`Walks`), written types and their unfolding (`Table`), the number
+-- of each type (`Numbering`), and the numbers of items (`Items`). The rules of lists are in `Lists`, the meaning of
+-- faults in `Faults` and `ListFaults`, and how definitions see memory in `Seen`. Only contracts inside the crates and
+-- proofs use what is in `proving`.
 pub mod Walks
 pub mod Table
 pub mod Seen

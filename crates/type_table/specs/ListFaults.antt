@@ -1,4 +1,4 @@
--- What faults say of the lists in written types.
+-- What faults in the lists of written types mean (X.680, clauses 19.5, 19.6, 20.3 to 20.6, 22.4, 25.7, 27.3 and 29.3).
 use Rattle.std.specs.Prelude.{◌≡◌, ◌<◌, ◌⊎◌, ◌^◌, ◌++◌, ℕ, pos, List, Some, map, length, slice_get}
 use Rattle.trees.specs.Values.{Name}
 use Rattle.trees.specs.Types.{Plain, an_integer, a_bit_string, an_enumerated}
@@ -9,7 +9,7 @@ use Rattle.type_table.specs.Items.{additions_of, addition_numbers, numbers_of}
 use Rattle.type_table.specs.Lists.{root_count, addition_count}
 use Rattle.type_table.specs.Table.{Part, Kind, simple, members}
 
--- a number stands twice, and it is that of name x
+-- a number is in the list twice, and one of the two places is that of name x
 pub record IsNumberTwice {Z : Type 0} (numbers : List Z) (names : List Name) (x : Name) : Type 0 where
   pub place : ℕ
   pub number : Z
@@ -17,11 +17,11 @@ pub record IsNumberTwice {Z : Type 0} (numbers : List Z) (names : List Name) (x 
   pub has : slice_get numbers place ≡ Some number
   pub twice : StandsTwice numbers number
 
--- name x stands twice in a list of names with numbers, or its number does
+-- name x is twice in a list of names with numbers, or its number is
 abbrev pub IsTwiceAmong : {Z : Type 0} → List Name → List Z → Name → Type 0
 IsTwiceAmong names numbers x = StandsTwice names x ⊎ IsNumberTwice numbers names x
 
--- so in the list of a type; an item's number is the one that it gets where none is written
+-- Name x, or its number, is twice in the list of a type. An item without a written number has the number that it gets.
 abbrev pub IsTwicePlain : Plain → Name → Type 0
 IsTwicePlain (an_integer ns) x = IsTwiceAmong (map (λ n. n.0) ns) (map (λ n. n.1) ns) x
 IsTwicePlain (a_bit_string bs) x = IsTwiceAmong (map (λ b. b.0) bs) (map (λ b. b.1) bs) x
@@ -29,30 +29,33 @@ IsTwicePlain (an_enumerated root more) x =
     IsTwiceAmong (map (λ i. i.0) (root ++ additions_of more)) (numbers_of root (additions_of more)) x
 IsTwicePlain k x = ⊥
 
+-- name x is twice in the list of a type of this kind, or its number is
 abbrev pub IsTwiceIn : Kind → Name → Type 0
 IsTwiceIn (simple s) x = IsTwicePlain s x
 IsTwiceIn (members l m cs) x = StandsTwice (map (λ (c : Part). c.name) cs) x
 IsTwiceIn k x = ⊥
 
+-- a list has too many members in its root, or too many additions
 abbrev pub HasManyMembers : Kind → Type 0
 HasManyMembers (members l m cs) = (256 < root_count cs) ⊎ (64 < addition_count cs)
 HasManyMembers k = ⊥
 
+-- an enumeration has too many items in its root, or too many additions
 abbrev pub HasManyItems : Kind → Type 0
 HasManyItems (simple (an_enumerated root more)) = (1024 < length root) ⊎ (64 < length (additions_of more))
 HasManyItems k = ⊥
 
--- a bit's place is too great
+-- the place of a named bit is greater than 65,535
 abbrev pub HasFarBit : Kind → Type 0
 HasFarBit (simple (a_bit_string bs)) = (n : ℕ) × StandsIn (map (λ b. b.1) bs) n × (65535 < n)
 HasFarBit k = ⊥
 
--- the number that an addition gets is 2 to the 127
+-- an addition of an enumeration gets the number 2^127
 abbrev pub HasGreatNumber : Kind → Type 0
 HasGreatNumber (simple (an_enumerated root more)) = StandsIn (addition_numbers root (additions_of more)) (pos (2 ^ 127))
 HasGreatNumber k = ⊥
 
--- a type passes this limit
+-- a type of this kind passes this limit
 abbrev pub HasPassed : Limit → Kind → Type 0
 HasPassed limits.Members k = HasManyMembers k
 HasPassed limits.Items k = HasManyItems k

@@ -1,5 +1,5 @@
--- What the lists in written types have to keep (X.680, clauses 19.5, 19.6, 20.3 to 20.6, 22.4, 25.7, 27.3 and 29.3),
--- with this compiler's limits.
+-- The rules of lists in written types (X.680, clauses 19.5, 19.6, 20.3 to 20.6, 22.4, 25.7, 27.3 and 29.3), and the
+-- limits of this compiler.
 use Rattle.std.specs.Prelude.{◌≡◌, ◌≤◌, ◌+◌, ℕ, ℤ, Some, List, [], ◌∷◌, ◌++◌, map, length, slice_get}
 use Rattle.asn_base.specs.Typed.{IsWithinLimit}
 use Rattle.trees.specs.declared.types.Standing.{Standing}
@@ -10,10 +10,11 @@ use Rattle.names.specs.Modules.{AreDistinct}
 use Rattle.type_table.specs.Items.{Item, additions_of, numbers_of}
 use Rattle.type_table.specs.Table.{Part, Kind, simple, members, Type'}
 
+-- each number is from -2^127 to 2^127 - 1
 abbrev pub AreWithinLimit : List ℤ → Type 0
 AreWithinLimit zs = (i : ℕ) (z : ℤ) → slice_get zs i ≡ Some z → IsWithinLimit z
 
--- the names of root items and additions are distinct, and so are their numbers; no limit is passed
+-- The names of root items and additions are distinct, and so are their numbers. No limit is passed.
 pub record IsSoundEnumeration (root more : List Item) : Type 0 where
   pub names : AreDistinct (map (λ i. i.0) (root ++ more))
   pub numbers : AreDistinct (numbers_of root more)
@@ -21,7 +22,7 @@ pub record IsSoundEnumeration (root more : List Item) : Type 0 where
   pub root_few : length root ≤ 1024
   pub more_few : length more ≤ 64
 
--- the names of a list are distinct, and so are its numbers; no limit is passed
+-- The names of a list are distinct, and so are its numbers. No limit is passed.
 abbrev pub IsSoundPlain : Plain → Type 0
 IsSoundPlain (an_integer ns) = AreDistinct (map (λ n. n.0) ns) × AreDistinct (map (λ n. n.1) ns)
 IsSoundPlain (a_bit_string bs) =
@@ -31,36 +32,38 @@ IsSoundPlain (a_bit_string bs) =
 IsSoundPlain (an_enumerated root more) = IsSoundEnumeration root (additions_of more)
 IsSoundPlain k = Unit {0}
 
--- 1 for a member of the root
+-- how many members of the root this member is: 1 or 0
 abbrev pub in_root : Standing → ℕ
 in_root Root = 1
 in_root (Addition b) = 0
 
--- 1 for an addition, in version brackets or not
+-- how many additions this member is, in version brackets or not: 1 or 0
 abbrev pub in_additions : Standing → ℕ
 in_additions Root = 0
 in_additions (Addition b) = 1
 
--- how many members stand in the root
+-- how many members are in the root
 abbrev pub root_count : List Part → ℕ
 root_count [] = 0
 root_count (c ∷ cs) = in_root c.standing + root_count cs
 
--- how many are additions
+-- how many members are additions
 abbrev pub addition_count : List Part → ℕ
 addition_count [] = 0
 addition_count (c ∷ cs) = in_additions c.standing + addition_count cs
 
--- the identifiers of root and additions are distinct; no limit is passed
+-- The identifiers of root and additions are distinct. No limit is passed.
 pub record IsSoundList (cs : List Part) : Type 0 where
   pub names : AreDistinct (map (λ (c : Part). c.name) cs)
   pub root_few : root_count cs ≤ 256
   pub more_few : addition_count cs ≤ 64
 
+-- the list of a type of this kind, if it has one, keeps the rules
 abbrev pub IsSoundKind : Kind → Type 0
 IsSoundKind (simple s) = IsSoundPlain s
 IsSoundKind (members l m cs) = IsSoundList cs
 IsSoundKind k = Unit {0}
 
+-- the lists of all types keep the rules
 abbrev pub AreSound : List Type' → Type 0
 AreSound ts = (i : ℕ) (t : Type') → slice_get ts i ≡ Some t → IsSoundKind t.kind

@@ -1,5 +1,5 @@
--- The numbers of written types: first come the types of the assignments, in order, and then the parts of each type
--- in turn.
+-- The numbers of written types (X.680, clause 16): first come the types of the assignments, in order, and then the
+-- parts of each type.
 use Rattle.std.specs.Prelude.{◌≡◌, ℕ, suc, ◌+◌, List, [], ◌∷◌, ◌++◌, Some, None, length, slice_get}
 use Rattle.trees.specs.Values.{Name}
 use Rattle.trees.specs.Constraints.{ConstraintTree}
@@ -10,23 +10,25 @@ use Rattle.names.specs.Names.{Module, Refers}
 use Rattle.names.specs.Sources.{Source}
 use Rattle.type_table.specs.Table.{Part, Kind, simple, reference, tagged, members, elements, Type'}
 
+-- the form of a type, without its constraints
 abbrev pub form_of : TypeTree → FormTree
 form_of (a_type f cs) = f
 
+-- the constraints after a type
 abbrev pub constraints_of : TypeTree → List ConstraintTree
 constraints_of (a_type f cs) = cs
 
--- the members of list i from number n on
+-- the types of the members of list i, from member n on, in assignment a
 abbrev pub member_sources : ℕ → ℕ → ℕ → TypeMembers → List Source
 member_sources a i n no_member = []
 member_sources a i n (member_and x t o g ms) =
     record { tree = t; assignment = a; place = Some (i, n) } ∷ member_sources a i (suc n) ms
 
--- one type that is no member
+-- one type that isn't a member of a list
 abbrev pub inner_source : ℕ → TypeTree → List Source
 inner_source a t = record { tree = t; assignment = a; place = None } ∷ []
 
--- the types that stand directly in type i, which has this form
+-- the types directly in type i, which has this form
 abbrev pub form_parts : ℕ → ℕ → FormTree → List Source
 form_parts a i (a_list l m us) = member_sources a i 0 us
 form_parts a i (an_elements e t) = inner_source a t
@@ -34,20 +36,21 @@ form_parts a i (a_tagged g w t) = inner_source a t
 form_parts a i (a_simple p) = []
 form_parts a i (a_reference N x) = []
 
+-- the types directly in type i, which is tree t
 abbrev pub parts_of : ℕ → ℕ → TypeTree → List Source
 parts_of a i t = form_parts a i (form_of t)
 
--- the parts of types, the first of which has number i
+-- the parts of these types in order, where the first type has number i
 abbrev pub all_parts : ℕ → List Source → List Source
 all_parts i [] = []
 all_parts i (s ∷ ss) = parts_of s.assignment i s.tree ++ all_parts (suc i) ss
 
--- members whose types are numbered from n on
+-- the members of a list, whose types have the numbers from n on
 abbrev pub numbered : ℕ → TypeMembers → List Part
 numbered n no_member = []
 numbered n (member_and x t o g ms) = record { name = x; ty = n; presence = o; standing = g } ∷ numbered (suc n) ms
 
--- what stands at a type of this form, read in module M, whose parts are numbered from n on
+-- the kind of a type with this form in module M, whose parts have the numbers from n on
 abbrev pub IsKind : List (Name × Module) → Name → ℕ → FormTree → Kind → Type 0
 IsKind ms M n (a_simple p) k = k ≡ simple p
 IsKind ms M n (a_reference N x) k = (j : ℕ) × Refers ms M N x (assigned.Type j) × (k ≡ reference j)
@@ -55,13 +58,13 @@ IsKind ms M n (a_list l m us) k = k ≡ members l m (numbered n us)
 IsKind ms M n (an_elements e t) k = k ≡ elements e n
 IsKind ms M n (a_tagged g w t) k = k ≡ tagged g w n
 
--- a type of this form refers to name x, which stands for no type in module M
+-- a type of this form is a reference to name x, which is not the name of a type in module M
 abbrev pub RefersToNothing : List (Name × Module) → Name → FormTree → Name → Type 0
 RefersToNothing ms M (a_reference N x) y = (x ≡ y) × ((j : ℕ) → Refers ms M N x (assigned.Type j) → ⊥)
 RefersToNothing ms M f y = ⊥
 
--- type t of the table is what is written there, its parts numbered from n on. hs: the modules' names and tag defaults;
--- gs: the assignments
+-- Type t of the table is the written type s, and its parts have the numbers from n on. hs holds the modules' names and
+-- tag defaults, and gs the assignments.
 pub record IsTop
     (ms : List (Name × Module)) (hs : List (Name × TagDefault)) (gs : List (ℕ × Name))
     (n : ℕ) (s : Source) (t : Type') : Type 0 where
@@ -75,7 +78,7 @@ pub record IsTop
   pub place : t.place ≡ s.place
   pub assignment : t.assignment ≡ s.assignment
 
--- so are all types, the first of which has number i, and whose parts are numbered from n on
+-- the types of the table are the written ones, where the first has number i and the parts have the numbers from n on
 abbrev pub AreTops :
     List (Name × Module) → List (Name × TagDefault) → List (ℕ × Name) → ℕ → ℕ → List Source → List Type' → Type 0
 AreTops ms hs gs i n [] [] = Unit {0}
@@ -83,7 +86,7 @@ AreTops ms hs gs i n (s ∷ ss) (t ∷ ts) =
     IsTop ms hs gs n s t × AreTops ms hs gs (suc i) (n + length (parts_of s.assignment i s.tree)) ss ts
 AreTops ms hs gs i n ss ts = ⊥
 
--- the types of a program are those that stand in its assignments
+-- the types of the table are exactly those in the assignments
 pub record AreNumbered
     (ms : List (Name × Module)) (hs : List (Name × TagDefault)) (gs : List (ℕ × Name))
     (roots : List Source) (ts : List Type') : Type 0 where
@@ -91,7 +94,7 @@ pub record AreNumbered
   pub all : sources ≡ roots ++ all_parts 0 sources
   pub tops : AreTops ms hs gs 0 (length roots) sources ts
 
--- a type t that stands in assignment a, directly or in another type
+-- type t is in assignment a, directly or in another type
 pub data Occurs (roots : List Source) (a : ℕ) : TypeTree → Type 0 where
   directly : (k : ℕ) (s : Source) → slice_get roots k ≡ Some s → s.assignment ≡ a → Occurs roots a s.tree
   inside : {t : TypeTree} (i k : ℕ) (s : Source) →
@@ -99,7 +102,7 @@ pub data Occurs (roots : List Source) (a : ℕ) : TypeTree → Type 0 where
       slice_get (parts_of a i t) k ≡ Some s →
       Occurs roots a s.tree
 
--- the types that stand in these assignments are more than n: type n stands in assignment a
+-- there are more than n types in these assignments, and type n is in assignment a
 abbrev pub AreMore : ℕ → ℕ → List Source → Type 0
 AreMore n a roots = (ss : List Source) →
     ss ≡ roots ++ all_parts 0 ss →

@@ -1,4 +1,4 @@
--- The types of a table, and a type that is still to be taken apart, without where they lie in memory.
+-- The types of a table and of a syntax tree as definitions see them, without their places in memory.
 use Rattle.std.specs.Prelude.{Option, List, map, option_map, string_bytes}
 use Rattle.trees.specs.declared.types.TypeSyntax.{TypeSyntax}
 use Rattle.trees.specs.declared.types.TypeForm.{TypeForm}
@@ -49,7 +49,7 @@ form_seen (forms.Tagged tag word t) = a_tagged tag word (type_tree_of t.value)
 abbrev pub root_of : EnumeratedSyntax → List Item
 root_of e = map item_of e.root.items
 
--- its items behind the marker, if it has one
+-- the items of an enumeration after the marker, if it has a marker
 abbrev pub behind_marker : EnumeratedSyntax → Option (List Item)
 behind_marker e = option_map (λ is. map item_of is.items) e.additions
 

@@ -1,4 +1,4 @@
--- Written types, which refer to one another by number, and their unfolding.
+-- Written types, which refer to one another by number, and their unfolding (X.680, clause 16).
 use Rattle.std.specs.Prelude.{◌≡◌, ℕ, zero, suc, ◌<◌, Bool, List, Option, Some, None, length, slice_get, All}
 use Rattle.asn_base.specs.declared.tag.Tag.{Tag}
 use Rattle.trees.specs.declared.types.ListKind.{ListKind}
@@ -11,13 +11,14 @@ use Rattle.trees.specs.Constraints.{ConstraintTree}
 use Rattle.trees.specs.Types.{PresenceTree, Plain}
 use Rattle.type_table.specs.Walks.{follow, ComesBack, IsWithin}
 
--- a member: its identifier, its type's number, whether it may be absent, and where it stands in its list
+-- a member of a list: its identifier, the number of its type, whether it may be absent, and whether it is in the root
 pub record Part : Type 0 where
   pub name : Name
   pub ty : ℕ
   pub presence : PresenceTree
   pub standing : Standing
 
+-- the kind of a written type, in which the types directly in it are given by their numbers
 pub data Kind : Type 0 where
   simple : Plain → Kind
   reference : ℕ → Kind
@@ -26,8 +27,8 @@ pub data Kind : Type 0 where
   members : ListKind → Bool → List Part → Kind
   elements : ElementsKind → ℕ → Kind
 
--- a written type: what it is, the constraints behind it, its module's tag default, its list and number where it is a
--- member, and the number of the assignment that it stands in
+-- A written type: its kind, the constraints after it, the tag default of its module, and the number of its assignment.
+-- If it is a member, its place is the number of its list and its place there.
 pub record Type' : Type 0 where
   pub kind : Kind
   pub constraints : List ConstraintTree
@@ -35,24 +36,26 @@ pub record Type' : Type 0 where
   pub place : Option (ℕ × ℕ)
   pub assignment : ℕ
 
+-- the type that a type of this kind leads to, if it is a reference or a tag
 abbrev pub behind : Kind → Option ℕ
 behind (reference j) = Some j
 behind (tagged t k j) = Some j
 behind k = None
 
+-- the type that a type leads to, or None if there is no type or it leads to none
 abbrev pub behind_of : Option Type' → Option ℕ
 behind_of None = None
 behind_of (Some t) = behind t.kind
 
--- the type behind the reference or tag that type i is
+-- the type that type i leads to, if that is a reference or a tag
 abbrev pub next : List Type' → ℕ → Option ℕ
 next ts i = behind_of (slice_get ts i)
 
--- the type that stands k references and tags behind type i
+-- the type after k references and tags from type i on
 abbrev pub walk : List Type' → ℕ → ℕ → Option ℕ
 walk ts k i = follow (next ts) k i
 
--- type c is the core of type i
+-- type c, which is neither a reference nor a tag, is the core of type i
 pub record IsCore (ts : List Type') (i c : ℕ) : Type 0 where
   pub steps : ℕ
   pub few : steps < length ts
@@ -63,7 +66,7 @@ pub record IsCore (ts : List Type') (i c : ℕ) : Type 0 where
 abbrev pub IsCircular : List Type' → ℕ → Type 0
 IsCircular ts i = ComesBack (next ts) i
 
--- what stands behind a reference or a tag is a type of the table
+-- each reference and each tag leads to a type of the table
 abbrev pub IsClosed : List Type' → Type 0
 IsClosed ts = IsWithin (next ts) (length ts)
 
@@ -71,7 +74,7 @@ IsClosed ts = IsWithin (next ts) (length ts)
 abbrev pub AllUnfold : List Type' → Type 0
 AllUnfold ts = (i : ℕ) → i < length ts → (c : ℕ) × IsCore ts i c
 
--- type i of the table is of this kind, and stands at this place
+-- type i of the table has this kind, this tag default and this place in a list
 pub record Is (ts : List Type') (i : ℕ) (k : Kind) (d : TagDefault) (p : Option (ℕ × ℕ)) : Type 0 where
   pub constraints : List ConstraintTree
   pub assignment : ℕ
@@ -79,19 +82,19 @@ pub record Is (ts : List Type') (i : ℕ) (k : Kind) (d : TagDefault) (p : Optio
       slice_get ts i
       ≡ Some (record { kind = k; constraints = constraints; default = d; place = p; assignment = assignment })
 
--- the members of a list are types of the table
+-- the types of the members of each list are types of the table
 abbrev pub HasMembers : List Type' → Type 0
 HasMembers ts = (i : ℕ) (l : ListKind) (m : Bool) (cs : List Part) (d : TagDefault) (p : Option (ℕ × ℕ)) →
     Is ts i (members l m cs) d p →
     All (λ c. c.ty < length ts) cs
 
--- so are the elements
+-- the type of the elements of each SEQUENCE OF and SET OF is a type of the table
 abbrev pub HasElements : List Type' → Type 0
 HasElements ts = (i j : ℕ) (e : ElementsKind) (d : TagDefault) (p : Option (ℕ × ℕ)) →
     Is ts i (elements e j) d p →
     j < length ts
 
--- each member of a list knows its list and its number there, and so is a member of one list alone
+-- each member of a list has the number of that list and its place there, so it is a member of only one list
 abbrev pub HasPlaces : List Type' → Type 0
 HasPlaces ts = (i n : ℕ) (l : ListKind) (m : Bool) (cs : List Part) (d : TagDefault) (p : Option (ℕ × ℕ)) (c : Part) →
     Is ts i (members l m cs) d p →
@@ -109,13 +112,13 @@ pub record IsMember (ts : List Type') (i n j : ℕ) (d : TagDefault) : Type 0 wh
   pub there : slice_get parts n ≡ Some part
   pub type_is : part.ty ≡ j
 
--- what knows a place stands there
+-- a type with a place in a list is the member at that place
 abbrev pub HasLists : List Type' → Type 0
 HasLists ts = (j i n : ℕ) (k : Kind) (d : TagDefault) →
     Is ts j k d (Some (i, n)) →
     IsMember ts i n j d
 
--- what a table of linked types keeps
+-- the properties of a table of linked types
 pub record IsLinked (ts : List Type') : Type 0 where
   pub closed : IsClosed ts
   pub unfolds : AllUnfold ts

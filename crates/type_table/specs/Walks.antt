@@ -1,11 +1,13 @@
--- Following references from place to place, where each place refers to one other at most.
+-- References from place to place, where each place refers to at most one other. The types of X.680, clause 16, and the
+-- values of clause 17 refer to one another in this way.
 use Rattle.std.specs.Prelude.{◌≡◌, ℕ, zero, suc, ◌<◌, Option, Some, None}
 
+-- what f gives for the place, or None if there is no place
 abbrev pub onward : Option ℕ → (ℕ → Option ℕ) → Option ℕ
 onward None f = None
 onward (Some j) f = f j
 
--- the place that stands k references behind place i
+-- the place after k references from place i on
 abbrev pub follow : (ℕ → Option ℕ) → ℕ → ℕ → Option ℕ
 follow next zero i = Some i
 follow next (suc k) i = onward (next i) (λ j. follow next k j)
@@ -21,7 +23,7 @@ pub record ComesBack (next : ℕ → Option ℕ) (i : ℕ) : Type 0 where
   pub steps : ℕ
   pub back : follow next (suc steps) i ≡ Some i
 
--- there are n places
+-- each reference leads to a place below n
 abbrev pub IsWithin : (ℕ → Option ℕ) → ℕ → Type 0
 IsWithin next n = (i j : ℕ) → next i ≡ Some j → j < n
 

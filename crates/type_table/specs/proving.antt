@@ -1,6 +1,6 @@
--- What only contracts inside the crates and proofs speak of: walks through references, numbers that are noted one after
--- the other, cores on the way, sets of numbers, what the checks of one type answer, a table as it lies in memory, and
--- worked rows.
+-- Definitions that only contracts inside the crates and proofs use. They are walks through references, notes for types,
+-- cores that are found one after another, and sets of numbers. Further ones are the results of the checks of one type,
+-- a table as it is in memory, and worked rows.
 pub mod Walks
 pub mod Notes
 pub mod Cores

@@ -14,12 +14,12 @@ use std::alloc::{AllocError, AllocFailed, Global};
 use std::collections::BTreeSet;
 use trees::{EnumeratedItem, EnumeratedSyntax};
 
-/// Why items have no numbers.
+/// Why items get no numbers.
 #[derive(Clone, Copy, Debug, PartialEq, Eq)]
 pub enum NumberFault {
-    /// There was not enough memory.
+    /// An allocation failed.
     Memory,
-    /// The number that this addition, counted from 0, would get is 2 to the 127.
+    /// The addition at this place, counted from 0, would get the number 2^127, which is past the limit.
     TooGreat(usize),
 }
 
@@ -39,7 +39,7 @@ impl<T: Drop> From<AllocFailed<T>> for NumberFault {
     }
 }
 
-/// The numbers that are written.
+/// The numbers that are written. `AllocError` only if an allocation fails.
 fn given(alloc: Global, items: &[EnumeratedItem]) -> Result<Vec<i128>, AllocError>
     ensures { IfOk result (λ v. v.items ≡ given_numbers (map item_of items.now)) }
 {
@@ -53,7 +53,7 @@ fn given(alloc: Global, items: &[EnumeratedItem]) -> Result<Vec<i128>, AllocErro
     Ok(numbers)
 }
 
-/// Puts a number into a set.
+/// Adds a number to a set. `AllocError` only if an allocation fails.
 fn put(number: i128, set: &mut BTreeSet<i128>) -> Result<(), AllocError>
     ensures added { OnOk result (Puts set.old.keys set.new.keys number) }
     ensures within { AreWithinLimit set.old.keys → OnOk result (AreWithinLimit set.new.keys) }
@@ -63,7 +63,7 @@ fn put(number: i128, set: &mut BTreeSet<i128>) -> Result<(), AllocError>
     Ok(())
 }
 
-/// The set of these numbers.
+/// The set of these numbers. `AllocError` only if an allocation fails.
 fn set_of(alloc: Global, numbers: &[i128]) -> Result<BTreeSet<i128>, AllocError>
     ensures same { IfOk result (λ s. IsSetOf s.keys numbers.now) }
     ensures within { IfOk result (λ s. AreWithinLimit s.keys) }
@@ -75,7 +75,7 @@ fn set_of(alloc: Global, numbers: &[i128]) -> Result<BTreeSet<i128>, AllocError>
     Ok(set)
 }
 
-/// The least number from `from` on that is none of these.
+/// The least number from `from` on that isn't in the set.
 fn free(used: &BTreeSet<i128>, from: u128) -> u128
     requires within { AreWithinLimit used.now.keys }
     requires small { from ≤ 2 ^ 127 }
@@ -96,7 +96,8 @@ fn free(used: &BTreeSet<i128>, from: u128) -> u128
     at
 }
 
-/// The numbers of root items: those that are written, and for the others in turn the next that is written behind none.
+/// The numbers of root items (X.680, 20.5). An item with a written number has that number. Each other item gets the
+/// next number from 0 on that no root item has in writing.
 fn root(alloc: Global, items: &[EnumeratedItem]) -> Result<Vec<i128>, AllocError>
     ensures numbers { IfOk result (λ v. v.items ≡ root_numbers (map item_of items.now)) }
     ensures within { IfOk result (λ v. AreWithinLimit v.items) }
@@ -121,7 +122,7 @@ fn root(alloc: Global, items: &[EnumeratedItem]) -> Result<Vec<i128>, AllocError
     Ok(numbers)
 }
 
-/// The least number from 0 above this one.
+/// The least number from 0 on that is greater than this one.
 fn above(number: i128) -> u128
     ensures past { result ≡ past number }
     ensures small { result ≤ 2 ^ 127 }
@@ -129,7 +130,8 @@ fn above(number: i128) -> u128
     if number < 0 { 0 } else { number as u128 + 1 }
 }
 
-/// The number that is written, or else the least from `from` on that is none of these, if that is below 2 to the 127.
+/// The written number, or else the least number from `from` on that isn't in the set. The result is None if that is
+/// 2^127 or greater.
 fn number_or_free(used: &BTreeSet<i128>, from: u128, written: Option<i128>) -> Option<i128>
     requires within { AreWithinLimit used.now.keys }
     requires small { from ≤ 2 ^ 127 }
@@ -149,8 +151,11 @@ fn number_or_free(used: &BTreeSet<i128>, from: u128, written: Option<i128>) -> O
     }
 }
 
-/// The numbers of root items, and behind them those of additions: what is written, and for the others the least number
-/// from 0 that no root item has and that lies above each earlier addition's.
+/// The numbers of root items, and after them those of additions (X.680, 20.6). An addition with a written number has
+/// that number. Each other addition gets the least number from 0 on that no root item has and that is greater than
+/// those of all earlier additions.
+///
+/// `Memory`: an allocation failed. `TooGreat`: the number of this addition would be 2^127.
 fn with_additions(
     alloc: Global,
     root: Vec<i128>,
@@ -177,7 +182,7 @@ fn with_additions(
     Ok(numbers)
 }
 
-/// The items behind the extension marker, if there is one.
+/// The items after the extension marker, or none if there is no marker.
 pub(crate) fn additions(given: &EnumeratedSyntax) -> &[EnumeratedItem]
     ensures { map item_of result.now ≡ more_of given.now }
 {
@@ -187,9 +192,10 @@ pub(crate) fn additions(given: &EnumeratedSyntax) -> &[EnumeratedItem]
     }
 }
 
-/// The numbers of the items of an enumeration, those of the root in order and then those of the additions (X.680,
-/// clauses
+/// The numbers of the items of an enumeration, first those of the root in order and then those of the additions (X.680,
 /// 20.5 and 20.6).
+///
+/// `Memory`: an allocation failed. `TooGreat`: the number of this addition would be 2^127.
 pub fn item_numbers(alloc: Global, given: &EnumeratedSyntax) -> Result<Vec<i128>, NumberFault>
     ensures numbers { IfOk result (λ v. v.items ≡ numbers_of (root_of given.now) (more_of given.now)) }
     ensures within { IfOk result (λ v. AreWithinLimit v.items) }

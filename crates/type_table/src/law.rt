@@ -13,7 +13,7 @@ ghost use Rattle.type_table.specs.Items.{Item, given_numbers, AreRootNumbers, Ar
 ghost use Rattle.type_table.specs.Numbering.{AreNumbered};
 ghost use Rattle.type_table.specs.Table.{Type', AllUnfold, IsClosed, IsLinked};
 
-/// The types of given names, headers, assignments and their types have one table.
+/// If the names, module headers, assignments and their types are given, there is exactly one table of types.
 pub fn one_table()
     ensures { (ms : List (Name × Module)) (hs : List (Name × Default)) (gs : List (ℕ × Name)) (roots : List Source)
         (ts us : List Type') →
@@ -23,7 +23,8 @@ pub fn one_table()
         ts ≡ us }
 {}
 
-/// Where a fault of the types stands, other than want of memory, there is no table that unfolds and passes no limit.
+/// If a fault of the types other than `Memory` is true, there is no table in which each type unfolds and no limit is
+/// passed.
 pub fn table_faults_exclude()
     ensures { (ms : List (Name × Module)) (hs : List (Name × Default)) (gs : List (ℕ × Name)) (roots : List Source)
         (ts : List Type') →
@@ -37,7 +38,7 @@ pub fn table_faults_exclude()
         ⊥ }
 {}
 
-/// Types that are numbered: those of the assignments are among them, and each stands in an assignment.
+/// The types of the assignments are in the table, and each type of the table is in one of the assignments.
 pub fn numbered_there()
     ensures roots { (ms : List (Name × Module)) (hs : List (Name × Default)) (gs : List (ℕ × Name))
         (roots : List Source) (ts : List Type') →
@@ -51,8 +52,7 @@ pub fn numbered_there()
         t.assignment < length gs }
 {}
 
-/// Types that are numbered, whose references stand for types of the table, keep what a table of linked types keeps once
-/// they unfold.
+/// If each reference leads to a type of the table and all types unfold, the table is one of linked types.
 pub fn numbered_linked()
     ensures closed { (ms : List (Name × Module)) (hs : List (Name × Default)) (gs : List (ℕ × Name))
         (roots : List Source) (ts : List Type') →
@@ -68,7 +68,7 @@ pub fn numbered_linked()
         IsLinked ts }
 {}
 
-/// The numbers of items, as they are computed, are those of X.680, 20.5 and 20.6, and there are no others.
+/// The computed numbers of items are those of X.680, 20.5 and 20.6, and no others are.
 pub fn numbers_of_items()
     ensures root { (is : List Item) → AreRootNumbers (given_numbers is) [] is (root_numbers is) }
     ensures additions { (is more : List Item) →

@@ -1,5 +1,5 @@
-//! The written types of modules, each by its number: what they refer to, what they unfold to, and what their lists
-//! keep.
+//! The written types of modules, each with its number: what they refer to, what they unfold to, and the rules of their
+//! lists (X.680, clauses 16 to 30).
 #![tactic(auto)]
 
 pub mod items;

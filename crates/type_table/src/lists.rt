@@ -1,4 +1,5 @@
-//! The lists in written types: their names and numbers are distinct, and no limit is passed.
+//! The rules for lists in written types: names and numbers are distinct, and no limit is passed (X.680, 19.5, 19.6,
+//! 20.3 to 20.6, 22.4, 25.7, 27.3 and 29.3).
 
 ghost use Rattle.std.specs.Prelude.{ℕ, ℤ, Bool, ◌≡◌, ◌<◌, ◌≤◌, ◌+◌, ◌++◌, ◌∷◌, [], Some, IfOk, IfErr, OnOk, MatchOption, MatchResult, length, map, slice_get};
 ghost use Rattle.trees.specs.Values.{Name, name_at};
@@ -25,7 +26,7 @@ use trees::{
     At, EnumeratedItem, EnumeratedSyntax, ListKind, NamedBit, NamedNumber, Simple, Standing,
 };
 
-/// The fault that a name, or its number, stands for the second time.
+/// The fault `Twice` for a name that, or whose number, is in a list already. `Memory` only if an allocation fails.
 fn twice(alloc: Global, within: &str, name: &At<String>) -> NameFault
     ensures { TellsName within.now (name_at name.now) result }
 {
@@ -35,7 +36,7 @@ fn twice(alloc: Global, within: &str, name: &At<String>) -> NameFault
     }
 }
 
-/// The fault that a limit is passed in an assignment.
+/// The fault `Limit` for a limit that an assignment passes. `Memory` only if an allocation fails.
 fn passed(alloc: Global, limit: Limit, within: &str, assigns: &str, at: usize) -> NameFault
     ensures { TellsLimit limit within.now assigns.now result }
 {
@@ -45,7 +46,7 @@ fn passed(alloc: Global, limit: Limit, within: &str, assigns: &str, at: usize) -
     }
 }
 
-/// Puts a name behind others, or refuses it where it is among them.
+/// Adds a name. `Twice`: the name is there already. `Memory`: an allocation failed.
 fn name_once(
     alloc: Global,
     within: &str,
@@ -64,7 +65,7 @@ fn name_once(
     Ok(())
 }
 
-/// Puts the number of a name behind others, or refuses it where it is among them.
+/// Adds the number of a name. `Twice`: the number is there already. `Memory`: an allocation failed.
 fn number_once(
     alloc: Global,
     within: &str,
@@ -83,7 +84,7 @@ fn number_once(
     Ok(())
 }
 
-/// Puts the place of a bit behind others, or refuses it where it is among them.
+/// Adds the place of a named bit. `Twice`: the place is there already. `Memory`: an allocation failed.
 fn place_once(
     alloc: Global,
     within: &str,
@@ -102,7 +103,7 @@ fn place_once(
     Ok(())
 }
 
-/// Named numbers have distinct names and distinct numbers (X.680, clauses 19.5 and 19.6).
+/// Checks that named numbers have distinct names and distinct numbers (X.680, 19.5 and 19.6).
 fn named_numbers(alloc: Global, within: &str, given: &[NamedNumber]) -> Result<(), NameFault>
     ensures good { OnOk result (IsSoundPlain (an_integer (map number_of given.now))) }
     ensures fault { (assigns : Name) →
@@ -123,7 +124,7 @@ fn named_numbers(alloc: Global, within: &str, given: &[NamedNumber]) -> Result<(
     Ok(())
 }
 
-/// Named bits have distinct names and distinct places (X.680, clause 22.4).
+/// Checks that named bits have distinct names and distinct places, of which none passes the limit (X.680, 22.4).
 fn named_bits(
     alloc: Global,
     within: &str,
@@ -152,7 +153,7 @@ fn named_bits(
     Ok(())
 }
 
-/// At most 1,024 root items and at most 64 additions.
+/// Checks that there are at most 1,024 root items and at most 64 additions.
 fn few_items(
     alloc: Global,
     within: &str,
@@ -176,7 +177,7 @@ fn few_items(
     Ok(())
 }
 
-/// Puts the names of items behind others, or refuses one that stands twice.
+/// Adds the names of items. `Twice`: a name is there already. `Memory`: an allocation failed.
 fn item_names(
     alloc: Global,
     within: &str,
@@ -199,7 +200,7 @@ fn item_names(
     Ok(())
 }
 
-/// The place of a number that stands before it too, if there is one.
+/// The place of a number that is also at an earlier place, or None if all numbers are distinct.
 fn first_again(alloc: Global, numbers: &[i128]) -> Result<Option<usize>, AllocError>
     ensures { IfOk result (λ o. MatchOption o
         (AreDistinct numbers.now)
@@ -216,7 +217,7 @@ fn first_again(alloc: Global, numbers: &[i128]) -> Result<Option<usize>, AllocEr
     Ok(None)
 }
 
-/// The name of one of these items.
+/// The name of the item at this place.
 fn name_at_place(items: &[EnumeratedItem], number: usize) -> &At<String>
     requires { number < length items.now }
     ensures { slice_get (map (λ i. i.0) (map item_of items.now)) number ≡ Some (name_at result.now) }
@@ -225,7 +226,7 @@ fn name_at_place(items: &[EnumeratedItem], number: usize) -> &At<String>
     &item.name
 }
 
-/// The name of an item, those of the root and then the additions being counted from 0.
+/// The name of the item at this place, where first the root items and then the additions are counted from 0.
 fn item_name(given: &EnumeratedSyntax, number: usize) -> &At<String>
     requires { number < length (root_of given.now ++ more_of given.now) }
     ensures { slice_get (map (λ i. i.0) (root_of given.now ++ more_of given.now)) number ≡ Some (name_at result.now) }
@@ -238,7 +239,7 @@ fn item_name(given: &EnumeratedSyntax, number: usize) -> &At<String>
     }
 }
 
-/// The numbers of items, also those that are not written, are distinct (X.680, clauses 20.4 to 20.6).
+/// Checks that the numbers of items are distinct, those that aren't written included (X.680, 20.4 to 20.6).
 fn item_numbers_once(
     alloc: Global,
     within: &str,
@@ -264,7 +265,7 @@ fn item_numbers_once(
     }
 }
 
-/// Items of an ENUMERATED have distinct names and distinct numbers (X.680, clauses 20.3 to 20.6).
+/// Checks that the items of an ENUMERATED have distinct names and distinct numbers (X.680, 20.3 to 20.6).
 fn enumerated(
     alloc: Global,
     within: &str,
@@ -301,7 +302,7 @@ struct Members {
     more: usize,
 }
 
-/// Counts one more member.
+/// Counts one more member, in the root or as an addition.
 fn count_member(standing: Standing, counted: &mut Members)
     requires root { counted.old.root ≤ 256 }
     requires more { counted.old.more ≤ 64 }
@@ -314,7 +315,7 @@ fn count_member(standing: Standing, counted: &mut Members)
     }
 }
 
-/// At most 256 members of the root and at most 64 additions, those in version brackets counted too.
+/// Checks that there are at most 256 members in the root and at most 64 additions, those in version brackets included.
 fn few_members(
     alloc: Global,
     within: &str,
@@ -340,7 +341,7 @@ fn few_members(
     Ok(())
 }
 
-/// Members of a list have distinct identifiers (X.680, clauses 25.7, 27.3 and 29.3).
+/// Checks that the members of a list have distinct identifiers (X.680, 25.7, 27.3 and 29.3).
 fn member_names(alloc: Global, within: &str, given: &[ListMember]) -> Result<(), NameFault>
     ensures distinct { OnOk result (AreDistinct (map (λ (c : Part). c.name) (map part_of given.now))) }
     ensures fault { IfErr result (IsRepeated within.now (map (λ (c : Part). c.name) (map part_of given.now))) }
@@ -355,7 +356,7 @@ fn member_names(alloc: Global, within: &str, given: &[ListMember]) -> Result<(),
     Ok(())
 }
 
-/// A list has few members, with distinct identifiers.
+/// Checks that no limit on the members of a list is passed and that their identifiers are distinct.
 fn list_members(
     alloc: Global,
     within: &str,
@@ -377,7 +378,7 @@ fn list_members(
     }
 }
 
-/// The list of a type that holds no other type.
+/// Checks the list of named numbers, named bits or items of a type that holds no other type.
 fn simple_list(alloc: Global, within: &str, assigns: &str, given: &Simple) -> Result<(), NameFault>
     ensures good { OnOk result (IsSoundPlain (plain_of given.now)) }
     ensures fault { IfErr result (IsKindFault within.now assigns.now (simple (plain_of given.now))) }
@@ -396,7 +397,9 @@ fn simple_list(alloc: Global, within: &str, assigns: &str, given: &Simple) -> Re
     }
 }
 
-/// The list that stands at a type, if one does.
+/// Checks the list of a type, if it has one. `within` is the name of the module, and `assigns` that of the assignment.
+///
+/// `Twice`: a name or a number is in the list twice. `Limit`: the list passes a limit. `Memory`: an allocation failed.
 pub fn sound_shape(
     alloc: Global,
     within: &str,

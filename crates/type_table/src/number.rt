@@ -1,4 +1,4 @@
-//! Types by number: one level of a type at a time.
+//! The numbers of types, which are given to one level of a type at a time.
 
 ghost use Rattle.std.specs.Prelude.{ℕ, slice_get, ◌≡◌, ◌≤◌, ◌+◌, ◌++◌, ◌<◌, IfOk, IfErr, OnOk, length, map, option_map, string_bytes, Some};
 ghost use Rattle.trees.specs.Types.{type_tree_of, type_members, type_member_of};
@@ -21,7 +21,7 @@ use std::alloc::{AllocError, Global};
 use std::collections::VecDeque;
 use trees::{Member, Reference, TypeForm, TypeSyntax};
 
-/// The members of a list, whose types are numbered from `first` on and go behind the others.
+/// The members of a list, whose types get the numbers from `first` on. These types are added to `parts`.
 fn components_of(
     alloc: Global,
     members: Vec<Member<TypeSyntax>>,
@@ -60,7 +60,7 @@ fn components_of(
     Ok(components)
 }
 
-/// How many types stand directly in a type.
+/// How many types are directly in a type.
 fn parts_count(syntax: &TypeSyntax) -> usize
     ensures { (assignment number : ℕ) → result ≡ length (parts_of assignment number (type_tree_of syntax.now)) }
 {
@@ -73,7 +73,8 @@ fn parts_count(syntax: &TypeSyntax) -> usize
     }
 }
 
-/// The type that a reference stands for.
+/// The number of the type that a reference refers to. `UnknownName`: the name is not that of a type. `Memory`: an
+/// allocation failed.
 fn meant_by(
     alloc: Global,
     names: &Names,
@@ -94,7 +95,7 @@ fn meant_by(
     }
 }
 
-/// Puts a type that is no member behind the others.
+/// Adds a type that isn't a member of a list to `parts`. `AllocError` only if an allocation fails.
 fn put(inner: TypeSyntax, assignment: usize, parts: &mut VecDeque<Source>) -> Result<(), AllocError>
     ensures { OnOk result
         (sources_of parts.new.items ≡ sources_of parts.old.items ++ inner_source assignment (type_tree_of inner)) }
@@ -107,7 +108,8 @@ fn put(inner: TypeSyntax, assignment: usize, parts: &mut VecDeque<Source>) -> Re
     Ok(())
 }
 
-/// What stands at a type. The types in it are numbered from `first` on and go behind the others.
+/// The shape of a type with this form. The types directly in it get the numbers from `first` on and are added to
+/// `parts`. `UnknownName`: a reference leads to no type. `Memory`: an allocation failed.
 fn take_apart(
     alloc: Global,
     names: &Names,
@@ -146,7 +148,7 @@ fn take_apart(
     }
 }
 
-/// The fault that more types are written than may be, at a type in an assignment.
+/// The fault `Limit` for too many written types, at a type of this assignment. `Memory` only if an allocation fails.
 pub fn too_many(alloc: Global, header: &Header, assignment: &AssignedAt, at: usize) -> NameFault
     ensures { IsTypesLimit (name_at header.now.name) (name_at assignment.now.name) result }
 {
@@ -161,7 +163,9 @@ pub fn too_many(alloc: Global, header: &Header, assignment: &AssignedAt, at: usi
     }
 }
 
-/// The written type that a source is, and its number. Its parts go behind the other sources.
+/// The written type of a source that gets this number. The types directly in it are added to the other sources.
+///
+/// `UnknownName`: a reference leads to no type. `Limit`: there are too many types. `Memory`: an allocation failed.
 fn written_of(
     alloc: Global,
     names: &Names,
@@ -223,7 +227,10 @@ fn written_of(
     }
 }
 
-/// All written types by number: those of the assignments come first, and then the parts of each type in turn.
+/// All written types in the order of their numbers: first those of the assignments, and then the parts of each type.
+///
+/// `UnknownName`: a reference leads to no type. `Limit`: more than 65,536 types are written. `Memory`: an allocation
+/// failed.
 pub fn number_all(
     alloc: Global,
     names: &Names,

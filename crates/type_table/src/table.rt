@@ -7,7 +7,7 @@ use trees::{
     TagDefault,
 };
 
-/// A member of a list: its identifier, its type's number, whether it may be absent, and where it stands in the list.
+/// A member of a list: its identifier, the number of its type, whether it may be absent, and whether it is in the root.
 #[derive(Drop)]
 pub struct ListMember {
     pub name: At<String>,
@@ -16,34 +16,34 @@ pub struct ListMember {
     pub standing: Standing,
 }
 
-/// What stands at one written type. The types in it are numbers.
+/// The shape of one written type. The types in it are given by their numbers.
 #[derive(Drop)]
 pub enum Shape {
     /// A type that holds no other type.
     Simple(Simple),
-    /// The type that a name stands for.
+    /// The number of the type that a name refers to.
     Reference(usize),
-    /// A tag, the word behind it, and the type.
+    /// A tag, the word after it, and the number of the tagged type.
     Tagged(Tag, Keyword, usize),
-    /// SEQUENCE, SET or CHOICE, whether it has an extension marker, and its members: those of the root in order, and
-    /// then the additions.
+    /// SEQUENCE, SET or CHOICE. The flag says whether it has an extension marker. The members of the root come first,
+    /// in order, and then the additions.
     Members(ListKind, bool, Vec<ListMember>),
-    /// SEQUENCE OF or SET OF, and the type of its elements.
+    /// SEQUENCE OF or SET OF, and the number of the type of its elements.
     Elements(ElementsKind, usize),
 }
 
 /// A written type.
 #[derive(Drop)]
 pub struct Written {
-    /// Where it begins.
+    /// The offset in the text at which the type begins, in octets.
     pub at: usize,
     pub shape: Shape,
-    /// The constraints behind it, in order.
+    /// The constraints after it, in order.
     pub constraints: Vec<ConstraintSyntax>,
-    /// The tag default of the module that it stands in.
+    /// The tag default of its module.
     pub default: TagDefault,
-    /// Where it is a member, if it is one.
+    /// Its list and its place there, if it is a member.
     pub place: Option<Place>,
-    /// The number of the assignment that it stands in.
+    /// The number of its assignment.
     pub assignment: usize,
 }

@@ -1,4 +1,4 @@
-//! Unfolding of references and tags.
+//! Unfolding: from a type through references and tags to its core.
 
 ghost use Rattle.std.specs.Prelude.{◌≡◌, ℕ, ◌<◌, length, Ok, Err, List, MatchResult};
 ghost use Rattle.type_table.specs.Seen.{type_of, types_of};
@@ -8,7 +8,7 @@ ghost use Rattle.type_table.specs.proving.Notes.{IsKnown, AreUnknown};
 
 use crate::table::{Shape, Written};
 
-/// The type behind the reference or tag that this type is.
+/// The type that a reference or a tag leads to, or None for any other type.
 pub fn next(written: &Written) -> Option<usize>
     ensures { result ≡ behind (type_of written.now).kind }
 {
@@ -19,7 +19,8 @@ pub fn next(written: &Written) -> Option<usize>
     }
 }
 
-/// The core of a type, or a type that comes back to itself. The walk ends where it comes to a type whose core is known.
+/// The core of a type. The walk ends at a type whose core is already noted. The error is a type that comes back to
+/// itself.
 fn core_by(types: &[Written], cores: &[usize], start: usize) -> Result<usize, usize>
     requires closed { IsClosed (types_of types.now) }
     requires long { length cores.now ≡ length types.now }
@@ -42,7 +43,7 @@ fn core_by(types: &[Written], cores: &[usize], start: usize) -> Result<usize, us
     Err(at)
 }
 
-/// Notes the core of a type for it and for all behind it, up to one whose core is known.
+/// Notes the core of a type for it and for each type on the way to the first one whose core was noted before.
 fn note(types: &[Written], cores: &mut [usize], start: usize, core: usize)
     requires long { length cores.old ≡ length types.now }
     requires known { AreKnown (types_of types.now) cores.old }
@@ -68,8 +69,8 @@ fn note(types: &[Written], cores: &mut [usize], start: usize, core: usize)
     }
 }
 
-/// Finds the core of each type, or a type that comes back to itself. No type is passed more than three times, so the
-/// time grows with the table alone, however its references are chained.
+/// Finds the core of each type. The error is a type that comes back to itself. No type is passed more than three times,
+/// so the time depends only on the length of the table, even if its chains of references are long.
 pub fn unfold_all(types: &[Written], cores: &mut [usize]) -> Result<(), usize>
     requires closed { IsClosed (types_of types.now) }
     requires long { length cores.old ≡ length types.now }

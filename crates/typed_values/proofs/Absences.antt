@@ -1,4 +1,4 @@
--- What may be absent where some levels are left may be where more are; and a component stands in one list alone.
+-- A component that may be absent with some levels left may be absent with more. A component is in only one list.
 use Rattle.std.proofs.Common.{inl, inr, ◌≡◌, ℕ, zero, suc, ◌≤◌, refl, sym, ap, subst, ◌∙◌, Some, arith, replicate}
 use Rattle.std.proofs.lemmas.List.{length-replicate, get_or-replicate}
 use Rattle.std.proofs.lemmas.Option.{same_Some, slice_get_within, get_or_from_slice_get}

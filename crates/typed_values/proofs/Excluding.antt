@@ -1,4 +1,4 @@
--- A notation in which a fault stands stands for no value of its type within the limits.
+-- A notation with a fault isn't that of a value of its type within the limits.
 use Rattle.std.proofs.Common.{inl, inr, ◌≡◌, ℕ, zero, suc, ◌+◌, ◌≤◌, refl, sym, ap, subst, ◌∙◌, Some, None, Bool, arith}
 use Rattle.std.specs.Prelude.{List, [], ◌∷◌, ◌++◌, Option, slice_get}
 use Rattle.std.proofs.lemmas.Option.{same_Some}
@@ -432,7 +432,7 @@ module _ (p : Program) (s : IsKept p) (one : OneValue) (none_wrong : NoneWrong) 
           let kinds = one_kind p.types i j k x is in
           value_left p o.levels i o.within (subst (λ (u : Kind). NotationOf p ps K u l v) kinds z) q o.value
 
-  -- ---- where it stands
+  -- ---- the place of the fault
 
   level_of : {m i : ℕ} {k : Kind} {v : AbstractValue} (o : HasValueOf (suc m) i k v) →
       ValueOf p (Allows p) (AllowsCode p) m i o.within k v

@@ -355,7 +355,7 @@ pub place_none : (x : Name) (xs : List Name) → place_of x xs ≡ None → Stan
 place_none x [] e s = absurd cc
 place_none x (y ∷ ys) e s = none_on x y ys (bytes_eq x y) refl e (place_none x ys) s.0 s.1
 
--- a field of a name stands at the name's place
+-- a field with a name is at the name's place
 pub field_there : (gs : List (Named ValueSyntax)) (x : Name) (j : ℕ) → place_of x (field_names (map member_of gs)) ≡ Some j →
     j < length gs
 field_there gs x j e =
@@ -387,7 +387,7 @@ placed k cs fs ps a = record { placed = a.placed; may = λ i c e f. may i c e f 
         absurd (a.complete c.name
         (record { part = c; there = (i, e); named = refl; needed = q; none = place_none c.name fs none }))
 
--- the place of a component's field, and that it may be absent where it has none
+-- the place of a component's field, and that the component may be absent if it has no place
 pub place_at : (cs : List Part) (fs : List Name) (ps : List (Option ℕ)) (i : ℕ) (c : Part) (d : Option ℕ) → ArePlaced cs fs ps →
     slice_get cs i ≡ Some c → i < length ps →
     (get_or ps i d ≡ place_of c.name fs) × (get_or ps i d ≡ None → may_be_absent c ≡ true)
@@ -423,7 +423,7 @@ has_room levels left a b cause.Outside = (a, b)
 more_than_none : (n : ℕ) → suc n ≡ 0 → ⊥
 more_than_none n e = omega (arith, e)
 
--- a fault that is the notation's own, where a level and a node are left
+-- a fault of the notation itself, with a level and a node left
 pub room_fault : {p : Program} {levels left : ℕ} {os : List ℕ} {M : Name} {i : ℕ} {n : Tree} (f : ValueFault) →
     f.at.within.now ≡ M → f.at.ty.index ≡ i → tree_of f.at.notation.now ≡ n →
     (levels ≡ 0 → ⊥) → (left ≡ 0 → ⊥) →
@@ -451,7 +451,7 @@ pub value_as : {p : Program} {levels before after i : ℕ} {os : List ℕ} {M : 
 value_as {p} {levels} {before} {after} {i} {os} {M} {n} e h =
     subst (λ (x : AbstractValue). Means p levels before after os M i n x) e h
 
--- a list's elements, one behind the other
+-- a list's elements, one after another
 pub row_wrong : {p : Program} {levels before between : ℕ} {os ps : List ℕ} {M : Name} {a : ℕ} {f : ValueFault}
     (vs : List Value) (xs : List ValueSyntax) (i : ℕ) (x : ValueSyntax) →
     i < length xs → x ≡ get_or xs i x →
@@ -496,7 +496,7 @@ row_none p levels left os M a vs e =
     subst (λ (us : List Value). MeanRow p levels left left os M a [] (row_of_list (map abstract us))) (sym e)
     (none_yet p levels os M a left)
 
--- components, one behind the other
+-- components, one after another
 wrong_as : {p : Program} {levels left : ℕ} {os ps : List ℕ} {K N : Name} {fs : List (Name × Tree)} {c : Part} {f : ValueFault} →
     ps ≡ os → IsWrongField p levels left ps K N fs c f → IsWrongField p levels left os K N fs c f
 wrong_as {p} {levels} {left} {os} {ps} {K} {N} {fs} {c} {f} e h =

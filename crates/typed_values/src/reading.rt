@@ -595,8 +595,8 @@ fn read_default<'a>(
     }
 }
 
-/// The value that a notation stands for under a type (X.680, clause 17), as [`typed`] returns it, with a table that is
-/// lent. One table serves all notations of the same modules.
+/// The value that a notation stands for under a type (X.680, clause 17), as [`typed`] returns it. The caller gives the
+/// table, and one table serves all notations of the same modules.
 pub fn typed_with<'a>(
     alloc: Global,
     bounded: &Bounded<'a>,

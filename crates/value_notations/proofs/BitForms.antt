@@ -43,7 +43,7 @@ module _ (bs : List (Name × ℕ)) where
   abbrev Misfit : Tree → Type 0
   Misfit n = IsMisfit (simple (a_bit_string bs)) n
 
-  -- ---- where it stands for bits
+  -- ---- a notation of bits
 
   pub binary_bits : (n : Tree) (ds : List ℕ) (s : List Bool)
       → binary_in n ≡ Some ds
@@ -72,7 +72,7 @@ module _ (bs : List (Name × ℕ)) where
   named_bits n ts s e a =
       subst (λ (z : Tree). IsLeaf (a_bit_string bs) z (bits s)) (sym (is_items n ts e)) (leaves.named_bits a.names a.set)
 
-  -- ---- where it stands for none
+  -- ---- a notation of no bits
 
   unknown_in : (ts : Trees) (x : Name) → HasUnknownBit (a_bit_string bs) (items ts) x → IsUnknownBit bs x ts
   unknown_in ts x u =

@@ -1,4 +1,4 @@
--- References that come round, and those that are lost, have no end.
+-- References that come back to themselves, and those that are lost, have no end.
 use Rattle.std.proofs.Common.{ℕ, List, sym, subst, Option}
 use Rattle.trees.specs.Values.{Name, Tree, reference}
 use Rattle.names.specs.declared.scope.Assigned.TheVariants as assigned

@@ -29,7 +29,7 @@ use Rattle.value_notations.proofs.Following.{one_kind, sound_kind, one_last}
 use Rattle.value_notations.proofs.Circles.{lost_without_end, round_without_end}
 use Rattle.value_notations.proofs.SameValue.{IsKept, carried, distinct_fields, one_field}
 
--- what a notation stands for under the kind of its type, behind its references
+-- the value of a notation under the kind of its type, after its references
 at_last : {p : Program} {os ps : List ℕ} {M K : Name} {i : ℕ} {n l : Tree} {k : Kind} {v : AbstractValue}
     → IsKept p
     → IsOfKind p.types i k
@@ -121,7 +121,7 @@ choice_value {p} {os} {K} {e} {cs} {x} {m} {c} d s f (family.of_choice {c = b} {
     let parts = one_some (slice_get cs s.0) b c (subst (λ (z : ℕ). slice_get cs z ≡ Some b) places g) s.1 in
     (w, subst (λ (z : Part). Notation p os K z.ty m w) parts h)
 
--- what stands in a notation that stands for a value stands for one
+-- a notation in one of a value is that of a value
 pub read_value : {p : Program} {os qs : List ℕ} {M K : Name} {i j : ℕ} {n m : Tree} {v : AbstractValue}
     → IsKept p
     → IsRead p os M i n qs K j m

@@ -1,4 +1,4 @@
--- What a notation tells by its form where it stands for a value, and the other way round.
+-- What the form of a notation says of its value, and the other way round.
 use Rattle.std.proofs.Common.{◌≡◌, ◌∙◌, ℕ, ◌≤◌, ◌<◌, refl, sym, ap, subst, Some, None, Bool, true, false, ℤ, pos, negsuc, arith}
 use Rattle.std.specs.Prelude.{List, [], ◌∷◌, map, length, IsTrue, IsUtf8}
 use Rattle.std.specs.List.{AllByRecursion}
@@ -16,7 +16,7 @@ use Rattle.value_notations.specs.Leaves as leaves
 use Rattle.value_notations.specs.Leaves.{IsLeaf, AreOctets, IsRooted}
 use Rattle.value_notations.specs.proving.Forms.{truth_in, number_in, name_in, binary_in, hex_in, text_in, numbers_in, alone_in, is_null, IsNone}
 
--- ---- where it stands for one
+-- ---- a notation of a value
 
 truth_told : {n : Tree} {v : AbstractValue} → IsLeaf a_boolean n v → truth_in n ≡ None → ⊥
 truth_told leaves.truth e = absurd cc

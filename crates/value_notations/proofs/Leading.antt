@@ -114,7 +114,7 @@ under_none x (e ∷ es) h (zero, s) =
     absurd (let g = sym t ∙ f in cc)
 under_none x (e ∷ es) h (suc i, s) = under_none x es (not_first (bytes_eq x e.0) e.1 (under x es) h).1 (i, s)
 
--- ---- lists behind lists
+-- ---- lists after lists
 
 module _ {X : Type 0} (x : Name) where
   pub name_front : (es fs : List (Name × X)) (i : ℕ)

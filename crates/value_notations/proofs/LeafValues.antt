@@ -1,4 +1,4 @@
--- What stands for a value of a kind that holds no others is one but for constraints.
+-- The value of a notation under a kind without other values in it is one of that kind, apart from constraints.
 use Rattle.std.proofs.Common.{◌≡◌, ◌^◌, ℕ, zero, ◌<◌, ◌≤◌, ◌+◌, ◌*◌, Bool, ℤ, pos, suc, Some, None, option_map, List, [], ◌∷◌, ◌++◌, length, take, drop, refl, sym, ap, ◌∙◌, subst, arith, inl, inr}
 use Rattle.std.specs.Prelude.{◌⊎◌, Option, slice_get, slice_index, replicate}
 use Rattle.std.specs.List.{AllByRecursion}

@@ -211,7 +211,7 @@ set_all ps k s l h g = record {
     all_taken (x ∷ xs) zero l = absurd (omega (arith, l))
     all_taken (x ∷ xs) (suc n) l = ap (λ z. x ∷ z) (all_taken xs n (omega (arith, l)))
 
--- ---- names one behind the other
+-- ---- names, one after another
 
 pub names_step : (bs : List (Name × ℕ)) (xs : List Tree) (ps : List ℕ) (i : ℕ) (n : Tree) (x : Name) (q : ℕ)
     → AreBitNames bs (trees (take i xs)) ps

@@ -13,7 +13,7 @@ some_none o x e f = none-some x (sym f ∙ e)
 pub less_or_more : (i j : ℕ) → (i ≡ j) ⊎ ((i < j) ⊎ (j < i))
 less_or_more i j = grind arith
 
--- what stands at two places of distinct members stands at one
+-- two places of distinct members with the same element are the same
 pub one_place : {A : Type 0} (xs : List A) (x : A) (i j : ℕ)
     → AreDistinct xs
     → slice_get xs i ≡ Some x

@@ -1,4 +1,4 @@
--- Object identifiers: where they begin, and their limit.
+-- Object identifiers: their beginnings, and their limit.
 use Rattle.std.proofs.Common.{◌≡◌, ℕ, ◌<◌, ◌≤◌, arith}
 use Rattle.std.specs.Prelude.{List, [], ◌∷◌, length, slice_index_or}
 use Rattle.value_notations.specs.Leaves.{IsRooted, is_rooted}

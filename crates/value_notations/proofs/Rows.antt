@@ -13,6 +13,6 @@ name = 97 ∷ []
 braces_of_one_named_bit : IsLeaf (a_bit_string ((name, 0) ∷ [])) nothing (bits [])
 braces_of_one_named_bit = no_named_bit (λ e. absurd cc)
 
--- it is none of a BIT STRING without named bits
+-- it isn't the notation of a BIT STRING without named bits
 braces_without_named_bits : IsLeaf (a_bit_string []) nothing (bits []) → ⊥
 braces_without_named_bits (no_named_bit f) = f refl

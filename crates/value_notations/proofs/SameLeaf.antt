@@ -42,7 +42,7 @@ one_list_of_places leaves.no_bit leaves.no_bit = refl
 one_list_of_places {bs} (leaves.bit_and {x = x} {place = a} {places = ps} e h) (leaves.bit_and {place = b} {places = qs} f k) =
     ap (λ z. z ∷ ps) (one_some (under x bs) a b e f) ∙ ap (λ zs. b ∷ zs) (one_list_of_places h k)
 
--- a list is no longer than another one in which the same bits are set
+-- a list isn't longer than another one in which the same bits are set
 not_longer : (places : List ℕ) (s t : List Bool) (n : ℕ)
     → AreSetBits places s
     → AreSetBits places t

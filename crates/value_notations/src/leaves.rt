@@ -1,4 +1,4 @@
-//! The values of types that hold no other types, and why there is none.
+//! The values of types that hold no other types, or why a notation has no such value.
 
 ghost use Rattle.std.specs.Prelude.{◌≡◌, ◌++◌, map, option_map, IfOk, IfErr, MatchResult, MatchOption, Some, slice_get};
 ghost use Rattle.asn_base.specs.Abstract.{abstract, integer as integer', enumerated};

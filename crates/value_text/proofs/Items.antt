@@ -1,4 +1,4 @@
--- The item that has a number, where items ascend.
+-- The item that has a number, if items ascend.
 use Rattle.std.proofs.Common.{arith, ◌≡◌, ℕ, zero, suc, ◌<◌, Bool, true, false, List, [], ◌∷◌, ◌++◌, length, map, inl, inr, refl, sym, ap, subst, ◌∙◌, get_or, Some, None, string_bytes}
 use Rattle.std.specs.Prelude.{ℤ, ◌<ℤ◌, if◌then◌else◌}
 use Rattle.std.specs.List.{AllByRecursion}
@@ -48,7 +48,7 @@ name_at (y ∷ is) (suc i) x z l e n a =
     let behind = at_place item_of (λ j. y.number <ℤ j.number) is i x (drop_at is i x x m e) a.0 in
     other_number (item_of y) (map item_of is) z (λ h. lower y.number x.number behind (h ∙ sym n)) ∙ name_at is i x z m e n a.1
 
--- no item of the root has the number of one behind it
+-- no item of the root has the number of one after the marker
 no_name : (is : List Item) (z : ℤ) → (HasNumber is z → ⊥) → name_with is z ≡ None
 no_name [] z h = refl
 no_name (i ∷ is) z h = other_number i is z (λ e. h (inl e)) ∙ no_name is z (λ g. h (inr g))

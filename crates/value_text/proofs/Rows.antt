@@ -13,10 +13,10 @@ use Rattle.value_text.specs.Print.{print}
 abbrev plain : Kind → Resolved
 plain k = record { tags = []; kind = k }
 
--- 0 BOOLEAN, 1 INTEGER, 2 ENUMERATED {b(-1), a(4), ..., c-d(3)}, 3 BIT STRING, 4 OCTET STRING, 5 NULL,
--- 6 OBJECT IDENTIFIER, 7 RELATIVE-OID, 8 UTF8String, 9 SEQUENCE {a INTEGER OPTIONAL, b BOOLEAN DEFAULT TRUE, c NULL},
--- 10 SET {b BOOLEAN OPTIONAL, a INTEGER}, 11 SEQUENCE OF INTEGER, 12 SET OF SEQUENCE OF INTEGER,
--- 13 CHOICE {a INTEGER, ..., b-c CHOICE's own type}
+-- Types 0 to 5 are BOOLEAN, INTEGER, ENUMERATED {b(-1), a(4), ..., c-d(3)}, BIT STRING, OCTET STRING and NULL. Types 6
+-- to 8 are OBJECT IDENTIFIER, RELATIVE-OID and UTF8String. Type 9 is SEQUENCE {a INTEGER OPTIONAL, b BOOLEAN DEFAULT
+-- TRUE, c NULL}, and type 10 is SET {b BOOLEAN OPTIONAL, a INTEGER}. Type 11 is SEQUENCE OF INTEGER, and type 12 is SET
+-- OF SEQUENCE OF INTEGER. Type 13 is CHOICE {a INTEGER, ..., b-c} with its own type as that of b-c.
 abbrev types : List Resolved
 types = plain a_boolean
     ∷ plain (an_integer any_number)

@@ -1,9 +1,9 @@
--- Steps of loops that add one member's text behind the other.
+-- Steps of loops that add the texts of members, one after another.
 use Rattle.std.proofs.Common.{arith, ◌≡◌, ℕ, zero, suc, ◌+◌, ◌<◌, ◌≤◌, List, [], ◌∷◌, ◌++◌, length, drop, sym, ap, ◌∙◌, append_assoc, codes, get_or}
 use Rattle.std.proofs.Math.Seq.{drop-cons}
 use Rattle.std.proofs.lemmas.List.{append-nil, drop_all}
 
--- what stands before the element at place i
+-- the text before the element at place i
 abbrev pub comma_at : ℕ → List ℕ
 comma_at zero = []
 comma_at (suc i) = codes ", "

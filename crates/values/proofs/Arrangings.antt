@@ -1,4 +1,4 @@
--- Names of fields that are arranged, and those that are not, as the checks find them one behind the other.
+-- Names of fields that are arranged, and those that are not, as the checks find them one after another.
 use Rattle.std.proofs.Common.{◌≡◌, ℕ, List, Some, Option, refl, sym, subst, true, false, arith, take}
 use Rattle.std.specs.Prelude.{slice_get}
 use Rattle.trees.specs.declared.types.ListKind.{ListKind}

@@ -17,7 +17,7 @@ use Rattle.values.specs.Arranged.{place_of}
 
 -- ---- fronts
 
--- what stands in a front stands there in the whole
+-- an element of a front is there in the whole
 pub in_front : {A : Type 0} (xs : List A) (i k : ℕ) (x : A) → slice_get (take i xs) k ≡ Some x → (k < i) × (slice_get xs k ≡ Some x)
 in_front [] zero k x e = absurd (none-some x e)
 in_front [] (suc i) k x e = absurd (none-some x e)
@@ -25,14 +25,14 @@ in_front (y ∷ xs) zero k x e = absurd (none-some x e)
 in_front (y ∷ xs) (suc i) zero x e = (omega arith, e)
 in_front (y ∷ xs) (suc i) (suc k) x e = let h = in_front xs i k x e in let l = h.0 in (omega (arith, l), h.1)
 
--- what stands before the end of a front stands in it
+-- an element before the end of a front is in the front
 pub to_front : {A : Type 0} (xs : List A) (i k : ℕ) (x : A) → k < i → slice_get xs k ≡ Some x → slice_get (take i xs) k ≡ Some x
 to_front [] i k x l e = absurd (none-some x e)
 to_front (y ∷ xs) zero k x l e = absurd (omega (arith, l))
 to_front (y ∷ xs) (suc i) zero x l e = e
 to_front (y ∷ xs) (suc i) (suc k) x l e = to_front xs i k x (omega (arith, l)) e
 
--- a name that stands in a front and behind it stands twice
+-- a name in a front and after it is there twice
 pub twice_of : (xs : List Name) (i : ℕ) (x : Name) → slice_get xs i ≡ Some x → StandsIn (take i xs) x → StandsTwice xs x
 twice_of xs i x e s =
     let h = in_front xs i s.0 x s.1 in
@@ -81,7 +81,7 @@ module _ (x : Name) where
 
 -- ---- what the first place is
 
--- the first place of a name that stands at place i
+-- the first place of a name at place i
 pub record IsFirst (x : Name) (xs : List Name) (i : ℕ) : Type 0 where
   pub place : ℕ
   pub is : place_of x xs ≡ Some place
@@ -145,7 +145,7 @@ none_on x xs (Some i) e n = absurd (n (i, place_there x xs i e))
 pub no_place : (x : Name) (xs : List Name) → (StandsIn xs x → ⊥) → place_of x xs ≡ None
 no_place x xs n = none_on x xs (place_of x xs) refl n
 
--- where each name stands first at its own place, none stands twice
+-- if the first place of each name is its own, no name is there twice
 pub distinct_firsts : (xs : List Name) → ((i : ℕ) (x : Name) → slice_get xs i ≡ Some x → place_of x xs ≡ Some i) →
     AreDistinct xs
 distinct_firsts xs f x t =
@@ -155,11 +155,11 @@ distinct_firsts xs f x t =
     let same : t.first ≡ t.second = same_Some t.first t.second (sym a ∙ b) in
     absurd (omega (arith, same, l))
 
--- a name that stands first before a place stands in the front up to there
+-- a name whose first place is before a place is in the front up to there
 pub before_place : (xs : List Name) (i j : ℕ) (x : Name) → place_of x xs ≡ Some j → j < i → StandsIn (take i xs) x
 before_place xs i j x f l = (j, to_front xs i j x l (place_there x xs j f))
 
--- a name that doesn't stand first before its place stands first there
+-- a name whose first place isn't before its own has its own as the first
 pub first_itself : (xs : List Name) (i j : ℕ) (x : Name) → slice_get xs i ≡ Some x → place_of x xs ≡ Some j → i ≤ j →
     place_of x xs ≡ Some i
 first_itself xs i j x e f l =
@@ -206,7 +206,7 @@ known_all cs fs i l a x s = let w = slice_get_within fs s.0 x s.1 in a s.0 (omeg
 pub known_before : (cs fs : List Name) (i : ℕ) → AreKnown cs fs i → AreIn (take i fs) cs
 known_before cs fs i a x s = let h = in_front fs i s.0 x s.1 in a s.0 h.0 x h.1
 
--- the first i fields stand first at their places
+-- the first i fields are each at the first place of their names
 abbrev pub AreFirst : List Name → ℕ → Type 0
 AreFirst fs i = (k : ℕ) → k < i → (x : Name) → slice_get fs k ≡ Some x → place_of x fs ≡ Some k
 
@@ -251,7 +251,7 @@ places_more ps f cs i c l e h =
         let q : suc i + 1 ≡ suc (i + 1) = omega arith in
         ap (λ qs. f d ∷ qs) (mapped_more f cs i c e) ∙ ap (λ k. map f (take k (d ∷ cs))) (sym q)
 
--- what the first place tells
+-- what the first place means
 pub place_told : (x : Name) (xs : List Name) (o : Option ℕ) → o ≡ place_of x xs →
     MatchOption o (StandsIn xs x → ⊥) (λ i. slice_get xs i ≡ Some x)
 place_told x xs None e = place_none x xs (sym e)

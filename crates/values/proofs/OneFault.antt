@@ -1,4 +1,4 @@
--- At most one fault of names stands, want of memory apart.
+-- At most one fault of names is true, apart from `Memory`.
 use Rattle.std.proofs.Common.{◌≡◌, ◌<◌, inl, inr, ℕ, List, Some, refl, sym, subst, ap, take, arith}
 use Rattle.std.specs.Prelude.{slice_get}
 use Rattle.trees.specs.declared.types.ListKind.{ListKind}
@@ -14,7 +14,7 @@ use Rattle.values.specs.declared.arranging.NamesFault.TheVariants.{Memory, Unkno
 use Rattle.values.proofs.Lookups.{in_front, to_front}
 use Rattle.values.proofs.Orders.{less_or_more, not_both, part_before}
 
--- what is neither before nor behind is the same
+-- a place that is neither before nor after another is the same
 neither : (i j : ℕ) → (i < j → ⊥) → (j < i → ⊥) → i ≡ j
 neither i j l m = elim (less_or_more i j) [
   | inl e ↦ e
@@ -24,7 +24,7 @@ neither i j l m = elim (less_or_more i j) [
   ]
 ]
 
--- ---- what a fault tells of all names
+-- ---- what a fault says of all names
 
 strange_known : {k : ListKind} {cs : List Part} {fs : List Name} {x : Name} →
     IsDisarranged k cs fs (unknown_item x) → AreIn fs (part_names cs) → ⊥
@@ -70,7 +70,7 @@ behind_there {z = z} (jumbled a d m n h b o) (lacking e f g) = m z g
 behind_there {z = z} (jumbled a d m n h b o) (lacking_in_group e f g) = n z g
 
 module _ (k : ListKind) (cs : List Part) (fs : List Name) where
-  -- ---- of two faults of a kind neither stands before the other
+  -- ---- of two faults of a kind neither is before the other
 
   wrong_later : (i j : ℕ) → IsWrongField k cs fs i → IsWrongField k cs fs j → i < j → ⊥
   wrong_later i j a b l = strange_name a.wrong (b.known_before a.name (i, to_front fs j i a.name l a.there))

@@ -12,7 +12,7 @@ pub part_none : {A : Type 0} (cs : List A) → IsPartOf [] cs
 part_none [] = none_left
 part_none (c ∷ cs) = left_out (part_none cs)
 
--- one more member, behind the others
+-- one more member, after the others
 pub part_more : {A : Type 0} {us : List A} (cs : List A) (m p : ℕ) (x : A) → IsPartOf us (take m cs) → m ≤ p →
     slice_get cs p ≡ Some x → IsPartOf (us ++ x ∷ []) (take (suc p) cs)
 part_more [] m p x h l e = absurd cc
@@ -55,7 +55,7 @@ part_before (suc i) (suc j) y x (taken {x = c} h) l e f = later c (part_before i
 pub less_or_more : (i j : ℕ) → (i ≡ j) ⊎ ((i < j) ⊎ (j < i))
 less_or_more i j = grind arith
 
--- what stands at two places of distinct members stands at one
+-- two places of distinct members with the same element are the same
 pub one_place : {A : Type 0} (xs : List A) (x : A) (i j : ℕ) → AreDistinct xs → slice_get xs i ≡ Some x →
     slice_get xs j ≡ Some x → i ≡ j
 one_place xs x i j d e f =
@@ -67,7 +67,7 @@ one_place xs x i j d e f =
       ]
     ]
 
--- of two distinct names one stands before the other
+-- of two distinct names one is before the other
 pub not_both : {cs : List Name} (x y : Name) → AreDistinct cs → IsBefore cs x y → IsBefore cs y x → ⊥
 not_both {cs} x y d t b =
     let p = one_place cs y b.first t.second d b.here t.there in
@@ -76,7 +76,7 @@ not_both {cs} x y d t b =
     let m = t.apart in
     omega (arith, p, q, l, m)
 
--- the order is kept where one name doesn't stand directly behind another that goes behind it
+-- the order is kept if no name comes directly before one that belongs before it
 pub turned_none : {cs fs : List Name} {i : ℕ} → AreDistinct cs → IsJumbled cs fs i → IsPartOf fs cs → ⊥
 turned_none {cs} {fs} {i} d u h =
     let n = u.next in
@@ -85,7 +85,7 @@ turned_none {cs} {fs} {i} d u h =
 
 -- ---- the walk over fields
 
--- The first i fields are in order, and the component of the last of them stands at this place.
+-- The first i fields are in order, and the component of the last of them is at this place.
 pub record IsReached (cs fs : List Name) (i last : ℕ) : Type 0 where
   pub before : ℕ
   pub next : i ≡ suc before

@@ -1,4 +1,5 @@
--- Of values of a later version that are alike the earlier type keeps values that are, and leaves as many components out.
+-- Of values of a later version that are alike the earlier type keeps values that are, and leaves as many components
+-- out.
 use Rattle.std.proofs.Common.{arith, ◌≡◌, ℕ, suc, ◌+◌, true, false, List, [], ◌++◌, refl, sym, ap, subst, ◌∙◌}
 use Rattle.std.specs.Prelude.{slice_get}
 use Rattle.asn_base.specs.Abstract.{AbstractValue, fields, list, alternative, Row, end, present}

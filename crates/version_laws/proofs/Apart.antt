@@ -15,7 +15,7 @@ use Rattle.version_laws.proofs.Beside.{members_are, later_within, types, AreAddi
 pub nothing : {A : Type 0} {x : A} → None ≡ Some x → ⊥
 nothing e = cc
 
--- ---- what stands at a place
+-- ---- what is at a place
 
 pub there : {A : Type 0} (xs : List A) (i : ℕ) → i < length xs → (x : A) × (slice_get xs i ≡ Some x)
 there [] i l = absurd (omega arith)
@@ -84,7 +84,7 @@ same_choice s s' u u' n schema l i e (later_choice {root = root} {others = other
       type = has_type s' b.0.type (all_at (λ z. HasTag s' z.type) (others ++ all) n sound.types b.1);
     }
 
--- what can stand first before a value of the earlier type can before one of the later one
+-- a tag that can be first in a value of the earlier type can be first in one of the later type
 pub later_first : {s s' : List Resolved} {u u' : ℕ} {g : Tag} → IsSchema s' → Later s u s' u' → HasType s' u' → First s u g → First s' u' g
 later_first {s' = s'} {u' = u'} schema l h (first_tag {g = g} {ts = ts} {k = k} i) =
     let e = l [] _ _ _ _ refl refl i.found h.1 in

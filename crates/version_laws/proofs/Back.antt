@@ -1,5 +1,5 @@
--- What the earlier type keeps of a value that was widened is the value; and what is widened of what it keeps of a value
--- of which it leaves nothing out is that value.
+-- The earlier type keeps of a widened value that value. If it leaves nothing out of a value, what it keeps is widened
+-- to that value.
 use Rattle.std.proofs.Common.{arith, ◌≡◌, ℕ, suc, ◌<◌, ◌≤◌, List, [], ◌∷◌, ◌++◌, length, map, refl, sym, ap, subst, ◌∙◌}
 use Rattle.std.specs.Prelude.{slice_get, Some, None}
 use Rattle.std.specs.List.{AllByRecursion}
@@ -179,7 +179,7 @@ leaf_again s s' t t' (fits_restricted a b) = refl
 
 module _ (s s' : List Resolved) where
   mutual
-    -- the later value first, which tells the shape
+    -- the later value first, which gives the shape
     pub again : {t t' n m : ℕ} {e : AbstractValue} → Later s t s' t' → ValueIn s' m t' e → ValueIn s n t (kept s t e) → left_out s t e ≡ 0 → widened s' t' (kept s t e) ≡ e
     again {t} {t'} l (value_in j y) (value_in i x) z =
         again_of t t' (members_are i) (members_are j) (later_members l i j) (later_here l i j).kind y x z

@@ -1,4 +1,4 @@
--- An encoding is a header with a first tag of its type, and as many octets as it tells.
+-- An encoding is a header with a first tag of its type, and as many octets as it announces.
 use Rattle.std.proofs.Common.{arith, ◌≡◌, ℕ, ◌≤◌, Bool, true, List, [], ◌∷◌, ◌++◌, length, refl, sym, subst}
 use Rattle.asn_base.specs.declared.tag.Tag.{Tag}
 use Rattle.asn_base.specs.Abstract.{AbstractValue}

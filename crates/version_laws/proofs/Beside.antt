@@ -37,7 +37,7 @@ types cs = map (λ c. c.type) cs
 abbrev pub AreAdditions : List Component → Type 0
 AreAdditions ds = AllByRecursion (λ d. is_addition d ≡ true) ds
 
--- components of the earlier version beside those of the later one, behind which additions stand
+-- components of the earlier version beside those of the later one, after which there are additions
 pub data Beside (s s' : List Resolved) : List Component → List Component → Type 0 where
   appended : {ds : List Component} → AreAdditions ds → Beside s s' [] ds
   beside : {c d : Component} {cs ds : List Component}
@@ -81,7 +81,7 @@ all_member P [] a m = elim m [ ]
 all_member P (y ∷ ys) a is_first = a.0
 all_member P (y ∷ ys) a (is_later m) = all_member P ys a.1 m
 
--- ---- what must stand
+-- ---- what must be present
 
 abbrev need : Presence → Bool
 need p = elim p [ mandatory ↦ true | optional ↦ false | default d ↦ false | addition o g ↦ false ]

@@ -9,7 +9,7 @@ use Rattle.version_laws.specs.Widened.{all_absent, widened_row}
 use Rattle.version_laws.proofs.Beside.{types, Beside, appended, beside}
 use Rattle.version_laws.proofs.Apart.{nothing}
 
--- ---- what stands at a place of a row
+-- ---- what is at a place of a row
 
 abbrev IsPresentAt : Row → ℕ → Type 0
 IsPresentAt end i = ⊥
@@ -108,7 +108,7 @@ before_or_behind i zero = inr (omega arith)
 before_or_behind zero (suc n) = inl (omega arith)
 before_or_behind (suc i) (suc n) = elim (before_or_behind i n) [ inl l ↦ inl (omega (arith, l)) | inr l ↦ inr (omega (arith, l)) ]
 
--- an addition that must stand where its group does is one of the earlier version too, in whatever group
+-- an addition that must be present if its group is has the same in the earlier version, in some group
 must_stand : {s : List Resolved} {t : ℕ} {p q : Presence} (g h : ℕ) → IsMarkedAlike s t p q → q ≡ addition false (Some g) → group_of p ≡ Some h → p ≡ addition false (Some h)
 must_stand g h both_mandatory e f = absurd (cc)
 must_stand g h both_optional e f = absurd (cc)

@@ -1,5 +1,5 @@
--- A value of an earlier version, widened, is one of the later type; values that are alike are, widened, alike; and what
--- octets say of a value of the earlier version they say of what it is, widened.
+-- A widened value of an earlier version is one of the later type. Values that are alike are alike when they are
+-- widened. Octets that encode a value of the earlier version encode the widened one under the later type.
 use Rattle.std.proofs.Common.{arith, ◌≡◌, ℕ, zero, suc, ◌<◌, ◌≤◌, inl, inr, ℤ, pos, true, false, List, [], ◌∷◌, ◌++◌, length, refl, sym, ap, subst, ◌∙◌}
 use Rattle.std.specs.Prelude.{slice_get, Some}
 use Rattle.std.specs.List.{AllByRecursion}

@@ -121,7 +121,7 @@ pub record SaysWithin (s : List Resolved) (t : ℕ) (w : AbstractValue) (n : ℕ
   pub says_it : Says s Basic t w n o
   pub few : levels says_it ≤ m
 
--- all that stand behind the components of the earlier version are rests
+-- all encodings after the components of the earlier version are rests
 record AreRests (s' : List Resolved) (s : List Resolved) (ds : List Component) (ws : Row) (xs : List (List ℕ)) (m : ℕ) : Type 0 where
   counted : length xs ≡ left_out_of_row s [] ws
   some : 1 ≤ length xs → 1 ≤ m

@@ -1,4 +1,4 @@
--- Octets that are read as a value are an encoding, as messages tell it.
+-- Octets that are read as a value are an encoding, in the words of messages.
 use Rattle.std.proofs.Common.{ℕ, ◌≤◌, List, length}
 use Rattle.asn_base.specs.Abstract.{AbstractValue}
 use Rattle.asn_base.specs.Types.{Resolved}

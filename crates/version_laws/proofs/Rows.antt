@@ -1,5 +1,5 @@
--- Worked rows of what a value of an earlier version is under a later type. Beside those that hold stand some that must
--- not.
+-- Worked rows: what a value of an earlier version is under a later type. For each row that holds there are others that
+-- must not hold.
 use Rattle.std.proofs.Common.{arith, lit<, ◌≡◌, ℕ, ◌<◌, pos, true, false, List, [], ◌∷◌, refl, ap}
 use Rattle.std.specs.Prelude.{None}
 use Rattle.asn_base.specs.declared.tag.Class.TheVariants.{Universal}
@@ -16,8 +16,8 @@ universal n h k = record { class = Universal; number = n; in_range = h; not_rese
 abbrev component : ℕ → Presence → Component
 component t p = record { name = []; type = t; presence = p }
 
--- a BOOLEAN, an INTEGER, a SEQUENCE {BOOLEAN, ..., INTEGER}, a SEQUENCE OF it, a CHOICE {BOOLEAN, ..., that SEQUENCE},
--- and a SET {that SEQUENCE OPTIONAL, ..., the SEQUENCE OF, the CHOICE}
+-- The types are a BOOLEAN, an INTEGER, a SEQUENCE {BOOLEAN, ..., INTEGER}, and a SEQUENCE OF it. Then come a CHOICE
+-- {BOOLEAN, ..., that SEQUENCE} and a SET {that SEQUENCE OPTIONAL, ..., the SEQUENCE OF, the CHOICE}.
 abbrev later : List Resolved
 later =
     record { tags = universal 1 (lit< tt) (lit< tt) ∷ []; kind = a_boolean }
@@ -97,7 +97,7 @@ not_one_of_two e = let h : 3 ≡ 2 = ap many e in omega (arith, h)
 none_of_no_types : all_absent [] ≡ end
 none_of_no_types = refl
 
--- a row that is too long is none of an earlier version: what has no type goes
+-- a row that is too long isn't one of an earlier version: what has no type goes
 too_long : widened later 2 (fields (present yes (absent (present yes end)))) ≡ behind
 too_long = refl
 

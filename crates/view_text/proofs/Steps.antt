@@ -1,4 +1,4 @@
--- Steps of loops that add one member's text behind the other.
+-- Steps of loops that add the texts of members, one after another.
 use Rattle.std.proofs.Common.{arith, ◌≡◌, ℕ, zero, suc, ◌+◌, ◌*◌, ◌<◌, ◌≤◌, Bool, List, [], ◌∷◌, ◌++◌, length, drop, map, refl, sym, ap, subst, ◌∙◌, append_assoc, get_or, Option, Some, None, string_bytes, codes}
 use Rattle.std.specs.List.{AllByRecursion}
 use Rattle.std.proofs.Math.Seq.{drop-cons}
@@ -149,7 +149,7 @@ module _ (s : List Resolved) (cs : List Component') (vs : List (Option AbstractV
         ∙ ap (λ l. print_fields s (map component_of (c ∷ drop (i + 1) cs)) (comma_behind first) (row_of_options l)) (member ∙ ap (λ o. o ∷ drop (i + 1) vs) is) in
         ap (λ l. out ++ l) (sym d) ∙ so_far
 
-  -- components behind those of the value are left out
+  -- components after those of the value are left out
   pub behind_step : length vs ≤ i → out ++ print_fields s (map component_of (drop (i + 1) cs)) (comma_behind first) (row_of_options (drop (i + 1) vs)) ≡ total
   behind_step le =
       let e : drop i vs ≡ [] = none_left vs i le in

@@ -1,4 +1,4 @@
-//! The text of a view, straight from its nodes: just what is printed of the value that it shows.
+//! The text of a view, straight from its nodes. It is the text that is printed for the value of the view.
 #![tactic(auto)]
 
 mod members;

@@ -1,4 +1,4 @@
-//! Components are taken in order of definition from members in the order of the message.
+//! Components in the order of definition, from members in the order of the message.
 
 ghost use Rattle.std.specs.Prelude.{◌≡◌, ◌≤◌, IfSome, MatchOption, None, Some};
 ghost use Rattle.view_text.specs.Members.{IsBehind};
@@ -7,9 +7,9 @@ ghost use Rattle.views.specs.Tree.{Members, Tree, component};
 
 use views::{Part, Parts};
 
-/// The component with a number, None where it is absent, and members among which those with greater numbers are found.
-/// Where it is the first of the members, as all are in the order of a SEQUENCE, it is found at once, else in time with
-/// the number of the members.
+/// The component with a number, or None if it is absent, and members that contain those with greater numbers. If the
+/// component is the first member, as in a SEQUENCE, it is found at once. Otherwise the time is linear in the number of
+/// members.
 pub(crate) fn taken<'v, 'a>(
     members: &Parts<'v, 'a>,
     number: u32,

@@ -19,7 +19,7 @@ use value_text::names::{alternative_at, components, item_name};
 use value_text::string::append_string;
 use views::{Part, Parts, Shown};
 
-/// The text of the value that a part shows is added.
+/// Adds the text of the value that a part shows.
 #[cycle(printing)]
 pub(crate) fn print_part(
     schema: &Schema,
@@ -65,7 +65,7 @@ pub(crate) fn print_part(
     }
 }
 
-/// The components that are present of so many, each with its name, and commas between.
+/// Adds the present components among the first `size` ones, each after its name, with commas between them.
 #[cycle(printing)]
 fn print_fields(
     schema: &Schema,
@@ -103,7 +103,7 @@ fn print_fields(
     Ok(())
 }
 
-/// The elements with commas between.
+/// Adds the elements with commas between them.
 #[cycle(printing)]
 fn print_elements(
     schema: &Schema,

@@ -13,9 +13,9 @@ use std::alloc::{AllocError, Global};
 use value_text::Fault;
 use views::View;
 
-/// The text of the value that a view shows, straight from its nodes; whether it is a value of the type is not asked:
-/// for a view that was read as one of the type. Where it is none, names that the type lacks are left out. It takes no
-/// memory but for the text, and is refused for memory alone.
+/// The text of the value that a view shows, straight from its nodes. The function doesn't check that the value is one
+/// of the type, so the view should be one of a message of that type. If the value isn't one, names that the type lacks
+/// are left out. `AllocError` only if an allocation fails; no memory but that for the text is needed.
 pub fn print_shown(
     alloc: Global,
     schema: &Schema,
@@ -33,11 +33,12 @@ pub fn print_shown(
     Ok(out)
 }
 
-/// The text of the value that a view shows, a value of type `id`: just what `value_text::print` answers for that value.
+/// The text of the value that a view shows, under type `id`. It is the text that `value_text::print` gives for that
+/// value.
 ///
-/// - `NotOfType`: only where it is no value of the type.
-/// - `Memory`: more memory was asked for and refused. Whether the value is one of the type is asked of a copy, which is
-///   let go before the text is made.
+/// - `NotOfType`: only if the value isn't one of the type.
+/// - `Memory`: an allocation failed. Whether the value is one of the type is checked with a copy, which is freed before
+///   the text is made.
 pub fn print_view(
     alloc: Global,
     schema: &Schema,
@@ -45,14 +46,14 @@ pub fn print_view(
     view: &View<'_>,
 ) -> Result<String, Fault>
     requires tree { (t : Tree) × IsView view.now t }
-    // What is printed is a value of the type.
+    // A printed value is one of the type.
     ensures value { (t : Tree)
         → IsView view.now t
         → IfOk result (λ s. IsValue schema.now id.index (value_of t)) }
     ensures text { (t : Tree)
         → IsView view.now t
         → IfOk result (λ s. string_bytes s ≡ print schema.now id.index (value_of t)) }
-    // It is refused as no value only where it is none.
+    // After `NotOfType` the value isn't one of the type.
     ensures not_of_type { (t : Tree)
         → IsView view.now t
         → IsErrOf result Fault.NotOfType

@@ -19,7 +19,7 @@ one_more n l = omega arith
 of_kind : {s : List Resolved} {n t : ℕ} {r : Resolved} {v : AbstractValue} → slice_get s t ≡ Some r → ValueOf s n r.kind v → ValueIn s (suc n) t v
 of_kind {r = r} e a = value_in {tags = r.tags} (record { found = e }) a
 
--- type t is, behind its tags, of this kind
+-- type t has this kind after its tags
 abbrev HasCore : List Resolved → ℕ → Core → Type 0
 HasCore s t r = (tags : List Tag) × (slice_get s t ≡ Some (record { tags = tags; kind = kind_of r }))
 

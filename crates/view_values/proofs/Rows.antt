@@ -49,7 +49,8 @@ one_component : {s : List Resolved} {n : ℕ} {c : Component} {cs : List Compone
 one_component None os h a = component_absent h a
 one_component (Some v) os h a = component_present h a
 
--- components before place i are of a value: where those from there on are, all are; members with their numbers are left
+-- The components before place i are those of a value: if those from there on are, all are. The members with their
+-- numbers are left.
 pub record Judged (s : List Resolved) (n : ℕ) (cs : List Component') (size : ℕ) (ms : Members) (i : ℕ) (left : Parts) : Type 0 where
   pub rest : Members
   pub are : AreParts left rest

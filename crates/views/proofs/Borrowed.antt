@@ -23,7 +23,7 @@ closed_borrowed m b c w ws t a d =
     subst (λ q. IsBorrowedSoFar m q) (sym d.closed)
     (record { here = joined_borrowed m w.before (member w.number t no_member) waits.0 (tree, tt); waits = waits.1 })
 
--- what stands in an option
+-- the value in an option, or d
 abbrev held : {A : Type 0} → A → Option A → A
 held d None = d
 held d (Some x) = x

@@ -57,7 +57,7 @@ by_bool : (b : Bool) → (b ≡ true) ⊎ (b ≡ false)
 by_bool true = inl refl
 by_bool false = inr refl
 
--- v is put where nothing stands
+-- v is put at an empty place
 pub put_there : (os : List (Option AbstractValue)) (k : ℕ) (v : AbstractValue) → k < length os → get_or os k None ≡ None → IsPut os k v (slice_set os k (Some v))
 put_there os k v h none = record {
   as_many = length-set os k (Some v);
@@ -76,7 +76,7 @@ put_there os k v h none = record {
     true_false : true ≡ false → ⊥
     true_false e = cc
 
--- nothing is put where there is no such place, or something stands there
+-- nothing is put if there is no such place, or if the place isn't empty
 pub put_nowhere : (os : List (Option AbstractValue)) (k : ℕ) (v : AbstractValue)
     → ((i : ℕ) → k ≡ i → i < length os → (u : AbstractValue) × (get_or os k None ≡ Some u))
     → IsPut os k v os
@@ -92,7 +92,7 @@ put_nowhere os k v some = record {
   ];
 }
 
--- so far so many places are filled, with what stands before the members that are left
+-- n places are filled so far, before the members that are left
 pub record AreFilled (n : ℕ) (all left : Members) (os : List (Option AbstractValue)) : Type 0 where
   pub as_many : length os ≡ n
   pub each : (i : ℕ) → i < n → component_value all i ≡ or_else (get_or os i None) (component_value left i)

@@ -1,4 +1,4 @@
--- Nodes are read from the front: a member and what stands behind it.
+-- Nodes are read from the front: a member, and what follows it.
 use Rattle.std.proofs.Common.{arith, ◌≡◌, ℕ, zero, suc, ◌+◌, ◌-◌, ◌<◌, ◌≤◌, List, [], ◌∷◌, ◌++◌, length, map, take, drop, get_or, refl, sym, ap, subst, ◌∙◌, length-append}
 use Rattle.std.specs.List.{slice_range, AllByRecursion}
 use Rattle.std.proofs.lemmas.List.{take-map, drop-map, length-drop}
@@ -147,7 +147,7 @@ none_left s ns at left l h = by left (sym (ap (nodes_of s) (drop_all at ns h)) �
         none : (xs ys : List Node) (x : Node) → [] ≡ (x ∷ xs) ++ ys → ⊥
         none xs ys x e = cc
 
--- ---- the first node of a tree tells what it is
+-- ---- the first node of a tree determines its kind
 
 -- the node at the front
 pub front_is : (s : Beside) (ns : List Node') (k : ℕ) (t : Tree) (n : Node') → Spell s ns k t → n ≡ get_or ns 0 n → node_of s n ∷ nodes_of s (drop 1 ns) ≡ nodes k t
@@ -202,7 +202,7 @@ next_of s ns at n left end l h is e =
       behind = left_behind s ns at n left end l f e;
     }
 
--- ---- what is told is inverted
+-- ---- the tree of each kind of node
 
 pub told_fields : (s : Beside) (below : List Node') (w : Told) (t : Tree) (size e : ℕ) → TellsOf s below w t → w ≡ some_fields size e → (ms : Members) × SpellMembers s below ms × (t ≡ fields size ms)
 told_fields s below w t size e tells_leaf f = absurd (cc)
@@ -236,7 +236,7 @@ told_leaf s below w t l (tells_fields p) f = absurd (cc)
 told_leaf s below w t l (tells_list p) f = absurd (cc)
 told_leaf s below w t l (tells_alternative p) f = absurd (cc)
 
--- a tree of which a leaf is told is that leaf
+-- a tree whose node is a leaf is that leaf
 pub leaf_is : (s : Beside) (below : List Node') (w : Told) (t : Tree) (l : Leaf) → TellsOf s below w t → w ≡ a_leaf l → t ≡ leaf l
 leaf_is s below w t l (tells_leaf {l = m}) f = ap leaf (ap leaf_or f)
   where
@@ -247,7 +247,7 @@ leaf_is s below w t l (tells_fields p) f = absurd (cc)
 leaf_is s below w t l (tells_list p) f = absurd (cc)
 leaf_is s below w t l (tells_alternative p) f = absurd (cc)
 
--- what tells of no others is a leaf
+-- a node without others is a leaf
 pub leaf_shown : {v : AbstractValue} (s : Beside) (below : List Node') (w : Told') (t : Tree)
     → TellsOf s below (told_of s w) t
     → ((size e : ℕ) → w ≡ told.Fields size e → ⊥)
@@ -279,7 +279,7 @@ leaf_shown s below w t p f g h shown = by w p f g h shown
     by (told.Oid i j) p f g h shown = let q = told_leaf s below _ t _ p refl in shown q.0 q.1 ∙ ap value_of (sym q.2)
     by (told.RelativeOid i j) p f g h shown = let q = told_leaf s below _ t _ p refl in shown q.0 q.1 ∙ ap value_of (sym q.2)
 
--- the members of a tree stand behind its first node
+-- the members of a tree follow its first node
 pub members_fields : (s : Beside) (ns : List Node') (k : ℕ) (t : Tree) (w : Told) (size e : ℕ) → Spell s ns k t → TellsOf s (drop 1 ns) w t → w ≡ some_fields size e → Left s ns 1 (members_in t)
 members_fields s ns k t w size e p q f =
     let d = told_fields s (drop 1 ns) w t size e q f in

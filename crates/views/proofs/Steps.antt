@@ -13,7 +13,7 @@ use Rattle.views.specs.Building.{Building, Header, open_alternative, Waiting, Cl
 use Rattle.views.specs.Seen.{Beside, told_of, node_of, nodes_of, IsWithin, IsToldWithin, AreWithin, AreBuilt}
 use Rattle.views.proofs.Lists.{range_kept, range_added, get_kept, get_seam, all_joined, all_set, all_at, same_last, same_front}
 
--- more stands beside the nodes
+-- more is beside the nodes
 pub record Grown (a b : Beside) : Type 0 where
   pub octets : (more : List ℕ) × (b.octets ≡ a.octets ++ more)
   pub texts : (more : List (List ℕ)) × (b.texts ≡ a.texts ++ more)
@@ -77,7 +77,7 @@ all_within : (a b : Beside) → Grown a b → (ns : List Node') → AreWithin a 
 all_within a b g [] h = tt
 all_within a b g (n ∷ ns) h = (stays_within a b g n.told h.0, all_within a b g ns h.1)
 
--- what is built stays where more stands beside the nodes
+-- what is built stays if more is put beside the nodes
 pub built_steady : (a b : Beside) (ns : List Node') (hs : List ℕ) (c : Building) → Grown a b → AreBuilt a ns hs c → AreBuilt b ns hs c
 built_steady a b ns hs c g h = record { nodes = nodes_steady a b g ns h.within ∙ h.nodes; within = all_within a b g ns h.within; places = h.places }
 
@@ -131,7 +131,7 @@ opens s ns hs b k h n place a w e l = record {
 
 -- ---- closing
 
--- the node of a tree, with its members behind it
+-- the node of a tree, with its members after it
 closed_nodes : (h : Header) (ms : Members) (t : Tree) (k e : ℕ)
     → Closes h ms t
     → e ≡ length (member_nodes ms) + 1
@@ -142,7 +142,7 @@ closed_nodes h ms t k e (closes_alternative {i = i} {t = u}) l =
     ap (λ q. node k (with_extent (told_open (open_alternative i)) q) ∷ member_nodes ms) l
     ∙ ap (λ q. node k (with_extent (told_open (open_alternative i)) (length q + 1)) ∷ q) (append-nil (nodes 0 u))
 
--- the nodes where one is open
+-- the nodes if one is open
 split_nodes : (s : Beside) (ns : List Node') (b : Building) (w : Waiting) (ws : List Waiting)
     → nodes_of s ns ≡ built_nodes b
     → b.waits ≡ w ∷ ws

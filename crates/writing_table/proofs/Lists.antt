@@ -26,7 +26,7 @@ pub set_end : {A : Type 0} (xs : List A) (x y : A) → set (xs ++ x ∷ []) (len
 set_end [] x y = refl
 set_end (z ∷ xs) x y = ap (λ k. z ∷ k) (set_end xs x y)
 
--- fronts of the same length, and what stands behind one more
+-- fronts of the same length, and what follows one more
 pub same_front : {A : Type 0} (xs ys us vs : List A) (x y : A) → (xs ++ x ∷ []) ++ us ≡ ys ++ (y ∷ vs) → length ys ≡ length xs → (xs ≡ ys) × (us ≡ vs)
 same_front [] [] us vs x y e h = (refl, cc)
 same_front [] (b ∷ ys) us vs x y e h = absurd (omega arith)

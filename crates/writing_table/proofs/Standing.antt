@@ -1,4 +1,4 @@
--- Members in their order stand at places that are a permutation.
+-- Members in their order are at places that are a permutation.
 use Rattle.std.proofs.Common.{◌≡◌, ℕ, zero, suc, ◌+◌, ◌<◌, inl, inr, List, [], ◌∷◌, length, map, set, get_or, eqb, refl, sym, ap, subst, ◌∙◌, arith}
 use Rattle.std.specs.Prelude.{Option, Some, None, slice_get, replicate}
 use Rattle.std.specs.List.{AllByRecursion}
@@ -81,7 +81,7 @@ length_placed : (is : List ℕ) (k : ℕ) (p : List ℕ) → length (placed_from
 length_placed [] k p = refl
 length_placed (i ∷ is) k p = length_placed is (suc k) (set p i k) ∙ length_set p i k
 
--- no number stands twice
+-- no number is there twice
 abbrev Apart : List ℕ → Type 0
 Apart is = (i j x : ℕ) → i < j → slice_get is i ≡ Some x → slice_get is j ≡ Some x → ⊥
 

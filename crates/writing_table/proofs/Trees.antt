@@ -43,7 +43,7 @@ is_state b ps os gs n rs m e f g h i j =
     ∙ ap (λ q. state ps os q b.count b.rows b.members) g ∙ ap (λ q. state ps os gs q b.rows b.members) h
     ∙ ap (λ q. state ps os gs n q b.members) i ∙ ap (λ q. state ps os gs n rs q) j
 
--- numbers that are told
+-- numbers within the bound of the table
 pub record Bound (a : State) : Type 0 where
   pub count_bound : a.count ≤ 16777217
   pub members_bound : a.members ≤ 16777217
@@ -90,7 +90,7 @@ added_twice a ps qs m n k rs ss i j l e f =
 added_none : (a : State) → Bound a → a ≡ added a [] 0 [] 0
 added_none a h = is_state a (a.parts ++ []) a.opened a.groups (told (a.count + 0)) (a.rows ++ []) (told (a.members + 0)) (sym (append-nil a.parts)) refl refl (told_same a.count h.count_bound) (sym (append-nil a.rows)) (told_same a.members h.members_bound)
 
--- what octets and rows are, where they are few enough
+-- the octets and rows, if they are few enough
 pub record Fine (t : Tree) (ps : List Part) (o : List ℕ) (rs : List FlatRow) : Type 0 where
   pub exact : List FlatRow
   pub stands : Told t o exact
@@ -111,7 +111,7 @@ pub record Good (m : Member) (x : List ℕ) : Type 0 where
   pub octets_are : octets_kept m.kept ≡ x
   pub spelled : Spell (parts_kept m.kept) x
 
--- members, and the octets that they have where they are few enough
+-- members, and their octets if these are few enough
 pub data AreMembers : List Member → List Placed → Type 0 where
   no_more : AreMembers [] []
   one_more : {m : Member} {ms : List Member} {p : Placed} {ps : List Placed} → m.rank ≡ p.rank → (length p.octets ≤ 16777216 → Good m p.octets) → AreMembers ms ps → AreMembers (m ∷ ms) (p ∷ ps)
@@ -122,7 +122,7 @@ pub record FineParts (ms : Members) (ps : List Placed) (rs : List FlatRow) : Typ
   pub stand : PartsTold ms ps exact
   pub rows : rs ≡ map told_row exact
 
--- all members were added behind those that the group had
+-- all members were added after those that the group had
 pub record Gathered (ms : Members) (es : List Event) (a : State) (gs : List Group) (g : Group) (c : State) : Type 0 where
   pub placed : List Placed
   pub news : List Member
@@ -164,7 +164,7 @@ spelled_all : (ms : List Member) → AllByRecursion Spelled ms → Spell (parts_
 spelled_all [] h = refl
 spelled_all (m ∷ ms) h = spell_both (parts_kept m.kept) (parts_of ms) (octets_kept m.kept) (concat (encodings_of (map placed_of ms))) h.0 (spelled_all ms h.1)
 
--- ---- where a header closes
+-- ---- closing a header
 
 count_after : (a h n x : ℕ) (f : ℕ → ℕ) → n ≡ told (0 + x) → h ≡ f x → told (a + (f n + n)) ≡ told (a + (h + x))
 count_after a h n x f e i = ⊎_elim
@@ -236,7 +236,7 @@ closed a w e g b k ps x p q rs m i z =
       same = c.same;
     }
 
--- what stands within a header, where it is short enough
+-- what is within a header, if it is short enough
 record Framing (tree t : Tree) (g : Tag) (b : Bool) (k : RowKind) (ps : List Part) (x p q : List ℕ) (rs : List FlatRow) (m : ℕ) : Type 0 where
   spelled : Spell ps x
   exact : List FlatRow
@@ -326,7 +326,7 @@ closing_at a d e g b k i s =
 bound_inside : (a : State) (g : Tag) (b : Bool) (k : RowKind) → Bound (inside a g b k)
 bound_inside a g b k = record { count_bound = omega arith; members_bound = omega arith }
 
--- a header round what has no members to be ordered
+-- a header around what has no members to be ordered
 plain : (g : Tag) (b : Bool) (k : RowKind) (i t : Tree)
     → ((d e : State) → GroupBegins k d e → d ≡ e)
     → ((p q : List ℕ) (d e : State) → GroupEnds k p q d e → NoneEnds p q d e)
@@ -356,7 +356,7 @@ plain g b k i t begins ends inner after es a c s h =
       stands = λ y others j. (p.octets, y, f.exact, others, f.stands, j, refl, refl);
     }) q
 
--- ---- a header round members
+-- ---- a header around members
 
 record Begun (a d : State) (g : Tag) (b : Bool) (k : RowKind) : Type 0 where
   group : Group
@@ -398,7 +398,7 @@ none_sorted : (ms : List Member) → IsPermutation [] ms → ms ≡ []
 none_sorted [] h = refl
 none_sorted (m ∷ ms) h = absurd (let l : length (m ∷ ms) ≡ length {A = Member} [] = length_permutation [] (m ∷ ms) h in omega arith)
 
--- a header of a SET or SET OF round a tree without members
+-- a header of a SET or SET OF around a tree without members
 grouped : (g : Tag) (b : Bool) (k : RowKind) (o : Order) (i t : Tree)
     → ((d e : State) → GroupBegins k d e → MembersBegin d e)
     → ((p q : List ℕ) (d e : State) → GroupEnds k p q d e → ((d.groups ≡ []) × (d ≡ e)) ⊎ MembersEnd o p q d e)

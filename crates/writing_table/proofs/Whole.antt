@@ -1,4 +1,4 @@
--- What the table holds once all events were told.
+-- What the table holds after all events.
 use Rattle.std.proofs.Common.{◌≡◌, ℕ, ◌+◌, ◌<◌, ◌≤◌, List, [], ◌++◌, length, map, sym, ap, subst, ◌∙◌, append-nil, arith}
 use Rattle.asn_base.specs.Types.{Resolved}
 use Rattle.asn_base.specs.Abstract.{AbstractValue}
@@ -22,7 +22,7 @@ pub record Whole (s : List Resolved) (t : ℕ) (v : AbstractValue) (c : State) :
   pub counted_all : length octets ≡ c.count
   pub der : Der s t v 0 octets
 
--- nothing was told yet
+-- nothing was added yet
 pub record Empty (a : State) : Type 0 where
   pub parts : a.parts ≡ []
   pub count : a.count ≡ 0
@@ -79,7 +79,7 @@ whole_rows s t v es a c bounds tells runs none few =
       are = record { within = w; are = rs ∙ f.rows ∙ ap (map told_row) h.rows ∙ small_rows 400 h.account w };
     }
 
--- each account of the value tells as many octets as the table counted
+-- each account of the value gives as many octets as the table counted
 pub longer : (s : List Resolved) (t : ℕ) (v : AbstractValue) (es : List Event) (a c : State)
     → ((o : List ℕ) → Der s t v 0 o → (b : Account) × TellsAccount s t v o b)
     → TellsRows s t v es → Runs es a c → Empty a → 16777216 < c.count → (o : List ℕ) → Der s t v 0 o → 16777216 < length o

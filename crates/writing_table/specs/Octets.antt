@@ -3,7 +3,7 @@ use Rattle.std.specs.Prelude.{ℕ, List, [], ◌∷◌, nat_lt, if◌then◌else
 use Rattle.std.specs.declared.cmp.Ordering.{Ordering}
 use Rattle.std.specs.declared.cmp.Ordering.TheVariants.{Less, Equal, Greater}
 
--- that of the octets behind, unless the first ones differ
+-- the order of two first octets, or order o of the octets after them if they are equal
 abbrev pub first_differs : ℕ → ℕ → Ordering → Ordering
 first_differs x y o = if nat_lt x y then Less else (if nat_lt y x then Greater else o)
 

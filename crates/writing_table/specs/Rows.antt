@@ -1,4 +1,4 @@
--- The rows of an account as the table keeps them.
+-- The rows of an account in the table.
 use Rattle.std.specs.Prelude.{ℕ, suc, Bool, List, [], ◌∷◌, length, map, min, set, replicate}
 use Rattle.asn_base.specs.declared.tag.Tag.{Tag}
 use Rattle.encodings.specs.Account.{Numbers}
@@ -6,7 +6,7 @@ use Rattle.octet_account.specs.Flat.{FlatRow, a_leaf, a_wrap, a_seq, a_seqof, a_
 use Rattle.account_rows.specs.Told.{header_numbers}
 use Rattle.writing_table.specs.declared.table.Member.{Member}
 
--- numbers are told up to one past the most octets that an encoding has
+-- numbers in the table are at most one more than the most octets of an encoding
 abbrev pub told : ℕ → ℕ
 told n = min n 16777217
 
@@ -29,7 +29,7 @@ told_row a_default = a_default
 abbrev pub numbers_in : List Member → List ℕ
 numbers_in = map (λ m. m.number)
 
--- each of these numbers gets the next place
+-- each member in the list gets the next place
 abbrev pub placed_from : List ℕ → ℕ → List ℕ → List ℕ
 placed_from [] j p = p
 placed_from (i ∷ is) j p = placed_from is (suc j) (set p i j)

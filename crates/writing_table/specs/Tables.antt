@@ -1,4 +1,4 @@
--- What a table holds after each event that a routine tells.
+-- The contents of a table after each event of a routine.
 use Rattle.std.specs.Prelude.{◌≡◌, ℕ, ◌+◌, ◌⊎◌, Bool, List, [], ◌∷◌, ◌++◌, length, map, set}
 use Rattle.std.specs.List.Sorted.{IsPermutation}
 use Rattle.std.proofs.Common.{subst, sym}
@@ -24,8 +24,8 @@ use Rattle.octet_account.specs.Seen.{flat}
 use Rattle.account_rows.specs.Told.{header_row, left_row}
 use Rattle.writing_table.specs.Rows.{told, told_numbers, numbers_in, places_by}
 
--- the parts so far, the headers that are open, the SETs and SET OFs that are open, how many octets the parts within the
--- nearest open header have, the rows so far, and how many members stand in that header
+-- The parts and rows so far, and the open headers, SETs and SET OFs. `count` is how many octets the parts within the
+-- innermost open header have, and `members` how many members that header has.
 pub record State : Type 0 where
   pub parts : List Part
   pub opened : List Open
@@ -44,7 +44,7 @@ state_of t = record {
   members = t.members;
 }
 
--- a header that opens in a state
+-- a header that is opened in a state
 abbrev pub an_open : Tag → Bool → RowKind → State → Open
 an_open g c k a = record {
   place = length a.parts;
@@ -54,7 +54,7 @@ an_open g c k a = record {
   members_before = a.members;
 }
 
--- what a member keeps
+-- the octets of a member
 abbrev pub octets_kept : Kept → Octets
 octets_kept (Few s) = held s
 octets_kept (Many o ps) = o.items
@@ -63,11 +63,11 @@ abbrev pub parts_kept : Kept → List Part
 parts_kept (Few s) = Small s ∷ []
 parts_kept (Many o ps) = ps.items
 
--- a member with its encoding
+-- the rank and the octets of a member
 abbrev pub placed_of : Member → Placed
 placed_of m = record { rank = m.rank; octets = octets_kept m.kept }
 
--- the parts of members, one behind the other
+-- the parts of the members, one member after another
 abbrev pub parts_of : List Member → List Part
 parts_of [] = []
 parts_of (m ∷ ms) = parts_kept m.kept ++ parts_of ms
@@ -77,7 +77,7 @@ pub record Sorted (o : Order) (ms ns : List Member) : Type 0 where
   pub same : IsPermutation ms ns
   pub in_order : StandInOrder o (map placed_of ns)
 
--- ---- where a header opens
+-- ---- opening a header
 
 pub record HeaderOpens (g : Tag) (c : Bool) (k : RowKind) (a b : State) : Type 0 where
   pub parts_are : b.parts ≡ a.parts ++ Header g c 0 ∷ []
@@ -87,7 +87,7 @@ pub record HeaderOpens (g : Tag) (c : Bool) (k : RowKind) (a b : State) : Type 0
   pub rows_are : b.rows ≡ a.rows ++ an_absent ∷ []
   pub members_are : b.members ≡ 0
 
--- what stands before a SET or SET OF is set aside
+-- the parts before a SET or SET OF are set aside
 pub record MembersBegin (a b : State) : Type 0 where
   pub group : Group
   pub before_is : group.before.items ≡ a.parts
@@ -119,7 +119,7 @@ pub record ContentsAdded (x : Octets) (a b : State) : Type 0 where
   pub rows_are : b.rows ≡ a.rows
   pub members_are : b.members ≡ a.members
 
--- ---- a component that isn't written
+-- ---- a component that isn't encoded
 
 pub record LeftOut (d : Bool) (a b : State) : Type 0 where
   pub parts_are : b.parts ≡ a.parts
@@ -129,9 +129,9 @@ pub record LeftOut (d : Bool) (a b : State) : Type 0 where
   pub rows_are : b.rows ≡ a.rows ++ left_row d ∷ []
   pub members_are : b.members ≡ told (a.members + 1)
 
--- ---- where a member ends
+-- ---- the end of a member
 
--- the parts so far are those of one more member, and its octets are theirs
+-- The parts so far are those of one more member. The octets of the member are those of its parts.
 pub record MemberEnds (rank : ℕ) (a b : State) : Type 0 where
   pub outer : List Group
   pub group : Group
@@ -151,9 +151,9 @@ pub record MemberEnds (rank : ℕ) (a b : State) : Type 0 where
   pub rows_are : b.rows ≡ a.rows
   pub members_are : b.members ≡ a.members
 
--- ---- where a header closes
+-- ---- closing a header
 
--- p are the places of the members, and q the numbers of those that stand there
+-- p has the places of the members, and q the number of the member at each place
 pub record MembersEnd (o : Order) (p q : List ℕ) (a b : State) : Type 0 where
   pub group : Group
   pub sorted : List Member
@@ -191,7 +191,7 @@ taken a os = record {
   members = a.members;
 }
 
--- a header and what stands behind it are told by other parts, of the same octets
+-- other parts with the same octets replace a header and the parts after it
 pub record Packed (one : Open) (a b : State) : Type 0 where
   pub front : List Part
   pub behind : List Part
@@ -201,12 +201,12 @@ pub record Packed (one : Open) (a b : State) : Type 0 where
   pub parts_are : b.parts ≡ front ++ packed
   pub same : (o : Octets) → Spell (Header one.head.tag one.head.constructed a.count ∷ behind) o → Spell packed o
 
--- a header gets its number of octets
+-- a header gets its number of contents octets
 pub data PartsClose (one : Open) (a b : State) : Type 0 where
   in_place : b.parts ≡ set a.parts one.place (Header one.head.tag one.head.constructed a.count) → PartsClose one a b
   packed : Packed one a b → PartsClose one a b
 
--- the header gets its number of octets, and its row what it tells
+-- the header gets its number of contents octets, and its row gets its numbers and members
 pub record HeaderCloses (one : Open) (p q : List ℕ) (a b : State) : Type 0 where
   pub parts_are : PartsClose one a b
   pub opened_are : b.opened ≡ a.opened
@@ -228,7 +228,7 @@ pub record Closes (a d : State) : Type 0 where
   pub group_ends : GroupEnds one.head.row places inverse (taken a others) within
   pub header_closes : HeaderCloses one places inverse within d
 
--- a header, contents octets and the end of the header at once
+-- a header, contents octets and the end of the header are added in one step
 pub record WholeAdded (h : Head') (x : Octets) (a b : State) : Type 0 where
   pub written : List Part
   pub spelled : Spell written (shortest_header h.tag h.constructed (told (0 + length x)) ++ x)
@@ -253,7 +253,7 @@ abbrev pub Runs : List Event → State → State → Type 0
 Runs [] a b = a ≡ b
 Runs (e ∷ es) a c = (b : State) × Stepped e a b × Runs es b c
 
--- one run behind another
+-- one run after another
 pub runs_more : (es fs : List Event) (a b c : State) → Runs es a b → Runs fs b c → Runs (es ++ fs) a c
 runs_more [] fs a b c e k = subst (λ q. Runs fs q c) (sym e) k
 runs_more (e ∷ es) fs a b c h k = (h.0, h.1, runs_more es fs h.0 b c h.2 k)

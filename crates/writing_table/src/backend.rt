@@ -1,4 +1,4 @@
-//! The table as a backend.
+//! The table as the backend of a machine.
 
 use crate::steps::{
     add_contents, add_left_out, add_whole, begin_group, close_header, end_group, end_member,

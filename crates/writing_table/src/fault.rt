@@ -2,8 +2,8 @@
 
 use thiserror::Error;
 
-/// Why a value was not measured: `Memory`, where more memory was asked for and refused; `NotOfType`, where it is no
-/// value of the type; `TooLong`, where its encoding would have more than 16,777,216 octets.
+/// Why a value was not measured. `Memory`: an allocation failed. `NotOfType`: the value isn't one of the type.
+/// `TooLong`: its encoding has more than 16,777,216 octets.
 #[derive(Clone, Copy, Debug, PartialEq, Eq, Error)]
 pub enum MeasureFault {
     #[error("1 Memory")]

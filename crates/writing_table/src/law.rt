@@ -1,10 +1,10 @@
-//! The law of lengths, for the crates above.
+//! The law of lengths.
 
 ghost use Rattle.codec_code.specs.Events.{StandsFor, Tree};
 ghost use Rattle.std.specs.Prelude.{◌≡◌, List, length, ℕ};
 ghost use Rattle.writing_table.specs.Lengths.{octets_in};
 
-/// All octets that a tree stands for are as many, whatever the order of members.
+/// All octets of a tree have the same number, for any order of members.
 pub fn lengths()
     ensures { (t : Tree) (o : List ℕ) → StandsFor t o → length o ≡ octets_in t }
 {}

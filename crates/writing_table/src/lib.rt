@@ -1,4 +1,4 @@
-//! What is written of a value, as a table of parts in the order of writing.
+//! The parts of a value's encoding by the distinguished rules (X.690, 10 and 11), as a table in the order of encoding.
 #![tactic(auto)]
 
 mod backend;

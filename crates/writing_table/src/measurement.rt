@@ -1,4 +1,4 @@
-//! What is to be written of a value.
+//! Measures the encoding of a value before it is written.
 
 ghost use Rattle.asn_base.specs.Abstract.{abstract};
 ghost use Rattle.asn_base.specs.Typed.{IsValue};
@@ -25,13 +25,13 @@ use octet_account::law::accounts_within_bounds;
 use octet_account::row::Row;
 use std::alloc::Global;
 
-/// No fewer rows than these are guessed.
+/// The least guess of how many rows there are.
 const FEWEST_GUESSED: usize = 32;
 
-/// No more rows than these are guessed.
+/// The greatest guess of how many rows there are.
 const MOST_GUESSED: usize = 1 << 20;
 
-/// The parts of an encoding in the order of writing, how many octets they have, and the rows of their account.
+/// The parts of an encoding in order, how many octets they have, and the rows of their account.
 #[derive(Drop)]
 pub struct Measured<'a> {
     pub parts: Vec<Part<'a>>,
@@ -39,23 +39,23 @@ pub struct Measured<'a> {
     pub rows: Vec<Row>,
 }
 
-/// The parts of the value's encoding by the distinguished rules (X.690, 10 and 11), in the order of writing: all
-/// lengths are known, and the members of each SET and SET OF stand in their order (10.3 and 11.6). The type's routine
-/// runs once; members of a SET or SET OF alone are encoded apart, to be compared. Beside them stand the rows of the
-/// account of these octets, in the order of the value, with the place of each member of a SET or SET OF.
+/// The parts of the value's encoding by the distinguished rules (X.690, 10 and 11), in order. All lengths are known,
+/// and the members of each SET and SET OF are in the order of the rules (10.3 and 11.6). The routine of the type runs
+/// once; only members of a SET or SET OF are encoded separately, so that they can be compared. The rows are those of
+/// the account of these octets, in the order of the value, with the place of each member of a SET or SET OF.
 ///
-/// - `NotOfType`: it is no value of the type.
-/// - `TooLong`: its encoding has more than 16,777,216 octets.
-/// - `Memory`: more memory was asked for and refused.
+/// - `NotOfType`: exactly if the value isn't one of the type.
+/// - `TooLong`: the value is one of the type, and its encoding has more than 16,777,216 octets.
+/// - `Memory`: an allocation failed.
 pub fn measure<'a>(
     alloc: Global,
     code: &'a Code,
     id: TypeId,
     value: &'a Value,
 ) -> Result<Measured<'a>, MeasureFault>
-    // What is measured is a value of the type.
+    // A measured value is one of the type.
     ensures value { IfOk result (λ m. IsValue code.now id.index (abstract value.now)) }
-    // The parts spell its encoding by the distinguished rules, of as many octets.
+    // The parts spell its encoding by the distinguished rules, which has this number of octets.
     ensures der { IfOk result (λ m. (o : List ℕ)
         × Spell m.parts.items o
         × (length o ≡ m.octets)
@@ -66,10 +66,10 @@ pub fn measure<'a>(
         × Tells code.now id.index (abstract value.now) o a
         × AreRows a (flat m.rows.items)) }
     ensures not_too_long { IfOk result (λ m. m.octets ≤ 16777216) }
-    // It is refused as no value just where it is none.
+    // `NotOfType` exactly if the value isn't one of the type.
     ensures not_of_type { IfErr result (λ e. e ≡ NotOfType → IsValue code.now id.index (abstract value.now) → ⊥) }
     ensures no_value { (IsValue code.now id.index (abstract value.now) → ⊥) → result ≡ Err NotOfType }
-    // Each encoding by the distinguished rules is then longer than 16,777,216 octets.
+    // After `TooLong` each encoding by the distinguished rules has more than 16,777,216 octets.
     ensures longer { IfErr result (λ e. e ≡ TooLong → (o : List ℕ)
         → Der code.now id.index (abstract value.now) 0 o
         → 16777216 < length o) }
@@ -83,8 +83,8 @@ pub fn measure<'a>(
     }
 }
 
-/// How many rows there may be, so that lists needn't grow: as many as if all members of a list were like the first one,
-/// and one of the list. At least 32 and at most 2^20, and any guess will do.
+/// A guess of how many rows there are, so that lists needn't grow. It is one for a list and, for each member, the guess
+/// for the first member. It is at least 32 and at most 2^20. Any guess gives the same result.
 fn guessed_rows(value: &Value) -> usize {
     match value {
         Value::List(values) => match values.as_slice().first() {
@@ -100,7 +100,7 @@ fn guessed_rows(value: &Value) -> usize {
     .min(MOST_GUESSED)
 }
 
-/// The value and what it holds, one level down.
+/// A guess for a value: one for itself, and one for each value directly in it.
 fn guessed_members(value: &Value) -> usize {
     match value {
         Value::List(values) => values.len().saturating_add(1),
@@ -109,7 +109,7 @@ fn guessed_members(value: &Value) -> usize {
     }
 }
 
-/// The same of a value of the type.
+/// Measures a value of the type.
 fn table_of<'a>(
     alloc: Global,
     code: &'a Code,

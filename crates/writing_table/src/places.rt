@@ -7,8 +7,8 @@ use crate::rows::small;
 use crate::table::Member;
 use std::alloc::{AllocError, Global};
 
-/// Where members stand: the place of each, in order of definition or of the value, and for each place the number of
-/// the member that stands there. Numbers past 16,777,217 are told as that.
+/// The places of members. `places` has the place of each member, in the order of definition or of the value. `inverse`
+/// has for each place the number of its member. Numbers greater than 16,777,217 are given as 16,777,217.
 #[derive(Drop)]
 pub(crate) struct Arrangement {
     pub places: Vec<u32>,
@@ -16,7 +16,7 @@ pub(crate) struct Arrangement {
 }
 
 impl Arrangement {
-    /// That of no members.
+    /// The arrangement of no members.
     pub(crate) fn none(alloc: Global) -> Self
         ensures places { result.places.items ≡ [] }
         ensures inverse { result.inverse.items ≡ [] }
@@ -28,7 +28,7 @@ impl Arrangement {
     }
 }
 
-/// The numbers of members, in their order.
+/// The numbers of the members, in the order of their places.
 fn inverse_of<'a>(alloc: Global, members: &[Member<'a>]) -> Result<Vec<u32>, AllocError>
     ensures { IfOk result (λ q. q.items ≡ map told (numbers_in members.now)) }
 {
@@ -39,7 +39,7 @@ fn inverse_of<'a>(alloc: Global, members: &[Member<'a>]) -> Result<Vec<u32>, All
     Ok(inverse)
 }
 
-/// Puts a place where one stands.
+/// Sets the place of a member, if there is such a member.
 fn put_place(places: &mut Vec<u32>, number: usize, place: u32)
     ensures { places.new.items ≡ set places.old.items number place }
 {
@@ -59,7 +59,7 @@ fn places_of<'a>(alloc: Global, members: &[Member<'a>]) -> Result<Vec<u32>, Allo
     Ok(places)
 }
 
-/// Where members that stand in their order do so.
+/// The arrangement of members that are in the order of their places.
 pub(crate) fn arrangement_of<'a>(
     alloc: Global,
     members: &[Member<'a>],

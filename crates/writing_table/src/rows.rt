@@ -13,10 +13,10 @@ use octet_account::row::{Numbers, Places, Told};
 use octets::header_len;
 use std::alloc::{AllocError, Global};
 
-/// More octets than an encoding has.
+/// One more than the most octets of an encoding.
 const TOO_MANY: usize = 16_777_217;
 
-/// The sum of two numbers of octets or of members, or 16,777,217 where it is greater.
+/// The sum of two numbers of octets or of members, or 16,777,217 if it is greater.
 pub(crate) fn sum(a: usize, b: usize) -> usize
     ensures { result ≡ told (a + b) }
 {
@@ -26,7 +26,7 @@ pub(crate) fn sum(a: usize, b: usize) -> usize
     }
 }
 
-/// The number, or 16,777,217 where it is greater.
+/// The number, or 16,777,217 if it is greater.
 pub(crate) fn small(n: usize) -> u32
     ensures { result ≡ told n }
 {
@@ -50,14 +50,15 @@ fn numbers(tag: Tag, contents: usize) -> Numbers
     }
 }
 
-/// What the row of a value that holds no others tells, with so many octets of contents.
+/// The row of a value without other values in it, which has this number of contents octets.
 pub(crate) fn leaf_row(tag: Tag, contents: usize) -> Told
     ensures { (c : Bool) → told_of result ≡ a_leaf (told_numbers tag c contents) }
 {
     Told::Leaf(numbers(tag, contents))
 }
 
-/// What the row of a header tells, of so many octets and members within it.
+/// The row of a header with this number of contents octets and of members within it. `AllocError` only if an allocation
+/// fails.
 pub(crate) fn header_row(
     alloc: Global,
     head: Head,

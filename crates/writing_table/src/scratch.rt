@@ -1,4 +1,4 @@
-//! The octets of parts in a list, where they are to be compared.
+//! The octets of parts in lists, so that they can be compared.
 
 ghost use Rattle.std.specs.Prelude.{◌≡◌, ◌++◌, ◌∷◌, [], IfOk, IfSome, List, OnOk, ℕ};
 ghost use Rattle.der_parts.specs.Parts.{Spell};
@@ -9,10 +9,11 @@ use crate::table::Kept;
 use der_parts::{Part, Small, octets_held, push_parts};
 use std::alloc::{AllocError, Global};
 
-/// For so many octets there is room from the start.
+/// The number of octets for which a list has room from the start.
 const FEW_OCTETS: usize = 24;
 
-/// The octets of parts, one behind the other, in a list that has room for a few of them from the start.
+/// The octets of the parts, one part after another, in a list that has room for a few of them from the start.
+/// `AllocError` only if an allocation fails.
 fn octets_of<'a>(alloc: Global, parts: &[Part<'a>]) -> Result<Vec<u8>, AllocError>
     ensures { (o : List ℕ) → Spell parts.now o → IfOk result (λ v. v.items ≡ o) }
 {
@@ -21,7 +22,7 @@ fn octets_of<'a>(alloc: Global, parts: &[Part<'a>]) -> Result<Vec<u8>, AllocErro
     Ok(out)
 }
 
-/// The octets that are held, where the parts are one with few of them.
+/// The small part, if it is the only part.
 fn only_small<'a>(parts: &[Part<'a>]) -> Option<Small>
     ensures { IfSome result (λ s. parts.now ≡ SmallPart s ∷ []) }
 {
@@ -34,7 +35,7 @@ fn only_small<'a>(parts: &[Part<'a>]) -> Option<Small>
     }
 }
 
-/// Takes the parts away, with the octets that they spell.
+/// Takes the parts away, with their octets. `AllocError` only if an allocation fails.
 pub(crate) fn kept_of<'a>(alloc: Global, parts: &mut Vec<Part<'a>>) -> Result<Kept<'a>, AllocError>
     ensures parts { IfOk result (λ k. parts_kept k ≡ parts.old.items) }
     ensures octets { (o : List ℕ) → Spell parts.old.items o → IfOk result (λ k. octets_kept k ≡ o) }
@@ -53,7 +54,7 @@ pub(crate) fn kept_of<'a>(alloc: Global, parts: &mut Vec<Part<'a>>) -> Result<Ke
     }
 }
 
-/// The octets that are kept.
+/// The octets of a member.
 pub(crate) fn octets_in<'k, 'a>(kept: &'k Kept<'a>) -> &'k [u8]
     ensures { result.now ≡ octets_kept kept.now }
 {
@@ -63,7 +64,7 @@ pub(crate) fn octets_in<'k, 'a>(kept: &'k Kept<'a>) -> &'k [u8]
     }
 }
 
-/// Puts the parts that are kept behind those that stand.
+/// Appends the parts of a member. `AllocError` only if an allocation fails.
 pub(crate) fn put_kept<'a>(parts: &mut Vec<Part<'a>>, kept: Kept<'a>) -> Result<(), AllocError>
     ensures { OnOk result (parts.new.items ≡ parts.old.items ++ parts_kept kept.entry) }
 {

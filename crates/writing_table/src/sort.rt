@@ -10,8 +10,8 @@ use crate::table::Member;
 use std::alloc::AllocError;
 use std::cmp::Ordering;
 
-/// Members of a SET OF in ascending order of their octets, where the shorter ones are filled with zeros. Those with
-/// equal octets stay in their order.
+/// Sorts members of a SET OF by their octets, where the shorter encoding is filled with zeros (X.690, 11.6). Members
+/// with equal octets stay in their order. `AllocError` only if an allocation fails.
 pub(crate) fn sort_by_octets<'a>(members: &mut Vec<Member<'a>>) -> Result<(), AllocError>
     ensures { OnOk result (Sorted by_octets members.old.items members.new.items) }
 {
@@ -19,7 +19,7 @@ pub(crate) fn sort_by_octets<'a>(members: &mut Vec<Member<'a>>) -> Result<(), Al
     Ok(())
 }
 
-/// Components of a SET in ascending order of their ranks.
+/// Sorts the components of a SET by their ranks (X.690, 10.3). `AllocError` only if an allocation fails.
 pub(crate) fn sort_by_rank<'a>(members: &mut Vec<Member<'a>>) -> Result<(), AllocError>
     ensures { OnOk result (Sorted by_rank members.old.items members.new.items) }
 {
@@ -27,7 +27,7 @@ pub(crate) fn sort_by_rank<'a>(members: &mut Vec<Member<'a>>) -> Result<(), Allo
     Ok(())
 }
 
-/// The octet at a place, 0 past the end.
+/// The octet at a place, or 0 past the end.
 fn octet_at(octets: &[u8], i: usize) -> u8
     ensures { result ≡ slice_index octets.now i }
 {

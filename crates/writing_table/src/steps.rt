@@ -1,4 +1,4 @@
-//! What each event does to the table.
+//! The effect of each event on the table.
 
 ghost use Rattle.std.specs.Prelude.{◌≡◌, ◌+◌, ◌++◌, ◌∷◌, [], ◌⊎◌, List, IfErr, IfOk, OnOk, length, set, ℕ};
 ghost use Rattle.asn_base.specs.Abstract.{abstract};
@@ -64,7 +64,7 @@ fn add_row(list: &mut Vec<Row>, told: Told) -> Result<(), AllocError>
     Ok(())
 }
 
-/// A header, before its contents are known.
+/// Adds a header, whose number of contents octets isn't known yet.
 pub(crate) fn open_header<'a>(table: &mut Table<'a>, head: Head) -> Result<(), AllocError>
     ensures { OnOk result (HeaderOpens head.tag head.constructed head.row (state_of table.old) (state_of table.new)) }
 {
@@ -88,7 +88,7 @@ pub(crate) fn open_header<'a>(table: &mut Table<'a>, head: Head) -> Result<(), A
     Ok(())
 }
 
-/// The row of a component that isn't written.
+/// Adds the row of a component that isn't encoded.
 pub(crate) fn add_left_out<'a>(table: &mut Table<'a>, with_default: bool) -> Result<(), AllocError>
     ensures { OnOk result (LeftOut with_default (state_of table.old) (state_of table.new)) }
 {
@@ -102,7 +102,7 @@ pub(crate) fn add_left_out<'a>(table: &mut Table<'a>, with_default: bool) -> Res
     Ok(())
 }
 
-/// In a SET or SET OF what stands before the members is set aside.
+/// In a SET or SET OF, sets aside the parts before its members.
 pub(crate) fn begin_group<'a>(table: &mut Table<'a>, row: RowKind) -> Result<(), AllocError>
     ensures { OnOk result (GroupBegins row (state_of table.old) (state_of table.new)) }
 {
@@ -130,7 +130,7 @@ fn begin_members<'a>(table: &mut Table<'a>) -> Result<(), AllocError>
     Ok(())
 }
 
-/// Contents of a value. `NotOfType`: it has none of this kind.
+/// Adds the contents of a value. `NotOfType`: the value has no contents of this kind.
 pub(crate) fn add_contents<'a>(
     table: &mut Table<'a>,
     kind: LeafKind,
@@ -153,8 +153,8 @@ pub(crate) fn add_contents<'a>(
     }
 }
 
-/// A header, contents of a value that holds no others, and the end of the header. `NotOfType`: it has none of this
-/// kind.
+/// Adds a header, the contents of a value without other values in it, and the end of the header. `NotOfType`: the value
+/// has no contents of this kind.
 pub(crate) fn add_whole<'a>(
     table: &mut Table<'a>,
     head: Head,
@@ -177,7 +177,7 @@ pub(crate) fn add_whole<'a>(
     }
 }
 
-/// A header with one contents octet, and the end of the header, as one part that holds them.
+/// Adds a header with one contents octet, and the end of the header, as one small part.
 fn add_octet<'a>(
     table: &mut Table<'a>,
     head: Head,
@@ -195,7 +195,7 @@ fn add_octet<'a>(
     Ok(())
 }
 
-/// The same whatever contents it has.
+/// Adds a header, contents of any length, and the end of the header.
 fn add_any<'a>(
     table: &mut Table<'a>,
     head: Head,
@@ -220,7 +220,7 @@ fn add_any<'a>(
     }
 }
 
-/// The parts of a header that tells so many octets and of contents, in one where they are few.
+/// Adds the parts of a header and of its contents, or one small part if they have few octets.
 fn add_leaf_parts<'a>(
     parts: &mut Vec<Part<'a>>,
     head: Head,
@@ -251,7 +251,7 @@ fn add_leaf_parts<'a>(
     }
 }
 
-/// The parts since the last member are one more, where a SET or SET OF is open.
+/// In a SET or SET OF, makes the parts since the last member a member of it.
 pub(crate) fn end_member<'a>(table: &mut Table<'a>, rank: usize) -> Result<(), AllocError>
     ensures { OnOk result (((state_of table.old).groups ≡ []) × (state_of table.old ≡ state_of table.new)
         ⊎ MemberEnds rank (state_of table.old) (state_of table.new)) }
@@ -275,7 +275,7 @@ pub(crate) fn end_member<'a>(table: &mut Table<'a>, rank: usize) -> Result<(), A
     }
 }
 
-/// The parts of members, one behind the other, behind those that stand.
+/// Appends the parts of the members, one member after another.
 fn append_members<'a>(parts: &mut Vec<Part<'a>>, members: Vec<Member<'a>>) -> Result<(), AllocError>
     ensures { OnOk result (parts.new.items ≡ parts.old.items ++ parts_of members.entry.items) }
 {
@@ -285,7 +285,7 @@ fn append_members<'a>(parts: &mut Vec<Part<'a>>, members: Vec<Member<'a>>) -> Re
     Ok(())
 }
 
-/// The members of a SET or SET OF stand in their order behind what was set aside.
+/// Ends a SET or SET OF: its members follow in their order after the parts that were set aside.
 pub(crate) fn end_group<'a>(table: &mut Table<'a>, row: RowKind) -> Result<Arrangement, AllocError>
     ensures { IfOk result (λ r.
         GroupEnds row r.places.items r.inverse.items (state_of table.old) (state_of table.new)) }
@@ -332,7 +332,7 @@ fn end_set_of<'a>(table: &mut Table<'a>) -> Result<Arrangement, AllocError>
     }
 }
 
-/// What was set aside, the parts of the members, and what stood here.
+/// Puts the parts that were set aside first, then those of the members, and then the current ones.
 fn put_members<'a>(
     parts: &mut Vec<Part<'a>>,
     before: Vec<Part<'a>>,
@@ -346,7 +346,7 @@ fn put_members<'a>(
     Ok(())
 }
 
-/// Puts a part in the place of another, where there is one.
+/// Replaces the part at a place, if there is one.
 fn put_at<'a>(parts: &mut Vec<Part<'a>>, place: usize, part: Part<'a>)
     ensures { parts.new.items ≡ set parts.old.items place part.entry }
 {
@@ -355,7 +355,7 @@ fn put_at<'a>(parts: &mut Vec<Part<'a>>, place: usize, part: Part<'a>)
     }
 }
 
-/// Puts a row in the place of another, where there is one.
+/// Replaces the row at a place, if there is one.
 fn put_row(rows: &mut Vec<Row>, place: usize, told: Told)
     ensures { flat rows.new.items ≡ set (flat rows.old.items) place (told_of told) }
 {
@@ -364,7 +364,7 @@ fn put_row(rows: &mut Vec<Row>, place: usize, told: Told)
     }
 }
 
-/// The header gets its number of octets, and its row what it tells.
+/// Closes a header: the header gets its number of contents octets, and its row gets its numbers and members.
 pub(crate) fn close_header<'a>(
     table: &mut Table<'a>,
     one: Open,

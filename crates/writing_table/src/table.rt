@@ -7,8 +7,8 @@ use der_parts::{Part, Small};
 use octet_account::row::Row;
 use std::alloc::Global;
 
-/// A header that is open: its place in the table and that of its row, and how many octets and members stand before it
-/// within the header round it.
+/// An open header: its place in the table and that of its row, and how many octets and members are before it within the
+/// header around it.
 #[derive(Clone, Copy)]
 pub(crate) struct Open {
     pub place: usize,
@@ -18,15 +18,15 @@ pub(crate) struct Open {
     pub members_before: usize,
 }
 
-/// The octets and parts of a member: one part of few octets, in place, or octets and any parts.
+/// The octets and parts of a member: one small part, or octets and any parts.
 #[derive(Drop)]
 pub(crate) enum Kept<'a> {
     Few(Small),
     Many(Vec<u8>, Vec<Part<'a>>),
 }
 
-/// A member of a SET OF, or a component of a SET with its rank: its number among those that are written, its parts, and
-/// its octets, by which it is compared.
+/// A member of a SET OF, or a component of a SET with its rank. It has its number among the encoded ones, its parts,
+/// and its octets, by which members are compared.
 #[derive(Drop)]
 pub(crate) struct Member<'a> {
     pub rank: usize,
@@ -34,16 +34,16 @@ pub(crate) struct Member<'a> {
     pub kept: Kept<'a>,
 }
 
-/// A SET or SET OF that is open: its members so far, and the parts before them.
+/// An open SET or SET OF: its members so far, and the parts before them.
 #[derive(Drop)]
 pub(crate) struct Group<'a> {
     pub before: Vec<Part<'a>>,
     pub members: Vec<Member<'a>>,
 }
 
-/// The parts so far, what is open, and how many octets the parts within the nearest open header have: at most
-/// 16,777,217, which stands for any more. The rows of the account so far, and how many members the nearest open header
-/// has, counted so too.
+/// The parts and rows so far, and the open headers, SETs and SET OFs. `count` is how many octets the parts within the
+/// innermost open header have, and `members` how many members that header has. For both, 16,777,217 means that number
+/// or any greater one.
 #[derive(Drop)]
 pub struct Table<'a> {
     pub(crate) alloc: Global,
@@ -56,7 +56,7 @@ pub struct Table<'a> {
 }
 
 impl<'a> Table<'a> {
-    /// The table of nothing, with room for so many rows and as many parts, where there is memory for them.
+    /// An empty table, with room for this number of rows and of parts if there is memory for them.
     pub(crate) fn new(alloc: Global, rows: usize) -> Self
         ensures parts { result.parts.items ≡ [] }
         ensures opened { result.opened.items ≡ [] }
@@ -77,7 +77,7 @@ impl<'a> Table<'a> {
     }
 }
 
-/// An empty list, with room for so many from the start where there is memory for them.
+/// An empty list, with room for this number of elements if there is memory for them.
 fn with_room<T: Drop>(alloc: Global, room: usize) -> Vec<T>
     ensures { result.items ≡ [] }
 {

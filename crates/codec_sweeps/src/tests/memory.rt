@@ -1,4 +1,4 @@
-//! Each growth refused in turn: `Memory` and nothing out, or the answer.
+//! Allocations that fail one after another. Each call answers `Memory` and writes nothing, or it gives the answer.
 
 use super::values::{mixed_octets, mixed_value};
 use asn_base::schema::{Schema, TypeId};
@@ -11,7 +11,7 @@ use std::alloc::Global;
 use std::io;
 use std::test::Fail;
 
-/// A sink that takes no memory: it compares what it gets with octets that it has.
+/// A sink that takes no memory. It compares what it takes with the octets that it has.
 #[derive(Drop)]
 struct Compared {
     octets: Vec<u8>,
@@ -40,7 +40,7 @@ impl Sink for Compared {
     }
 }
 
-/// Whether a part of the octets stands at a place.
+/// Whether the octets have this part at a place.
 fn stands_at(octets: &[u8], at: usize, part: &[u8]) -> bool {
     at <= octets.len() && octets[at..].starts_with(part)
 }
@@ -85,7 +85,7 @@ impl Starved for Writing {
     }
 }
 
-/// `write_der_to`: where it is refused, nothing went out.
+/// `write_der_to`: after a fault nothing was written.
 #[derive(Drop)]
 struct Sending {
     code: Code,
@@ -112,7 +112,7 @@ impl Starved for Sending {
     }
 }
 
-/// That a sweep met many refusals and many answers, and nothing else.
+/// Checks that a sweep had many calls that failed and many that were right, and no other ones.
 pub fn told(rt: &HostRuntime, name: &str, swept: Swept) -> Result<(), Fail> {
     match swept {
         Swept::Endless => Ok(()),
@@ -131,7 +131,7 @@ pub fn told(rt: &HostRuntime, name: &str, swept: Swept) -> Result<(), Fail> {
     }
 }
 
-/// The type whose value is written.
+/// The type whose value is encoded.
 fn mixed() -> Result<TypeId, Fail> {
     match type_named("mixed") {
         Some(id) => Ok(id),
@@ -139,7 +139,7 @@ fn mixed() -> Result<TypeId, Fail> {
     }
 }
 
-/// The codes of the sample types.
+/// The code of the sample types.
 pub fn sample_code(alloc: Global) -> Result<Code, Fail> {
     let schema = schema(alloc)?;
     match compile(alloc, &schema) {
@@ -151,7 +151,7 @@ pub fn sample_code(alloc: Global) -> Result<Code, Fail> {
 #[test]
 fn compile_with_ever_more_memory(rt: HostRuntime) -> Result<(), Fail> {
     let alloc = rt.alloc();
-    // Head, four components, Rest and End.
+    // The seven steps are Head, four components, Rest and End.
     let mut compiling = Compiling {
         schema: schema(alloc)?,
         id: mixed()?,

@@ -1,4 +1,4 @@
-//! Messages that are read while each growth is refused in turn: `Memory`, or the answer.
+//! Messages that are decoded while allocations fail one after another. Each call answers `Memory`, or gives the answer.
 
 use super::memory::{sample_code, told};
 use asn_base::schema::TypeId;
@@ -10,7 +10,7 @@ use starving::{Starved, Swept, Turn, sweep};
 use std::alloc::{AllocError, Global};
 use std::test::Fail;
 
-/// `read_ber`: so many additions are skipped, or the fault is told.
+/// `read_ber`: the answer is a number of skipped additions, or the fault.
 #[derive(Drop)]
 struct Reading {
     code: Code,
@@ -30,7 +30,7 @@ impl Starved for Reading {
     }
 }
 
-/// `read_der`: so many additions are skipped.
+/// `read_der`: the answer is a number of skipped additions.
 #[derive(Drop)]
 struct ReadingStrictly {
     code: Code,
@@ -49,7 +49,7 @@ impl Starved for ReadingStrictly {
     }
 }
 
-/// `whereabouts`: the place, and how many values are open there.
+/// `whereabouts`: the answer is the place, and how many values are open there.
 #[derive(Drop)]
 struct Finding {
     code: Code,
@@ -71,7 +71,7 @@ impl Starved for Finding {
     }
 }
 
-/// The type with the name.
+/// The sample type with this name.
 fn named(name: &str) -> Result<TypeId, Fail> {
     match type_named(name) {
         Some(id) => Ok(id),
@@ -79,7 +79,7 @@ fn named(name: &str) -> Result<TypeId, Fail> {
     }
 }
 
-/// A SET with two additions that it lacks: 3111 8500 3108 3106 020101 020102 8600 810100.
+/// The message of a SET with two additions that its type lacks: 3111 8500 3108 3106 020101 020102 8600 810100.
 fn two_unknown(alloc: Global) -> Result<Vec<u8>, AllocError> {
     let mut octets = Vec::new(alloc);
     octets.extend_from_slice(&[0x31, 0x11, 0x85, 0x00, 0x31, 0x08, 0x31, 0x06])?;
@@ -101,7 +101,7 @@ fn read_ber_with_ever_more_memory(rt: HostRuntime) -> Result<(), Fail> {
     told(&rt, "read_ber", swept)
 }
 
-/// The same octets keep the distinguished rules: known tags ascend, and unknown additions may stand anywhere.
+/// The same octets keep the distinguished rules: known tags ascend, and unknown additions may be anywhere.
 #[test]
 fn read_der_with_ever_more_memory(rt: HostRuntime) -> Result<(), Fail> {
     let alloc = rt.alloc();
@@ -115,7 +115,8 @@ fn read_der_with_ever_more_memory(rt: HostRuntime) -> Result<(), Fail> {
     told(&rt, "read_der", swept)
 }
 
-/// No growth by a told length before it is seen to lie within the message: the fault in each turn.
+/// The decoder doesn't allocate by an announced length before it checks that the message is long enough. So each turn
+/// has the same fault.
 #[test]
 fn no_growth_by_a_told_length(rt: HostRuntime) -> Result<(), Fail> {
     let alloc = rt.alloc();
@@ -140,7 +141,7 @@ fn no_growth_by_a_told_length(rt: HostRuntime) -> Result<(), Fail> {
 #[test]
 fn whereabouts_with_ever_more_memory(rt: HostRuntime) -> Result<(), Fail> {
     let alloc = rt.alloc();
-    // The second number of the inner SET is cut short: 0201 without its octet.
+    // The second number of the inner SET is truncated: 0201 lacks its contents octet.
     let mut octets = Vec::new(alloc);
     octets.extend_from_slice(&[0x31, 0x09, 0x31, 0x07, 0x31, 0x05])?;
     octets.extend_from_slice(&[0x02, 0x01, 0x01, 0x02, 0x01])?;

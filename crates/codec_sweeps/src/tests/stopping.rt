@@ -1,5 +1,5 @@
-//! A sink that fails at each octet in turn, by an error or by taking none, with calls that take many octets or one; and a
-//! writer whose calls fail in turn, each once, which none of them is tried again to see.
+//! Sinks that fail. One fails at each octet in turn, by an error or by taking none, with calls that take many octets or
+//! one. The other one has a call that fails once, and shows that this call isn't tried again.
 
 use super::memory::sample_code;
 use super::values::{mixed_octets, mixed_value};
@@ -13,7 +13,7 @@ use std::io;
 use std::io::{ErrorKind, Write};
 use std::test::Fail;
 
-/// Whether a sink that takes so many octets, at most so many a call, is told the value as it should be.
+/// Whether a value is encoded as it should be to a sink that takes `limit` octets, at most `most` in one call.
 fn goes_out(
     alloc: Global,
     code: &Code,
@@ -70,8 +70,8 @@ fn each_put_fails_in_turn(rt: HostRuntime) -> Result<(), Fail> {
     Ok(())
 }
 
-/// A writer that takes at most two octets a call. One of its calls fails, by an error or by taking none; those behind it
-/// would take octets again.
+/// A writer that takes at most two octets in one call. One of its calls fails, by an error or by taking none, and later
+/// calls would take octets again.
 #[derive(Drop)]
 struct FailsOnce {
     octets: Vec<u8>,
@@ -103,8 +103,9 @@ impl Write for FailsOnce {
     }
 }
 
-/// Whether a writer of which this call fails gets the value as it should: no call behind the one that failed, and just
-/// the octets told. None where the value went out before that call.
+/// Whether a value is encoded as it should be to a writer whose call with this number fails. There must be no later
+/// call, and the fault must have the exact number of octets. The result is None if the value was complete before that
+/// call.
 fn fails_once(
     alloc: Global,
     code: &Code,
@@ -156,7 +157,8 @@ fn each_write_fails_in_turn(rt: HostRuntime) -> Result<(), Fail> {
             }
         }
     }
-    // 25 octets, at most two a call: thirteen calls at least, each of which failed.
+    // The encoding has 25 octets, at most two in one call. So there are at least thirteen calls, and each of them
+    // failed once.
     if failed >= 12 && failed < 39 {
         Ok(())
     } else {

@@ -1,9 +1,10 @@
-//! What is written.
+//! The value that is encoded, and its encoding.
 
 use asn_base::value::Value;
 use std::alloc::{AllocError, Global};
 
-/// {b {{2, 1}, {0}}, c 6, d TRUE, a NULL} of a SET in which b stands first, then c, d and a (X.690, 10.3).
+/// The value {b {{2, 1}, {0}}, c 6, d TRUE, a NULL} of a SET, whose encoding has b first, then c, d and a (X.690,
+/// 10.3).
 pub fn mixed_value(alloc: Global) -> Result<Value, AllocError> {
     let two = vec![in alloc; Value::Int(2), Value::Int(1)]?;
     let one = vec![in alloc; Value::Int(0)]?;
@@ -17,7 +18,7 @@ pub fn mixed_value(alloc: Global) -> Result<Value, AllocError> {
     Ok(Value::Fields(fields))
 }
 
-/// Its encoding: 3117 310D3103020100 3106020101020102 800106 8101FF 8200, worked out by hand.
+/// The encoding of the value, worked out by hand: 3117 310D3103020100 3106020101020102 800106 8101FF 8200.
 pub fn mixed_octets(alloc: Global) -> Result<Vec<u8>, AllocError> {
     let mut octets = Vec::new(alloc);
     octets.extend_from_slice(&[0x31, 0x17, 0x31, 0x0D])?;

@@ -1,4 +1,4 @@
--- What the parts of a resolved type answer.
+-- The results of resolving the parts of a type.
 use Rattle.std.specs.Prelude.{◌≡◌, ◌<◌, ℕ, Bool, true, false, List, [], ◌∷◌, Option, Some, None, slice_get}
 use Rattle.asn_base.specs.Abstract.{AbstractValue}
 use Rattle.asn_base.specs.Types as types
@@ -22,20 +22,20 @@ abbrev pub is_implicit : TagForm → Bool
 is_implicit Implicit = true
 is_implicit Explicit = false
 
--- the tags that stand of these, in place of the first of which one before them stands or not
+-- the tags of p that no tag replaces, if the tag before p replaces its first tag or doesn't
 abbrev pub standing_behind : Bool → Path → List Label
 standing_behind true p = without_first (standing p)
 standing_behind false p = standing p
 
--- the tag, where none before it stands in its place
+-- the tag, unless the tag before it replaces it
 abbrev pub unless : Bool → Label → List Label
 unless true l = []
 unless false l = l ∷ []
 
 -- ---- kinds
 
--- type i, whose core is of kind k and is written in module M, is of kind r in a schema, with what its constraints leave
--- and its items in order
+-- Type i, whose core has kind k and is in module M, has kind r in a schema. Kind r has the values that the constraints
+-- leave, and its items are in order.
 pub record IsCoreOf (p : Program) (i : ℕ) (M : Name) (k : Kind) (r : types.Kind) : Type 0 where
   pub kind : IsKindOf p (Allows p) (AllowsCode p) i M k r
   pub constrained : IsConstrained p k i r
@@ -47,7 +47,7 @@ pub record IsCoreOf (p : Program) (i : ℕ) (M : Name) (k : Kind) (r : types.Kin
 abbrev pub HaveNoDefaultBehind : List Part → Type 0
 HaveNoDefaultBehind cs = (n : ℕ) (c : Part) → slice_get cs n ≡ Some c → IsAdded c → has_default c.presence ≡ false
 
--- behind an addition stand additions alone
+-- after an addition there are only additions
 abbrev pub AreBehind : List Part → Type 0
 AreBehind cs = (m n : ℕ) (d c : Part) →
     m < n →
@@ -61,13 +61,13 @@ is_optional mandatory = false
 is_optional optional = true
 is_optional (default n) = false
 
--- the component has a DEFAULT only where its value is there
+-- a component with a DEFAULT has a value
 abbrev pub IsGiven : Part → Option AbstractValue → Type 0
 IsGiven c v = (n : Tree) → c.presence ≡ default n → v ≡ None → ⊥
 
 -- ---- types
 
--- type i is of kind k behind its references and tags
+-- type i has kind k after its references and tags
 pub record IsCoreType (p : Program) (i : ℕ) (k : Kind) : Type 0 where
   pub core : ℕ
   pub type : Type'
@@ -78,13 +78,13 @@ pub record IsCoreType (p : Program) (i : ℕ) (k : Kind) : Type 0 where
   pub assigns : Name
   pub stands : IsAssignment p type.assignment within assigns
 
--- type i is of kind r in a schema
+-- type i has kind r in a schema
 pub record IsCoreIn (p : Program) (i : ℕ) (r : types.Kind) : Type 0 where
   pub kind : Kind
   pub is : IsCoreType p i kind
   pub such : IsCoreOf p i is.within kind r
 
--- types i and j are the same behind references and tags, and their constraints leave the same
+-- types i and j are the same after references and tags, and their constraints leave the same values
 pub record AreAlike (p : Program) (i j : ℕ) : Type 0 where
   pub core : ℕ
   pub one : IsCore p.types i core

@@ -9,12 +9,12 @@ use Rattle.resolve.specs.Program.{Program, IsAssignment}
 use Rattle.value_notations.specs.Values.{IsTyped}
 use Rattle.values.specs.Allowing.{Allows, AllowsCode}
 
--- what the DEFAULT of component c stands for, which is written in module M; None where the component has no DEFAULT
+-- the value of the DEFAULT of component c in module M, or None if the component has no DEFAULT
 abbrev pub IsDefaultOf : Program → Name → Part → Option AbstractValue → Type 0
 IsDefaultOf p M c None = (n : Tree) → c.presence ≡ default n → ⊥
 IsDefaultOf p M c (Some v) = (n : Tree) × (c.presence ≡ default n) × IsTyped p (Allows p) (AllowsCode p) M c.ty n v
 
--- the same of each component of a list
+-- these are the values of the DEFAULTs of the components, in order
 pub record AreDefaultsOf (p : Program) (M : Name) (cs : List Part) (vs : List (Option AbstractValue)) : Type 0 where
   pub as_many : length vs ≡ length cs
   pub each : (n : ℕ) (c : Part) (v : Option AbstractValue) →
@@ -22,7 +22,7 @@ pub record AreDefaultsOf (p : Program) (M : Name) (cs : List Part) (vs : List (O
       slice_get vs n ≡ Some v →
       IsDefaultOf p M c v
 
--- what type i is behind its references and tags is no list of components, or these are its DEFAULTs
+-- after its references and tags type i isn't a list of components, or these are the values of its DEFAULTs
 abbrev pub HasDefaults : Program → ℕ → List (Option AbstractValue) → Type 0
 HasDefaults p i vs = (core : ℕ) (t : Type') (M x : Name) (l : ListKind) (m : Bool) (cs : List Part) →
     IsCore p.types i core →

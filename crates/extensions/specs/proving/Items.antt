@@ -1,4 +1,4 @@
--- Items with numbers, which differ.
+-- Items with numbers, which are distinct.
 use Rattle.std.specs.Prelude.{ℤ, Bool, List, [], ◌∷◌}
 use Rattle.std.specs.List.{IsDistinct}
 use Rattle.std.specs.Ordering.{int_eq}

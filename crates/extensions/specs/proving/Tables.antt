@@ -1,4 +1,4 @@
--- The values of all DEFAULTs, by the numbers of the types that they are written in, and what parts of the walk tell.
+-- The values of all DEFAULTs, by the numbers of the types that they are in, and the results of the parts of the walk.
 use Rattle.std.specs.Prelude.{◌≡◌, ◌<◌, ℕ, List, Option, Some, length, map, option_map, slice_get, Vec}
 use Rattle.std.specs.declared.alloc.Global.{Global}
 use Rattle.extensions.specs.declared.pool.Shared.{Shared}
@@ -18,17 +18,17 @@ use Rattle.extensions.specs.Faults.{IsList, IsFirstIn, IsWrong}
 use Rattle.extensions.specs.declared.wrong.Wrong.{Wrong}
 use Rattle.extensions.specs.declared.wrong.Wrong.TheVariants.{Memory, At}
 
--- want of memory, or a fault of which P holds
+-- `Memory`, or a fault for which P holds
 abbrev pub Tells : (ValueFault → Type 0) → Wrong → Type 0
 Tells P Memory = Unit {0}
 Tells P (At f) = P f
 
--- as many as n, and R holds of each with its number
+-- there are n members, and R holds for each member with its number
 pub record AreEach {B : Type 0} (R : ℕ → B → Type 0) (n : ℕ) (bs : List B) : Type 0 where
   pub as_many : length bs ≡ n
   pub each : (i : ℕ) (b : B) → slice_get bs i ≡ Some b → R i b
 
--- a value that is shared
+-- the value of a shared one
 abbrev pub shared_seen : Shared → AbstractValue
 shared_seen s = abstract s.held.value
 
@@ -45,22 +45,22 @@ table_seen = map row_seen
 abbrev pub HaveTypes : ℕ → List Part → Type 0
 HaveTypes n cs = (i : ℕ) (c : Part) → slice_get cs i ≡ Some c → c.ty < n
 
--- type i is no list, or these are its DEFAULTs
+-- type i isn't a list, or these are the values of its DEFAULTs
 abbrev pub AreDefaultsAt : Program → ℕ → List (Option AbstractValue) → Type 0
 AreDefaultsAt p i vs = (M : Name) (cs : List Part) → IsList p i M cs → AreDefaultsOf p M cs vs
 
--- these are the DEFAULTs of the first n types
+-- these are the values of the DEFAULTs of the first n types
 abbrev pub AreTabled : Program → ℕ → List (List (Option AbstractValue)) → Type 0
 AreTabled p n table = AreEach (AreDefaultsAt p) n table
 
--- in the DEFAULTs of type i the fault stands first
+-- f is the fault of the first DEFAULT of type i without a value
 pub record IsFirstAt (p : Program) (i : ℕ) (f : ValueFault) : Type 0 where
   pub within : Name
   pub parts : List Part
   pub list : IsList p i within parts
   pub first : IsFirstIn p within parts f
 
--- it stands in value i
+-- f is the fault of value assignment i
 pub record IsWrongValue (p : Program) (i : ℕ) (f : ValueFault) : Type 0 where
   pub value : sources.Value
   pub there : slice_get p.values i ≡ Some value
@@ -69,7 +69,7 @@ pub record IsWrongValue (p : Program) (i : ℕ) (f : ValueFault) : Type 0 where
   pub stands : IsAssignment p value.assignment within assigns
   pub wrong : IsWrong p within value.ty value.notation f
 
--- resolved type r is type i in a schema
+-- resolved type r is that of type i in a schema
 pub record IsResolved (p : Program) (i : ℕ) (r : Resolved) : Type 0 where
   pub is : IsTypeOf p (Allows p) (AllowsCode p) i r.kind
   pub settled : IsSettledType p i r

@@ -1,4 +1,4 @@
-//! Each growth refused in turn: `Memory` and nothing out, or the answer.
+//! Allocations that fail one after another. Each call answers `Memory` and writes nothing, or it gives the answer.
 
 use super::modules::{OCTETS, PACKED, kit, texts};
 use asnc::{Fault, Kit, Sink};
@@ -7,7 +7,7 @@ use std::alloc::Global;
 use std::io;
 use std::test::Fail;
 
-/// What a refusal is to a sweep: one for want of memory, or another one.
+/// The result of a turn with this fault: `Memory` is right if an allocation fails, and no other fault is.
 fn refusal(fault: &Fault) -> Turn {
     match fault {
         Fault::Memory => Turn::Refused,
@@ -15,7 +15,7 @@ fn refusal(fault: &Fault) -> Turn {
     }
 }
 
-/// Whether an answer is right.
+/// The result of a turn with an answer that is right or wrong.
 pub fn answer(right: bool) -> Turn {
     if right { Turn::Right } else { Turn::Wrong }
 }
@@ -65,7 +65,7 @@ impl Starved for Packing {
     }
 }
 
-/// A sink that takes no memory: it compares what it gets with the encoding.
+/// A sink that takes no memory. It compares what it takes with the encoding.
 #[derive(Drop)]
 struct Compared {
     taken: usize,
@@ -93,7 +93,7 @@ impl Sink for Compared {
     }
 }
 
-/// `Kit::der_to`: where it is refused, nothing went out.
+/// `Kit::der_to`: after a fault nothing was written.
 #[derive(Drop)]
 struct Sending {
     kit: Kit,
@@ -134,7 +134,7 @@ impl Starved for Listing {
     }
 }
 
-/// That a sweep met many refusals and many answers, and nothing else.
+/// Checks that a sweep had many calls that failed and many that were right, and no other ones.
 pub fn told(rt: &HostRuntime, name: &str, swept: Swept) -> Result<(), Fail> {
     match swept {
         Swept::Endless => Ok(()),

@@ -1,4 +1,4 @@
-//! What is opened and written.
+//! The modules that are opened, and the encodings of their values.
 
 use asnc::Kit;
 use std::alloc::Global;
@@ -17,7 +17,7 @@ R DEFINITIONS AUTOMATIC TAGS ::= BEGIN
 T ::= SEQUENCE {n INTEGER (0..9), s SET OF BOOLEAN, ...}
 END";
 
-/// The two modules; the first imports from the second.
+/// The texts of the two modules. The first module imports from the second.
 pub fn texts(alloc: Global) -> Result<Vec<Vec<u8>>, Fail> {
     let mut texts = Vec::with_capacity(alloc, 2)?;
     for text in [A, B] {
@@ -28,7 +28,7 @@ pub fn texts(alloc: Global) -> Result<Vec<Vec<u8>>, Fail> {
     Ok(texts)
 }
 
-/// Their kit.
+/// The kit of the two modules.
 pub fn kit(alloc: Global) -> Result<Kit, Fail> {
     match Kit::open(alloc, &texts(alloc)?) {
         Ok(kit) => Ok(kit),
@@ -47,10 +47,11 @@ pub fn reading_kit(alloc: Global) -> Result<Kit, Fail> {
 }
 
 /// The encoding of A.v under B.T, worked out by hand: 300B 020107 3106 010100 0101FF. The members of the SET OF ascend,
-/// and the component that is its DEFAULT is absent.
+/// and the component whose value is its DEFAULT is absent.
 pub const OCTETS: [u8; 13] = [
     0x30, 0x0B, 0x02, 0x01, 0x07, 0x31, 0x06, 0x01, 0x01, 0x00, 0x01, 0x01, 0xFF,
 ];
 
-/// Its bits, worked out by hand: 0 for the component that is its DEFAULT, 0111, 2 in 8 bits, 0 and 1 in ascending order.
+/// The bits of A.v in unaligned PER, worked out by hand. They are 0 for the component whose value is its DEFAULT, 0111,
+/// the number 2 in 8 bits, and 0 and 1 in ascending order.
 pub const PACKED: [u8; 2] = [0x38, 0x12];

@@ -1,4 +1,4 @@
-//! Octets that a kit reads, each growth refused in turn: `Memory`, or the answer.
+//! Octets that a kit decodes while allocations fail one after another. Each call answers `Memory`, or gives the answer.
 
 use super::growths::{answer, told};
 use super::modules::reading_kit;
@@ -7,16 +7,16 @@ use starving::{Starved, Turn, sweep};
 use std::alloc::Global;
 use std::test::Fail;
 
-/// What octets are read as.
+/// The wanted answer for some octets.
 #[derive(Clone, Copy)]
 enum Wanted {
-    /// The value as it is printed, and how many additions were skipped.
+    /// The printed value, and how many additions were skipped.
     Value(&'static str, u64),
-    /// The number of the fault, the octet, and the part of the value that was being read.
+    /// The number of the fault, the place of the octet, and the part of the value that was being decoded.
     Refused(u8, usize, &'static str),
 }
 
-/// Octets that are read as the type R.T.
+/// Octets that are decoded as a value of the type R.T.
 #[derive(Clone, Copy)]
 struct Row {
     name: &'static str,
@@ -25,26 +25,26 @@ struct Row {
     wanted: Wanted,
 }
 
-/// {n 7, s {FALSE, TRUE}}.
+/// The encoding of {n 7, s {FALSE, TRUE}}.
 const WHOLE: [u8; 13] = [
     0x30, 0x0B, 0x80, 0x01, 0x07, 0xA1, 0x06, 0x01, 0x01, 0x00, 0x01, 0x01, 0xFF,
 ];
 
-/// The same with two additions that the type lacks.
+/// The same value with two additions that the type lacks.
 const LATER: [u8; 18] = [
     0x30, 0x10, 0x80, 0x01, 0x07, 0xA1, 0x06, 0x01, 0x01, 0x00, 0x01, 0x01, 0xFF, 0x82, 0x01, 0x05,
     0x83, 0x00,
 ];
 
-/// The first element has no contents, which had to stand at octet 9.
+/// The first element lacks its contents octet, which should be octet 9.
 const EMPTY: [u8; 9] = [0x30, 0x07, 0x80, 0x01, 0x07, 0xA1, 0x02, 0x01, 0x00];
 
-/// The elements in another order than the distinguished rules ask for.
+/// The elements are in another order than in the distinguished rules.
 const TURNED: [u8; 13] = [
     0x30, 0x0B, 0x80, 0x01, 0x07, 0xA1, 0x06, 0x01, 0x01, 0xFF, 0x01, 0x01, 0x00,
 ];
 
-/// The rows by their numbers; there are seven.
+/// The row with this number. There are seven rows.
 fn nth_row(number: usize) -> Row {
     match number {
         0 => Row {
@@ -92,7 +92,7 @@ fn nth_row(number: usize) -> Row {
     }
 }
 
-/// Whether a value and a number of additions are what is wanted.
+/// Whether a value and a number of additions are the wanted ones.
 fn is_value(wanted: Wanted, text: &str, skipped: u64) -> bool {
     match wanted {
         Wanted::Value(value, count) => text == value && skipped == count,
@@ -100,7 +100,7 @@ fn is_value(wanted: Wanted, text: &str, skipped: u64) -> bool {
     }
 }
 
-/// Whether a refusal is what is wanted.
+/// Whether a fault is the wanted one.
 fn is_refused(wanted: Wanted, fault: u8, octet: usize, path: &str) -> bool {
     match wanted {
         Wanted::Value(_, _) => false,
@@ -108,7 +108,7 @@ fn is_refused(wanted: Wanted, fault: u8, octet: usize, path: &str) -> bool {
     }
 }
 
-/// What a refusal is to a sweep.
+/// The result of a turn with this fault.
 fn refusal(wanted: Wanted, fault: &Fault) -> Turn {
     match fault {
         Fault::Memory => Turn::Refused,
@@ -122,7 +122,7 @@ fn refusal(wanted: Wanted, fault: &Fault) -> Turn {
     }
 }
 
-/// What an answer is to a sweep.
+/// The result of a turn with this answer.
 fn turn_of(wanted: Wanted, answered: &Result<(String, u64), Fault>) -> Turn {
     match answered {
         Ok((text, skipped)) => answer(is_value(wanted, text.as_str(), *skipped)),
@@ -145,7 +145,7 @@ impl Starved for Reading {
     }
 }
 
-/// The sweep of a row.
+/// Sweeps over the answers to a row.
 fn read_with_ever_more_memory(rt: &HostRuntime, row: Row) -> Result<(), Fail> {
     let alloc = rt.alloc();
     let mut reading = Reading {

@@ -5,7 +5,7 @@ use asnc::{Fault, Kit, Sink, Stops};
 use std::alloc::Global;
 use std::test::Fail;
 
-/// Whether a sink that takes so many octets, at most three a call, is told the value as it should be.
+/// Whether a value is encoded as it should be to a sink that takes `limit` octets, at most three in one call.
 fn goes_out(alloc: Global, kit: &Kit, limit: usize) -> bool {
     let mut sink = Stops::at(Vec::new(alloc), limit, 3, false);
     let answered = kit.der_to(alloc, "B.T", "A.v", &mut sink);

@@ -30,7 +30,7 @@ fn both(alloc: Global) -> Result<Vec<Module>, Fail> {
     Ok(modules)
 }
 
-/// Whether a refusal is one for want of memory.
+/// Checks that a fault is `Memory`.
 fn refused(fault: &NameFault) -> Result<bool, Fail> {
     match fault {
         NameFault::Memory => Ok(false),
@@ -38,7 +38,7 @@ fn refused(fault: &NameFault) -> Result<bool, Fail> {
     }
 }
 
-/// Modules for each turn, since a call takes what it is given.
+/// Modules for each turn, since a call consumes its modules.
 #[derive(Drop)]
 struct Linker {
     modules: Vec<Vec<Module>>,

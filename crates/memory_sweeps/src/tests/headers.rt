@@ -6,10 +6,10 @@ use octets::{Fault, Form, write_header};
 use std::alloc::Global;
 use std::test::Fail;
 
-/// What stands before the header: as many octets as the memory lent holds.
+/// The octets before the header, which fill the list.
 const BEFORE: [u8; 24] = [7; 24];
 
-/// A [2147483647], constructed, with contents of 2^64-1 octets (X.690, 8.1.2.4 and 8.1.3.5).
+/// The header of a [2147483647], constructed, with 2^64-1 contents octets (X.690, 8.1.2.4 and 8.1.3.5).
 const HEADER: [u8; 15] = [
     0xBF, 0x87, 0xFF, 0xFF, 0xFF, 0x7F, 0x88, 0xFF, 0xFF, 0xFF, 0xFF, 0xFF, 0xFF, 0xFF, 0xFF,
 ];

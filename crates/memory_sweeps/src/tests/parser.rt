@@ -21,7 +21,7 @@ const CONSTRAINT: &str = "(FROM (\"a\"..\"z\" | \"0\"..\"9\" | \"-\"))";
 
 const SIZE: &str = "SIZE (1..4 | M.least..most | 9..MAX)";
 
-/// What is read.
+/// The part of the notation that is parsed.
 #[derive(Clone, Copy, Debug, PartialEq)]
 enum Part {
     Module,
@@ -30,8 +30,8 @@ enum Part {
     Size,
 }
 
-/// How many tokens a part of a text takes (of a module: how many assignments it has), once the text is cut into tokens.
-/// None where there is not enough memory.
+/// How many tokens a part of a text takes after the text is cut into tokens. For a module it is how many assignments it
+/// has. The result is None if an allocation fails.
 fn taken(alloc: Global, part: Part, text: &[u8]) -> Result<Option<usize>, Fail> {
     let tokens = match lex(alloc, text) {
         Ok(tokens) => tokens,
@@ -68,7 +68,7 @@ impl<'a> Starved for Parser<'a> {
     }
 }
 
-/// A sweep over a part of the notation, which takes so many tokens, or has so many assignments.
+/// A sweep over a part of the notation with this number of tokens, or of assignments.
 fn sweep_part(
     alloc: Global,
     part: Part,

@@ -1,4 +1,5 @@
--- A code of accounts, by which a proof tells them apart: their rows, from which the account is read again.
+-- A code for accounts, by which proofs show that two accounts differ. It has the rows of an account, from which the
+-- account can be read again.
 use Rattle.std.specs.Prelude.{◌≡◌, ℕ, zero, suc, List, [], ◌∷◌, ◌++◌, length}
 use Rattle.std.proofs.Common.{refl, sym, ap, ◌∙◌, append_assoc}
 use Rattle.std.proofs.lemmas.List.{append-nil}
@@ -11,7 +12,7 @@ use Rattle.octet_account.specs.proving.Trees.{Read, one_more, left_out, members_
 
 -- ---- sums
 
--- a sum that computes by its first number
+-- a sum that computes by recursion on its first number
 abbrev plus : ℕ → ℕ → ℕ
 plus zero b = b
 plus (suc a) b = suc (plus a b)
@@ -36,9 +37,9 @@ plus_length : (xs ys : List FlatRow) → length (xs ++ ys) ≡ plus (length xs) 
 plus_length [] ys = refl
 plus_length (x ∷ xs) ys = ap suc (plus_length xs ys)
 
--- ---- rows are read
+-- ---- reading rows
 
--- a member that is written
+-- the rows of an encoded member are read first
 member_first : (g : List FlatRow → Read) (n : ℕ) (a : Account) (rest : List FlatRow)
     → members_by g (suc n) (rows_of a ++ rest) ≡ one_more (g (rows_of a ++ rest)) (members_by g n)
 member_first g n (header z leaf_row) rest = refl

@@ -1,4 +1,4 @@
--- The account whose rows stand at the front of a list, and that there is one at most.
+-- The account at the front of a list of rows, of which there is at most one.
 use Rattle.std.specs.Prelude.{ℕ, zero, suc, List, [], ◌∷◌, length}
 use Rattle.encodings.specs.Account.{Numbers, Account, header, Inside, leaf_row, wrap_row, seq_row, seqof_row, set_row}
 use Rattle.encodings.specs.Account.{setof_row, Rows, no_row, absent_row, default_row, written}
@@ -10,7 +10,7 @@ no_numbers = record { identifier = 0; size = 0; contents = 0 }
 abbrev pub nothing : Account
 nothing = header no_numbers leaf_row
 
--- an account, and the rows behind it
+-- an account, and the rows after it
 abbrev pub Read : Type 0
 Read = Account × List FlatRow
 
@@ -49,11 +49,11 @@ step g (a_seqof z n ∷ rs) = with_rows seqof_row z (members_by g n rs)
 step g (a_set z n p q ∷ rs) = with_rows (λ ms. set_row ms p q) z (members_by g n rs)
 step g (a_setof z n p q ∷ rs) = with_rows (λ ms. setof_row ms p q) z (members_by g n rs)
 
--- at most n rows deep
+-- an account of at most n levels of rows, and the rows after it
 abbrev pub read : ℕ → List FlatRow → Read
 read zero rs = (nothing, rs)
 read (suc n) rs = step (read n) rs
 
--- the account whose rows these are
+-- the account with these rows
 abbrev pub tree_of : List FlatRow → Account
 tree_of rs = (read (length rs) rs).0

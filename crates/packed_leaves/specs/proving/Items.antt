@@ -1,7 +1,7 @@
--- Where an item is.
+-- The places of items.
 use Rattle.std.specs.Prelude.{◌≡◌, ℕ, ℤ, List, Some, slice_get}
 use Rattle.asn_base.specs.Types.{Item}
 
--- the item at the place has the number
+-- the item at this place has this number
 abbrev pub IsPlace : List Item → ℤ → ℕ → Type 0
 IsPlace is z i = (x : Item) × (slice_get is i ≡ Some x) × (x.number ≡ z)

@@ -1,4 +1,4 @@
--- Steps that are those of a type, and what they ask of a value.
+-- Steps that are those of a type, and the values that they need.
 use Rattle.std.specs.Prelude.{◌≡◌, ℕ, zero, suc, ◌-◌, ◌≤◌, ◌⊎◌, ℤ, Bool, true, false, if◌then◌else◌, List, [], ◌∷◌}
 use Rattle.std.specs.Prelude.{◌++◌, map, Option, Some, None, slice_get}
 use Rattle.std.specs.List.{AllByRecursion}
@@ -21,7 +21,7 @@ use Rattle.packed_writer.specs.declared.typed.Elements.{Elements}
 
 -- ---- values
 
--- the component at a place, where it is present
+-- the component at a place, or None if it is absent
 abbrev pub row_at : Row → ℕ → Option AbstractValue
 row_at end i = None
 row_at (absent ws) zero = None
@@ -36,7 +36,7 @@ value_at v i = None
 abbrev pub IsNumber : AbstractValue → Type 0
 IsNumber v = (z : ℤ) × (v ≡ integer z)
 
--- a value of its type, with at most so many levels
+-- a value of its type, with at most its number of levels
 pub record IsIn (s : List Resolved) (x : Typed) : Type 0 where
   pub few : x.levels ≤ 64
   pub is : ValueIn s x.levels x.id.index (abstract x.value.now)
@@ -135,7 +135,7 @@ IsListKind k = ⊥
 abbrev pub IsList : List Resolved → TypeNumber → Type 0
 IsList s t = IsListKind (kind_at s t)
 
--- with this SIZE
+-- the type is a SEQUENCE OF or SET OF with this constraint on its size
 pub record IsListOf (s : List Resolved) (t : TypeNumber) (c : Constraint) : Type 0 where
   pub element : TypeNumber
   pub kind : (kind_at s t ≡ a_sequence_of c element) ⊎ (kind_at s t ≡ a_set_of c element)

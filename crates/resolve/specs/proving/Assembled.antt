@@ -1,4 +1,4 @@
--- Programs of what is gathered.
+-- The programs of gathered modules.
 use Rattle.std.specs.Prelude.{◌≡◌, ◌<◌, ◌≤◌, ◌⊎◌, ℕ, List, Some, map, length, slice_get, Vec}
 use Rattle.std.specs.Global.{Global}
 use Rattle.trees.specs.Values.{Name}
@@ -22,13 +22,13 @@ use Rattle.type_table.specs.proving.Cores.{AreCores}
 use Rattle.resolve.specs.Program.{Program, IsWhole, program_seen}
 use Rattle.resolve.specs.Sound.{IsSound, IsSoundFault}
 
--- these types are those of what is gathered, by number
+-- these types are those of the gathered modules, each at its number
 abbrev pub IsTableFrom : ModuleTables → List Type' → Type 0
 IsTableFrom g ts =
     AreNumbered (seen module_of g.modules.entries) (map header_of g.headers.items)
     (map assignment_of g.tables.assignments.items) (sources_of g.tables.roots.items) ts
 
--- what is gathered, with these types
+-- the gathered modules with these types
 abbrev pub program_from : ModuleTables → List Type' → Program
 program_from g ts = record {
   modules = seen module_of g.modules.entries;
@@ -38,7 +38,7 @@ program_from g ts = record {
   values = map value_of g.tables.values.items;
 }
 
--- a program of what is gathered
+-- a program of the gathered modules
 pub record IsOf (g : ModuleTables) (p : Program) : Type 0 where
   pub is : p ≡ program_from g p.types
   pub types : IsTableFrom g p.types
@@ -49,7 +49,7 @@ pub record IsAssembled (g : ModuleTables) (p : Program) : Type 0 where
   pub unfolds : AllUnfold p.types
   pub sound : IsSound p
 
--- the types of what is gathered can't be linked
+-- a reason why the types of the gathered modules can't be linked
 abbrev pub IsTablesFault : ModuleTables → NameFault → Type 0
 IsTablesFault g e =
     IsTableFault (seen module_of g.modules.entries) (map header_of g.headers.items)
@@ -59,7 +59,7 @@ IsTablesFault g e =
 abbrev pub ArePlaced : List AssignedAt → List Header → Type 0
 ArePlaced gs hs = (k : ℕ) (a : AssignedAt) → slice_get gs k ≡ Some a → a.module < length hs
 
--- memory ran out, or the fault tells that the type comes back to itself, with its module and its assignment
+-- `Memory`; or `Circular`, with the module and the assignment of the type
 abbrev pub TellsType : List (Name × TagDefault) → List (ℕ × Name) → Type' → NameFault → Type 0
 TellsType hs gs t faults.Memory = Unit {0}
 TellsType hs gs t (faults.Circular s) =
@@ -69,11 +69,11 @@ TellsType hs gs t (faults.Circular s) =
     × (slice_get hs owner ≡ Some (module_told s, default))
 TellsType hs gs t e = ⊥
 
--- what Linked keeps: a whole program, and the cores of its types
+-- the invariant of Linked: a whole program, and the cores of its types
 abbrev pub IsKept :
     List (Name × Module) → List Header → List AssignedAt → List Written → List ValueAt → Vec ℕ Global → Type 0
 IsKept ms hs gs ts vs cores = IsWhole (program_seen ms hs gs ts vs) × AreCores (types_of ts) cores.items
 
--- why it can't be put together
+-- a reason why the program can't be put together
 abbrev pub IsAssemblyFault : ModuleTables → NameFault → Type 0
 IsAssemblyFault g e = IsTablesFault g e ⊎ ((p : Program) × IsOf g p × IsSoundFault p e)

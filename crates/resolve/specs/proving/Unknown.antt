@@ -1,4 +1,4 @@
--- What the checks of the names in one notation answer.
+-- The results of the checks of the names in one notation.
 use Rattle.std.specs.Prelude.{◌≡◌, ℕ, List, Some, Result, MatchResult, option_map, string_bytes}
 use Rattle.trees.specs.declared.place.Reference.{Reference}
 use Rattle.trees.specs.Values.{Name}
@@ -11,16 +11,16 @@ use Rattle.names.specs.Names.{Module, Refers}
 use Rattle.resolve.specs.Program.{Program}
 use Rattle.resolve.specs.Qualified.{behind_module, MeanValues}
 
--- the name that is written there, if it stands behind a module's name
+-- the written name, if it is after a module's name
 abbrev pub named : Reference → List (Name × Name)
 named r = behind_module (option_map string_bytes r.module) (string_bytes r.name)
 
--- what is written there, read in module M, stands for a value
+-- the written name is that of a value in module M
 abbrev pub MeansValue : Program → Name → Reference → Type 0
 MeansValue p M r =
     (i : ℕ) × Refers p.modules M (option_map string_bytes r.module) (string_bytes r.name) (assigned.Value i)
 
--- memory ran out, or one of these names behind modules' names, read in module M, stands for no value
+-- `Memory`; or `UnknownName`, and one of these names after modules' names isn't that of a value in module M
 abbrev pub IsUnknownIn : List (Name × Module) → Name → List (Name × Name) → NameFault → Type 0
 IsUnknownIn ms M rs faults.Memory = Unit {0}
 IsUnknownIn ms M rs (faults.UnknownName s) =
@@ -30,6 +30,6 @@ IsUnknownIn ms M rs (faults.UnknownName s) =
     × ((i : ℕ) → Refers ms M (Some N) (name_told s) (assigned.Value i) → ⊥)
 IsUnknownIn ms M rs e = ⊥
 
--- what a check of these names answers
+-- the results of a check of these names
 abbrev pub Answers : Program → Name → List (Name × Name) → Result (Unit {0}) NameFault → Type 0
 Answers p M rs r = MatchResult r (λ _. MeanValues p.modules M rs) (IsUnknownIn p.modules M rs)

@@ -1,4 +1,4 @@
--- What the checks of one type, one list and one name answer.
+-- The results of the checks of one type, one list and one name.
 use Rattle.std.specs.Prelude.{◌≡◌, ◌<◌, ◌+◌, ◌^◌, ℕ, ℤ, pos, List, Option, Some, length, map, slice_get, string_bytes, String}
 use Rattle.std.specs.Global.{Global}
 use Rattle.trees.specs.Values.{Name}
@@ -21,32 +21,32 @@ use Rattle.type_table.specs.ListFaults.{IsTwiceIn, HasPassed}
 use Rattle.type_table.specs.Numbering.{RefersToNothing, form_of, parts_of}
 use Rattle.type_table.specs.Table.{Kind}
 
--- names without where they lie in memory
+-- names as octets, without their places in memory
 abbrev pub texts : List (String Global) → List Name
 texts = map string_bytes
 
 -- ---- numbering
 
--- memory ran out, or this name stands for no type in module M
+-- `Memory`; or `UnknownName`, and this name is not the name of a type in module M
 abbrev pub IsNothing : List (Name × Module) → Name → Option Name → Name → NameFault → Type 0
 IsNothing ms M N x faults.Memory = Unit {0}
 IsNothing ms M N x (faults.UnknownName s) =
     (module_told s ≡ M) × (name_told s ≡ x) × ((j : ℕ) → Refers ms M N x (assigned.Type j) → ⊥)
 IsNothing ms M N x e = ⊥
 
--- memory ran out, or the type is a name that stands for no type in module M
+-- `Memory`; or `UnknownName`, and the type is a reference to a name that is not the name of a type in module M
 abbrev pub IsUnknown : List (Name × Module) → Name → FormTree → NameFault → Type 0
 IsUnknown ms M f faults.Memory = Unit {0}
 IsUnknown ms M f (faults.UnknownName s) = (module_told s ≡ M) × RefersToNothing ms M f (name_told s)
 IsUnknown ms M f e = ⊥
 
--- memory ran out, or the limit of types is passed at name x of module M
+-- `Memory`; or the limit of types is passed at name x of module M
 abbrev pub IsTypesLimit : Name → Name → NameFault → Type 0
 IsTypesLimit M x faults.Memory = Unit {0}
 IsTypesLimit M x (faults.Limit limits.Types s) = (module_told s ≡ M) × (name_told s ≡ x)
 IsTypesLimit M x e = ⊥
 
--- why type i, whose parts would be numbered from n on, can't be numbered
+-- a reason why type i, whose parts would get the numbers from n on, can't be numbered
 abbrev pub IsSourceFault :
     List (Name × Module) → List (Name × TagDefault) → List (ℕ × Name) → ℕ → ℕ → Source → NameFault → Type 0
 IsSourceFault ms hs gs i n s faults.Memory = Unit {0}
@@ -67,28 +67,28 @@ IsSourceFault ms hs gs i n s e = ⊥
 
 -- ---- lists
 
--- memory ran out, or fault 30 tells module M and name x
+-- `Memory`; or `Twice` with module M and name x
 abbrev pub TellsName : Name → Name → NameFault → Type 0
 TellsName M x = TellsTwice (λ m y. (m ≡ M) × (y ≡ x))
 
--- memory ran out, or fault 2 tells this limit, module M and name a
+-- `Memory`; or `Limit` with this limit, module M and name a
 abbrev pub TellsLimit : Limit → Name → Name → NameFault → Type 0
 TellsLimit l M a faults.Memory = Unit {0}
 TellsLimit l M a (faults.Limit k s) = (k ≡ l) × (module_told s ≡ M) × (name_told s ≡ a)
 TellsLimit l M a e = ⊥
 
--- memory ran out, or number z of name x is among these numbers in module M
+-- `Memory`; or `Twice` for number z of name x, which is already among these numbers in module M
 abbrev pub IsNumberFault : {Z : Type 0} → Name → Name → Z → List Z → NameFault → Type 0
 IsNumberFault M x z zs = TellsTwice (λ m y. (m ≡ M) × (y ≡ x) × StandsIn zs z)
 
--- why the list of a type is not as it has to be, in assignment a of module M
+-- a reason why the list of a type in assignment a of module M breaks a rule
 abbrev pub IsKindFault : Name → Name → Kind → NameFault → Type 0
 IsKindFault M a k faults.Memory = Unit {0}
 IsKindFault M a k (faults.Twice s) = (module_told s ≡ M) × IsTwiceIn k (name_told s)
 IsKindFault M a k (faults.Limit l s) = (module_told s ≡ M) × (name_told s ≡ a) × HasPassed l k
 IsKindFault M a k e = ⊥
 
--- memory ran out, or the number of this addition behind root items with these numbers is 2 to the 127
+-- `Memory`; or the number of this addition after root items with these numbers is 2^127
 abbrev pub IsGreatAt : List ℤ → List Item → NumberFault → Type 0
 IsGreatAt root more numbers.Memory = Unit {0}
 IsGreatAt root more (numbers.TooGreat i) = slice_get (additions_from root 0 more) i ≡ Some (pos (2 ^ 127))

@@ -1,4 +1,4 @@
--- The cores of the types of a table, as they are found one after the other.
+-- The cores of the types of a table, which are found one after another.
 use Rattle.std.specs.Prelude.{List, ℕ, length}
 use Rattle.type_table.specs.proving.Notes.{AreRight, AreNoted}
 use Rattle.type_table.specs.Table.{Type', IsCore}

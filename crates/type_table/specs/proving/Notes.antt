@@ -1,21 +1,21 @@
--- Numbers of types that are noted in a list, one after the other: what is noted for each type, or that nothing is.
+-- Numbers that are noted for types in a list, one after another. A type may also have no note yet.
 use Rattle.std.proofs.Common.{◌≡◌, ◌⊎◌, inl, inr, ℕ, zero, suc, ◌<◌, List, [], ◌∷◌, length, Some, refl, sym, subst, ap, ◌∙◌, arith, set}
 use Rattle.std.specs.Prelude.{slice_get}
 use Rattle.std.proofs.lemmas.Option.{slice_get_within, same_Some}
 
--- in a table of n types something is noted for type i; for others the number n is noted, or a greater one
+-- In a table of n types there is a note for type i. A number from n on in the list means that there is no note.
 abbrev pub IsKnown : ℕ → List ℕ → ℕ → Type 0
 IsKnown n notes i = (x : ℕ) × (slice_get notes i ≡ Some x) × (x < n)
 
--- what is noted is right
+-- each note is right
 abbrev pub AreRight : ℕ → (ℕ → ℕ → Type 0) → List ℕ → Type 0
 AreRight n P notes = (i x : ℕ) → slice_get notes i ≡ Some x → x < n → P i x
 
--- nothing is noted yet
+-- no type has a note yet
 abbrev pub AreUnknown : ℕ → List ℕ → Type 0
 AreUnknown n notes = (i : ℕ) → IsKnown n notes i → ⊥
 
--- all is noted, and right
+-- each type has a note, and each note is right
 pub record AreNoted (n : ℕ) (P : ℕ → ℕ → Type 0) (notes : List ℕ) : Type 0 where
   pub long : length notes ≡ n
   pub each : (i x : ℕ) → slice_get notes i ≡ Some x → (x < n) × P i x
@@ -65,7 +65,7 @@ module _ (n : ℕ) (P : ℕ → ℕ → Type 0) where
   pub right_first : (notes : List ℕ) → AreUnknown n notes → AreRight n P notes
   right_first notes unknown i x e l = absurd (unknown i (x, e, l))
 
-  -- a number that is noted is the one that is there
+  -- the note of a type is the number at its place
   noted_at : (notes : List ℕ) (i : ℕ) → AreRight n P notes → IsKnown n notes i → (x : ℕ) →
       slice_get notes i ≡ Some x → (x < n) × P i x
   noted_at notes i known k x e =

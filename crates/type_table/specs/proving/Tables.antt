@@ -1,4 +1,4 @@
--- A table as it lies in memory, and as definitions see it.
+-- A table as it is in memory, and as definitions see it.
 use Rattle.std.proofs.Common.{◌≡◌, ℕ, ◌<◌, ◌++◌, List, length, Some, sym, ap, ◌∙◌, get_or, arith, replicate, take}
 use Rattle.std.specs.Prelude.{slice_get}
 use Rattle.std.proofs.Math.Seq.{take-append_seam}
@@ -28,7 +28,7 @@ as_long ws = length-map ws type_of
 
 -- ---- cores
 
--- where all cores are found all types unfold
+-- if all cores are found, all types unfold
 pub all_unfold : (ts : List Type') (cores : List ℕ) → AreCores ts cores → AllUnfold ts
 all_unfold ts cores a i l =
     let w : i < length cores = omega (arith, l, a.long) in
@@ -40,10 +40,10 @@ alike n z j k e =
     let within : j < n = omega (arith, slice_get_within (replicate n z) j k e, length-replicate n z) in
     sym (get_or_from_slice_get (replicate n z) j k z e) ∙ get_or-replicate n j z z within
 
--- nothing is known where the number of types stands everywhere
+-- if each place holds the number of types, no type has a note
 pub none_known : (n m : ℕ) → AreUnknown m (replicate n m)
 none_known n m i k = let q = alike n m i k.0 k.1 in absurd (omega (arith, q, k.2))
 
--- what a list of as many numbers reads as where it is written back
+-- a list of as many numbers that is written back is read as it was
 pub written_back : (n : ℕ) (new rest : List ℕ) → n ≡ length new → take n (new ++ rest) ≡ new
 written_back n new rest e = ap (λ k. take k (new ++ rest)) e ∙ take-append_seam new rest

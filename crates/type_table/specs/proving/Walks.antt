@@ -1,4 +1,4 @@
--- Walks from place to place: they add up, and a long one comes back to where it was.
+-- Walks from place to place. Two walks add up, and a long walk comes back to a place where it was.
 use Rattle.std.proofs.Common.{◌≡◌, ◌⊎◌, inl, inr, ℕ, zero, suc, ◌+◌, ◌-◌, ◌*◌, ◌<◌, ◌≤◌, true, false, List, [], ◌∷◌, length, Option, Some, None, refl, sym, ap, ◌∙◌, arith, eqb}
 use Rattle.std.proofs.Math.Nat.{mul-le-mul_left}
 use Rattle.std.specs.List.{IsDistinct, AllByRecursion, list_any}
@@ -12,7 +12,7 @@ walk_on : (next : ℕ → Option ℕ) (a b j : ℕ) (o : Option ℕ) →
 walk_on next a b j None go e = absurd cc
 walk_on next a b j (Some k) go e = go k e
 
--- steps first and then more steps
+-- some steps and then more steps make one walk
 pub walk_walk : (next : ℕ → Option ℕ) (a b i j : ℕ) → follow next a i ≡ Some j → follow next (a + b) i ≡ follow next b j
 walk_walk next zero b i j e =
     let s : 0 + b ≡ b = omega arith in
@@ -26,7 +26,7 @@ abbrev visited_on : Option ℕ → (ℕ → List ℕ) → List ℕ
 visited_on None f = []
 visited_on (Some j) f = f j
 
--- the places that a follow of k steps meets
+-- the places that a walk of k steps passes
 abbrev visited : (ℕ → Option ℕ) → ℕ → ℕ → List ℕ
 visited next zero i = i ∷ []
 visited next (suc k) i = i ∷ visited_on (next i) (λ j. visited next k j)
@@ -41,7 +41,7 @@ length_visited : (next : ℕ → Option ℕ) (k i p : ℕ) → follow next k i �
 length_visited next zero i p e = refl
 length_visited next (suc k) i p e = ap suc (length_on next k p (next i) (λ j. length_visited next k j p) e)
 
--- place q is met after few enough steps
+-- place q is passed after at most k steps
 record Meets (next : ℕ → Option ℕ) (k i q : ℕ) : Type 0 where
   steps : ℕ
   few : steps ≤ k
@@ -72,12 +72,12 @@ below_on : (next : ℕ → Option ℕ) (n k i q : ℕ) (o : Option ℕ) → next
 below_on next n k i q None e c go h = absurd cc
 below_on next n k i q (Some j) e c go h = go j (c i j e) h
 
--- a follow stays within the places
+-- a walk stays below n
 below : (next : ℕ → Option ℕ) (n k i q : ℕ) → IsWithin next n → i < n → follow next k i ≡ Some q → q < n
 below next n zero i q c l e = let s : i ≡ q = cc in omega arith
 below next n (suc k) i q c l e = below_on next n k i q (next i) refl c (λ j m. below next n k j q c m) e
 
--- a follow of at most k steps comes to a place, and from there back to it
+-- a walk of at most k steps comes to a place, and then back to it
 record Repeats (next : ℕ → Option ℕ) (k i : ℕ) : Type 0 where
   before : ℕ
   after : ℕ
@@ -123,7 +123,7 @@ circular next n i p e r =
     let t : m + suc r.after ≡ suc r.after + m = omega arith in
     record { steps = r.after; back = sym one ∙ ap (λ k. follow next k r.at) t ∙ two ∙ to_p }
 
--- a follow of as many steps as there are places ends at a place that comes back to itself
+-- a walk of as many steps as there are places ends at a place that comes back to itself
 pub comes_back : (next : ℕ → Option ℕ) (n i p : ℕ) → IsWithin next n → i < n → follow next n i ≡ Some p →
     ComesBack next p
 comes_back next n i p c l e =
@@ -132,7 +132,7 @@ comes_back next n i p c l e =
       | inr r ↦ circular next n i p e r
     ]
 
--- what ends doesn't come back
+-- a place that leads nowhere doesn't come back to itself
 ends_once : (next : ℕ → Option ℕ) (c : ℕ) → next c ≡ None → ComesBack next c → ⊥
 ends_once next c f v =
     let e : onward (next c) (λ j. follow next v.steps j) ≡ None = ap (λ o. onward o (λ j. follow next v.steps j)) f in
@@ -148,12 +148,12 @@ ended_few next n k i c closed l e f =
       | inr r ↦ absurd (ends_once next c f (circular next k i c e r))
     ]
 
--- one step more
+-- a walk, and one step more
 pub one_more : (next : ℕ → Option ℕ) (k i at j : ℕ) → follow next k i ≡ Some at → next at ≡ Some j →
     follow next (k + 1) i ≡ Some j
 one_more next k i at j e f = walk_walk next k 1 i at e ∙ ap (λ o. onward o (λ q. Some q)) f
 
--- around a circle any number of times
+-- a walk around a circle, any number of times
 turns : (next : ℕ → Option ℕ) (n s i : ℕ) → follow next (suc s) i ≡ Some i → follow next (n * suc s) i ≡ Some i
 turns next zero s i e = let z : zero * suc s ≡ zero = omega arith in rw z refl
 turns next (suc n) s i e =

@@ -61,7 +61,7 @@ pub record IsDue (c : Part) (cs : List Part) (places : List (Option ℕ)) : Type
   pub needed : needed_in c.presence c.standing ≡ Some group
   pub other : HasOther group cs places
 
--- none of the first i components is due
+-- none of the first i components is an absent one that must be present
 abbrev pub NoneDue : List Part → List (Option ℕ) → ℕ → Type 0
 NoneDue cs ps i = (k : ℕ) → k < i → (c : Part) → IsAbsent cs ps k c → IsDue c cs ps → ⊥
 

@@ -1,4 +1,4 @@
--- A `&` to a block is made where one to its words is.
+-- A `&` to a block is made from one to its words.
 use Rattle.bits.proofs.memory.Memory.TheLaw.Statement.{statement}
 use Rattle.bits.specs.contracts.memory.Memory as C
 use Rattle.bits.proofs.Cells.{word_laws}

@@ -1,4 +1,4 @@
--- A word is written through the pointer, behind the others.
+-- A word is written through the pointer, after the others.
 use Rattle.bits.specs.contracts.memory.Memory.add as f
 use Rattle.bits.proofs.memory.Memory.add.Statement.{statement}
 use Rattle.bits.proofs.memory.Memory.add.Code as code

@@ -1,4 +1,4 @@
--- The heap is asked for a larger block. It keeps the words, also where the block moves.
+-- The heap is asked for a larger block. The block keeps the words, even if it moves.
 use Rattle.bits.specs.contracts.memory.Memory as memory
 use Rattle.bits.specs.contracts.memory.Memory.grow as f
 use Rattle.bits.proofs.memory.Memory.grow.Statement.{statement}
@@ -111,7 +111,8 @@ grow_spec 𝓤 𝓛 𝓜 𝓡 wired =
     let Got : Answer.Denot → Fml = resized_if_ok (ghosts.dealloc_token heap) u64 p len old new h.words in
     rewrite ! 0 (λ (k : ℕ). ‵ (Held k h.room)) (sym same) refl $ rewrite ! 0 (λ (n : ℕ). ‵ (Held len n)) (sym wide) refl $
     rewrite ! 2 Cell word refl $
-    -- [the block; what the fields own; the struct's cell; the open borrow, in three entries; self's first part; the `&`; its token]
+    -- [the block; what the fields own; the struct's cell; the open borrow, in three entries; self's first part; the
+    -- `&`; its token]
     first ! $ blocks ! $
     sets ! (of_opd ! (load ! (through ! refl (fld ! refl (stop !))) (look_in ! 2 (sub ! 0 refl (whole !))))) refl (tt, tt) $
     let G = triple_of 𝓛 (g.signature u64) (g.spec u64 𝓛 𝓜.mem 𝓡.returns) in
@@ -131,7 +132,8 @@ grow_spec 𝓤 𝓛 𝓜 𝓡 wired =
     split ! $ move ! (1 ∷ []) $ pick ! (λ ws. split ! $ drop ! $ move ! (1 ∷ []) $ split ! $ split3 ! $
     use2 𝓛 (‵ (flft κ q)) (𝓛.lfts.lft_join κ q) $ move ! (2 ∷ 3 ∷ []) $
     use2 𝓛 (raw (ex 𝓤 (Flagged 𝓛 Got v))) (by_flag 𝓛 Got (fst∗ 𝓤 (never 𝓤) (sem 𝓛 (fsep (room_for (array_of u64 (new - len)) null_ptr) (ghosts.dealloc_token heap (array_of u64 new) null_ptr)))) v r) $
-    -- [what the heap hands out; the token; nothing; what the fields own; the struct's cell; the open borrow, in three entries; self's first part]
+    -- [what the heap hands out; the token; nothing; what the fields own; the struct's cell; the open borrow, in three
+    -- entries; self's first part]
     flagged ! v Got
     (λ b₂ o₂ e₂.
     let p₂ : Ptr = block_ptr b₂ o₂ in

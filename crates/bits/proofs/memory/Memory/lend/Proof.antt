@@ -1,4 +1,4 @@
--- The words are lent from the pointer on, for as long as the block is.
+-- The words are borrowed from the pointer on, as long as the block is.
 use Rattle.bits.specs.contracts.memory.Memory as memory
 use Rattle.bits.specs.contracts.memory.Memory.lend as f
 use Rattle.bits.proofs.memory.Memory.lend.Statement.{statement}
