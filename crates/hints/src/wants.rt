@@ -168,11 +168,7 @@ pub fn wanted(
     }
     let front = tokens.get(..place).unwrap_or(tokens);
     let kinds = expected(alloc, front)?;
-    let mut words = if front.is_empty() {
-        String::from_str(alloc, ", expected a module, which begins with its name")?
-    } else {
-        list(alloc, kinds.as_slice())?
-    };
+    let mut words = list(alloc, kinds.as_slice())?;
     if let Some(word) = meant(kinds.as_slice(), found) {
         words.push_str("; did you mean ")?;
         words.push_str(word)?;
