@@ -1,5 +1,7 @@
 //! What can come at a place of a module's text, in words.
 
+ghost use Rattle.std.specs.Prelude.{◌≡◌, IfOk, codes, string_bytes};
+
 use crate::near::is_near;
 use expected_tokens::expected;
 use std::alloc::{AllocError, Global};
@@ -162,7 +164,10 @@ pub fn wanted(
     tokens: &[Token],
     place: usize,
     found: &str,
-) -> Result<String, AllocError> {
+) -> Result<String, AllocError>
+    ensures front { place ≡ 0
+        → IfOk result (λ s. string_bytes s ≡ codes ", expected a module, which begins with its name") }
+{
     if place == 0 {
         return String::from_str(alloc, ", expected a module, which begins with its name");
     }
