@@ -1,5 +1,5 @@
--- The octets of a named value of a program under a named type in canonical PER, unaligned, and why there are none (X.691,
--- clause 11.1).
+-- The octets of a named value of a program under a named type in canonical PER, unaligned, and why there are none
+-- (X.691, clause 11.1).
 use Rattle.std.specs.Prelude.{◌≡◌, ◌⊎◌, ℕ, ◌<◌, List, length}
 use Rattle.asn_base.specs.Abstract.{AbstractValue}
 use Rattle.asn_base.specs.Types.{Resolved}

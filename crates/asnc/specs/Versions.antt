@@ -24,8 +24,8 @@ pub record IsCompared (p : Program) (s : List Resolved) (q : Program) (r : List 
   pub newer_there : newer < length r
   pub is : IsTrue b ↔ Later s older r newer
 
--- Types are not compared, for the reason that the refusal gives: the name finds no type in one program at least. `Memory`
--- says nothing of the programs.
+-- Types are not compared, for the reason that the refusal gives: the name finds no type in one program at least.
+-- `Memory` says nothing of the programs.
 abbrev pub IsNotCompared : Program → Program → List ℕ → Fault → Type 0
 IsNotCompared p q name faults.Memory = Unit {0}
 IsNotCompared p q name (faults.NoType x) =

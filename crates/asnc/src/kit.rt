@@ -1,6 +1,7 @@
 //! Modules that are ready for use.
 
-ghost use Rattle.std.specs.Prelude.{◌≡◌, ◌<◌, ℕ, Err, List, length, map, IfOk, IfErr, IfSome, MatchOption, MatchResult, string_bytes};
+ghost use Rattle.std.specs.Prelude.{◌≡◌, ◌<◌, ℕ, List, length, map, string_bytes};
+ghost use Rattle.std.specs.Prelude.{Err, IfOk, IfErr, IfSome, MatchOption, MatchResult};
 ghost use Rattle.asn_base.specs.Abstract.{abstract};
 ghost use Rattle.asn_base.specs.Typed.{IsValue};
 ghost use Rattle.codec_source.specs.declared.fault.ReadFault.TheVariants.{Memory as no_room};
@@ -12,7 +13,8 @@ ghost use Rattle.packed_encodings.specs.Lengths.{Bits};
 ghost use Rattle.packed_encodings.specs.Packing.{Packed};
 ghost use Rattle.packed_encodings.specs.Padding.{Padded};
 ghost use Rattle.packed_writer.specs.Message.{IsMessage};
-ghost use Rattle.packed_writer.specs.declared.fault.WriteFault.TheVariants.{NotOfType as not_packed, TooLong as too_many_bits};
+ghost use Rattle.packed_writer.specs.declared.fault.WriteFault.TheVariants.{NotOfType as not_packed};
+ghost use Rattle.packed_writer.specs.declared.fault.WriteFault.TheVariants.{TooLong as too_many_bits};
 ghost use Rattle.value_text.specs.Print.{print};
 ghost use Rattle.views.specs.Seen.{IsView};
 ghost use Rattle.views.specs.Tree.{Tree, value_of};
@@ -248,8 +250,8 @@ impl Kit {
         }
     }
 
-    /// Encodes a value of a type in canonical PER, unaligned: its bits, filled to octets (X.691, 11.1). Both are named as
-    /// for [`Kit::der`], and the value's notation is read under this type.
+    /// Encodes a value of a type in canonical PER, unaligned: its bits, filled to octets (X.691, 11.1). Both are named
+    /// as for [`Kit::der`], and the value's notation is read under this type.
     ///
     /// `NoType`: the first name is not that of a type. `NoValue`: the second name is not that of a value. `Value`: the
     /// notation stands for no value of the type. `TooLong`: there are more than 16,777,216 octets. `Memory`: an
@@ -305,8 +307,8 @@ impl Kit {
         )
     }
 
-    /// Finds the type of a name, written as `Module.Name`, by the module that assigns or imports it (X.680, clause 14.1).
-    /// None if no type has this name. The number is that of the type for the other calls of this kit.
+    /// Finds the type of a name, written as `Module.Name`, by the module that assigns or imports it (X.680, clause
+    /// 14.1). None if no type has this name. The number is that of the type for the other calls of this kit.
     pub fn type_named(&self, name: &str) -> Option<TypeId>
         // It is a type of this name, and there is none if the answer is None.
         ensures named { MatchOption result
@@ -321,8 +323,8 @@ impl Kit {
     /// Encodes a value that a program has made, by the distinguished rules (X.690, clauses 8, 10 and 11), and returns
     /// the octets with their account.
     ///
-    /// `NotOfType`: the value is not one of the type, or the kit has no such type. `TooLong`: the encoding has more than
-    /// 16,777,216 octets. `Memory`: an allocation failed.
+    /// `NotOfType`: the value is not one of the type, or the kit has no such type. `TooLong`: the encoding has more
+    /// than 16,777,216 octets. `Memory`: an allocation failed.
     pub fn encode(
         &self,
         alloc: Global,
@@ -334,7 +336,9 @@ impl Kit {
         // The account describes them.
         ensures account { IfOk result (λ w. Tells self.now.types id.index (abstract value.now) w.0.items w.1) }
         // `NotOfType` if and only if the value is not one of the type.
-        ensures not_of_type { IfErr result (λ e. e ≡ NotOfType → IsValue self.now.types id.index (abstract value.now) → ⊥) }
+        ensures not_of_type { IfErr result (λ e. e ≡ NotOfType
+            → IsValue self.now.types id.index (abstract value.now)
+            → ⊥) }
         ensures no_value { (IsValue self.now.types id.index (abstract value.now) → ⊥) → result ≡ Err NotOfType }
         // `TooLong` only if each encoding by the distinguished rules is too long.
         ensures longer { IfErr result (λ e. e ≡ TooLong → (o : List ℕ)
@@ -357,7 +361,9 @@ impl Kit {
         // The octets are the value's one message.
         ensures message { IfOk result (λ o. IsMessage self.now.types id.index (abstract value.now) o.items) }
         // `NotOfType` if and only if the value is not one of the type.
-        ensures not_of_type { IfErr result (λ e. e ≡ not_packed → IsValue self.now.types id.index (abstract value.now) → ⊥) }
+        ensures not_of_type { IfErr result (λ e. e ≡ not_packed
+            → IsValue self.now.types id.index (abstract value.now)
+            → ⊥) }
         ensures no_value { (IsValue self.now.types id.index (abstract value.now) → ⊥) → result ≡ Err not_packed }
         // `TooLong` only if the value's message is too long.
         ensures longer { IfErr result (λ e. e ≡ too_many_bits → (b : Bits) (o : List ℕ)
@@ -368,9 +374,9 @@ impl Kit {
         write_uper(alloc, &self.packed, id, value)
     }
 
-    /// Decodes the value of a type that octets encode by the basic or by the distinguished rules. Its strings are slices
-    /// of the octets if they are primitive there. Beside the value is the number of skipped additions that the type
-    /// lacks. `Read::view` shows the value part by part, and [`View::to_value`] copies it.
+    /// Decodes the value of a type that octets encode by the basic or by the distinguished rules. Its strings are
+    /// slices of the octets if they are primitive there. Beside the value is the number of skipped additions that the
+    /// type lacks. `Read::view` shows the value part by part, and [`View::to_value`] copies it.
     ///
     /// The faults are those of [`ber_reader::read_ber`] and [`ber_reader::read_der`].
     pub fn decode<'a>(
@@ -400,15 +406,16 @@ impl Kit {
     ) -> Result<String, value_text::Fault>
         requires tree { (t : Tree) × IsView view.now t }
         // A value of the type is printed, and nothing else.
-        ensures value { (t : Tree) → IsView view.now t → IfOk result (λ s. IsValue self.now.types id.index (value_of t)) }
+        ensures value { (t : Tree) → IsView view.now t
+            → IfOk result (λ s. IsValue self.now.types id.index (value_of t)) }
         ensures text { (t : Tree) → IsView view.now t
             → IfOk result (λ s. string_bytes s ≡ print self.now.types id.index (value_of t)) }
     {
         print_view(alloc, &self.schema, id, view)
     }
 
-    /// Whether the type of this name in the newer kit is a later version of that in the older kit: the same with additions
-    /// appended at extension markers, at any depth (X.680, clauses 7, 20, 25 and 29). The type is named as
+    /// Whether the type of this name in the newer kit is a later version of that in the older kit: the same with
+    /// additions appended at extension markers, at any depth (X.680, clauses 7, 20, 25 and 29). The type is named as
     /// `Module.Name`, in each kit where it is assigned or where it is imported.
     ///
     /// `NoType`: at least one kit has no type of this name. `Memory`: an allocation failed.

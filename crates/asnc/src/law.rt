@@ -38,8 +38,8 @@ pub fn headline()
         IsRight xs first second o a }
 {}
 
-/// What [`crate::Kit::uper`] returns for texts that [`crate::Kit::open`] took is right, from the texts to the octets. They
-/// are the bits of the value, no others are, and they are read as a value that is the same, and as no other.
+/// What [`crate::Kit::uper`] returns for texts that [`crate::Kit::open`] took is right, from the texts to the octets.
+/// They are the bits of the value, no others are, and they are read as a value that is the same, and as no other.
 pub fn packed()
     ensures { (xs : List (List ℕ)) (p : Program) (s : List Resolved) (first second o : List ℕ) →
         Accepted xs p s →
@@ -53,7 +53,8 @@ pub fn packed()
 /// [`judging::judge`] accepts what [`crate::Kit::der`] returns for texts that [`crate::Kit::open`] took, by the text of
 /// the account beside it, in any JSON spelling. So it accepts what [`crate::Kit::account`] returns.
 pub fn judged()
-    ensures account { (xs : List (List ℕ)) (p : Program) (s : List Resolved) (first second o text : List ℕ) (a : Account) →
+    ensures account { (xs : List (List ℕ)) (p : Program) (s : List Resolved) (first second o text : List ℕ)
+        (a : Account) →
         Accepted xs p s →
         IsEncoded p s first second o a →
         IsAccountIn text a →
@@ -70,7 +71,8 @@ pub fn judged()
 /// value back by either rules.
 pub fn reading()
     // The printed text is a value of the type that the octets encode by the rules, and the only one.
-    ensures right { (xs : List (List ℕ)) (p : Program) (s : List Resolved) (r : Rules) (name o printed : List ℕ) (k : ℕ) →
+    ensures right { (xs : List (List ℕ)) (p : Program) (s : List Resolved) (r : Rules) (name o printed : List ℕ)
+        (k : ℕ) →
         Accepted xs p s →
         IsReadAs p s r name o printed k →
         IsRightlyRead xs r name o printed k }
@@ -107,8 +109,8 @@ pub fn reading()
 /// What [`crate::Kit::der`] returns for one version of a type is decoded by [`crate::Kit::ber`] of another version, if
 /// [`crate::Kit::later`] says yes of both.
 pub fn versions()
-    // The older version prints what it keeps of the value, and skips as many additions as it leaves out, unless the value
-    // has an alternative or an item that the older version doesn't know.
+    // The older version prints what it keeps of the value, and skips as many additions as it leaves out, unless the
+    // value has an alternative or an item that the older version doesn't know.
     ensures older { (xs ys : List (List ℕ)) (p q : Program) (s r : List Resolved) (name second o printed : List ℕ)
         (a : Account) (k : ℕ) →
         Accepted xs p s →

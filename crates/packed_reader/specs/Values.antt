@@ -1,5 +1,6 @@
 -- Values of all types and messages, read from the front of bits (X.691, 11 to 30).
-use Rattle.std.specs.Prelude.{◌≡◌, ℕ, zero, suc, ◌+◌, ◌-◌, ◌==◌, nat_lt, Bool, true, false, if◌then◌else◌, List, [], ◌∷◌, length, Option, Some, None}
+use Rattle.std.specs.Prelude.{◌≡◌, ℕ, zero, suc, ◌+◌, ◌-◌, ◌==◌, nat_lt, Bool, true, false}
+use Rattle.std.specs.Prelude.{if◌then◌else◌, List, [], ◌∷◌, length, Option, Some, None}
 use Rattle.std.specs.Prelude.{slice_get}
 use Rattle.bits.specs.Words.{octet_bits}
 use Rattle.asn_base.specs.Abstract.{AbstractValue, fields, list, alternative}
@@ -106,8 +107,8 @@ pub record IsValueRead (s : List Resolved) (l t n : ℕ) (w : Taken AbstractValu
 
 -- ---- messages
 
--- a value, and how many additions were skipped; or why octets are refused: there are more than 16,777,216, or there is a
--- fault at a bit, by its place from 0
+-- a value, and how many additions were skipped; or why octets are refused: there are more than 16,777,216, or there is
+-- a fault at a bit, by its place from 0
 pub data Answer : Type 0 where
   answers : AbstractValue → ℕ → Answer
   too_long : Answer

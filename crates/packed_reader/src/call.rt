@@ -56,12 +56,12 @@ fn numbered(calls: &[PackedStep], number: usize) -> Option<Call>
     None
 }
 
-/// Takes the bits that tell which of a CHOICE's alternatives follows (X.691, 23). The calls are the steps of its routine
-/// after `PackedStep::Pick`.
+/// Takes the bits that tell which of a CHOICE's alternatives follows (X.691, 23). The calls are the steps of its
+/// routine after `PackedStep::Pick`.
 ///
-/// `Outside`: the root has no alternative at the place that is sent. `UnknownAlternative`: there is no such addition, or its
-/// number is not in the small form. The bits of the place or of the number are not taken then. `Truncated`: the bits end
-/// before.
+/// `Outside`: the root has no alternative at the place that is sent. `UnknownAlternative`: there is no such addition,
+/// or its number is not in the small form. The bits of the place or of the number are not taken then. `Truncated`: the
+/// bits end before.
 pub fn read_call(bits: &mut Bits<'_>, calls: &[PackedStep]) -> Result<Call, Refusal>
     requires { HaveWidth calls.now }
     ensures { call_from calls.now (bits_left bits.old) ≡ outcome_by chosen_of result (bits_left bits.new) }
@@ -101,7 +101,8 @@ fn read_root_call(bits: &mut Bits<'_>, width: usize, calls: &[PackedStep]) -> Re
 }
 
 fn read_added_call(bits: &mut Bits<'_>, calls: &[PackedStep]) -> Result<Call, Refusal>
-    ensures { judging (λ j. or_refused UnknownAlternative (added_call j calls.now 0)) (small_from UnknownAlternative) (bits_left bits.old)
+    ensures { judging (λ j. or_refused UnknownAlternative (added_call j calls.now 0))
+        (small_from UnknownAlternative) (bits_left bits.old)
         ≡ outcome_by chosen_of result (bits_left bits.new) }
 {
     let start = *bits;

@@ -1,13 +1,13 @@
 //! Answers rows of data by the calls that the program `asnc` makes, prints each answer below its row's words, and says
 //! where it is another one than the row wants.
 //!
-//! The files that its words name are files of rows. A row's first word is a command and its second the row's own name:
-//! `line`, `asnc`, `job`, `octcheck`, `octjob` and `sweep`, each described where it is answered and at the head of the files that use it. A text of a
-//! row that is named `wanted` is the answer that it has to have, as `wanted` says; nothing of it is known here. The
-//! answers that the stored run compares, and what rows want, are written by hand or made by other tools, not taken from
-//! this program, but for those of `hints.rows` and lists of expected tokens, which were compared by hand with the
-//! grammar. A row with `caret` among its words is told with the line of its fault, and a row with `numbered` among its
-//! words has each `#` of its texts counted, from 0.
+//! The files that its words name are files of rows. A row's first word is a command and its second the row's own name.
+//! The commands are `line`, `asnc`, `job`, `octcheck`, `octjob` and `sweep`. Each is described where it is answered and
+//! at the head of the files that use it. A text of a row that is named `wanted` is the answer that it has to have, as
+//! `wanted` says; nothing of it is known here. The answers that the stored run compares, and what rows want, are
+//! written by hand or made by other tools, not taken from this program. Those of `hints.rows` and lists of expected
+//! tokens are the exception: they were compared by hand with the grammar. A row with `caret` among its words is shown
+//! with the line of its fault, and a row with `numbered` among its words has each `#` of its texts counted, from 0.
 #![tactic(auto)]
 
 mod programs;

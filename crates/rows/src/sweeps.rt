@@ -275,9 +275,9 @@ fn lines(alloc: Global, asked: &Asked, text: &str) -> Result<String, AllocError>
     Ok(out)
 }
 
-/// `sweep NAME WORD..`: the words of octcheck, whose account gets a yes, and has no white space. What is said of it; and
-/// how often a yes, a no and a refusal are said where each number is one up or down, each row is left out, doubled or of
-/// another kind, or each bit of the octets is changed.
+/// `sweep NAME WORD..`: the words of octcheck, whose account gets a yes, and has no white space. The answer has what is
+/// said of it. It has also how often a yes, a no and a refusal are said where each number is one up or down, each row
+/// is left out, doubled or of another kind, or each bit of the octets is changed.
 pub fn sweep(alloc: Global, row: &Row) -> Result<String, Refusal> {
     let asked = asked_in(alloc, row, "octcheck")?;
     let text = str::from_utf8(asked.account.as_slice())
