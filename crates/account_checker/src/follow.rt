@@ -1,8 +1,14 @@
 //! Whether the rows of an account follow a type and a value (X.690, 8.1 and 8.9 to 8.14).
 
-ghost use Rattle.account_checker.specs.Follows.{AreContents, ElementsFollow, Follows, HasContents, InsideFollows, MembersFollow, Under, Where, before, is_built, octets_told as octets_in, sizes};
-ghost use Rattle.account_checker.specs.Parts.{AreEnds, ChoiceFollows, ElementAt, FieldsFollow, HasDefault, IsOuterOf, ListFollows, Member, MemberAt, WrittenAt, is_absent, is_default as left_out, place_in, rows_in, size_in, size_or};
-ghost use Rattle.asn_base.specs.Abstract.{AbstractValue, Row as Row', abstract, alternative, fields, list, row_of_list, row_of_options};
+ghost use Rattle.account_checker.specs.Follows.{ElementsFollow, Follows, InsideFollows, MembersFollow, Under, Where};
+ghost use Rattle.account_checker.specs.Follows.{AreContents, HasContents, before, is_built, sizes};
+ghost use Rattle.account_checker.specs.Follows.{octets_told as octets_in};
+ghost use Rattle.account_checker.specs.Parts.{AreEnds, ChoiceFollows, FieldsFollow, HasDefault, IsOuterOf, ListFollows};
+ghost use Rattle.account_checker.specs.Parts.{ElementAt, Member, MemberAt, WrittenAt};
+ghost use Rattle.account_checker.specs.Parts.{is_absent, is_default as left_out};
+ghost use Rattle.account_checker.specs.Parts.{place_in, rows_in, size_in, size_or};
+ghost use Rattle.asn_base.specs.Abstract.{AbstractValue, Row as Row', abstract, row_of_list, row_of_options};
+ghost use Rattle.asn_base.specs.Abstract.{alternative, fields, list};
 ghost use Rattle.asn_base.specs.Decided.{IsChosen, IsComponent};
 ghost use Rattle.asn_base.specs.Seen.{alternative_of, component_of, kind_of};
 ghost use Rattle.asn_base.specs.Typed.{AreComponents, AreElements, ValueIn, ValueOf};
@@ -17,7 +23,9 @@ ghost use Rattle.encodings.specs.Account.{Account, Inside, Numbers as Numbers', 
 ghost use Rattle.octet_account.specs.Flat.{FlatRow, count, member_rows, rows_of};
 ghost use Rattle.octet_account.specs.Seen.{flat, numbers_of, told_of};
 ghost use Rattle.std.specs.List.{sum};
-ghost use Rattle.std.specs.Prelude.{slice_get, ◌+◌, ◌^◌, ◌≡◌, ◌≤◌, ◌<◌, ◌++◌, ◌∷◌, ◌↔◌, [], IsTrue, List, MatchOption, None, Some, length, map, option_map, ℕ};
+ghost use Rattle.std.specs.Prelude.{◌+◌, ◌^◌, ◌≡◌, ◌≤◌, ◌<◌, ◌++◌, ◌∷◌, ◌↔◌, []};
+ghost use Rattle.std.specs.Prelude.{ℕ, List, length, map, option_map, slice_get};
+ghost use Rattle.std.specs.Prelude.{IsTrue, MatchOption, None, Some};
 
 use crate::asked::Asked;
 use crate::header::{behind_header, part};
@@ -411,8 +419,10 @@ fn structure<'r>(
         → flat rows.now ≡ member_rows rs ++ rest
         → count rs ≡ told
         → MatchOption result
-        (FieldsFollow schema.now asked order.entry (map component_of components.now) (abstract value.now) contents octets.now rs → ⊥)
-        (λ r. FieldsFollow schema.now asked order.entry (map component_of components.now) (abstract value.now) contents octets.now rs
+        (FieldsFollow schema.now asked order.entry (map component_of components.now) (abstract value.now)
+        contents octets.now rs → ⊥)
+        (λ r. FieldsFollow schema.now asked order.entry (map component_of components.now) (abstract value.now)
+        contents octets.now rs
         × (flat r.now ≡ rest)) }
 {
     abstract_values();
@@ -460,7 +470,8 @@ fn members<'r>(
     rows: &'r [Row],
 ) -> Option<Counted<'r>>
     requires long { length values.now ≡ length components.now }
-    requires value { AreComponents schema.now levels (map component_of components.now) (row_of_options (map (option_map abstract) values.now)) }
+    requires value { AreComponents schema.now levels (map component_of components.now)
+        (row_of_options (map (option_map abstract) values.now)) }
     requires few { levels ≤ 64 }
     requires defaults { AllByRecursion (HasValue schema.now) (map component_of components.now) }
     requires ends { IsTrue known

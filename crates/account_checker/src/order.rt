@@ -1,12 +1,14 @@
 //! The places of members in contents octets.
 
 ghost use Rattle.account_checker.specs.Follows.{Where, before, by_place, sizes};
-ghost use Rattle.account_checker.specs.Parts.{AreEnds, AreInOrder, EndsAt, EndsFrom, count_or, end_before as octets_in_front, place_in};
+ghost use Rattle.account_checker.specs.Parts.{AreEnds, AreInOrder, EndsAt, EndsFrom};
+ghost use Rattle.account_checker.specs.Parts.{count_or, end_before as octets_in_front, place_in};
 ghost use Rattle.encodings.specs.Account.{Rows};
 ghost use Rattle.octet_account.specs.Flat.{FlatRow, count, member_rows};
 ghost use Rattle.octet_account.specs.Seen.{flat};
 ghost use Rattle.std.specs.List.{sum};
-ghost use Rattle.std.specs.Prelude.{◌≡◌, ◌+◌, ◌<◌, ◌≤◌, ◌++◌, ◌↔◌, get_or, length, IsTrue, List, MatchOption, Some, None, ℕ};
+ghost use Rattle.std.specs.Prelude.{◌≡◌, ◌+◌, ◌<◌, ◌≤◌, ◌++◌, ◌↔◌, ℕ, List, get_or, length};
+ghost use Rattle.std.specs.Prelude.{IsTrue, MatchOption, Some, None};
 
 use crate::asked::Asked;
 use crate::places::are_places;

@@ -1,8 +1,14 @@
 //! Whether the rows of an account follow a type and a value, row by row.
 
-ghost use Rattle.account_checker.specs.Follows.{AreContents, ElementsFollow, Follows, HasContents, InsideFollows, MembersFollow, Under, Where, before, is_built, octets_told as octets_in, sizes};
-ghost use Rattle.account_checker.specs.Parts.{ChoiceFollows, ElementAt, FieldsFollow, HasDefault, IsOuterOf, ListFollows, Member, MemberAt, WrittenAt, is_absent, is_default as left_out, rows_in, size_in, size_or};
-ghost use Rattle.asn_base.specs.Abstract.{AbstractValue, Row as Row', abstract, alternative, fields, list, row_of_list, row_of_options};
+ghost use Rattle.account_checker.specs.Follows.{ElementsFollow, Follows, InsideFollows, MembersFollow, Under, Where};
+ghost use Rattle.account_checker.specs.Follows.{AreContents, HasContents, before, is_built, sizes};
+ghost use Rattle.account_checker.specs.Follows.{octets_told as octets_in};
+ghost use Rattle.account_checker.specs.Parts.{ChoiceFollows, FieldsFollow, HasDefault, IsOuterOf, ListFollows};
+ghost use Rattle.account_checker.specs.Parts.{ElementAt, Member, MemberAt, WrittenAt};
+ghost use Rattle.account_checker.specs.Parts.{is_absent, is_default as left_out};
+ghost use Rattle.account_checker.specs.Parts.{rows_in, size_in, size_or};
+ghost use Rattle.asn_base.specs.Abstract.{AbstractValue, Row as Row', abstract, row_of_list, row_of_options};
+ghost use Rattle.asn_base.specs.Abstract.{alternative, fields, list};
 ghost use Rattle.asn_base.specs.Decided.{IsChosen, IsComponent};
 ghost use Rattle.asn_base.specs.Seen.{alternative_of, component_of, kind_of};
 ghost use Rattle.asn_base.specs.Typed.{AreComponents, AreElements, ValueIn, ValueOf};
@@ -17,7 +23,9 @@ ghost use Rattle.encodings.specs.Account.{Account, Inside, Numbers as Numbers', 
 ghost use Rattle.octet_account.specs.Flat.{FlatRow, count, member_rows, rows_of};
 ghost use Rattle.octet_account.specs.Seen.{flat, numbers_of, told_of};
 ghost use Rattle.std.specs.List.{sum};
-ghost use Rattle.std.specs.Prelude.{slice_get, ◌*◌, ◌+◌, ◌^◌, ◌≡◌, ◌≤◌, ◌<◌, ◌++◌, ◌∷◌, ◌↔◌, [], IsTrue, List, MatchOption, None, Some, length, map, option_map, ℕ};
+ghost use Rattle.std.specs.Prelude.{◌*◌, ◌+◌, ◌^◌, ◌≡◌, ◌≤◌, ◌<◌, ◌++◌, ◌∷◌, ◌↔◌};
+ghost use Rattle.std.specs.Prelude.{[], ℕ, List, length, map, option_map, slice_get};
+ghost use Rattle.std.specs.Prelude.{IsTrue, MatchOption, None, Some};
 
 use crate::asked::Asked;
 use crate::header::{behind_header, part};
@@ -311,9 +319,11 @@ pub(crate) fn is_leaf(
 /// The type of the alternative with this number, or None if there is no such alternative.
 pub(crate) fn chosen_type(alternatives: &Alternatives, index: usize) -> Option<TypeId>
     ensures { MatchOption result
-        (slice_get (map alternative_of alternatives.now.root.items ++ map alternative_of alternatives.now.additions.items) index ≡ None)
+        (slice_get (map alternative_of alternatives.now.root.items
+        ++ map alternative_of alternatives.now.additions.items) index ≡ None)
         (λ t. (a : Alternative)
-        × (slice_get (map alternative_of alternatives.now.root.items ++ map alternative_of alternatives.now.additions.items) index ≡ Some a)
+        × (slice_get (map alternative_of alternatives.now.root.items
+        ++ map alternative_of alternatives.now.additions.items) index ≡ Some a)
         × (a.type ≡ t.index)) }
 {
     let root = alternatives.root.as_slice();

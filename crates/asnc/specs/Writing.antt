@@ -39,7 +39,8 @@ pub record IsSent (p : Program) (s : List Resolved) (first second : List ℕ) (a
   pub went : Went s type value a b account
 
 -- the sink took exactly the first n octets of such an encoding, fewer than there are, and one call failed
-pub record IsSentInPart (p : Program) (s : List Resolved) (first second : List ℕ) (a b : SinkState) (n : ℕ) : Type 0 where
+pub record IsSentInPart (p : Program) (s : List Resolved) (first second : List ℕ) (a b : SinkState) (n : ℕ)
+    : Type 0 where
   pub type : ℕ
   pub value : AbstractValue
   pub meant : IsMeant p first second type value

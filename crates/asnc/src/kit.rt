@@ -1,6 +1,7 @@
 //! Modules that are ready for use.
 
-ghost use Rattle.std.specs.Prelude.{◌≡◌, ◌<◌, ℕ, Err, List, length, map, IfOk, IfErr, IfSome, MatchOption, MatchResult, string_bytes};
+ghost use Rattle.std.specs.Prelude.{◌≡◌, ◌<◌, ℕ, List, length, map, string_bytes};
+ghost use Rattle.std.specs.Prelude.{Err, IfOk, IfErr, IfSome, MatchOption, MatchResult};
 ghost use Rattle.asn_base.specs.Abstract.{abstract};
 ghost use Rattle.asn_base.specs.Typed.{IsValue};
 ghost use Rattle.codec_source.specs.declared.fault.ReadFault.TheVariants.{Memory as no_room};
@@ -12,7 +13,8 @@ ghost use Rattle.packed_encodings.specs.Lengths.{Bits};
 ghost use Rattle.packed_encodings.specs.Packing.{Packed};
 ghost use Rattle.packed_encodings.specs.Padding.{Padded};
 ghost use Rattle.packed_writer.specs.Message.{IsMessage};
-ghost use Rattle.packed_writer.specs.declared.fault.WriteFault.TheVariants.{NotOfType as not_packed, TooLong as too_many_bits};
+ghost use Rattle.packed_writer.specs.declared.fault.WriteFault.TheVariants.{NotOfType as not_packed};
+ghost use Rattle.packed_writer.specs.declared.fault.WriteFault.TheVariants.{TooLong as too_many_bits};
 ghost use Rattle.value_text.specs.Print.{print};
 ghost use Rattle.views.specs.Seen.{IsView};
 ghost use Rattle.views.specs.Tree.{Tree, value_of};
@@ -335,7 +337,9 @@ impl Kit {
         // The account describes them.
         ensures account { IfOk result (λ w. Tells self.now.types id.index (abstract value.now) w.0.items w.1) }
         // `NotOfType` if and only if the value is not one of the type.
-        ensures not_of_type { IfErr result (λ e. e ≡ NotOfType → IsValue self.now.types id.index (abstract value.now) → ⊥) }
+        ensures not_of_type { IfErr result (λ e. e ≡ NotOfType
+            → IsValue self.now.types id.index (abstract value.now)
+            → ⊥) }
         ensures no_value { (IsValue self.now.types id.index (abstract value.now) → ⊥) → result ≡ Err NotOfType }
         // `TooLong` only if each encoding by the distinguished rules is too long.
         ensures longer { IfErr result (λ e. e ≡ TooLong → (o : List ℕ)
@@ -358,7 +362,9 @@ impl Kit {
         // The octets are the value's one message.
         ensures message { IfOk result (λ o. IsMessage self.now.types id.index (abstract value.now) o.items) }
         // `NotOfType` if and only if the value is not one of the type.
-        ensures not_of_type { IfErr result (λ e. e ≡ not_packed → IsValue self.now.types id.index (abstract value.now) → ⊥) }
+        ensures not_of_type { IfErr result (λ e. e ≡ not_packed
+            → IsValue self.now.types id.index (abstract value.now)
+            → ⊥) }
         ensures no_value { (IsValue self.now.types id.index (abstract value.now) → ⊥) → result ≡ Err not_packed }
         // `TooLong` only if the value's message is too long.
         ensures longer { IfErr result (λ e. e ≡ too_many_bits → (b : Bits) (o : List ℕ)
@@ -401,7 +407,8 @@ impl Kit {
     ) -> Result<String, value_text::Fault>
         requires tree { (t : Tree) × IsView view.now t }
         // A value of the type is printed, and nothing else.
-        ensures value { (t : Tree) → IsView view.now t → IfOk result (λ s. IsValue self.now.types id.index (value_of t)) }
+        ensures value { (t : Tree) → IsView view.now t
+            → IfOk result (λ s. IsValue self.now.types id.index (value_of t)) }
         ensures text { (t : Tree) → IsView view.now t
             → IfOk result (λ s. string_bytes s ≡ print self.now.types id.index (value_of t)) }
     {

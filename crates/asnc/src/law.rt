@@ -53,7 +53,8 @@ pub fn packed()
 /// [`judging::judge`] accepts what [`crate::Kit::der`] returns for texts that [`crate::Kit::open`] took, by the text of
 /// the account beside it, in any JSON spelling. So it accepts what [`crate::Kit::account`] returns.
 pub fn judged()
-    ensures account { (xs : List (List ℕ)) (p : Program) (s : List Resolved) (first second o text : List ℕ) (a : Account) →
+    ensures account { (xs : List (List ℕ)) (p : Program) (s : List Resolved) (first second o text : List ℕ)
+        (a : Account) →
         Accepted xs p s →
         IsEncoded p s first second o a →
         IsAccountIn text a →
@@ -70,7 +71,8 @@ pub fn judged()
 /// value back by either rules.
 pub fn reading()
     // The printed text is a value of the type that the octets encode by the rules, and the only one.
-    ensures right { (xs : List (List ℕ)) (p : Program) (s : List Resolved) (r : Rules) (name o printed : List ℕ) (k : ℕ) →
+    ensures right { (xs : List (List ℕ)) (p : Program) (s : List Resolved) (r : Rules) (name o printed : List ℕ)
+        (k : ℕ) →
         Accepted xs p s →
         IsReadAs p s r name o printed k →
         IsRightlyRead xs r name o printed k }

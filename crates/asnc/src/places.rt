@@ -1,7 +1,8 @@
 //! Where octets are refused, in the names of a schema.
 
 ghost use Rattle.std.specs.Prelude.{◌≡◌, IfOk, OnOk, decimal, string_bytes};
-ghost use Rattle.asnc.specs.Places.{alternative_name, component_name, path_of, with_name, with_number, with_open, with_part, IsStopped};
+ghost use Rattle.asnc.specs.Places.{alternative_name, component_name, path_of, IsStopped};
+ghost use Rattle.asnc.specs.Places.{with_name, with_number, with_open, with_part};
 
 use asn_base::schema::{Schema, TypeId};
 use ber_reader::{Open, Part, whereabouts};

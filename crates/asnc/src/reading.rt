@@ -96,7 +96,8 @@ pub(crate) fn read_by<'a>(
     rules: Rules,
 ) -> Result<Read<'a>, ReadFault>
     ensures read { IfOk result (IsReadBy code.now (rules_of rules) id.index octets.now) }
-    ensures refused { IfErr result (λ e. (e ≡ no_memory → ⊥) → IsUnread code.now (rules_of rules) id.index octets.now e) }
+    ensures refused { IfErr result (λ e. (e ≡ no_memory → ⊥)
+        → IsUnread code.now (rules_of rules) id.index octets.now e) }
 {
     match rules {
         Rules::Ber => read_basic(alloc, code, id, octets),

@@ -19,7 +19,8 @@ const MESSAGE: [u8; 14] = [
 pub fn strings<'a>(alloc: Global, octets: &'a [u8], joined: String) -> Result<View<'a>, AllocError>
     ensures { IfOk result (λ v. IsView v
         (fields 2
-        (member 0 (leaf (octets' octets.now (Some 4))) (member 1 (leaf (text (string_bytes joined) None)) no_member)))) }
+        (member 0 (leaf (octets' octets.now (Some 4)))
+        (member 1 (leaf (text (string_bytes joined) None)) no_member)))) }
 {
     let mut builder = Builder::new(alloc);
     builder.open_fields(0, 2)?;

@@ -1,6 +1,8 @@
 -- The command lines that the programs asnc and octcheck accept, and what a job has of one.
-use Rattle.std.specs.Prelude.{◌≡◌, ◌⊎◌, ⊤, ℕ, List, [], ◌∷◌, true, false, Some, Ok, codes, map, option_map, string_bytes, unwrap_or}
-use Rattle.clap.specs.Words.{App, Rule, Row, Text, IsAmong, all_of, fault_of, first_of, one_of, new_app, new_rule, matches_of, subcommand_of, with_rule, with_subcommand}
+use Rattle.std.specs.Prelude.{◌≡◌, ◌⊎◌, ⊤, ℕ, List, [], ◌∷◌, codes, map, option_map, string_bytes, unwrap_or}
+use Rattle.std.specs.Prelude.{true, false, Some, Ok}
+use Rattle.clap.specs.Words.{App, Rule, new_app, new_rule, with_rule, with_subcommand}
+use Rattle.clap.specs.Words.{Row, Text, IsAmong, all_of, fault_of, first_of, one_of, matches_of, subcommand_of}
 use Rattle.clap.specs.declared.builder.ArgAction.TheVariants.{Append, Set, SetTrue}
 use Rattle.clap.specs.declared.error.kind.ErrorKind.{ErrorKind}
 use Rattle.clap.specs.declared.error.kind.ErrorKind.TheVariants as kinds

@@ -3,7 +3,11 @@
 ghost use Rattle.std.specs.Prelude.{◌≡◌, IfOk, codes, false, true};
 ghost use Rattle.clap.specs.Words.{app_of, rule_of};
 ghost use Rattle.clap.specs.declared.builder.command.Command.TheViews.{out-Command};
-ghost use Rattle.command_line.specs.CommandLine.{asnc_app, ber_app, ber_flags_app, check_names_app, check_texts_app, der_app, der_flags_app, files_rule, flag_rule, list_app, octcheck_app, octets_app, octets_names_app, text_rule, value_app, value_names_app, written_app};
+ghost use Rattle.command_line.specs.CommandLine.{asnc_app, octcheck_app, list_app, check_names_app, check_texts_app};
+ghost use Rattle.command_line.specs.CommandLine.{ber_app, ber_flags_app, der_app};
+ghost use Rattle.command_line.specs.CommandLine.{der_flags_app, octets_app, octets_names_app};
+ghost use Rattle.command_line.specs.CommandLine.{value_app, value_names_app, written_app};
+ghost use Rattle.command_line.specs.CommandLine.{files_rule, flag_rule, text_rule};
 
 use clap::{Arg, ArgAction, Command};
 use std::alloc::{AllocError, Global};

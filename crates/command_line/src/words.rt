@@ -2,7 +2,11 @@
 
 ghost use Rattle.std.specs.Prelude.{◌≡◌, ◌↔◌, ℕ, List, IfOk, IfErr, IsTrue, Some, codes, map, string_bytes};
 ghost use Rattle.clap.specs.Words.{found_of, kind_of, rows_of};
-ghost use Rattle.command_line.specs.CommandLine.{asnc_app, octcheck_app, text_in, texts_in, AreOfChecker, ChecksNoOctets, HasNoOctets, IsAsked, IsBerOf, IsCheck, IsCheckOf, IsCommand, IsDerOf, IsFaultOf, IsJobOf, IsListOf, IsNoJobOf, IsNotGiven, IsRefused, IsRefusedBy, IsValueJobOf};
+ghost use Rattle.command_line.specs.CommandLine.{asnc_app, octcheck_app, text_in};
+ghost use Rattle.command_line.specs.CommandLine.{texts_in, IsAsked, IsCommand, IsFaultOf};
+ghost use Rattle.command_line.specs.CommandLine.{AreOfChecker, ChecksNoOctets, HasNoOctets, IsNotGiven};
+ghost use Rattle.command_line.specs.CommandLine.{IsBerOf, IsCheck, IsCheckOf, IsDerOf, IsJobOf, IsListOf, IsValueJobOf};
+ghost use Rattle.command_line.specs.CommandLine.{IsNoJobOf, IsRefused, IsRefusedBy};
 
 use crate::commands::{asnc_command, octcheck_command};
 use crate::octets::given_in;

@@ -2,10 +2,15 @@
 //! text.
 #![tactic(auto)]
 
+mod constraint_rules;
 mod following;
 mod kinds;
+mod module_rules;
 mod rules;
 mod stacks;
+mod tokens;
+mod type_rules;
+mod value_rules;
 
 pub use following::expected;
 pub use kinds::ALL;

@@ -1,6 +1,7 @@
 //! What can follow the start of a text: each way to read it leaves a stack of parts that stand for the rest.
 
-ghost use Rattle.std.specs.Prelude.{◌≡◌, ◌⊎◌, ◌↔◌, ◌++◌, ◌∷◌, ◌<◌, [], IsTrue, IfOk, MatchOption, List, length, map, true, false};
+ghost use Rattle.std.specs.Prelude.{◌≡◌, ◌⊎◌, ◌↔◌, ◌++◌, ◌∷◌, ◌<◌, [], List, length, map};
+ghost use Rattle.std.specs.Prelude.{IsTrue, IfOk, MatchOption, true, false};
 ghost use Rattle.text.specs.declared.token.TokenKind.{TokenKind as TokenKind'};
 ghost use Rattle.expected_tokens.specs.declared.rules.Part.{Part as Part'};
 ghost use Rattle.expected_tokens.specs.Rules.{nothing, rules, rule_of};

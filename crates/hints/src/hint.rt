@@ -1,5 +1,7 @@
 //! What may have been meant by a name that means nothing.
 
+ghost use Rattle.std.specs.Prelude.{◌≡◌, ◌∷◌, ◌≤◌, ◌↔◌, ℕ, [], IsTrue, List, false};
+
 use crate::near::is_near;
 use shown_texts::{is_kind, shown, spelled_at, tokens_in};
 use std::alloc::{AllocError, Global};
@@ -17,7 +19,10 @@ static JOINED: [(&str, &str); 6] = [
 ];
 
 /// Whether a name begins with a small letter, as those of values do.
-pub fn is_small(name: &str) -> bool {
+pub fn is_small(name: &str) -> bool
+    ensures first { (c : ℕ) (rest : List ℕ) → name.now ≡ c ∷ rest → (IsTrue result ↔ ((97 ≤ c) × (c ≤ 122))) }
+    ensures empty { name.now ≡ [] → result ≡ false }
+{
     match name.as_bytes().first() {
         Some(octet) => octet.is_ascii_lowercase(),
         None => false,

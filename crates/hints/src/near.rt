@@ -1,5 +1,7 @@
 //! Names that may have been meant for one another.
 
+ghost use Rattle.std.specs.Prelude.{◌≡◌, false};
+
 /// The number of octets that two texts have in common at the start, without regard to the case of letters.
 fn common_front(one: &[u8], other: &[u8]) -> usize {
     let mut common: usize = 0;
@@ -35,7 +37,9 @@ fn are_swapped(one: &[u8], other: &[u8]) -> bool {
 /// Whether one name may have been meant for the other. They aren't the same. They differ only in the case of letters,
 /// in one octet that is wrong, missing or too many, or in two octets that are swapped. Short names differ only in their
 /// case.
-pub fn is_near(one: &[u8], other: &[u8]) -> bool {
+pub fn is_near(one: &[u8], other: &[u8]) -> bool
+    ensures same { one.now ≡ other.now → result ≡ false }
+{
     if one == other {
         return false;
     }

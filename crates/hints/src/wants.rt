@@ -1,5 +1,7 @@
 //! What can come at a place of a module's text, in words.
 
+ghost use Rattle.std.specs.Prelude.{◌≡◌, IfOk, codes, string_bytes};
+
 use crate::near::is_near;
 use expected_tokens::expected;
 use std::alloc::{AllocError, Global};
@@ -162,17 +164,16 @@ pub fn wanted(
     tokens: &[Token],
     place: usize,
     found: &str,
-) -> Result<String, AllocError> {
+) -> Result<String, AllocError>
+    ensures front { place ≡ 0
+        → IfOk result (λ s. string_bytes s ≡ codes ", expected a module, which begins with its name") }
+{
     if place == 0 {
         return String::from_str(alloc, ", expected a module, which begins with its name");
     }
     let front = tokens.get(..place).unwrap_or(tokens);
     let kinds = expected(alloc, front)?;
-    let mut words = if front.is_empty() {
-        String::from_str(alloc, ", expected a module, which begins with its name")?
-    } else {
-        list(alloc, kinds.as_slice())?
-    };
+    let mut words = list(alloc, kinds.as_slice())?;
     if let Some(word) = meant(kinds.as_slice(), found) {
         words.push_str("; did you mean ")?;
         words.push_str(word)?;

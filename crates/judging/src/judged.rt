@@ -5,7 +5,8 @@ ghost use Rattle.asn_base.specs.Abstract.{abstract};
 ghost use Rattle.encodings.specs.Account.{Account as Account'};
 ghost use Rattle.front_end.specs.Accepted.{octets_of};
 ghost use Rattle.front_end.specs.Faults.{Stands};
-ghost use Rattle.judging.specs.Judged.{IsAccountIn, IsJudged, IsNoAccount, IsNotJudged, IsNotJudgedOn, IsVerdict, IsVerdictOn};
+ghost use Rattle.judging.specs.Judged.{IsAccountIn, IsJudged, IsVerdict, IsVerdictOn};
+ghost use Rattle.judging.specs.Judged.{IsNoAccount, IsNotJudged, IsNotJudgedOn};
 
 use account_checker::check;
 use account_checker::reason::Verdict;

@@ -35,7 +35,8 @@ pub fn one_verdict()
         IsVerdictOn p s first second o account r →
         IsVerdictOn p s first second o account e →
         r ≡ e }
-    ensures not_refused { (p : Program) (s : List Resolved) (first second o account : List ℕ) (r : Verdict) (e : Fault) →
+    ensures not_refused { (p : Program) (s : List Resolved) (first second o account : List ℕ) (r : Verdict)
+        (e : Fault) →
         Keeps p →
         IsVerdictOn p s first second o account r →
         IsNotJudgedOn p first second account e →

@@ -8,7 +8,8 @@ use Rattle.asn_base.specs.Names.{IsMember}
 use Rattle.asn_base.specs.Types.{Constraint, Item, NamedBit, Alternative, Kind, a_boolean, an_integer, an_enumerated}
 use Rattle.asn_base.specs.Types.{a_bit_string, a_named_bit_string, an_octet_string, a_null, an_object_identifier}
 use Rattle.asn_base.specs.Types.{a_relative_oid, a_utf8_string, a_restricted_string, a_sequence, a_set, a_sequence_of}
-use Rattle.asn_base.specs.Types.{a_set_of, a_choice, Presence, mandatory, optional, default, addition, Component, Resolved}
+use Rattle.asn_base.specs.Types.{a_set_of, a_choice, Presence, mandatory}
+use Rattle.asn_base.specs.Types.{optional, default, addition, Component, Resolved}
 use Rattle.asn_base.specs.Typed.{IsAllowed, IsOfGroup}
 use Rattle.asn_base.specs.Schemas.{IsNumber, IsSize, is_addition}
 use Rattle.asn_base.specs.Same.{Same}

@@ -1,8 +1,10 @@
 //! What a type keeps of a value of a later version.
 
-ghost use Rattle.std.specs.Prelude.{◌≡◌, ◌<◌, ◌++◌, ◌∷◌, [], ℕ, IfOk, OnOk, MatchOption, None, Some, map, option_map, slice_get};
+ghost use Rattle.std.specs.Prelude.{◌≡◌, ◌<◌, ◌++◌, ◌∷◌, [], ℕ, map, option_map, slice_get};
+ghost use Rattle.std.specs.Prelude.{IfOk, OnOk, MatchOption, None, Some};
 ghost use Rattle.asn_base.specs.Abstract.{abstract, row_of_list, row_of_options};
-ghost use Rattle.later_versions.specs.Kept.{kept, kept_elements, kept_row, left_out, left_out_of_elements, left_out_of_row, members_of};
+ghost use Rattle.later_versions.specs.Kept.{kept, kept_elements, kept_row, members_of};
+ghost use Rattle.later_versions.specs.Kept.{left_out, left_out_of_elements, left_out_of_row};
 
 use crate::members::{member_at, member_or_none};
 use asn_base::law::abstract_values;

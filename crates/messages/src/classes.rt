@@ -1,6 +1,8 @@
 //! The classes of faults: each has a number and a name.
 
-ghost use Rattle.messages.specs.Classes.{IsClass, class_of, front_class_of, text_class_of, tree_class_of, name_class_of, tag_class_of, bound_class_of, addition_class_of, reason_class_of, read_class_of};
+ghost use Rattle.messages.specs.Classes.{IsClass, class_of, front_class_of, text_class_of};
+ghost use Rattle.messages.specs.Classes.{tree_class_of, name_class_of, tag_class_of};
+ghost use Rattle.messages.specs.Classes.{bound_class_of, addition_class_of, reason_class_of, read_class_of};
 
 use crate::fault::Fault;
 use additions::ExtFault;

@@ -79,7 +79,8 @@ abbrev pub call_from : List PackedStep → Bits → Outcome Chosen
 call_from (steps.Root c ∷ ss) b =
     if c.extensible
     then onward (bit_from b) (λ x r. if x
-    then judging (λ j. or_refused why.UnknownAlternative (added_call j (steps.Root c ∷ ss) 0)) (small_from why.UnknownAlternative) r
+    then judging (λ j. or_refused why.UnknownAlternative (added_call j (steps.Root c ∷ ss) 0))
+    (small_from why.UnknownAlternative) r
     else root_call c.width (steps.Root c ∷ ss) r)
     else root_call c.width (steps.Root c ∷ ss) b
 call_from ss b = Outcome.stops why.Outside b

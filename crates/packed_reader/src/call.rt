@@ -101,7 +101,8 @@ fn read_root_call(bits: &mut Bits<'_>, width: usize, calls: &[PackedStep]) -> Re
 }
 
 fn read_added_call(bits: &mut Bits<'_>, calls: &[PackedStep]) -> Result<Call, Refusal>
-    ensures { judging (λ j. or_refused UnknownAlternative (added_call j calls.now 0)) (small_from UnknownAlternative) (bits_left bits.old)
+    ensures { judging (λ j. or_refused UnknownAlternative (added_call j calls.now 0))
+        (small_from UnknownAlternative) (bits_left bits.old)
         ≡ outcome_by chosen_of result (bits_left bits.new) }
 {
     let start = *bits;

@@ -4,7 +4,8 @@ ghost use Rattle.asn_base.specs.Abstract.{abstract};
 ghost use Rattle.packed_code.specs.Meaning as meaning;
 ghost use Rattle.packed_code.specs.Meaning.{addition_map, bitmap_bits, map_bits, members_of, next_fields};
 ghost use Rattle.packed_encodings.specs.Packing.{any_set};
-ghost use Rattle.packed_writer.specs.proving.Values.{FieldFits, FieldOf, FieldsFit, IsIn, LeftOut, Written, fields_in, first_map};
+ghost use Rattle.packed_writer.specs.proving.Values.{FieldFits, FieldOf, FieldsFit, IsIn};
+ghost use Rattle.packed_writer.specs.proving.Values.{LeftOut, Written, fields_in, first_map};
 ghost use Rattle.std.specs.Prelude.{◌≡◌, ◌≤◌, ◌++◌, ◌∷◌, [], MatchOption, OnOk, drop, length, take};
 
 use crate::default::is_default;

@@ -1,6 +1,7 @@
 //! The contents of values, by their variant.
 
-ghost use Rattle.asn_base.specs.Abstract.{AbstractValue, Row, abstract, alternative, fields, integer, list, row_of_list, row_of_options};
+ghost use Rattle.asn_base.specs.Abstract.{AbstractValue, Row, abstract, row_of_list, row_of_options};
+ghost use Rattle.asn_base.specs.Abstract.{alternative, fields, integer, list};
 ghost use Rattle.packed_writer.specs.proving.Values.{value_at};
 ghost use Rattle.packed_code.specs.Meaning.{mark_bit};
 ghost use Rattle.std.specs.Prelude.{◌≡◌, ℕ, ℤ, MatchOption, None, Some, map, option_map};

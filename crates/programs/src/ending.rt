@@ -1,5 +1,11 @@
 //! What programs write, and how they end.
 
+ghost use Rattle.std.specs.Prelude.{◌≡◌, ◌⊎◌, ℕ, IfErr};
+ghost use Rattle.std.specs.Process.{exit_status};
+ghost use Rattle.messages.specs.Classes.{number_of};
+ghost use Rattle.messages.specs.Status.{status_of};
+ghost use Rattle.messages.specs.declared.fault.Fault.TheVariants.{Device};
+
 use command_line::Job;
 use messages::{Fault, status};
 use reports::report;
@@ -16,7 +22,9 @@ fn tell(rt: &HostRuntime, fault: &Fault) -> io::Result<()> {
 }
 
 /// Writes a fault, and returns the exit status; 3 if the fault can't be written.
-pub fn end(rt: &HostRuntime, fault: &Fault) -> ExitCode {
+pub fn end(rt: &HostRuntime, fault: &Fault) -> ExitCode
+    ensures { (exit_status result ≡ status_of (number_of fault.now)) ⊎ (exit_status result ≡ 3) }
+{
     match tell(rt, fault) {
         Ok(()) => ExitCode::from(status(fault)),
         Err(_) => ExitCode::from(3),
@@ -25,7 +33,9 @@ pub fn end(rt: &HostRuntime, fault: &Fault) -> ExitCode {
 
 /// Writes a fault that a job met, in its files or in their texts, and returns the exit status; 3 if it can't be
 /// written.
-pub fn end_in(rt: &HostRuntime, job: &Job, texts: &[Vec<u8>], fault: &Fault) -> ExitCode {
+pub fn end_in(rt: &HostRuntime, job: &Job, texts: &[Vec<u8>], fault: &Fault) -> ExitCode
+    ensures { (exit_status result ≡ status_of (number_of fault.now)) ⊎ (exit_status result ≡ 3) }
+{
     match report(rt.alloc(), job, texts, fault) {
         Ok(line) => match eprintln!(rt; "{line}") {
             Ok(()) => ExitCode::from(status(fault)),
@@ -36,7 +46,9 @@ pub fn end_in(rt: &HostRuntime, job: &Job, texts: &[Vec<u8>], fault: &Fault) -> 
 }
 
 /// Writes a text to standard output. `Device`: standard output took no more of it.
-pub fn write(rt: &HostRuntime, text: &str) -> Result<(), Fault> {
+pub fn write(rt: &HostRuntime, text: &str) -> Result<(), Fault>
+    ensures { IfErr result (λ e. (n : ℕ) × (e ≡ Device n)) }
+{
     let mut out = Counted::of(io::writer(rt));
     send_all(&mut out, text.as_bytes()).map_err(|sent| Fault::Device(sent))
 }

@@ -1,5 +1,9 @@
 //! The files that a job names.
 
+ghost use Rattle.std.specs.Prelude.{◌≡◌, ℕ, [], IfOk, Vec as Vec', length};
+ghost use Rattle.std.specs.declared.alloc.Global.{Global as Global'};
+ghost use Rattle.command_line.specs.declared.request.Given.TheVariants.{Nothing, Octets};
+
 use command_line::{Given, Job};
 use messages::Fault;
 use std::io::Read;
@@ -49,8 +53,10 @@ fn check_input(rt: &HostRuntime, files: &[String]) -> Result<(), Fault> {
     Ok(())
 }
 
-/// The texts of a job's files, in order.
-pub fn texts_of(rt: &HostRuntime, job: &Job) -> Result<Vec<Vec<u8>>, Fault> {
+/// The texts of a job's files, in order: as many as there are files.
+pub fn texts_of(rt: &HostRuntime, job: &Job) -> Result<Vec<Vec<u8>>, Fault>
+    ensures { IfOk result (λ v. length v.items ≡ length job.now.files.items) }
+{
     check_input(rt, job.files.as_slice())?;
     let mut texts = Vec::new(rt.alloc());
     for file in &job.files {
@@ -63,7 +69,10 @@ pub fn texts_of(rt: &HostRuntime, job: &Job) -> Result<Vec<Vec<u8>>, Fault> {
 }
 
 /// The octets that a job gives; empty if it gives none.
-pub fn octets_of(rt: &HostRuntime, job: &Job) -> Result<Vec<u8>, Fault> {
+pub fn octets_of(rt: &HostRuntime, job: &Job) -> Result<Vec<u8>, Fault>
+    ensures nothing { job.now.octets ≡ Nothing → IfOk result (λ o. o.items ≡ []) }
+    ensures given { (v : Vec' ℕ Global') → job.now.octets ≡ Octets v → IfOk result (λ o. o.items ≡ v.items) }
+{
     match &job.octets {
         Given::Nothing => Ok(Vec::new(rt.alloc())),
         Given::Octets(octets) => Ok(octets.clone()?),

@@ -1,11 +1,16 @@
 //! The words of a command line.
 
+ghost use Rattle.std.specs.Prelude.{◌≡◌, ◌∷◌, ℕ, List, IfOk, map, string_bytes};
+ghost use Rattle.command_line.specs.CommandLine.{IsAsked};
+
 use command_line::{Job, job};
 use messages::Fault;
 use std::env;
 
 /// The words of the command line, the first of them the product's name.
-fn words_of(rt: &HostRuntime, program: &str) -> Result<Vec<String>, Fault> {
+fn words_of(rt: &HostRuntime, program: &str) -> Result<Vec<String>, Fault>
+    ensures { IfOk result (λ ws. (rest : List (List ℕ)) × (map string_bytes ws.items ≡ program.now ∷ rest)) }
+{
     let alloc = rt.alloc();
     let mut words = Vec::new(alloc);
     words.push(String::from_str(alloc, program)?)?;
@@ -23,7 +28,9 @@ fn words_of(rt: &HostRuntime, program: &str) -> Result<Vec<String>, Fault> {
 }
 
 /// The job that the words of the command line ask for, of the product with this name.
-pub fn job_of(rt: &HostRuntime, program: &str) -> Result<Job, Fault> {
+pub fn job_of(rt: &HostRuntime, program: &str) -> Result<Job, Fault>
+    ensures { IfOk result (λ j. (rest : List (List ℕ)) × IsAsked (program.now ∷ rest) j) }
+{
     let words = words_of(rt, program)?;
     job(rt.alloc(), words.as_slice())
 }

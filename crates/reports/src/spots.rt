@@ -1,7 +1,9 @@
 //! The place of a fault, as the fault gives it.
 
 ghost use Rattle.std.specs.Prelude.{◌≡◌, option_map};
-ghost use Rattle.reports.specs.Spots.{addition_spot, bound_spot, front_octet, front_spot, front_text, front_token, lex_octet, name_spot, octet_of, spot_of, tag_spot, text_of, token_of, tree_token};
+ghost use Rattle.reports.specs.Spots.{addition_spot, bound_spot, front_spot, name_spot, spot_of, tag_spot};
+ghost use Rattle.reports.specs.Spots.{front_octet, front_text, front_token, lex_octet};
+ghost use Rattle.reports.specs.Spots.{octet_of, text_of, token_of, tree_token};
 
 use additions::ExtFault;
 use constraints::BoundFault;

@@ -37,7 +37,9 @@ AreNoted old new P = (more : List (ℕ × ℕ)) × (met new ≡ met old ++ more)
 
 -- the pair is that of two members at one place of the types of another pair
 abbrev pub IsMemberPair : List Resolved → List Resolved → ℕ × ℕ → ℕ × ℕ → Type 0
-IsMemberPair s s' q p = (i : ℕ) × (slice_get (members_of s q.0) i ≡ Some p.0) × (slice_get (members_of s' q.1) i ≡ Some p.1)
+IsMemberPair s s' q p = (i : ℕ)
+    × (slice_get (members_of s q.0) i ≡ Some p.0)
+    × (slice_get (members_of s' q.1) i ≡ Some p.1)
 
 -- the second type of the pair can be a later version of the first, apart from the types of members
 abbrev pub IsFine : List Resolved → List Resolved → ℕ × ℕ → Type 0

@@ -1839,13 +1839,13 @@ pub read_fields-returns-in-Err-read_row-clause-err : goal.read_fields-returns-in
 read_fields-returns-in-Err-read_row-clause-err t c = stop_next (run_structure c.args.reader.code.now c.args.reader.levels (run_value c.args.reader.code.now c.args.reader.levels) (components (kind_at c.args.reader.code.now c.args.reader.id.index)) c.args.shape.extensible c.args.shape.count c.args.shape.steps.now c.args.progress.now.skipped c.args.progress.now.left (bits_left c.args.bits.now)) (λ w r. read (as_fields w) r) c.in-Err-read_row.stop (bits_left c.read_row.new.bits) c.in-Err-read_row.ensures.err
 
 pub read_chosen-read_opened-requires : goal.read_chosen-read_opened-requires
-read_chosen-read_opened-requires t c = 
+read_chosen-read_opened-requires t c =
     let d = c.decreases in
     let lt : 30 * c.args.reader.levels + 10 < t = omega (arith, d) in
     (lt, (c.requires.few, c.requires.room))
 
 pub read_chosen-read_value-requires : goal.read_chosen-read_value-requires
-read_chosen-read_value-requires t c = 
+read_chosen-read_value-requires t c =
     let f = c.requires.few in
     let d = c.decreases in
     let lt : 30 * c.args.reader.levels < t = omega (arith, d) in
