@@ -1,5 +1,5 @@
 -- Messages, as calls read them.
-use Rattle.std.proofs.Common.{arith, ◌≡◌, ℕ, zero, suc, ◌+◌, ◌-◌, ◌<◌, ◌≤◌, Bool, true, false, List, [], ◌∷◌, ◌++◌, length, refl, sym, ap, subst, ◌∙◌, length-append}
+use Rattle.std.proofs.Common.{arith, ◌≡◌, ℕ, zero, suc, ◌+◌, ◌*◌, ◌-◌, ◌^◌, ◌<◌, ◌≤◌, ◌==◌, Bool, true, false, List, [], ◌∷◌, ◌++◌, length, refl, sym, ap, subst, ◌∙◌, length-append}
 use Rattle.std.specs.Prelude.{◌↔◌, if◌then◌else◌, nat_lt, Result, Ok, Err, IfOk, IfErr, MatchResult}
 use Rattle.std.proofs.lemmas.Bool.{lt-ltb, le-ltb}
 use Rattle.bits.specs.Words.{octet_bits}
@@ -19,7 +19,11 @@ use Rattle.packed_reader.specs.Readings.{Fault, Reading, read, refused, stop, ne
 use Rattle.packed_reader.specs.Steps.{value_by}
 use Rattle.packed_reader.specs.Structures.{is_filling, filled_from}
 use Rattle.packed_reader.specs.Values.{Answer, answers, too_long, faulty, answer_of, message_from, value_from}
+use Rattle.packed_reader.specs.proving.Code.{IsRefusalAt, IsStop}
 use Rattle.packed_reader.specs.proving.Running.{past, run_value}
+use Rattle.packed_readings.specs.declared.refusal.Refusal.{Refusal}
+use Rattle.packed_reader.specs.declared.part.Part.{Part}
+use Rattle.packed_reader.proofs.Opening.{octets_length}
 
 -- ---- without skipped additions before it
 
@@ -38,13 +42,41 @@ module _ (s : List Resolved) (t : ℕ) (same : (n : ℕ) (b : Bits) → value_by
   filled_same = ap (λ q. next q (λ v z. if is_filling (length B - length z) z then read v [] else stop why.Padding z)) (from_none (value_by s 64 t 16777216 B) ∙ same 16777216 B)
 
   message_is : message_from s t (x ∷ o) ≡ answer_of B F
-  message_is = ap (λ q. if q then too_long else answer_of B (filled_from (value_from s 64 t 16777216) B)) (le-ltb (length (x ∷ o)) 16777216 few) ∙ ap (answer_of B) (sym filled_same)
+  message_is = ap (λ q. if q then too_long else answer_of B (filled_from (value_from s 64 t 16777216) B)) (le-ltb 16777216 (length (x ∷ o)) few) ∙ ap (answer_of B) (sym filled_same)
 
   pub message_read : (v : AbstractValue) (k n : ℕ) → F ≡ read (taken v k n) [] → message_from s t (x ∷ o) ≡ answers v k
   message_read v k n e = message_is ∙ ap (answer_of B) e
 
   pub message_refused : (d : Fault) (r : Bits) → F ≡ refused d r → message_from s t (x ∷ o) ≡ faulty d (length B - length r)
   message_refused d r e = message_is ∙ ap (answer_of B) e
+
+module _ (s : List Resolved) (t : ℕ) (same : (n : ℕ) (b : Bits) → value_by s 64 t n b ≡ value_from s 64 t n b) where
+  abbrev Run : Bits → Reading (Taken AbstractValue)
+  Run b = filled_from (run_value s 64 t 0 16777216) b
+
+  pub decode_ok : (o : Octets) (b : Bits) (v : AbstractValue) (k n : ℕ) → (length o == 0) ≡ false → length o ≤ 16777216 → b ≡ octet_bits o → Run b ≡ read (taken v k n) [] → message_from s t o ≡ answers v k
+  decode_ok [] b v k n e l h g = absurd (cc)
+  decode_ok (x ∷ o) b v k n e l h g = message_read s t same x o l v k n (ap Run (sym h) ∙ g)
+
+  pub decode_refused : (o : Octets) (b r : Bits) (d : Fault) (i : ℕ) → (length o == 0) ≡ false → length o ≤ 16777216 → b ≡ octet_bits o → Run b ≡ refused d r → i ≡ length b - length r → message_from s t o ≡ faulty d i
+  decode_refused [] b r d i e l h g j = absurd (cc)
+  decode_refused (x ∷ o) b r d i e l h g j = message_refused s t same x o l d r (ap Run (sym h) ∙ g) ∙ ap (faulty d) (sym (j ∙ ap (λ q. length q - length r) h))
+
+  fault_as : (d e : Fault) (i j : ℕ) → d ≡ e → i ≡ j → faulty d i ≡ faulty e j
+  fault_as d e i j h g = cc
+
+  whole_fault : (e f : Refusal) (ps qs : List Part) → e ≡ f → ps ≡ qs → ◌≡◌ {A = Fault} (record { why = e; path = ps }) (record { why = f; path = qs })
+  whole_fault e f ps qs h g = cc
+
+  pub decode_stop : (o : Octets) (b r : Bits) (x : Stop) (i : ℕ) (e : PerFault) → (length o == 0) ≡ false → length o ≤ 16777216 → b ≡ octet_bits o → IsStop (Run b) x r → i ≡ length b - length r → IsRefusalAt x i e → IsRefusal (message_from s t o) e
+  decode_stop o b r Memory i e g l h z j a = subst (IsRefusal (message_from s t o)) (sym a) tt
+  decode_stop o b r (Refused d ps) i per.Memory g l h z j a = absurd a
+  decode_stop o b r (Refused d ps) i per.MessageLimit g l h z j a = absurd a
+  decode_stop o b r (Refused d ps) i (per.Refused u) g l h z j a =
+      decode_refused o b r (record { why = d; path = ps.items }) i g l h z j ∙ fault_as (record { why = d; path = ps.items }) (fault_of u) i u.bit (whole_fault d u.refusal ps.items u.path.items (sym a.0) (sym a.2)) (sym a.1)
+
+pub message_room : (o : Octets) (b : Bits) → length o ≤ 16777216 → b ≡ octet_bits o → 0 + length b ≤ 2 ^ 62
+message_room o b l h = let a = ap length h in let m = octets_length o in omega (arith, l, a, m)
 
 -- ---- what the answers mean
 

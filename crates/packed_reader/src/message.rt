@@ -7,7 +7,7 @@ ghost use Rattle.bits.specs.Left.{bits_left};
 ghost use Rattle.packed_reader.specs.Readings.{read, taken};
 ghost use Rattle.packed_reader.specs.Structures.{filled_from};
 ghost use Rattle.packed_reader.specs.Values.{answers, message_from};
-ghost use Rattle.packed_reader.specs.proving.Code.{HasRoom, IsStop};
+ghost use Rattle.packed_reader.specs.proving.Code.{HasRoom, IsRefusalAt, IsStop};
 ghost use Rattle.packed_reader.specs.proving.Running.{run_value};
 ghost use Rattle.packed_reader.specs.declared.fault.PerFault.TheVariants.{Memory, MessageLimit};
 ghost use Rattle.std.specs.Int.Digits.{AllBelowBase};
@@ -63,6 +63,16 @@ fn are_octets(octets: &[u8])
     ensures { AllBelowBase 256 octets.now }
 {}
 
+/// The fault of a message whose reading stops at this bit.
+fn refusal_at(stop: Stop, bit: usize) -> PerFault
+    ensures { IsRefusalAt stop bit result }
+{
+    match stop {
+        Stop::Memory => PerFault::Memory,
+        Stop::Refused(refusal, path) => PerFault::Refused(RefusedBits { refusal, bit, path }),
+    }
+}
+
 /// The value of a message, and how many additions were skipped. `MessageLimit`: the message is too long.
 fn decode(
     alloc: Global,
@@ -100,12 +110,7 @@ fn decode(
     };
     match read_message(reader, &mut progress, &mut bits) {
         Ok(value) => Ok((value, progress.skipped)),
-        Err(Stop::Memory) => Err(PerFault::Memory),
-        Err(Stop::Refused(refusal, path)) => Err(PerFault::Refused(RefusedBits {
-            refusal,
-            bit: all.saturating_sub(bits.len()),
-            path,
-        })),
+        Err(stop) => Err(refusal_at(stop, all.saturating_sub(bits.len()))),
     }
 }
 

@@ -12,6 +12,8 @@ use Rattle.packed_readings.specs.declared.refusal.PackedFault.{PackedFault}
 use Rattle.packed_readings.specs.declared.refusal.PackedFault.TheVariants as faults
 use Rattle.packed_readings.specs.declared.refusal.Refusal.{Refusal}
 use Rattle.packed_readings.specs.Outcome.{Outcome, stops}
+use Rattle.packed_reader.specs.declared.fault.PerFault.{PerFault}
+use Rattle.packed_reader.specs.declared.fault.PerFault.TheVariants as per
 use Rattle.packed_reader.specs.declared.part.Part.{Part}
 use Rattle.packed_reader.specs.declared.stop.Stop.{Stop}
 use Rattle.packed_reader.specs.declared.stop.Stop.TheVariants.{Memory, Refused}
@@ -45,6 +47,13 @@ abbrev pub IsWithin : Part → Stop → Stop → Type 0
 IsWithin p Memory x = x ≡ Memory
 IsWithin p (Refused e ps) Memory = Unit {0}
 IsWithin p (Refused e ps) (Refused f qs) = (f ≡ e) × (qs.items ≡ p ∷ ps.items)
+
+-- the fault of a message that stops at this bit
+abbrev pub IsRefusalAt : Stop → ℕ → PerFault → Type 0
+IsRefusalAt Memory i e = e ≡ per.Memory
+IsRefusalAt (Refused d ps) i per.Memory = ⊥
+IsRefusalAt (Refused d ps) i per.MessageLimit = ⊥
+IsRefusalAt (Refused d ps) i (per.Refused u) = (u.refusal ≡ d) × (u.bit ≡ i) × (u.path.items ≡ ps.items)
 
 -- ---- answers
 
