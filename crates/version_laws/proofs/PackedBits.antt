@@ -1,10 +1,10 @@
 -- Which additions are present, as bits of two versions tell it.
-use Rattle.std.proofs.Common.{arith, ◌≡◌, ℕ, zero, suc, ◌+◌, ◌-◌, ◌≤◌, ◌⊎◌, inl, inr, Bool, true, false, List, [], ◌∷◌, ◌++◌, length, replicate, refl, sym, ap, subst, ◌∙◌, append_assoc}
+use Rattle.std.proofs.Common.{arith, ◌≡◌, ℕ, zero, suc, ◌+◌, ◌-◌, ◌⊎◌, inl, inr, Bool, true, false, [], ◌∷◌, ◌++◌, length, replicate, refl, sym, ap, subst, ◌∙◌, append_assoc}
 use Rattle.std.proofs.lemmas.List.{append-nil, replicate-append-replicate}
 use Rattle.bits.specs.Words.{word}
 use Rattle.packed_encodings.specs.Lengths.{Bits}
 use Rattle.packed_encodings.specs.Padding.{Unknown, no_bit, clear_bit, set_bit}
-use Rattle.packed_encodings.specs.Packing.{any_set, TellAdditions, lenient, Extended, no_marker, none_stands, some_stand}
+use Rattle.packed_encodings.specs.Packing.{any_set, lenient, Extended, no_marker, none_stands, some_stand}
 
 abbrev pub zeros : ℕ → Bits
 zeros n = replicate n false

@@ -1,17 +1,16 @@
 -- How many additions the earlier type leaves out: none in packed encodings where no component is left out, and as many
 -- of values that are the same.
-use Rattle.std.proofs.Common.{arith, ◌≡◌, ℕ, zero, suc, ◌+◌, ◌<◌, Bool, true, false, cond, List, [], ◌∷◌, ◌++◌, length, refl, sym, ap, subst, ◌∙◌}
-use Rattle.std.specs.Prelude.{slice_get, Option, Some, None, ◌||◌}
-use Rattle.std.specs.List.{AllByRecursion}
+use Rattle.std.proofs.Common.{arith, ◌≡◌, ℕ, suc, ◌+◌, Bool, true, false, cond, List, [], ◌∷◌, ◌++◌, refl, sym, ap, subst, ◌∙◌}
+use Rattle.std.specs.Prelude.{slice_get, Option, Some, None}
 use Rattle.asn_base.specs.declared.tag.Tag.{Tag}
-use Rattle.asn_base.specs.Abstract.{AbstractValue, fields, list, alternative, Row, end, absent, present}
-use Rattle.asn_base.specs.Types.{Kind, a_null, Presence, mandatory, optional, default, addition, Component, Resolved, Is}
+use Rattle.asn_base.specs.Abstract.{AbstractValue, Row}
+use Rattle.asn_base.specs.Types.{Kind, Presence, mandatory, optional, default, addition, Component, Resolved, Is}
 use Rattle.asn_base.specs.Typed.{group_of, Fits, fits_boolean, fits_integer, fits_enumerated, fits_bits, fits_named_bits, fits_octets, fits_null, fits_oid, fits_relative_oid, fits_utf8, fits_restricted, ValueIn, value_in, ValueOf, of_leaf, of_sequence, of_set, of_sequence_of, of_set_of, of_choice, MayBeAbsent, where_default, AreComponents, no_component, component_absent, component_present, AreElements, no_element, one_element}
 use Rattle.asn_base.specs.Same.{Inserted, here, there, Alike, alike, AlikeBy, equal, zeros, alike_sequence, alike_set, alike_sequence_of, alike_set_of, alike_choice, AlikeComponents, no_components, both_absent, both_present, first_default, second_default, AlikeElements, no_elements, alike_element, AlikeInAnyOrder, none_left, pair}
-use Rattle.asn_base.specs.Schemas.{components, types_in, is_addition}
+use Rattle.asn_base.specs.Schemas.{components, types_in}
 use Rattle.later_versions.specs.Kept.{members_of, member_of, kept, kept_row, kept_elements, left_out, left_out_of_row, left_out_of_elements}
 use Rattle.later_versions.specs.Later.{IsMarkedAlike, IsLaterKind, later_named_bits, later_sequence, later_set, later_sequence_of, later_set_of, later_choice, Later}
-use Rattle.packed_encodings.specs.Orders.{Member, missing, standing, component, stands, any_stands, Beside as MembersBeside, beside_none, beside_absent, beside_present, Addition, alone, bracketed, is_of_group, in_front, additions}
+use Rattle.packed_encodings.specs.Orders.{Member, missing, standing, any_stands, Beside as MembersBeside, beside_none, beside_absent, beside_present, Addition, alone, bracketed, is_of_group, in_front, additions}
 use Rattle.version_laws.specs.LeftOut.{components_of, members_in, present_additions, left_out_packed, left_out_of_components, left_out_of_items}
 use Rattle.version_laws.proofs.Beside.{later_here, members_are, later_members, LaterMembers, types, AreAdditions, Beside, appended, beside, beside_of}
 use Rattle.version_laws.proofs.Apart.{mapped}

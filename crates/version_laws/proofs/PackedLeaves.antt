@@ -1,5 +1,5 @@
 -- Packed bits of values that hold no others, and the places of alternatives, in two versions.
-use Rattle.std.proofs.Common.{arith, ◌≡◌, ℕ, zero, suc, ◌+◌, ◌<◌, ◌≤◌, ◌⊎◌, inl, inr, ℤ, Bool, true, false, cond, List, [], ◌∷◌, ◌++◌, length, map, refl, sym, ap, subst, ◌∙◌}
+use Rattle.std.proofs.Common.{arith, ◌≡◌, ℕ, zero, suc, ◌+◌, ◌<◌, ◌⊎◌, inl, inr, ℤ, Bool, cond, List, [], ◌∷◌, ◌++◌, length, map, refl, sym, ap, subst, ◌∙◌}
 use Rattle.std.proofs.lemmas.Int.{ints}
 use Rattle.std.proofs.lemmas.List.{length-map}
 use Rattle.std.specs.Prelude.{slice_get, Some, ◌<ℤ◌}
@@ -76,23 +76,23 @@ items_fit {root = root} {more = more} (of_leaf (fits_enumerated {z = y} a b)) e 
     number_of : {a b : ℤ} → enumerated a ≡ enumerated b → a ≡ b
     number_of e = cc
 
-pub leaf_older : {s s' : List Resolved} {k k' : Kind} {v : AbstractValue} {b : Bits} {n : ℕ} (t t' : ℕ) → IsLaterKind s k k' → Leaf k' v b → ValueOf s n k (kept s t v) → IsSound s' k' → Holds s lenient k (kept s t v) (left_out_packed s t s' t' v) b
-leaf_older t t' later_boolean of_boolean x sound = leaf of_boolean
-leaf_older t t' (later_integer q) (of_integer {z = z} {b = b} a) x sound = leaf (of_integer (subst (λ o. Integer o z b) (sym q.visible) a))
-leaf_older t t' (later_enumerated q) (of_enumerated a) x sound = leaf (of_enumerated (item_older q sound (items_fit x refl) a))
-leaf_older t t' (later_bit_string q) (of_bits {v = v} {b = b} a) x sound = leaf (of_bits (subst (λ o. Sized o (singly v) b) (sym q.visible) a))
-leaf_older t t' (later_named_bits q) (of_named_bits a c) x sound = leaf (of_named_bits a c)
-leaf_older t t' (later_octet_string q) (of_octets {o = o} {b = b} l a) x sound = leaf (of_octets l (subst (λ z. Sized z (map (word 8) o) b) (sym q.visible) a))
-leaf_older t t' later_null of_null x sound = leaf of_null
-leaf_older t t' later_object_identifier (of_oid a c) x sound = leaf (of_oid a c)
-leaf_older t t' later_relative_oid (of_relative_oid a c) x sound = leaf (of_relative_oid a c)
-leaf_older t t' (later_utf8_string q) (of_utf8 a) x sound = leaf (of_utf8 a)
-leaf_older t t' (later_restricted_string q) (of_restricted {xs = xs} {b = b} a c) x sound = leaf (of_restricted a (subst (λ z. Sized z xs b) (sym q.visible) c))
-leaf_older t t' (later_sequence q) a x sound = elim a [ ]
-leaf_older t t' (later_set q) a x sound = elim a [ ]
-leaf_older t t' (later_sequence_of q) a x sound = elim a [ ]
-leaf_older t t' (later_set_of q) a x sound = elim a [ ]
-leaf_older t t' (later_choice q f) a x sound = elim a [ ]
+pub leaf_older : {s : List Resolved} {k k' : Kind} {v : AbstractValue} {b : Bits} {n : ℕ} (s' : List Resolved) (t t' : ℕ) → IsLaterKind s k k' → Leaf k' v b → ValueOf s n k (kept s t v) → IsSound s' k' → Holds s lenient k (kept s t v) (left_out_packed s t s' t' v) b
+leaf_older s' t t' later_boolean of_boolean x sound = leaf of_boolean
+leaf_older s' t t' (later_integer q) (of_integer {z = z} {b = b} a) x sound = leaf (of_integer (subst (λ o. Integer o z b) (sym q.visible) a))
+leaf_older s' t t' (later_enumerated q) (of_enumerated a) x sound = leaf (of_enumerated (item_older q sound (items_fit x refl) a))
+leaf_older s' t t' (later_bit_string q) (of_bits {v = v} {b = b} a) x sound = leaf (of_bits (subst (λ o. Sized o (singly v) b) (sym q.visible) a))
+leaf_older s' t t' (later_named_bits q) (of_named_bits a c) x sound = leaf (of_named_bits a c)
+leaf_older s' t t' (later_octet_string q) (of_octets {o = o} {b = b} l a) x sound = leaf (of_octets l (subst (λ z. Sized z (map (word 8) o) b) (sym q.visible) a))
+leaf_older s' t t' later_null of_null x sound = leaf of_null
+leaf_older s' t t' later_object_identifier (of_oid a c) x sound = leaf (of_oid a c)
+leaf_older s' t t' later_relative_oid (of_relative_oid a c) x sound = leaf (of_relative_oid a c)
+leaf_older s' t t' (later_utf8_string q) (of_utf8 a) x sound = leaf (of_utf8 a)
+leaf_older s' t t' (later_restricted_string q) (of_restricted {xs = xs} {b = b} a c) x sound = leaf (of_restricted a (subst (λ z. Sized z xs b) (sym q.visible) c))
+leaf_older s' t t' (later_sequence q) a x sound = elim a [ ]
+leaf_older s' t t' (later_set q) a x sound = elim a [ ]
+leaf_older s' t t' (later_sequence_of q) a x sound = elim a [ ]
+leaf_older s' t t' (later_set_of q) a x sound = elim a [ ]
+leaf_older s' t t' (later_choice q f) a x sound = elim a [ ]
 
 pub leaf_newer : {s : List Resolved} {k k' : Kind} {v : AbstractValue} {b : Bits} (s' : List Resolved) (t' : ℕ) → IsLaterKind s k k' → Leaf k v b → Holds s' lenient k' (widened s' t' v) 0 b
 leaf_newer s' t' later_boolean of_boolean = leaf of_boolean
@@ -152,12 +152,12 @@ roots_same root others names =
     omega (arith, e, a, b)
 
 -- the alternatives of both roots stand at the same places in the canonical order of tags
-module _ {s s' : List Resolved} (root more others all : List Alternative) (ms : LaterMembers s s' (map (λ a. a.type) (root ++ more)) (map (λ a. a.type) (others ++ all))) (th : AllByRecursion (λ a. HasTag s a.type) (root ++ more)) (th' : AllByRecursion (λ a. HasTag s' a.type) (others ++ all)) where
+module _ (s s' : List Resolved) (root more others all : List Alternative) (ms : LaterMembers s s' (map (λ a. a.type) (root ++ more)) (map (λ a. a.type) (others ++ all))) (th : AllByRecursion (λ a. HasTag s a.type) (root ++ more)) (th' : AllByRecursion (λ a. HasTag s' a.type) (others ++ all)) where
   tags_at : (i : ℕ) (a b : Alternative) → slice_get root i ≡ Some a → slice_get others i ≡ Some b → tag_at s a.type ≡ tag_at s' b.type
   tags_at i a b f g =
       let x = at_front root more i f in
       let y = at_front others all i g in
-      tag_same (ms i a.type b.type (mapped (λ o. o.type) (root ++ more) i x) (mapped (λ o. o.type) (others ++ all) i y))
+      tag_same s s' a.type b.type (ms i a.type b.type (mapped (λ o. o.type) (root ++ more) i x) (mapped (λ o. o.type) (others ++ all) i y))
       (has_type s a.type (all_at (λ o. HasTag s o.type) (root ++ more) i th x)) (has_type s' b.type (all_at (λ o. HasTag s' o.type) (others ++ all) i th' y))
 
   pub ranks_same : (i : ℕ) {a b : Alternative} → length root ≡ length others → slice_get root i ≡ Some a → slice_get others i ≡ Some b → rank s root a.type ≡ rank s' others b.type

@@ -1,31 +1,31 @@
 -- Packed bits of a value of an earlier version are bits of what it is under the later type.
-use Rattle.std.proofs.Common.{arith, ◌≡◌, ℕ, suc, ◌+◌, ◌<◌, ◌≤◌, Bool, true, false, cond, List, [], ◌∷◌, ◌++◌, length, map, replicate, refl, sym, ap, subst, ◌∙◌}
+use Rattle.std.proofs.Common.{arith, ◌≡◌, ℕ, suc, ◌+◌, Bool, true, false, cond, List, [], ◌∷◌, ◌++◌, length, refl, sym, ap, subst, ◌∙◌}
 use Rattle.std.proofs.lemmas.List.{append-nil}
-use Rattle.std.specs.Prelude.{slice_get, Some}
+use Rattle.std.specs.Prelude.{slice_get}
 use Rattle.std.specs.List.{AllByRecursion}
-use Rattle.asn_base.specs.Abstract.{AbstractValue, fields, list, alternative, Row, end}
+use Rattle.asn_base.specs.Abstract.{AbstractValue, fields, list, alternative, Row}
 use Rattle.asn_base.specs.Types.{Kind, Component, Resolved}
-use Rattle.asn_base.specs.Typed.{group_of, ValueIn, value_in, ValueOf, of_leaf, of_sequence, of_set, of_sequence_of, of_set_of, of_choice, AreComponents, no_component, component_absent, component_present, AreElements, no_element, one_element}
+use Rattle.asn_base.specs.Typed.{group_of, ValueIn, value_in, ValueOf, of_leaf, of_sequence, of_set, of_sequence_of, of_set_of, of_choice, AreComponents, no_component, component_absent, component_present, AreElements, one_element}
 use Rattle.asn_base.specs.Schemas.{IsSchema, IsSound, AreListed, is_addition, types_in}
 use Rattle.encodings.specs.Encoding.{IsDefault}
 use Rattle.later_versions.specs.Kept.{members_of}
 use Rattle.later_versions.specs.Later.{IsLaterKind, later_sequence, later_set, later_sequence_of, later_set_of, later_choice, Later}
 use Rattle.packed_encodings.specs.Lengths.{Bits, Items, Sized}
 use Rattle.packed_encodings.specs.Leaves.{place_bits, root_bit}
-use Rattle.packed_encodings.specs.Orders.{rank, Member, missing, standing, any_stands, Beside as MembersBeside, beside_none, beside_absent, beside_present, root_of, behind_marker, canonical, Addition, alone, bracketed, additions}
+use Rattle.packed_encodings.specs.Orders.{rank, Member, missing, standing, any_stands, Beside as MembersBeside, beside_none, beside_absent, beside_present, behind_marker, Addition, alone, bracketed, additions}
 use Rattle.packed_encodings.specs.Packing.{lenient, Says, says, Holds, leaf, sequence, set, sequence_of, set_of, choice, added_choice, Members, no_member, must_stand, may_stand, is_missing, Additions, no_addition, added, not_added, group, no_group, Elements, no_element as no_items, element}
 use Rattle.version_laws.specs.LeftOut.{members_in, present_additions}
 use Rattle.version_laws.specs.Widened.{all_absent, widened, widened_row, widened_elements}
-use Rattle.version_laws.proofs.Beside.{later_here, members_are, later_members, LaterMembers, types, AreAdditions}
+use Rattle.version_laws.proofs.Beside.{later_here, members_are, later_members, LaterMembers, types}
 use Rattle.version_laws.proofs.Apart.{HasType, type_there, mapped, within}
 use Rattle.version_laws.proofs.Places.{element_at, member_at}
 use Rattle.version_laws.proofs.Alikes.{Laws}
 use Rattle.version_laws.proofs.Back.{is_there, same_kind, other_choice}
 use Rattle.version_laws.proofs.NewerAlike.{same_choice}
 use Rattle.version_laws.proofs.NewerSays.{default_before}
-use Rattle.version_laws.proofs.PackedPairs.{OfValues, Matched, both_missing, both_standing, AllMatched, none_matched, more_matched, AdditionsMatched, only_more, both_alone, both_bracketed, canonical_matched, any_same, root_step}
+use Rattle.version_laws.proofs.PackedPairs.{OfValues, both_missing, both_standing, AllMatched, none_matched, more_matched, AdditionsMatched, only_more, both_alone, both_bracketed, canonical_matched, any_same, root_step}
 use Rattle.version_laws.proofs.PackedBits.{zeros, extended_newer}
-use Rattle.version_laws.proofs.PackedSides.{IsAligned, aligned_tag, bit_same, Lined, lined_end, lined, lined_of, listed_first, Sides, side_end, side_absent, side_present, Parts, parts}
+use Rattle.version_laws.proofs.PackedSides.{IsAligned, aligned_tag, bit_same, Lined, lined_end, lined, lined_of, listed_first, Sides, side_end, side_absent, side_present, parts}
 use Rattle.version_laws.proofs.PackedCounts.{front_zero}
 use Rattle.version_laws.proofs.PackedLeaves.{leaf_newer, at_front, in_front_at, at_back, roots_same, ranks_same}
 
@@ -90,8 +90,8 @@ none_behind {ds = ds} l f b =
   where
     only_root : {ds : List Component} {ws : Row} {ns : List (Member AbstractValue)} → AllByRecursion (λ c. is_addition c ≡ false) ds → MembersBeside ds ws ns → behind_marker ns ≡ []
     only_root a beside_none = refl
-    only_root a (beside_absent {c = c} {ms = ms} b) = (root_step {m = missing c} {ms = ms} a.0).1 ∙ only_root a.1 b
-    only_root a (beside_present {c = c} {w = w} {ms = ms} b) = (root_step {m = standing c w} {ms = ms} a.0).1 ∙ only_root a.1 b
+    only_root a (beside_absent {c = c} {ms = ms} b) = (root_step (missing c) ms a.0).1 ∙ only_root a.1 b
+    only_root a (beside_present {c = c} {w = w} {ms = ms} b) = (root_step (standing c w) ms a.0).1 ∙ only_root a.1 b
 
 -- ---- additions that were appended are absent
 
@@ -99,11 +99,11 @@ none_added : (s' : List Resolved) (es : List (Addition AbstractValue)) → prese
 none_added s' [] e = no_addition
 none_added s' (alone (missing c) ∷ es) e = not_added (none_added s' es e)
 none_added s' (alone (standing c v) ∷ es) e = absurd (omega (arith, e))
-none_added s' (bracketed ms ∷ es) e = by (any_stands ms) refl e
+none_added s' (bracketed ms ∷ es) e = by (any_stands ms) refl e (λ f. none_added s' es f)
   where
-    by : (b : Bool) → any_stands ms ≡ b → cond b (suc (present_additions es)) (present_additions es) ≡ 0 → Additions s' lenient (bracketed ms ∷ es) 0 (false ∷ zeros (length es)) []
-    by true f g = absurd (omega (arith, g))
-    by false f g = no_group f (none_added s' es g)
+    by : (b : Bool) → any_stands ms ≡ b → cond b (suc (present_additions es)) (present_additions es) ≡ 0 → (present_additions es ≡ 0 → Additions s' lenient es 0 (zeros (length es)) []) → Additions s' lenient (bracketed ms ∷ es) 0 (false ∷ zeros (length es)) []
+    by true f g r = absurd (omega (arith, g))
+    by false f g r = no_group f (r g)
 
 none_more : {V : OfValues} {C : Component → Component → Type 0} {ds es bs : List (Addition AbstractValue)} {k : ℕ} → AdditionsMatched C V ds es bs k → es ≡ [] → length bs ≡ 0
 none_more (only_more e) f = ap length f
@@ -154,7 +154,7 @@ module _ (laws : Laws) (s s' : List Resolved) (schema : IsSchema s) (schema' : I
         let many = roots_same root others names in
         let front_at = in_front_at others all i (let k = within root i g in omega (arith, k, many)) b.at in
         let r = newer (ms i a.type b.alternative.type one other) b.type d (subst (λ o. ValueIn s m o v) (same_choice (root ++ more) i h here) x) z in
-        let ranks = ranks_same root more others all ms sound.types sound'.types i many g front_at in
+        let ranks = ranks_same s s' root more others all ms sound.types sound'.types i many g front_at in
         holds_at (ap (λ o. alternative i (widened s' o v)) (sym at))
         (sym (ap (λ o. root_bit e ++ (place_bits o (rank s root a.type) ++ bits)) many ∙ ap (λ o. root_bit e ++ (place_bits (length others) o ++ bits)) ranks))
         (choice front_at r)

@@ -1,33 +1,31 @@
 -- Packed bits of a value of a later version are bits of what the earlier type keeps of it.
-use Rattle.std.proofs.Common.{arith, ◌≡◌, ℕ, suc, ◌+◌, ◌<◌, ◌≤◌, Bool, true, false, cond, List, [], ◌∷◌, ◌++◌, length, map, refl, sym, ap, subst, ◌∙◌, append_assoc}
-use Rattle.std.proofs.lemmas.List.{length-map}
-use Rattle.std.specs.Prelude.{slice_get, Some}
-use Rattle.asn_base.specs.Abstract.{AbstractValue, fields, list, alternative, Row, end}
-use Rattle.asn_base.specs.Types.{Alternative, Kind, Component, Resolved}
-use Rattle.asn_base.specs.Typed.{ValueIn, value_in, ValueOf, of_leaf, of_sequence, of_set, of_sequence_of, of_set_of, of_choice, AreComponents, no_component, component_absent, component_present, AreElements, no_element, one_element, nodes, row_nodes}
+use Rattle.std.proofs.Common.{arith, ◌≡◌, ℕ, suc, ◌+◌, Bool, true, false, cond, List, [], ◌∷◌, ◌++◌, length, refl, sym, ap, subst, ◌∙◌, append_assoc}
+use Rattle.std.specs.Prelude.{slice_get}
+use Rattle.asn_base.specs.Abstract.{AbstractValue, fields, list, alternative, Row}
+use Rattle.asn_base.specs.Types.{Kind, Component, Resolved}
+use Rattle.asn_base.specs.Typed.{ValueIn, value_in, ValueOf, of_leaf, of_sequence, of_set, of_sequence_of, of_set_of, of_choice, AreComponents, component_absent, component_present, AreElements, one_element}
 use Rattle.asn_base.specs.Same.{Alike}
-use Rattle.asn_base.specs.Schemas.{HasTag, IsSchema, IsSound, components, types_in}
-use Rattle.bits.specs.Words.{word}
+use Rattle.asn_base.specs.Schemas.{IsSchema, IsSound, components, types_in}
 use Rattle.encodings.specs.Encoding.{IsDefault}
 use Rattle.later_versions.specs.Kept.{members_of, member_of, kept, kept_row, kept_elements}
 use Rattle.later_versions.specs.Later.{IsLaterKind, later_sequence, later_set, later_sequence_of, later_set_of, later_choice, Later}
 use Rattle.packed_encodings.specs.Lengths.{Bits, Items, Sized}
 use Rattle.packed_encodings.specs.Leaves.{place_bits, root_bit}
-use Rattle.packed_encodings.specs.Orders.{rank, tag_at, Member, missing, standing, any_stands, Beside as MembersBeside, beside_none, beside_absent, beside_present, root_of, behind_marker, canonical, Addition, alone, bracketed, additions, Ascending}
-use Rattle.packed_encodings.specs.Padding.{Unknown, no_bit, clear_bit, set_bit, Open, open_type}
+use Rattle.packed_encodings.specs.Orders.{rank, Member, Addition, additions}
+use Rattle.packed_encodings.specs.Padding.{Unknown, no_bit, clear_bit, set_bit, open_type}
 use Rattle.packed_encodings.specs.Packing.{lenient, Says, says, Holds, leaf, sequence, set, sequence_of, set_of, choice, added_choice, Members, no_member, must_stand, may_stand, is_missing, Additions, no_addition, added, not_added, group, no_group, Elements, no_element as no_items, element}
 use Rattle.version_laws.specs.LeftOut.{components_of, members_in, present_additions, left_out_packed, left_out_of_components, left_out_of_items}
 use Rattle.version_laws.specs.Widened.{widened}
 use Rattle.version_laws.proofs.Beside.{later_here, members_are, later_members, LaterMembers, types}
-use Rattle.version_laws.proofs.Apart.{HasType, has_type, all_at, mapped, within}
+use Rattle.version_laws.proofs.Apart.{mapped, within}
 use Rattle.version_laws.proofs.Places.{element_at, member_at, kept_none}
 use Rattle.version_laws.proofs.Alikes.{Laws}
 use Rattle.version_laws.proofs.Back.{same_kind, again}
 use Rattle.version_laws.proofs.Newer.{LaterDefault, later_default}
 use Rattle.version_laws.proofs.NewerAlike.{same_choice, alike_widened}
-use Rattle.version_laws.proofs.PackedPairs.{OfValues, Matched, both_missing, both_standing, AllMatched, none_matched, more_matched, AdditionsMatched, only_more, both_alone, both_bracketed, canonical_matched, any_same, none_there}
+use Rattle.version_laws.proofs.PackedPairs.{OfValues, both_missing, both_standing, AllMatched, none_matched, more_matched, AdditionsMatched, only_more, both_alone, both_bracketed, canonical_matched, any_same, none_there}
 use Rattle.version_laws.proofs.PackedBits.{extended_older}
-use Rattle.version_laws.proofs.PackedSides.{IsAligned, aligned_tag, bit_same, tag_same, Lined, lined_end, lined, lined_of, listed_first, Sides, side_end, side_absent, side_present, beside_row, Parts, parts}
+use Rattle.version_laws.proofs.PackedSides.{IsAligned, aligned_tag, bit_same, Lined, lined_end, lined, lined_of, listed_first, Sides, side_end, side_absent, side_present, beside_row, parts}
 use Rattle.version_laws.proofs.PackedCounts.{components_are, zero_both}
 use Rattle.version_laws.proofs.PackedLeaves.{leaf_older, at_front, in_front_at, at_back, roots_same, ranks_same}
 
@@ -83,8 +81,8 @@ additions_at : {s : List Resolved} {ds bs : List (Addition AbstractValue)} {j k 
 additions_at {s} {ds} {bs} {j} {k} {q} {d} e h = subst (λ n. KnownAdditions s ds bs n q d) e h
 
 -- one more addition in front
-with_addition : {s : List Resolved} {ds ds' bs : List (Addition AbstractValue)} {b : Bool} {j k : ℕ} {y q d : Bits} → (r : KnownAdditions s ds bs j q d) → Additions s lenient ds' k (b ∷ r.first_bits) (y ++ r.first) → KnownAdditions s ds' bs k (b ∷ q) (y ++ d)
-with_addition {b = b} {y = y} r a = record {
+with_addition : {s : List Resolved} {ds ds' bs : List (Addition AbstractValue)} {b : Bool} {j k : ℕ} {q d : Bits} (y : Bits) → (r : KnownAdditions s ds bs j q d) → Additions s lenient ds' k (b ∷ r.first_bits) (y ++ r.first) → KnownAdditions s ds' bs k (b ∷ q) (y ++ d)
+with_addition {b = b} y r a = record {
   first_bits = b ∷ r.first_bits;
   other_bits = r.other_bits;
   first = y ++ r.first;
@@ -138,7 +136,7 @@ module _ (laws : Laws) (s s' : List Resolved) (schema : IsSchema s) (schema' : I
         (subst (λ q. ValueOf s' m' q w) (same_kind j' j) y) (schema.sound _ _ _ i) (schema'.sound _ _ _ j) z)
 
     holds_older : {k k' : Kind} {n m m' : ℕ} {w : AbstractValue} {b : Bits} (t t' : ℕ) → members_of s t ≡ types_in k → members_of s' t' ≡ types_in k' → components_of s' t' ≡ components k' → LaterMembers s s' (types_in k) (types_in k') → IsLaterKind s k k' → Holds s' lenient k' w n b → ValueOf s m k (kept s t w) → ValueOf s' m' k' w → IsSound s k → IsSound s' k' → n ≡ 0 → Holds s lenient k (kept s t w) (left_out_packed s t s' t' w) b
-    holds_older t t' q q' c ms kind (leaf a) x y sound sound' z = leaf_older t t' kind a x sound'
+    holds_older t t' q q' c ms kind (leaf a) x y sound sound' z = leaf_older s' t t' kind a x sound'
     holds_older {m = m} t t' q q' c ms (later_sequence {cs = cs} {ds = ds} a) (sequence {ws = ws} b mb ad ex) (of_sequence x g) (of_sequence y g') sound sound' z =
         let side = lined_of cs ds a.front.none_dropped a.front.kept a.appended a.groups a.whole ms sound.types sound'.types sound'.defaults in
         let row = subst (λ o. AreComponents s m cs (kept_row s o ws)) q x in
@@ -180,7 +178,7 @@ module _ (laws : Laws) (s s' : List Resolved) (schema : IsSchema s) (schema' : I
         let many = roots_same root others names in
         let front_at = in_front_at root more i (let k = within others i g' in omega (arith, k, many)) g in
         let r = older (ms i a.type a'.type one other) d (subst (λ o. ValueIn s m a.type (kept s o w)) at x) (subst (λ o. ValueIn s' m' o w) (same_choice (others ++ all) i h there) y) z in
-        let ranks = ranks_same root more others all ms sound.types sound'.types i many front_at g' in
+        let ranks = ranks_same s s' root more others all ms sound.types sound'.types i many front_at g' in
         holds_at (ap (λ o. alternative i (kept s o w)) (sym at)) (ap (λ o. left_out_packed s o s' a'.type w) (sym at) ∙ ap (λ o. left_out_packed s (member_of s t i) s' o w) (sym at'))
         (ap (λ o. root_bit e ++ (place_bits o (rank s root a.type) ++ bits)) many ∙ ap (λ o. root_bit e ++ (place_bits (length others) o ++ bits)) ranks)
         (choice front_at r)
@@ -235,13 +233,13 @@ module _ (laws : Laws) (s s' : List Resolved) (schema : IsSchema s) (schema' : I
     additions_older (both_alone (both_missing al) r e) (not_added a) z =
         let t = additions_older r a z in
         additions_at (omega (arith, e)) (with_none t (not_added t.known))
-    additions_older (both_alone (both_standing al v) r e) (added x o a) z =
+    additions_older (both_alone (both_standing al v) r e) (added {y = y} x o a) z =
         let t = additions_older r a (omega (arith, z)) in
         let one = says_at (sym v.same) (sym v.count) (older al.later x v.value v.other (omega (arith, z))) in
-        additions_at (sym e) (with_addition t (added one o t.known))
-    additions_older (both_bracketed m r e) (group f x o a) z =
+        additions_at (sym e) (with_addition y t (added one o t.known))
+    additions_older (both_bracketed m r e) (group {y = y} f x o a) z =
         let t = additions_older r a (omega (arith, z)) in
-        additions_at (sym e) (with_addition t (group (any_same m ∙ f) (members_older m x (omega (arith, z))) o t.known))
+        additions_at (sym e) (with_addition y t (group (any_same m ∙ f) (members_older m x (omega (arith, z))) o t.known))
     additions_older (both_bracketed m r e) (no_group f a) z =
         let t = additions_older r a z in
         let none = none_there m f in

@@ -44,15 +44,15 @@ pub data AdditionsMatched (C : OfComponents) (V : OfValues) : List (Addition Abs
 
 -- ---- the canonical order
 
-one_tag : {C : OfComponents} {V : OfValues} {s s' : List Resolved} → ((c d : Component) → C c d → tag_at s c.type ≡ tag_at s' d.type)
+one_tag : {C : OfComponents} {V : OfValues} (s s' : List Resolved) → ((c d : Component) → C c d → tag_at s c.type ≡ tag_at s' d.type)
     → {m n : Member AbstractValue} {k : ℕ} → Matched C V m n k → tag_at s (component m).type ≡ tag_at s' (component n).type
-one_tag tags (both_missing {c = c} {d = d} a) = tags c d a
-one_tag tags (both_standing {c = c} {d = d} a v) = tags c d a
+one_tag s s' tags (both_missing {c = c} {d = d} a) = tags c d a
+one_tag s s' tags (both_standing {c = c} {d = d} a v) = tags c d a
 
 module _ {C : OfComponents} {V : OfValues} (s s' : List Resolved) (tags : (c d : Component) → C c d → tag_at s c.type ≡ tag_at s' d.type) where
   before_same : {m n x y : Member AbstractValue} {j k : ℕ} → Matched C V m n j → Matched C V x y k → stands_before s (component x).type (component m).type ≡ stands_before s' (component y).type (component n).type
   before_same {m} {n} {x} {y} a b =
-      ap (λ q. both_before q (tag_at s (component m).type)) (one_tag tags b) ∙ ap (λ q. both_before (tag_at s' (component y).type) q) (one_tag tags a)
+      ap (λ q. both_before q (tag_at s (component m).type)) (one_tag s s' tags b) ∙ ap (λ q. both_before (tag_at s' (component y).type) q) (one_tag s s' tags a)
 
   placed_matched : {m n : Member AbstractValue} {ms ns : List (Member AbstractValue)} {i j k : ℕ} → Matched C V m n i → AllMatched C V ms ns j → k ≡ i + j → AllMatched C V (placed s m ms) (placed s' n ns) k
   placed_matched a (none_matched z) e = more_matched a (none_matched z) e
@@ -127,10 +127,10 @@ bracketed_first g n (bracketed (m ∷ ms) ∷ ds) = by (is_of_group g m)
     by true = record { others = m ∷ ms; rest = ds; is = refl }
     by false = record { others = []; rest = bracketed (m ∷ ms) ∷ ds; is = refl }
 
-abbrev joined_by : Option ℕ → Option ℕ → Bool
+abbrev pub joined_by : Option ℕ → Option ℕ → Bool
 joined_by g h = elim g [ None ↦ false | Some a ↦ elim h [ None ↦ false | Some b ↦ a == b ] ]
 
-abbrev some_group : Option ℕ → Bool
+abbrev pub some_group : Option ℕ → Bool
 some_group g = elim g [ None ↦ false | Some a ↦ true ]
 
 two_in_front : (m n : Member AbstractValue) (ds : List (Addition AbstractValue)) (g h : Option ℕ) → group_of (component n).presence ≡ h
@@ -195,8 +195,8 @@ module _ {C : OfComponents} {V : OfValues} where
 
 -- ---- root and additions
 
-pub root_step : {m : Member AbstractValue} {ms : List (Member AbstractValue)} → is_addition (component m) ≡ false → (root_of (m ∷ ms) ≡ m ∷ root_of ms) × (behind_marker (m ∷ ms) ≡ behind_marker ms)
-root_step {m} {ms} e = (ap (λ q. cond q (root_of ms) (m ∷ root_of ms)) e, ap (λ q. cond q (m ∷ behind_marker ms) (behind_marker ms)) e)
+pub root_step : (m : Member AbstractValue) (ms : List (Member AbstractValue)) → is_addition (component m) ≡ false → (root_of (m ∷ ms) ≡ m ∷ root_of ms) × (behind_marker (m ∷ ms) ≡ behind_marker ms)
+root_step m ms e = (ap (λ q. cond q (root_of ms) (m ∷ root_of ms)) e, ap (λ q. cond q (m ∷ behind_marker ms) (behind_marker ms)) e)
 
-pub behind_step : {m : Member AbstractValue} {ms : List (Member AbstractValue)} → is_addition (component m) ≡ true → (root_of (m ∷ ms) ≡ root_of ms) × (behind_marker (m ∷ ms) ≡ m ∷ behind_marker ms)
-behind_step {m} {ms} e = (ap (λ q. cond q (root_of ms) (m ∷ root_of ms)) e, ap (λ q. cond q (m ∷ behind_marker ms) (behind_marker ms)) e)
+pub behind_step : (m : Member AbstractValue) (ms : List (Member AbstractValue)) → is_addition (component m) ≡ true → (root_of (m ∷ ms) ≡ root_of ms) × (behind_marker (m ∷ ms) ≡ m ∷ behind_marker ms)
+behind_step m ms e = (ap (λ q. cond q (root_of ms) (m ∷ root_of ms)) e, ap (λ q. cond q (m ∷ behind_marker ms) (behind_marker ms)) e)

@@ -1,11 +1,9 @@
 -- Worked rows of how many additions a type leaves out in packed encodings. Beside those that hold stand some that must
 -- not.
-use Rattle.std.proofs.Common.{arith, lit<, ◌≡◌, ℕ, ◌<◌, pos, true, false, List, [], ◌∷◌, refl}
+use Rattle.std.proofs.Common.{arith, ◌≡◌, ℕ, true, false, List, [], ◌∷◌, refl}
 use Rattle.std.specs.Prelude.{None, Some}
-use Rattle.asn_base.specs.declared.tag.Class.TheVariants.{Universal}
-use Rattle.asn_base.specs.declared.tag.Tag.{Tag}
-use Rattle.asn_base.specs.Abstract.{AbstractValue, boolean, integer, null, fields, list, alternative, Row, end, absent, present}
-use Rattle.asn_base.specs.Types.{any_number, any_size, Kind, a_boolean, an_integer, a_null, a_sequence, a_sequence_of, a_choice, Presence, mandatory, optional, addition, Component, Resolved}
+use Rattle.asn_base.specs.Abstract.{AbstractValue, boolean, fields, list, alternative, end, absent, present}
+use Rattle.asn_base.specs.Types.{any_size, Kind, a_boolean, a_sequence, a_sequence_of, a_choice, Presence, mandatory, addition, Component, Resolved}
 use Rattle.later_versions.specs.Kept.{left_out}
 use Rattle.version_laws.specs.LeftOut.{left_out_packed}
 

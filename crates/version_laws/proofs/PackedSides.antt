@@ -1,5 +1,5 @@
 -- Components of two versions side by side, with what packed encodings see of them.
-use Rattle.std.proofs.Common.{arith, ◌≡◌, ◌↔◌, ℕ, zero, suc, ◌+◌, ◌<◌, ◌≤◌, Bool, true, false, List, [], ◌∷◌, ◌++◌, length, refl, sym, ap, subst, ◌∙◌}
+use Rattle.std.proofs.Common.{arith, ◌≡◌, ◌↔◌, ℕ, suc, ◌+◌, ◌<◌, ◌≤◌, Bool, true, false, List, [], ◌∷◌, ◌++◌, length, refl, sym, ap, subst, ◌∙◌}
 use Rattle.std.proofs.lemmas.Bool.{eqb-true, eq-eqb}
 use Rattle.std.specs.Prelude.{slice_get, Option, Some, None, ◌==◌}
 use Rattle.std.specs.List.{AllByRecursion}
@@ -13,15 +13,15 @@ use Rattle.version_laws.specs.LeftOut.{members_in, present_additions}
 use Rattle.version_laws.proofs.Beside.{later_here, LaterMembers, types, AreAdditions}
 use Rattle.version_laws.proofs.Apart.{HasType, type_there}
 use Rattle.version_laws.proofs.Back.{is_there}
-use Rattle.version_laws.proofs.PackedPairs.{OfValues, Matched, both_missing, both_standing, AllMatched, none_matched, more_matched, AdditionsMatched, only_more, grouped, joins, one_more_addition, root_step, behind_step}
+use Rattle.version_laws.proofs.PackedPairs.{OfValues, Matched, both_missing, both_standing, AllMatched, none_matched, more_matched, AdditionsMatched, only_more, grouped, joins, some_group, joined_by, one_more_addition, root_step, behind_step}
 
 -- ---- tags and marks
 
 tag_there : (s : List Resolved) (t : ℕ) (h : HasType s t) → tag_at s t ≡ outermost h.0.tags
 tag_there s t h = ap (λ q. elim q [ None ↦ None | Some r ↦ outermost r.tags ]) h.1
 
-pub tag_same : {s s' : List Resolved} {t t' : ℕ} → Later s t s' t' → HasType s t → HasType s' t' → tag_at s t ≡ tag_at s' t'
-tag_same {s} {s'} {t} {t'} l h h' = tag_there s t h ∙ ap outermost (later_here l (is_there h) (is_there h')).tags ∙ sym (tag_there s' t' h')
+pub tag_same : (s s' : List Resolved) (t t' : ℕ) → Later s t s' t' → HasType s t → HasType s' t' → tag_at s t ≡ tag_at s' t'
+tag_same s s' t t' l h h' = tag_there s t h ∙ ap outermost (later_here l (is_there h) (is_there h')).tags ∙ sym (tag_there s' t' h')
 
 pub bit_same : {s : List Resolved} {t : ℕ} {p q : Presence} → IsMarkedAlike s t p q → has_bit p ≡ has_bit q
 bit_same both_mandatory = refl
@@ -47,7 +47,7 @@ pub record IsAligned (s s' : List Resolved) (c d : Component) : Type 0 where
   pub value : HasValue s' d
 
 pub aligned_tag : {s s' : List Resolved} (c d : Component) → IsAligned s s' c d → tag_at s c.type ≡ tag_at s' d.type
-aligned_tag c d a = tag_same a.later a.before a.after
+aligned_tag {s} {s'} c d a = tag_same s s' c.type d.type a.later a.before a.after
 
 addition_same : {s s' : List Resolved} {c d : Component} → IsAligned s s' c d → is_addition c ≡ is_addition d
 addition_same a = adds_same a.mark
@@ -64,22 +64,22 @@ pub data Lined (s s' : List Resolved) : List Component → List Component → Ty
 
 -- ---- version brackets
 
-first_is : {c x : Component} {cs : List Component} → slice_get (c ∷ cs) 0 ≡ Some x → c ≡ x
-first_is e = cc
+first_is : {c x : Component} (cs : List Component) → slice_get (c ∷ cs) 0 ≡ Some x → c ≡ x
+first_is cs e = cc
 
-second_is : {c d x : Component} {cs : List Component} → slice_get (c ∷ d ∷ cs) 1 ≡ Some x → d ≡ x
-second_is e = cc
+second_is : {d x : Component} (c : Component) (cs : List Component) → slice_get (c ∷ d ∷ cs) 1 ≡ Some x → d ≡ x
+second_is c cs e = cc
 
 in_group : (c : Component) (cs : List Component) (g : ℕ) → group_of c.presence ≡ Some g → AreInOneGroup (c ∷ cs) 0 0
 in_group c cs g e = record { group = g; first = c; second = c; at_first = refl; at_second = refl; of_first = e; of_second = e }
 
 group_there : {c : Component} {cs : List Component} {j : ℕ} (a : AreInOneGroup (c ∷ cs) 0 j) → group_of c.presence ≡ Some a.group
-group_there a = ap (λ q. group_of q.presence) (first_is a.at_first) ∙ a.of_first
+group_there {cs = cs} a = ap (λ q. group_of q.presence) (first_is cs a.at_first) ∙ a.of_first
 
 grouped_same : (c d : Component) (cs ds : List Component) → (AreInOneGroup (c ∷ cs) 0 0 ↔ AreInOneGroup (d ∷ ds) 0 0) → grouped c ≡ grouped d
 grouped_same c d cs ds f = by (group_of c.presence) (group_of d.presence) refl refl
   where
-    by : (g h : Option ℕ) → group_of c.presence ≡ g → group_of d.presence ≡ h → (elim g [ None ↦ false | Some x ↦ true ]) ≡ (elim h [ None ↦ false | Some x ↦ true ])
+    by : (g h : Option ℕ) → group_of c.presence ≡ g → group_of d.presence ≡ h → some_group g ≡ some_group h
     by None None e z = refl
     by (Some x) (Some y) e z = refl
     by None (Some y) e z = absurd (let a = group_there (f.1 (in_group d ds y z)) in cc)
@@ -88,7 +88,7 @@ grouped_same c d cs ds f = by (group_of c.presence) (group_of d.presence) refl r
 joins_is : (c x : Component) (cs : List Component) → joins c (x ∷ cs) ≡ true → AreInOneGroup (c ∷ x ∷ cs) 0 1
 joins_is c x cs t = by (group_of c.presence) (group_of x.presence) refl refl t
   where
-    by : (g h : Option ℕ) → group_of c.presence ≡ g → group_of x.presence ≡ h → (elim g [ None ↦ false | Some a ↦ elim h [ None ↦ false | Some b ↦ a == b ] ]) ≡ true → AreInOneGroup (c ∷ x ∷ cs) 0 1
+    by : (g h : Option ℕ) → group_of c.presence ≡ g → group_of x.presence ≡ h → joined_by g h ≡ true → AreInOneGroup (c ∷ x ∷ cs) 0 1
     by None h e f t = absurd (let z : false ≡ true = t in cc)
     by (Some a) None e f t = absurd (let z : false ≡ true = t in cc)
     by (Some a) (Some b) e f t = record { group = a; first = c; second = x; at_first = refl; at_second = refl; of_first = e; of_second = f ∙ ap (λ q. Some q) (sym (eqb-true a b t)) }
@@ -96,7 +96,7 @@ joins_is c x cs t = by (group_of c.presence) (group_of x.presence) refl refl t
 is_joins : (c x : Component) (cs : List Component) → AreInOneGroup (c ∷ x ∷ cs) 0 1 → joins c (x ∷ cs) ≡ true
 is_joins c x cs a =
     let e = group_there a in
-    let f = ap (λ q. group_of q.presence) (second_is a.at_second) ∙ a.of_second in
+    let f = ap (λ q. group_of q.presence) (second_is c cs a.at_second) ∙ a.of_second in
     ap (λ g. elim g [ None ↦ false | Some m ↦ elim (group_of x.presence) [ None ↦ false | Some n ↦ m == n ] ]) e
     ∙ ap (λ h. elim h [ None ↦ false | Some n ↦ a.group == n ]) f
     ∙ eq-eqb a.group a.group refl
@@ -208,18 +208,18 @@ only_additions : {ds : List Component} {ws : Row} {ns : Members} → AreAddition
 only_additions a beside_none = (refl, refl)
 only_additions a (beside_absent {c = c} {ms = ms} b) =
     let r = only_additions a.1 b in
-    let p = behind_step {m = missing c} {ms = ms} a.0 in
+    let p = behind_step (missing c) ms a.0 in
     (p.0 ∙ r.0, p.1 ∙ ap (λ q. missing c ∷ q) r.1)
 only_additions a (beside_present {c = c} {w = w} {ms = ms} b) =
     let r = only_additions a.1 b in
-    let p = behind_step {m = standing c w} {ms = ms} a.0 in
+    let p = behind_step (standing c w) ms a.0 in
     (p.0 ∙ r.0, p.1 ∙ ap (λ q. standing c w ∷ q) r.1)
 
-module _ {s s' : List Resolved} {V : OfValues} where
-  additions_before : {cs ds : List Component} → Lined s s' cs ds → AreAdditions ds → AreAdditions cs
-  additions_before (lined_end a) b = tt
-  additions_before (lined al g j l) b = (addition_same al ∙ b.0, additions_before l b.1)
+additions_before : {s s' : List Resolved} {cs ds : List Component} → Lined s s' cs ds → AreAdditions ds → AreAdditions cs
+additions_before (lined_end a) b = tt
+additions_before (lined al g j l) b = (addition_same al ∙ b.0, additions_before l b.1)
 
+module _ {s s' : List Resolved} {V : OfValues} where
   addition_parts : {cs ds : List Component} {vs ws : Row} {ms ns : Members} {k : ℕ} → Lined s s' cs ds → Sides s s' V cs ds vs ws k → Beside cs vs ms → Beside ds ws ns → AdditionParts s s' V ms ns k
   addition_parts {ns = ns} (lined_end a) (side_end e) beside_none b' = record {
     more = additions ns;
@@ -238,8 +238,8 @@ module _ {s s' : List Resolved} {V : OfValues} where
   -- one more member of the root on both sides
   one_more_part : {m n : Member AbstractValue} {ms ns : Members} {i j k : ℕ} → Matched (IsAligned s s') V m n i → is_addition (component m) ≡ false → is_addition (component n) ≡ false → k ≡ i + j → Parts s s' V ms ns j → Parts s s' V (m ∷ ms) (n ∷ ns) k
   one_more_part {m} {n} {ms} {ns} {i} a e f g r =
-      let p = root_step {m = m} {ms = ms} e in
-      let q = root_step {m = n} {ms = ns} f in
+      let p = root_step m ms e in
+      let q = root_step n ns f in
       let h = r.count in
       record {
         more = r.more;

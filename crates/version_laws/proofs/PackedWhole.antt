@@ -1,5 +1,5 @@
 -- Packed bits and messages as wholes, read by the other version.
-use Rattle.std.proofs.Common.{arith, ◌≡◌, ℕ, ◌+◌, ◌<◌, ◌≤◌, List, [], ◌∷◌, length, refl, sym, ap, subst}
+use Rattle.std.proofs.Common.{arith, ◌≡◌, ℕ, ◌<◌, ◌≤◌, List, [], ◌∷◌, length, refl, sym, subst}
 use Rattle.asn_base.specs.Abstract.{AbstractValue, boolean, integer, enumerated, bits, octets, text, null, oid, relative_oid, fields, list, alternative, Row, end, absent, present}
 use Rattle.asn_base.specs.Types.{Resolved}
 use Rattle.asn_base.specs.Typed.{IsValueWithoutNodes, nodes, row_nodes}
@@ -13,8 +13,8 @@ use Rattle.version_laws.specs.LeftOut.{left_out_packed}
 use Rattle.version_laws.specs.Versions.{IsKnown}
 use Rattle.version_laws.specs.Widened.{widened}
 use Rattle.version_laws.proofs.Apart.{type_there}
-use Rattle.version_laws.proofs.Alikes.{Laws, KeptAlike, alike_kept}
-use Rattle.version_laws.proofs.Wide.{wide_nodes, wide_same}
+use Rattle.version_laws.proofs.Alikes.{Laws, alike_kept}
+use Rattle.version_laws.proofs.Wide.{wide_nodes}
 use Rattle.version_laws.proofs.PackedCounts.{same_count}
 use Rattle.version_laws.proofs.PackedOlder.{older}
 use Rattle.version_laws.proofs.PackedNewer.{newer}

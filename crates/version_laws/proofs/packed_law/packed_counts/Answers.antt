@@ -1,4 +1,3 @@
-use Rattle.version_laws.specs.Widened.{widened}
 use Rattle.version_laws.proofs.Apart.{type_there}
 use Rattle.version_laws.proofs.Alikes.{Laws}
 use Rattle.version_laws.proofs.Back.{back}
