@@ -1,4 +1,4 @@
--- Which additions are present, as bits of two versions tell it.
+-- The bits for additions that are present, in two versions.
 use Rattle.std.proofs.Common.{arith, ◌≡◌, ℕ, zero, suc, ◌+◌, ◌-◌, ◌⊎◌, inl, inr, Bool, true, false, [], ◌∷◌, ◌++◌, length, replicate, refl, sym, ap, subst, ◌∙◌, append_assoc}
 use Rattle.std.proofs.lemmas.List.{append-nil, replicate-append-replicate}
 use Rattle.bits.specs.Words.{word}
@@ -72,7 +72,7 @@ unknown_joined no_bit b = unknown_at refl (omega arith) refl b
 unknown_joined (clear_bit a) b = clear_bit (unknown_joined a b)
 unknown_joined {y = y} (set_bit {x = x} {b = z} o a) b = unknown_at refl (omega arith) (sym (append_assoc x z y)) (set_bit o (unknown_joined a b))
 
--- clear bits at the end tell of nothing
+-- clear bits at the end are for no addition
 unknown_front : (u : Bits) (n : ℕ) {k : ℕ} {x w : Bits} → w ≡ u ++ zeros n → Unknown w k x → Unknown u k x
 unknown_front [] n e a =
     let r = clear_unknown a (ap any_set e ∙ zeros_clear n) in

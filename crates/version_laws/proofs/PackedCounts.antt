@@ -171,7 +171,7 @@ inserted_values here (one_element x v) = (x, v)
 inserted_values (there i) (one_element x v) = let r = inserted_values i v in (r.0, one_element x r.1)
 
 module _ (laws : Laws) (s s' : List Resolved) where
-  -- what is its default leaves nothing out
+  -- nothing is left out of what is the same as its default
   default_zero : {t t' m n : ℕ} {p q : Presence} {e w : AbstractValue} → Later s t s' t' → IsMarkedAlike s t p q → q ≡ default e → Alike s' t' e w → ValueIn s n t (kept s t e) → ValueIn s' m t' w → left_out_packed s t s' t' w ≡ 0
   default_zero {t = t} l mk f a x y =
       let d = earlier mk f in

@@ -151,7 +151,7 @@ roots_same root others names =
     let b = length-map others (λ c. c.name) in
     omega (arith, e, a, b)
 
--- the alternatives of both roots stand at the same places in the canonical order of tags
+-- the alternatives of both roots have the same places in the canonical order of tags
 module _ (s s' : List Resolved) (root more others all : List Alternative) (ms : LaterMembers s s' (map (λ a. a.type) (root ++ more)) (map (λ a. a.type) (others ++ all))) (th : AllByRecursion (λ a. HasTag s a.type) (root ++ more)) (th' : AllByRecursion (λ a. HasTag s' a.type) (others ++ all)) where
   tags_at : (i : ℕ) (a b : Alternative) → slice_get root i ≡ Some a → slice_get others i ≡ Some b → tag_at s a.type ≡ tag_at s' b.type
   tags_at i a b f g =

@@ -82,7 +82,7 @@ module _ (s s' : List Resolved) where
   wide_sides (lined al g j l) (component_absent mb v) = side_absent (wide_sides l v)
   wide_sides {n = n} (lined al g j l) (component_present x v) = side_present {i = 0} {j = 0} (record { same = refl; count = refl; levels = n; value = x }) (wide_sides l v) (omega arith)
 
--- without a marker nothing is behind it
+-- without a marker there are no additions
 none_behind : {s : List Resolved} {e : Bool} {ds : List Component} {ws : Row} {ns : List (Member AbstractValue)} → AreListed s e ds → e ≡ false → MembersBeside ds ws ns → behind_marker ns ≡ []
 none_behind {ds = ds} l f b =
     let whole = l.parts ∙ ap (λ q. l.root ++ q) (l.marked f) ∙ append-nil l.root in

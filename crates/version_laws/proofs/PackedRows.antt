@@ -1,5 +1,4 @@
--- Worked rows of how many additions a type leaves out in packed encodings. Beside those that hold stand some that must
--- not.
+-- Worked rows of how many additions a type leaves out in packed encodings, also one that must not hold.
 use Rattle.std.proofs.Common.{arith, ◌≡◌, ℕ, true, false, List, [], ◌∷◌, refl}
 use Rattle.std.specs.Prelude.{None, Some}
 use Rattle.asn_base.specs.Abstract.{AbstractValue, boolean, fields, list, alternative, end, absent, present}

@@ -17,11 +17,10 @@ ghost use Rattle.version_laws.specs.Widened.{widened};
 use asn_base::law::{alike_values, sameness};
 use packed_encodings::{reading_laws, writing_laws};
 
-/// Values that are the same have as many additions that the earlier type leaves out. The earlier type leaves none out
-/// if and only if it keeps the whole value, as it does of each value of its own.
+/// The earlier type leaves as many additions out of values that are the same. It leaves no addition out if and only if
+/// it leaves no component out, and so of each value of its own.
 pub fn packed_counts()
     ensures same { (s s' : List Resolved) (t t' : ℕ) (v w : AbstractValue)
-        → IsSchema s'
         → Later s t s' t'
         → IsKnown s t v
         → Same s' t' v w
@@ -50,7 +49,7 @@ pub fn packed_counts()
 /// are not inspected, so what they lack or contain isn't counted.
 pub fn earlier_reads_packed()
     // The bits encode exactly what is kept.
-    ensures stands { (s s' : List Resolved) (t t' : ℕ) (w : AbstractValue) (b : List Bool)
+    ensures exactly { (s s' : List Resolved) (t t' : ℕ) (w : AbstractValue) (b : List Bool)
         → IsSchema s
         → IsSchema s'
         → Later s t s' t'
@@ -87,14 +86,13 @@ pub fn earlier_reads_packed()
     alike_values();
     reading_laws();
     writing_laws();
-    packed_counts();
 }
 
 /// Packed bits of a value of an earlier version are bits of what the value is under the later type, with no additions
 /// that the later type lacks.
 pub fn later_reads_packed()
     // The bits encode exactly the value with the components that were appended absent.
-    ensures stands { (s s' : List Resolved) (t t' : ℕ) (w : AbstractValue) (b : List Bool)
+    ensures exactly { (s s' : List Resolved) (t t' : ℕ) (w : AbstractValue) (b : List Bool)
         → IsSchema s
         → IsSchema s'
         → Later s t s' t'

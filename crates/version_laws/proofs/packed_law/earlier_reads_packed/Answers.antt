@@ -3,8 +3,8 @@ use Rattle.version_laws.proofs.Alikes.{Laws}
 use Rattle.version_laws.proofs.PackedWhole.{older_bits, kept_same, older_same, older_message, older_message_same}
 use Rattle.version_laws.proofs.packed_law.earlier_reads_packed.Goals as goal
 
-pub returns-clause-stands : goal.returns-clause-stands
-returns-clause-stands c s s' t t' w b schema schema' l known v a =
+pub returns-clause-exactly : goal.returns-clause-exactly
+returns-clause-exactly c s s' t t' w b schema schema' l known v a =
     let laws : Laws = record {
       groups = c.alike_values.ensures.groups;
       levels = c.alike_values.ensures.levels;

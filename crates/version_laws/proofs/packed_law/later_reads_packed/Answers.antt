@@ -4,8 +4,8 @@ use Rattle.version_laws.proofs.Wide.{wide_same}
 use Rattle.version_laws.proofs.PackedWhole.{newer_bits, newer_message}
 use Rattle.version_laws.proofs.packed_law.later_reads_packed.Goals as goal
 
-pub returns-clause-stands : goal.returns-clause-stands
-returns-clause-stands c s s' t t' w b schema schema' l h v a =
+pub returns-clause-exactly : goal.returns-clause-exactly
+returns-clause-exactly c s s' t t' w b schema schema' l h v a =
     let laws : Laws = record {
       groups = c.alike_values.ensures.groups;
       levels = c.alike_values.ensures.levels;

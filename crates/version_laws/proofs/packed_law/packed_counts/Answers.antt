@@ -6,7 +6,7 @@ use Rattle.version_laws.proofs.PackedCounts.{same_count, zero_both}
 use Rattle.version_laws.proofs.packed_law.packed_counts.Goals as goal
 
 pub returns-clause-same : goal.returns-clause-same
-returns-clause-same c s s' t t' v w schema' l known a =
+returns-clause-same c s s' t t' v w l known a =
     let laws : Laws = record {
       groups = c.alike_values.ensures.groups;
       levels = c.alike_values.ensures.levels;
