@@ -14,3 +14,12 @@ pub mod Basics
 pub mod Wide
 pub mod Rows
 pub mod Read
+pub mod PackedPairs
+pub mod PackedBits
+pub mod PackedSides
+pub mod PackedCounts
+pub mod PackedLeaves
+pub mod PackedOlder
+pub mod PackedNewer
+pub mod PackedWhole
+pub mod PackedRows

@@ -85,7 +85,7 @@ fewer m r l = let few = r.few in record { members = r.members; few = omega (arit
 
 module _ (laws : Laws) (s s' : List Resolved) (schema : IsSchema s') where
   -- what is its DEFAULT under the later type was the default of before
-  default_before : (c d : Component) {n : ℕ} {w : AbstractValue} → Later s c.type s' d.type → HasType s' d.type → IsMarkedAlike s c.type c.presence d.presence → ValueIn s n c.type w → IsDefault s' d (widened s' d.type w) → IsDefault s c w
+  pub default_before : (c d : Component) {n : ℕ} {w : AbstractValue} → Later s c.type s' d.type → HasType s' d.type → IsMarkedAlike s c.type c.presence d.presence → ValueIn s n c.type w → IsDefault s' d (widened s' d.type w) → IsDefault s c w
   default_before c d {n} {w} l h mk v q =
       let m = earlier mk q.1 in
       let b = back s s' schema l h v in
