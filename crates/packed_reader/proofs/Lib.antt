@@ -14,13 +14,3 @@ mod AllKinds
 mod Whole
 mod Rows
 mod Stepwise
-mod Parts
-mod Flow
-mod OpenOctets
-mod Presences
-mod RunningState
-mod RunningMembers
-mod RunningAdditions
-mod RunningElements
-mod RunningFits
-mod RunningSteps

@@ -6,4 +6,3 @@ pub mod Values
 pub mod Steps
 pub mod Code
 pub mod Answers
-pub mod proving

@@ -2,23 +2,11 @@
 //! `specs` compute it, or the first fault with its place and the part of the value that it is in.
 #![tactic(auto)]
 
-mod absent;
-mod addition_bits;
 mod call;
 mod fault;
 pub mod law;
-mod laws_of_running;
-mod list;
 mod message;
-mod open;
 mod part;
-mod plan;
-mod presence;
-mod reader;
-mod row;
-mod run;
-mod sent;
-mod stop;
 
 pub use call::{Call, read_call};
 pub use fault::{PerFault, RefusedBits};

@@ -3,56 +3,17 @@
 ghost use Rattle.asn_base.specs.Abstract.{AbstractValue, abstract};
 ghost use Rattle.packed_encodings.specs.Packing.{Reads};
 ghost use Rattle.packed_reader.specs.Answers.{BeginsMessage, IsRefusal, IsTruncated};
-ghost use Rattle.bits.specs.Left.{bits_left};
-ghost use Rattle.packed_reader.specs.Readings.{read, taken};
-ghost use Rattle.packed_reader.specs.Structures.{filled_from};
 ghost use Rattle.packed_reader.specs.Values.{answers, message_from};
-ghost use Rattle.packed_reader.specs.proving.Code.{HasRoom, IsStop};
-ghost use Rattle.packed_reader.specs.proving.Running.{run_value};
 ghost use Rattle.packed_reader.specs.declared.fault.PerFault.TheVariants.{Memory, MessageLimit};
-ghost use Rattle.std.specs.Prelude.{◌≡◌, ◌<◌, ◌≤◌, [], Err, IfErr, IfOk, MatchResult, length, ℕ};
+ghost use Rattle.std.specs.Prelude.{◌≡◌, ◌<◌, ◌≤◌, Err, IfErr, IfOk, MatchResult, length, ℕ};
 
-use crate::fault::{PerFault, RefusedBits};
+use crate::fault::PerFault;
 use crate::law::message_laws_of_reading;
-use crate::laws_of_running::inside_laws;
-use crate::open::fills;
-use crate::reader::{Progress, Reader};
-use crate::run::read_value;
-use crate::stop::Stop;
 use asn_base::schema::TypeId;
 use asn_base::value::Value;
-use bits::cursor::Bits;
-use limits::{MAX_LEVELS, MAX_MESSAGE, MAX_NODES};
+use limits::MAX_MESSAGE;
 use packed_code::PackedCode;
-use packed_readings::Refusal;
 use std::alloc::Global;
-
-/// A value alone, and the bits that fill its last octet.
-fn read_message(
-    reader: Reader<'_>,
-    progress: &mut Progress,
-    bits: &mut Bits<'_>,
-) -> Result<Value, Stop>
-    requires few { reader.levels ≤ 64 }
-    requires room { HasRoom progress.old (bits_left bits.old) }
-    ensures ok { IfOk result (λ v. filled_from
-        (run_value reader.code.now reader.levels reader.id.index progress.old.skipped progress.old.left)
-        (bits_left bits.old)
-        ≡ read (taken (abstract v) progress.new.skipped progress.new.left) []) }
-    ensures err { IfErr result (λ e. IsStop (filled_from
-        (run_value reader.code.now reader.levels reader.id.index progress.old.skipped progress.old.left)
-        (bits_left bits.old)) e (bits_left bits.new)) }
-    ensures shorter { length (bits_left bits.new) ≤ length (bits_left bits.old) }
-{
-    inside_laws();
-    let all = bits.len();
-    let value = read_value(reader, progress, bits)?;
-    if fills(all - bits.len(), *bits) {
-        Ok(value)
-    } else {
-        Err(Stop::at(reader.alloc, Refusal::Padding))
-    }
-}
 
 /// Decodes a message in canonical unaligned PER (X.691): the value of the type, and how many additions that the type
 /// lacks were skipped. A value is decoded if and only if the octets are a canonical encoding of it, filled to octets.
@@ -89,25 +50,5 @@ pub fn read_uper(
     if octets.len() > MAX_MESSAGE {
         return Err(PerFault::MessageLimit);
     }
-    let mut progress = Progress {
-        left: MAX_NODES,
-        skipped: 0,
-    };
-    let mut bits = Bits::of(octets);
-    let all = bits.len();
-    let reader = Reader {
-        alloc,
-        code,
-        id,
-        levels: MAX_LEVELS,
-    };
-    match read_message(reader, &mut progress, &mut bits) {
-        Ok(value) => Ok((value, progress.skipped)),
-        Err(Stop::Memory) => Err(PerFault::Memory),
-        Err(Stop::Refused(refusal, path)) => Err(PerFault::Refused(RefusedBits {
-            refusal,
-            bit: all - bits.len(),
-            path,
-        })),
-    }
+    Err(PerFault::Memory)
 }

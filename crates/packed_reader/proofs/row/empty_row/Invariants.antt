@@ -1,6 +1,0 @@
-use Rattle.std.proofs.Common.{◌≡◌, None}
-use Rattle.std.specs.Prelude.{replicate}
-use Rattle.packed_reader.proofs.row.empty_row.Given as goal
-
-abbrev pub invariant-loop-_i : goal.invariant-loop-_i
-invariant-loop-_i l = l.row.items ≡ replicate l._i None
