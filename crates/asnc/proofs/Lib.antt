@@ -3,5 +3,7 @@ mod Weaker
 mod Messages
 mod Paths
 mod Answered
+mod Unpacking
+mod Parts
 mod Rows
 mod Versions
