@@ -3,7 +3,7 @@ mod Weaker
 mod Messages
 mod Paths
 mod Answered
-mod Unpacking
+mod ReadBack
 mod Parts
 mod Rows
 mod Versions

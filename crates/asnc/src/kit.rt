@@ -315,12 +315,7 @@ impl Kit {
     /// `NoType`: the name is not that of a type. `UnreadBits`: the octets are a message of no value of the type; the
     /// first fault has its bit and its path. `MessageLimit`: there are more than 16,777,216 octets. `Memory`: an
     /// allocation failed.
-    pub fn unper(
-        &self,
-        alloc: Global,
-        ty: &str,
-        octets: &[u8],
-    ) -> Result<(String, u64), Fault>
+    pub fn unper(&self, alloc: Global, ty: &str, octets: &[u8]) -> Result<(String, u64), Fault>
         // The octets are a message of exactly one value of the type, with one number of unknown additions. The value is
         // printed, and the number is the second result.
         ensures read { IfOk result (λ r.
@@ -328,14 +323,7 @@ impl Kit {
         // The reason of a refusal applies.
         ensures refused { IfErr result (IsNotUnpackedAs self.now.program self.now.types ty.now octets.now) }
     {
-        unpacked_as(
-            alloc,
-            &self.modules,
-            &self.schema,
-            &self.packed,
-            ty,
-            octets,
-        )
+        unpacked_as(alloc, &self.modules, &self.schema, &self.packed, ty, octets)
     }
 
     /// Finds the type of a name, written as `Module.Name`, by the module that assigns or imports it (X.680, clause 14.1).
@@ -406,12 +394,7 @@ impl Kit {
     ///
     /// `MessageLimit`: there are more than 16,777,216 octets. `Refused`: the first fault of the bits, with the bit and
     /// the part of the value where it is. `Memory`: an allocation failed.
-    pub fn unpack(
-        &self,
-        alloc: Global,
-        id: TypeId,
-        octets: &[u8],
-    ) -> Result<(Value, u64), PerFault>
+    pub fn unpack(&self, alloc: Global, id: TypeId, octets: &[u8]) -> Result<(Value, u64), PerFault>
         // The octets are a message of the value alone, with the only number of additions.
         ensures read { IfOk result (λ r. IsUnpackedBy self.now.types id.index octets.now (abstract r.0) r.1) }
         // The reason of a refusal applies.

@@ -1,5 +1,5 @@
 use Rattle.asnc.proofs.Answered.{opened, packed, read, written}
-use Rattle.asnc.proofs.Unpacking.{unpacked_refused}
+use Rattle.asnc.proofs.ReadBack.{unpacked_refused}
 use Rattle.asnc.proofs.law.one_answer.Goals as goal
 
 pub returns-clause-opened : goal.returns-clause-opened

@@ -1,5 +1,5 @@
 use Rattle.std.proofs.Common.{sym}
-use Rattle.asnc.proofs.Unpacking.{answer_of_message, one_answer, written_refused}
+use Rattle.asnc.proofs.ReadBack.{answer_of_message, one_answer, written_refused}
 use Rattle.asnc.proofs.law.unpacked.Goals as goal
 
 pub returns-clause-right : goal.returns-clause-right

@@ -1,4 +1,4 @@
-use Rattle.asnc.proofs.Unpacking.{refused_by}
+use Rattle.asnc.proofs.ReadBack.{refused_by}
 use Rattle.asnc.proofs.unpacking.unpacked.Goals as goal
 
 pub returns-in-Ok-clause-read : goal.returns-in-Ok-clause-read

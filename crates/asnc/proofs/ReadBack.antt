@@ -22,7 +22,7 @@ use Rattle.asnc.specs.Unpacking.{IsFirstFault, IsNotUnpacked, IsNotUnpackedAs, I
 -- ---- refusals
 
 not_above : (n : ℕ) → (16777216 < n → ⊥) → n ≤ 16777216
-not_above n h = let l = lt_of_not-le {16777217} {n} h in omega (arith, l)
+not_above n h = let l = lt_of_not-le {n = 16777217} {m = n} h in omega (arith, l)
 
 -- what a call refuses octets for is true
 pub refused_by : {Z : Type 0} (s : List Resolved) (t : ℕ) (o : List ℕ) (r : Result Z PerFault) (e : PerFault) → r ≡ Err e
@@ -89,7 +89,7 @@ refused_message : {s : List Resolved} {t u k : ℕ} {v : AbstractValue} {o : Lis
     → e ≡ faults.Memory
 refused_message {e = faults.Memory} q m short h = refl
 refused_message {e = faults.MessageLimit} q m short h = absurd (omega (arith, short, h))
-refused_message {s = s} {v = v} {k = k} {o = o} {e = faults.UnreadBits u} q m short h =
+refused_message {s = s} {k = k} {v = v} {o = o} {e = faults.UnreadBits u} q m short h =
     absurd (h.fault.none v k (subst (λ t. Reads s t v k o) q m))
 refused_message {e = faults.NoType x} q m short h = absurd h
 refused_message {e = faults.NoValue x} q m short h = absurd h
