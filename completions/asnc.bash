@@ -6,7 +6,7 @@ _asnc() {
   local before=${COMP_WORDS[COMP_CWORD - 1]}
   COMPREPLY=()
   if [[ $COMP_CWORD -eq 1 ]]; then
-    mapfile -t COMPREPLY < <(compgen -W 'der ber uper account list --help -h --version -V' -- "$current")
+    mapfile -t COMPREPLY < <(compgen -W 'der ber uper unper account list --help -h --version -V' -- "$current")
     return
   fi
   local words
@@ -14,6 +14,7 @@ _asnc() {
     der) words='--type --value --raw --context --help -h' ;;
     uper | account) words='--type --value --context --help -h' ;;
     ber) words='--type --hex --strict --context --help -h' ;;
+    unper) words='--type --hex --context --help -h' ;;
     list) words='--context --help -h' ;;
     *) return ;;
   esac

@@ -37,6 +37,8 @@ opened law xs p (faults.NoFile x) a h = absurd h
 opened law xs p (faults.Folder x) a h = absurd h
 opened law xs p (faults.Value x) a h = absurd h
 opened law xs p faults.TooLong a h = absurd h
+opened law xs p (faults.UnreadBits u) a h = absurd h
+opened law xs p faults.MessageLimit a h = absurd h
 opened law xs p (faults.Device n) a h = absurd h
 opened law xs p (faults.NotAccount s) a h = absurd h
 
@@ -110,5 +112,7 @@ read p s r name o printed k (faults.Folder x) m h = absurd h
 read p s r name o printed k (faults.Front x) m h = absurd h
 read p s r name o printed k (faults.Value x) m h = absurd h
 read p s r name o printed k faults.TooLong m h = absurd h
+read p s r name o printed k (faults.UnreadBits u) m h = absurd h
+read p s r name o printed k faults.MessageLimit m h = absurd h
 read p s r name o printed k (faults.Device n) m h = absurd h
 read p s r name o printed k (faults.NotAccount x) m h = absurd h

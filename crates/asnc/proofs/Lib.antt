@@ -3,5 +3,7 @@ mod Weaker
 mod Messages
 mod Paths
 mod Answered
+mod ReadBack
+mod Parts
 mod Rows
 mod Versions

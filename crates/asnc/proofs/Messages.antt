@@ -130,6 +130,8 @@ encoding_is_read p s l name o (faults.Folder x) t m i y r = absurd r
 encoding_is_read p s l name o (faults.Front x) t m i y r = absurd r
 encoding_is_read p s l name o (faults.Value x) t m i y r = absurd r
 encoding_is_read p s l name o faults.TooLong t m i y r = absurd r
+encoding_is_read p s l name o (faults.UnreadBits u) t m i y r = absurd r
+encoding_is_read p s l name o faults.MessageLimit t m i y r = absurd r
 encoding_is_read p s l name o (faults.Device n) t m i y r = absurd r
 encoding_is_read p s l name o (faults.NotAccount x) t m i y r = absurd r
 

@@ -5,7 +5,7 @@ use Rattle.asn_base.specs.Types.{Resolved}
 use Rattle.ber_message.specs.declared.open.Open.{Open}
 use Rattle.asnc.specs.Places.{path_behind, path_of, with_open}
 
-drop_here : {A : Type 0} (xs : List A) (i : ℕ) (x : A) → slice_get xs i ≡ Some x → drop i xs ≡ x ∷ drop (i + 1) xs
+pub drop_here : {A : Type 0} (xs : List A) (i : ℕ) (x : A) → slice_get xs i ≡ Some x → drop i xs ≡ x ∷ drop (i + 1) xs
 drop_here [] i x e = absurd cc
 drop_here (y ∷ xs) zero x e = let s : y ≡ x = cc in ap (λ q. q ∷ xs) s
 drop_here (y ∷ xs) (suc i) x e =

@@ -95,6 +95,24 @@ pub record IsRightlyRead (texts : List (List ℕ)) (r : Rules) (name o printed :
   -- any value of which the octets are an encoding is the same, with as many unknown additions
   pub same : (v : AbstractValue) (j : ℕ) → Ber types type v j o → Same types type v value × (j ≡ k)
 
+-- For these texts of modules, the name of a type and octets o, the printed text is the value that the octets are a
+-- message of, by unaligned canonical PER (X.691, clause 11.1). k additions were skipped.
+pub record IsRightlyUnpacked (texts : List (List ℕ)) (name o printed : List ℕ) (k : ℕ) : Type 0 where
+  -- the texts are accepted, as this program with these types
+  pub program : Program
+  pub types : List Resolved
+  pub accepted : Accepted texts program types
+  -- the name is that of this type, and the printed text is a value of the type
+  pub type : ℕ
+  pub named : TypeNamed program name type
+  pub value : AbstractValue
+  pub is : IsValue types type value
+  pub text : printed ≡ print types type value
+  -- the octets are a message of the value, with k additions that the type lacks
+  pub reads : Reads types type value k o
+  -- and of no other value, with no other number of unknown additions
+  pub sole : (w : AbstractValue) (j : ℕ) → Reads types type w j o → (w ≡ value) × (j ≡ k)
+
 -- The octets o are an encoding by the basic rules, in any definite form of lengths, of v, a value of the type with this
 -- name (X.690, clause 8). They are within the limits of messages (own rule): at most 400 levels of headers, and
 -- 16,777,216 octets.

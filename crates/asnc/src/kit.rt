@@ -12,6 +12,7 @@ ghost use Rattle.encodings.specs.Encoding.{Der};
 ghost use Rattle.packed_encodings.specs.Lengths.{Bits};
 ghost use Rattle.packed_encodings.specs.Packing.{Packed};
 ghost use Rattle.packed_encodings.specs.Padding.{Padded};
+ghost use Rattle.packed_reader.specs.declared.fault.PerFault.TheVariants.{MessageLimit};
 ghost use Rattle.packed_writer.specs.Message.{IsMessage};
 ghost use Rattle.packed_writer.specs.declared.fault.WriteFault.TheVariants.{NotOfType as not_packed};
 ghost use Rattle.packed_writer.specs.declared.fault.WriteFault.TheVariants.{TooLong as too_many_bits};
@@ -27,12 +28,14 @@ ghost use Rattle.messages.specs.declared.fault.Fault.TheVariants.{Device, Front,
 ghost use Rattle.asnc.specs.Kits.{IsNotOpened};
 ghost use Rattle.asnc.specs.Packing.{IsNotPacked, IsPacked};
 ghost use Rattle.asnc.specs.Reading.{IsNotReadAs, IsReadAs, IsReadBy, IsUnread, rules_of};
+ghost use Rattle.asnc.specs.Unpacking.{IsNotUnpackedAs, IsNotUnpackedBy, IsUnpackedAs, IsUnpackedBy};
 ghost use Rattle.asnc.specs.Versions.{IsCompared, IsNotCompared};
 ghost use Rattle.asnc.specs.Writing.{IsAccountOf, IsEncoded, IsNotEncoded, IsSent, IsSentInPart};
 ghost use Rattle.named_values.specs.Meant.{IsMeant, IsNotMeant};
 ghost use Rattle.named_values.specs.Named.{Names, TypeNamed};
 
 use crate::reading::{Rules, read_as, read_by};
+use crate::unpacking::{unpacked, unpacked_as};
 use account_text::to_json;
 use asn_base::schema::{Schema, TypeId};
 use asn_base::value::Value;
@@ -47,6 +50,7 @@ use messages::Fault;
 use named_values::{meant, type_number};
 use octet_account::account::Account;
 use packed_code::{PackedCode, compile_packed};
+use packed_reader::PerFault;
 use packed_writer::write_uper;
 use resolve::Linked;
 use sinks::Sink;
@@ -307,6 +311,23 @@ impl Kit {
         )
     }
 
+    /// Decodes the value of a type that octets are a message of in canonical PER, unaligned (X.691, 11.1). Returns its
+    /// printed text, and the number of skipped additions that the type lacks. The type is named as for [`Kit::ber`].
+    ///
+    /// `NoType`: the name is not that of a type. `UnreadBits`: the octets are a message of no value of the type; the
+    /// first fault has its bit and its path. `MessageLimit`: there are more than 16,777,216 octets. `Memory`: an
+    /// allocation failed.
+    pub fn unper(&self, alloc: Global, ty: &str, octets: &[u8]) -> Result<(String, u64), Fault>
+        // The octets are a message of exactly one value of the type, with one number of unknown additions. The value is
+        // printed, and the number is the second result.
+        ensures read { IfOk result (λ r.
+            IsUnpackedAs self.now.program self.now.types ty.now octets.now (string_bytes r.0) r.1) }
+        // The reason of a refusal applies.
+        ensures refused { IfErr result (IsNotUnpackedAs self.now.program self.now.types ty.now octets.now) }
+    {
+        unpacked_as(alloc, &self.modules, &self.schema, &self.packed, ty, octets)
+    }
+
     /// Finds the type of a name, written as `Module.Name`, by the module that assigns or imports it (X.680, clause
     /// 14.1). The result is None if no type has this name. The number is that of the type for the other calls of this
     /// kit.
@@ -373,6 +394,21 @@ impl Kit {
             → 16777216 < length o) }
     {
         write_uper(alloc, &self.packed, id, value)
+    }
+
+    /// Decodes the value of a type that octets are a message of in canonical PER, unaligned (X.691, 11.1). Beside the
+    /// value is the number of skipped additions that the type lacks.
+    ///
+    /// `MessageLimit`: there are more than 16,777,216 octets. `Refused`: the first fault of the bits, with the bit and
+    /// the part of the value where it is. `Memory`: an allocation failed.
+    pub fn unpack(&self, alloc: Global, id: TypeId, octets: &[u8]) -> Result<(Value, u64), PerFault>
+        // The octets are a message of the value alone, with the only number of additions.
+        ensures read { IfOk result (λ r. IsUnpackedBy self.now.types id.index octets.now (abstract r.0) r.1) }
+        // The reason of a refusal applies.
+        ensures refused { IfErr result (IsNotUnpackedBy self.now.types id.index octets.now) }
+        ensures limit { 16777216 < length octets.now → result ≡ Err MessageLimit }
+    {
+        unpacked(alloc, &self.packed, id, octets)
     }
 
     /// Decodes the value of a type that octets encode by the basic or by the distinguished rules. Its strings are

@@ -8,13 +8,15 @@ ghost use Rattle.encodings.specs.Rules.{Rules, Basic};
 ghost use Rattle.resolve.specs.Program.{Program};
 ghost use Rattle.front_end.specs.Accepted.{Accepted, AreAccepted};
 ghost use Rattle.messages.specs.declared.fault.Fault.{Fault};
-ghost use Rattle.messages.specs.declared.fault.Fault.TheVariants.{Memory, NoType, Unread};
+ghost use Rattle.messages.specs.declared.fault.Fault.TheVariants.{Memory, MessageLimit, NoType, Unread, UnreadBits};
 ghost use Rattle.messages.specs.declared.fault.Unread.{Unread as Unread'};
+ghost use Rattle.messages.specs.declared.fault.UnreadBits.{UnreadBits as UnreadBits'};
 ghost use Rattle.asn_base.specs.Abstract.{AbstractValue};
-ghost use Rattle.asnc.specs.Headline.{IsAnswer, IsMessageOf, IsRight, IsRightlyPacked, IsRightlyRead};
+ghost use Rattle.asnc.specs.Headline.{IsAnswer, IsMessageOf, IsRight, IsRightlyPacked, IsRightlyRead, IsRightlyUnpacked};
 ghost use Rattle.asnc.specs.Kits.{IsNotOpened};
 ghost use Rattle.asnc.specs.Packing.{IsNotPacked, IsPacked};
 ghost use Rattle.asnc.specs.Reading.{IsNotReadAs, IsReadAs, rules_of};
+ghost use Rattle.asnc.specs.Unpacking.{IsNotUnpackedAs, IsUnpackedAs};
 ghost use Rattle.asnc.specs.Versions.{IsCompared, IsKeptAnswer, IsWidenedAnswer};
 ghost use Rattle.asnc.specs.Writing.{IsAccountOf, IsEncoded, IsNotEncoded};
 ghost use Rattle.std.specs.Int.Digits.{AllBelowBase};
@@ -28,6 +30,7 @@ use encodings::{der_laws, level_laws, message_laws};
 use front_end::law::{accepted_keep, faults_exclude};
 use named_values::law::one_meaning;
 use packed_encodings::{message_laws as packed_message_laws, writing_laws};
+use packed_writer::law::written_is_read;
 use version_laws::law::{earlier_reads, later_reads};
 
 /// What [`crate::Kit::der`] returns for texts that [`crate::Kit::open`] took is right, from the texts to the octets.
@@ -106,6 +109,33 @@ pub fn reading()
     sameness();
 }
 
+/// What [`crate::Kit::unper`] returns for texts that [`crate::Kit::open`] took is right. What [`crate::Kit::uper`] returns
+/// gives its value back, or `Memory`.
+pub fn unpacked()
+    // The printed text is a value of the type that the octets are a message of, and the only one.
+    ensures right { (xs : List (List ℕ)) (p : Program) (s : List Resolved) (name o printed : List ℕ) (k : ℕ) →
+        Accepted xs p s →
+        IsUnpackedAs p s name o printed k →
+        IsRightlyUnpacked xs name o printed k }
+    // One message has one printed value at most, and one number of skipped additions.
+    ensures one { (p : Program) (s : List Resolved) (name o printed again : List ℕ) (k j : ℕ) →
+        IsUnpackedAs p s name o printed k →
+        IsUnpackedAs p s name o again j →
+        (printed ≡ again) × (k ≡ j) }
+    // For the message that is written of a value, the printed text is that value, and no additions were skipped.
+    ensures answered { (p : Program) (s : List Resolved) (first second o printed : List ℕ) (k : ℕ)
+        (w : IsPacked p s first second o) →
+        IsUnpackedAs p s first o printed k →
+        IsAnswer p s first printed k w.value }
+    // It has no fault except `Memory`.
+    ensures read_back { (p : Program) (s : List Resolved) (first second o : List ℕ) (e : Fault) →
+        IsPacked p s first second o →
+        IsNotUnpackedAs p s first o e →
+        e ≡ Memory }
+{
+    written_is_read();
+}
+
 /// What [`crate::Kit::der`] returns for one version of a type is decoded by [`crate::Kit::ber`] of another version, if
 /// [`crate::Kit::later`] says yes of both.
 pub fn versions()
@@ -175,6 +205,11 @@ pub fn one_answer()
         IsPacked p s first second o →
         IsNotPacked p s first second e →
         e ≡ Memory }
+    // If bits are read, the octets are a message of a value.
+    ensures unpacked { (p : Program) (s : List Resolved) (name o printed : List ℕ) (k : ℕ) (e : Fault) →
+        IsUnpackedAs p s name o printed k →
+        IsNotUnpackedAs p s name o e →
+        e ≡ Memory }
     // If a value is read, the octets encode a value by the rules.
     ensures read { (p : Program) (s : List Resolved) (r : Rules) (name o printed : List ℕ) (k : ℕ) (e : Fault) →
         IsReadAs p s r name o printed k →
@@ -186,12 +221,25 @@ pub fn one_answer()
     one_meaning();
 }
 
-/// `NoType` and `Unread` are never both true: the name of the type is checked first. The order of the faults of names
-/// is a law of [`named_values::law`].
+/// `NoType` and a fault of the octets are never both true: the name of the type is checked first. The order of the faults
+/// of names is a law of [`named_values::law`].
 pub fn one_refusal()
-    ensures { (p : Program) (s : List Resolved) (r : Rules) (name o : List ℕ) (x : String Global)
+    ensures octets { (p : Program) (s : List Resolved) (r : Rules) (name o : List ℕ) (x : String Global)
         (u : Unread') →
         IsNotReadAs p s r name o (NoType x) →
         IsNotReadAs p s r name o (Unread u) →
+        ⊥ }
+    ensures bits { (p : Program) (s : List Resolved) (name o : List ℕ) (x : String Global) (u : UnreadBits') →
+        IsNotUnpackedAs p s name o (NoType x) →
+        IsNotUnpackedAs p s name o (UnreadBits u) →
+        ⊥ }
+    ensures length { (p : Program) (s : List Resolved) (name o : List ℕ) (x : String Global) →
+        IsNotUnpackedAs p s name o (NoType x) →
+        IsNotUnpackedAs p s name o MessageLimit →
+        ⊥ }
+    // Octets are too many, or have a fault at a bit, but not both.
+    ensures limit { (p : Program) (s : List Resolved) (name o : List ℕ) (u : UnreadBits') →
+        IsNotUnpackedAs p s name o MessageLimit →
+        IsNotUnpackedAs p s name o (UnreadBits u) →
         ⊥ }
 {}

@@ -1,10 +1,12 @@
 //! Where octets are refused, in the names of a schema.
 
-ghost use Rattle.std.specs.Prelude.{◌≡◌, IfOk, OnOk, decimal, string_bytes};
-ghost use Rattle.asnc.specs.Places.{alternative_name, component_name, path_of, IsStopped};
-ghost use Rattle.asnc.specs.Places.{with_name, with_number, with_open, with_part};
+ghost use Rattle.std.specs.Prelude.{◌≡◌, [], ℕ, IfOk, OnOk, decimal, string_bytes};
+ghost use Rattle.ber_message.specs.declared.open.Part.TheVariants.{Alternative, Component, Element};
+ghost use Rattle.asnc.specs.Places.{alternative_name, component_name, path_of, with_name, with_number, with_open};
+ghost use Rattle.asnc.specs.Places.{with_part, IsStopped};
+ghost use Rattle.asnc.specs.Unpacking.{part_of, type_in, with_parts};
 
-use asn_base::schema::{Schema, TypeId};
+use asn_base::schema::{Core, Schema, TypeId};
 use ber_reader::{Open, Part, whereabouts};
 use codec_code::Code;
 use std::alloc::{AllocError, Global};
@@ -116,4 +118,85 @@ pub(crate) fn stopped(
     let found = whereabouts(alloc, code, id, octets)?;
     let path = path_to(alloc, schema, found.values.as_slice())?;
     Ok((found.place, path))
+}
+
+/// The type of a component of a type by its place; the type itself if it has no such component.
+fn component_type(schema: &Schema, id: TypeId, place: usize) -> TypeId
+    ensures { result.index ≡ type_in schema.now id.index (Component place) }
+{
+    if !schema.has(id) {
+        return id;
+    }
+    match components(schema.core(id)).get(place) {
+        Some(component) => component.ty,
+        None => id,
+    }
+}
+
+/// The type of an alternative of a type by its number; the type itself if it has no such alternative.
+fn alternative_type(schema: &Schema, id: TypeId, number: usize) -> TypeId
+    ensures { result.index ≡ type_in schema.now id.index (Alternative number) }
+{
+    if !schema.has(id) {
+        return id;
+    }
+    match alternative_at(schema.core(id), number) {
+        Some(alternative) => alternative.ty,
+        None => id,
+    }
+}
+
+/// The type of the elements of a type; the type itself if it has none.
+fn element_type(schema: &Schema, id: TypeId) -> TypeId
+    ensures { (i : ℕ) → result.index ≡ type_in schema.now id.index (Element i) }
+{
+    if !schema.has(id) {
+        return id;
+    }
+    match schema.core(id) {
+        Core::SequenceOf(_, element) => *element,
+        Core::SetOf(_, element) => *element,
+        _ => id,
+    }
+}
+
+/// The type of a part of a value of a type.
+fn part_type(schema: &Schema, id: TypeId, part: Part) -> TypeId
+    ensures { result.index ≡ type_in schema.now id.index part }
+{
+    match part {
+        Part::Component(place) => component_type(schema, id, place),
+        Part::Alternative(number) => alternative_type(schema, id, number),
+        Part::Element(_) => element_type(schema, id),
+    }
+}
+
+/// A part of a value that bits say, as one of a value that octets say.
+fn part_of(part: packed_reader::Part) -> Part
+    ensures { result ≡ part_of part }
+{
+    match part {
+        packed_reader::Part::Component(place) => Part::Component(place),
+        packed_reader::Part::Alternative(number) => Part::Alternative(number),
+        packed_reader::Part::Element(number) => Part::Element(number),
+    }
+}
+
+/// The path of parts of a value of a type, each within the one before.
+pub(crate) fn path_to_part(
+    alloc: Global,
+    schema: &Schema,
+    id: TypeId,
+    parts: &[packed_reader::Part],
+) -> Result<String, AllocError>
+    ensures { IfOk result (λ path. string_bytes path ≡ with_parts schema.now id.index [] parts.now) }
+{
+    let mut path = String::new(alloc);
+    let mut ty = id;
+    for i in 0..parts.len() {
+        let part = part_of(parts[i]);
+        push_part(alloc, schema, ty, &mut path, part)?;
+        ty = part_type(schema, ty, part);
+    }
+    Ok(path)
 }

@@ -38,13 +38,23 @@ fn write_account(rt: &HostRuntime, job: &Job, kit: &Kit) -> Result<(), Fault> {
     write(rt, line.as_str())
 }
 
-/// Writes the value that octets encode, and how many additions were skipped, a line each.
+/// Writes a printed value, and how many additions were skipped, a line each.
+fn write_printed(rt: &HostRuntime, printed: &str, skipped: u64) -> Result<(), Fault> {
+    let lines = format!(in rt.alloc(); "{printed}\nskipped {skipped}\n")?;
+    write(rt, lines.as_str())
+}
+
+/// Writes the value that octets encode.
 fn write_value(rt: &HostRuntime, job: &Job, kit: &Kit, octets: &[u8]) -> Result<(), Fault> {
     let rules = if job.strict { Rules::Der } else { Rules::Ber };
-    let (mut text, skipped) = kit.ber(rt.alloc(), job.ty.as_str(), octets, rules)?;
-    let line = format!(in rt.alloc(); "\nskipped {skipped}\n")?;
-    text.push_str(line.as_str())?;
-    write(rt, text.as_str())
+    let (text, skipped) = kit.ber(rt.alloc(), job.ty.as_str(), octets, rules)?;
+    write_printed(rt, text.as_str(), skipped)
+}
+
+/// Writes the value that octets are a message of in canonical PER.
+fn write_unpacked(rt: &HostRuntime, job: &Job, kit: &Kit, octets: &[u8]) -> Result<(), Fault> {
+    let (text, skipped) = kit.unper(rt.alloc(), job.ty.as_str(), octets)?;
+    write_printed(rt, text.as_str(), skipped)
 }
 
 /// Does a job on the texts of its files, and on the octets that it gives.
@@ -55,6 +65,7 @@ fn work(rt: &HostRuntime, job: &Job, texts: &[Vec<u8>], octets: &[u8]) -> Result
         Verb::Der => write_hex(rt, job, &kit),
         Verb::Ber => write_value(rt, job, &kit, octets),
         Verb::Uper => write_packed(rt, job, &kit),
+        Verb::Unper => write_unpacked(rt, job, &kit, octets),
         Verb::Account => write_account(rt, job, &kit),
         Verb::List => write(rt, kit.list(rt.alloc())?.as_str()),
         Verb::Check => {

@@ -5,7 +5,7 @@ use Rattle.clap.specs.declared.error.kind.ErrorKind.{ErrorKind}
 use Rattle.clap.specs.declared.error.kind.ErrorKind.TheVariants as kinds
 use Rattle.messages.specs.declared.fault.Fault.{Fault}
 use Rattle.messages.specs.declared.fault.Fault.TheVariants as faults
-use Rattle.command_line.specs.CommandLine.{asnc_app, octcheck_app, ChecksNoOctets, HasNoOctets, IsFaultOf, IsNoJobOf, IsNotGiven, IsRefusedBy, TellsNone, text_in}
+use Rattle.command_line.specs.CommandLine.{asnc_app, octcheck_app, ChecksNoOctets, HasNoOctets, IsFaultOf, IsNoJobOf, IsNotGiven, IsRefusedBy, TakesOctets, TellsNone, text_in}
 
 pub refused_by : (a : App) (N : Type 0) (words : List Text) (k : ErrorKind) (fault : Fault)
     → (k ≡ kinds.OutOfMemory) ⊎ IsAmong k (fault_of a words)
@@ -25,6 +25,8 @@ refused_by a N words k (faults.Value e) h f = absurd f
 refused_by a N words k (faults.NoType n) h f = absurd f
 refused_by a N words k (faults.NoValue n) h f = absurd f
 refused_by a N words k faults.TooLong h f = absurd f
+refused_by a N words k (faults.UnreadBits u) h f = absurd f
+refused_by a N words k faults.MessageLimit h f = absurd f
 refused_by a N words k (faults.Device n) h f = absurd f
 refused_by a N words k (faults.Unread e) h f = absurd f
 refused_by a N words k (faults.NotAccount s) h f = absurd f
@@ -33,6 +35,27 @@ pub refused_as : (a b : App) (N : Type 0) (words : List Text) (k : ErrorKind) (f
     → (k ≡ kinds.OutOfMemory) ⊎ IsAmong k (fault_of a words)
     → IsFaultOf k fault → IsRefusedBy b N words fault
 refused_as a b N words k fault e h f = refused_by b N words k fault (subst (λ x. (k ≡ kinds.OutOfMemory) ⊎ IsAmong k (fault_of x words)) e h) f
+
+-- a command that takes octets has no job where no octets are given
+pub no_job : (command : Text) (rows : List Row) (fault : Fault) → TakesOctets command
+    → IsNotGiven (text_in rows (codes "hex")) fault
+    → IsNoJobOf command rows fault
+no_job command rows faults.Memory t n = tt
+no_job command rows (faults.BadWords b) t n = (t, n)
+no_job command rows (faults.Help b) t n = absurd n
+no_job command rows (faults.File b) t n = absurd n
+no_job command rows (faults.NoFile b) t n = absurd n
+no_job command rows (faults.Folder b) t n = absurd n
+no_job command rows (faults.Front b) t n = absurd n
+no_job command rows (faults.Value b) t n = absurd n
+no_job command rows (faults.NoType b) t n = absurd n
+no_job command rows (faults.NoValue b) t n = absurd n
+no_job command rows faults.TooLong t n = absurd n
+no_job command rows (faults.Device b) t n = absurd n
+no_job command rows (faults.Unread b) t n = absurd n
+no_job command rows (faults.UnreadBits b) t n = absurd n
+no_job command rows faults.MessageLimit t n = absurd n
+no_job command rows (faults.NotAccount b) t n = absurd n
 
 -- if a command has no job, the words are refused
 refused_without : (words : List Text) (command : Text) (rows : List Row) (fault : Fault)
@@ -43,7 +66,7 @@ refused_without : (words : List Text) (command : Text) (rows : List Row) (fault 
     → IsRefusedBy asnc_app (HasNoOctets words) words fault
 refused_without words command rows faults.Memory t c r n = tt
 refused_without words command rows (faults.BadWords b) t c r n =
-    inr (record { taken = t; called = c ∙ ap Some n.0; rows = rows; found = r; none = n.1 })
+    inr (record { taken = t; command = command; takes = n.0; called = c; rows = rows; found = r; none = n.1 })
 refused_without words command rows (faults.Help b) t c r n = absurd n
 refused_without words command rows (faults.File b) t c r n = absurd n
 refused_without words command rows (faults.NoFile b) t c r n = absurd n
@@ -53,6 +76,8 @@ refused_without words command rows (faults.Value b) t c r n = absurd n
 refused_without words command rows (faults.NoType b) t c r n = absurd n
 refused_without words command rows (faults.NoValue b) t c r n = absurd n
 refused_without words command rows faults.TooLong t c r n = absurd n
+refused_without words command rows (faults.UnreadBits u) t c r n = absurd n
+refused_without words command rows faults.MessageLimit t c r n = absurd n
 refused_without words command rows (faults.Device b) t c r n = absurd n
 refused_without words command rows (faults.Unread b) t c r n = absurd n
 refused_without words command rows (faults.NotAccount b) t c r n = absurd n
@@ -81,6 +106,8 @@ not_given words rows (faults.Value b) t r n = absurd n
 not_given words rows (faults.NoType b) t r n = absurd n
 not_given words rows (faults.NoValue b) t r n = absurd n
 not_given words rows faults.TooLong t r n = absurd n
+not_given words rows (faults.UnreadBits u) t r n = absurd n
+not_given words rows faults.MessageLimit t r n = absurd n
 not_given words rows (faults.Device b) t r n = absurd n
 not_given words rows (faults.Unread b) t r n = absurd n
 not_given words rows (faults.NotAccount b) t r n = absurd n

@@ -62,6 +62,14 @@ ber_flags_app =
 abbrev pub ber_app : App
 ber_app = with_rule ber_flags_app files_rule
 
+-- `unper --type TEXT --hex TEXT [--context]`
+abbrev pub unper_flags_app : App
+unper_flags_app = with_rule (octets_names_app (codes "unper")) (flag_rule (codes "context"))
+
+-- `unper --type TEXT --hex TEXT [--context] FILE..`
+abbrev pub unper_app : App
+unper_app = with_rule unper_flags_app files_rule
+
 -- `list [--context] FILE..`
 abbrev pub list_app : App
 list_app = with_rule (with_rule (new_app (codes "list")) (flag_rule (codes "context"))) files_rule
@@ -80,14 +88,13 @@ bare_app = record (new_app (codes "asnc")) {
 abbrev pub octets_app : App
 octets_app = with_subcommand (with_subcommand bare_app der_app.top) ber_app.top
 
--- the commands `der`, `ber`, `uper` and `account`
-abbrev pub written_app : App
-written_app =
-    with_subcommand (with_subcommand octets_app (value_app (codes "uper")).top) (value_app (codes "account")).top
+-- the commands `der`, `ber`, `uper` and `unper`
+abbrev pub packed_app : App
+packed_app = with_subcommand (with_subcommand octets_app (value_app (codes "uper")).top) unper_app.top
 
--- the commands `der`, `ber`, `uper`, `account` and `list`
+-- the commands `der`, `ber`, `uper`, `unper`, `account` and `list`
 abbrev pub asnc_app : App
-asnc_app = with_subcommand written_app list_app.top
+asnc_app = with_subcommand (with_subcommand packed_app (value_app (codes "account")).top) list_app.top
 
 -- the program octcheck without its arguments: there is a version, and there are no commands
 abbrev pub bare_check_app : App
@@ -179,6 +186,20 @@ pub record IsBerOf (rows : List Row) (job : Job) : Type 0 where
   pub no_account : string_bytes job.account ≡ []
   pub not_raw : job.raw ≡ false
 
+-- The job has what was found for the arguments of `unper`, and the octets that the text of `--hex` gives. Fields that
+-- `unper` doesn't take are empty.
+pub record IsUnperOf (rows : List Row) (job : Job) : Type 0 where
+  pub verb : job.verb ≡ verbs.Unper
+  pub type : string_bytes job.ty ≡ text_in rows (codes "type")
+  pub octets : IsGiven (text_in rows (codes "hex")) job.octets
+  pub context : (one_of (codes "context") rows ≡ Some (codes "true")) → job.context ≡ true
+  pub no_context : (one_of (codes "context") rows ≡ Some (codes "false")) → job.context ≡ false
+  pub files : map string_bytes job.files.items ≡ texts_in rows (codes "FILE")
+  pub no_value : string_bytes job.value ≡ []
+  pub no_account : string_bytes job.account ≡ []
+  pub not_raw : job.raw ≡ false
+  pub not_strict : job.strict ≡ false
+
 -- The job has what was found for the arguments of `list`. Fields that `list` doesn't take are empty.
 pub record IsListOf (rows : List Row) (job : Job) : Type 0 where
   pub verb : job.verb ≡ verbs.List
@@ -206,15 +227,17 @@ pub record IsCheckOf (rows : List Row) (job : Job) : Type 0 where
   pub not_raw : job.raw ≡ false
   pub not_strict : job.strict ≡ false
 
--- the job is that of the command with this name: `list`, `ber`, `uper`, `account`, or otherwise `der`
+-- the job is that of the command with this name: `list`, `ber`, `uper`, `unper`, `account`, or otherwise `der`
 pub record IsJobOf (command : Text) (rows : List Row) (job : Job) : Type 0 where
   pub list : command ≡ codes "list" → IsListOf rows job
   pub ber : command ≡ codes "ber" → IsBerOf rows job
   pub uper : command ≡ codes "uper" → IsValueJobOf verbs.Uper rows job
+  pub unper : command ≡ codes "unper" → IsUnperOf rows job
   pub account : command ≡ codes "account" → IsValueJobOf verbs.Account rows job
   pub der : (command ≡ codes "list" → ⊥)
       → (command ≡ codes "ber" → ⊥)
       → (command ≡ codes "uper" → ⊥)
+      → (command ≡ codes "unper" → ⊥)
       → (command ≡ codes "account" → ⊥)
       → IsDerOf rows job
 
@@ -224,10 +247,14 @@ IsNotGiven text faults.Memory = ⊤
 IsNotGiven text (faults.BadWords t) = TellsNone text
 IsNotGiven text fault = ⊥
 
--- the fault of a command without a job: the command is `ber`, and the text of `--hex` gives no octets
+-- the command takes octets
+abbrev pub TakesOctets : Text → Type 0
+TakesOctets command = (command ≡ codes "ber") ⊎ (command ≡ codes "unper")
+
+-- the fault of a command without a job: the command takes octets, and the text of `--hex` gives none
 abbrev pub IsNoJobOf : Text → List Row → Fault → Type 0
 IsNoJobOf command rows faults.Memory = ⊤
-IsNoJobOf command rows (faults.BadWords t) = (command ≡ codes "ber") × TellsNone (text_in rows (codes "hex"))
+IsNoJobOf command rows (faults.BadWords t) = TakesOctets command × TellsNone (text_in rows (codes "hex"))
 IsNoJobOf command rows fault = ⊥
 
 -- the words of asnc have no fault, and the job has what they give for their command
@@ -257,10 +284,12 @@ IsFaultOf k (faults.BadWords t) =
     (k ≡ kinds.OutOfMemory → ⊥) × (k ≡ kinds.DisplayHelp → ⊥) × (k ≡ kinds.DisplayVersion → ⊥)
 IsFaultOf k fault = ⊥
 
--- the words have no other fault than this: their command is `ber`, and the text of `--hex` gives no octets
+-- the words have no other fault than this: their command takes octets, and the text of `--hex` gives none
 pub record HasNoOctets (words : List Text) : Type 0 where
   pub taken : fault_of asnc_app words ≡ []
-  pub called : option_map (λ p. p.0) (subcommand_of asnc_app words) ≡ Some (codes "ber")
+  pub command : Text
+  pub takes : TakesOctets command
+  pub called : option_map (λ p. p.0) (subcommand_of asnc_app words) ≡ Some command
   pub rows : List Row
   pub found : option_map (λ p. p.1) (subcommand_of asnc_app words) ≡ Some rows
   pub none : TellsNone (text_in rows (codes "hex"))

@@ -3,11 +3,10 @@
 ghost use Rattle.std.specs.Prelude.{◌≡◌, IfOk, codes, false, true};
 ghost use Rattle.clap.specs.Words.{app_of, rule_of};
 ghost use Rattle.clap.specs.declared.builder.command.Command.TheViews.{out-Command};
-ghost use Rattle.command_line.specs.CommandLine.{asnc_app, octcheck_app, list_app, check_names_app, check_texts_app};
-ghost use Rattle.command_line.specs.CommandLine.{ber_app, ber_flags_app, der_app};
-ghost use Rattle.command_line.specs.CommandLine.{der_flags_app, octets_app, octets_names_app};
-ghost use Rattle.command_line.specs.CommandLine.{value_app, value_names_app, written_app};
-ghost use Rattle.command_line.specs.CommandLine.{files_rule, flag_rule, text_rule};
+ghost use Rattle.command_line.specs.CommandLine.{asnc_app, ber_app, ber_flags_app, check_names_app, check_texts_app};
+ghost use Rattle.command_line.specs.CommandLine.{der_app, der_flags_app, files_rule, flag_rule, list_app};
+ghost use Rattle.command_line.specs.CommandLine.{octcheck_app, octets_app, octets_names_app, packed_app, text_rule};
+ghost use Rattle.command_line.specs.CommandLine.{unper_app, unper_flags_app, value_app, value_names_app};
 
 use clap::{Arg, ArgAction, Command};
 use std::alloc::{AllocError, Global};
@@ -18,6 +17,7 @@ Examples:
   asnc der --type M.T --value M.v m.asn
   asnc ber --type M.T --hex 020105 m.asn
   asnc uper --type M.T --value M.v m.asn
+  asnc unper --type M.T --hex 0105 m.asn
   asnc account --type M.T --value M.v m.asn
   asnc list m.asn
 
@@ -43,6 +43,12 @@ const UPER_EXAMPLES: &str = "\
 Examples:
   asnc uper --type M.T --value M.v m.asn
   cat m.asn | asnc uper --context --type M.T --value M.v -";
+
+/// The text at the end of the help of `unper`.
+const UNPER_EXAMPLES: &str = "\
+Examples:
+  asnc unper --type M.T --hex 0105 m.asn
+  asnc unper --type M.T --hex @v.per m.asn";
 
 /// The text at the end of the help of `account`.
 const ACCOUNT_EXAMPLES: &str = "\
@@ -223,6 +229,22 @@ fn uper_command<'a>(alloc: Global) -> Result<Command<'a>, AllocError>
     value_command(alloc, "uper", about, UPER_EXAMPLES)
 }
 
+/// `unper` with its flag.
+fn unper_flags<'a>(alloc: Global) -> Result<Command<'a>, AllocError>
+    ensures shape { IfOk result (λ c. app_of c ≡ unper_flags_app) }
+    ensures local { IfOk result (λ c. (out-Command c).has_globals ≡ false) }
+{
+    let about = "Read octets of canonical PER, unaligned, as a value, and print it";
+    octets_names(alloc, "unper", about, UNPER_EXAMPLES)?.arg(context_arg(alloc))
+}
+
+fn unper_command<'a>(alloc: Global) -> Result<Command<'a>, AllocError>
+    ensures shape { IfOk result (λ c. app_of c ≡ unper_app) }
+    ensures local { IfOk result (λ c. (out-Command c).has_globals ≡ false) }
+{
+    unper_flags(alloc)?.arg(files_arg(alloc))
+}
+
 fn account_command<'a>(alloc: Global) -> Result<Command<'a>, AllocError>
     ensures shape { IfOk result (λ c. app_of c ≡ value_app (codes "account")) }
     ensures local { IfOk result (λ c. (out-Command c).has_globals ≡ false) }
@@ -242,7 +264,7 @@ fn list_command<'a>(alloc: Global) -> Result<Command<'a>, AllocError>
         .arg(files_arg(alloc))
 }
 
-/// The program asnc with the commands that write or read octets.
+/// The program asnc with the commands that write or read octets of DER and BER.
 fn octets_command<'a>(alloc: Global) -> Result<Command<'a>, AllocError>
     ensures shape { IfOk result (λ c. app_of c ≡ octets_app) }
     ensures local { IfOk result (λ c. (out-Command c).has_globals ≡ false) }
@@ -258,15 +280,15 @@ fn octets_command<'a>(alloc: Global) -> Result<Command<'a>, AllocError>
         .subcommand(ber_command(alloc)?)
 }
 
-/// The program asnc with all commands but the one that lists types.
-fn written_command<'a>(alloc: Global) -> Result<Command<'a>, AllocError>
-    ensures shape { IfOk result (λ c. app_of c ≡ written_app) }
+/// The program asnc with the commands that write or read octets, those of PER too.
+fn packed_command<'a>(alloc: Global) -> Result<Command<'a>, AllocError>
+    ensures shape { IfOk result (λ c. app_of c ≡ packed_app) }
     ensures local { IfOk result (λ c. (out-Command c).has_globals ≡ false) }
     ensures wants { IfOk result (λ c. (out-Command c).subcommand_required ≡ true) }
 {
     octets_command(alloc)?
         .subcommand(uper_command(alloc)?)?
-        .subcommand(account_command(alloc)?)
+        .subcommand(unper_command(alloc)?)
 }
 
 /// The program asnc.
@@ -275,7 +297,9 @@ pub(crate) fn asnc_command<'a>(alloc: Global) -> Result<Command<'a>, AllocError>
     ensures local { IfOk result (λ c. (out-Command c).has_globals ≡ false) }
     ensures wants { IfOk result (λ c. (out-Command c).subcommand_required ≡ true) }
 {
-    written_command(alloc)?.subcommand(list_command(alloc)?)
+    packed_command(alloc)?
+        .subcommand(account_command(alloc)?)?
+        .subcommand(list_command(alloc)?)
 }
 
 /// The program octcheck with the names of a type and of a value.

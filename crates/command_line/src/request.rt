@@ -20,6 +20,8 @@ pub enum Verb {
     Ber,
     /// Writes a value by the canonical packed encoding rules, unaligned.
     Uper,
+    /// Reads octets as a value by the canonical packed encoding rules, unaligned.
+    Unper,
     /// Writes how the distinguished encoding of a value is made up, header by header.
     Account,
     /// Lists the types, with what is known of each.

@@ -2,11 +2,10 @@
 
 ghost use Rattle.std.specs.Prelude.{◌≡◌, ◌↔◌, ℕ, List, IfOk, IfErr, IsTrue, Some, codes, map, string_bytes};
 ghost use Rattle.clap.specs.Words.{found_of, kind_of, rows_of};
-ghost use Rattle.command_line.specs.CommandLine.{asnc_app, octcheck_app, text_in};
-ghost use Rattle.command_line.specs.CommandLine.{texts_in, IsAsked, IsCommand, IsFaultOf};
-ghost use Rattle.command_line.specs.CommandLine.{AreOfChecker, ChecksNoOctets, HasNoOctets, IsNotGiven};
-ghost use Rattle.command_line.specs.CommandLine.{IsBerOf, IsCheck, IsCheckOf, IsDerOf, IsJobOf, IsListOf, IsValueJobOf};
-ghost use Rattle.command_line.specs.CommandLine.{IsNoJobOf, IsRefused, IsRefusedBy};
+ghost use Rattle.command_line.specs.CommandLine.{asnc_app, octcheck_app, text_in, texts_in, AreOfChecker};
+ghost use Rattle.command_line.specs.CommandLine.{ChecksNoOctets, HasNoOctets, IsAsked, IsBerOf, IsCheck, IsCheckOf};
+ghost use Rattle.command_line.specs.CommandLine.{IsCommand, IsDerOf, IsFaultOf, IsJobOf, IsListOf, IsNoJobOf};
+ghost use Rattle.command_line.specs.CommandLine.{IsNotGiven, IsRefused, IsRefusedBy, IsUnperOf, IsValueJobOf};
 
 use crate::commands::{asnc_command, octcheck_command};
 use crate::octets::given_in;
@@ -118,6 +117,27 @@ fn ber_job(alloc: Global, found: &ArgMatches<'_>) -> Result<Job, Fault>
     })
 }
 
+/// The job of `unper`. `BadWords`: the text of `--hex` gives no octets.
+fn unper_job(alloc: Global, found: &ArgMatches<'_>) -> Result<Job, Fault>
+    ensures job { IfOk result (IsUnperOf (rows_of (found_of found.now))) }
+    ensures none { IfErr result (IsNotGiven (text_in (rows_of (found_of found.now)) (codes "hex"))) }
+{
+    let context = found.get_flag("context");
+    let hex = text_of(alloc, found, "hex")?;
+    let octets = given_in(alloc, "asnc", hex.as_str())?;
+    Ok(Job {
+        verb: Verb::Unper,
+        ty: text_of(alloc, found, "type")?,
+        value: String::new(alloc),
+        account: String::new(alloc),
+        octets,
+        raw: false,
+        strict: false,
+        context,
+        files: files_of(alloc, found)?,
+    })
+}
+
 fn list_job(alloc: Global, found: &ArgMatches<'_>) -> Result<Job, AllocError>
     ensures { IfOk result (IsListOf (rows_of (found_of found.now))) }
 {
@@ -185,6 +205,8 @@ fn job_of(alloc: Global, command: &str, found: &ArgMatches<'_>) -> Result<Job, F
         ber_job(alloc, found)
     } else if command == "uper" {
         Ok(value_job(alloc, found, Verb::Uper)?)
+    } else if command == "unper" {
+        unper_job(alloc, found)
     } else if command == "account" {
         Ok(value_job(alloc, found, Verb::Account)?)
     } else {

@@ -31,6 +31,8 @@ not_meant p first second account (faults.File x) h = h
 not_meant p first second account (faults.NoFile x) h = h
 not_meant p first second account (faults.Folder x) h = h
 not_meant p first second account faults.TooLong h = h
+not_meant p first second account (faults.UnreadBits u) h = h
+not_meant p first second account faults.MessageLimit h = h
 not_meant p first second account (faults.Device n) h = h
 not_meant p first second account (faults.NotAccount s) h = absurd h
 
@@ -50,6 +52,8 @@ not_read p first second account t v (faults.File x) m h = absurd h
 not_read p first second account t v (faults.NoFile x) m h = absurd h
 not_read p first second account t v (faults.Folder x) m h = absurd h
 not_read p first second account t v faults.TooLong m h = absurd h
+not_read p first second account t v (faults.UnreadBits u) m h = absurd h
+not_read p first second account t v faults.MessageLimit m h = absurd h
 not_read p first second account t v (faults.Device n) m h = absurd h
 
 -- if there is no verdict in the program of accepted texts, there is none for these texts
@@ -68,6 +72,8 @@ not_judged xs p first second account (faults.File x) a h = absurd h
 not_judged xs p first second account (faults.NoFile x) a h = absurd h
 not_judged xs p first second account (faults.Folder x) a h = absurd h
 not_judged xs p first second account faults.TooLong a h = absurd h
+not_judged xs p first second account (faults.UnreadBits u) a h = absurd h
+not_judged xs p first second account faults.MessageLimit a h = absurd h
 not_judged xs p first second account (faults.Device n) a h = absurd h
 
 -- ---- accounts
@@ -102,6 +108,8 @@ not_refused law p s first second o account r (faults.File x) k v h = absurd h
 not_refused law p s first second o account r (faults.NoFile x) k v h = absurd h
 not_refused law p s first second o account r (faults.Folder x) k v h = absurd h
 not_refused law p s first second o account r faults.TooLong k v h = absurd h
+not_refused law p s first second o account r (faults.UnreadBits u) k v h = absurd h
+not_refused law p s first second o account r faults.MessageLimit k v h = absurd h
 not_refused law p s first second o account r (faults.Device n) k v h = absurd h
 
 abbrev pub Excludes : Type 0
@@ -137,4 +145,6 @@ texts_judged law one other xs p s first second o account r (faults.File x) k a v
 texts_judged law one other xs p s first second o account r (faults.NoFile x) k a v h = absurd h.on
 texts_judged law one other xs p s first second o account r (faults.Folder x) k a v h = absurd h.on
 texts_judged law one other xs p s first second o account r faults.TooLong k a v h = absurd h.on
+texts_judged law one other xs p s first second o account r (faults.UnreadBits u) k a v h = absurd h.on
+texts_judged law one other xs p s first second o account r faults.MessageLimit k a v h = absurd h.on
 texts_judged law one other xs p s first second o account r (faults.Device n) k a v h = absurd h.on

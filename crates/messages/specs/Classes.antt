@@ -18,6 +18,8 @@ use Rattle.additions.specs.declared.fault.ExtFault.{ExtFault}
 use Rattle.additions.specs.declared.fault.ExtFault.TheVariants as additions
 use Rattle.codec_source.specs.declared.fault.ReadFault.{ReadFault}
 use Rattle.codec_source.specs.declared.fault.ReadFault.TheVariants as readings
+use Rattle.packed_readings.specs.declared.refusal.Refusal.{Refusal}
+use Rattle.packed_readings.specs.declared.refusal.Refusal.TheVariants as packed
 use Rattle.told_values.specs.declared.telling.Reason.{Reason}
 use Rattle.told_values.specs.declared.telling.Reason.TheVariants as reasons
 use Rattle.front_end.specs.declared.fault.FrontFault.{FrontFault}
@@ -126,6 +128,20 @@ read_class_of readings.Trailing = (89, codes "Trailing")
 read_class_of readings.TooDeep = (95, codes "TooDeep")
 read_class_of readings.NotDer = (96, codes "NotDer")
 
+-- bits that can't be read (X.691, clauses 11 to 30)
+abbrev pub bit_class_of : Refusal → ℕ × List ℕ
+bit_class_of packed.IntegerLimit = (2, codes "Limit(Integer)")
+bit_class_of packed.OidLimit = (2, codes "Limit(Oid)")
+bit_class_of packed.NodesLimit = (2, codes "Limit(Nodes)")
+bit_class_of packed.Truncated = (90, codes "Truncated")
+bit_class_of packed.NotCanonical = (91, codes "NotCanonical")
+bit_class_of packed.Outside = (92, codes "OutsideConstraint")
+bit_class_of packed.UnknownAlternative = (93, codes "UnknownAlternative")
+bit_class_of packed.UnknownEnumeration = (93, codes "UnknownEnumeration")
+bit_class_of packed.Padding = (94, codes "Padding")
+bit_class_of packed.TooDeep = (95, codes "TooDeep")
+bit_class_of packed.TooManyAdditions = (97, codes "TooManyAdditions")
+
 abbrev pub front_class_of : FrontFault → ℕ × List ℕ
 front_class_of fronts.Memory = (1, codes "Memory")
 front_class_of (fronts.Text k f) = text_class_of f
@@ -151,6 +167,8 @@ class_of (faults.Value t) = reason_class_of t.reason
 class_of faults.TooLong = (71, codes "TooLong")
 class_of (faults.Device n) = (72, codes "Device")
 class_of (faults.Unread u) = read_class_of u.fault
+class_of (faults.UnreadBits u) = bit_class_of u.refusal
+class_of faults.MessageLimit = (2, codes "Limit(Message)")
 class_of (faults.NotAccount s) = (100, codes "NotAccount")
 
 abbrev pub number_of : Fault → ℕ

@@ -1,8 +1,8 @@
 //! The classes of faults: each has a number and a name.
 
-ghost use Rattle.messages.specs.Classes.{IsClass, class_of, front_class_of, text_class_of};
-ghost use Rattle.messages.specs.Classes.{tree_class_of, name_class_of, tag_class_of};
-ghost use Rattle.messages.specs.Classes.{bound_class_of, addition_class_of, reason_class_of, read_class_of};
+ghost use Rattle.messages.specs.Classes.{IsClass, class_of, front_class_of, text_class_of, tree_class_of};
+ghost use Rattle.messages.specs.Classes.{name_class_of, tag_class_of, bit_class_of, bound_class_of};
+ghost use Rattle.messages.specs.Classes.{addition_class_of, reason_class_of, read_class_of};
 
 use crate::fault::Fault;
 use additions::ExtFault;
@@ -11,6 +11,7 @@ use constraints::BoundFault;
 use front_end::FrontFault;
 use names::{Limit, NameFault};
 use notation::SyntaxFault;
+use packed_readings::Refusal;
 use tagging::TagFault;
 use text::LexFault;
 use told_values::Reason;
@@ -44,6 +45,8 @@ pub(crate) fn told_class(fault: &Fault) -> Class
         Fault::TooLong => is(71, "TooLong"),
         Fault::Device(_) => is(72, "Device"),
         Fault::Unread(unread) => of_reading(unread.fault),
+        Fault::UnreadBits(unread) => of_bits(unread.refusal),
+        Fault::MessageLimit => is(2, "Limit(Message)"),
         Fault::NotAccount(_) => is(100, "NotAccount"),
     }
 }
@@ -189,5 +192,23 @@ fn of_reading(fault: ReadFault) -> Class
         ReadFault::Trailing => is(89, "Trailing"),
         ReadFault::TooDeep => is(95, "TooDeep"),
         ReadFault::NotDer => is(96, "NotDer"),
+    }
+}
+
+fn of_bits(refusal: Refusal) -> Class
+    ensures { IsClass result (bit_class_of refusal) }
+{
+    match refusal {
+        Refusal::IntegerLimit => is(2, "Limit(Integer)"),
+        Refusal::OidLimit => is(2, "Limit(Oid)"),
+        Refusal::NodesLimit => is(2, "Limit(Nodes)"),
+        Refusal::Truncated => is(90, "Truncated"),
+        Refusal::NotCanonical => is(91, "NotCanonical"),
+        Refusal::Outside => is(92, "OutsideConstraint"),
+        Refusal::UnknownAlternative => is(93, "UnknownAlternative"),
+        Refusal::UnknownEnumeration => is(93, "UnknownEnumeration"),
+        Refusal::Padding => is(94, "Padding"),
+        Refusal::TooDeep => is(95, "TooDeep"),
+        Refusal::TooManyAdditions => is(97, "TooManyAdditions"),
     }
 }

@@ -9,6 +9,7 @@ use crate::classes::told_class;
 use account_text::Stop;
 use codec_source::ReadFault;
 use front_end::FrontFault;
+use packed_readings::Refusal;
 use std::alloc::{AllocError, AllocFailed};
 use thiserror::Error;
 use told_values::ValueTold;
@@ -20,6 +21,16 @@ use told_values::ValueTold;
 pub struct Unread {
     pub fault: ReadFault,
     pub octet: usize,
+    pub path: String,
+}
+
+/// Why bits can't be read as a value, and where: the place of the bit, from 0, and the part of the value that was being
+/// read there. The part is given as that of [`Unread`].
+#[derive(Debug, Drop, Error)]
+#[error("{refusal} at bit {bit}")]
+pub struct UnreadBits {
+    pub refusal: Refusal,
+    pub bit: usize,
     pub path: String,
 }
 
@@ -65,6 +76,12 @@ pub enum Fault {
     /// The octets can't be read as a value of the type.
     #[error("error {0}")]
     Unread(Unread),
+    /// The bits of the octets can't be read as a value of the type.
+    #[error("error {0}")]
+    UnreadBits(UnreadBits),
+    /// There are more octets than a message has.
+    #[error("error 2 Limit(Message): a message has at most 16777216 octets")]
+    MessageLimit,
     /// The octets are not the text of an account; `Stop` says where it stops being one.
     #[error("error 100 NotAccount: {0}")]
     NotAccount(Stop),

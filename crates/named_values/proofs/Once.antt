@@ -130,5 +130,7 @@ meant_refused p first second t v (faults.File x) kept m h = absurd h
 meant_refused p first second t v (faults.NoFile x) kept m h = absurd h
 meant_refused p first second t v (faults.Folder x) kept m h = absurd h
 meant_refused p first second t v faults.TooLong kept m h = absurd h
+meant_refused p first second t v (faults.UnreadBits u) kept m h = absurd h
+meant_refused p first second t v faults.MessageLimit kept m h = absurd h
 meant_refused p first second t v (faults.Device n) kept m h = absurd h
 meant_refused p first second t v (faults.NotAccount x) kept m h = absurd h

@@ -6,10 +6,11 @@ use codec_source::ReadFault;
 use command_line::{Given, Job, Verb};
 use constraints::BoundFault;
 use front_end::FrontFault;
-use messages::{Fault, Unread, number, status};
+use messages::{Fault, Unread, UnreadBits, number, status};
 use names::fault::spot;
 use names::{Limit, NameFault};
 use notation::SyntaxFault;
+use packed_readings::Refusal;
 use reports::report;
 use std::alloc::{AllocError, Global};
 use std::test::*;
@@ -124,6 +125,19 @@ x
 100 1 error 100 NotAccount: a\\u{A}.json: at octet 41, in row 2: found no row, expected a kind and its numbers in an array | error 100 NotAccount: at octet 41, in row 2: found no row, expected a kind and its numbers in an array
 100 1 error 100 NotAccount: a\\u{A}.json: at octet 41: found more text after the rows, expected its end | error 100 NotAccount: at octet 41: found more text after the rows, expected its end
 100 1 error 100 NotAccount: a\\u{A}.json: found rows that are not those of one account, 3 of them, expected after each row as many members as it says, at most 400 deep | error 100 NotAccount: found rows that are not those of one account, 3 of them, expected after each row as many members as it says, at most 400 deep
+90 1 error 90 Truncated: at bit 17, in a.b[2].c: found the end of the octets, expected more bits of the value | error 90 Truncated at bit 17
+91 1 error 91 NotCanonical: at bit 17, in a.b[2].c: found bits that canonical PER does not have, expected the one form of a value | error 91 NotCanonical at bit 17
+92 1 error 92 OutsideConstraint: at bit 17, in a.b[2].c: found what the type does not allow, expected a number, a size, an index or contents within it | error 92 OutsideConstraint at bit 17
+93 1 error 93 UnknownAlternative: at bit 17, in a.b[2].c: found an alternative after the extension marker that the type lacks, expected one of its own | error 93 UnknownAlternative at bit 17
+93 1 error 93 UnknownEnumeration: at bit 17, in a.b[2].c: found an item after the extension marker that the type lacks, expected one of its own | error 93 UnknownEnumeration at bit 17
+94 1 error 94 Padding: at bit 17, in a.b[2].c: found bits after the value, expected zero bits up to the end of its last octet | error 94 Padding at bit 17
+95 1 error 95 TooDeep: at bit 17, in a.b[2].c: found a value at level 65, expected at most 64 levels | error 95 TooDeep at bit 17
+97 1 error 97 TooManyAdditions: at bit 17, in a.b[2].c: found more than 64 additions, expected at most 64 | error 97 TooManyAdditions at bit 17
+2 1 error 2 Limit(Integer): at bit 17, in a.b[2].c: found another number, expected one from -2^127 to 2^127 - 1 | error 2 Limit(Integer) at bit 17
+2 1 error 2 Limit(Oid): at bit 17, in a.b[2].c: found other numbers of an object identifier, expected at most 64, each below 2^64 | error 2 Limit(Oid) at bit 17
+2 1 error 2 Limit(Nodes): at bit 17, in a.b[2].c: found more values, expected at most 16777216 | error 2 Limit(Nodes) at bit 17
+90 1 error 90 Truncated: at bit 17: found the end of the octets, expected more bits of the value | error 90 Truncated at bit 17
+2 1 error 2 Limit(Message): a message has at most 16777216 octets | error 2 Limit(Message): a message has at most 16777216 octets
 ";
 
 /// The module in the file m.asn.
@@ -282,10 +296,28 @@ fn read_fault(number: usize) -> Option<ReadFault> {
     }
 }
 
+/// The faults of bits, by number; one of them is without a part.
+fn bit_fault(number: usize) -> Option<Refusal> {
+    match number {
+        96 | 107 => Some(Refusal::Truncated),
+        97 => Some(Refusal::NotCanonical),
+        98 => Some(Refusal::Outside),
+        99 => Some(Refusal::UnknownAlternative),
+        100 => Some(Refusal::UnknownEnumeration),
+        101 => Some(Refusal::Padding),
+        102 => Some(Refusal::TooDeep),
+        103 => Some(Refusal::TooManyAdditions),
+        104 => Some(Refusal::IntegerLimit),
+        105 => Some(Refusal::OidLimit),
+        106 => Some(Refusal::NodesLimit),
+        _ => None,
+    }
+}
+
 /// The part of a value in a fault of octets: empty for one number, long for another, and short for the rest.
 fn path_told(number: usize) -> &'static str {
     match number {
-        89 => "",
+        89 | 107 => "",
         90 => "abcdefghijabcdefghijabcdefghijabcdefghijabcdefghijabcdefghijk.l",
         _ => "a.b[2].c",
     }
@@ -331,7 +363,7 @@ fn front_fault(alloc: Global, number: usize) -> Result<Option<FrontFault>, Fail>
     }
 }
 
-/// The fault with a number below 96 in this table.
+/// The fault with a number below 109 in this table.
 fn fault_of(alloc: Global, number: usize) -> Result<Fault, Fail> {
     if let Some(stop) = stop(number) {
         return Ok(Fault::NotAccount(stop));
@@ -340,6 +372,14 @@ fn fault_of(alloc: Global, number: usize) -> Result<Fault, Fail> {
         let path = String::from_str(alloc, path_told(number))?;
         let octet = 17;
         return Ok(Fault::Unread(Unread { fault, octet, path }));
+    }
+    if let Some(refusal) = bit_fault(number) {
+        let path = String::from_str(alloc, path_told(number))?;
+        let bit = 17;
+        return Ok(Fault::UnreadBits(UnreadBits { refusal, bit, path }));
+    }
+    if number == 108 {
+        return Ok(Fault::MessageLimit);
     }
     if let Some(fault) = call_fault(number, String::from_str(alloc, "w\nx")?) {
         return Ok(fault);
@@ -380,7 +420,7 @@ fn told_of_faults(rt: HostRuntime) -> Result<(), Fail> {
     let job = job(alloc)?;
     let texts = vec![in alloc; Vec::from_slice(alloc, TEXT.as_bytes())?]?;
     let mut told = String::new(alloc);
-    for index in 0..96 {
+    for index in 0..109 {
         let fault = fault_of(alloc, index)?;
         let line = report(alloc, &job, texts.as_slice(), &fault)?;
         let (number, status) = (number(&fault), status(&fault));

@@ -1,7 +1,8 @@
 //! The words for octets that can't be read.
 
 use codec_source::ReadFault;
-use messages::Unread;
+use messages::{Unread, UnreadBits};
+use packed_readings::Refusal;
 use shown_texts::shown;
 use std::alloc::{AllocError, Global};
 
@@ -18,6 +19,40 @@ pub(crate) fn of_unread(alloc: Global, unread: &Unread) -> Result<String, AllocE
     }
     let path = shown(alloc, unread.path.as_str())?;
     format!(in alloc; "at octet {octet}, in {path}: {words}")
+}
+
+/// The words for bits that can't be read: the place of the bit from 0, the part of the value, and why.
+pub(crate) fn of_unread_bits(alloc: Global, unread: &UnreadBits) -> Result<String, AllocError> {
+    let words = of_bits(unread.refusal);
+    let bit = unread.bit;
+    if unread.path.is_empty() {
+        return format!(in alloc; "at bit {bit}: {words}");
+    }
+    let path = shown(alloc, unread.path.as_str())?;
+    format!(in alloc; "at bit {bit}, in {path}: {words}")
+}
+
+/// What was found in place of bits that say a value of the type, and what was expected.
+fn of_bits(refusal: Refusal) -> &'static str {
+    match refusal {
+        Refusal::Truncated => "found the end of the octets, expected more bits of the value",
+        Refusal::NotCanonical =>
+            "found bits that canonical PER does not have, expected the one form of a value",
+        Refusal::Outside =>
+            "found what the type does not allow, expected a number, a size, an index or contents within it",
+        Refusal::UnknownAlternative =>
+            "found an alternative after the extension marker that the type lacks, expected one of its own",
+        Refusal::UnknownEnumeration =>
+            "found an item after the extension marker that the type lacks, expected one of its own",
+        Refusal::Padding =>
+            "found bits after the value, expected zero bits up to the end of its last octet",
+        Refusal::TooDeep => "found a value at level 65, expected at most 64 levels",
+        Refusal::TooManyAdditions => "found more than 64 additions, expected at most 64",
+        Refusal::IntegerLimit => "found another number, expected one from -2^127 to 2^127 - 1",
+        Refusal::OidLimit =>
+            "found other numbers of an object identifier, expected at most 64, each below 2^64",
+        Refusal::NodesLimit => "found more values, expected at most 16777216",
+    }
 }
 
 /// Why octets are not read as a value of the type.

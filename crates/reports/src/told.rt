@@ -7,7 +7,7 @@ use crate::asked::{of_account, of_file, of_no_name};
 use crate::finding::{octet_in, text_number};
 use crate::heading::heading;
 use crate::of_names::of_names;
-use crate::of_readings::of_unread;
+use crate::of_readings::{of_unread, of_unread_bits};
 use crate::of_texts::{left_out, of_octets, of_tokens};
 use crate::of_types::{of_additions, of_bounds, of_tags};
 use crate::of_values::of_value;
@@ -67,6 +67,8 @@ fn sentence(
         Fault::NoValue(name) => of_no_name(alloc, texts, name.as_str(), true),
         Fault::TooLong => String::from_str(alloc, "the encoding has more than 16777216 octets"),
         Fault::Unread(unread) => of_unread(alloc, unread),
+        Fault::UnreadBits(unread) => of_unread_bits(alloc, unread),
+        Fault::MessageLimit => String::from_str(alloc, "a message has at most 16777216 octets"),
         Fault::NotAccount(stop) => stop.to_string(alloc),
         Fault::Memory => String::from_str(alloc, "out of memory"),
         Fault::Device(sent) => format!(in alloc; "the output took {sent} octets and then no more"),
@@ -126,7 +128,8 @@ fn told_behind(
 /// of the fault, the file, the line and the column of the place, and what was found and expected there. Line and column
 /// are counted from 1, the column in characters. For octets that can't be read the line has the place of the octet,
 /// from 0, and the part of the value that was being read: `error 80 Truncated: at octet 17, in a.b[2].c: the octets end
-/// ..`. For an account it has the file, and the octet and the row at which the text stops being an account, both from
+/// ..`. For bits that can't be read it has the place of the bit: `error 90 Truncated: at bit 17, in rows[3].id: found ..`.
+/// For an account it has the file, and the octet and the row at which the text stops being an account, both from
 /// 0.
 ///
 /// If the job asks for the context and the fault is at an octet of a text, that line of the text and a line with a

@@ -40,13 +40,24 @@ fn octets_of(row: &Row, file: &String) -> Result<Vec<u8>, Fault> {
     }
 }
 
-/// The value that octets encode, and how many additions were skipped, each in a line.
-fn value_of(alloc: Global, job: &Job, kit: &Kit, octets: &[u8]) -> Result<String, Fault> {
-    let rules = if job.strict { Rules::Der } else { Rules::Ber };
-    let (mut text, skipped) = kit.ber(alloc, job.ty.as_str(), octets, rules)?;
+/// A printed value, and how many additions were skipped, a line each.
+fn with_skipped(alloc: Global, mut text: String, skipped: u64) -> Result<String, Fault> {
     let line = format!(in alloc; "\nskipped {skipped}")?;
     text.push_str(line.as_str())?;
     Ok(text)
+}
+
+/// The value that octets encode, and how many additions were skipped.
+fn value_of(alloc: Global, job: &Job, kit: &Kit, octets: &[u8]) -> Result<String, Fault> {
+    let rules = if job.strict { Rules::Der } else { Rules::Ber };
+    let (text, skipped) = kit.ber(alloc, job.ty.as_str(), octets, rules)?;
+    with_skipped(alloc, text, skipped)
+}
+
+/// The value that octets are a message of in canonical PER, and how many additions were skipped.
+fn unpacked(alloc: Global, job: &Job, kit: &Kit, octets: &[u8]) -> Result<String, Fault> {
+    let (text, skipped) = kit.unper(alloc, job.ty.as_str(), octets)?;
+    with_skipped(alloc, text, skipped)
 }
 
 /// The result of a job of asnc: octets in hexadecimal, a value, an account, or the listing.
@@ -62,6 +73,7 @@ fn kit_work(alloc: Global, job: &Job, texts: &[Vec<u8>], octets: &[u8]) -> Resul
             let octets = kit.uper(alloc, job.ty.as_str(), job.value.as_str())?;
             Ok(hex::encode_upper(alloc, octets.as_slice())?)
         }
+        Verb::Unper => unpacked(alloc, job, &kit, octets),
         Verb::Account => kit.account(alloc, job.ty.as_str(), job.value.as_str()),
         Verb::List | Verb::Check => kit.list(alloc),
     }
@@ -227,6 +239,7 @@ pub fn job_of(alloc: Global, row: &Row, program: &str) -> Result<String, Refusal
         Verb::Der => "der",
         Verb::Ber => "ber",
         Verb::Uper => "uper",
+        Verb::Unper => "unper",
         Verb::Account => "account",
         Verb::List => "list",
         Verb::Check => "check",

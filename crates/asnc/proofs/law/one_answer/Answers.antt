@@ -1,4 +1,5 @@
 use Rattle.asnc.proofs.Answered.{opened, packed, read, written}
+use Rattle.asnc.proofs.ReadBack.{unpacked_refused}
 use Rattle.asnc.proofs.law.one_answer.Goals as goal
 
 pub returns-clause-opened : goal.returns-clause-opened
@@ -11,6 +12,9 @@ returns-clause-written c = λ xs p s first second o a e ok.
 pub returns-clause-packed : goal.returns-clause-packed
 returns-clause-packed c = λ xs p s first second o e ok.
     packed c.one_meaning.ensures.one c.one_meaning.ensures.refused p s first second o e (c.accepted_keep.ensures xs p ok.accepted)
+
+pub returns-clause-unpacked : goal.returns-clause-unpacked
+returns-clause-unpacked c = unpacked_refused
 
 pub returns-clause-read : goal.returns-clause-read
 returns-clause-read c = read

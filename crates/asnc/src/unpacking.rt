@@ -1,0 +1,99 @@
+//! The value that octets are a message of in canonical PER, printed.
+
+ghost use Rattle.std.specs.Prelude.{◌≡◌, ◌<◌, ℕ, Err, List, IfOk, IfErr, length, string_bytes};
+ghost use Rattle.asn_base.specs.Abstract.{abstract};
+ghost use Rattle.packed_reader.specs.declared.fault.PerFault.TheVariants.{MessageLimit};
+ghost use Rattle.asnc.specs.Unpacking.{IsNotUnpacked, IsNotUnpackedAs, IsNotUnpackedBy, IsUnpacked, IsUnpackedAs, IsUnpackedBy};
+
+use crate::places::path_to_part;
+use asn_base::schema::{Schema, TypeId};
+use asn_base::value::Value;
+use front_end::Modules;
+use messages::{Fault, UnreadBits};
+use named_values::type_number;
+use packed_code::PackedCode;
+use packed_reader::{PerFault, read_uper};
+use std::alloc::Global;
+use value_text::print;
+
+/// The value of a type that octets are a message of, and the number of skipped additions.
+pub(crate) fn unpacked(
+    alloc: Global,
+    code: &PackedCode,
+    id: TypeId,
+    octets: &[u8],
+) -> Result<(Value, u64), PerFault>
+    ensures read { IfOk result (λ r. IsUnpackedBy code.now id.index octets.now (abstract r.0) r.1) }
+    ensures refused { IfErr result (IsNotUnpackedBy code.now id.index octets.now) }
+    ensures limit { 16777216 < length octets.now → result ≡ Err MessageLimit }
+{
+    match read_uper(alloc, code, id, octets) {
+        Ok(read) => Ok(read),
+        Err(fault) => Err(fault),
+    }
+}
+
+/// A fault of bits, as a user sees it, with the path at which it is.
+fn refusal(alloc: Global, schema: &Schema, id: TypeId, fault: PerFault) -> Fault
+    ensures stands { (o : List ℕ)
+        → IsNotUnpackedBy schema.now id.index o fault
+        → IsNotUnpacked schema.now id.index o result }
+{
+    let refused = match fault {
+        PerFault::Memory => return Fault::Memory,
+        PerFault::MessageLimit => return Fault::MessageLimit,
+        PerFault::Refused(refused) => refused,
+    };
+    match path_to_part(alloc, schema, id, refused.path.as_slice()) {
+        Ok(path) => Fault::UnreadBits(UnreadBits {
+            refusal: refused.refusal,
+            bit: refused.bit,
+            path,
+        }),
+        Err(_) => Fault::Memory,
+    }
+}
+
+/// The printed value of a type that octets are a message of, and the number of skipped additions. `UnreadBits`: they are
+/// a message of no value of the type. `MessageLimit`: there are more than 16,777,216. `Memory`: an allocation failed.
+fn unpacked_text(
+    alloc: Global,
+    schema: &Schema,
+    code: &PackedCode,
+    id: TypeId,
+    octets: &[u8],
+) -> Result<(String, u64), Fault>
+    requires same { schema.now ≡ code.now }
+    ensures read { IfOk result (λ r. IsUnpacked code.now id.index octets.now (string_bytes r.0) r.1) }
+    ensures refused { IfErr result (IsNotUnpacked code.now id.index octets.now) }
+{
+    let (value, skipped) = match unpacked(alloc, code, id, octets) {
+        Ok(read) => read,
+        Err(fault) => return Err(refusal(alloc, schema, id, fault)),
+    };
+    match print(alloc, schema, id, &value) {
+        Ok(text) => Ok((text, skipped)),
+        Err(value_text::Fault::Memory) => Err(Fault::Memory),
+        Err(value_text::Fault::NotOfType) => unreachable!(),
+    }
+}
+
+/// The printed value of the type that a text names. `NoType`: the text names no type. `UnreadBits` and `MessageLimit`: the
+/// octets are a message of no value of the type. `Memory`: an allocation failed.
+pub(crate) fn unpacked_as(
+    alloc: Global,
+    modules: &Modules,
+    schema: &Schema,
+    code: &PackedCode,
+    ty: &str,
+    octets: &[u8],
+) -> Result<(String, u64), Fault>
+    requires same { schema.now ≡ code.now }
+    ensures read { IfOk result (λ r. IsUnpackedAs modules.now code.now ty.now octets.now (string_bytes r.0) r.1) }
+    ensures refused { IfErr result (IsNotUnpackedAs modules.now code.now ty.now octets.now) }
+{
+    let Some(id) = type_number(modules, ty) else {
+        return Err(Fault::NoType(String::from_str(alloc, ty)?));
+    };
+    unpacked_text(alloc, schema, code, id, octets)
+}
