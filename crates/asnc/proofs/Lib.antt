@@ -7,3 +7,4 @@ mod ReadBack
 mod Parts
 mod Rows
 mod Versions
+mod PackedVersions

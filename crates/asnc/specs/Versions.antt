@@ -6,6 +6,7 @@ use Rattle.asn_base.specs.Same.{Same}
 use Rattle.asn_base.specs.Types.{Resolved}
 use Rattle.later_versions.specs.Kept.{kept, left_out}
 use Rattle.later_versions.specs.Later.{Later}
+use Rattle.version_laws.specs.LeftOut.{left_out_packed}
 use Rattle.version_laws.specs.Widened.{widened}
 use Rattle.value_text.specs.Print.{print}
 use Rattle.resolve.specs.Program.{Program}
@@ -53,3 +54,14 @@ pub record IsWidenedAnswer (q : Program) (r : List Resolved) (name printed : Lis
   pub same : Same r type (widened r type v) value
   pub text : printed ≡ print r type value
   pub none_skipped : k ≡ 0
+
+-- The printed text is what the older type, which has this name, keeps of a value v of the newer one. As many additions
+-- were skipped as the older type leaves out in PER, where those in version brackets count as one (X.691, clause 19).
+pub record IsPackedKeptAnswer (p : Program) (s r : List Resolved) (newer : ℕ) (name printed : List ℕ) (k : ℕ)
+    (v : AbstractValue) : Type 0 where
+  pub type : ℕ
+  pub named : TypeNamed p name type
+  pub value : AbstractValue
+  pub same : Same s type (kept s type v) value
+  pub text : printed ≡ print s type value
+  pub skipped : k ≡ left_out_packed s type r newer v

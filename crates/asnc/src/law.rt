@@ -17,7 +17,7 @@ ghost use Rattle.asnc.specs.Kits.{IsNotOpened};
 ghost use Rattle.asnc.specs.Packing.{IsNotPacked, IsPacked};
 ghost use Rattle.asnc.specs.Reading.{IsNotReadAs, IsReadAs, rules_of};
 ghost use Rattle.asnc.specs.Unpacking.{IsNotUnpackedAs, IsUnpackedAs};
-ghost use Rattle.asnc.specs.Versions.{IsCompared, IsKeptAnswer, IsWidenedAnswer};
+ghost use Rattle.asnc.specs.Versions.{IsCompared, IsKeptAnswer, IsPackedKeptAnswer, IsWidenedAnswer};
 ghost use Rattle.asnc.specs.Writing.{IsAccountOf, IsEncoded, IsNotEncoded};
 ghost use Rattle.std.specs.Int.Digits.{AllBelowBase};
 ghost use Rattle.version_laws.specs.Versions.{IsKnown};
@@ -32,6 +32,7 @@ use named_values::law::one_meaning;
 use packed_encodings::{message_laws as packed_message_laws, writing_laws};
 use packed_writer::law::written_is_read;
 use version_laws::law::{earlier_reads, later_reads};
+use version_laws::packed_law::{earlier_reads_packed, later_reads_packed};
 
 /// What [`crate::Kit::der`] returns for texts that [`crate::Kit::open`] took is right, from the texts to the octets.
 pub fn headline()
@@ -183,6 +184,53 @@ pub fn versions()
 {
     earlier_reads();
     later_reads();
+}
+
+/// What [`crate::Kit::uper`] returns for one version of a type is decoded by [`crate::Kit::unper`] of another version,
+/// if [`crate::Kit::later`] says yes of both.
+pub fn packed_versions()
+    // The older version prints what it keeps of the value, and skips the additions that it leaves out. The exception is
+    // a value with an alternative or an item that the older version doesn't know.
+    ensures older { (xs ys : List (List ℕ)) (p q : Program) (s r : List Resolved) (name second o printed : List ℕ)
+        (k : ℕ) →
+        Accepted xs p s →
+        Accepted ys q r →
+        (c : IsCompared p s q r name true) →
+        (w : IsPacked q r name second o) →
+        IsKnown s c.older w.value →
+        IsUnpackedAs p s name o printed k →
+        IsPackedKeptAnswer p s r c.newer name printed k w.value }
+    // It has no fault except `Memory`.
+    ensures older_reads { (xs ys : List (List ℕ)) (p q : Program) (s r : List Resolved) (name second o : List ℕ)
+        (e : Fault) →
+        Accepted xs p s →
+        Accepted ys q r →
+        (c : IsCompared p s q r name true) →
+        (w : IsPacked q r name second o) →
+        IsKnown s c.older w.value →
+        IsNotUnpackedAs p s name o e →
+        e ≡ Memory }
+    // The newer version prints the value with what was appended absent, and skips nothing.
+    ensures newer { (xs ys : List (List ℕ)) (p q : Program) (s r : List Resolved) (name second o printed : List ℕ)
+        (k : ℕ) →
+        Accepted xs p s →
+        Accepted ys q r →
+        IsCompared p s q r name true →
+        (w : IsPacked p s name second o) →
+        IsUnpackedAs q r name o printed k →
+        IsWidenedAnswer q r name printed k w.value }
+    // It has no fault except `Memory`.
+    ensures newer_reads { (xs ys : List (List ℕ)) (p q : Program) (s r : List Resolved) (name second o : List ℕ)
+        (e : Fault) →
+        Accepted xs p s →
+        Accepted ys q r →
+        IsCompared p s q r name true →
+        IsPacked p s name second o →
+        IsNotUnpackedAs q r name o e →
+        e ≡ Memory }
+{
+    earlier_reads_packed();
+    later_reads_packed();
 }
 
 /// Whatever has a result has no fault except `Memory`.
