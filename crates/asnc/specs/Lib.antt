@@ -12,3 +12,4 @@ pub mod Reading
 pub mod Unpacking
 pub mod Versions
 pub mod Writing
+pub mod Whole

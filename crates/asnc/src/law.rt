@@ -18,6 +18,7 @@ ghost use Rattle.asnc.specs.Packing.{IsNotPacked, IsPacked};
 ghost use Rattle.asnc.specs.Reading.{IsNotReadAs, IsReadAs, rules_of};
 ghost use Rattle.asnc.specs.Unpacking.{IsNotUnpackedAs, IsUnpackedAs};
 ghost use Rattle.asnc.specs.Versions.{IsCompared, IsKeptAnswer, IsPackedKeptAnswer, IsWidenedAnswer};
+ghost use Rattle.asnc.specs.Whole.{IsWhole};
 ghost use Rattle.asnc.specs.Writing.{IsAccountOf, IsEncoded, IsNotEncoded};
 ghost use Rattle.std.specs.Int.Digits.{AllBelowBase};
 ghost use Rattle.version_laws.specs.Versions.{IsKnown};
@@ -135,6 +136,23 @@ pub fn unpacked()
         e ≡ Memory }
 {
     written_is_read();
+}
+
+/// The whole promise for a named value: what [`crate::Kit::der`] and [`crate::Kit::uper`] return for texts that
+/// [`crate::Kit::open`] took is right, [`judging::judge`] accepts it, and [`crate::Kit::ber`] and [`crate::Kit::unper`]
+/// give the value back.
+pub fn whole()
+    ensures { (xs : List (List ℕ)) (p : Program) (s : List Resolved) (first second o b : List ℕ) (a : Account) →
+        Accepted xs p s →
+        (w : IsEncoded p s first second o a) →
+        (q : IsPacked p s first second b) →
+        IsWhole xs p s first second o b a w.value q.value }
+{
+    headline();
+    judged();
+    reading();
+    packed();
+    unpacked();
 }
 
 /// What [`crate::Kit::der`] returns for one version of a type is decoded by [`crate::Kit::ber`] of another version, if
