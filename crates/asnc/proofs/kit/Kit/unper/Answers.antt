@@ -5,7 +5,7 @@ use Rattle.asnc.specs.Unpacking.{IsNotUnpackedAs, IsUnpackedAs}
 use Rattle.asnc.proofs.kit.Kit.unper.Goals as goal
 
 pub unpacked_as-requires : goal.unpacked_as-requires
-unpacked_as-requires c = c.self.invariant.1 ∙ sym c.self.invariant.2
+unpacked_as-requires c = record { same = c.self.invariant.1 ∙ sym c.self.invariant.2 }
 
 pub returns-clause-read : goal.returns-clause-read
 returns-clause-read c =
