@@ -21,7 +21,6 @@ pub struct Bounds {
 
 /// What the constraints of a type allow: the numbers in the ranges of `allowed`, or every number if it is None.
 /// `visible` has the bounds of the root, which the packed encoding uses (X.691, 10.3).
-#[derive(Drop)]
 pub struct Constraint {
     pub allowed: Option<Vec<Range>>,
     pub visible: Bounds,
@@ -54,5 +53,14 @@ impl Constraint {
                 extensible: false,
             },
         }
+    }
+}
+
+impl Drop for Constraint {
+    fn drop(self) {
+        let Constraint {
+            allowed: _,
+            visible: _,
+        } = self;
     }
 }

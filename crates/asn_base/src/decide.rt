@@ -6,7 +6,8 @@ ghost use Rattle.asn_base.specs.Depths.{AreKnown, AreOf, IsDepth, IsOf, depth_at
 ghost use Rattle.asn_base.specs.Seen.{alternative_of, component_of, constraint_of, kind_of};
 ghost use Rattle.asn_base.specs.Typed.{AreComponents, AreElements, GroupsAreWhole, IsAllowedSize, IsValue, IsValueWithoutNodes, ValueIn, members, nodes, row_nodes};
 ghost use Rattle.asn_base.specs.Types.{Alternative, Component as Component'};
-ghost use Rattle.std.specs.Prelude.{◌≡◌, ◌<◌, ◌≤◌, ◌↔◌, ◌++◌, ◌-◌, IfSome, IsTrue, MatchOption, None, Some, length, map, option_map, slice_get};
+ghost use Rattle.std.specs.Prelude.{◌≡◌, ◌<◌, ◌≤◌, ◌↔◌, ◌++◌, ◌-◌, IfSome, IsTrue, MatchOption, None, Some};
+ghost use Rattle.std.specs.Prelude.{length, map, option_map, slice_get};
 
 use crate::constraint::Constraint;
 use crate::depths::{components_of, depth_of};
@@ -36,8 +37,8 @@ pub fn is_value_without_nodes(value: &Value, schema: &Schema, id: TypeId) -> boo
 }
 
 /// Whether the component at this place of the type may be absent from a value whose parts have at most `levels` levels:
-/// it is not mandatory, and its DEFAULT, if it has one, has at most so many levels. Once `Schema::measure` has found the
-/// levels of the defaults, the function takes constant time.
+/// it is not mandatory, and its DEFAULT, if it has one, has at most so many levels. The function takes constant time
+/// once `Schema::measure` has found the levels of the defaults.
 pub fn may_be_absent(schema: &Schema, id: TypeId, place: usize, levels: u8) -> bool
     requires there { (c : Component') × HasComponent schema.now id.index place c }
     requires few { levels ≤ 63 }

@@ -61,7 +61,6 @@ use view_text::print_view;
 use views::View;
 
 /// Accepted modules: their names with their meanings, and the codec programs of their types.
-#[derive(Drop)]
 pub struct Kit {
     modules: Modules,
     schema: Schema,
@@ -482,5 +481,16 @@ impl Kit {
         ensures { IfErr result (λ e. e ≡ Memory) }
     {
         Ok(list(alloc, self.modules.linked(), &self.code)?)
+    }
+}
+
+impl Drop for Kit {
+    fn drop(self) {
+        let Kit {
+            modules: _,
+            schema: _,
+            code: _,
+            packed: _,
+        } = self;
     }
 }

@@ -23,7 +23,6 @@ use views::Part;
 
 /// The routines of a schema's types. The code keeps a copy of the schema, by which contracts name its types, and
 /// doesn't lend it.
-#[derive(Drop)]
 pub struct Code {
     schema: Schema,
     steps: Vec<Step>,
@@ -176,4 +175,15 @@ fn part(steps: &[Step], from: usize, to: usize) -> &[Step]
     ensures { result.now ≡ take (to - from) (drop from steps.now) }
 {
     &steps[from..to]
+}
+
+impl Drop for Code {
+    fn drop(self) {
+        let Code {
+            schema: _,
+            steps: _,
+            starts: _,
+            briefs: _,
+        } = self;
+    }
 }

@@ -33,7 +33,6 @@ use type_table::Shape;
 
 /// Tagged modules in which every constraint has a meaning and allows something. The value borrows the modules, so its
 /// numbers of types are theirs.
-#[derive(Drop)]
 pub struct Bounded<'a> {
     tagged: &'a Tagged<'a>,
     column: Column,
@@ -279,5 +278,14 @@ pub fn allows_character(bounded: &Bounded<'_>, ty: TypeId, code: u32) -> bool
     match bounded.limit(ty.index) {
         None => false,
         Some(limit) => limit.codes.has(code),
+    }
+}
+
+impl<'a> Drop for Bounded<'a> {
+    fn drop(self) {
+        let Bounded {
+            tagged: _,
+            column: _,
+        } = self;
     }
 }

@@ -66,7 +66,6 @@ fn trail(
 }
 
 /// The limits of types: for each type the number of its limit, if one is noted.
-#[derive(Drop)]
 pub(crate) struct Column {
     pub at: Vec<Option<usize>>,
     pub limits: Vec<Limit>,
@@ -320,4 +319,10 @@ pub(crate) fn column_of(alloc: Global, scope: &ReferenceTable<'_>) -> Result<Col
         }
     }
     Ok(column)
+}
+
+impl Drop for Column {
+    fn drop(self) {
+        let Column { at: _, limits: _ } = self;
+    }
 }

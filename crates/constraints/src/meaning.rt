@@ -39,7 +39,6 @@ pub(crate) enum Wrong {
 
 /// What a constraint means: the numbers or sizes, or the characters, that it allows; and whether it has an extension
 /// marker.
-#[derive(Drop)]
 pub(crate) struct Meaning {
     pub numbers: Option<Ranges>,
     pub codes: Option<Codes>,
@@ -217,5 +216,15 @@ pub(crate) fn meaning_of(
         taken(alloc, scope, shape, within, constraint)
     } else {
         Err(Wrong::At(Rule::WrongKind, constraint.at))
+    }
+}
+
+impl Drop for Meaning {
+    fn drop(self) {
+        let Meaning {
+            numbers: _,
+            codes: _,
+            marker: _,
+        } = self;
     }
 }

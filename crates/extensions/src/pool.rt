@@ -13,7 +13,6 @@ use std::rc::Rc;
 use trees::{ValueForm, ValueSyntax};
 
 /// A value of a DEFAULT, which others may share.
-#[derive(Drop)]
 pub(crate) struct Shared {
     pub held: Rc<Value>,
 }
@@ -39,7 +38,6 @@ impl Shared {
 }
 
 /// For each value assignment, the value of the latest DEFAULT that names it, if there is one.
-#[derive(Drop)]
 pub(crate) struct Pool {
     named: Vec<Option<Shared>>,
 }
@@ -114,5 +112,17 @@ impl Pool {
                 Ok(shared)
             }
         }
+    }
+}
+
+impl Drop for Shared {
+    fn drop(self) {
+        let Shared { held: _ } = self;
+    }
+}
+
+impl Drop for Pool {
+    fn drop(self) {
+        let Pool { named: _ } = self;
     }
 }

@@ -30,7 +30,6 @@ pub enum Untyped {
 }
 
 /// The modules of accepted texts, in which each name has a meaning. Their types, DEFAULTs and values are as required.
-#[derive(Drop)]
 pub struct Modules {
     linked: Linked,
 }
@@ -169,5 +168,11 @@ impl Modules {
             return Err(Untyped::Memory);
         };
         value_in(alloc, &bounded, ty, within, notation)
+    }
+}
+
+impl Drop for Modules {
+    fn drop(self) {
+        let Modules { linked: _ } = self;
     }
 }

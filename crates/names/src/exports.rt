@@ -13,7 +13,6 @@ use std::marker::Model;
 use trees::At;
 
 /// The names that a module exports, in order, with a table to look them up in.
-#[derive(Drop)]
 pub struct Exports {
     names: Vec<At<String>>,
     table: IndexSet<String>,
@@ -69,5 +68,11 @@ impl Exports {
         ensures { map name_at result.now ≡ self.now }
     {
         &self.names
+    }
+}
+
+impl Drop for Exports {
+    fn drop(self) {
+        let Exports { names: _, table: _ } = self;
     }
 }

@@ -19,7 +19,6 @@ pub enum Assigned {
 }
 
 /// The module that a name is imported from, with offsets in the importing module's text.
-#[derive(Drop)]
 pub struct Origin {
     /// The offset of the name among the imported ones.
     pub at: usize,
@@ -29,7 +28,6 @@ pub struct Origin {
 
 /// A module's names: its assignments, each with the offset of its name, and its imports with their modules. The exports
 /// are None if the module has no list of exports: then all that it assigns is exported.
-#[derive(Drop)]
 pub struct Scope {
     pub assigned: IndexMap<String, At<Assigned>>,
     pub imports: IndexMap<String, Origin>,
@@ -37,7 +35,6 @@ pub struct Scope {
 }
 
 /// The names of all modules.
-#[derive(Drop)]
 pub struct Names {
     modules: IndexMap<String, Scope>,
 }
@@ -157,5 +154,27 @@ fn imported_by<'a>(
     match scope_of(modules, within) {
         None => None,
         Some(scope) => imported(scope, name),
+    }
+}
+
+impl Drop for Origin {
+    fn drop(self) {
+        let Origin { at: _, module: _ } = self;
+    }
+}
+
+impl Drop for Scope {
+    fn drop(self) {
+        let Scope {
+            assigned: _,
+            imports: _,
+            exports: _,
+        } = self;
+    }
+}
+
+impl Drop for Names {
+    fn drop(self) {
+        let Names { modules: _ } = self;
     }
 }

@@ -19,23 +19,45 @@ pub struct Source {
 }
 
 /// A module: its name, and its tag default, which holds for tags without a keyword.
-#[derive(Drop)]
 pub struct Header {
     pub name: At<String>,
     pub default: TagDefault,
 }
 
 /// The module and the name of an assignment: its module's number, and its name.
-#[derive(Drop)]
 pub struct AssignedAt {
     pub module: usize,
     pub name: At<String>,
 }
 
 /// A value assignment: its number among all assignments, its type's number, and the value in its notation.
-#[derive(Drop)]
 pub struct ValueAt {
     pub assignment: usize,
     pub ty: usize,
     pub syntax: ValueSyntax,
+}
+
+impl Drop for Header {
+    fn drop(self) {
+        let Header {
+            name: _,
+            default: _,
+        } = self;
+    }
+}
+
+impl Drop for AssignedAt {
+    fn drop(self) {
+        let AssignedAt { module: _, name: _ } = self;
+    }
+}
+
+impl Drop for ValueAt {
+    fn drop(self) {
+        let ValueAt {
+            assignment: _,
+            ty: _,
+            syntax: _,
+        } = self;
+    }
 }

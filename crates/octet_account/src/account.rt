@@ -11,7 +11,6 @@ use std::marker::Model;
 
 /// An account of how the octets of an encoding are made up (X.690, 8.1), seen as a tree of headers. Its rows are nested
 /// at most 400 deep, and each number in them is at most 16,777,216.
-#[derive(Drop)]
 pub struct Account {
     rows: Vec<Row>,
 }
@@ -51,5 +50,11 @@ impl Account {
         ensures { AreRows self.now (flat result.now) }
     {
         &self.rows
+    }
+}
+
+impl Drop for Account {
+    fn drop(self) {
+        let Account { rows: _ } = self;
     }
 }

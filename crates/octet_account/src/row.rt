@@ -16,7 +16,6 @@ pub struct Numbers {
 /// The members of a SET or SET OF. `members` is the number of rows that follow, in the order of definition or of the
 /// value. `places` has the place of each encoded member in the octets, from 0. `inverse` has for each place the number
 /// of its member.
-#[derive(Drop)]
 pub struct Places {
     pub members: u32,
     pub places: Vec<u32>,
@@ -84,5 +83,16 @@ impl Row {
         ensures { result.told ≡ told }
     {
         Row { told, span: 0 }
+    }
+}
+
+impl Drop for Places {
+    fn drop(self) {
+        let Places {
+            members: _,
+            places: _,
+            inverse: _,
+            ends: _,
+        } = self;
     }
 }

@@ -13,7 +13,6 @@ use std::alloc::{AllocError, Global};
 use std::marker::Model;
 
 /// A set of character codes below 128, seen as those codes in ascending order. The set takes no memory of its own.
-#[derive(Drop)]
 pub struct Codes {
     bits: u128,
 }
@@ -171,5 +170,11 @@ impl Codes {
         ensures below_128 { AllByRecursion (λ c. c < 128) self.now }
     {
         let _ = &self.bits;
+    }
+}
+
+impl Drop for Codes {
+    fn drop(self) {
+        let Codes { bits: _ } = self;
     }
 }

@@ -41,7 +41,6 @@ pub struct Home<'a> {
 
 /// Linked modules: each of their names has a meaning and each of their types unfolds. The table of written types
 /// belongs to them.
-#[derive(Drop)]
 pub struct Linked {
     names: Names,
     headers: Vec<Header>,
@@ -236,5 +235,18 @@ impl Linked {
             }),
             Err(circular) => Err(circular_at(alloc, &headers, &assignments, &types[circular])),
         }
+    }
+}
+
+impl Drop for Linked {
+    fn drop(self) {
+        let Linked {
+            names: _,
+            headers: _,
+            assignments: _,
+            types: _,
+            values: _,
+            cores: _,
+        } = self;
     }
 }

@@ -15,7 +15,6 @@ pub struct Block {
 }
 
 /// A text of the file, before it is read in its form: its lines, each with its end.
-#[derive(Drop)]
 pub struct Written {
     pub name: String,
     pub line: usize,
@@ -149,4 +148,14 @@ pub fn blocks_of(alloc: Global, file: &str) -> Result<Vec<Block>, RowFault>
         place = read_line(alloc, &mut blocks, place, line, number)?;
     }
     Ok(blocks)
+}
+
+impl Drop for Written {
+    fn drop(self) {
+        let Written {
+            name: _,
+            line: _,
+            lines: _,
+        } = self;
+    }
 }

@@ -20,7 +20,6 @@ pub struct Row {
 }
 
 /// A text of a row.
-#[derive(Drop)]
 pub struct RowText {
     /// The words after the text's mark.
     pub name: String,
@@ -78,4 +77,14 @@ pub fn rows(alloc: Global, file: &[u8]) -> Result<Vec<Row>, RowFault>
         rows.push(row_of(alloc, block)?)?;
     }
     Ok(rows)
+}
+
+impl Drop for RowText {
+    fn drop(self) {
+        let RowText {
+            name: _,
+            line: _,
+            octets: _,
+        } = self;
+    }
 }

@@ -143,7 +143,6 @@ fn automatic_of(alloc: Global, types: &[Written]) -> Result<Vec<bool>, AllocErro
 }
 
 /// Linked modules, with what is found once for all their types.
-#[derive(Drop)]
 pub(crate) struct Columns<'a> {
     linked: &'a Linked,
     /// The first type, from each one on through references, that is no reference.
@@ -259,5 +258,15 @@ impl<'a> Columns<'a> {
         ensures { IsWrittenIn self.now ty result.module.now result.name.now }
     {
         self.linked.home(TypeId { index: ty })
+    }
+}
+
+impl<'a> Drop for Columns<'a> {
+    fn drop(self) {
+        let Columns {
+            linked: _,
+            fronts: _,
+            automatic: _,
+        } = self;
     }
 }

@@ -23,7 +23,6 @@ use type_table::Written;
 /// Linked modules whose types have their tags as X.680 requires. First tags differ in every list where they must. Each
 /// SET component and each CHOICE alternative has exactly one tag that can be first. A `Tagged` borrows the modules, so
 /// the numbers of types are theirs.
-#[derive(Drop)]
 pub struct Tagged<'a> {
     columns: Columns<'a>,
 }
@@ -133,4 +132,10 @@ pub fn tags_of(alloc: Global, tagged: &Tagged<'_>, ty: TypeId) -> Result<TagPath
 {
     tagged.linked();
     path_of(alloc, &tagged.columns, ty.index)
+}
+
+impl<'a> Drop for Tagged<'a> {
+    fn drop(self) {
+        let Tagged { columns: _ } = self;
+    }
 }

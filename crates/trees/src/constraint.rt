@@ -11,7 +11,6 @@ pub struct ConstraintSyntax {
 }
 
 /// The forms of constraints.
-#[derive(Drop)]
 pub enum ConstraintForm {
     /// Single values and ranges of them: `(0..7 | 9)` (X.680, clauses 51.2 and 51.4).
     Values(RangesSyntax),
@@ -23,7 +22,6 @@ pub enum ConstraintForm {
 
 /// At least one range, with `|` or `UNION` between ranges, and after them `, ...` or nothing (X.680, clauses 50.1 and
 /// 50.2).
-#[derive(Drop)]
 pub struct RangesSyntax {
     pub ranges: Vec<RangeSyntax>,
     /// Whether the extension marker follows the ranges.
@@ -31,7 +29,6 @@ pub struct RangesSyntax {
 }
 
 /// A single value or a range (X.680, clauses 51.2 and 51.4).
-#[derive(Drop)]
 pub enum RangeSyntax {
     /// `7`
     Single(EndSyntax),
@@ -40,7 +37,6 @@ pub enum RangeSyntax {
 }
 
 /// An end of a range.
-#[derive(Drop)]
 pub enum EndSyntax {
     /// A number. Its offset is that of its minus, if it has one.
     Number(At<i128>),
@@ -49,10 +45,52 @@ pub enum EndSyntax {
 }
 
 /// The characters of a text, or those from one character to another (X.680, clauses 51.4 and 51.7).
-#[derive(Drop)]
 pub struct CharsSyntax {
     /// The octets of the text in UTF-8. Two quotes in the notation are one in the text.
     pub first: At<Vec<u8>>,
     /// The text after `..`, if there is one.
     pub last: Option<At<Vec<u8>>>,
+}
+
+impl Drop for ConstraintForm {
+    fn drop(self) {
+        match self {
+            ConstraintForm::Values(_) => {}
+            ConstraintForm::Size(_) => {}
+            ConstraintForm::From(_) => {}
+        }
+    }
+}
+
+impl Drop for RangesSyntax {
+    fn drop(self) {
+        let RangesSyntax {
+            ranges: _,
+            marker: _,
+        } = self;
+    }
+}
+
+impl Drop for RangeSyntax {
+    fn drop(self) {
+        match self {
+            RangeSyntax::Single(_) => {}
+            RangeSyntax::Between(_, _) => {}
+        }
+    }
+}
+
+impl Drop for EndSyntax {
+    fn drop(self) {
+        match self {
+            EndSyntax::Number(_) => {}
+            EndSyntax::Reference(_) => {}
+        }
+    }
+}
+
+impl Drop for CharsSyntax {
+    fn drop(self) {
+        let CharsSyntax { first: _, last: _ } = self;
+    }
 }

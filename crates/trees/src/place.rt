@@ -13,7 +13,7 @@ pub struct At<T> {
 
 /// Where something is wrong: the name of the module, the name in question, and the offset in the module's text, in
 /// octets from 0.
-#[derive(Debug, Drop)]
+#[derive(Debug)]
 pub struct Spot {
     pub module: String,
     pub name: String,
@@ -30,10 +30,29 @@ impl fmt::Display for Spot {
 }
 
 /// A name, after the name of a module if one is given: `Module.name` or `name` (X.680, clause 14.6).
-#[derive(Drop)]
 pub struct Reference {
     /// The offset of the first of the two names.
     pub at: usize,
     pub module: Option<String>,
     pub name: String,
+}
+
+impl Drop for Spot {
+    fn drop(self) {
+        let Spot {
+            module: _,
+            name: _,
+            at: _,
+        } = self;
+    }
+}
+
+impl Drop for Reference {
+    fn drop(self) {
+        let Reference {
+            at: _,
+            module: _,
+            name: _,
+        } = self;
+    }
 }

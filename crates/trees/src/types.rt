@@ -34,7 +34,6 @@ pub enum TypeForm<T> {
 }
 
 /// A type that holds no other type.
-#[derive(Drop)]
 pub enum Simple {
     /// `BOOLEAN`
     Boolean,
@@ -87,28 +86,24 @@ pub enum Keyword {
 }
 
 /// `name (-1)`: a number's name, and the number.
-#[derive(Drop)]
 pub struct NamedNumber {
     pub name: At<String>,
     pub number: i128,
 }
 
 /// `name (0)`: a bit's name and its place, counted from 0.
-#[derive(Drop)]
 pub struct NamedBit {
     pub name: At<String>,
     pub place: u128,
 }
 
 /// The items of an enumeration: those of the root, at least one, and those after the extension marker, if there is one.
-#[derive(Drop)]
 pub struct EnumeratedSyntax {
     pub root: Vec<EnumeratedItem>,
     pub additions: Option<Vec<EnumeratedItem>>,
 }
 
 /// `name` or `name (-1)`: an item's name and its number, if it is given.
-#[derive(Drop)]
 pub struct EnumeratedItem {
     pub name: At<String>,
     pub number: Option<i128>,
@@ -125,7 +120,6 @@ pub struct Member<T> {
 }
 
 /// What follows a member's type (X.680, clause 25.1).
-#[derive(Drop)]
 pub enum PresenceSyntax {
     /// Nothing.
     Mandatory,
@@ -143,4 +137,58 @@ pub enum Standing {
     /// The member comes after the marker. If it is within version brackets, the number is that of the brackets, counted
     /// from 0 in the list.
     Addition(Option<usize>),
+}
+
+impl Drop for Simple {
+    fn drop(self) {
+        match self {
+            Simple::Boolean => {}
+            Simple::Integer(_) => {}
+            Simple::BitString(_) => {}
+            Simple::OctetString => {}
+            Simple::Null => {}
+            Simple::ObjectIdentifier => {}
+            Simple::RelativeOid => {}
+            Simple::Enumerated(_) => {}
+            Simple::Utf8String => {}
+            Simple::Restricted(_) => {}
+        }
+    }
+}
+
+impl Drop for NamedNumber {
+    fn drop(self) {
+        let NamedNumber { name: _, number: _ } = self;
+    }
+}
+
+impl Drop for NamedBit {
+    fn drop(self) {
+        let NamedBit { name: _, place: _ } = self;
+    }
+}
+
+impl Drop for EnumeratedSyntax {
+    fn drop(self) {
+        let EnumeratedSyntax {
+            root: _,
+            additions: _,
+        } = self;
+    }
+}
+
+impl Drop for EnumeratedItem {
+    fn drop(self) {
+        let EnumeratedItem { name: _, number: _ } = self;
+    }
+}
+
+impl Drop for PresenceSyntax {
+    fn drop(self) {
+        match self {
+            PresenceSyntax::Mandatory => {}
+            PresenceSyntax::Optional => {}
+            PresenceSyntax::Default(_) => {}
+        }
+    }
 }

@@ -3,7 +3,6 @@
 use crate::place::{At, Reference};
 
 /// A value as it is written (X.680, clause 17.1). Its meaning depends on its type.
-#[derive(Drop)]
 pub struct ValueSyntax {
     /// The offset of its first octet in the module's text.
     pub at: usize,
@@ -11,7 +10,6 @@ pub struct ValueSyntax {
 }
 
 /// The forms of values. `T` is the type of the values inside a value.
-#[derive(Drop)]
 pub enum ValueForm<T> {
     /// `TRUE`
     True,
@@ -46,4 +44,30 @@ pub enum ValueForm<T> {
 pub struct Named<T> {
     pub name: At<String>,
     pub value: T,
+}
+
+impl Drop for ValueSyntax {
+    fn drop(self) {
+        let ValueSyntax { at: _, form: _ } = self;
+    }
+}
+
+impl<T: Drop> Drop for ValueForm<T> {
+    fn drop(self) {
+        match self {
+            ValueForm::True => {}
+            ValueForm::False => {}
+            ValueForm::Null => {}
+            ValueForm::Number(_) => {}
+            ValueForm::BinaryString(_) => {}
+            ValueForm::HexString(_) => {}
+            ValueForm::CharacterString(_) => {}
+            ValueForm::Reference(_) => {}
+            ValueForm::Chosen(_, _) => {}
+            ValueForm::Empty => {}
+            ValueForm::Numbers(_) => {}
+            ValueForm::Items(_) => {}
+            ValueForm::Fields(_) => {}
+        }
+    }
 }

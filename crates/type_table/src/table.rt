@@ -8,7 +8,6 @@ use trees::{
 };
 
 /// A member of a list: its identifier, the number of its type, whether it may be absent, and whether it is in the root.
-#[derive(Drop)]
 pub struct ListMember {
     pub name: At<String>,
     pub ty: usize,
@@ -17,7 +16,6 @@ pub struct ListMember {
 }
 
 /// The shape of one written type. The types in it are given by their numbers.
-#[derive(Drop)]
 pub enum Shape {
     /// A type that holds no other type.
     Simple(Simple),
@@ -33,7 +31,6 @@ pub enum Shape {
 }
 
 /// A written type.
-#[derive(Drop)]
 pub struct Written {
     /// The offset in the text at which the type begins, in octets.
     pub at: usize,
@@ -46,4 +43,40 @@ pub struct Written {
     pub place: Option<Place>,
     /// The number of its assignment.
     pub assignment: usize,
+}
+
+impl Drop for ListMember {
+    fn drop(self) {
+        let ListMember {
+            name: _,
+            ty: _,
+            presence: _,
+            standing: _,
+        } = self;
+    }
+}
+
+impl Drop for Shape {
+    fn drop(self) {
+        match self {
+            Shape::Simple(_) => {}
+            Shape::Reference(_) => {}
+            Shape::Tagged(_, _, _) => {}
+            Shape::Members(_, _, _) => {}
+            Shape::Elements(_, _) => {}
+        }
+    }
+}
+
+impl Drop for Written {
+    fn drop(self) {
+        let Written {
+            at: _,
+            shape: _,
+            constraints: _,
+            default: _,
+            place: _,
+            assignment: _,
+        } = self;
+    }
 }

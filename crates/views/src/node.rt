@@ -71,7 +71,6 @@ pub(crate) struct Node<'a> {
 const _: () = prove!(size_of::<Node<'static>>() == 32);
 
 /// The lists beside the nodes: octets and texts joined from segments, and the numbers of object identifiers.
-#[derive(Drop)]
 pub(crate) struct Lists {
     pub octets: Vec<u8>,
     pub texts: Vec<String>,
@@ -164,5 +163,15 @@ impl Lists {
         ensures { result.now ≡ get_or (map string_bytes self.now.texts.items) place [] }
     {
         self.texts[place].as_str()
+    }
+}
+
+impl Drop for Lists {
+    fn drop(self) {
+        let Lists {
+            octets: _,
+            texts: _,
+            arcs: _,
+        } = self;
     }
 }

@@ -15,7 +15,6 @@ use asn_base::value::Value;
 use std::alloc::{AllocError, Global};
 
 /// A value that was read from a message. A string that is a slice of the message is borrowed from it.
-#[derive(Drop)]
 pub struct View<'a> {
     pub(crate) nodes: Vec<Node<'a>>,
     pub(crate) lists: Lists,
@@ -136,5 +135,11 @@ fn put(values: &mut Vec<Option<Value>>, number: usize, one: Value)
 {
     if number < values.len() && values[number].is_none() {
         values[number] = Some(one);
+    }
+}
+
+impl<'a> Drop for View<'a> {
+    fn drop(self) {
+        let View { nodes: _, lists: _ } = self;
     }
 }
