@@ -10,9 +10,9 @@ use Rattle.asn_base.specs.Types.{Constraint, Item, NamedBit, any_number, any_siz
 use Rattle.asn_base.specs.Same.{AlikeBy, equal, zeros}
 use Rattle.encodings.specs.Rules.{Distinguished}
 use Rattle.encodings.specs.Contents.{Contents, of_integer, of_enumerated, of_bits, of_named_bits, of_octets, of_utf8, of_restricted}
-use Rattle.codec_code.specs.declared.step.LeafKind.{LeafKind}
-use Rattle.codec_code.specs.declared.step.LeafKind.TheVariants as leaves
-use Rattle.codec_code.specs.Steps.{HasContents}
+use Rattle.encodings.specs.declared.leaf_kind.LeafKind.{LeafKind}
+use Rattle.encodings.specs.declared.leaf_kind.LeafKind.TheVariants as leaves
+use Rattle.encodings.specs.Leaves.{HasContents}
 use Rattle.account_checker.specs.Follows.{AreContents, HasContents as HasContents'}
 use Rattle.account_checker.specs.Leaves.{IsOfKind}
 

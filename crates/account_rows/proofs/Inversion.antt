@@ -7,14 +7,15 @@ use Rattle.asn_base.specs.Abstract.{AbstractValue, fields, list, alternative, Ro
 use Rattle.asn_base.specs.Types.{TypeNumber, Resolved}
 use Rattle.codec_code.specs.declared.step.RowKind.{RowKind}
 use Rattle.codec_code.specs.declared.step.RowKind.TheVariants.{Wrap}
-use Rattle.codec_code.specs.declared.step.LeafKind.{LeafKind}
+use Rattle.encodings.specs.declared.leaf_kind.LeafKind.{LeafKind}
 use Rattle.codec_code.specs.declared.step.Head.{Head as Head'}
 use Rattle.codec_code.specs.declared.step.Field.{Field as Field'}
 use Rattle.codec_code.specs.declared.step.Step.{Step}
 use Rattle.codec_code.specs.declared.step.Step.TheVariants.{Head, Leaf, Field, Ranked, Each, EachSorted, Pick, Call, Rest, End}
 use Rattle.codec_code.specs.Events.{Event, opens, puts, closes, leaves_out, parts}
 use Rattle.codec_code.specs.Routines.{heads, rest_if, routine_at}
-use Rattle.codec_code.specs.Steps.{Steps, finished, head, ending, rest, leaf, left_out, written, ranked_left_out, ranked_written, each, each_sorted, pick, Elements, Parts, HasContents, IsLeftOut, IsWritten, has_default}
+use Rattle.codec_code.specs.Steps.{Steps, finished, head, ending, rest, leaf, left_out, written, ranked_left_out, ranked_written, each, each_sorted, pick, Elements, Parts, IsLeftOut, IsWritten, has_default}
+use Rattle.encodings.specs.Leaves.{HasContents}
 use Rattle.account_rows.proofs.Wrapped.{opened, closed_by}
 
 head_in : {s : List Resolved} {t : TypeNumber} {h : Head'} {ss : List Step} {v : AbstractValue} {es : List Event} → Steps s t (Head h ∷ ss) v es → (fs : List Event) × Steps s t ss v fs × (es ≡ opens h.tag h.constructed h.row ∷ fs)

@@ -9,12 +9,12 @@ use Rattle.asn_base.specs.Tags.{IsChoice}
 use Rattle.asn_base.specs.Same.{IsLeaf, AlikeBy, equal, zeros}
 use Rattle.encodings.specs.Rules.{Distinguished}
 use Rattle.encodings.specs.Contents.{Contents, of_false, of_true, of_integer, of_enumerated, of_bits, of_named_bits, of_octets, of_null, of_oid, of_relative_oid, of_utf8, of_restricted}
-use Rattle.codec_code.specs.declared.step.LeafKind.{LeafKind}
-use Rattle.codec_code.specs.declared.step.LeafKind.TheVariants as leaves
+use Rattle.encodings.specs.declared.leaf_kind.LeafKind.{LeafKind}
+use Rattle.encodings.specs.declared.leaf_kind.LeafKind.TheVariants as leaves
 use Rattle.codec_code.specs.declared.step.RowKind.TheVariants.{Leaf as LeafRow}
 use Rattle.codec_code.specs.declared.step.Step.TheVariants.{Leaf}
 use Rattle.codec_code.specs.Routines.{body, row_of}
-use Rattle.codec_code.specs.Steps.{HasContents}
+use Rattle.encodings.specs.Leaves.{HasContents}
 use Rattle.std.specs.Prelude.{◌∷◌}
 
 pub record LeafHeld (s : List Resolved) (k : Kind) (v : AbstractValue) (x : List ℕ) : Type 0 where

@@ -7,8 +7,8 @@ use Rattle.encodings.specs.Levels.{levels}
 use Rattle.encodings.specs.Reading.{Encodes}
 use Rattle.encodings.specs.Encoding.{Says}
 use Rattle.encodings.specs.Rules.{Rules, Basic, Distinguished}
-use Rattle.codec_source.specs.declared.fault.ReadFault.{ReadFault}
-use Rattle.codec_source.specs.declared.fault.ReadFault.TheVariants as reading
+use Rattle.decode_faults.specs.declared.read_fault.ReadFault.{ReadFault}
+use Rattle.decode_faults.specs.declared.read_fault.ReadFault.TheVariants as reading
 use Rattle.codec_code.specs.Routines.{id_of}
 use Rattle.ber_reader.specs.Readings.{IsReading, IsRefused}
 use Rattle.ber_reader.specs.declared.read.Read.{Read}

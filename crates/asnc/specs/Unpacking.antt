@@ -8,8 +8,8 @@ use Rattle.value_text.specs.Print.{alternatives_in, element_in, kind_at, print}
 use Rattle.ber_message.specs.declared.open.Part.{Part}
 use Rattle.ber_message.specs.declared.open.Part.TheVariants.{Component, Alternative, Element}
 use Rattle.packed_encodings.specs.Packing.{Reads}
-use Rattle.packed_readings.specs.declared.refusal.Refusal.{Refusal}
-use Rattle.packed_readings.specs.declared.refusal.Refusal.TheVariants.{Truncated}
+use Rattle.decode_faults.specs.declared.refusal.Refusal.{Refusal}
+use Rattle.decode_faults.specs.declared.refusal.Refusal.TheVariants.{Truncated}
 use Rattle.packed_reader.specs.Answers.{BeginsMessage}
 use Rattle.packed_reader.specs.Values.{faulty, message_from}
 use Rattle.packed_reader.specs.declared.fault.PerFault.{PerFault}

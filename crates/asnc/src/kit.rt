@@ -4,7 +4,7 @@ ghost use Rattle.std.specs.Prelude.{◌≡◌, ◌<◌, ℕ, List, length, map, 
 ghost use Rattle.std.specs.Prelude.{Err, IfOk, IfErr, IfSome, MatchOption, MatchResult};
 ghost use Rattle.asn_base.specs.Abstract.{abstract};
 ghost use Rattle.asn_base.specs.Typed.{IsValue};
-ghost use Rattle.codec_source.specs.declared.fault.ReadFault.TheVariants.{Memory as no_room};
+ghost use Rattle.decode_faults.specs.declared.read_fault.ReadFault.TheVariants.{Memory as no_room};
 ghost use Rattle.der_writer.specs.Encoded.{IsEncoding};
 ghost use Rattle.der_writer.specs.declared.fault.WriteFault.TheVariants.{NotOfType, TooLong};
 ghost use Rattle.encodings.specs.Account.{Tells};
@@ -41,7 +41,7 @@ use asn_base::schema::{Schema, TypeId};
 use asn_base::value::Value;
 use ber_reader::Read;
 use codec_code::{Code, compile};
-use codec_source::ReadFault;
+use decode_faults::ReadFault;
 use der_writer::{WriteFault, write_der, write_der_to};
 use front_end::law::{accepted_keep, values_of_schema};
 use front_end::{FrontFault, Modules};

@@ -4,7 +4,7 @@ ghost use Rattle.std.specs.Prelude.{◌≡◌, ◌⊎◌, ℕ, List, IfOk, IfErr
 ghost use Rattle.asn_base.specs.Abstract.{AbstractValue};
 ghost use Rattle.asn_base.specs.Types.{Resolved};
 ghost use Rattle.ber_reader.specs.Readings.{IsReading};
-ghost use Rattle.codec_source.specs.declared.fault.ReadFault.TheVariants.{Memory as no_memory};
+ghost use Rattle.decode_faults.specs.declared.read_fault.ReadFault.TheVariants.{Memory as no_memory};
 ghost use Rattle.encodings.specs.Encoding.{Says};
 ghost use Rattle.encodings.specs.Reading.{Encodes};
 ghost use Rattle.encodings.specs.Rules.{Rules as Rules', Basic, Distinguished};
@@ -16,7 +16,7 @@ use crate::places::stopped;
 use asn_base::schema::{Schema, TypeId};
 use ber_reader::{Read, read_ber, read_der};
 use codec_code::Code;
-use codec_source::ReadFault;
+use decode_faults::ReadFault;
 use front_end::Modules;
 use messages::{Fault, Unread};
 use named_values::type_number;

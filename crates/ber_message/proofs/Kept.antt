@@ -7,8 +7,8 @@ use Rattle.codec_code.specs.declared.step.Field.{Field as Field'}
 use Rattle.codec_code.specs.declared.step.Step.{Step}
 use Rattle.codec_source.specs.Events.{Event, begins, ends, opens, closes, holds, skips, stands, more, among, picks}
 use Rattle.codec_source.specs.Reading.{Asks, head, ending, leaf, rest, left_out, field, component, no_component, element, no_element, sorted_element, no_sorted_element, pick, call, Does, finished, goes_on, reads, Reads}
-use Rattle.codec_source.specs.declared.fault.ReadFault.{ReadFault}
-use Rattle.codec_source.specs.declared.fault.ReadFault.TheVariants.{Memory}
+use Rattle.decode_faults.specs.declared.read_fault.ReadFault.{ReadFault}
+use Rattle.decode_faults.specs.declared.read_fault.ReadFault.TheVariants.{Memory}
 use Rattle.octet_answers.specs.States.{State}
 use Rattle.octet_answers.specs.Found.{Passes, at_end_of_contents, at_component, passes}
 use Rattle.octet_answers.specs.Answers.{Answers, Takes, StandsNext, MoreNext, AmongNext}

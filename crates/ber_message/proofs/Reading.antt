@@ -15,8 +15,8 @@ use Rattle.asn_base.specs.declared.tag.Tag.{Tag}
 use Rattle.asn_base.specs.declared.schema.TypeId.{TypeId}
 use Rattle.codec_code.specs.Routines.{routine_at}
 use Rattle.codec_source.specs.Reading.{Reads}
-use Rattle.codec_source.specs.declared.fault.ReadFault.{ReadFault}
-use Rattle.codec_source.specs.declared.fault.ReadFault.TheVariants as faults
+use Rattle.decode_faults.specs.declared.read_fault.ReadFault.{ReadFault}
+use Rattle.decode_faults.specs.declared.read_fault.ReadFault.TheVariants as faults
 use Rattle.octet_answers.specs.Answers.{Takes}
 use Rattle.octets.specs.Fronts.{HeaderAt}
 use Rattle.reading_law.specs.Saying.{AreUnit, IsReadTo}

@@ -7,8 +7,8 @@ use Rattle.codec_code.specs.declared.step.Step.{Step}
 use Rattle.codec_code.specs.Routines.{routine_at}
 use Rattle.codec_source.specs.Events.{Event, Question, to_begin}
 use Rattle.codec_source.specs.Stopping.{Stops, unanswered, answered, StopsThen, stops_on, not_begun, stops_within, not_ended, stops_behind, StopsReading}
-use Rattle.codec_source.specs.declared.fault.ReadFault.{ReadFault}
-use Rattle.codec_source.specs.declared.fault.ReadFault.TheVariants.{Missing, Memory, MessageLimit, Trailing, OutsideConstraint, NotDer}
+use Rattle.decode_faults.specs.declared.read_fault.ReadFault.{ReadFault}
+use Rattle.decode_faults.specs.declared.read_fault.ReadFault.TheVariants.{Missing, Memory, MessageLimit, Trailing, OutsideConstraint, NotDer}
 use Rattle.octet_answers.specs.Answers.{Answers, Takes}
 use Rattle.octet_answers.specs.Left.{Leaves, no_room, no_value_open, no_header, too_many_headers, other_header, not_at_end, no_header_open}
 use Rattle.octet_answers.specs.Left.{contents_too_deep, bad_primitive, bad_segment, nothing_to_skip_in, not_skipped, out_of_order}

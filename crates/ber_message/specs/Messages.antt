@@ -11,8 +11,9 @@ use Rattle.encodings.specs.Levels.{levels}
 use Rattle.codec_code.specs.Routines.{id_of, routine_at}
 use Rattle.codec_source.specs.Reading.{Reads}
 use Rattle.codec_source.specs.Stopping.{StopsReading}
-use Rattle.codec_source.specs.declared.fault.ReadFault.{ReadFault}
-use Rattle.codec_source.specs.declared.fault.ReadFault.TheVariants.{MessageLimit, Missing, Trailing, Truncated, UnexpectedTag}
+use Rattle.decode_faults.specs.declared.read_fault.ReadFault.{ReadFault}
+use Rattle.decode_faults.specs.declared.read_fault.ReadFault.TheVariants.{MessageLimit, Missing, Trailing, Truncated}
+use Rattle.decode_faults.specs.declared.read_fault.ReadFault.TheVariants.{UnexpectedTag}
 use Rattle.octets.specs.Fronts.{EndsEarly}
 use Rattle.octet_answers.specs.Answers.{Takes}
 use Rattle.octet_answers.specs.Left.{Leaves}

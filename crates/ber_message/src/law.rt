@@ -4,7 +4,7 @@ ghost use Rattle.asn_base.specs.Schemas.{IsSchema};
 ghost use Rattle.asn_base.specs.Types.{Resolved};
 ghost use Rattle.asn_base.specs.declared.schema.TypeId.{TypeId};
 ghost use Rattle.ber_message.specs.Messages.{IsRead, Refuses};
-ghost use Rattle.codec_source.specs.declared.fault.ReadFault.{ReadFault};
+ghost use Rattle.decode_faults.specs.declared.read_fault.ReadFault.{ReadFault};
 ghost use Rattle.std.specs.Int.Digits.{AllBelowBase};
 ghost use Rattle.std.specs.Prelude.{◌≡◌, ◌<◌, ◌≤◌, List, length, ℕ};
 

@@ -4,14 +4,15 @@ ghost use Rattle.ber_message.specs.Messages.{IsRead, room_of};
 ghost use Rattle.ber_message.specs.Opened.{opens};
 ghost use Rattle.ber_message.specs.Stops.{IsEntered, IsStop};
 ghost use Rattle.ber_message.specs.Ways.{AreOpenBefore, begun_in};
-ghost use Rattle.codec_source.specs.declared.fault.ReadFault.TheVariants.{Memory};
+ghost use Rattle.decode_faults.specs.declared.read_fault.ReadFault.TheVariants.{Memory};
 ghost use Rattle.std.specs.Prelude.{◌≡◌, ◌<◌, ◌≤◌, false, IfOk, length, OnOk};
 
 use crate::open::{Open, enter, open_behind};
 use asn_base::schema::TypeId;
 use ber_source::Cursor;
 use codec_code::Code;
-use codec_source::{ReadFault, read};
+use codec_source::read;
+use decode_faults::ReadFault;
 use limits::{MAX_MESSAGE, MAX_OPEN};
 use octet_answers::law::one_answer;
 use reading_law::law::stops_in_place;

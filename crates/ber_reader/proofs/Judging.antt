@@ -7,8 +7,8 @@ use Rattle.asn_base.specs.Abstract.{AbstractValue, boolean, integer, enumerated,
 use Rattle.asn_base.specs.Schemas.{components, is_addition}
 use Rattle.asn_base.specs.Typed.{IsValue, nodes, row_nodes}
 use Rattle.asn_base.specs.Types.{TypeNumber, Component, Alternative, Kind, Resolved}
-use Rattle.codec_source.specs.declared.fault.ReadFault.{ReadFault}
-use Rattle.codec_source.specs.declared.fault.ReadFault.TheVariants as faults
+use Rattle.decode_faults.specs.declared.read_fault.ReadFault.{ReadFault}
+use Rattle.decode_faults.specs.declared.read_fault.ReadFault.TheVariants as faults
 use Rattle.codec_code.specs.Routines.{id_of}
 use Rattle.ber_message.specs.Ways.{on_way}
 use Rattle.ber_message.specs.declared.open.Open.{Open}

@@ -7,7 +7,7 @@ use Rattle.asn_base.specs.Abstract.{AbstractValue, boolean, integer, enumerated,
 use Rattle.asn_base.specs.Schemas.{components}
 use Rattle.asn_base.specs.Types.{TypeNumber, Kind, a_null, a_boolean, an_integer, an_enumerated, a_bit_string, a_named_bit_string, an_octet_string, an_object_identifier, a_relative_oid, a_utf8_string, a_restricted_string, a_sequence, a_set, a_sequence_of, a_set_of, a_choice, Alternative, Component, Resolved, Is}
 use Rattle.asn_base.specs.declared.tag.Tag.{Tag}
-use Rattle.codec_code.specs.declared.step.LeafKind.{LeafKind}
+use Rattle.encodings.specs.declared.leaf_kind.LeafKind.{LeafKind}
 use Rattle.codec_code.specs.declared.step.Step.TheVariants.{Leaf}
 use Rattle.codec_code.specs.Routines.{id_of, body}
 use Rattle.octet_answers.specs.States.{Token, component, chosen, begun, ended, held, passed}

@@ -6,7 +6,7 @@ use Rattle.asn_base.specs.Schemas.{IsSchema}
 use Rattle.asn_base.specs.Typed.{IsValueWithoutNodes}
 use Rattle.asn_base.specs.Types.{Resolved}
 use Rattle.asn_base.specs.declared.schema.TypeId.{TypeId}
-use Rattle.codec_source.specs.declared.fault.ReadFault.{ReadFault}
+use Rattle.decode_faults.specs.declared.read_fault.ReadFault.{ReadFault}
 use Rattle.encodings.specs.Encoding.{Says}
 use Rattle.encodings.specs.Rules.{Basic}
 use Rattle.ber_message.specs.Messages.{IsRead, Refuses}

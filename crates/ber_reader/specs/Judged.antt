@@ -10,8 +10,9 @@ use Rattle.ber_message.specs.declared.open.Part.{Part}
 use Rattle.ber_message.specs.declared.open.Part.TheVariants as a_part
 use Rattle.ber_message.specs.Opened.{entered, on_last}
 use Rattle.ber_message.specs.Ways.{AreOpenBefore}
-use Rattle.codec_source.specs.declared.fault.ReadFault.{ReadFault}
-use Rattle.codec_source.specs.declared.fault.ReadFault.TheVariants.{BadContents, Missing, OutsideConstraint, TooDeep}
+use Rattle.decode_faults.specs.declared.read_fault.ReadFault.{ReadFault}
+use Rattle.decode_faults.specs.declared.read_fault.ReadFault.TheVariants.{BadContents, Missing, OutsideConstraint}
+use Rattle.decode_faults.specs.declared.read_fault.ReadFault.TheVariants.{TooDeep}
 use Rattle.octet_answers.specs.States.{Token}
 
 -- ---- the parts of a value

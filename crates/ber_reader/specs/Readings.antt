@@ -9,7 +9,7 @@ use Rattle.encodings.specs.Encoding.{Says}
 use Rattle.encodings.specs.Levels.{levels}
 use Rattle.encodings.specs.Reading.{Encodes}
 use Rattle.codec_code.specs.Routines.{id_of}
-use Rattle.codec_source.specs.declared.fault.ReadFault.{ReadFault}
+use Rattle.decode_faults.specs.declared.read_fault.ReadFault.{ReadFault}
 use Rattle.ber_views.specs.Shown.{leaves_of, AreShown}
 use Rattle.ber_message.specs.Messages.{IsRead, Refuses, SaysNoValue}
 use Rattle.ber_message.specs.Stops.{IsEntered, IsStop, IsStopBefore}

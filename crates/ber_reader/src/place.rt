@@ -6,7 +6,7 @@ ghost use Rattle.ber_reader.specs.Judged.{IsBeforeWrong, piece};
 ghost use Rattle.ber_reader.specs.Readings.{IsBeforeInnermost, IsPlace};
 ghost use Rattle.ber_source.specs.Seen.{token_of};
 ghost use Rattle.octet_answers.specs.States.{Token as Token'};
-ghost use Rattle.codec_source.specs.declared.fault.ReadFault.TheVariants.{Memory};
+ghost use Rattle.decode_faults.specs.declared.read_fault.ReadFault.TheVariants.{Memory};
 ghost use Rattle.std.specs.Prelude.{◌≡◌, ◌<◌, ◌≤◌, false, IfOk, length, List, map};
 
 use crate::wrong::lead;
@@ -14,7 +14,7 @@ use asn_base::schema::TypeId;
 use ber_message::{Whereabouts, begun_before, most_values, read_message, read_view, stop_of};
 use ber_source::Token;
 use codec_code::Code;
-use codec_source::ReadFault;
+use decode_faults::ReadFault;
 use std::alloc::{AllocError, Global};
 
 /// Returns where `read_ber` refuses a message: the offset of the octet, from 0, and the values that are open there.

@@ -6,7 +6,7 @@ ghost use Rattle.asn_base.specs.Typed.{IsValue};
 ghost use Rattle.ber_reader.specs.Judged.{FirstWrong, IsJudged, IsOwn, LeadOn, in_root, kind_at, parts, piece, placed};
 ghost use Rattle.ber_reader.specs.Judged.{component_piece, component_pieces, element_pieces};
 ghost use Rattle.ber_reader.specs.Judged.{without_additions as without_additions'};
-ghost use Rattle.codec_source.specs.declared.fault.ReadFault.TheVariants.{Memory, MessageLimit, Trailing};
+ghost use Rattle.decode_faults.specs.declared.read_fault.ReadFault.TheVariants.{Memory, MessageLimit, Trailing};
 ghost use Rattle.std.specs.Prelude.{◌≡◌, ◌++◌, ◌∷◌, [], IfOk, map, OnOk, option_map, slice_get};
 
 use crate::parts::{alternative_at, component_type, element_at, is_addition};
@@ -15,7 +15,7 @@ use asn_base::schema::TypeId;
 use asn_base::value::Value;
 use ber_message::{Open, Part};
 use codec_code::Code;
-use codec_source::ReadFault;
+use decode_faults::ReadFault;
 use std::alloc::{AllocError, Global};
 
 /// A value that isn't one of its type, and which part of the value around it it is.

@@ -1,9 +1,9 @@
 -- Contents octets with a fault, and the state of a reader after them.
 use Rattle.std.proofs.Common.{arith, ◌≡◌, ℕ, ◌+◌, ◌≤◌, Bool, true, false, List, length, refl, sym, ap, subst, ◌∙◌}
-use Rattle.codec_code.specs.declared.step.LeafKind.{LeafKind}
+use Rattle.encodings.specs.declared.leaf_kind.LeafKind.{LeafKind}
 use Rattle.codec_source.specs.Events.{to_hold}
-use Rattle.codec_source.specs.declared.fault.ReadFault.{ReadFault}
-use Rattle.codec_source.specs.declared.fault.ReadFault.TheVariants.{Memory}
+use Rattle.decode_faults.specs.declared.read_fault.ReadFault.{ReadFault}
+use Rattle.decode_faults.specs.declared.read_fault.ReadFault.TheVariants.{Memory}
 use Rattle.leaf_readings.specs.Refused.{Stands}
 use Rattle.leaf_readings.specs.declared.fault.LeafFault.{LeafFault}
 use Rattle.segmented_strings.specs.Joining.{Fails}

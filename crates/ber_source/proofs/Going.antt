@@ -7,7 +7,7 @@ use Rattle.asn_base.specs.Types.{Resolved}
 use Rattle.octet_answers.specs.States.{State, Token}
 use Rattle.octet_answers.specs.Found.{Passes}
 use Rattle.octet_answers.specs.Left.{Blocks}
-use Rattle.codec_source.specs.declared.fault.ReadFault.{ReadFault}
+use Rattle.decode_faults.specs.declared.read_fault.ReadFault.{ReadFault}
 use Rattle.ber_source.specs.declared.place.Place.{Place}
 use Rattle.ber_source.specs.Seen.{IsWithin, state_of}
 

@@ -7,8 +7,8 @@ use Rattle.codec_code.specs.declared.step.Field.{Field}
 use Rattle.codec_code.specs.declared.step.Step.{Step}
 use Rattle.codec_code.specs.Routines.{routine_at}
 use Rattle.codec_source.specs.Events.{to_skip, which_stands}
-use Rattle.codec_source.specs.declared.fault.ReadFault.{ReadFault}
-use Rattle.codec_source.specs.declared.fault.ReadFault.TheVariants.{UnexpectedTag, Missing}
+use Rattle.decode_faults.specs.declared.read_fault.ReadFault.{ReadFault}
+use Rattle.decode_faults.specs.declared.read_fault.ReadFault.TheVariants.{UnexpectedTag, Missing}
 use Rattle.octet_answers.specs.States.{State}
 use Rattle.octet_answers.specs.Found.{Passes, AreRead, is_extensible, last_steps}
 use Rattle.octet_answers.specs.Left.{Blocks, Leaves, not_skipped, out_of_order, no_component, stood_before, not_all_read}

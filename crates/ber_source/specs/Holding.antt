@@ -1,9 +1,9 @@
 -- What contents octets of a value that holds no others mean, and why some octets mean nothing.
 use Rattle.std.specs.Prelude.{ℕ, ◌+◌, ◌≤◌, Bool, true, false, length}
-use Rattle.codec_code.specs.declared.step.LeafKind.{LeafKind}
+use Rattle.encodings.specs.declared.leaf_kind.LeafKind.{LeafKind}
 use Rattle.encodings.specs.Header.{Octets}
 use Rattle.octets.specs.Forms.{is_constructed}
-use Rattle.codec_source.specs.declared.fault.ReadFault.{ReadFault}
+use Rattle.decode_faults.specs.declared.read_fault.ReadFault.{ReadFault}
 use Rattle.leaf_readings.specs.Leaves.{Reads}
 use Rattle.leaf_readings.specs.Refused.{Stands}
 use Rattle.leaf_readings.specs.declared.fault.LeafFault.{LeafFault}

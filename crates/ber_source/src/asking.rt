@@ -3,7 +3,7 @@
 ghost use Rattle.asn_base.specs.declared.schema.TypeId.{TypeId as TypeId'};
 ghost use Rattle.ber_source.specs.Seen.{IsWithin, mark_of, state_of};
 ghost use Rattle.codec_source.specs.Events.{to_skip, whether_stands, which_picked, which_stands};
-ghost use Rattle.codec_source.specs.declared.fault.ReadFault.TheVariants.{Memory};
+ghost use Rattle.decode_faults.specs.declared.read_fault.ReadFault.TheVariants.{Memory};
 ghost use Rattle.codec_source.specs.proving.Frames.{IfRefused, IfRefusedWith};
 ghost use Rattle.octet_answers.specs.Answers.{AmongNext, Chooses, MoreNext, Skips, StandsNext};
 ghost use Rattle.octet_answers.specs.Left.{Leaves};
@@ -17,7 +17,7 @@ use crate::teller::Teller;
 use crate::token::Mark;
 use asn_base::schema::TypeId;
 use codec_code::{Coding, Field, Step};
-use codec_source::ReadFault;
+use decode_faults::ReadFault;
 use next_tags::{
     are_read, can_begin, choose, is_extensible, is_in, last_steps, may_be_absent, next_unit,
 };

@@ -1,6 +1,6 @@
 //! A cursor over a message.
 
-ghost use Rattle.codec_source.specs.declared.fault.ReadFault.TheVariants.{MessageLimit};
+ghost use Rattle.decode_faults.specs.declared.read_fault.ReadFault.TheVariants.{MessageLimit};
 ghost use Rattle.ber_source.specs.Seen.{token_of};
 ghost use Rattle.octet_answers.specs.States.{front};
 ghost use Rattle.std.specs.Prelude.{◌≡◌, ◌<◌, ◌≤◌, IfErr, IfOk, IsTrue, [], ◌↔◌, length, map};
@@ -10,8 +10,10 @@ use crate::moves::{begin, close, end, hold, open};
 use crate::place::{Place, at_front};
 use crate::token::Token;
 use asn_base::schema::TypeId;
-use codec_code::{Code, Field, Head, LeafKind, Step};
-use codec_source::{ReadFault, Source};
+use codec_code::{Code, Field, Head, Step};
+use codec_source::Source;
+use decode_faults::ReadFault;
+use encodings::LeafKind;
 use limits::MAX_MESSAGE;
 use octet_answers::law::one_answer;
 use std::alloc::Global;

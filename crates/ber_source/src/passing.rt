@@ -2,8 +2,8 @@
 
 ghost use Rattle.ber_source.specs.Seen.{IsWithin, state_of};
 ghost use Rattle.codec_code.specs.declared.step.Field.{Field as Field'};
-ghost use Rattle.codec_source.specs.declared.fault.ReadFault.{ReadFault as ReadFault'};
-ghost use Rattle.codec_source.specs.declared.fault.ReadFault.TheVariants.{Memory};
+ghost use Rattle.decode_faults.specs.declared.read_fault.ReadFault.{ReadFault as ReadFault'};
+ghost use Rattle.decode_faults.specs.declared.read_fault.ReadFault.TheVariants.{Memory};
 ghost use Rattle.codec_source.specs.proving.Frames.{IfRefused, IfRefusedWith};
 ghost use Rattle.octet_answers.specs.Found.{Passes};
 ghost use Rattle.octet_answers.specs.Left.{Blocks};
@@ -18,7 +18,7 @@ use crate::teller::Teller;
 use crate::token::Mark;
 use crate::window::Window;
 use codec_code::{Field, Step};
-use codec_source::ReadFault;
+use decode_faults::ReadFault;
 use limits::MAX_HEADERS;
 use next_tags::{Unit, find, next_unit};
 use octet_answers::law::one_unit;

@@ -3,12 +3,12 @@
 ghost use Rattle.asn_base.specs.Types.{Resolved};
 ghost use Rattle.ber_source.specs.Seen.{held_of, mark_of, token_of};
 ghost use Rattle.ber_source.specs.Holding.{IsHolding};
-ghost use Rattle.codec_source.specs.declared.fault.ReadFault.TheVariants.{Memory};
+ghost use Rattle.decode_faults.specs.declared.read_fault.ReadFault.TheVariants.{Memory};
 ghost use Rattle.octet_answers.specs.States.{Token as Token'};
 ghost use Rattle.std.specs.Prelude.{◌≡◌, ◌++◌, ◌∷◌, [], IfErr, List, map, OnOk};
 
 use crate::token::{Held, Holding, Mark, Token};
-use codec_source::ReadFault;
+use decode_faults::ReadFault;
 
 /// Receives the tokens of a message in its order, and builds something of them, such as a list or a view. A receiver
 /// refuses a token only if an allocation fails.

@@ -1,7 +1,7 @@
 //! The tokens of a message.
 
 use asn_base::schema::TypeId;
-use codec_code::LeafKind;
+use encodings::LeafKind;
 use leaf_readings::Leaf;
 use octets::Form;
 use segmented_strings::Joined;

@@ -7,7 +7,7 @@ use Rattle.asn_base.specs.Types.{Kind}
 use Rattle.encodings.specs.Rules.{Basic}
 use Rattle.encodings.specs.Strings.{WholeBits, whole, whole_bits}
 use Rattle.encodings.specs.Contents.{Contents, of_bits, of_named_bits, of_octets, of_utf8, of_restricted}
-use Rattle.codec_code.specs.declared.step.LeafKind.{LeafKind}
+use Rattle.encodings.specs.declared.leaf_kind.LeafKind.{LeafKind}
 use Rattle.leaf_readings.specs.Leaves.{IsReadAs, Tells, Reads}
 use Rattle.leaf_readings.specs.declared.leaf.Leaf.{Leaf}
 use Rattle.segmented_strings.specs.Joining.{IsJoinedAs, Tells as TellsJoined, Reads as Joins}

@@ -1,7 +1,7 @@
 -- What octets answer, as what a cursor takes.
 use Rattle.std.proofs.Common.{◌≡◌, sym, subst}
 use Rattle.std.specs.Prelude.{Result, Ok, Err, OnOk, IfOk}
-use Rattle.codec_source.specs.declared.fault.ReadFault.{ReadFault}
+use Rattle.decode_faults.specs.declared.read_fault.ReadFault.{ReadFault}
 use Rattle.codec_source.specs.proving.Frames.{IfRefused, IfRefusedWith}
 use Rattle.octet_answers.specs.Left.{Leaves}
 use Rattle.codec_source.specs.Events.{Event, Question}

@@ -1,6 +1,6 @@
 //! A cursor over a message that builds a view of it.
 
-ghost use Rattle.codec_source.specs.declared.fault.ReadFault.TheVariants.{MessageLimit};
+ghost use Rattle.decode_faults.specs.declared.read_fault.ReadFault.TheVariants.{MessageLimit};
 ghost use Rattle.ber_views.specs.Log.{logged};
 ghost use Rattle.ber_views.specs.Telling.{IsTelling};
 ghost use Rattle.octet_answers.specs.States.{front};
@@ -11,8 +11,10 @@ use asn_base::schema::TypeId;
 use ber_source::asking::{among_next, choose_next, has_more, skip, stands_next};
 use ber_source::moves::{begin, close, end, hold, open};
 use ber_source::place::{Place, at_front};
-use codec_code::{Code, Field, Head, LeafKind, Step};
-use codec_source::{ReadFault, Source};
+use codec_code::{Code, Field, Head, Step};
+use codec_source::Source;
+use decode_faults::ReadFault;
+use encodings::LeafKind;
 use limits::MAX_MESSAGE;
 use octet_answers::law::one_answer;
 use std::alloc::Global;

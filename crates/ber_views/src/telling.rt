@@ -11,7 +11,7 @@ use crate::build::{Build, hold, nothing, take};
 use crate::log::{Log, add, empty};
 use ber_source::{Held, Holding, Mark, Teller, Token};
 use codec_code::Code;
-use codec_source::ReadFault;
+use decode_faults::ReadFault;
 use std::alloc::{AllocError, Global};
 use views::View;
 

@@ -11,7 +11,7 @@ use Rattle.asn_base.specs.Types.{an_octet_string, a_null, an_object_identifier, 
 use Rattle.asn_base.specs.Types.{a_restricted_string, a_sequence, a_set, a_sequence_of, a_set_of, a_choice, Resolved}
 use Rattle.codec_code.specs.declared.step.RowKind.{RowKind}
 use Rattle.codec_code.specs.declared.step.RowKind.TheVariants as rows
-use Rattle.codec_code.specs.declared.step.LeafKind.TheVariants as leaves
+use Rattle.encodings.specs.declared.leaf_kind.LeafKind.TheVariants as leaves
 use Rattle.codec_code.specs.declared.step.Need.{Need}
 use Rattle.codec_code.specs.declared.step.Need.TheVariants.{Mandatory, Optional, Default, Addition}
 use Rattle.codec_code.specs.declared.step.Coding.{Coding}

@@ -4,16 +4,12 @@ use Rattle.std.specs.Prelude.{slice_get}
 use Rattle.asn_base.specs.declared.schema.TypeId.{TypeId}
 use Rattle.asn_base.specs.declared.tag.Tag.{Tag}
 use Rattle.asn_base.specs.Abstract.{AbstractValue, fields, list, alternative, Row, end, absent, present}
-use Rattle.asn_base.specs.Types.{TypeNumber, any_number, any_size, default, Component, Kind, a_boolean, an_integer}
-use Rattle.asn_base.specs.Types.{an_enumerated, a_bit_string, a_named_bit_string, an_octet_string, a_null}
-use Rattle.asn_base.specs.Types.{an_object_identifier, a_relative_oid, a_utf8_string, a_restricted_string, Resolved, Is}
-use Rattle.asn_base.specs.Same.{AlikeBy, Same}
+use Rattle.asn_base.specs.Types.{TypeNumber, default, Component, Kind, Resolved, Is}
+use Rattle.asn_base.specs.Same.{Same}
 use Rattle.asn_base.specs.Schemas.{components}
 use Rattle.encodings.specs.Header.{Octets}
-use Rattle.encodings.specs.Rules.{Distinguished}
-use Rattle.encodings.specs.Contents.{Contents}
-use Rattle.codec_code.specs.declared.step.LeafKind.{LeafKind}
-use Rattle.codec_code.specs.declared.step.LeafKind.TheVariants as leaves
+use Rattle.encodings.specs.Leaves.{HasContents}
+use Rattle.encodings.specs.declared.leaf_kind.LeafKind.{LeafKind}
 use Rattle.codec_code.specs.declared.step.Need.{Need}
 use Rattle.codec_code.specs.declared.step.Need.TheVariants.{Mandatory, Default}
 use Rattle.codec_code.specs.declared.step.Head.{Head as Head'}
@@ -23,27 +19,6 @@ use Rattle.codec_code.specs.declared.step.Step.TheVariants.{Head, Leaf, Field, R
 use Rattle.codec_code.specs.declared.step.Step.TheVariants.{Call, Rest, End}
 use Rattle.codec_code.specs.Events.{Event, opens, puts, closes, leaves_out, parts}
 use Rattle.codec_code.specs.Routines.{routine_at}
-
--- the kind of such contents, without constraints, items and names, on which contents octets don't depend
-abbrev pub plain : LeafKind → Kind
-plain leaves.Boolean = a_boolean
-plain leaves.Integer = an_integer any_number
-plain leaves.Enumerated = an_enumerated [] false []
-plain leaves.BitString = a_bit_string any_size
-plain leaves.NamedBits = a_named_bit_string []
-plain leaves.OctetString = an_octet_string any_size
-plain leaves.Null = a_null
-plain leaves.ObjectIdentifier = an_object_identifier
-plain leaves.RelativeOid = a_relative_oid
-plain leaves.Utf8String = a_utf8_string any_size
-plain (leaves.RestrictedString k) = a_restricted_string k [] any_size
-
--- x are the contents octets of the value by the distinguished rules. Under named bits they are those of the value
--- without zeros at its end (X.690, 11.2.2).
-pub record HasContents (k : LeafKind) (v : AbstractValue) (x : Octets) : Type 0 where
-  pub trimmed : AbstractValue
-  pub same : AlikeBy [] (plain k) v trimmed
-  pub contents : Contents Distinguished (plain k) trimmed false x
 
 -- the component at a place: None if there is no such place, or else a value or its absence
 abbrev pub component_at : Row → ℕ → Option (Option AbstractValue)

@@ -5,8 +5,9 @@ ghost use Rattle.codec_code.specs.Routines.{routine_at};
 ghost use Rattle.codec_code.specs.declared.step.Step.TheVariants.{Head as HeadStep, Leaf as LeafStep};
 ghost use Rattle.std.specs.Prelude.{◌≡◌, ◌≤◌, ◌∷◌, length, slice_get};
 
-use crate::step::{Head, LeafKind, RowKind, Step};
+use crate::step::{Head, RowKind, Step};
 use asn_base::schema::{Schema, TypeId};
+use encodings::LeafKind;
 
 /// A short description of steps. `Leaf`: a header, contents that hold no others, and the end. `Components`: a header
 /// around a number of components of a SEQUENCE. `Elements`: a header around elements in their order. `Any`: any steps.

@@ -17,4 +17,4 @@ pub use build::compile;
 pub use code::Code;
 pub use fault::Fault;
 pub use lines::listing;
-pub use step::{Coding, Field, Head, LeafKind, Need, RowKind, Step};
+pub use step::{Coding, Field, Head, Need, RowKind, Step};

@@ -7,9 +7,10 @@ ghost use Rattle.std.specs.Prelude.{◌≡◌, ◌+◌, ◌++◌, ◌∷◌, [],
 
 use crate::fault::Fault;
 use crate::order::rank_of;
-use crate::step::{Field, Head, LeafKind, Need, RowKind, Step};
+use crate::step::{Field, Head, Need, RowKind, Step};
 use asn_base::schema::{Alternative, Alternatives, Component, Core, Presence, Resolved};
 use asn_base::tag::Tag;
+use encodings::LeafKind;
 
 /// Appends the steps of a type.
 #[tactic(auto, unfolding(crate::specs::Routines::routine_of))]

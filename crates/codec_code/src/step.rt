@@ -1,8 +1,8 @@
 //! The steps of codec programs.
 
 use asn_base::schema::TypeId;
-use asn_base::strings::StringKind;
 use asn_base::tag::Tag;
+use encodings::LeafKind;
 
 /// The kind of a header's row in an account: contents that hold no others, an explicit tag, or members.
 #[derive(Clone, Copy, PartialEq, Eq, Debug)]
@@ -13,22 +13,6 @@ pub enum RowKind {
     Set,
     SequenceOf,
     SetOf,
-}
-
-/// The kinds of contents that hold no others.
-#[derive(Clone, Copy, PartialEq, Eq, Debug)]
-pub enum LeafKind {
-    Boolean,
-    Integer,
-    Enumerated,
-    BitString,
-    NamedBits,
-    OctetString,
-    Null,
-    ObjectIdentifier,
-    RelativeOid,
-    Utf8String,
-    RestrictedString(StringKind),
 }
 
 /// Whether a component may be absent, and whether it has a DEFAULT.

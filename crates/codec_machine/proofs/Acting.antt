@@ -6,7 +6,7 @@ use Rattle.asn_base.specs.declared.value.Value.{Value}
 use Rattle.asn_base.specs.Abstract.{AbstractValue, abstract, row_of_list}
 use Rattle.asn_base.specs.Types.{Resolved}
 use Rattle.codec_code.specs.declared.step.Head.{Head as Head'}
-use Rattle.codec_code.specs.declared.step.LeafKind.{LeafKind}
+use Rattle.encodings.specs.declared.leaf_kind.LeafKind.{LeafKind}
 use Rattle.codec_code.specs.declared.step.Step.{Step}
 use Rattle.codec_code.specs.declared.step.Step.TheVariants.{Head, Leaf, Rest, End, Call}
 use Rattle.codec_code.specs.Events.{Event, opens, puts, closes, parts}

@@ -5,13 +5,14 @@ use Rattle.asn_base.specs.declared.schema.TypeId.{TypeId}
 use Rattle.asn_base.specs.Abstract.{AbstractValue, fields, list, alternative, Row, present}
 use Rattle.asn_base.specs.Types.{Resolved}
 use Rattle.codec_code.specs.declared.step.Head.{Head as Head'}
-use Rattle.codec_code.specs.declared.step.LeafKind.{LeafKind}
+use Rattle.encodings.specs.declared.leaf_kind.LeafKind.{LeafKind}
 use Rattle.codec_code.specs.declared.step.Field.{Field as Field'}
 use Rattle.codec_code.specs.declared.step.Step.{Step}
 use Rattle.codec_code.specs.declared.step.Step.TheVariants.{Head, Leaf, Field, Ranked, Each, EachSorted, Pick, Call, Rest, End}
 use Rattle.codec_code.specs.Events.{Event}
 use Rattle.codec_code.specs.Routines.{routine_at}
-use Rattle.codec_code.specs.Steps.{Steps, finished, head, ending, rest, leaf, left_out, written, ranked_left_out, ranked_written, each, each_sorted, pick, Elements, element, Parts, part, HasContents, IsLeftOut, is_absent, is_default, component_at, IsDefaultAt}
+use Rattle.codec_code.specs.Steps.{Steps, finished, head, ending, rest, leaf, left_out, written, ranked_left_out, ranked_written, each, each_sorted, pick, Elements, element, Parts, part, IsLeftOut, is_absent, is_default, component_at, IsDefaultAt}
+use Rattle.encodings.specs.Leaves.{HasContents}
 use Rattle.codec_machine.specs.Frames.{Tellable, LeavesOut, WritesIt, HasNoField}
 
 pub nothing_told : {s : List Resolved} {t : ℕ} {v : AbstractValue} {es : List Event} → Steps s t [] v es → es ≡ []

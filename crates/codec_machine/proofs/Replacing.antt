@@ -6,13 +6,14 @@ use Rattle.asn_base.specs.declared.value.Value.{Value}
 use Rattle.asn_base.specs.Abstract.{AbstractValue, abstract, fields, list, alternative, row_of_list}
 use Rattle.asn_base.specs.Types.{Resolved}
 use Rattle.codec_code.specs.declared.step.Head.{Head as Head'}
-use Rattle.codec_code.specs.declared.step.LeafKind.{LeafKind}
+use Rattle.encodings.specs.declared.leaf_kind.LeafKind.{LeafKind}
 use Rattle.codec_code.specs.declared.step.Field.{Field as Field'}
 use Rattle.codec_code.specs.declared.step.Step.{Step}
 use Rattle.codec_code.specs.declared.step.Step.TheVariants.{Head, Leaf, End, Field, Ranked, Each, EachSorted, Pick, Call}
 use Rattle.codec_code.specs.Events.{Event, opens, puts, closes, leaves_out, parts}
 use Rattle.codec_code.specs.Routines.{routine_at}
-use Rattle.codec_code.specs.Steps.{Steps, HasContents, finished, head, leaf, ending, left_out, written, ranked_left_out, ranked_written, each, each_sorted, pick, Elements, element, Parts, part, has_default}
+use Rattle.codec_code.specs.Steps.{Steps, finished, head, leaf, ending, left_out, written, ranked_left_out, ranked_written, each, each_sorted, pick, Elements, element, Parts, part, has_default}
+use Rattle.encodings.specs.Leaves.{HasContents}
 use Rattle.codec_machine.specs.declared.fault.RunFault.{RunFault}
 use Rattle.codec_machine.specs.declared.fault.RunFault.TheVariants.{NotOfType}
 use Rattle.codec_machine.specs.declared.frame.Frame.{Frame}

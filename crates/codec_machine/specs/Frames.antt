@@ -4,11 +4,12 @@ use Rattle.asn_base.specs.Abstract.{AbstractValue, abstract, fields, Row, row_of
 use Rattle.asn_base.specs.Types.{TypeNumber, Resolved}
 use Rattle.codec_code.specs.declared.step.Field.{Field as Field'}
 use Rattle.codec_code.specs.declared.step.Head.{Head as Head'}
-use Rattle.codec_code.specs.declared.step.LeafKind.{LeafKind}
+use Rattle.encodings.specs.declared.leaf_kind.LeafKind.{LeafKind}
 use Rattle.codec_code.specs.declared.step.Step.{Step}
 use Rattle.codec_code.specs.Events.{Event, opens, puts, closes, parts}
 use Rattle.codec_code.specs.Routines.{routine_at}
-use Rattle.codec_code.specs.Steps.{Steps, Elements, Parts, HasContents, IsLeftOut, IsWritten}
+use Rattle.codec_code.specs.Steps.{Steps, Elements, Parts, IsLeftOut, IsWritten}
+use Rattle.encodings.specs.Leaves.{HasContents}
 use Rattle.codec_machine.specs.declared.fault.RunFault.{RunFault}
 use Rattle.codec_machine.specs.declared.fault.RunFault.TheVariants.{NotOfType}
 use Rattle.codec_machine.specs.declared.frame.Frame.{Frame}

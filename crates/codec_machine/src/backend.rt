@@ -9,7 +9,8 @@ ghost use Rattle.std.specs.Prelude.{◌≡◌, List, [], ◌∷◌, ◌++◌, If
 
 use crate::fault::RunFault;
 use asn_base::value::Value;
-use codec_code::{Head, LeafKind};
+use codec_code::Head;
+use encodings::LeafKind;
 use std::alloc::AllocError;
 
 /// Takes the events of a routine, one after another. Each backend decides what its states mean, and it may keep the

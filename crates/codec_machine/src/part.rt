@@ -14,7 +14,8 @@ use crate::fault::RunFault;
 use asn_base::law::abstract_values;
 use asn_base::schema::TypeId;
 use asn_base::value::Value;
-use codec_code::{Brief, Code, Field, Head, LeafKind, Need, RowKind, Step};
+use codec_code::{Brief, Code, Field, Head, Need, RowKind, Step};
+use encodings::LeafKind;
 
 fn may_be_absent(need: Need) -> bool
     ensures { result ≡ steps.may_be_absent need }

@@ -2,7 +2,7 @@
 use Rattle.std.proofs.Common.{arith, ◌≡◌, ℕ, Bool, true, false, List, [], ◌∷◌, Option, Some, None, refl, ap}
 use Rattle.std.specs.Prelude.{ℤ, pos, negsuc}
 use Rattle.asn_base.specs.Abstract as value
-use Rattle.codec_code.specs.declared.step.LeafKind.TheVariants.{OctetString}
+use Rattle.encodings.specs.declared.leaf_kind.LeafKind.TheVariants.{OctetString}
 use Rattle.codec_code.specs.Routines.{id_of}
 use Rattle.octet_answers.specs.States.{Token, component as component', begun, ended, held, passed}
 use Rattle.ber_views.specs.Shown.{IsShownAs, leaves_of, AreShown}

@@ -4,7 +4,7 @@ use crate::front::header_of;
 use crate::refusal::{Refusal, told};
 use crate::words::{octets_in, word};
 use asn_base::strings::StringKind;
-use codec_code::LeafKind;
+use encodings::LeafKind;
 use leaf_readings::{Leaf, is_distinguished, read_arc, read_leaf};
 use octets::Form;
 use row_files::Row;

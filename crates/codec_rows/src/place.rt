@@ -4,7 +4,7 @@ use crate::refusal::{Refusal, told};
 use crate::words::{octets_of, type_of};
 use ber_reader::{Part, Whereabouts, read_ber, whereabouts};
 use codec_code::Code;
-use codec_source::ReadFault;
+use decode_faults::ReadFault;
 use row_files::Row;
 use std::alloc::{AllocError, Global};
 

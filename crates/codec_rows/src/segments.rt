@@ -4,7 +4,7 @@ use crate::front::header_of;
 use crate::leaf::kind_named;
 use crate::refusal::{Refusal, told};
 use crate::words::{octets_in, word};
-use codec_code::LeafKind;
+use encodings::LeafKind;
 use octets::Form;
 use row_files::Row;
 use segmented_strings::{Joined, read_segments};

@@ -5,7 +5,7 @@ use crate::words::{octets_of, type_of};
 use asn_base::schema::TypeId;
 use ber_message::read_message;
 use codec_code::Code;
-use codec_source::ReadFault;
+use decode_faults::ReadFault;
 use row_files::Row;
 use std::alloc::{AllocError, Global};
 

@@ -6,10 +6,11 @@ ghost use Rattle.codec_source.specs.Stopping.{AsksNothing, asked};
 ghost use Rattle.codec_source.specs.proving.Frames.{IfRefused, IfRefusedWith, is_ranked};
 ghost use Rattle.std.specs.Prelude.{◌≡◌, ◌∷◌, IfOk, drop, take};
 
-use crate::fault::ReadFault;
 use crate::source::Source;
 use asn_base::schema::TypeId;
-use codec_code::{Field, Head, LeafKind, Step};
+use codec_code::{Field, Head, Step};
+use decode_faults::ReadFault;
+use encodings::LeafKind;
 
 /// The steps that go on, and the type of the value that is read before they do, if there is one.
 #[derive(Drop)]

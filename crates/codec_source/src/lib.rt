@@ -3,12 +3,10 @@
 #![tactic(auto)]
 
 mod ask;
-mod fault;
 mod frame;
 mod machine;
 mod source;
 mod whole;
 
-pub use fault::ReadFault;
 pub use machine::read;
 pub use source::Source;

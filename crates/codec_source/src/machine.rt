@@ -2,20 +2,20 @@
 
 ghost use Rattle.codec_code.specs.Routines.{routine_at, table_of};
 ghost use Rattle.codec_source.specs.Reading.{Reads};
-ghost use Rattle.codec_source.specs.declared.fault.ReadFault.TheVariants.{Memory};
+ghost use Rattle.decode_faults.specs.declared.read_fault.ReadFault.TheVariants.{Memory};
 ghost use Rattle.codec_source.specs.Stopping.{StopsReading};
-ghost use Rattle.codec_source.specs.declared.fault.ReadFault.{ReadFault as ReadFault'};
+ghost use Rattle.decode_faults.specs.declared.read_fault.ReadFault.{ReadFault as ReadFault'};
 ghost use Rattle.codec_source.specs.proving.Frames.{Before, BeforeStops, Goes, GoesStop, IfRefused, IfRefusedWith, Never, Same, ThenBefore, ThenBeforeStops, weighs};
 ghost use Rattle.codec_source.specs.proving.Waiting.{and_next};
 ghost use Rattle.std.specs.Prelude.{◌≡◌, ◌<◌, ◌+◌, ◌∷◌, ◌++◌, [], IfErr, IfOk, None, OnOk, Some, length};
 
 use crate::ask::ask;
-use crate::fault::ReadFault;
 use crate::frame::Frame;
 use crate::source::Source;
 use crate::whole::{leaf_routine, read_whole};
 use asn_base::schema::TypeId;
 use codec_code::{Code, Coding, Step};
+use decode_faults::ReadFault;
 use std::alloc::Global;
 
 /// Reads a value by the type's routine for encodings with tags; what was read is in the source. A fault other than

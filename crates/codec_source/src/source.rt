@@ -3,13 +3,14 @@
 ghost use Rattle.asn_base.specs.declared.schema.TypeId.{TypeId as TypeId'};
 ghost use Rattle.codec_source.specs.Events.{Alike, Event, among, begins, closes, ends, holds, more, opens, picks, skips, stands};
 ghost use Rattle.codec_source.specs.Events.{Question, to_begin, to_close, to_end, to_hold, to_open, to_skip, whether_more, whether_stands, which_picked, which_stands};
-ghost use Rattle.codec_source.specs.declared.fault.ReadFault.{ReadFault as ReadFault'};
+ghost use Rattle.decode_faults.specs.declared.read_fault.ReadFault.{ReadFault as ReadFault'};
 ghost use Rattle.codec_source.specs.proving.Frames.{IfRefused, IfRefusedWith};
 ghost use Rattle.std.specs.Prelude.{◌≡◌, ◌<◌, ◌≤◌, Bool, IfOk, OnOk, Option as Option', ℕ};
 
-use crate::fault::ReadFault;
 use asn_base::schema::TypeId;
-use codec_code::{Field, Head, LeafKind, Step};
+use codec_code::{Field, Head, Step};
+use decode_faults::ReadFault;
+use encodings::LeafKind;
 
 /// Answers one question after the other with what comes next, and keeps what was read. A fault other than `Memory`
 /// means that the question has no answer. The source is left at the question, or after some of what it looked at to

@@ -3,15 +3,16 @@
 ghost use Rattle.codec_code.specs.Routines.{routine_at};
 ghost use Rattle.codec_code.specs.declared.step.Step.{Step as Step'};
 ghost use Rattle.codec_code.specs.declared.step.Step.TheVariants.{End, Head as Head', Leaf};
-ghost use Rattle.codec_source.specs.declared.fault.ReadFault.{ReadFault as ReadFault'};
+ghost use Rattle.decode_faults.specs.declared.read_fault.ReadFault.{ReadFault as ReadFault'};
 ghost use Rattle.codec_source.specs.declared.frame.Frame.{Frame as Frame'};
 ghost use Rattle.codec_source.specs.proving.Frames.{Before, BeforeStops, Goes, GoesStop, IfRefused, IfRefusedWith, Never, Same};
 ghost use Rattle.std.specs.Prelude.{◌≡◌, ◌≤◌, ◌∷◌, [], IfSome, List, OnOk, ℕ};
 
-use crate::fault::ReadFault;
 use crate::source::Source;
 use asn_base::schema::TypeId;
-use codec_code::{Brief, Code, Head, LeafKind};
+use codec_code::{Brief, Code, Head};
+use decode_faults::ReadFault;
+use encodings::LeafKind;
 
 /// The header and the kind of contents, if the routine of the type is a header, contents and the end; otherwise None.
 /// The type of such a routine has one tag, and its values hold no others.

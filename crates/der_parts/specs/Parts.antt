@@ -3,7 +3,7 @@ use Rattle.std.specs.Prelude.{◌≡◌, List, [], ◌∷◌, ◌++◌, length, 
 use Rattle.asn_base.specs.Abstract.{abstract}
 use Rattle.encodings.specs.Header.{Octets}
 use Rattle.encodings.specs.Fewest.{shortest_header}
-use Rattle.codec_code.specs.Steps.{HasContents}
+use Rattle.encodings.specs.Leaves.{HasContents}
 use Rattle.der_parts.specs.declared.part.Part.{Part}
 use Rattle.der_parts.specs.declared.part.Part.TheVariants.{Header, Contents, Small}
 use Rattle.der_parts.specs.declared.small.Small.{Small as Small'}

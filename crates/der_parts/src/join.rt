@@ -1,7 +1,7 @@
 //! The octets of parts, added to a list.
 
 ghost use Rattle.asn_base.specs.Abstract.{abstract};
-ghost use Rattle.codec_code.specs.Steps.{HasContents};
+ghost use Rattle.encodings.specs.Leaves.{HasContents};
 ghost use Rattle.der_parts.specs.Parts.{IsPart, Spell, held};
 ghost use Rattle.std.specs.Prelude.{◌≡◌, ◌++◌, List, OnOk, ℕ};
 
@@ -9,7 +9,7 @@ use crate::header::push_header;
 use crate::part::Part;
 use crate::small::{Small, octets_held};
 use asn_base::value::Value;
-use codec_code::LeafKind;
+use encodings::LeafKind;
 use leaf_contents::{leaf_len, push_leaf};
 use std::alloc::AllocError;
 

@@ -3,7 +3,7 @@
 use crate::small::Small;
 use asn_base::tag::Tag;
 use asn_base::value::Value;
-use codec_code::LeafKind;
+use encodings::LeafKind;
 
 /// A part of an encoding. An encoding is a list of parts in order.
 #[derive(Clone, Copy)]

@@ -1,8 +1,8 @@
 -- Parts spell one list of octets.
 use Rattle.std.proofs.Common.{◌≡◌, List, [], ◌∷◌, ◌++◌, sym, ap, ◌∙◌}
 use Rattle.asn_base.specs.Abstract.{AbstractValue, abstract}
-use Rattle.codec_code.specs.Steps.{HasContents}
-use Rattle.codec_code.specs.declared.step.LeafKind.{LeafKind}
+use Rattle.encodings.specs.Leaves.{HasContents}
+use Rattle.encodings.specs.declared.leaf_kind.LeafKind.{LeafKind}
 use Rattle.encodings.specs.Header.{Octets}
 use Rattle.der_parts.specs.declared.part.Part.{Part}
 use Rattle.der_parts.specs.declared.part.Part.TheVariants.{Header, Contents, Small}

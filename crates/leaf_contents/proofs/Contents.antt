@@ -11,9 +11,9 @@ use Rattle.encodings.specs.Header.{septets}
 use Rattle.encodings.specs.Rules.{Distinguished}
 use Rattle.encodings.specs.Strings.{whole, whole_bits}
 use Rattle.encodings.specs.Contents.{Contents, Number, joined, of_false, of_true, of_integer, of_enumerated, of_bits, of_named_bits, of_octets, of_null, of_oid, of_relative_oid, of_utf8, of_restricted}
-use Rattle.codec_code.specs.declared.step.LeafKind.{LeafKind}
-use Rattle.codec_code.specs.declared.step.LeafKind.TheVariants as leaves
-use Rattle.codec_code.specs.Steps.{HasContents}
+use Rattle.encodings.specs.declared.leaf_kind.LeafKind.{LeafKind}
+use Rattle.encodings.specs.declared.leaf_kind.LeafKind.TheVariants as leaves
+use Rattle.encodings.specs.Leaves.{HasContents}
 use Rattle.leaf_contents.specs.Ends.{FilledPieces, TrimmedPieces}
 use Rattle.leaf_contents.specs.Held.{HasNone}
 use Rattle.leaf_contents.specs.Pieces.{joined_pieces}

@@ -5,9 +5,9 @@ use Rattle.asn_base.specs.Types.{Kind, Resolved}
 use Rattle.asn_base.specs.Same.{AlikeBy, equal, zeros}
 use Rattle.encodings.specs.Rules.{Distinguished}
 use Rattle.encodings.specs.Contents.{Contents}
-use Rattle.codec_code.specs.declared.step.LeafKind.{LeafKind}
-use Rattle.codec_code.specs.declared.step.LeafKind.TheVariants.{Boolean, Integer, Enumerated, BitString, NamedBits, OctetString, Null, ObjectIdentifier, RelativeOid, Utf8String, RestrictedString}
-use Rattle.codec_code.specs.Steps.{plain, HasContents}
+use Rattle.encodings.specs.declared.leaf_kind.LeafKind.{LeafKind}
+use Rattle.encodings.specs.declared.leaf_kind.LeafKind.TheVariants.{Boolean, Integer, Enumerated, BitString, NamedBits, OctetString, Null, ObjectIdentifier, RelativeOid, Utf8String, RestrictedString}
+use Rattle.encodings.specs.Leaves.{plain, HasContents}
 
 zeros_add : (m n : ℕ) → replicate (m + n) false ≡ replicate m false ++ replicate n false
 zeros_add zero n = ap (λ k. replicate k false) (let e : 0 + n ≡ n = omega arith in e)

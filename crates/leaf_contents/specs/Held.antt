@@ -1,8 +1,8 @@
 -- Whether a value has contents octets of a kind.
 use Rattle.std.specs.Prelude.{List, ℕ}
 use Rattle.asn_base.specs.Abstract.{AbstractValue}
-use Rattle.codec_code.specs.declared.step.LeafKind.{LeafKind}
-use Rattle.codec_code.specs.Steps.{HasContents}
+use Rattle.encodings.specs.declared.leaf_kind.LeafKind.{LeafKind}
+use Rattle.encodings.specs.Leaves.{HasContents}
 
 -- the value has contents octets of this kind
 abbrev pub HasSome : LeafKind → AbstractValue → Type 0

@@ -1,8 +1,8 @@
 //! Laws of contents octets.
 
 ghost use Rattle.asn_base.specs.Abstract.{AbstractValue};
-ghost use Rattle.codec_code.specs.Steps.{HasContents};
-ghost use Rattle.codec_code.specs.declared.step.LeafKind.{LeafKind};
+ghost use Rattle.encodings.specs.Leaves.{HasContents};
+ghost use Rattle.encodings.specs.declared.leaf_kind.LeafKind.{LeafKind};
 ghost use Rattle.std.specs.Prelude.{◌≡◌, List, ℕ};
 
 use encodings::leaf_laws;

@@ -2,8 +2,11 @@
 
 ghost use Rattle.asn_base.specs.Abstract.{abstract, boolean};
 ghost use Rattle.asn_base.specs.Types.{a_boolean};
-ghost use Rattle.codec_code.specs.Steps.{HasContents};
-ghost use Rattle.codec_code.specs.declared.step.LeafKind.TheVariants.{BitString, Boolean, Enumerated, Integer, NamedBits, Null, ObjectIdentifier, OctetString, RelativeOid, RestrictedString, Utf8String};
+ghost use Rattle.encodings.specs.Leaves.{HasContents};
+ghost use Rattle.encodings.specs.declared.leaf_kind.LeafKind.TheVariants.{BitString, Boolean, Enumerated, Integer};
+ghost use Rattle.encodings.specs.declared.leaf_kind.LeafKind.TheVariants.{NamedBits, Null, ObjectIdentifier};
+ghost use Rattle.encodings.specs.declared.leaf_kind.LeafKind.TheVariants.{OctetString, RelativeOid, RestrictedString};
+ghost use Rattle.encodings.specs.declared.leaf_kind.LeafKind.TheVariants.{Utf8String};
 ghost use Rattle.encodings.specs.Contents.{Contents, Number};
 ghost use Rattle.encodings.specs.Rules.{Distinguished};
 ghost use Rattle.leaf_contents.specs.Held.{HasNone};
@@ -17,7 +20,7 @@ use arrayvec::ArrayVec;
 use asn_base::law::abstract_values;
 use asn_base::strings::StringKind;
 use asn_base::value::Value;
-use codec_code::LeafKind;
+use encodings::LeafKind;
 
 /// The contents octets of a value, as pieces that take no memory.
 #[derive(Drop)]

@@ -1,7 +1,7 @@
 //! The number of contents octets.
 
 ghost use Rattle.asn_base.specs.Abstract.{abstract};
-ghost use Rattle.codec_code.specs.Steps.{HasContents};
+ghost use Rattle.encodings.specs.Leaves.{HasContents};
 ghost use Rattle.encodings.specs.Header.{septets};
 ghost use Rattle.leaf_contents.specs.Held.{HasNone};
 ghost use Rattle.leaf_contents.specs.Pieces.{joined_pieces};
@@ -11,7 +11,7 @@ use crate::buffer::push_septets;
 use crate::leaf::{LeafOctets, leaf_octets};
 use arrayvec::ArrayVec;
 use asn_base::value::Value;
-use codec_code::LeafKind;
+use encodings::LeafKind;
 
 /// How many contents octets of this kind the value has, or None if it has none of this kind. It takes no memory.
 pub fn leaf_len(kind: LeafKind, value: &Value) -> Option<u64>

@@ -1,7 +1,7 @@
 //! Contents octets that are added to a list.
 
 ghost use Rattle.asn_base.specs.Abstract.{abstract};
-ghost use Rattle.codec_code.specs.Steps.{HasContents};
+ghost use Rattle.encodings.specs.Leaves.{HasContents};
 ghost use Rattle.encodings.specs.Header.{septets};
 ghost use Rattle.leaf_contents.specs.Held.{HasSome};
 ghost use Rattle.leaf_contents.specs.Pieces.{joined_pieces, last_of};
@@ -13,7 +13,7 @@ use crate::law::one_contents;
 use crate::leaf::{LeafOctets, leaf_octets};
 use arrayvec::ArrayVec;
 use asn_base::value::Value;
-use codec_code::LeafKind;
+use encodings::LeafKind;
 use std::alloc::AllocError;
 
 /// Adds the contents octets of this kind for the value, which must have some. `AllocError`: an allocation failed, and

@@ -8,9 +8,9 @@ use Rattle.asn_base.specs.Typed.{IsWithinLimit, IsObjectIdentifier, arcs, IsRela
 use Rattle.encodings.specs.Rules.{Basic}
 use Rattle.encodings.specs.Strings.{WholeBits, whole_bits, whole}
 use Rattle.encodings.specs.Contents.{TwosComplement, not_negative, negative, Number, Contents, joined, of_false, of_true, of_integer, of_enumerated, of_bits, of_named_bits, of_octets, of_null, of_oid, of_relative_oid, of_utf8, of_restricted}
-use Rattle.codec_code.specs.declared.step.LeafKind.{LeafKind}
-use Rattle.codec_code.specs.declared.step.LeafKind.TheVariants as kinds
-use Rattle.codec_code.specs.Steps.{plain}
+use Rattle.encodings.specs.declared.leaf_kind.LeafKind.{LeafKind}
+use Rattle.encodings.specs.declared.leaf_kind.LeafKind.TheVariants as kinds
+use Rattle.encodings.specs.Leaves.{plain}
 use Rattle.leaf_readings.specs.declared.fault.LeafFault.{LeafFault}
 use Rattle.leaf_readings.specs.declared.leaf.Leaf.{Leaf}
 use Rattle.leaf_readings.specs.Leaves.{Suits, IsReadAs, Reads}

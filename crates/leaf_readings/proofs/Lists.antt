@@ -8,7 +8,7 @@ use Rattle.asn_base.specs.Typed.{IsObjectIdentifier, arcs, IsRelativeOid}
 use Rattle.encodings.specs.Header.{septets}
 use Rattle.encodings.specs.Strings.{WholeBits}
 use Rattle.encodings.specs.Contents.{joined}
-use Rattle.codec_code.specs.declared.step.LeafKind.TheVariants.{ObjectIdentifier, RelativeOid}
+use Rattle.encodings.specs.declared.leaf_kind.LeafKind.TheVariants.{ObjectIdentifier, RelativeOid}
 use Rattle.leaf_readings.specs.declared.fault.LeafFault.TheVariants.{BadContents, OidLimit}
 use Rattle.leaf_readings.specs.Leaves.{bits_but}
 use Rattle.leaf_readings.specs.Refused.{AreNumbers, Stands, without_form, oid_past, relative_past}

@@ -12,8 +12,8 @@ use Rattle.asn_base.specs.Typed.{IsWithinLimit, IsObjectIdentifier, IsRelativeOi
 use Rattle.encodings.specs.Header.{septets}
 use Rattle.encodings.specs.Strings.{whole}
 use Rattle.encodings.specs.Contents.{joined, of_false, of_true, of_integer, of_enumerated, of_null, of_oid, of_relative_oid, of_utf8, of_restricted}
-use Rattle.codec_code.specs.declared.step.LeafKind.{LeafKind}
-use Rattle.codec_code.specs.declared.step.LeafKind.TheVariants as kinds
+use Rattle.encodings.specs.declared.leaf_kind.LeafKind.{LeafKind}
+use Rattle.encodings.specs.declared.leaf_kind.LeafKind.TheVariants as kinds
 use Rattle.leaf_readings.specs.declared.fault.LeafFault.{LeafFault}
 use Rattle.leaf_readings.specs.declared.fault.LeafFault.TheVariants.{BadContents, IntegerLimit, OidLimit}
 use Rattle.leaf_readings.specs.declared.leaf.Leaf.{Leaf}

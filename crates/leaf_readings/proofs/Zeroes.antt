@@ -6,9 +6,9 @@ use Rattle.asn_base.specs.Abstract.{AbstractValue, bits_of_octet}
 use Rattle.encodings.specs.Rules.{Basic, Distinguished}
 use Rattle.encodings.specs.Strings.{WholeBits, whole_bits}
 use Rattle.encodings.specs.Contents.{Contents, EndsInOne, FilledWithZeros, of_false, of_true, of_integer, of_enumerated, of_bits, of_named_bits, of_octets, of_null, of_oid, of_relative_oid, of_utf8, of_restricted}
-use Rattle.codec_code.specs.declared.step.LeafKind.{LeafKind}
-use Rattle.codec_code.specs.declared.step.LeafKind.TheVariants as kinds
-use Rattle.codec_code.specs.Steps.{plain}
+use Rattle.encodings.specs.declared.leaf_kind.LeafKind.{LeafKind}
+use Rattle.encodings.specs.declared.leaf_kind.LeafKind.TheVariants as kinds
+use Rattle.encodings.specs.Leaves.{plain}
 use Rattle.leaf_readings.specs.proving.Zeros.{IsTruth, low_bits, one_bit}
 use Rattle.leaf_readings.proofs.Lists.{eight_each, head_same, tail_same, take_drop}
 use Rattle.leaf_readings.proofs.Exact.{front_same}

@@ -9,9 +9,9 @@ use Rattle.asn_base.specs.Typed.{IsWithinLimit, IsObjectIdentifier, IsRelativeOi
 use Rattle.encodings.specs.Header.{Octets, septets}
 use Rattle.encodings.specs.Rules.{Basic}
 use Rattle.encodings.specs.Contents.{Contents, joined}
-use Rattle.codec_code.specs.declared.step.LeafKind.{LeafKind}
-use Rattle.codec_code.specs.declared.step.LeafKind.TheVariants as kinds
-use Rattle.codec_code.specs.Steps.{plain}
+use Rattle.encodings.specs.declared.leaf_kind.LeafKind.{LeafKind}
+use Rattle.encodings.specs.declared.leaf_kind.LeafKind.TheVariants as kinds
+use Rattle.encodings.specs.Leaves.{plain}
 use Rattle.leaf_readings.specs.declared.leaf.Leaf.{Leaf}
 use Rattle.leaf_readings.specs.declared.leaf.Leaf.TheVariants as leaves
 

@@ -6,8 +6,8 @@ use Rattle.asn_base.specs.Typed.{IsWithinLimit, IsObjectIdentifier, IsRelativeOi
 use Rattle.encodings.specs.Header.{Octets, septets}
 use Rattle.encodings.specs.Strings.{WholeBits}
 use Rattle.encodings.specs.Contents.{Number, joined}
-use Rattle.codec_code.specs.declared.step.LeafKind.{LeafKind}
-use Rattle.codec_code.specs.declared.step.LeafKind.TheVariants as kinds
+use Rattle.encodings.specs.declared.leaf_kind.LeafKind.{LeafKind}
+use Rattle.encodings.specs.declared.leaf_kind.LeafKind.TheVariants as kinds
 use Rattle.leaf_readings.specs.declared.fault.LeafFault.{LeafFault}
 use Rattle.leaf_readings.specs.declared.fault.LeafFault.TheVariants as faults
 

@@ -1,7 +1,7 @@
 //! The numbers of OBJECT IDENTIFIER and RELATIVE-OID (X.690, 8.19 and 8.20).
 
 ghost use Rattle.asn_base.specs.Typed.{IsObjectIdentifier, IsRelativeOid};
-ghost use Rattle.codec_code.specs.declared.step.LeafKind.TheVariants.{ObjectIdentifier, RelativeOid};
+ghost use Rattle.encodings.specs.declared.leaf_kind.LeafKind.TheVariants.{ObjectIdentifier, RelativeOid};
 ghost use Rattle.encodings.specs.Contents.{joined};
 ghost use Rattle.encodings.specs.Header.{septets};
 ghost use Rattle.leaf_readings.specs.Refused.{Stands};

@@ -1,14 +1,14 @@
 //! Whether contents octets fulfil the distinguished rules (X.690, 11.1 and 11.2).
 
 ghost use Rattle.asn_base.specs.Abstract.{AbstractValue, bits_of_octet};
-ghost use Rattle.codec_code.specs.Steps.{plain};
+ghost use Rattle.encodings.specs.Leaves.{plain};
 ghost use Rattle.encodings.specs.Contents.{Contents, EndsInOne, FilledWithZeros};
 ghost use Rattle.encodings.specs.Rules.{Basic, Distinguished};
 ghost use Rattle.encodings.specs.Strings.{WholeBits};
 ghost use Rattle.leaf_readings.specs.proving.Zeros.{IsTruth, low_bits, one_bit};
 ghost use Rattle.std.specs.Prelude.{◌≡◌, ◌<◌, ◌↔◌, Bool, IsTrue, List, false, replicate, true};
 
-use codec_code::LeafKind;
+use encodings::LeafKind;
 
 /// Whether primitive contents octets of this kind, which are valid by the basic rules, fulfil the distinguished ones
 /// too. All bits of TRUE are set (11.1), the unused bits of a BIT STRING are zeros (11.2.1), and named bits end in a

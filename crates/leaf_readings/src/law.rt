@@ -1,7 +1,7 @@
 //! Laws of the values as which contents octets are read.
 
 ghost use Rattle.asn_base.specs.Abstract.{AbstractValue};
-ghost use Rattle.codec_code.specs.declared.step.LeafKind.{LeafKind};
+ghost use Rattle.encodings.specs.declared.leaf_kind.LeafKind.{LeafKind};
 ghost use Rattle.leaf_readings.specs.Leaves.{IsReadAs};
 ghost use Rattle.leaf_readings.specs.Refused.{Stands};
 ghost use Rattle.leaf_readings.specs.declared.fault.LeafFault.{LeafFault};

@@ -1,6 +1,9 @@
 //! The values as which contents octets are read.
 
-ghost use Rattle.codec_code.specs.declared.step.LeafKind.TheVariants.{BitString, Boolean, Enumerated, Integer, NamedBits, Null, ObjectIdentifier, OctetString, RelativeOid, RestrictedString, Utf8String};
+ghost use Rattle.encodings.specs.declared.leaf_kind.LeafKind.TheVariants.{BitString, Boolean, Enumerated, Integer};
+ghost use Rattle.encodings.specs.declared.leaf_kind.LeafKind.TheVariants.{NamedBits, Null, ObjectIdentifier};
+ghost use Rattle.encodings.specs.declared.leaf_kind.LeafKind.TheVariants.{OctetString, RelativeOid, RestrictedString};
+ghost use Rattle.encodings.specs.declared.leaf_kind.LeafKind.TheVariants.{Utf8String};
 ghost use Rattle.asn_base.specs.Abstract.{AbstractValue};
 ghost use Rattle.leaf_readings.specs.Leaves.{IsReadAs, Reads};
 ghost use Rattle.leaf_readings.specs.Refused.{Stands};
@@ -13,7 +16,7 @@ use crate::fault::LeafFault;
 use crate::number::{are_octets, read_number};
 use crate::text::{read_restricted, read_utf8};
 use asn_base::strings::StringKind;
-use codec_code::LeafKind;
+use encodings::LeafKind;
 
 /// A value that holds no others, as it is read. It takes no memory, and its strings are slices of the octets that were
 /// read.

@@ -6,12 +6,11 @@ ghost use Rattle.messages.specs.Classes.{addition_class_of, reason_class_of, rea
 
 use crate::fault::Fault;
 use additions::ExtFault;
-use codec_source::ReadFault;
 use constraints::BoundFault;
+use decode_faults::{ReadFault, Refusal};
 use front_end::FrontFault;
 use names::{Limit, NameFault};
 use notation::SyntaxFault;
-use packed_readings::Refusal;
 use tagging::TagFault;
 use text::LexFault;
 use told_values::Reason;

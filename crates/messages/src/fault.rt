@@ -7,9 +7,8 @@ ghost use Rattle.messages.specs.declared.fault.Fault.TheVariants.{Memory};
 
 use crate::classes::told_class;
 use account_text::Stop;
-use codec_source::ReadFault;
+use decode_faults::{ReadFault, Refusal};
 use front_end::FrontFault;
-use packed_readings::Refusal;
 use std::alloc::{AllocError, AllocFailed};
 use thiserror::Error;
 use told_values::ValueTold;

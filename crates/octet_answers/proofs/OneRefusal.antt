@@ -9,7 +9,7 @@ use Rattle.asn_base.specs.Types.{Resolved}
 use Rattle.asn_base.specs.Tags.{First}
 use Rattle.codec_code.specs.Routines.{routine_at}
 use Rattle.codec_code.specs.declared.step.Head.{Head}
-use Rattle.codec_code.specs.declared.step.LeafKind.{LeafKind}
+use Rattle.encodings.specs.declared.leaf_kind.LeafKind.{LeafKind}
 use Rattle.codec_code.specs.declared.step.Field.{Field}
 use Rattle.codec_code.specs.declared.step.Step.{Step}
 use Rattle.octets.specs.Fronts.{HeaderAt, Stands}
@@ -19,7 +19,7 @@ use Rattle.leaf_readings.specs.Refused.{Stands as StandsOf}
 use Rattle.leaf_readings.specs.declared.fault.LeafFault.{LeafFault}
 use Rattle.segmented_strings.specs.Joining.{Fails, IsJoinedAs}
 use Rattle.segmented_strings.specs.declared.fault.Why.{Why}
-use Rattle.codec_source.specs.declared.fault.ReadFault.{ReadFault}
+use Rattle.decode_faults.specs.declared.read_fault.ReadFault.{ReadFault}
 use Rattle.codec_source.specs.Events.{Event, begins, ends, opens, closes, holds, skips, stands, more, among, picks}
 use Rattle.codec_source.specs.Events.{Question, to_begin, to_end, to_open, to_close, to_hold, to_skip, whether_stands, whether_more, which_stands, which_picked}
 use Rattle.octet_answers.specs.Units.{UnitAt}

@@ -8,7 +8,7 @@ use Rattle.asn_base.specs.Tags.{First}
 use Rattle.asn_base.specs.Names.{IsMember}
 use Rattle.encodings.specs.Header.{Octets}
 use Rattle.codec_code.specs.declared.step.Head.{Head}
-use Rattle.codec_code.specs.declared.step.LeafKind.{LeafKind}
+use Rattle.encodings.specs.declared.leaf_kind.LeafKind.{LeafKind}
 use Rattle.codec_code.specs.declared.step.Field.{Field}
 use Rattle.codec_code.specs.declared.step.Step.{Step}
 use Rattle.codec_code.specs.Steps.{may_be_absent}

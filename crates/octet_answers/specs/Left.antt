@@ -11,17 +11,18 @@ use Rattle.octets.specs.Fronts.{Stands}
 use Rattle.octets.specs.declared.fault.HeaderFault.{HeaderFault}
 use Rattle.octets.specs.declared.fault.HeaderFault.TheVariants as headers
 use Rattle.codec_code.specs.declared.step.Head.{Head}
-use Rattle.codec_code.specs.declared.step.LeafKind.{LeafKind}
+use Rattle.encodings.specs.declared.leaf_kind.LeafKind.{LeafKind}
 use Rattle.codec_code.specs.declared.step.Field.{Field}
 use Rattle.codec_code.specs.declared.step.Step.{Step}
 use Rattle.codec_code.specs.Steps.{may_be_absent}
 use Rattle.codec_code.specs.Routines.{routine_at}
 use Rattle.codec_source.specs.Events.{Question, to_begin, to_end, to_open, to_close, to_hold, to_skip}
 use Rattle.codec_source.specs.Events.{whether_stands, which_stands, which_picked}
-use Rattle.codec_source.specs.declared.fault.ReadFault.{ReadFault}
-use Rattle.codec_source.specs.declared.fault.ReadFault.TheVariants.{Truncated, Indefinite, BadLength, BadTag}
-use Rattle.codec_source.specs.declared.fault.ReadFault.TheVariants.{UnexpectedTag, Missing, BadContents, EmptySegments}
-use Rattle.codec_source.specs.declared.fault.ReadFault.TheVariants.{IntegerLimit, OidLimit, TooDeep}
+use Rattle.decode_faults.specs.declared.read_fault.ReadFault.{ReadFault}
+use Rattle.decode_faults.specs.declared.read_fault.ReadFault.TheVariants.{Truncated, Indefinite, BadLength, BadTag}
+use Rattle.decode_faults.specs.declared.read_fault.ReadFault.TheVariants.{UnexpectedTag, Missing, BadContents}
+use Rattle.decode_faults.specs.declared.read_fault.ReadFault.TheVariants.{EmptySegments}
+use Rattle.decode_faults.specs.declared.read_fault.ReadFault.TheVariants.{IntegerLimit, OidLimit, TooDeep}
 use Rattle.leaf_readings.specs.Refused.{Stands as StandsOf}
 use Rattle.leaf_readings.specs.declared.fault.LeafFault.{LeafFault}
 use Rattle.leaf_readings.specs.declared.fault.LeafFault.TheVariants as leaves

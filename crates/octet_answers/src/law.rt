@@ -7,7 +7,7 @@ ghost use Rattle.octet_answers.specs.Left.{Leaves};
 ghost use Rattle.octet_answers.specs.States.{State};
 ghost use Rattle.octet_answers.specs.Units.{UnitAt};
 ghost use Rattle.codec_source.specs.Events.{Alike, Event, Question};
-ghost use Rattle.codec_source.specs.declared.fault.ReadFault.{ReadFault};
+ghost use Rattle.decode_faults.specs.declared.read_fault.ReadFault.{ReadFault};
 ghost use Rattle.std.specs.Prelude.{◌≡◌, ◌≤◌, Bool, List, [], length, ℕ};
 
 use encodings::header_laws;

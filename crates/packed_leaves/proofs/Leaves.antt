@@ -11,8 +11,8 @@ use Rattle.asn_base.specs.Types.{Constraint, Item, NamedBit, Kind, Resolved, any
 use Rattle.asn_base.specs.Typed.{Fits, IsObjectIdentifier, IsRelativeOid, HasNumber}
 use Rattle.asn_base.specs.Same.{AlikeBy, equal, zeros}
 use Rattle.asn_base.specs.Schemas.{AreBounds, AreItems, AreNamedBits, IsNumber, IsSound}
-use Rattle.codec_code.specs.declared.step.LeafKind.TheVariants as leaves
-use Rattle.codec_code.specs.Steps.{HasContents}
+use Rattle.encodings.specs.declared.leaf_kind.LeafKind.TheVariants as leaves
+use Rattle.encodings.specs.Leaves.{HasContents}
 use Rattle.encodings.specs.Contents.{Contents, Number, EndsInOne, joined, of_integer, of_named_bits, of_oid, of_relative_oid}
 use Rattle.encodings.specs.Header.{Octets, septets}
 use Rattle.encodings.specs.Rules.{Distinguished}

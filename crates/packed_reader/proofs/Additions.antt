@@ -9,7 +9,7 @@ use Rattle.packed_encodings.specs.Lengths.{Bits, CountedOctets}
 use Rattle.packed_encodings.specs.Orders.{Member, missing, standing, component, stands, any_stands, has_bit, Addition, alone, bracketed}
 use Rattle.packed_encodings.specs.Padding.{Open, Unknown, no_bit, clear_bit, set_bit}
 use Rattle.packed_encodings.specs.Packing.{any_set, lenient, Members, no_member, must_stand, may_stand, is_missing, Additions, no_addition, added, not_added, group, no_group}
-use Rattle.packed_readings.specs.declared.refusal.Refusal.TheVariants as why
+use Rattle.decode_faults.specs.declared.refusal.Refusal.TheVariants as why
 use Rattle.packed_readings.specs.Outcome.{IsReading, Then, bit_from}
 use Rattle.packed_readings.specs.Counts.{octets_from}
 use Rattle.packed_reader.specs.Readings.{Taken, taken, IsExact}

@@ -19,8 +19,8 @@ use Rattle.asn_base.specs.Typed.{AreElements}
 use Rattle.asn_base.specs.Abstract.{end, absent, present}
 use Rattle.packed_encodings.specs.Packing.{Form, Elements, no_element, element, lenient, Says, says, Holds, leaf, sequence, set, sequence_of, set_of, choice, added_choice}
 use Rattle.packed_encodings.specs.Computed.{is_default, TellsDefaults}
-use Rattle.packed_readings.specs.declared.refusal.Refusal.{Refusal}
-use Rattle.packed_readings.specs.declared.refusal.Refusal.TheVariants as why
+use Rattle.decode_faults.specs.declared.refusal.Refusal.{Refusal}
+use Rattle.decode_faults.specs.declared.refusal.Refusal.TheVariants as why
 use Rattle.packed_readings.specs.Outcome.{found, stops, IsReading, Then, IsBit, IsField, IsSmall, bit_from, field_from, small_from}
 use Rattle.packed_readings.specs.Composing as c
 use Rattle.packed_readings.specs.Counts.{IsCount, count_from, IsSizing, size_from, InSize, several_bits, octets_from}

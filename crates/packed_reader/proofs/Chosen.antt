@@ -8,8 +8,8 @@ use Rattle.packed_encodings.specs.Lengths.{Bits}
 use Rattle.packed_encodings.specs.Leaves.{place_width, place_bits, root_bit}
 use Rattle.packed_encodings.specs.Orders.{rank}
 use Rattle.packed_encodings.specs.Computed.{type_of}
-use Rattle.packed_readings.specs.declared.refusal.Refusal.{Refusal}
-use Rattle.packed_readings.specs.declared.refusal.Refusal.TheVariants as why
+use Rattle.decode_faults.specs.declared.refusal.Refusal.{Refusal}
+use Rattle.decode_faults.specs.declared.refusal.Refusal.TheVariants as why
 use Rattle.packed_readings.specs.Outcome.{onward, IsReading, Then, IsJudged, good, bad, judging, IsBit, IsField, IsSmall, bit_from, field_from, small_from}
 use Rattle.packed_readings.specs.Composing as c
 use Rattle.packed_reader.specs.Values.{ranked, Chosen, in_root, added, root_choice, added_choice as the_added, root_chosen, chosen_from}

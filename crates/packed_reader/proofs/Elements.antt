@@ -8,8 +8,8 @@ use Rattle.packed_encodings.specs.Lengths.{Bits, Items, all_bits}
 use Rattle.packed_encodings.specs.Orders.{AtMost, Ascending, ascending_one, ascending_more}
 use Rattle.packed_encodings.specs.Packing as said
 use Rattle.packed_encodings.specs.Packing.{lenient, Says, Elements}
-use Rattle.packed_readings.specs.declared.refusal.Refusal.{Refusal}
-use Rattle.packed_readings.specs.declared.refusal.Refusal.TheVariants as why
+use Rattle.decode_faults.specs.declared.refusal.Refusal.{Refusal}
+use Rattle.decode_faults.specs.declared.refusal.Refusal.TheVariants as why
 use Rattle.packed_readings.specs.Outcome.{IsReading, Then, IsJudged, good, bad, judging}
 use Rattle.packed_readings.specs.Composing.{judged}
 use Rattle.packed_readings.specs.declared.count.Count.{Count}

@@ -3,8 +3,8 @@ use Rattle.std.proofs.Common.{arith, ◌≡◌, ◌-◌, Bool, true, false, [], 
 use Rattle.std.proofs.Math.Seq.{take-append_seam}
 use Rattle.std.specs.Prelude.{if◌then◌else◌}
 use Rattle.packed_encodings.specs.Lengths.{Bits}
-use Rattle.packed_readings.specs.declared.refusal.Refusal.{Refusal}
-use Rattle.packed_readings.specs.declared.refusal.Refusal.TheVariants.{Truncated}
+use Rattle.decode_faults.specs.declared.refusal.Refusal.{Refusal}
+use Rattle.decode_faults.specs.declared.refusal.Refusal.TheVariants.{Truncated}
 use Rattle.packed_readings.specs.Outcome.{Outcome, found, stops, IsReading, Then}
 use Rattle.packed_reader.specs.declared.part.Part.{Part}
 use Rattle.packed_reader.specs.Readings.{Fault, Reading, read, refused, stop, next, in_part, plain, tested, with_bits, IsExact}

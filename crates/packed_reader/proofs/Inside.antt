@@ -5,8 +5,8 @@ use Rattle.asn_base.specs.Abstract.{AbstractValue, Row}
 use Rattle.asn_base.specs.Types.{Component, Resolved}
 use Rattle.packed_encodings.specs.Lengths.{Bits}
 use Rattle.packed_code.specs.declared.step.PackedField.{PackedField}
-use Rattle.packed_readings.specs.declared.refusal.Refusal.{Refusal}
-use Rattle.packed_readings.specs.declared.refusal.Refusal.TheVariants as why
+use Rattle.decode_faults.specs.declared.refusal.Refusal.{Refusal}
+use Rattle.decode_faults.specs.declared.refusal.Refusal.TheVariants as why
 use Rattle.packed_reader.specs.declared.part.Part.{Part}
 use Rattle.packed_reader.specs.declared.part.Part.TheVariants.{Component as Component'}
 use Rattle.packed_reader.specs.declared.sent.Sent.{Sent}

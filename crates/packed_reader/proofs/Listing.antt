@@ -6,8 +6,8 @@ use Rattle.asn_base.specs.Abstract.{AbstractValue, list, row_of_list, present}
 use Rattle.asn_base.specs.Types.{Constraint, Resolved, TypeNumber, a_sequence_of, a_set_of}
 use Rattle.packed_encodings.specs.Computed.{kind_at}
 use Rattle.packed_encodings.specs.Lengths.{Bits}
-use Rattle.packed_readings.specs.declared.refusal.Refusal.{Refusal}
-use Rattle.packed_readings.specs.declared.refusal.Refusal.TheVariants as why
+use Rattle.decode_faults.specs.declared.refusal.Refusal.{Refusal}
+use Rattle.decode_faults.specs.declared.refusal.Refusal.TheVariants as why
 use Rattle.packed_readings.specs.declared.count.Count.{Count}
 use Rattle.packed_readings.specs.declared.size.Sizing.TheVariants.{AtOnce as at_once, Counted as counted}
 use Rattle.packed_readings.specs.Counts.{count_from, total, size_from, size_fault}

@@ -18,7 +18,7 @@ use Rattle.packed_encodings.specs.Computed.{is_default, kind_at}
 use Rattle.packed_encodings.specs.Leaves.{place_width}
 use Rattle.packed_encodings.specs.Lengths.{Bits, fewest_bits}
 use Rattle.packed_encodings.specs.Orders.{Member, missing, standing, component}
-use Rattle.packed_readings.specs.declared.refusal.Refusal.TheVariants as why
+use Rattle.decode_faults.specs.declared.refusal.Refusal.TheVariants as why
 use Rattle.packed_reader.specs.declared.part.Part.TheVariants.{Component as Component', Alternative as Alternative'}
 use Rattle.packed_reader.specs.declared.sent.Sent.{Sent}
 use Rattle.packed_reader.specs.declared.reader.Progress.{Progress}

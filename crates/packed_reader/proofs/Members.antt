@@ -10,7 +10,7 @@ use Rattle.packed_encodings.specs.Lengths.{Bits}
 use Rattle.packed_encodings.specs.Orders.{Member, missing, standing, component, stands, has_bit}
 use Rattle.packed_encodings.specs.Packing.{lenient, Says, Members, no_member, must_stand, may_stand, is_missing}
 use Rattle.packed_encodings.specs.Computed.{is_default}
-use Rattle.packed_readings.specs.declared.refusal.Refusal.TheVariants as why
+use Rattle.decode_faults.specs.declared.refusal.Refusal.TheVariants as why
 use Rattle.packed_readings.specs.Outcome.{IsReading, Then, bit_from}
 use Rattle.packed_reader.specs.Readings.{read, stop, in_part, Taken, taken, IsExact}
 use Rattle.packed_reader.specs.Levels.{is_within, may_lack}

@@ -9,7 +9,7 @@ use Rattle.asn_base.specs.Types.{Resolved, TypeNumber}
 use Rattle.encodings.specs.Header.{Octets}
 use Rattle.packed_encodings.specs.Lengths.{Bits}
 use Rattle.packed_encodings.specs.Packing.{Reads}
-use Rattle.packed_readings.specs.declared.refusal.Refusal.TheVariants as why
+use Rattle.decode_faults.specs.declared.refusal.Refusal.TheVariants as why
 use Rattle.packed_reader.specs.declared.fault.PerFault.{PerFault}
 use Rattle.packed_reader.specs.declared.fault.PerFault.TheVariants as per
 use Rattle.packed_reader.specs.declared.stop.Stop.{Stop}
@@ -21,7 +21,7 @@ use Rattle.packed_reader.specs.Structures.{is_filling, filled_from}
 use Rattle.packed_reader.specs.Values.{Answer, answers, too_long, faulty, answer_of, message_from, value_from}
 use Rattle.packed_reader.specs.proving.Code.{IsRefusalAt, IsStop}
 use Rattle.packed_reader.specs.proving.Running.{past, run_value}
-use Rattle.packed_readings.specs.declared.refusal.Refusal.{Refusal}
+use Rattle.decode_faults.specs.declared.refusal.Refusal.{Refusal}
 use Rattle.packed_reader.specs.declared.part.Part.{Part}
 use Rattle.packed_reader.proofs.Opening.{octets_length}
 

@@ -8,7 +8,7 @@ use Rattle.bits.specs.Words.{word, octet_bits}
 use Rattle.encodings.specs.Header.{Octets}
 use Rattle.packed_encodings.specs.Lengths.{Bits, Items, all_bits, Counted, short, long, fragment, CountedOctets}
 use Rattle.packed_encodings.specs.Padding.{Padded, padded_none, padded, Open, open_type}
-use Rattle.packed_readings.specs.declared.refusal.Refusal.TheVariants as why
+use Rattle.decode_faults.specs.declared.refusal.Refusal.TheVariants as why
 use Rattle.packed_readings.specs.Outcome.{IsReading}
 use Rattle.packed_readings.specs.Counts.{octets_from}
 use Rattle.packed_reader.specs.Readings.{Fault, Reading, read, refused, stop, next, plain, IsExact}

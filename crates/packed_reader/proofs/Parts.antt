@@ -1,7 +1,7 @@
 -- Elements after their number, as calls read them.
 use Rattle.std.proofs.Common.{arith, ◌≡◌, ◌≤◌, ◌<◌, ◌+◌, ◌*◌, ◌==◌, ◌∷◌, ◌++◌, [], ℕ, zero, suc, Bool, true, false, List, Option, length, map, refl, sym, ap, subst, ◌∙◌}
 use Rattle.packed_encodings.specs.Lengths.{Bits}
-use Rattle.packed_readings.specs.declared.refusal.Refusal.{Refusal}
+use Rattle.decode_faults.specs.declared.refusal.Refusal.{Refusal}
 use Rattle.packed_readings.specs.declared.count.Count.TheVariants.{Last as last, Part as part}
 use Rattle.packed_readings.specs.Counts.{count_from, total}
 use Rattle.packed_readings.specs.Outcome.{judging, found}

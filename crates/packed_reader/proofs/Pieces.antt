@@ -10,7 +10,7 @@ use Rattle.packed_encodings.specs.Lengths.{Bits, CountedOctets}
 use Rattle.packed_encodings.specs.Orders.{Member, Addition}
 use Rattle.packed_encodings.specs.Padding.{Unknown}
 use Rattle.packed_encodings.specs.Packing.{any_set, lenient, TellAdditions}
-use Rattle.packed_readings.specs.declared.refusal.Refusal.TheVariants as why
+use Rattle.decode_faults.specs.declared.refusal.Refusal.TheVariants as why
 use Rattle.packed_readings.specs.Outcome.{IsReading, Then, bit_from, field_from}
 use Rattle.packed_readings.specs.Counts.{several_bits, octets_from}
 use Rattle.packed_reader.specs.Readings.{Taken, taken, IsExact}

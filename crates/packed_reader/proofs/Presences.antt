@@ -10,7 +10,7 @@ use Rattle.packed_code.specs.Meaning.{next_fields}
 use Rattle.packed_encodings.specs.Lengths.{Bits}
 use Rattle.packed_readings.specs.Counts.{several_bits}
 use Rattle.packed_readings.specs.Outcome.{found, stops}
-use Rattle.packed_readings.specs.declared.refusal.Refusal.TheVariants as why
+use Rattle.decode_faults.specs.declared.refusal.Refusal.TheVariants as why
 use Rattle.packed_reader.specs.declared.sent.Sent.{Sent}
 use Rattle.packed_reader.specs.declared.stop.Stop.{Stop}
 use Rattle.packed_reader.specs.Readings.{Reading, read, next}

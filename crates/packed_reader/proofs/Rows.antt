@@ -5,8 +5,8 @@ use Rattle.asn_base.specs.declared.tag.Class.TheVariants.{Context}
 use Rattle.asn_base.specs.declared.tag.Tag.{Tag}
 use Rattle.asn_base.specs.Abstract.{AbstractValue, boolean, integer, octets, null, fields, list, alternative, Row, end, absent, present}
 use Rattle.asn_base.specs.Types.{Constraint, any_number, any_size, Kind, a_boolean, an_integer, an_octet_string, a_null, a_sequence, a_set, a_sequence_of, a_set_of, a_choice, Presence, mandatory, optional, default, addition, Component, Alternative, Resolved}
-use Rattle.packed_readings.specs.declared.refusal.Refusal.{Refusal}
-use Rattle.packed_readings.specs.declared.refusal.Refusal.TheVariants.{Truncated, NotCanonical, Outside, UnknownAlternative, Padding, TooDeep, TooManyAdditions, NodesLimit}
+use Rattle.decode_faults.specs.declared.refusal.Refusal.{Refusal}
+use Rattle.decode_faults.specs.declared.refusal.Refusal.TheVariants.{Truncated, NotCanonical, Outside, UnknownAlternative, Padding, TooDeep, TooManyAdditions, NodesLimit}
 use Rattle.packed_reader.specs.declared.part.Part.{Part}
 use Rattle.packed_reader.specs.declared.part.Part.TheVariants as in_part
 use Rattle.packed_reader.specs.Readings.{Reading}

@@ -12,7 +12,7 @@ use Rattle.packed_code.specs.declared.step.PackedStep.{PackedStep}
 use Rattle.packed_code.specs.declared.step.PackedStep.TheVariants as steps
 use Rattle.packed_code.specs.Meaning.{next_fields}
 use Rattle.packed_code.specs.Routines.{place_in}
-use Rattle.packed_readings.specs.declared.refusal.Refusal.TheVariants as why
+use Rattle.decode_faults.specs.declared.refusal.Refusal.TheVariants as why
 use Rattle.packed_reader.specs.declared.part.Part.TheVariants.{Component as Component'}
 use Rattle.packed_reader.specs.Readings.{Reading, read, refused, stop, next, in_part, tested, Taken, taken}
 use Rattle.packed_reader.specs.Structures.{ReadsValue, presences_from, part_of, joined, members_from, open_from, group_from, by_itself, in_brackets, addition_from, lacking_addition, without, additions_from, unknown_from, bitmap_from, own_bits, and_unknown, rest_from, with_value, with_members, members_in}

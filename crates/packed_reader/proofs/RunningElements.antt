@@ -4,8 +4,8 @@ use Rattle.std.specs.Prelude.{◌-◌, if◌then◌else◌, Option}
 use Rattle.asn_base.specs.Abstract.{AbstractValue, present}
 use Rattle.asn_base.specs.Types.{Constraint}
 use Rattle.packed_encodings.specs.Lengths.{Bits}
-use Rattle.packed_readings.specs.declared.refusal.Refusal.{Refusal}
-use Rattle.packed_readings.specs.declared.refusal.Refusal.TheVariants as why
+use Rattle.decode_faults.specs.declared.refusal.Refusal.{Refusal}
+use Rattle.decode_faults.specs.declared.refusal.Refusal.TheVariants as why
 use Rattle.packed_readings.specs.Outcome.{judging}
 use Rattle.packed_readings.specs.declared.count.Count.{Count}
 use Rattle.packed_readings.specs.declared.count.Count.TheVariants.{Last as last, Part as part}

@@ -10,7 +10,7 @@ use Rattle.packed_encodings.specs.Packing.{any_set}
 use Rattle.packed_encodings.specs.Computed.{is_default}
 use Rattle.packed_code.specs.declared.step.PackedField.{PackedField}
 use Rattle.packed_code.specs.Routines.{place_in}
-use Rattle.packed_readings.specs.declared.refusal.Refusal.TheVariants as why
+use Rattle.decode_faults.specs.declared.refusal.Refusal.TheVariants as why
 use Rattle.packed_reader.specs.declared.part.Part.TheVariants.{Component as Component'}
 use Rattle.packed_reader.specs.declared.sent.Sent.{Sent}
 use Rattle.packed_reader.specs.Levels.{is_within, may_lack}

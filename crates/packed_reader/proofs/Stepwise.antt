@@ -14,7 +14,7 @@ use Rattle.packed_code.specs.declared.step.PackedStep.{PackedStep}
 use Rattle.packed_code.specs.declared.step.PackedStep.TheVariants as steps
 use Rattle.packed_code.specs.Routines.{id_of, placed_from, field_at, root_steps, member_steps, addition_steps, rest_if, structure, root_calls, more_calls, integer_step, routine_of, routine_at}
 use Rattle.packed_code.specs.Meaning.{next_fields}
-use Rattle.packed_readings.specs.declared.refusal.Refusal.TheVariants as why
+use Rattle.decode_faults.specs.declared.refusal.Refusal.TheVariants as why
 use Rattle.packed_readings.specs.Outcome.{onward, good, bad, judging, bit_from, field_from, small_from}
 use Rattle.packed_readings.specs.Leaves.{leaf_from}
 use Rattle.packed_reader.specs.Readings.{read, stop, next, plain, taken}

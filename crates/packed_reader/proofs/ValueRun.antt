@@ -8,7 +8,7 @@ use Rattle.asn_base.specs.Typed.{ValueIn}
 use Rattle.asn_base.specs.Types.{Resolved, TypeNumber}
 use Rattle.packed_code.specs.Routines.{routine_at}
 use Rattle.packed_encodings.specs.Lengths.{Bits}
-use Rattle.packed_readings.specs.declared.refusal.Refusal.TheVariants as why
+use Rattle.decode_faults.specs.declared.refusal.Refusal.TheVariants as why
 use Rattle.packed_readings.specs.Counts.{octets_from}
 use Rattle.packed_readings.specs.Outcome.{found}
 use Rattle.packed_reader.specs.Readings.{Fault, Reading, read, refused, stop, next, in_part, plain, Taken, taken, IsExact}

@@ -12,8 +12,8 @@ use Rattle.encodings.specs.Header.{Octets}
 use Rattle.packed_encodings.specs.Lengths.{Bits, CountedOctets}
 use Rattle.packed_encodings.specs.Padding.{Padded, padded_none, padded}
 use Rattle.packed_encodings.specs.Packing.{lenient, Says, Reads}
-use Rattle.packed_readings.specs.declared.refusal.Refusal.{Refusal}
-use Rattle.packed_readings.specs.declared.refusal.Refusal.TheVariants as why
+use Rattle.decode_faults.specs.declared.refusal.Refusal.{Refusal}
+use Rattle.decode_faults.specs.declared.refusal.Refusal.TheVariants as why
 use Rattle.packed_reader.specs.Readings.{Fault, Reading, read, refused, stop, next, Taken, taken, IsExact}
 use Rattle.packed_reader.specs.Structures.{all_clear, is_filling, filled_from}
 use Rattle.packed_reader.specs.Values.{IsValueRead, value_from, answers, too_long, faulty, answer_of, message_from}

@@ -1,8 +1,8 @@
 -- The result of decoding the front of bits, and the part of a value that has a fault (X.691, 11).
 use Rattle.std.specs.Prelude.{◌≡◌, ◌-◌, ℕ, Bool, if◌then◌else◌, List, [], ◌∷◌, ◌++◌, length, take}
 use Rattle.packed_encodings.specs.Lengths.{Bits}
-use Rattle.packed_readings.specs.declared.refusal.Refusal.{Refusal}
-use Rattle.packed_readings.specs.declared.refusal.Refusal.TheVariants.{Truncated}
+use Rattle.decode_faults.specs.declared.refusal.Refusal.{Refusal}
+use Rattle.decode_faults.specs.declared.refusal.Refusal.TheVariants.{Truncated}
 use Rattle.packed_readings.specs.Outcome.{Outcome, found, stops}
 use Rattle.packed_reader.specs.declared.part.Part.{Part}
 

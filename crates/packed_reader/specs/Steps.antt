@@ -13,8 +13,8 @@ use Rattle.packed_code.specs.declared.step.PackedStep.{PackedStep}
 use Rattle.packed_code.specs.declared.step.PackedStep.TheVariants as steps
 use Rattle.packed_code.specs.Routines.{routine_at}
 use Rattle.packed_code.specs.Meaning.{next_fields}
-use Rattle.packed_readings.specs.declared.refusal.Refusal.{Refusal}
-use Rattle.packed_readings.specs.declared.refusal.Refusal.TheVariants as why
+use Rattle.decode_faults.specs.declared.refusal.Refusal.{Refusal}
+use Rattle.decode_faults.specs.declared.refusal.Refusal.TheVariants as why
 use Rattle.packed_readings.specs.Outcome.{Outcome, onward, Judged, good, bad, judging, bit_from, field_from, small_from}
 use Rattle.packed_readings.specs.Leaves.{leaf_from}
 use Rattle.packed_reader.specs.Readings.{Reading, read, stop, next, plain, Taken, taken}

@@ -9,7 +9,7 @@ use Rattle.packed_encodings.specs.Orders.{Member, missing, standing, component, 
 use Rattle.packed_encodings.specs.Packing.{any_set}
 use Rattle.packed_encodings.specs.Computed.{is_default}
 use Rattle.packed_code.specs.Routines.{place_in}
-use Rattle.packed_readings.specs.declared.refusal.Refusal.TheVariants as why
+use Rattle.decode_faults.specs.declared.refusal.Refusal.TheVariants as why
 use Rattle.packed_readings.specs.Outcome.{bit_from, field_from}
 use Rattle.packed_readings.specs.Counts.{several_bits, octets_from}
 use Rattle.packed_reader.specs.declared.part.Part.{Part}

@@ -14,7 +14,7 @@ use Rattle.packed_encodings.specs.Orders.{rank, Member, root_of, behind_marker, 
 use Rattle.packed_encodings.specs.Packing.{lenient, Says}
 use Rattle.packed_encodings.specs.Computed.{type_of}
 use Rattle.packed_code.specs.Routines.{placed_from}
-use Rattle.packed_readings.specs.declared.refusal.Refusal.TheVariants as why
+use Rattle.decode_faults.specs.declared.refusal.Refusal.TheVariants as why
 use Rattle.packed_readings.specs.Outcome.{Outcome, onward, Judged, good, bad, judging, bit_from, field_from, small_from}
 use Rattle.packed_readings.specs.Leaves.{leaf_from}
 use Rattle.packed_reader.specs.declared.part.Part.TheVariants.{Alternative as Alternative'}

@@ -4,13 +4,14 @@ ghost use Rattle.bits.specs.Left.{bits_left};
 ghost use Rattle.packed_reader.specs.Code.{HaveWidth, call_or, chosen_of};
 ghost use Rattle.packed_reader.specs.Steps.{added_call, call_from, or_refused, ranked_call, root_call};
 ghost use Rattle.packed_readings.specs.Outcome.{judging, outcome_by, small_from};
-ghost use Rattle.packed_readings.specs.declared.refusal.Refusal.TheVariants.{UnknownAlternative};
+ghost use Rattle.decode_faults.specs.declared.refusal.Refusal.TheVariants.{UnknownAlternative};
 ghost use Rattle.std.specs.Prelude.{◌≡◌, ◌≤◌};
 
 use asn_base::schema::TypeId;
 use bits::cursor::Bits;
+use decode_faults::Refusal;
 use packed_code::PackedStep;
-use packed_readings::{Refusal, read_bit, read_field, read_small};
+use packed_readings::{read_bit, read_field, read_small};
 
 /// An alternative: its number among those of the root and then the additions, its type, and whether it is an open type.
 #[derive(Clone, Copy, PartialEq, Eq, Debug)]

@@ -4,7 +4,7 @@ ghost use Rattle.packed_reader.specs.declared.fault.PerFault.TheVariants.{Memory
 ghost use Rattle.std.specs.Prelude.{◌≡◌};
 
 use crate::part::Part;
-use packed_readings::Refusal;
+use decode_faults::Refusal;
 use std::alloc::{AllocError, AllocFailed};
 use thiserror::Error;
 

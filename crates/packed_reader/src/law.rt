@@ -11,7 +11,7 @@ ghost use Rattle.packed_encodings.specs.Padding.{Padded};
 ghost use Rattle.packed_reader.specs.Readings.{Fault, IsExact};
 ghost use Rattle.packed_reader.specs.Steps.{value_by};
 ghost use Rattle.packed_reader.specs.Values.{IsValueRead, answers, faulty, message_from, too_long, value_from};
-ghost use Rattle.packed_readings.specs.declared.refusal.Refusal.TheVariants.{Padding, Truncated};
+ghost use Rattle.decode_faults.specs.declared.refusal.Refusal.TheVariants.{Padding, Truncated};
 ghost use Rattle.std.specs.Int.Digits.{AllBelowBase};
 ghost use Rattle.std.specs.Prelude.{◌≡◌, ◌↔◌, ◌*◌, ◌<◌, ◌≤◌, ℕ, Bool, List, [], ◌++◌, length};
 

@@ -12,8 +12,9 @@ ghost use Rattle.std.specs.Prelude.{◌≡◌, ◌≤◌, ◌^◌, IfErr, IfOk, 
 use asn_base::constraint::Constraint;
 use asn_base::value::Value;
 use bits::cursor::Bits;
+use decode_faults::Refusal;
 use packed_readings::law::count_laws;
-use packed_readings::{Count, Refusal, read_count};
+use packed_readings::{Count, read_count};
 use std::alloc::Global;
 
 /// Elements, and the bits of the last one.

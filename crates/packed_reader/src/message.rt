@@ -23,9 +23,9 @@ use crate::stop::Stop;
 use asn_base::schema::TypeId;
 use asn_base::value::Value;
 use bits::cursor::Bits;
+use decode_faults::Refusal;
 use limits::{MAX_LEVELS, MAX_MESSAGE, MAX_NODES};
 use packed_code::PackedCode;
-use packed_readings::Refusal;
 use std::alloc::Global;
 
 /// A value alone, and the bits that fill its last octet.

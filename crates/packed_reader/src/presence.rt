@@ -17,9 +17,10 @@ ghost use Rattle.std.specs.Prelude.{◌≡◌, ◌++◌, ◌∷◌, ◌≤◌, �
 use crate::sent::Sent;
 use crate::stop::Stop;
 use bits::cursor::Bits;
+use decode_faults::Refusal;
 use packed_code::{PackedField, PackedStep};
 use packed_readings::law::field_laws;
-use packed_readings::{Refusal, read_bit, read_field};
+use packed_readings::{read_bit, read_field};
 use packed_writer::field_of;
 use std::alloc::Global;
 

@@ -5,7 +5,8 @@ ghost use Rattle.packed_reader.specs.proving.Code.{IsStopAt, IsStopOf, IsWithin}
 ghost use Rattle.std.specs.Prelude.{◌≡◌};
 
 use crate::part::Part;
-use packed_readings::{PackedFault, Refusal};
+use decode_faults::Refusal;
+use packed_readings::PackedFault;
 use std::alloc::{AllocError, AllocFailed, Global};
 
 /// Why reading stops: an allocation failed; or the bits have a fault, in these parts of the value, the outermost first.

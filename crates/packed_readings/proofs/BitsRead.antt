@@ -13,7 +13,7 @@ use Rattle.std.specs.Prelude.{Vec}
 use Rattle.std.specs.declared.alloc.Global.{Global as Global'}
 use Rattle.asn_base.specs.declared.value.BitString.{BitString}
 use Rattle.asn_base.specs.Abstract.{bits_of_octet, bits_of}
-use Rattle.packed_readings.specs.declared.refusal.Refusal.{Refusal}
+use Rattle.decode_faults.specs.declared.refusal.Refusal.{Refusal}
 use Rattle.packed_readings.specs.declared.refusal.PackedFault.{PackedFault}
 use Rattle.packed_readings.specs.declared.bit_string.NextBits.{NextBits}
 use Rattle.packed_readings.specs.declared.bit_string.NextBits.TheVariants as nexts

@@ -11,8 +11,8 @@ use Rattle.std.proofs.lemmas.Nat.{pow_pos}
 use Rattle.bits.specs.Words.{word}
 use Rattle.packed_encodings.specs.Lengths.{Bits, Items, all_bits, fewest_bits}
 use Rattle.packed_encodings.specs.Leaves.{singly}
-use Rattle.packed_readings.specs.declared.refusal.Refusal.{Refusal}
-use Rattle.packed_readings.specs.declared.refusal.Refusal.TheVariants.{Truncated}
+use Rattle.decode_faults.specs.declared.refusal.Refusal.{Refusal}
+use Rattle.decode_faults.specs.declared.refusal.Refusal.TheVariants.{Truncated}
 use Rattle.packed_readings.specs.Outcome.{Outcome, found, stops, Judged, good, bad, bit_from, worth, block_from, field_from, small_from, each_from, IsBit, IsField, IsSmall, IsReading, Then, IsJudged}
 use Rattle.packed_readings.specs.Composing.{found_value, found_rest, stops_why, stops_where, not_both, not_either, next, judged, same}
 use Rattle.packed_readings.specs.Counts.{EachHas, none_has, one_has, AreSeveral, several_bits, several_octets, octets_in, IsOctet}

@@ -14,8 +14,8 @@ use Rattle.asn_base.specs.Schemas.{AreItems, AreBounds, IsSize}
 use Rattle.packed_encodings.specs.Lengths.{Bits, Items}
 use Rattle.packed_encodings.specs.Leaves.{place_width, place_bits, root_bit, root_item, added_item, CodesFit, Character, by_code, by_place, Characters, no_character, character, Leaf, of_enumerated, of_restricted}
 use Rattle.packed_encodings.specs.Computed.{codes_below}
-use Rattle.packed_readings.specs.declared.refusal.Refusal.{Refusal}
-use Rattle.packed_readings.specs.declared.refusal.Refusal.TheVariants as why
+use Rattle.decode_faults.specs.declared.refusal.Refusal.{Refusal}
+use Rattle.decode_faults.specs.declared.refusal.Refusal.TheVariants as why
 use Rattle.packed_readings.specs.Outcome.{Outcome, onward, Judged, good, bad, bit_from, small_from, each_from, IsBit, IsField, IsSmall, IsReading, Then, IsJudged, judging}
 use Rattle.packed_readings.specs.Composing.{next, judged, same}
 use Rattle.packed_readings.specs.Counts.{EachHas, none_has, one_has, AreSized, sized_from}

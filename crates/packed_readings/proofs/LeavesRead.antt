@@ -16,7 +16,7 @@ use Rattle.packed_encodings.specs.Lengths.{Bits, Counted, Sized, CountedOctets}
 use Rattle.packed_encodings.specs.Leaves.{singly, Leaf, of_boolean, of_bits, of_named_bits, of_octets, of_null, of_utf8}
 use Rattle.packed_readings.specs.declared.refusal.PackedFault.{PackedFault}
 use Rattle.packed_readings.specs.declared.refusal.PackedFault.TheVariants as packed_faults
-use Rattle.packed_readings.specs.declared.refusal.Refusal.TheVariants as why
+use Rattle.decode_faults.specs.declared.refusal.Refusal.TheVariants as why
 use Rattle.packed_readings.specs.Outcome.{found, stops, good, bad, bit_from, IsBit, IsReading, IsJudged, judging, each_from, onward, IsFault}
 use Rattle.packed_readings.specs.Composing.{judged, same, stops_why, stops_where, not_both}
 use Rattle.packed_readings.specs.Counts.{AreSized, AreCounted, IsOctet, any_total, several_bits, several_octets, counted_from, sized_from, octets_from, is_allowed}

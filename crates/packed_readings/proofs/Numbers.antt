@@ -12,7 +12,7 @@ use Rattle.packed_encodings.specs.Lengths.{Bits, fewest_bits, IsInRoot, CountedO
 use Rattle.packed_encodings.specs.Numbers.{IntegerInRoot, between, from_least, unbounded, Integer, integer_bounded, integer_in_root, integer_outside}
 use Rattle.packed_encodings.specs.Leaves.{Leaf, of_integer}
 use Rattle.packed_encodings.specs.Computed.{is_in_root}
-use Rattle.packed_readings.specs.declared.refusal.Refusal.TheVariants as why
+use Rattle.decode_faults.specs.declared.refusal.Refusal.TheVariants as why
 use Rattle.packed_readings.specs.Outcome.{Outcome, onward, Judged, good, bad, and_then, bit_from, field_from, IsBit, IsField, IsReading, Then, IsJudged, judging}
 use Rattle.packed_readings.specs.Composing.{next, judged, same}
 use Rattle.packed_readings.specs.Counts.{is_allowed, octets_from}

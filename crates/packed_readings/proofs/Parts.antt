@@ -5,8 +5,8 @@ use Rattle.std.proofs.lemmas.Bool.{lt-ltb, le-ltb, cases_lt, eq-eqb, eqb-true}
 use Rattle.std.proofs.lemmas.List.{append-nil}
 use Rattle.bits.specs.Words.{word}
 use Rattle.packed_encodings.specs.Lengths.{Bits, Items, all_bits, Counted, short, long, fragment}
-use Rattle.packed_readings.specs.declared.refusal.Refusal.{Refusal}
-use Rattle.packed_readings.specs.declared.refusal.Refusal.TheVariants.{NotCanonical}
+use Rattle.decode_faults.specs.declared.refusal.Refusal.{Refusal}
+use Rattle.decode_faults.specs.declared.refusal.Refusal.TheVariants.{NotCanonical}
 use Rattle.packed_readings.specs.Outcome.{Outcome, found, onward, good, bad, bit_from, field_from, IsBit, IsField, IsReading, Then, IsJudged, judging}
 use Rattle.packed_readings.specs.Composing.{Sound, Inside, Grows, sound_of, inside_of, grows_of, next_sound, next_inside, next_grows, stops_why, stops_where, not_both, next, judged, same, same_sound}
 use Rattle.packed_readings.specs.Counts.{Count, last, part, ToldCount, in_7_bits, in_14_bits, in_parts, told_count, canonical_count, count_from, IsCount, short_count, long_count, part_count, InParts, last_items, part_items, EachHas, none_has, one_has, AreSeveral, AreCounted, Several, total, items_of, parts_from, counted_from}

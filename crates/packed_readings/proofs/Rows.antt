@@ -7,7 +7,7 @@ use Rattle.asn_base.specs.Abstract.{AbstractValue, boolean, integer, enumerated,
 use Rattle.asn_base.specs.Types.{Range, Constraint, any_number, any_size, Item, Kind, a_boolean, an_integer, an_enumerated, a_bit_string, a_named_bit_string, an_octet_string, a_null, an_object_identifier, a_relative_oid, a_restricted_string}
 use Rattle.bits.specs.Words.{octet_bits, word}
 use Rattle.packed_encodings.specs.Lengths.{Bits}
-use Rattle.packed_readings.specs.declared.refusal.Refusal.TheVariants as why
+use Rattle.decode_faults.specs.declared.refusal.Refusal.TheVariants as why
 use Rattle.packed_readings.specs.Outcome.{Outcome, found, stops}
 use Rattle.packed_readings.specs.Counts.{count_from, size_from}
 use Rattle.packed_readings.specs.declared.count.Count.TheVariants.{Last as last, Part as part}

@@ -10,7 +10,7 @@ use Rattle.asn_base.specs.Typed.{IsObjectIdentifier, arcs, IsRelativeOid, Fits, 
 use Rattle.asn_base.specs.Types.{an_object_identifier, a_relative_oid}
 use Rattle.encodings.specs.Contents.{Contents, joined, of_oid as contents_oid, of_relative_oid as contents_relative}
 use Rattle.encodings.specs.Rules.{Basic}
-use Rattle.codec_code.specs.declared.step.LeafKind.TheVariants as kinds
+use Rattle.encodings.specs.declared.leaf_kind.LeafKind.TheVariants as kinds
 use Rattle.leaf_readings.specs.declared.fault.LeafFault.TheVariants as leaf_faults
 use Rattle.leaf_readings.specs.declared.leaf.Leaf.{Leaf as ReadLeaf}
 use Rattle.leaf_readings.specs.Leaves.{Reads}
@@ -19,7 +19,7 @@ use Rattle.packed_readings.specs.Code.{judge_oid, judge_relative}
 use Rattle.encodings.specs.Header.{Octets, septets}
 use Rattle.packed_encodings.specs.Lengths.{Bits, CountedOctets}
 use Rattle.packed_encodings.specs.Leaves.{Leaf, of_oid, of_relative_oid}
-use Rattle.packed_readings.specs.declared.refusal.Refusal.TheVariants as why
+use Rattle.decode_faults.specs.declared.refusal.Refusal.TheVariants as why
 use Rattle.packed_readings.specs.Outcome.{good, bad, found, onward, verdict, IsReading, IsJudged, judging}
 use Rattle.packed_readings.specs.Composing.{judged, same}
 use Rattle.packed_readings.specs.Counts.{octets_from}

@@ -10,7 +10,7 @@ use Rattle.std.proofs.lemmas.Int.Digits.{number_after_ge, number_lt}
 use Rattle.asn_base.specs.Typed.{IsWithinLimit}
 use Rattle.encodings.specs.Contents.{TwosComplement, not_negative, negative, Number}
 use Rattle.packed_encodings.specs.Numbers.{Unsigned, FewestUnsigned}
-use Rattle.packed_readings.specs.declared.refusal.Refusal.TheVariants as why
+use Rattle.decode_faults.specs.declared.refusal.Refusal.TheVariants as why
 use Rattle.packed_readings.specs.Outcome.{good, bad}
 use Rattle.packed_readings.specs.Leaves.{is_within_limit, signed_worth, signed_number, unsigned_number}
 use Rattle.packed_readings.specs.proving.Numbers.{HasZeroFirst, IsShort, turned_after, IsNumber, limited}

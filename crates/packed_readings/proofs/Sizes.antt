@@ -11,8 +11,8 @@ use Rattle.asn_base.specs.Schemas.{IsLeast, IsGreatest, AreBounds, IsSize}
 use Rattle.packed_encodings.specs.Lengths.{Bits, Items, all_bits, fewest_bits, Counted, IsInRoot, IsNarrow, CountedInRoot, narrow, wide, Sized, sized, sized_in_root, sized_outside}
 use Rattle.packed_encodings.specs.Leaves.{root_bit}
 use Rattle.packed_encodings.specs.Computed.{is_in_root}
-use Rattle.packed_readings.specs.declared.refusal.Refusal.{Refusal}
-use Rattle.packed_readings.specs.declared.refusal.Refusal.TheVariants.{NotCanonical, Outside}
+use Rattle.decode_faults.specs.declared.refusal.Refusal.{Refusal}
+use Rattle.decode_faults.specs.declared.refusal.Refusal.TheVariants.{NotCanonical, Outside}
 use Rattle.packed_readings.specs.Outcome.{Outcome, found, onward, Judged, good, bad, bit_from, field_from, IsBit, IsField, IsReading, Then, IsJudged, judging}
 use Rattle.packed_readings.specs.Composing.{next, judged, same}
 use Rattle.packed_readings.specs.Counts.{EachHas, AreSeveral, AreCounted, AreSized, Several, Sizing, at_once, counted as told_counted, size_of, root_size, size_from, size_fault, after_size, sized_from, is_allowed, IsSizing, narrow_size, wide_size, outside_size, InSize, items_at_once, items_in_parts}

@@ -5,7 +5,7 @@ use Rattle.std.specs.Int.Digits.{AllBelowBase}
 use Rattle.bits.specs.Words.{word, octet_bits}
 use Rattle.bits.specs.Left.{Took}
 use Rattle.packed_encodings.specs.Lengths.{Bits, all_bits}
-use Rattle.packed_readings.specs.declared.refusal.Refusal.{Refusal}
+use Rattle.decode_faults.specs.declared.refusal.Refusal.{Refusal}
 use Rattle.packed_readings.specs.Outcome.{Outcome, found, stops, onward, field_from, each_from}
 use Rattle.packed_readings.specs.Counts.{several_octets}
 use Rattle.packed_readings.specs.Code.{Gained}

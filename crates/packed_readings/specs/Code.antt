@@ -16,7 +16,7 @@ use Rattle.packed_readings.specs.declared.strings.Next.{Next}
 use Rattle.packed_readings.specs.declared.strings.Next.TheVariants as nexts
 use Rattle.packed_readings.specs.declared.strings.Total.{Total}
 use Rattle.packed_readings.specs.declared.strings.Total.TheVariants as totals
-use Rattle.packed_readings.specs.declared.refusal.Refusal.{Refusal}
+use Rattle.decode_faults.specs.declared.refusal.Refusal.{Refusal}
 use Rattle.packed_readings.specs.Outcome.{Outcome, found, each_from, Judged, and_then}
 use Rattle.packed_readings.specs.Counts.{Count, last, part, Several, several_octets, several_bits, any_total, size_fault, parts_from}
 use Rattle.packed_readings.specs.Leaves.{character_from, root_number, other_number, signed_number, unsigned_number}

@@ -7,8 +7,8 @@ use Rattle.asn_base.specs.Typed.{IsAllowedSize}
 use Rattle.packed_encodings.specs.Lengths.{Bits, Items, all_bits, fewest_bits, Counted, IsNarrow, Sized}
 use Rattle.packed_encodings.specs.Leaves.{root_bit}
 use Rattle.packed_encodings.specs.Computed.{is_from, is_to, is_in_root}
-use Rattle.packed_readings.specs.declared.refusal.Refusal.{Refusal}
-use Rattle.packed_readings.specs.declared.refusal.Refusal.TheVariants.{Truncated, NotCanonical, Outside}
+use Rattle.decode_faults.specs.declared.refusal.Refusal.{Refusal}
+use Rattle.decode_faults.specs.declared.refusal.Refusal.TheVariants.{Truncated, NotCanonical, Outside}
 pub use Rattle.packed_readings.specs.declared.count.Count.{Count}
 pub use Rattle.packed_readings.specs.declared.count.Count.TheVariants.{Last as last, Part as part}
 pub use Rattle.packed_readings.specs.declared.count.ToldCount.{ToldCount}

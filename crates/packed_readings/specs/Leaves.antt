@@ -14,8 +14,8 @@ use Rattle.encodings.specs.Header.{Octets}
 use Rattle.packed_encodings.specs.Lengths.{Bits, fewest_bits}
 use Rattle.packed_encodings.specs.Leaves.{place_width, Leaf}
 use Rattle.packed_encodings.specs.Computed.{is_in_root, codes_below}
-use Rattle.packed_readings.specs.declared.refusal.Refusal.{Refusal}
-use Rattle.packed_readings.specs.declared.refusal.Refusal.TheVariants as why
+use Rattle.decode_faults.specs.declared.refusal.Refusal.{Refusal}
+use Rattle.decode_faults.specs.declared.refusal.Refusal.TheVariants as why
 use Rattle.packed_readings.specs.Outcome.{Outcome, found, stops, onward, Judged, good, bad, and_then, judging, bit_from}
 use Rattle.packed_readings.specs.Outcome.{field_from, small_from, each_from}
 use Rattle.packed_readings.specs.Counts.{any_total, counted_from, several_bits, several_octets, octets_from, is_allowed}

@@ -5,8 +5,8 @@ use Rattle.bits.specs.Words.{word}
 use Rattle.packed_encodings.specs.Lengths.{Bits}
 use Rattle.packed_readings.specs.declared.refusal.PackedFault.{PackedFault}
 use Rattle.packed_readings.specs.declared.refusal.PackedFault.TheVariants.{Memory, Refused}
-use Rattle.packed_readings.specs.declared.refusal.Refusal.{Refusal}
-use Rattle.packed_readings.specs.declared.refusal.Refusal.TheVariants.{Truncated}
+use Rattle.decode_faults.specs.declared.refusal.Refusal.{Refusal}
+use Rattle.decode_faults.specs.declared.refusal.Refusal.TheVariants.{Truncated}
 
 -- what is found at the start, and the bits after it; or the first fault, and the bits from its place on
 pub data Outcome (X : Type 0) : Type 0 where

@@ -12,10 +12,11 @@ ghost use Rattle.std.specs.List.{AllByRecursion};
 ghost use Rattle.std.specs.Prelude.{◌≡◌, ◌+◌, ◌*◌, ◌++◌, ◌^◌, ◌<◌, ◌≤◌, IfErr, IfOk, List, OnOk, flat_map, ℕ};
 
 use crate::character::are_octets;
-use crate::refusal::{PackedFault, Refusal};
+use crate::refusal::PackedFault;
 use crate::strings::read_octets;
 use bits::cursor::Bits;
-use codec_code::LeafKind;
+use decode_faults::Refusal;
+use encodings::LeafKind;
 use leaf_readings::{LeafFault, read_arc, read_leaf};
 use std::alloc::{AllocError, Global};
 

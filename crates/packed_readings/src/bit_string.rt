@@ -13,12 +13,13 @@ ghost use Rattle.std.specs.Prelude.{◌≡◌, ◌==◌, ◌*◌, ◌/◌, ◌%�
 
 use crate::character::are_octets;
 use crate::count::Count;
-use crate::refusal::{PackedFault, Refusal};
+use crate::refusal::PackedFault;
 use crate::size::{Sizing, read_size};
 use crate::strings::{Total, read_total};
 use asn_base::constraint::Constraint;
 use asn_base::value::BitString;
 use bits::cursor::Bits;
+use decode_faults::Refusal;
 use std::alloc::Global;
 
 /// A number of `count` bits, as the first bits of an octet.

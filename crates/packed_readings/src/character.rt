@@ -11,9 +11,10 @@ ghost use Rattle.std.specs.Int.Digits.{AllBelowBase};
 ghost use Rattle.std.specs.Prelude.{◌≡◌, ◌↔◌, ◌^◌, ◌≤◌, IfErr, IfOk, IsTrue, OnOk, length};
 
 use crate::field::read_field;
-use crate::refusal::{PackedFault, Refusal};
+use crate::refusal::PackedFault;
 use crate::width::width_of_place;
 use bits::cursor::Bits;
+use decode_faults::Refusal;
 
 /// Whether the code is in an alphabet whose codes ascend. In another alphabet, the code may be missed.
 fn finds_code(alphabet: &[u8], code: u64) -> bool

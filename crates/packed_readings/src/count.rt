@@ -8,8 +8,8 @@ ghost use Rattle.packed_readings.specs.declared.count.ToldCount.TheVariants.{In7
 ghost use Rattle.std.specs.Prelude.{◌≡◌, ◌∷◌, ◌<◌, true, IfErr, IfOk};
 
 use crate::field::{read_bit, read_field};
-use crate::refusal::Refusal;
 use bits::cursor::Bits;
+use decode_faults::Refusal;
 
 /// How many items come next: this many, and none after them (`Last`); or this many times 16,384, and more after a
 /// further number (`Part`).

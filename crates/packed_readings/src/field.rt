@@ -4,8 +4,8 @@ ghost use Rattle.bits.specs.Left.{bits_left};
 ghost use Rattle.packed_readings.specs.Outcome.{bit_from, field_from, outcome, small_from};
 ghost use Rattle.std.specs.Prelude.{◌≡◌, ◌≤◌, ◌<◌, ◌^◌, IfOk};
 
-use crate::refusal::Refusal;
 use bits::cursor::Bits;
+use decode_faults::Refusal;
 
 /// Takes the next bit. `Truncated`: none is left.
 pub fn read_bit(bits: &mut Bits<'_>) -> Result<bool, Refusal>

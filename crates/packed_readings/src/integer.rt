@@ -13,12 +13,13 @@ ghost use Rattle.std.specs.Prelude.{◌≡◌, ◌≤◌, ◌+ℤ◌, ◌-ℤ◌
 use crate::field::{read_bit, read_wide};
 use crate::number::{signed, unsigned};
 use crate::range::{is_allowed, is_in_root};
-use crate::refusal::{PackedFault, Refusal};
+use crate::refusal::PackedFault;
 use crate::strings::read_octets;
 use crate::width::fewest;
 use asn_base::constraint::Constraint;
 use asn_base::law::integer_within_limit;
 use bits::cursor::Bits;
+use decode_faults::Refusal;
 use std::alloc::Global;
 
 /// How octets encode a number: by its distance above this least one, as a number of the root, or as one outside it.

@@ -5,14 +5,14 @@ ghost use Rattle.asn_base.specs.Seen.{item_of};
 ghost use Rattle.bits.specs.Left.{bits_left};
 ghost use Rattle.packed_readings.specs.Leaves.{item_at, item_from, root_item_from};
 ghost use Rattle.packed_readings.specs.Outcome.{bad, good, judging, outcome_by, small_from};
-ghost use Rattle.packed_readings.specs.declared.refusal.Refusal.TheVariants.{UnknownEnumeration};
+ghost use Rattle.decode_faults.specs.declared.refusal.Refusal.TheVariants.{UnknownEnumeration};
 ghost use Rattle.std.specs.Prelude.{◌≡◌, IfErr, IfOk, map};
 
 use crate::field::{read_bit, read_field, read_small};
-use crate::refusal::Refusal;
 use crate::width::width_of_place;
 use asn_base::schema::{Item, Items};
 use bits::cursor::Bits;
+use decode_faults::Refusal;
 
 /// The number of the item at a place, or the error `refusal` if there is none.
 fn number_at(items: &[Item], place: u64, refusal: Refusal) -> Result<i128, Refusal>

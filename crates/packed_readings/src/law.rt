@@ -4,7 +4,7 @@ ghost use Rattle.asn_base.specs.Schemas.{AreBounds, IsSize, IsSound};
 ghost use Rattle.asn_base.specs.Typed.{IsAllowedSize};
 ghost use Rattle.asn_base.specs.Types.{Constraint, Kind, Resolved};
 ghost use Rattle.packed_encodings.specs.Lengths.{Counted, CountedOctets, Sized};
-ghost use Rattle.packed_readings.specs.declared.refusal.Refusal.{Refusal};
+ghost use Rattle.decode_faults.specs.declared.refusal.Refusal.{Refusal};
 ghost use Rattle.packed_readings.specs.Counts.{InParts, InSize, IsCount, IsSizing, count_from, octets_from, size_from};
 ghost use Rattle.packed_readings.specs.Leaves.{IsLeafOf, leaf_from};
 ghost use Rattle.packed_readings.specs.Outcome.{IsBit, IsField, IsReading, IsSmall, bit_from, field_from, small_from};

@@ -15,7 +15,7 @@ use crate::bit_string::{read_bit_string, read_named_bits};
 use crate::field::read_bit;
 use crate::integer::read_integer;
 use crate::item::read_item;
-use crate::refusal::{PackedFault, Refusal};
+use crate::refusal::PackedFault;
 use crate::strings::read_octet_string;
 use crate::text::{read_restricted_string, read_utf8_string};
 use asn_base::constraint::Constraint;
@@ -24,6 +24,7 @@ use asn_base::schema::{Core, Items};
 use asn_base::strings::StringKind;
 use asn_base::value::Value;
 use bits::cursor::Bits;
+use decode_faults::Refusal;
 use std::alloc::Global;
 
 fn as_boolean(bits: &mut Bits<'_>) -> Result<Value, PackedFault>

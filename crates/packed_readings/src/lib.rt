@@ -26,7 +26,7 @@ pub use field::{read_bit, read_field, read_small};
 pub use integer::read_integer;
 pub use item::read_item;
 pub use leaf::read_leaf;
-pub use refusal::{PackedFault, Refusal};
+pub use refusal::PackedFault;
 pub use size::{Sizing, read_size, size_fault};
 pub use strings::{read_octet_string, read_octets};
 pub use text::{read_restricted_string, read_utf8_string};

@@ -7,7 +7,7 @@ ghost use Rattle.std.specs.Int.Digits.{AllBelowBase, number_from_digits_after};
 ghost use Rattle.std.specs.Prelude.{◌≡◌, ◌<◌, ◌≤◌, ◌^◌, ◌↔◌, IfErr, IfOk, IfSome, IfNone, IsTrue, ℕ, length, negsuc, pos};
 
 use crate::character::are_octets;
-use crate::refusal::Refusal;
+use decode_faults::Refusal;
 
 /// The number that octets encode in two's complement, if no fewer octets are enough. `Outside`: there are no octets.
 /// `NotCanonical`: fewer are enough. `IntegerLimit`: the number is outside the range from -2^127 to 2^127 - 1.

@@ -10,10 +10,11 @@ ghost use Rattle.std.specs.Prelude.{◌≡◌, ◌≤◌, ◌^◌, ◌<◌, ℕ,
 
 use crate::character::{are_octets, read_characters};
 use crate::count::{Count, read_count};
-use crate::refusal::{PackedFault, Refusal};
+use crate::refusal::PackedFault;
 use crate::size::{Sizing, read_size, size_fault};
 use asn_base::constraint::Constraint;
 use bits::cursor::Bits;
+use decode_faults::Refusal;
 use std::alloc::Global;
 
 /// Items that are octets, or characters of an alphabet.

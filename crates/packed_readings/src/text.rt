@@ -11,10 +11,11 @@ ghost use Rattle.std.specs.List.{AllByRecursion};
 ghost use Rattle.std.specs.Prelude.{◌≡◌, ◌<◌, IfErr, IfNone, IfOk, IfSome, IsUtf8, chars, length, pos, string_bytes};
 
 use crate::range::is_allowed;
-use crate::refusal::{PackedFault, Refusal};
+use crate::refusal::PackedFault;
 use crate::strings::{Form, read_octets, read_sized};
 use asn_base::constraint::Constraint;
 use bits::cursor::Bits;
+use decode_faults::Refusal;
 use std::alloc::Global;
 
 /// How many characters a text has.

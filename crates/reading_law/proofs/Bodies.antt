@@ -14,12 +14,13 @@ use Rattle.encodings.specs.Rules.{Basic}
 use Rattle.encodings.specs.Contents.{Contents}
 use Rattle.encodings.specs.Levels.{leaf_levels}
 use Rattle.encodings.specs.Encoding.{Unknown, no_unknown, unknown, any_mandatory, last_run}
-use Rattle.codec_code.specs.declared.step.LeafKind.{LeafKind}
+use Rattle.encodings.specs.declared.leaf_kind.LeafKind.{LeafKind}
 use Rattle.codec_code.specs.declared.step.RowKind.{RowKind}
 use Rattle.codec_code.specs.declared.step.Step.{Step}
 use Rattle.codec_code.specs.declared.step.Step.TheVariants.{Leaf, Each, EachSorted, Call}
 use Rattle.codec_code.specs.Routines.{routine_at, id_of, heads, row_of, body, ends, fields_from, field_of, need_of, rest_if, calls}
-use Rattle.codec_code.specs.Steps.{plain, may_be_absent}
+use Rattle.codec_code.specs.Steps.{may_be_absent}
+use Rattle.encodings.specs.Leaves.{plain}
 use Rattle.leaf_readings.specs.Leaves.{Suits}
 use Rattle.codec_source.specs.Events.{Event, holds, more, stands, picks, skips}
 use Rattle.codec_source.specs.Reading.{Asks, leaf, element, no_element, sorted_element, no_sorted_element, field, left_out, pick, rest, Does, goes_on, reads}

@@ -15,7 +15,7 @@ use Rattle.asn_base.specs.Typed.{no_element as no_typed}
 use Rattle.encodings.specs.Rules.{Basic}
 use Rattle.encodings.specs.Encoding.{Framed, bare, innermost, outer, UnknownIf, closed, extensible, no_unknown, unknown, Says, says, Holds, leaf, sequence, set, sequence_of, set_of, choice, Members, no_member, left_out, member, Elements, no_element, element}
 use Rattle.encodings.specs.Levels.{levels, inner_levels, member_levels, element_levels, unknown_levels}
-use Rattle.codec_code.specs.declared.step.LeafKind.TheVariants as leaves
+use Rattle.encodings.specs.declared.leaf_kind.LeafKind.TheVariants as leaves
 use Rattle.codec_code.specs.Routines.{row_of, is_constructed}
 use Rattle.codec_source.specs.Events.{Event}
 use Rattle.octet_answers.specs.States.{State, front}

@@ -7,8 +7,8 @@ use Rattle.encodings.specs.Rules.{Basic, Rules}
 use Rattle.encodings.specs.Strings.{whole, whole_bits}
 use Rattle.encodings.specs.Contents.{Contents, of_false, of_true, of_integer, of_enumerated, of_bits, of_named_bits, of_octets, of_null, of_oid, of_relative_oid, of_utf8, of_restricted}
 use Rattle.encodings.specs.Levels.{leaf_levels}
-use Rattle.codec_code.specs.declared.step.LeafKind.{LeafKind}
-use Rattle.codec_code.specs.Steps.{plain}
+use Rattle.encodings.specs.declared.leaf_kind.LeafKind.{LeafKind}
+use Rattle.encodings.specs.Leaves.{plain}
 use Rattle.octet_answers.specs.Answers.{AreContents}
 
 -- contents of another kind, with as many levels

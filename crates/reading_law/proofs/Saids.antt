@@ -17,13 +17,13 @@ use Rattle.encodings.specs.Rules.{Basic}
 use Rattle.encodings.specs.Header.{Header}
 use Rattle.encodings.specs.Encoding.{Framed, bare, innermost, outer, says, Holds, leaf, sequence, set, sequence_of, set_of, choice, Members, no_member, left_out, member, Elements, no_element, element, last_run, no_unknown}
 use Rattle.encodings.specs.Levels.{inner_levels, member_levels, element_levels}
-use Rattle.codec_code.specs.declared.step.LeafKind.{LeafKind}
-use Rattle.codec_code.specs.declared.step.LeafKind.TheVariants as leaves
+use Rattle.encodings.specs.declared.leaf_kind.LeafKind.{LeafKind}
+use Rattle.encodings.specs.declared.leaf_kind.LeafKind.TheVariants as leaves
 use Rattle.codec_code.specs.declared.step.Head.{Head as Head'}
 use Rattle.codec_code.specs.declared.step.Step.{Step}
 use Rattle.codec_code.specs.declared.step.Step.TheVariants.{Head, Leaf, Each, EachSorted, Pick}
 use Rattle.codec_code.specs.Routines.{routine_at, id_of, heads, row_of, is_constructed, body, ends, fields_from, field_of, ranked_from, rest_if, calls}
-use Rattle.codec_code.specs.Steps.{plain}
+use Rattle.encodings.specs.Leaves.{plain}
 use Rattle.codec_source.specs.Reading.{Reads, element as element', no_element as no_element', sorted_element, no_sorted_element}
 use Rattle.octet_answers.specs.States.{State, Token, component, chosen, begun, ended, held, passed, at_end, behind, front}
 use Rattle.octet_answers.specs.Found.{IsChosen, chosen as chosen', later, last_steps, Passes}

@@ -6,7 +6,7 @@ use Rattle.asn_base.specs.declared.schema.TypeId.{TypeId}
 use Rattle.asn_base.specs.Types.{Resolved}
 use Rattle.codec_code.specs.declared.step.Step.{Step}
 use Rattle.codec_code.specs.Routines.{routine_at}
-use Rattle.codec_source.specs.declared.fault.ReadFault.{ReadFault}
+use Rattle.decode_faults.specs.declared.read_fault.ReadFault.{ReadFault}
 use Rattle.codec_source.specs.Events.{Event, begins, ends, stands, more, among, picks, Question, to_end, IsOneAnswer}
 use Rattle.codec_source.specs.Events.{both_begin, both_end, both_open, both_close, both_hold, both_skip, both_stand, both_more, both_among, both_pick}
 use Rattle.codec_source.specs.Reading.{Asks, head, ending, leaf, rest, left_out, field, component, no_component, element, no_element, sorted_element, no_sorted_element, pick, call}

@@ -4,7 +4,7 @@ use Rattle.asn_base.specs.declared.tag.Tag.{Tag}
 use Rattle.asn_base.specs.Abstract.{AbstractValue, fields, list, alternative, Row, end, absent, present}
 use Rattle.asn_base.specs.Types.{TypeNumber, Constraint, Alternative, Kind, a_sequence, a_set, a_sequence_of, a_set_of, a_choice, Component, Resolved, Is}
 use Rattle.encodings.specs.Header.{Octets}
-use Rattle.codec_code.specs.declared.step.LeafKind.{LeafKind}
+use Rattle.encodings.specs.declared.leaf_kind.LeafKind.{LeafKind}
 use Rattle.codec_code.specs.declared.step.Step.TheVariants.{Leaf}
 use Rattle.codec_code.specs.Routines.{id_of, body}
 use Rattle.octet_answers.specs.States.{Token, component, chosen, begun, ended, held, passed}

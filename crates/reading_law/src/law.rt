@@ -11,7 +11,7 @@ ghost use Rattle.encodings.specs.Rules.{Basic};
 ghost use Rattle.codec_code.specs.Routines.{routine_at};
 ghost use Rattle.codec_source.specs.Reading.{Reads};
 ghost use Rattle.codec_source.specs.Stopping.{StopsReading};
-ghost use Rattle.codec_source.specs.declared.fault.ReadFault.{ReadFault};
+ghost use Rattle.decode_faults.specs.declared.read_fault.ReadFault.{ReadFault};
 ghost use Rattle.octet_answers.specs.Answers.{Takes};
 ghost use Rattle.octet_answers.specs.Left.{Leaves};
 ghost use Rattle.octet_answers.specs.States.{State, front};

@@ -2,15 +2,14 @@
 
 use account_text::Stop;
 use additions::ExtFault;
-use codec_source::ReadFault;
 use command_line::{Given, Job, Verb};
 use constraints::BoundFault;
+use decode_faults::{ReadFault, Refusal};
 use front_end::FrontFault;
 use messages::{Fault, Unread, UnreadBits, number, status};
 use names::fault::spot;
 use names::{Limit, NameFault};
 use notation::SyntaxFault;
-use packed_readings::Refusal;
 use reports::report;
 use std::alloc::{AllocError, Global};
 use std::test::*;

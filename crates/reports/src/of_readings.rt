@@ -1,8 +1,7 @@
 //! The words for octets that can't be read.
 
-use codec_source::ReadFault;
+use decode_faults::{ReadFault, Refusal};
 use messages::{Unread, UnreadBits};
-use packed_readings::Refusal;
 use shown_texts::shown;
 use std::alloc::{AllocError, Global};
 

@@ -9,9 +9,9 @@ use Rattle.encodings.specs.Rules.{Basic}
 use Rattle.encodings.specs.Strings.{Pieces, whole, cut, BitPieces, whole_bits, cut_bits, WholeBits}
 use Rattle.encodings.specs.Contents.{Contents, of_bits, of_named_bits, of_octets, of_utf8, of_restricted}
 use Rattle.encodings.specs.Levels.{leaf_levels}
-use Rattle.codec_code.specs.declared.step.LeafKind.{LeafKind}
-use Rattle.codec_code.specs.declared.step.LeafKind.TheVariants as kinds
-use Rattle.codec_code.specs.Steps.{plain}
+use Rattle.encodings.specs.declared.leaf_kind.LeafKind.{LeafKind}
+use Rattle.encodings.specs.declared.leaf_kind.LeafKind.TheVariants as kinds
+use Rattle.encodings.specs.Leaves.{plain}
 use Rattle.leaf_readings.specs.declared.leaf.Leaf.{Leaf}
 use Rattle.leaf_readings.specs.declared.leaf.Leaf.TheVariants as leaves
 use Rattle.leaf_readings.specs.Leaves.{Suits, bits_but, IsReadAs, Reads as IsLeaf}

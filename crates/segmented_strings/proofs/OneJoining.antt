@@ -9,9 +9,9 @@ use Rattle.encodings.specs.Header.{Header}
 use Rattle.encodings.specs.Strings.{Segments, cut, BitSegments, cut_bits}
 use Rattle.encodings.specs.Contents.{Contents, of_bits, of_named_bits, of_octets, of_utf8, of_restricted}
 use Rattle.encodings.specs.Levels.{leaf_levels, segment_levels, bit_segment_levels}
-use Rattle.codec_code.specs.declared.step.LeafKind.{LeafKind}
-use Rattle.codec_code.specs.declared.step.LeafKind.TheVariants as kinds
-use Rattle.codec_code.specs.Steps.{plain}
+use Rattle.encodings.specs.declared.leaf_kind.LeafKind.{LeafKind}
+use Rattle.encodings.specs.declared.leaf_kind.LeafKind.TheVariants as kinds
+use Rattle.encodings.specs.Leaves.{plain}
 use Rattle.leaf_readings.specs.Leaves.{Suits}
 use Rattle.octets.specs.Fronts.{HeaderAt, Stands}
 use Rattle.octets.specs.declared.fault.HeaderFault.{HeaderFault}

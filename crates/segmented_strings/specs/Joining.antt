@@ -5,9 +5,9 @@ use Rattle.encodings.specs.Header.{Octets}
 use Rattle.encodings.specs.Rules.{Basic}
 use Rattle.encodings.specs.Contents.{Contents}
 use Rattle.encodings.specs.Levels.{leaf_levels}
-use Rattle.codec_code.specs.declared.step.LeafKind.{LeafKind}
-use Rattle.codec_code.specs.declared.step.LeafKind.TheVariants as kinds
-use Rattle.codec_code.specs.Steps.{plain}
+use Rattle.encodings.specs.declared.leaf_kind.LeafKind.{LeafKind}
+use Rattle.encodings.specs.declared.leaf_kind.LeafKind.TheVariants as kinds
+use Rattle.encodings.specs.Leaves.{plain}
 use Rattle.leaf_readings.specs.Leaves.{Suits, bits_but}
 use Rattle.segmented_strings.specs.declared.fault.Why.{Why}
 use Rattle.segmented_strings.specs.declared.fault.Why.TheVariants as whys

@@ -2,7 +2,7 @@
 use Rattle.std.specs.Prelude.{Bool, true, false}
 use Rattle.asn_base.specs.Abstract.{text}
 use Rattle.encodings.specs.Header.{Octets}
-use Rattle.codec_code.specs.declared.step.LeafKind.{LeafKind}
+use Rattle.encodings.specs.declared.leaf_kind.LeafKind.{LeafKind}
 use Rattle.leaf_readings.specs.declared.leaf.Leaf.{Leaf}
 use Rattle.leaf_readings.specs.declared.leaf.Leaf.TheVariants as leaves
 use Rattle.leaf_readings.specs.Leaves.{Suits}

@@ -1,7 +1,7 @@
 //! Laws of strings in segments.
 
 ghost use Rattle.asn_base.specs.Abstract.{AbstractValue};
-ghost use Rattle.codec_code.specs.declared.step.LeafKind.{LeafKind};
+ghost use Rattle.encodings.specs.declared.leaf_kind.LeafKind.{LeafKind};
 ghost use Rattle.segmented_strings.specs.Joining.{Fails, IsJoinedAs};
 ghost use Rattle.segmented_strings.specs.declared.fault.Why.{Why};
 ghost use Rattle.std.specs.Prelude.{◌≡◌, ◌≤◌, List, length, ℕ};

@@ -1,7 +1,7 @@
 //! Constructed contents octets of each kind of string.
 
 ghost use Rattle.asn_base.specs.Abstract.{AbstractValue, text as text'};
-ghost use Rattle.codec_code.specs.declared.step.LeafKind.TheVariants.{OctetString};
+ghost use Rattle.encodings.specs.declared.leaf_kind.LeafKind.TheVariants.{OctetString};
 ghost use Rattle.segmented_strings.specs.Joining.{Fails, HasFewUnused, IsJoinedAs, Reads, holding, some_bits, some_text};
 ghost use Rattle.segmented_strings.specs.Refusing.{IsRefused};
 ghost use Rattle.segmented_strings.specs.declared.fault.SegmentsFault.TheVariants.{At, Memory};
@@ -13,7 +13,7 @@ use crate::fault::{SegmentsFault, Why};
 use crate::joined::add_octets;
 use crate::law::one_joining;
 use crate::text::text_of;
-use codec_code::LeafKind;
+use encodings::LeafKind;
 use std::alloc::Global;
 
 /// A string that was joined from segments.

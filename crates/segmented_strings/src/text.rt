@@ -10,7 +10,7 @@ ghost use Rattle.segmented_strings.specs.declared.fault.SegmentsFault.TheVariant
 
 use crate::fault::{SegmentsFault, Why};
 use crate::segment::are_octets;
-use codec_code::LeafKind;
+use encodings::LeafKind;
 use leaf_readings::{Leaf, read_leaf};
 use std::alloc::Global;
 

@@ -14,11 +14,12 @@ use Rattle.encodings.specs.Orders.{Ascending, ascending_none, AtMost, InTagOrder
 use Rattle.encodings.specs.Rules.{Rules, Basic, Distinguished}
 use Rattle.encodings.specs.Encoding.{Framed, Says, says, Holds, leaf, sequence, set, sequence_of, set_of, choice, Members, no_member, Elements, IsDefault, Der, Ber}
 use Rattle.codec_code.specs.declared.step.Field.{Field as Field'}
-use Rattle.codec_code.specs.declared.step.LeafKind.{LeafKind}
+use Rattle.encodings.specs.declared.leaf_kind.LeafKind.{LeafKind}
 use Rattle.codec_code.specs.declared.step.Step.{Step}
 use Rattle.codec_code.specs.declared.step.Step.TheVariants.{Leaf, Call}
 use Rattle.codec_code.specs.Routines.{id_of, field_of, routine_at, row_of, body, ends, fields_from, rest_if, choice_of, calls, component_in}
-use Rattle.codec_code.specs.Steps.{plain, IsDefaultAt}
+use Rattle.codec_code.specs.Steps.{IsDefaultAt}
+use Rattle.encodings.specs.Leaves.{plain}
 use Rattle.strict_rules.specs.Heads.{IsWithin, no_head, in_head}
 use Rattle.strict_rules.specs.Sets.{Reads}
 use Rattle.strict_rules.specs.Strict.{Decides, form_of, begins_ranked, element_type, ValueGiven, ContentsGiven, ElementsGiven, StepsGiven, SequenceGiven, SetGiven, MemberGiven, MemberBy, PartGiven, PartBy, StandsFirst, StandsAmong, SequenceBy, SetBy}

@@ -6,11 +6,11 @@ use Rattle.asn_base.specs.Types.{Constraint, Item, NamedBit, Kind, an_integer, a
 use Rattle.encodings.specs.Rules.{Rules, Basic, Distinguished}
 use Rattle.encodings.specs.Contents.{Contents, of_false, of_true, of_integer, of_enumerated, of_bits, of_named_bits, of_octets, of_null, of_oid, of_relative_oid, of_utf8, of_restricted}
 use Rattle.encodings.specs.Encoding.{Holds, leaf, sequence, set, sequence_of, set_of, choice}
-use Rattle.codec_code.specs.declared.step.LeafKind.{LeafKind}
-use Rattle.codec_code.specs.declared.step.LeafKind.TheVariants as leaves
+use Rattle.encodings.specs.declared.leaf_kind.LeafKind.{LeafKind}
+use Rattle.encodings.specs.declared.leaf_kind.LeafKind.TheVariants as leaves
 use Rattle.codec_code.specs.declared.step.Step.TheVariants.{Leaf}
 use Rattle.codec_code.specs.Routines.{body}
-use Rattle.codec_code.specs.Steps.{plain}
+use Rattle.encodings.specs.Leaves.{plain}
 use Rattle.strict_rules.specs.Strict.{form_of}
 
 to_integer : {r : Rules} {v : AbstractValue} {c : Bool} {x : List ℕ} (z y : Constraint) → Contents r (an_integer z) v c x → Contents r (an_integer y) v c x

@@ -1,15 +1,16 @@
 //! Contents of kinds that hold no others.
 
 ghost use Rattle.asn_base.specs.Abstract.{AbstractValue};
-ghost use Rattle.codec_code.specs.Steps.{plain};
-ghost use Rattle.codec_code.specs.declared.step.LeafKind.{LeafKind as LeafKind'};
+ghost use Rattle.encodings.specs.Leaves.{plain};
+ghost use Rattle.encodings.specs.declared.leaf_kind.LeafKind.{LeafKind as LeafKind'};
 ghost use Rattle.codec_code.specs.declared.step.Step.{Step as Step'};
 ghost use Rattle.codec_code.specs.declared.step.Step.TheVariants.{Leaf};
 ghost use Rattle.encodings.specs.Contents.{Contents};
 ghost use Rattle.encodings.specs.Rules.{Basic, Distinguished};
 ghost use Rattle.std.specs.Prelude.{◌≡◌, ◌↔◌, ◌∷◌, IsTrue, List, Some as Some', false};
 
-use codec_code::{LeafKind, Step};
+use codec_code::Step;
+use encodings::LeafKind;
 use leaf_readings::is_distinguished;
 
 /// The kind of contents that the steps begin with.

@@ -3,8 +3,9 @@
 ghost use Rattle.asn_base.specs.Abstract.{AbstractValue, abstract, fields, list};
 ghost use Rattle.asn_base.specs.Types.{Alternative, Component, Kind};
 ghost use Rattle.codec_code.specs.Routines.{choice_of, id_of};
-ghost use Rattle.codec_code.specs.Steps.{IsDefaultAt, plain};
-ghost use Rattle.codec_code.specs.declared.step.LeafKind.{LeafKind as LeafKind'};
+ghost use Rattle.codec_code.specs.Steps.{IsDefaultAt};
+ghost use Rattle.encodings.specs.Leaves.{plain};
+ghost use Rattle.encodings.specs.declared.leaf_kind.LeafKind.{LeafKind as LeafKind'};
 ghost use Rattle.codec_code.specs.declared.step.Step.TheVariants.{Leaf};
 ghost use Rattle.encodings.specs.Contents.{Contents};
 ghost use Rattle.encodings.specs.Orders.{Ascending, AtMost};

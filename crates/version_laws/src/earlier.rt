@@ -4,7 +4,7 @@ ghost use Rattle.asn_base.specs.Abstract.{AbstractValue};
 ghost use Rattle.asn_base.specs.Same.{Same};
 ghost use Rattle.asn_base.specs.Schemas.{IsSchema};
 ghost use Rattle.asn_base.specs.Types.{Resolved};
-ghost use Rattle.codec_source.specs.declared.fault.ReadFault.TheVariants.{Memory};
+ghost use Rattle.decode_faults.specs.declared.read_fault.ReadFault.TheVariants.{Memory};
 ghost use Rattle.encodings.specs.Encoding.{Der};
 ghost use Rattle.later_versions.specs.Kept.{kept, left_out};
 ghost use Rattle.later_versions.specs.Later.{Later};
@@ -18,7 +18,7 @@ use crate::law::earlier_reads;
 use asn_base::schema::TypeId;
 use ber_reader::{Read, read_ber};
 use codec_code::Code;
-use codec_source::ReadFault;
+use decode_faults::ReadFault;
 use std::alloc::Global;
 
 /// Each item of a slice of octets is below 256.

@@ -4,7 +4,7 @@ ghost use Rattle.asn_base.specs.Abstract.{AbstractValue};
 ghost use Rattle.asn_base.specs.Same.{Same};
 ghost use Rattle.asn_base.specs.Types.{Resolved};
 ghost use Rattle.ber_reader.specs.Readings.{IsStrictReading};
-ghost use Rattle.codec_source.specs.declared.fault.ReadFault.TheVariants.{Memory};
+ghost use Rattle.decode_faults.specs.declared.read_fault.ReadFault.TheVariants.{Memory};
 ghost use Rattle.encodings.specs.Encoding.{Der};
 ghost use Rattle.encodings.specs.Reading.{Encodes};
 ghost use Rattle.encodings.specs.Rules.{Basic};
@@ -19,7 +19,7 @@ use crate::law::later_reads;
 use asn_base::schema::TypeId;
 use ber_reader::{Read, read_ber, read_der};
 use codec_code::Code;
-use codec_source::ReadFault;
+use decode_faults::ReadFault;
 use std::alloc::Global;
 
 /// What `read_ber` returns, with a later type, for an encoding of a value of an earlier version, of at most 16,777,216

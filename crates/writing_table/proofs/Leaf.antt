@@ -4,10 +4,10 @@ use Rattle.asn_base.specs.declared.value.Value.{Value}
 use Rattle.asn_base.specs.Abstract.{AbstractValue, abstract}
 use Rattle.encodings.specs.Fewest.{shortest_header}
 use Rattle.codec_code.specs.declared.step.Head.{Head as Head'}
-use Rattle.codec_code.specs.declared.step.LeafKind.{LeafKind}
+use Rattle.encodings.specs.declared.leaf_kind.LeafKind.{LeafKind}
 use Rattle.codec_code.specs.declared.step.RowKind.TheVariants.{Leaf}
 use Rattle.codec_code.specs.Events.{opens, puts, closes}
-use Rattle.codec_code.specs.Steps.{HasContents}
+use Rattle.encodings.specs.Leaves.{HasContents}
 use Rattle.der_parts.specs.declared.part.Part.{Part}
 use Rattle.der_parts.specs.declared.part.Part.TheVariants.{Header, Contents}
 use Rattle.der_parts.specs.Parts.{Spell}

@@ -6,8 +6,9 @@ use crate::steps::{
 };
 use crate::table::Table;
 use asn_base::value::Value;
-use codec_code::{Head, LeafKind};
+use codec_code::Head;
 use codec_machine::{Backend, RunFault};
+use encodings::LeafKind;
 use leaf_contents::law::one_contents;
 use std::alloc::AllocError;
 

@@ -2,7 +2,7 @@
 
 ghost use Rattle.std.specs.Prelude.{◌≡◌, ◌+◌, ◌++◌, ◌∷◌, [], ◌⊎◌, List, IfErr, IfOk, OnOk, length, set, ℕ};
 ghost use Rattle.asn_base.specs.Abstract.{abstract};
-ghost use Rattle.codec_code.specs.Steps.{HasContents};
+ghost use Rattle.encodings.specs.Leaves.{HasContents};
 ghost use Rattle.codec_code.specs.Events.{by_octets, by_rank};
 ghost use Rattle.codec_machine.specs.Frames.{HasNoContents};
 ghost use Rattle.codec_machine.specs.declared.fault.RunFault.TheVariants.{NotOfType};
@@ -21,9 +21,10 @@ use crate::scratch::{kept_of, put_kept};
 use crate::sort::{sort_by_octets, sort_by_rank};
 use crate::table::{Group, Member, Open, Table};
 use asn_base::value::Value;
-use codec_code::{Head, LeafKind, RowKind};
+use codec_code::{Head, RowKind};
 use codec_machine::RunFault;
 use der_parts::{Part, Small, small_octet, small_part};
+use encodings::LeafKind;
 use leaf_contents::{LeafOctets, leaf_len, leaf_octet, leaf_octets, octet_count};
 use octet_account::row::{Row, Told};
 use octets::header_len;

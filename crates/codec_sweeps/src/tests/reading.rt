@@ -4,7 +4,7 @@ use super::memory::{sample_code, told};
 use asn_base::schema::TypeId;
 use ber_reader::{read_ber, read_der, whereabouts};
 use codec_code::Code;
-use codec_source::ReadFault;
+use decode_faults::ReadFault;
 use sample_types::type_named;
 use starving::{Starved, Swept, Turn, sweep};
 use std::alloc::{AllocError, Global};

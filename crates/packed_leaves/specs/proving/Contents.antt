@@ -1,7 +1,7 @@
 -- Octets that are added after their number.
 use Rattle.asn_base.specs.Abstract.{AbstractValue}
-use Rattle.codec_code.specs.declared.step.LeafKind.{LeafKind}
-use Rattle.codec_code.specs.Steps.{HasContents}
+use Rattle.encodings.specs.declared.leaf_kind.LeafKind.{LeafKind}
+use Rattle.encodings.specs.Leaves.{HasContents}
 use Rattle.encodings.specs.Contents.{Number}
 use Rattle.encodings.specs.Header.{Octets}
 use Rattle.std.specs.Prelude.{ℕ, ℤ}

@@ -3,7 +3,7 @@ use Rattle.std.specs.Prelude.{◌≡◌, ℕ, Bool, List, [], take}
 use Rattle.asn_base.specs.Types.{Resolved, TypeNumber}
 use Rattle.packed_code.specs.declared.step.PackedStep.{PackedStep}
 use Rattle.packed_encodings.specs.Computed.{kind_at}
-use Rattle.packed_readings.specs.declared.refusal.Refusal.TheVariants as why
+use Rattle.decode_faults.specs.declared.refusal.Refusal.TheVariants as why
 use Rattle.packed_reader.specs.declared.plan.Plan.{Plan}
 use Rattle.packed_reader.specs.declared.plan.Plan.TheVariants as plans
 use Rattle.packed_reader.specs.Readings.{stop, next, plain}

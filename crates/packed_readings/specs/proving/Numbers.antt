@@ -4,7 +4,7 @@ use Rattle.std.specs.Int.Digits.{number_from_digits_after}
 use Rattle.asn_base.specs.Typed.{IsWithinLimit}
 use Rattle.encodings.specs.Header.{Octets}
 use Rattle.encodings.specs.Contents.{Number}
-use Rattle.packed_readings.specs.declared.refusal.Refusal.TheVariants.{IntegerLimit}
+use Rattle.decode_faults.specs.declared.refusal.Refusal.TheVariants.{IntegerLimit}
 use Rattle.packed_readings.specs.Outcome.{Judged, good, bad}
 use Rattle.packed_readings.specs.Leaves.{is_within_limit}
 

@@ -8,7 +8,7 @@ use Rattle.ber_message.proofs.Reading.{whole_message, front_message, fails, hold
 use Rattle.codec_source.specs.Stopping.{StopsReading}
 use Rattle.octet_answers.specs.Left.{Leaves}
 use Rattle.ber_message.proofs.Stopped.{ends_too_soon, fault_or, never_stops, not_memory}
-use Rattle.codec_source.specs.declared.fault.ReadFault.TheVariants.{Missing, MessageLimit, NotDer, OutsideConstraint, Trailing}
+use Rattle.decode_faults.specs.declared.read_fault.ReadFault.TheVariants.{Missing, MessageLimit, NotDer, OutsideConstraint, Trailing}
 use Rattle.ber_message.proofs.message.read_message.Goals as goal
 
 pub returns-in-Err-read-clause-missing : goal.returns-in-Err-read-clause-missing

@@ -10,7 +10,7 @@ use Rattle.octet_answers.specs.Left.{Leaves}
 use Rattle.ber_views.specs.Telling.{IsBuiltOf}
 use Rattle.ber_message.proofs.Kept.{if_ok, memory_alone, reads_schema, refused_memory}
 use Rattle.ber_message.proofs.Stopped.{ends_too_soon, fault_or, never_stops, not_memory}
-use Rattle.codec_source.specs.declared.fault.ReadFault.TheVariants.{Missing, MessageLimit, NotDer, OutsideConstraint, Trailing}
+use Rattle.decode_faults.specs.declared.read_fault.ReadFault.TheVariants.{Missing, MessageLimit, NotDer, OutsideConstraint, Trailing}
 use Rattle.ber_message.proofs.view.read_view.Goals as goal
 
 pub returns-in-Err-read-clause-missing : goal.returns-in-Err-read-clause-missing

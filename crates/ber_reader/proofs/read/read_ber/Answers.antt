@@ -1,7 +1,7 @@
 use Rattle.std.proofs.Common.{arith, inl, inr, Err, sym, ap, subst, ◌∙◌}
 use Rattle.encodings.specs.Rules.{Basic}
 use Rattle.asn_base.specs.Typed.{IsValue, IsValueWithoutNodes}
-use Rattle.codec_source.specs.declared.fault.ReadFault.TheVariants.{Missing, NotDer, OutsideConstraint}
+use Rattle.decode_faults.specs.declared.read_fault.ReadFault.TheVariants.{Missing, NotDer, OutsideConstraint}
 use Rattle.ber_reader.specs.Judged.{IsJudged}
 use Rattle.ber_reader.specs.Readings.{not_read}
 use Rattle.ber_reader.proofs.Built.{skipped_of, tree_of}

@@ -2,7 +2,7 @@ use Rattle.std.proofs.Common.{rules, arith, ◌≡◌, [], List, ap, map, subst}
 use Rattle.octet_answers.specs.States.{State}
 use Rattle.octet_answers.specs.Left.{Leaves, not_at_end, no_header_open}
 use Rattle.codec_source.specs.Events.{to_close}
-use Rattle.codec_source.specs.declared.fault.ReadFault.TheVariants.{UnexpectedTag}
+use Rattle.decode_faults.specs.declared.read_fault.ReadFault.TheVariants.{UnexpectedTag}
 use Rattle.ber_source.specs.declared.window.Window.{Window}
 use Rattle.ber_source.specs.Seen.{window_of}
 use Rattle.ber_source.proofs.Windows.{one_less, some_octets, no_octets}

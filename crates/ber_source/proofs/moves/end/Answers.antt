@@ -3,7 +3,7 @@ use Rattle.octet_answers.specs.States.{State}
 use Rattle.octet_answers.specs.Left.{Leaves, no_value_open}
 use Rattle.asn_base.specs.declared.schema.TypeId.{TypeId}
 use Rattle.codec_source.specs.Events.{to_end}
-use Rattle.codec_source.specs.declared.fault.ReadFault.TheVariants.{UnexpectedTag}
+use Rattle.decode_faults.specs.declared.read_fault.ReadFault.TheVariants.{UnexpectedTag}
 use Rattle.std.specs.Prelude.{List}
 use Rattle.ber_source.specs.Seen.{window_of}
 use Rattle.ber_source.proofs.moves.end.Goals as goal

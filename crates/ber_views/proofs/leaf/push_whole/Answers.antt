@@ -3,7 +3,7 @@ use Rattle.std.specs.Prelude.{Some}
 use Rattle.asn_base.specs.Abstract.{octets}
 use Rattle.encodings.specs.Rules.{Basic}
 use Rattle.encodings.specs.Contents.{Contents}
-use Rattle.codec_code.specs.Steps.{plain}
+use Rattle.encodings.specs.Leaves.{plain}
 use Rattle.leaf_readings.specs.Leaves.{Tells, bits_but}
 use Rattle.views.specs.Tree as tree
 use Rattle.ber_views.proofs.Leaves.{told_of, bits_whole, octets_whole, text_whole, then_ok}

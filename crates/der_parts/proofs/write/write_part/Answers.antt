@@ -1,6 +1,6 @@
 use Rattle.std.proofs.Common.{arith, ◌≡◌, length, subst, ap}
 use Rattle.asn_base.specs.Abstract.{abstract}
-use Rattle.codec_code.specs.Steps.{HasContents}
+use Rattle.encodings.specs.Leaves.{HasContents}
 use Rattle.leaf_contents.specs.Pieces.{joined_pieces}
 use Rattle.sinks.specs.Sent.{state}
 use Rattle.der_parts.specs.Parts.{IsPart}

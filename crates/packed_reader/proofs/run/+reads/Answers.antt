@@ -36,7 +36,7 @@ use Rattle.packed_code.specs.declared.step.PackedStep.TheVariants.{Bit}
 use Rattle.packed_reader.specs.proving.Running.{other_bits}
 use Rattle.asn_base.specs.Abstract.{AbstractValue, Row}
 use Rattle.packed_encodings.specs.Lengths.{Bits}
-use Rattle.packed_readings.specs.declared.refusal.Refusal.TheVariants.{NotCanonical, Padding}
+use Rattle.decode_faults.specs.declared.refusal.Refusal.TheVariants.{NotCanonical, Padding}
 use Rattle.packed_reader.specs.declared.sent.Sent.{Sent}
 use Rattle.packed_reader.specs.declared.stop.Stop.{Stop}
 use Rattle.packed_reader.specs.Readings.{Reading, read, Taken, taken}
@@ -48,7 +48,7 @@ use Rattle.packed_reader.proofs.ValueRun.{open_none}
 use Rattle.packed_reader.proofs.OpenRun.{err_as as open_err_as, ok_as as open_ok_as, went_on as open_went_on, room_after as open_room_after, room_shorter, Octets, octets_few, inner_room, inner_went, left_in, place_room, inner_good, inner_bad, inner_stop, fit_take, fit_drop, added_stop, added_good, field_inside, are_sent, some_sent, none_sent, stop_sent, one_of, first_none, before_as, before_none, before_left, before_read, before_stop, before_end, before_fault, before_went}
 use Rattle.packed_reader.proofs.run.+reads.Goals as goal
 use Rattle.std.proofs.Common.{arith, refl, sym, ap, subst, ◌∙◌}
-use Rattle.packed_readings.specs.declared.refusal.Refusal.TheVariants as why
+use Rattle.decode_faults.specs.declared.refusal.Refusal.TheVariants as why
 use Rattle.packed_reader.specs.Readings.{read, taken}
 use Rattle.packed_reader.proofs.Flow.{stop_next, stop_within, stop_as, stop_at, stop_bare, stop_of}
 use Rattle.packed_reader.specs.declared.plan.Plan.TheVariants as plans

@@ -1,6 +1,6 @@
 use Rattle.std.proofs.Common.{◌≡◌, subst}
 use Rattle.std.specs.Prelude.{IfErr, IfOk}
-use Rattle.codec_source.specs.declared.fault.ReadFault.TheVariants.{Memory}
+use Rattle.decode_faults.specs.declared.read_fault.ReadFault.TheVariants.{Memory}
 use Rattle.asnc.specs.Reading.{IsReadBy, IsUnread, rules_of}
 use Rattle.asnc.specs.Kits.{Opened}
 use Rattle.asnc.proofs.kit.Kit.decode.Goals as goal

@@ -1,6 +1,6 @@
 //! Why a message can't be read.
 
-ghost use Rattle.codec_source.specs.declared.fault.ReadFault.TheVariants.{Memory};
+ghost use Rattle.decode_faults.specs.declared.read_fault.ReadFault.TheVariants.{Memory};
 ghost use Rattle.std.specs.Prelude.{◌≡◌};
 
 use std::alloc::{AllocError, AllocFailed};
