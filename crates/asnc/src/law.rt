@@ -1,11 +1,16 @@
 //! What follows from the results of a kit. A caller calls a law to know it; a law takes no memory and no time.
 
-ghost use Rattle.std.specs.Prelude.{◌≡◌, ℕ, List, String, IsUtf8, true};
+ghost use Rattle.std.specs.Prelude.{◌≡◌, ◌≤◌, ℕ, List, String, IsUtf8, length, true};
 ghost use Rattle.std.specs.Global.{Global};
 ghost use Rattle.asn_base.specs.Types.{Resolved};
 ghost use Rattle.encodings.specs.Account.{Account};
-ghost use Rattle.encodings.specs.Rules.{Rules, Basic};
+ghost use Rattle.encodings.specs.Encoding.{Der};
+ghost use Rattle.encodings.specs.Rules.{Rules, Basic, Distinguished};
+ghost use Rattle.printed_values.specs.LineEnds.{HasNoLineEnd};
+ghost use Rattle.printed_values.specs.ReadBack.{IsReadBack};
 ghost use Rattle.resolve.specs.Program.{Program};
+ghost use Rattle.trees.specs.Values.{Name};
+ghost use Rattle.values.specs.Allowing.{Allows, AllowsCode};
 ghost use Rattle.front_end.specs.Accepted.{Accepted, AreAccepted};
 ghost use Rattle.messages.specs.declared.fault.Fault.{Fault};
 ghost use Rattle.messages.specs.declared.fault.Fault.TheVariants.{Memory, MessageLimit, NoType, Unread, UnreadBits};
@@ -32,6 +37,7 @@ use front_end::law::{accepted_keep, faults_exclude};
 use named_values::law::one_meaning;
 use packed_encodings::{message_laws as packed_message_laws, writing_laws};
 use packed_writer::law::written_is_read;
+use printed_values::law::printed_is_read_back;
 use version_laws::law::{earlier_reads, later_reads};
 use version_laws::packed_law::{earlier_reads_packed, later_reads_packed};
 
@@ -92,6 +98,14 @@ pub fn reading()
         IsMessageOf p s name o v →
         IsNotReadAs p s Basic name o e →
         e ≡ Memory }
+    // By the distinguished rules the DER encoding of a value has no fault except `Memory`.
+    ensures not_refused_strictly { (xs : List (List ℕ)) (p : Program) (s : List Resolved) (name o : List ℕ)
+        (v : AbstractValue) (e : Fault) →
+        Accepted xs p s →
+        (m : IsMessageOf p s name o v) →
+        Der s m.type v 0 o →
+        IsNotReadAs p s Distinguished name o e →
+        e ≡ Memory }
     // The octets that are written for a value are such an encoding of it, and have no fault by either rules except
     // `Memory`.
     ensures written { (xs : List (List ℕ)) (p : Program) (s : List Resolved) (first second o : List ℕ) (a : Account) →
@@ -136,6 +150,32 @@ pub fn unpacked()
         e ≡ Memory }
 {
     written_is_read();
+}
+
+/// What [`crate::Kit::ber`] and [`crate::Kit::unper`] print is value notation (X.680, clause 17): read in any module, the
+/// printed text means the value that the octets encode, and no other. The exceptions are a text of more than 16,777,216
+/// octets, and a value with a line end in one of its texts.
+pub fn printed()
+    ensures read { (xs : List (List ℕ)) (p : Program) (s : List Resolved) (r : Rules) (name o text : List ℕ) (k : ℕ)
+        (M : Name) →
+        Accepted xs p s →
+        (w : IsReadAs p s r name o text k) →
+        HasNoLineEnd w.read.value →
+        IsUtf8 text →
+        length text ≤ 16777216 →
+        IsReadBack p (Allows p) (AllowsCode p) M w.type text w.read.value }
+    ensures unpacked { (xs : List (List ℕ)) (p : Program) (s : List Resolved) (name o text : List ℕ) (k : ℕ)
+        (M : Name) →
+        Accepted xs p s →
+        (w : IsUnpackedAs p s name o text k) →
+        HasNoLineEnd w.read.value →
+        IsUtf8 text →
+        length text ≤ 16777216 →
+        IsReadBack p (Allows p) (AllowsCode p) M w.type text w.read.value }
+{
+    accepted_keep();
+    message_laws();
+    printed_is_read_back();
 }
 
 /// The whole promise for a named value: what [`crate::Kit::der`] and [`crate::Kit::uper`] return for texts that

@@ -1,8 +1,9 @@
-use Rattle.std.proofs.Common.{sym, subst}
+use Rattle.std.proofs.Common.{sym, subst, ◌∙◌, ◌≤◌}
 use Rattle.asn_base.specs.Same.{Same}
 use Rattle.encodings.specs.Rules.{Basic, Distinguished}
 use Rattle.asnc.specs.Reading.{IsRead}
 use Rattle.asnc.proofs.Messages.{answer_of, never_refused, written_message, written_is_read}
+use Rattle.asnc.proofs.Weaker.{basic_of}
 use Rattle.asnc.proofs.law.reading.Goals as goal
 
 pub returns-clause-right : goal.returns-clause-right
@@ -26,6 +27,22 @@ returns-clause-answered c = λ p s l name o printed k v m r.
 
 pub returns-clause-not_refused : goal.returns-clause-not_refused
 returns-clause-not_refused c = λ p s name o v e m. never_refused p s Basic name o v e m m.ber.2
+
+pub returns-clause-not_refused_strictly : goal.returns-clause-not_refused_strictly
+returns-clause-not_refused_strictly c = λ xs p s name o v e a m d n. never_refused p s Distinguished name o v e
+    (record {
+      type = m.type;
+      named = m.named;
+      is = m.is;
+      ber = (d.0, d.1, basic_of d.2);
+      few = subst (λ l. l ≤ 400)
+          (c.level_laws.ensures.one s Basic Distinguished m.type 0 0 m.ber.0 d.0 o m.ber.2 d.2 a.types.accepted.tagged a.types.accepted.tellable
+          ∙ sym (c.level_laws.ensures.one s Basic Distinguished m.type 0 0 d.0 d.0 o (basic_of d.2) d.2 a.types.accepted.tagged a.types.accepted.tellable))
+          m.few;
+      short = m.short;
+    })
+    d.2
+    n
 
 pub returns-clause-written : goal.returns-clause-written
 returns-clause-written c = λ xs p s first second o a ok w.
