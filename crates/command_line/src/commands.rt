@@ -117,7 +117,7 @@ fn context_arg<'a>(alloc: Global) -> Arg<'a>
     flag_arg(
         alloc,
         "context",
-        "Show the line in which a fault stands, too",
+        "Show the line of a fault in a text, too",
     )
 }
 

@@ -10,13 +10,14 @@ use trees::Spot;
 /// The words for a limit that is passed.
 fn of_limit(limit: Limit) -> &'static str {
     match limit {
-        Limit::Modules => "more than 256 modules are linked",
-        Limit::Types => "more than 4096 types are assigned, or more than 65536 are written",
-        Limit::Values => "more than 65536 values are assigned",
-        Limit::Members => "a list has at most 256 members and 64 additions",
-        Limit::Items => "an enumeration has at most 1024 items and 64 additions",
-        Limit::NamedBit => "a named bit here stands past place 65535",
-        Limit::Integer => "numbers are from -2^127 to 2^127 - 1",
+        Limit::Modules => "found more modules, expected at most 256",
+        Limit::Types =>
+            "found more types, expected at most 4096 type assignments and 65536 types in them",
+        Limit::Values => "found more value assignments, expected at most 65536",
+        Limit::Members => "found a longer list, expected at most 256 members and 64 additions",
+        Limit::Items => "found more items, expected at most 1024 and 64 additions",
+        Limit::NamedBit => "found a greater number of a named bit, expected at most 65535",
+        Limit::Integer => "found another number, expected one from -2^127 to 2^127 - 1",
     }
 }
 
@@ -25,13 +26,15 @@ fn of_circle(alloc: Global, text: &[u8], spot: &Spot) -> Result<String, AllocErr
     let name = shown(alloc, spot.name.as_str())?;
     match word_at(text, spot.at) {
         "SEQUENCE" | "SET" => format!(in alloc;
-            "a DEFAULT of a component of this list, in the type {name}, leads back to the list"
+            "found a list in the type {name} to which a DEFAULT in it leads back, expected another DEFAULT"
         ),
-        "" => format!(in alloc; "the type {name} leads back to itself"),
+        "" => format!(in alloc;
+            "found the type {name}, which leads back to itself, expected one that does not"
+        ),
         told => {
             let reference = shown(alloc, told)?;
             format!(in alloc;
-                "the reference to {reference} in the type {name} leads round in a circle"
+                "found {reference} in the type {name}, which leads back to itself, expected another type"
             )
         }
     }
@@ -42,7 +45,9 @@ fn of_unknown(alloc: Global, texts: &[Vec<u8>], spot: &Spot) -> Result<String, A
     let module = shown(alloc, spot.module.as_str())?;
     let name = shown(alloc, spot.name.as_str())?;
     let hint = did_you_mean(alloc, texts, "", spot.name.as_str())?;
-    format!(in alloc; "{name} has no meaning in the module {module} that it needs here{hint}")
+    format!(in alloc;
+        "found {name}, which has no meaning of this kind in the module {module}{hint}"
+    )
 }
 
 /// The number of the token that begins at an octet, or the number of tokens if none does.
@@ -77,9 +82,11 @@ fn of_twice(alloc: Global, text: &[u8], spot: &Spot) -> Result<String, AllocErro
     let tokens = tokens_in(alloc, text)?;
     let place = place_of(&tokens, spot.at);
     if place < tokens.len() && is_alone(text, &tokens, place) {
-        return format!(in alloc; "the number of {name} is given a second time here");
+        return format!(in alloc;
+            "found the number of {name} a second time, expected another number"
+        );
     }
-    format!(in alloc; "the name {name} is given a second time here")
+    format!(in alloc; "found the name {name} a second time, expected another name")
 }
 
 /// The words for a fault of names.
@@ -96,12 +103,16 @@ pub(crate) fn of_names(
         NameFault::UnknownName(spot) => of_unknown(alloc, texts, spot),
         NameFault::NotExported(spot) => {
             let name = shown(alloc, spot.name.as_str())?;
-            format!(in alloc; "{name} is not exported by the module that it is imported from")
+            format!(in alloc;
+                "found {name}, which its module does not export, expected an exported name"
+            )
         }
         NameFault::Circular(spot) => of_circle(alloc, text, spot),
         NameFault::UnknownModule(spot) => {
             let name = shown(alloc, spot.name.as_str())?;
-            format!(in alloc; "no text is the module {name}, from which names are imported")
+            format!(in alloc;
+                "found imports from the module {name}, expected a text with that module"
+            )
         }
     }
 }

@@ -54,25 +54,34 @@ fn of_bits(refusal: Refusal) -> &'static str {
     }
 }
 
-/// Why octets are not read as a value of the type.
+/// What was found in place of octets that encode a value of the type, and what was expected.
 fn of_reading(fault: ReadFault) -> &'static str {
     match fault {
         ReadFault::Memory => "out of memory",
         ReadFault::MessageLimit => "a message has at most 16777216 octets",
-        ReadFault::IntegerLimit => "numbers are from -2^127 to 2^127 - 1",
-        ReadFault::OidLimit => "an object identifier has at most 64 numbers, each below 2^64",
+        ReadFault::IntegerLimit => "found another number, expected one from -2^127 to 2^127 - 1",
+        ReadFault::OidLimit =>
+            "found other numbers of an object identifier, expected at most 64, each below 2^64",
         ReadFault::Truncated =>
-            "the octets end within a header, or before the contents that one tells",
-        ReadFault::Indefinite => "a length is in the indefinite form, which is not read",
-        ReadFault::BadLength => "a length begins with FF, or is more than 16777216",
-        ReadFault::BadTag => "the octets of a tag are those of none",
-        ReadFault::UnexpectedTag => "found a tag, or a form of one, that can not stand there",
-        ReadFault::Missing => "contents end before a component that has to stand in them",
-        ReadFault::BadContents => "contents are those of no value of their type",
-        ReadFault::EmptySegments => "a BIT STRING in segments has none",
-        ReadFault::OutsideConstraint => "the octets say a value that constraints leave out",
-        ReadFault::Trailing => "octets stand behind the whole value",
-        ReadFault::TooDeep => "more than 400 headers, or 64 values, stand one in another",
-        ReadFault::NotDer => "the octets encode a value, but not by the distinguished rules",
+            "found the end of the octets, expected more octets of a header or of its contents",
+        ReadFault::Indefinite =>
+            "found a length in the indefinite form, expected one in a definite form",
+        ReadFault::BadLength =>
+            "found a length that begins with FF or is more than 16777216, expected one that a message can have",
+        ReadFault::BadTag =>
+            "found identifier octets of no tag, expected those of a tag in an allowed form",
+        ReadFault::UnexpectedTag =>
+            "found a tag or a form of it that is not allowed here, expected one of the type",
+        ReadFault::Missing => "found the end of the contents, expected a mandatory component",
+        ReadFault::BadContents =>
+            "found contents octets of no value, expected those of a value of the type",
+        ReadFault::EmptySegments =>
+            "found a constructed BIT STRING without segments, expected at least one",
+        ReadFault::OutsideConstraint =>
+            "found a value that the constraints do not allow, expected one that they allow",
+        ReadFault::Trailing =>
+            "found octets after the whole value, expected the end of the message",
+        ReadFault::TooDeep => "found more levels, expected at most 400 of headers and 64 of values",
+        ReadFault::NotDer => "found a BER encoding that is not DER, expected the DER encoding",
     }
 }

@@ -13,7 +13,7 @@ fn of_character(alloc: Global, text: &[u8], place: usize) -> Result<String, Allo
         Some(b'=') => "; did you mean ::=?",
         _ => "",
     };
-    format!(in alloc; "found {character}, which stands in comments and quotes alone{hint}")
+    format!(in alloc; "found {character}, which is allowed in comments and quotes only{hint}")
 }
 
 /// The words for a fault of the octets of a text.
@@ -24,14 +24,17 @@ pub(crate) fn of_octets(
 ) -> Result<String, AllocError> {
     let words = match fault {
         LexFault::Memory => "out of memory",
-        LexFault::Limit(Limit::Text, _) => "the text has more than 16777216 octets",
-        LexFault::Limit(Limit::Integer, _) => "this number is above 2 to the 127",
-        LexFault::NotUtf8(_) => "the text is not UTF-8 here",
+        LexFault::Limit(Limit::Text, _) => "found a longer text, expected at most 16777216 octets",
+        LexFault::Limit(Limit::Integer, _) =>
+            "found a greater number, expected at most 2 to the 127",
+        LexFault::NotUtf8(_) => "found octets that are not UTF-8, expected UTF-8",
         LexFault::BadCharacter(place) => return of_character(alloc, text, *place),
-        LexFault::OpenComment(_) => "this comment is not closed",
+        LexFault::OpenComment(_) => "found a comment without an end, expected its end",
         LexFault::OpenString(place) => open_string(text, *place),
-        LexFault::BadNumber(_) => "this number begins with 0, or a letter follows it",
-        LexFault::BadName(_) => "this name ends with a hyphen",
+        LexFault::BadNumber(_) =>
+            "found a number that begins with 0 or has a letter after it, expected neither",
+        LexFault::BadName(_) =>
+            "found a name that ends with a hyphen, expected a letter or a digit after it",
     };
     String::from_str(alloc, words)
 }
@@ -73,14 +76,16 @@ pub(crate) fn of_tokens(
 ) -> Result<String, AllocError> {
     let words = match fault {
         SyntaxFault::Memory => "out of memory",
-        SyntaxFault::Limit(kernel::Limit::Nesting, _) => "more than 128 braces are open here",
-        SyntaxFault::Limit(kernel::Limit::Integer, _) => "numbers are at most 2 to the 127 minus 1",
+        SyntaxFault::Limit(kernel::Limit::Nesting, _) =>
+            "found more open braces, expected at most 128",
+        SyntaxFault::Limit(kernel::Limit::Integer, _) =>
+            "found a greater number, expected at most 2 to the 127 minus 1",
         SyntaxFault::Limit(kernel::Limit::TagNumber, _) => {
-            "numbers of tags are at most 2 to the 31 minus 1"
+            "found a greater number of a tag, expected at most 2 to the 31 minus 1"
         }
         SyntaxFault::OutOfProfile(_) => {
             let spelled = left_out(alloc, text, fault)?;
-            return format!(in alloc; "this compiler leaves out {spelled}");
+            return format!(in alloc; "found {spelled}, which this compiler does not support");
         }
         SyntaxFault::Unexpected(place) => {
             let tokens = tokens_in(alloc, text)?;

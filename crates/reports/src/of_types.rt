@@ -28,7 +28,7 @@ pub(crate) fn of_tags(alloc: Global, text: &[u8], fault: &TagFault) -> Result<St
         TagFault::Limit(Limit::Tags, spot) => (
             spot,
             "a type with more than four tags",
-            "at most four, those behind its references with them",
+            "at most four, with those of the types that it refers to",
         ),
         TagFault::Limit(Limit::TagNumber, spot) => (
             spot,
@@ -37,7 +37,7 @@ pub(crate) fn of_tags(alloc: Global, text: &[u8], fault: &TagFault) -> Result<St
         ),
         TagFault::TagClash(spot) => (
             spot,
-            "whose first tag one before it can have too",
+            "whose first tag an earlier one can have too",
             "another tag, as [0], or AUTOMATIC TAGS",
         ),
         TagFault::ImplicitChoice(spot) => (
@@ -47,7 +47,7 @@ pub(crate) fn of_tags(alloc: Global, text: &[u8], fault: &TagFault) -> Result<St
         ),
         TagFault::UntaggedChoice(spot) => (
             spot,
-            "an untagged CHOICE, which this compiler leaves out there",
+            "an untagged CHOICE, which this compiler does not support here",
             "a tag before it, as [0]",
         ),
         TagFault::MixedAutomatic(spot) => (
@@ -84,7 +84,7 @@ pub(crate) fn of_bounds(
         ),
         BoundFault::Reconstrained(spot) => (
             spot,
-            "behind a constraint with an extension marker, which this compiler leaves out",
+            "after a constraint with an extension marker, which this compiler does not support",
             "one constraint",
         ),
         BoundFault::LowerAboveUpper(spot) => (
@@ -94,8 +94,8 @@ pub(crate) fn of_bounds(
         ),
         BoundFault::MarkerPlace(spot) => (
             spot,
-            "with an extension marker that this compiler leaves out",
-            "the marker behind one value or range of an INTEGER, or behind one SIZE that is not a character string's",
+            "with an extension marker that this compiler does not support",
+            "the marker after one value or range of an INTEGER, or after one SIZE of another type than a character string",
         ),
     };
     of_spot(alloc, text, spot, which, expected)
@@ -111,8 +111,8 @@ pub(crate) fn of_additions(
         ExtFault::Memory => return String::from_str(alloc, "out of memory"),
         ExtFault::MarkerPlace(spot) => (
             spot,
-            "where the extension marker of its list does not let it stand",
-            "additions behind the marker, and the root before it",
+            "which is not allowed at this place by the extension marker of its list",
+            "additions after the marker, and the root before it",
         ),
         ExtFault::AdditionOrder(spot) => (
             spot,
@@ -121,7 +121,7 @@ pub(crate) fn of_additions(
         ),
         ExtFault::DefaultAddition(spot) => (
             spot,
-            "an addition with a DEFAULT, which this compiler leaves out",
+            "an addition with a DEFAULT, which this compiler does not support",
             "OPTIONAL, or neither",
         ),
     };

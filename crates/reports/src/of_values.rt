@@ -40,7 +40,7 @@ fn whose(alloc: Global, text: &[u8], tokens: &[Token], place: usize) -> Result<S
         return Ok(String::new(alloc));
     }
     if is_kind(tokens, one, TokenKind::Reserved(Word::Default)) {
-        return String::from_str(alloc, " behind DEFAULT");
+        return String::from_str(alloc, " after DEFAULT");
     }
     if is_kind(tokens, one, TokenKind::Identifier) && begins_component(tokens, two) {
         let name = shown(alloc, spelled_at(text, tokens, one))?;
@@ -75,7 +75,9 @@ fn of_reason(
         Reason::Oid => format!(in alloc;
             "{found}{whose}, which is too long or has too great a number"
         ),
-        Reason::LostName => format!(in alloc; "found {name}{whose}, which means no value there"),
+        Reason::LostName => format!(in alloc;
+            "found {name}{whose}, which means no value of that module"
+        ),
         Reason::LostItem => format!(in alloc; "found {name}{whose}, which means no value"),
         Reason::Circular => format!(in alloc; "found {name}, which leads back to itself"),
         Reason::NotOfType | Reason::Outside => format!(in alloc; "{found}{whose}"),

@@ -88,7 +88,7 @@ fn file_of(alloc: Global, job: &Job, number: usize) -> Result<String, AllocError
 }
 
 /// What follows the number and the name of a fault.
-fn told_behind(
+fn after_heading(
     alloc: Global,
     job: &Job,
     texts: &[Vec<u8>],
@@ -127,10 +127,9 @@ fn told_behind(
 /// An example is `error 20 Unexpected: m.asn:3:14: found '}', expected a type`. The parts are the number and the name
 /// of the fault, the file, the line and the column of the place, and what was found and expected there. Line and column
 /// are counted from 1, the column in characters. For octets that can't be read the line has the place of the octet,
-/// from 0, and the part of the value that was being read: `error 80 Truncated: at octet 17, in a.b[2].c: the octets end
-/// ..`. For bits that can't be read it has the place of the bit: `error 90 Truncated: at bit 17, in rows[3].id: found ..`.
-/// For an account it has the file, and the octet and the row at which the text stops being an account, both from
-/// 0.
+/// from 0, and the part of the value that was being read: `error 80 Truncated: at octet 17, in a.b[2].c: found ..`. For
+/// bits that can't be read it has the place of the bit: `error 90 Truncated: at bit 17, in rows[3].id: found ..`. For an
+/// account it has the file, and the octet and the row at which the text stops being an account, both from 0.
 ///
 /// If the job asks for the context and the fault is at an octet of a text, that line of the text and a line with a
 /// caret follow. At most 60 characters of a text or a name are shown at once.
@@ -143,7 +142,7 @@ pub fn report(
     ensures { IfOk result (λ s. Begins (heading_of fault.now) (string_bytes s)) }
 {
     let mut told = heading(alloc, fault)?;
-    let behind = told_behind(alloc, job, texts, fault)?;
-    told.push_str(behind.as_str())?;
+    let rest = after_heading(alloc, job, texts, fault)?;
+    told.push_str(rest.as_str())?;
     Ok(told)
 }
