@@ -45,7 +45,7 @@ x
 10 1 error 10 NotUtf8: m.asn:1:39: found octets that are not UTF-8, expected UTF-8 | error 10 NotUtf8 at 38
 11 1 error 11 BadCharacter: m.asn:1:39: found w, which is allowed in comments and quotes only | error 11 BadCharacter at 38
 12 1 error 12 OpenComment: m.asn:1:39: found a comment without an end, expected its end | error 12 OpenComment at 38
-13 1 error 13 OpenString: m.asn:1:39: this apostrophe is not closed on its line | error 13 OpenString at 38
+13 1 error 13 OpenString: m.asn:1:39: found an apostrophe that is not closed on its line, expected a second one | error 13 OpenString at 38
 14 1 error 14 BadNumber: m.asn:1:39: found a number that begins with 0 or has a letter after it, expected neither | error 14 BadNumber at 38
 15 1 error 15 BadName: m.asn:1:39: found a name that ends with a hyphen, expected a letter or a digit after it | error 15 BadName at 38
 1 3 error 1 Memory: m.asn: out of memory | error 1 Memory

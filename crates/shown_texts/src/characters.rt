@@ -75,11 +75,11 @@ fn wrong_hex(digits: &[u8]) -> &'static str {
 /// apostrophes.
 pub fn open_string(text: &[u8], place: usize) -> &'static str {
     if text.get(place) == Some(&b'"') {
-        return "these quotes are not closed on their line";
+        return "found quotes that are not closed on their line, expected the closing ones";
     }
     let digits = line_from(text, place.saturating_add(1));
     let Some(close) = digits.iter().position(|octet| *octet == b'\'') else {
-        return "this apostrophe is not closed on its line";
+        return "found an apostrophe that is not closed on its line, expected a second one";
     };
     match digits.get(close.saturating_add(1)) {
         Some(b'B') => "the digits before B are 0 and 1",
