@@ -66,9 +66,9 @@ fn is_digit_or_space(octet: &u8) -> bool {
 /// The mistake in digits that are not those of a hexadecimal string.
 fn wrong_hex(digits: &[u8]) -> &'static str {
     if digits.iter().all(is_digit_or_space) {
-        return "the digits A to F before H are in upper case";
+        return "found digits in lower case, expected A to F in upper case before H";
     }
-    "the digits before H are 0 to 9 and A to F"
+    "found other characters before H, expected digits 0 to 9 and A to F"
 }
 
 /// The mistake in a string that begins at an offset and gives no token: a text in quotes, or digits between
@@ -82,8 +82,8 @@ pub fn open_string(text: &[u8], place: usize) -> &'static str {
         return "found an apostrophe that is not closed on its line, expected a second one";
     };
     match digits.get(close.saturating_add(1)) {
-        Some(b'B') => "the digits before B are 0 and 1",
+        Some(b'B') => "found other characters before B, expected digits 0 and 1",
         Some(b'H') => wrong_hex(digits.get(..close).unwrap_or(digits)),
-        _ => "neither B nor H follows these apostrophes",
+        _ => "found apostrophes without B or H after them, expected one of the two",
     }
 }
