@@ -8,7 +8,7 @@ use std::io;
 use std::test::Fail;
 
 /// The result of a turn with this fault: `Memory` is right if an allocation fails, and no other fault is.
-fn refusal(fault: &Fault) -> Turn {
+pub fn refusal(fault: &Fault) -> Turn {
     match fault {
         Fault::Memory => Turn::Refused,
         _ => Turn::Wrong,
@@ -135,7 +135,7 @@ impl Starved for Listing {
 }
 
 /// Checks that a sweep had many calls that failed and many that were right, and no other ones.
-pub fn told(rt: &HostRuntime, name: &str, swept: Swept) -> Result<(), Fail> {
+pub fn report(rt: &HostRuntime, name: &str, swept: Swept) -> Result<(), Fail> {
     match swept {
         Swept::Endless => Ok(()),
         Swept::Wrong(turn) => {
@@ -160,7 +160,7 @@ fn open_with_ever_more_memory(rt: HostRuntime) -> Result<(), Fail> {
         texts: texts(alloc)?,
     };
     let swept = sweep(alloc, &mut opening)?;
-    told(&rt, "Kit::open", swept)
+    report(&rt, "Kit::open", swept)
 }
 
 #[test]
@@ -168,7 +168,7 @@ fn der_with_ever_more_memory(rt: HostRuntime) -> Result<(), Fail> {
     let alloc = rt.alloc();
     let mut encoding = Encoding { kit: kit(alloc)? };
     let swept = sweep(alloc, &mut encoding)?;
-    told(&rt, "Kit::der", swept)
+    report(&rt, "Kit::der", swept)
 }
 
 #[test]
@@ -176,7 +176,7 @@ fn uper_with_ever_more_memory(rt: HostRuntime) -> Result<(), Fail> {
     let alloc = rt.alloc();
     let mut packing = Packing { kit: kit(alloc)? };
     let swept = sweep(alloc, &mut packing)?;
-    told(&rt, "Kit::uper", swept)
+    report(&rt, "Kit::uper", swept)
 }
 
 #[test]
@@ -191,7 +191,7 @@ fn der_to_with_ever_more_memory(rt: HostRuntime) -> Result<(), Fail> {
         },
     };
     let swept = sweep(alloc, &mut sending)?;
-    told(&rt, "Kit::der_to", swept)
+    report(&rt, "Kit::der_to", swept)
 }
 
 #[test]
@@ -203,5 +203,5 @@ fn list_with_ever_more_memory(rt: HostRuntime) -> Result<(), Fail> {
     };
     let mut listing = Listing { kit, text };
     let swept = sweep(alloc, &mut listing)?;
-    told(&rt, "Kit::list", swept)
+    report(&rt, "Kit::list", swept)
 }

@@ -1,6 +1,6 @@
 //! Octets that a kit decodes while allocations fail one after another. Each call answers `Memory`, or gives the answer.
 
-use super::growths::{answer, told};
+use super::growths::{answer, report};
 use super::modules::reading_kit;
 use asnc::{Fault, Kit, Rules, number};
 use starving::{Starved, Turn, sweep};
@@ -153,7 +153,7 @@ fn read_with_ever_more_memory(rt: &HostRuntime, row: Row) -> Result<(), Fail> {
         row,
     };
     let swept = sweep(alloc, &mut reading)?;
-    told(rt, row.name, swept)
+    report(rt, row.name, swept)
 }
 
 #[test]

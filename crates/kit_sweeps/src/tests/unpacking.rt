@@ -1,6 +1,6 @@
 //! Octets of canonical PER that a kit reads, each growth refused in turn: `Memory`, or the answer.
 
-use super::growths::{answer, told};
+use super::growths::{answer, report};
 use super::modules::{PACKED, reading_kit};
 use asnc::{Fault, Kit, number};
 use starving::{Starved, Turn, sweep};
@@ -96,7 +96,7 @@ fn unper_with_ever_more_memory(rt: HostRuntime) -> Result<(), Fail> {
             row,
         };
         let swept = sweep(alloc, &mut unpacking)?;
-        told(&rt, row.name, swept)?;
+        report(&rt, row.name, swept)?;
     }
     Ok(())
 }
@@ -108,5 +108,5 @@ fn refused_bits_with_ever_more_memory(rt: HostRuntime) -> Result<(), Fail> {
         kit: reading_kit(alloc)?,
     };
     let swept = sweep(alloc, &mut refusing)?;
-    told(&rt, "Kit::unper of elements in another order", swept)
+    report(&rt, "Kit::unper of elements in another order", swept)
 }
