@@ -6,5 +6,6 @@ mod Answered
 mod ReadBack
 mod Parts
 mod Rows
+mod RowsOfHeadline
 mod Versions
 mod PackedVersions
