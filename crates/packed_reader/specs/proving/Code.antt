@@ -22,7 +22,7 @@ use Rattle.packed_reader.specs.Readings.{Reading, read, refused, Taken, taken}
 use Rattle.packed_reader.specs.declared.list.Gathered.{Gathered}
 use Rattle.packed_reader.specs.declared.list.Next.{Next}
 use Rattle.packed_reader.specs.declared.list.Next.TheVariants as nexts
-use Rattle.packed_reader.specs.declared.run.Fragment.{Fragment}
+use Rattle.packed_reader.specs.declared.elements.Fragment.{Fragment}
 use Rattle.packed_reader.specs.declared.sent.Sent.{Sent}
 use Rattle.packed_reader.specs.proving.Running.{Elements, RunsElement, run_parts}
 use Rattle.packed_readings.specs.declared.count.Count.{Count}
