@@ -4,7 +4,8 @@ ghost use Rattle.asn_base.specs.Schemas.{components};
 ghost use Rattle.bits.specs.Left.{bits_left};
 ghost use Rattle.packed_encodings.specs.Computed.{kind_at};
 ghost use Rattle.packed_reader.specs.proving.Code.{HasRoom, IsGot, IsStop, Went, row_of_values};
-ghost use Rattle.packed_reader.specs.proving.Running.{run_added, run_additions, run_first, run_group, run_group_inside, run_rest, run_value};
+ghost use Rattle.packed_reader.specs.proving.Running.{run_added, run_additions, run_first, run_group, run_group_inside};
+ghost use Rattle.packed_reader.specs.proving.Running.{run_rest, run_value};
 ghost use Rattle.packed_writer.specs.proving.Values.{FieldFits, FieldsFit, fields_in};
 ghost use Rattle.std.specs.Prelude.{◌≡◌, ◌≤◌, IfErr, OnOk, length, true};
 

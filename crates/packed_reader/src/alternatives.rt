@@ -38,11 +38,13 @@ pub(crate) fn read_pick(
     requires there { reader.id.index < length reader.code.now }
     ensures ok { IfOk result (λ v. IsGot
         (onward (plain (call_from calls.now (bits_left bits.old)))
-        (λ c r. run_chosen (run_value reader.entry.code.now reader.entry.levels) c progress.old.skipped progress.old.left r))
+        (λ c r. run_chosen (run_value reader.entry.code.now reader.entry.levels) c
+        progress.old.skipped progress.old.left r))
         (abstract v) progress.new (bits_left bits.new)) }
     ensures err { IfErr result (λ e. IsStop
         (onward (plain (call_from calls.now (bits_left bits.old)))
-        (λ c r. run_chosen (run_value reader.entry.code.now reader.entry.levels) c progress.old.skipped progress.old.left r))
+        (λ c r. run_chosen (run_value reader.entry.code.now reader.entry.levels) c
+        progress.old.skipped progress.old.left r))
         e (bits_left bits.new)) }
     ensures went { IfOk result (λ v. Went progress.old (bits_left bits.old) progress.new (bits_left bits.new)) }
 {

@@ -6,7 +6,8 @@ ghost use Rattle.bits.specs.Left.{bits_left};
 ghost use Rattle.packed_encodings.specs.Computed.{kind_at};
 ghost use Rattle.packed_reader.specs.Structures.{no_row};
 ghost use Rattle.packed_reader.specs.proving.Code.{AreSent, HasRoom, IsGot, IsStop, Went, row_of_values};
-ghost use Rattle.packed_reader.specs.proving.Running.{run_fields, run_member, run_members, run_present, run_structure, run_value};
+ghost use Rattle.packed_reader.specs.proving.Running.{run_fields, run_member, run_members, run_present, run_structure};
+ghost use Rattle.packed_reader.specs.proving.Running.{run_value};
 ghost use Rattle.packed_writer.specs.proving.Values.{FieldFits, FieldsFit};
 ghost use Rattle.std.specs.Prelude.{◌≡◌, ◌≤◌, ◌<◌, IfErr, IfOk, OnOk, length};
 

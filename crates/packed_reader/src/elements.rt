@@ -5,7 +5,8 @@ ghost use Rattle.asn_base.specs.Schemas.{AreBounds, IsSize};
 ghost use Rattle.asn_base.specs.Seen.{constraint_of};
 ghost use Rattle.bits.specs.Left.{bits_left};
 ghost use Rattle.packed_reader.specs.proving.Code.{HasRoom, IsGot, IsLess, IsPart, IsStop, Went, gathered};
-ghost use Rattle.packed_reader.specs.proving.Running.{no_elements, run_each, run_element, run_elements, run_list, run_parts, run_value};
+ghost use Rattle.packed_reader.specs.proving.Running.{no_elements, run_each, run_element, run_elements, run_list};
+ghost use Rattle.packed_reader.specs.proving.Running.{run_parts, run_value};
 ghost use Rattle.packed_readings.specs.Counts.{size_fault};
 ghost use Rattle.packed_writer.specs.proving.Values.{IsList};
 ghost use Rattle.std.specs.Prelude.{◌≡◌, ◌+◌, ◌≤◌, ◌<◌, IfErr, IfOk, OnOk, suc, true, ℕ};
@@ -174,7 +175,8 @@ fn read_part<'a>(
 ) -> Result<Next, Stop>
     requires few { reader.levels ≤ 63 }
     requires room { HasRoom progress.old (bits_left bits.old) }
-    ensures ok { IfOk result (λ x. IsPart (run_value reader.entry.code.now reader.entry.levels reader.entry.id.index) fragment.entry
+    ensures ok { IfOk result (λ x. IsPart
+        (run_value reader.entry.code.now reader.entry.levels reader.entry.id.index) fragment.entry
         (gathered list.old) progress.old (bits_left bits.old) x (gathered list.new) progress.new (bits_left bits.new)) }
     ensures err { IfErr result (λ e. (f : ℕ) → IsStop
         (run_parts (run_value reader.entry.code.now reader.entry.levels reader.entry.id.index)

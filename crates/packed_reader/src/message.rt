@@ -37,11 +37,13 @@ fn read_message(
     requires few { reader.levels ≤ 64 }
     requires room { HasRoom progress.old (bits_left bits.old) }
     ensures ok { IfOk result (λ v. filled_from
-        (run_value reader.entry.code.now reader.entry.levels reader.entry.id.index progress.old.skipped progress.old.left)
+        (run_value reader.entry.code.now reader.entry.levels reader.entry.id.index
+        progress.old.skipped progress.old.left)
         (bits_left bits.old)
         ≡ read (taken (abstract v) progress.new.skipped progress.new.left) []) }
     ensures err { IfErr result (λ e. IsStop (filled_from
-        (run_value reader.entry.code.now reader.entry.levels reader.entry.id.index progress.old.skipped progress.old.left)
+        (run_value reader.entry.code.now reader.entry.levels reader.entry.id.index
+        progress.old.skipped progress.old.left)
         (bits_left bits.old)) e (bits_left bits.new)) }
 {
     reader.code.accepted();

@@ -51,7 +51,8 @@ pub(crate) fn read_value(
         e (bits_left bits.new)) }
     ensures went { IfOk result (λ v. Went progress.old (bits_left bits.old) progress.new (bits_left bits.new)) }
     ensures fewer { IfOk result (λ v. progress.new.left < progress.old.left) }
-    ensures value { IfOk result (λ v. ValueIn reader.entry.code.now reader.entry.levels reader.entry.id.index (abstract v)) }
+    ensures value { IfOk result (λ v.
+        ValueIn reader.entry.code.now reader.entry.levels reader.entry.id.index (abstract v)) }
 {
     reader.code.accepted();
     running_laws();
@@ -145,12 +146,14 @@ pub(crate) fn read_opened(
     requires room { HasRoom progress.old (bits_left bits.old) }
     ensures ok { IfOk result (λ v. IsGot
         (open_from
-        (run_value reader.entry.code.now reader.entry.levels reader.entry.id.index progress.old.skipped progress.old.left)
+        (run_value reader.entry.code.now reader.entry.levels reader.entry.id.index
+        progress.old.skipped progress.old.left)
         (bits_left bits.old))
         (abstract v) progress.new (bits_left bits.new)) }
     ensures err { IfErr result (λ e. IsStop
         (open_from
-        (run_value reader.entry.code.now reader.entry.levels reader.entry.id.index progress.old.skipped progress.old.left)
+        (run_value reader.entry.code.now reader.entry.levels reader.entry.id.index
+        progress.old.skipped progress.old.left)
         (bits_left bits.old))
         e (bits_left bits.new)) }
     ensures went { IfOk result (λ v. Went progress.old (bits_left bits.old) progress.new (bits_left bits.new)) }
