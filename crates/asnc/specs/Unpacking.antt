@@ -1,5 +1,5 @@
--- The value of a named type that octets are a message of in canonical PER, unaligned, and why none is read (X.691, clauses
--- 11 to 30).
+-- The value of a named type that octets are a message of in canonical PER, unaligned, and why none is read (X.691,
+-- clauses 11 to 30).
 use Rattle.std.specs.Prelude.{◌≡◌, ℕ, ◌<◌, ◌≤◌, List, [], ◌∷◌, length, Some, None, slice_get, string_bytes}
 use Rattle.asn_base.specs.Abstract.{AbstractValue}
 use Rattle.asn_base.specs.Schemas.{components}
@@ -67,7 +67,8 @@ pub record IsUnpackedAs (p : Program) (s : List Resolved) (name o printed : List
 
 -- The octets are at most 16,777,216, and are a message of no value of type t. Their first fault is this one: it is at
 -- this bit, from 0, and within these parts of the value, the outermost first.
-pub record IsFirstFault (s : List Resolved) (t : ℕ) (o : List ℕ) (why : Refusal) (bit : ℕ) (parts : List Part') : Type 0 where
+pub record IsFirstFault (s : List Resolved) (t : ℕ) (o : List ℕ) (why : Refusal) (bit : ℕ)
+    (parts : List Part') : Type 0 where
   pub short : length o ≤ 16777216
   pub none : (w : AbstractValue) (k : ℕ) → Reads s t w k o → ⊥
   pub first : message_from s t o ≡ faulty (record { why = why; path = parts }) bit
@@ -99,8 +100,8 @@ pub record IsRefusedAs (p : Program) (s : List Resolved) (name o : List ℕ) (e 
   pub named : Names p name type
   pub fault : IsNotUnpacked s type o e
 
--- Nothing is read, for the reason that the fault gives. `NoType`: the text names no type. `MessageLimit` and `UnreadBits`:
--- the text names a type, and the octets are refused. `Memory` says nothing about either.
+-- Nothing is read, for the reason that the fault gives. `NoType`: the text names no type. `MessageLimit` and
+-- `UnreadBits`: the text names a type, and the octets are refused. `Memory` says nothing about either.
 abbrev pub IsNotUnpackedAs : Program → List Resolved → List ℕ → List ℕ → Fault → Type 0
 IsNotUnpackedAs p s name o faults.Memory = Unit {0}
 IsNotUnpackedAs p s name o (faults.NoType x) = (string_bytes x ≡ name) × ((t : ℕ) → TypeNamed p name t → ⊥)

@@ -14,8 +14,8 @@ use Rattle.asnc.specs.Reading.{IsNotReadAs, IsReadAs, rules_of}
 use Rattle.asnc.specs.Unpacking.{IsNotUnpackedAs, IsUnpackedAs}
 use Rattle.asnc.specs.declared.reading.Rules.{Rules as Rules'}
 
--- The texts are accepted as program p with types s. The octets o with account a are written for value v of the type with
--- the first name, and b is its message of canonical PER.
+-- The texts are accepted as program p with types s. The octets o with account a are written for value v of the type
+-- with the first name, and b is its message of canonical PER.
 pub record IsWhole (texts : List (List ℕ)) (p : Program) (s : List Resolved) (first second o b : List ℕ) (a : Account)
     (v u : AbstractValue) : Type 0 where
   -- o is the only DER encoding of the value, no definite-length BER encoding is shorter, and the checker accepts a

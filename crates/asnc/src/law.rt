@@ -17,7 +17,8 @@ ghost use Rattle.messages.specs.declared.fault.Fault.TheVariants.{Memory, Messag
 ghost use Rattle.messages.specs.declared.fault.Unread.{Unread as Unread'};
 ghost use Rattle.messages.specs.declared.fault.UnreadBits.{UnreadBits as UnreadBits'};
 ghost use Rattle.asn_base.specs.Abstract.{AbstractValue};
-ghost use Rattle.asnc.specs.Headline.{IsAnswer, IsMessageOf, IsRight, IsRightlyPacked, IsRightlyRead, IsRightlyUnpacked};
+ghost use Rattle.asnc.specs.Headline.{IsAnswer, IsMessageOf, IsRight, IsRightlyPacked, IsRightlyRead};
+ghost use Rattle.asnc.specs.Headline.{IsRightlyUnpacked};
 ghost use Rattle.asnc.specs.Kits.{IsNotOpened};
 ghost use Rattle.asnc.specs.Packing.{IsNotPacked, IsPacked};
 ghost use Rattle.asnc.specs.Reading.{IsNotReadAs, IsReadAs, rules_of};
@@ -125,8 +126,8 @@ pub fn reading()
     sameness();
 }
 
-/// What [`crate::Kit::unper`] returns for texts that [`crate::Kit::open`] took is right. What [`crate::Kit::uper`] returns
-/// gives its value back, or `Memory`.
+/// What [`crate::Kit::unper`] returns for texts that [`crate::Kit::open`] took is right. What [`crate::Kit::uper`]
+/// returns gives its value back, or `Memory`.
 pub fn unpacked()
     // The printed text is a value of the type that the octets are a message of, and the only one.
     ensures right { (xs : List (List ℕ)) (p : Program) (s : List Resolved) (name o printed : List ℕ) (k : ℕ) →
@@ -327,8 +328,8 @@ pub fn one_answer()
     one_meaning();
 }
 
-/// `NoType` and a fault of the octets are never both true: the name of the type is checked first. The order of the faults
-/// of names is a law of [`named_values::law`].
+/// `NoType` and a fault of the octets are never both true: the name of the type is checked first. The order of the
+/// faults of names is a law of [`named_values::law`].
 pub fn one_refusal()
     ensures octets { (p : Program) (s : List Resolved) (r : Rules) (name o : List ℕ) (x : String Global)
         (u : Unread') →

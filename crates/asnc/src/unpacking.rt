@@ -3,7 +3,8 @@
 ghost use Rattle.std.specs.Prelude.{◌≡◌, ◌<◌, ℕ, Err, List, IfOk, IfErr, length, string_bytes};
 ghost use Rattle.asn_base.specs.Abstract.{abstract};
 ghost use Rattle.packed_reader.specs.declared.fault.PerFault.TheVariants.{MessageLimit};
-ghost use Rattle.asnc.specs.Unpacking.{IsNotUnpacked, IsNotUnpackedAs, IsNotUnpackedBy, IsUnpacked, IsUnpackedAs, IsUnpackedBy};
+ghost use Rattle.asnc.specs.Unpacking.{IsNotUnpacked, IsNotUnpackedAs, IsNotUnpackedBy, IsUnpacked, IsUnpackedAs};
+ghost use Rattle.asnc.specs.Unpacking.{IsUnpackedBy};
 
 use crate::places::path_to_part;
 use asn_base::schema::{Schema, TypeId};
@@ -54,8 +55,9 @@ fn refusal(alloc: Global, schema: &Schema, id: TypeId, fault: PerFault) -> Fault
     }
 }
 
-/// The printed value of a type that octets are a message of, and the number of skipped additions. `UnreadBits`: they are
-/// a message of no value of the type. `MessageLimit`: there are more than 16,777,216. `Memory`: an allocation failed.
+/// The printed value of a type that octets are a message of, and the number of skipped additions. `UnreadBits`: they
+/// are a message of no value of the type. `MessageLimit`: there are more than 16,777,216. `Memory`: an allocation
+/// failed.
 fn unpacked_text(
     alloc: Global,
     schema: &Schema,
@@ -78,8 +80,8 @@ fn unpacked_text(
     }
 }
 
-/// The printed value of the type that a text names. `NoType`: the text names no type. `UnreadBits` and `MessageLimit`: the
-/// octets are a message of no value of the type. `Memory`: an allocation failed.
+/// The printed value of the type that a text names. `NoType`: the text names no type. `UnreadBits` and `MessageLimit`:
+/// the octets are a message of no value of the type. `Memory`: an allocation failed.
 pub(crate) fn unpacked_as(
     alloc: Global,
     modules: &Modules,

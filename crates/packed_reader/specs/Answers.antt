@@ -15,8 +15,8 @@ use Rattle.packed_reader.specs.Values.{Answer, answers, too_long, faulty}
 abbrev pub fault_of : RefusedBits → Fault
 fault_of u = record { why = u.refusal; path = u.path.items }
 
--- The call refuses octets for what they are answered with: there are too many, or the fault is the first one, at its bit
--- and in its parts of the value. Without enough memory it says nothing.
+-- The call refuses octets for what they are answered with: there are too many, or the fault is the first one, at its
+-- bit and in its parts of the value. Without enough memory it says nothing.
 abbrev pub IsRefusal : Answer → PerFault → Type 0
 IsRefusal a per.Memory = Unit {0}
 IsRefusal a per.MessageLimit = a ≡ too_long

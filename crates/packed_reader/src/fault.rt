@@ -8,8 +8,8 @@ use decode_faults::Refusal;
 use std::alloc::{AllocError, AllocFailed};
 use thiserror::Error;
 
-/// The first fault of a message: what it is, at which bit of the message, counted from 0, and the parts of the value that
-/// it is in, the outermost first.
+/// The first fault of a message: what it is, at which bit of the message, counted from 0, and the parts of the value
+/// that it is in, the outermost first.
 #[derive(Debug, Drop)]
 pub struct RefusedBits {
     pub refusal: Refusal,

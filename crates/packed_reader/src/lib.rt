@@ -4,7 +4,11 @@
 
 mod absent;
 mod addition_bits;
+mod additions;
+mod alternatives;
 mod call;
+mod components;
+mod elements;
 mod fault;
 pub mod law;
 mod laws_of_running;
@@ -16,9 +20,9 @@ mod plan;
 mod presence;
 mod reader;
 mod row;
-mod run;
 mod sent;
 mod stop;
+mod value;
 
 pub use call::{Call, read_call};
 pub use fault::{PerFault, RefusedBits};

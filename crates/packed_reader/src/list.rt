@@ -74,8 +74,10 @@ fn judged(size: Size<'_>, before: u128, count: Count) -> Result<Count, Refusal>
     requires before { before ≤ 2 ^ 100 }
     requires few { IsFewParts count }
     ensures few { IfOk result IsFewParts }
-    ensures ok { IfOk result (λ c. total (size_fault (constraint_of size.entry.constraint.now) size.entry.outside) before count ≡ good c) }
-    ensures err { IfErr result (λ e. total (size_fault (constraint_of size.entry.constraint.now) size.entry.outside) before count ≡ bad e) }
+    ensures ok { IfOk result (λ c.
+        total (size_fault (constraint_of size.entry.constraint.now) size.entry.outside) before count ≡ good c) }
+    ensures err { IfErr result (λ e.
+        total (size_fault (constraint_of size.entry.constraint.now) size.entry.outside) before count ≡ bad e) }
 {
     match count {
         Count::Part(times) => Ok(Count::Part(times)),
@@ -99,8 +101,9 @@ pub(crate) fn read_total(
 ) -> Result<Count, Refusal>
     requires { before ≤ 2 ^ 100 }
     ensures few { IfOk result IsFewParts }
-    ensures is { judging (total (size_fault (constraint_of size.entry.constraint.now) size.entry.outside) before) (count_from full)
-        (bits_left bits.old) ≡ outcome result (bits_left bits.new) }
+    ensures is { judging (total (size_fault (constraint_of size.entry.constraint.now) size.entry.outside) before)
+        (count_from full) (bits_left bits.old)
+        ≡ outcome result (bits_left bits.new) }
     ensures shorter { IfOk result (λ c. length (bits_left bits.new) ≤ length (bits_left bits.old)) }
 {
     count_laws();

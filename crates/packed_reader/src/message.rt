@@ -18,8 +18,8 @@ use crate::law::{message_laws_of_reading, step_laws};
 use crate::laws_of_running::inside_laws;
 use crate::open::fills;
 use crate::reader::{Progress, Reader};
-use crate::run::read_value;
 use crate::stop::Stop;
+use crate::value::read_value;
 use asn_base::schema::TypeId;
 use asn_base::value::Value;
 use bits::cursor::Bits;
@@ -37,11 +37,13 @@ fn read_message(
     requires few { reader.levels ≤ 64 }
     requires room { HasRoom progress.old (bits_left bits.old) }
     ensures ok { IfOk result (λ v. filled_from
-        (run_value reader.entry.code.now reader.entry.levels reader.entry.id.index progress.old.skipped progress.old.left)
+        (run_value reader.entry.code.now reader.entry.levels reader.entry.id.index
+        progress.old.skipped progress.old.left)
         (bits_left bits.old)
         ≡ read (taken (abstract v) progress.new.skipped progress.new.left) []) }
     ensures err { IfErr result (λ e. IsStop (filled_from
-        (run_value reader.entry.code.now reader.entry.levels reader.entry.id.index progress.old.skipped progress.old.left)
+        (run_value reader.entry.code.now reader.entry.levels reader.entry.id.index
+        progress.old.skipped progress.old.left)
         (bits_left bits.old)) e (bits_left bits.new)) }
 {
     reader.code.accepted();

@@ -10,7 +10,8 @@ ghost use Rattle.packed_reader.specs.proving.Code.{HasRoom, IsBare, IsStop};
 ghost use Rattle.packed_reader.specs.proving.Running.{run_unknown};
 ghost use Rattle.packed_readings.specs.Counts.{octets_from};
 ghost use Rattle.packed_readings.specs.Outcome.{found};
-ghost use Rattle.std.specs.Prelude.{◌≡◌, ◌++◌, ◌+◌, ◌*◌, ◌≤◌, ◌<◌, ◌^◌, nat_lt, if◌then◌else◌, IfErr, IfOk, List, OnOk, length, ℕ};
+ghost use Rattle.std.specs.Prelude.{◌≡◌, ◌++◌, ◌+◌, ◌*◌, ◌≤◌, ◌<◌, ◌^◌, nat_lt};
+ghost use Rattle.std.specs.Prelude.{if◌then◌else◌, IfErr, IfOk, List, OnOk, length, ℕ};
 
 use crate::reader::Progress;
 use crate::stop::Stop;
@@ -48,7 +49,8 @@ pub(crate) fn fills(used: usize, bits: Bits<'_>) -> bool
 pub(crate) fn take_octets(alloc: Global, bits: &mut Bits<'_>) -> Result<Vec<u8>, Stop>
     ensures ok { IfOk result (λ o. octets_from (bits_left bits.old) ≡ found o.items (bits_left bits.new)) }
     ensures err { IfErr result (IsBare (octets_from (bits_left bits.old)) (bits_left bits.new)) }
-    ensures shorter { IfOk result (λ o. 8 * length o.items + length (bits_left bits.new) < length (bits_left bits.old)) }
+    ensures shorter { IfOk result (λ o.
+        8 * length o.items + length (bits_left bits.new) < length (bits_left bits.old)) }
 {
     octets_laws();
     match read_octets(alloc, bits) {

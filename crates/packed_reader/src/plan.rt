@@ -21,8 +21,8 @@ pub(crate) struct Shape<'a> {
     pub steps: &'a [PackedStep],
 }
 
-/// What the steps of a routine are for: components; elements of a type, in ascending order or not; alternatives; contents
-/// that hold no other values; or nothing.
+/// What the steps of a routine are for: components; elements of a type, in ascending order or not; alternatives;
+/// contents that hold no other values; or nothing.
 #[derive(Clone, Copy)]
 pub(crate) enum Plan<'a> {
     Fields(Shape<'a>),
@@ -89,7 +89,9 @@ pub(crate) fn past(steps: &[PackedStep], count: usize) -> &[PackedStep]
 
 /// A CHOICE has fewer alternatives than there are numbers of 64 bits.
 pub(crate) fn has_few(core: &Core)
-    ensures { (root more : List Alternative) (e : Bool) → kind_of core.now ≡ a_choice root e more → length root < 2 ^ 64 }
+    ensures { (root more : List Alternative) (e : Bool)
+        → kind_of core.now ≡ a_choice root e more
+        → length root < 2 ^ 64 }
 {
     match core {
         Core::Choice(alternatives) => {

@@ -16,8 +16,8 @@ struct Row {
     skipped: u64,
 }
 
-/// The value whose bits are PACKED, with 1 for additions: 1, 0111, 2 in 8 bits, 0 and 1; then 0, 0 in 6 bits and 1 for one
-/// addition, and an open type of one octet FF.
+/// The value whose bits are PACKED, with 1 for additions: 1, 0111, 2 in 8 bits, 0 and 1; then 0, 0 in 6 bits and 1 for
+/// one addition, and an open type of one octet FF.
 const LATER: [u8; 5] = [0xB8, 0x12, 0x02, 0x03, 0xFE];
 
 /// The elements in another order.

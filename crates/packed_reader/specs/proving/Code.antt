@@ -1,5 +1,6 @@
 -- What the functions of the reader's code answer.
-use Rattle.std.specs.Prelude.{◌≡◌, ℕ, suc, ◌+◌, ◌<◌, ◌≤◌, ◌^◌, Bool, List, [], ◌∷◌, ◌++◌, length, map, option_map, Option, Some, None, slice_get}
+use Rattle.std.specs.Prelude.{◌≡◌, ℕ, suc, ◌+◌, ◌<◌, ◌≤◌, ◌^◌, Bool, List, [], ◌∷◌, ◌++◌, length, map, option_map}
+use Rattle.std.specs.Prelude.{Option, Some, None, slice_get}
 use Rattle.asn_base.specs.Abstract.{AbstractValue, abstract, Row, row_of_options}
 use Rattle.asn_base.specs.declared.value.Value.{Value}
 use Rattle.asn_base.specs.Schemas.{components}
@@ -22,7 +23,7 @@ use Rattle.packed_reader.specs.Readings.{Reading, read, refused, Taken, taken}
 use Rattle.packed_reader.specs.declared.list.Gathered.{Gathered}
 use Rattle.packed_reader.specs.declared.list.Next.{Next}
 use Rattle.packed_reader.specs.declared.list.Next.TheVariants as nexts
-use Rattle.packed_reader.specs.declared.run.Fragment.{Fragment}
+use Rattle.packed_reader.specs.declared.elements.Fragment.{Fragment}
 use Rattle.packed_reader.specs.declared.sent.Sent.{Sent}
 use Rattle.packed_reader.specs.proving.Running.{Elements, RunsElement, run_parts}
 use Rattle.packed_readings.specs.declared.count.Count.{Count}
@@ -106,7 +107,8 @@ IsLess (nexts.More g) m n = m < n
 abbrev pub after_part : RunsElement → Fragment → ℕ → Next → Elements → Progress → Bits → Reading (Taken Elements)
 after_part value x f nexts.Nothing es p r = read (taken es p.skipped p.left) r
 after_part value x f (nexts.More g) es p r =
-    run_parts value x.size.sorted (size_fault (constraint_of x.size.constraint.now) x.size.outside) f g es p.skipped p.left r
+    run_parts value x.size.sorted (size_fault (constraint_of x.size.constraint.now) x.size.outside) f g es
+    p.skipped p.left r
 
 abbrev pub IsPart : RunsElement → Fragment → Elements → Progress → Bits → Next → Elements → Progress → Bits → Type 0
 IsPart value x es p b y es' q r =

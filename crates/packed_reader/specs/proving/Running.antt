@@ -1,7 +1,8 @@
--- What the reader's code computes, in the order in which it does: the state goes from part to part, and each value is put
--- at its place at once. `k` counts additions that were skipped so far, and `n` values that may still begin.
+-- What the reader's code computes, in the order in which it does: the state goes from part to part, and each value is
+-- put at its place at once. `k` counts additions that were skipped so far, and `n` values that may still begin.
 use Rattle.std.specs.Prelude.{◌≡◌, ℕ, zero, suc, ◌+◌, ◌*◌, ◌==◌, nat_lt, ◌≤◌, ◌^◌, Bool, true, false, not, ◌&&◌, ◌||◌}
-use Rattle.std.specs.Prelude.{if◌then◌else◌, List, [], ◌∷◌, ◌++◌, length, map, drop, take, Option, Some, None, slice_get}
+use Rattle.std.specs.Prelude.{if◌then◌else◌, List, [], ◌∷◌, ◌++◌, length, map}
+use Rattle.std.specs.Prelude.{drop, take, Option, Some, None, slice_get}
 use Rattle.asn_base.specs.Abstract.{AbstractValue, fields, list, Row, end, absent, present}
 use Rattle.asn_base.specs.Types.{Component, Constraint, Kind, Resolved, TypeNumber}
 use Rattle.asn_base.specs.Schemas.{components}
@@ -25,8 +26,10 @@ use Rattle.packed_readings.specs.Leaves.{leaf_from}
 use Rattle.packed_reader.specs.declared.part.Part.TheVariants.{Component as Component', Element}
 use Rattle.packed_reader.specs.declared.sent.Sent.{Sent}
 use Rattle.packed_reader.specs.Levels.{is_within, may_lack}
-use Rattle.packed_reader.specs.Readings.{Reading, read, refused, stop, next, in_part, plain, tested, with_bits, Taken, taken}
-use Rattle.packed_reader.specs.Structures.{presence_from, mark_from, bitmap_from, unknown_from, open_from, no_row, with_value}
+use Rattle.packed_reader.specs.Readings.{Reading, read, refused, stop, next, in_part}
+use Rattle.packed_reader.specs.Readings.{plain, tested, with_bits, Taken, taken}
+use Rattle.packed_reader.specs.Structures.{presence_from, mark_from, bitmap_from, unknown_from, open_from, no_row}
+use Rattle.packed_reader.specs.Structures.{with_value}
 use Rattle.packed_reader.specs.Lists.{in_order}
 use Rattle.packed_reader.specs.Steps.{call_from, member_at, size_in, value_by}
 use Rattle.packed_reader.specs.Values.{Chosen, in_root, added, alternative_of}

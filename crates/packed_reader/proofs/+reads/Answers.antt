@@ -29,7 +29,7 @@ use Rattle.packed_reader.proofs.Flow.{went_same}
 use Rattle.packed_reader.proofs.Listing.{memory_stops, nothing_returned, returned_as, refused_as, fewer_left, went_on, went_before, all_before, room_before, room_after, size_is, each_read, each_stops, list_at_once, list_counted, list_stops, element_stops, element_refused, element_read, elements_none, elements_more, elements_stop, elements_all, told_at, stop_told, less_last, less_more, not_in_order, in_order_by, in_any_order, own_are}
 use Rattle.packed_reader.proofs.Parts.{IsSoFar, part_last, part_more, stop_last, stop_more, so_far_first, so_far_last, so_far_more, so_far_stops, so_far_all}
 use Rattle.packed_reader.proofs.Plans.{reading_shorter}
-use Rattle.packed_reader.proofs.run.+reads.Goals.{read_element-else-sorted-via-then-sorted+else-not-at_most, read_element-else-sorted-via-else-sorted}
+use Rattle.packed_reader.proofs.+reads.Goals.{elements::read_element-else-sorted-via-then-sorted+else-not-at_most, elements::read_element-else-sorted-via-else-sorted}
 use Rattle.std.proofs.Common.{arith, refl, sym, ap, subst, ◌∙◌, drop}
 use Rattle.std.proofs.lemmas.List.{drop_all, drop_more}
 use Rattle.packed_code.specs.declared.step.PackedStep.TheVariants.{Bit}
@@ -46,7 +46,7 @@ use Rattle.packed_reader.specs.proving.Running.{any_sent, is_addition}
 use Rattle.packed_reader.proofs.Flow.{stop_at, stop_next, went_same}
 use Rattle.packed_reader.proofs.ValueRun.{open_none}
 use Rattle.packed_reader.proofs.OpenRun.{err_as as open_err_as, ok_as as open_ok_as, went_on as open_went_on, room_after as open_room_after, room_shorter, Octets, octets_few, inner_room, inner_went, left_in, place_room, inner_good, inner_bad, inner_stop, fit_take, fit_drop, added_stop, added_good, field_inside, are_sent, some_sent, none_sent, stop_sent, one_of, first_none, before_as, before_none, before_left, before_read, before_stop, before_end, before_fault, before_went}
-use Rattle.packed_reader.proofs.run.+reads.Goals as goal
+use Rattle.packed_reader.proofs.+reads.Goals as goal
 use Rattle.std.proofs.Common.{arith, refl, sym, ap, subst, ◌∙◌}
 use Rattle.decode_faults.specs.declared.refusal.Refusal.TheVariants as why
 use Rattle.packed_reader.specs.Readings.{read, taken}
@@ -65,21 +65,19 @@ use Rattle.packed_reader.proofs.Flow.{went_same}
 use Rattle.packed_reader.proofs.Presences.{fields_taken}
 use Rattle.packed_reader.proofs.Calls.{call_shorter, call_room, components_are, components_many, map-length, is_component, default_as}
 use Rattle.packed_reader.proofs.MemberRun.{kind_found, within_row, present_stop, present_same, present_ok, same_as_default, no_default, some_skipped, absent_ok, absent_deep, member_present, member_absent, members_next, members_stop, members_end, sent_there, sent_fit, fields_fit, all_taken, all_dropped, no_mark, no_presences, no_members, rest_is, calls_have_width, chosen_open, chosen_root, chosen_as, chosen_stop, next', only_memory, whatever}
-use Rattle.packed_reader.proofs.run.+reads.Goals.{read_present-else-progress-skipped-via-then-progress-skipped+else-is_default, read_present-else-progress-skipped-via-else-progress-skipped}
+use Rattle.packed_reader.proofs.+reads.Goals.{components::read_present-else-progress-skipped-via-then-progress-skipped+else-is_default, components::read_present-else-progress-skipped-via-else-progress-skipped}
 
-as_steps : {t : ℕ} (c : goal.read_value-After-read_steps t) → run_value c.args.reader.code.now c.args.reader.levels c.args.reader.id.index c.args.progress.now.skipped c.args.progress.now.left (bits_left c.args.bits.now)
+as_steps : {t : ℕ} (c : goal.value::read_value-After-read_steps t) → run_value c.args.reader.code.now c.args.reader.levels c.args.reader.id.index c.args.progress.now.skipped c.args.progress.now.left (bits_left c.args.bits.now)
     ≡ run_steps c.args.reader.code.now (c.args.reader.levels - 1) (run_value c.args.reader.code.now (c.args.reader.levels - 1)) c.args.reader.id.index (routine_at c.args.reader.code.now c.args.reader.id.index) c.args.progress.now.skipped (c.args.progress.now.left - 1) (bits_left c.args.bits.now)
 as_steps c = value_steps c.running_laws.ensures c.args.reader.code.now c.args.reader.levels c.args.reader.id.index c.args.progress.now.skipped c.args.progress.now.left (bits_left c.args.bits.now) (let h = c.if-reader-eq0.false in omega (arith, h)) (let h = c.if-progress-eq0.false in omega (arith, h))
 
--- src/run.rt:631:23
-pub read_added-read_opened-requires : goal.read_added-read_opened-requires
-read_added-read_opened-requires t c =
+pub additions::read_added-read_opened-requires : goal.additions::read_added-read_opened-requires
+additions::read_added-read_opened-requires t c =
     let lt : 30 * c.args.reader.levels + 10 < t = let d = c.decreases in omega (arith, d) in
     (lt, (c.requires.few, c.requires.room))
 
--- src/run.rt:640:22
-pub read_added-returns-in-Err-clause-err : goal.read_added-returns-in-Err-clause-err
-read_added-returns-in-Err-clause-err t c =
+pub additions::read_added-returns-in-Err-clause-err : goal.additions::read_added-returns-in-Err-clause-err
+additions::read_added-returns-in-Err-clause-err t c =
     let s = c.args.reader.code.now in
     let l = c.args.reader.levels in
     let k = c.args.progress.now.skipped in
@@ -87,17 +85,14 @@ read_added-returns-in-Err-clause-err t c =
     let b = bits_left c.args.bits.now in
     added_stop (run_value s l) c.args.field (row_of_values c.args.row.now.items) k n b (bits_left c.read_opened.new.bits) c.in-Err.stop c.within.result c.in-Err.ensures.err c.within.ensures
 
--- src/run.rt:640:22
-pub read_added-returns-in-Err-clause-places : goal.read_added-returns-in-Err-clause-places
-read_added-returns-in-Err-clause-places t c = refl
+pub additions::read_added-returns-in-Err-clause-places : goal.additions::read_added-returns-in-Err-clause-places
+additions::read_added-returns-in-Err-clause-places t c = refl
 
--- src/run.rt:642:5
-pub read_added-put-requires : goal.read_added-put-requires
-read_added-put-requires t c = field_inside c.args.reader.code.now c.args.reader.id.index c.args.field (length c.args.row.now.items) c.requires.fits c.requires.places
+pub additions::read_added-put-requires : goal.additions::read_added-put-requires
+additions::read_added-put-requires t c = field_inside c.args.reader.code.now c.args.reader.id.index c.args.field (length c.args.row.now.items) c.requires.fits c.requires.places
 
--- src/run.rt:607:1
-pub read_added-returns-clause-ok : goal.read_added-returns-clause-ok
-read_added-returns-clause-ok t c =
+pub additions::read_added-returns-clause-ok : goal.additions::read_added-returns-clause-ok
+additions::read_added-returns-clause-ok t c =
     let s = c.args.reader.code.now in
     let l = c.args.reader.levels in
     let k = c.args.progress.now.skipped in
@@ -105,17 +100,14 @@ read_added-returns-clause-ok t c =
     let b = bits_left c.args.bits.now in
     added_good (run_value s l) c.args.field (row_of_values c.args.row.now.items) k n b (bits_left c.read_opened.new.bits) (row_of_values c.put.new.row.items) (abstract c.in-Ok.value) c.read_opened.new.progress.skipped c.read_opened.new.progress.left c.in-Ok.ensures.ok c.put.ensures.row
 
--- src/run.rt:607:1
-pub read_added-returns-clause-went : goal.read_added-returns-clause-went
-read_added-returns-clause-went t c = c.in-Ok.ensures.went
+pub additions::read_added-returns-clause-went : goal.additions::read_added-returns-clause-went
+additions::read_added-returns-clause-went t c = c.in-Ok.ensures.went
 
--- src/run.rt:607:1
-pub read_added-returns-clause-places : goal.read_added-returns-clause-places
-read_added-returns-clause-places t c = c.put.ensures.length
+pub additions::read_added-returns-clause-places : goal.additions::read_added-returns-clause-places
+additions::read_added-returns-clause-places t c = c.put.ensures.length
 
--- src/run.rt:591:9
-pub read_addition-returns-in_default-clause-ok : goal.read_addition-returns-in_default-clause-ok
-read_addition-returns-in_default-clause-ok t c =
+pub additions::read_addition-returns-in_default-clause-ok : goal.additions::read_addition-returns-in_default-clause-ok
+additions::read_addition-returns-in_default-clause-ok t c =
     let s = c.args.reader.code.now in
     let l = c.args.reader.levels in
     let k = c.args.progress.now.skipped in
@@ -125,37 +117,32 @@ read_addition-returns-in_default-clause-ok t c =
     let ws = row_of_values c.args.row.now.items in
     ap (λ q. run_first s l (run_value s l) cs q ws k n b) c.in_default.ensures
 
--- src/run.rt:591:9
-pub read_addition-returns-in_default-clause-went :
-    goal.read_addition-returns-in_default-clause-went
-read_addition-returns-in_default-clause-went t c = went_same c.args.progress.now (bits_left c.args.bits.now)
+pub additions::read_addition-returns-in_default-clause-went :
+    goal.additions::read_addition-returns-in_default-clause-went
+additions::read_addition-returns-in_default-clause-went t c = went_same c.args.progress.now (bits_left c.args.bits.now)
 
--- src/run.rt:591:9
-pub read_addition-returns-in_default-clause-places :
-    goal.read_addition-returns-in_default-clause-places
-read_addition-returns-in_default-clause-places t c = refl
+pub additions::read_addition-returns-in_default-clause-places :
+    goal.additions::read_addition-returns-in_default-clause-places
+additions::read_addition-returns-in_default-clause-places t c = refl
 
--- src/run.rt:594:37
-pub read_addition-read_added-requires : goal.read_addition-read_added-requires
-read_addition-read_added-requires t c =
+pub additions::read_addition-read_added-requires : goal.additions::read_addition-read_added-requires
+additions::read_addition-read_added-requires t c =
     let s = c.args.reader.code.now in
     let u = c.args.reader.id.index in
     let lt : 30 * c.args.reader.levels + 17 < t = let d = c.decreases in omega (arith, d) in
     let g = subst (FieldsFit s u) (c.in-Some.ensures ∙ ap (λ q. q ∷ c.in-Some.rest.now) c.in-Added.is) c.requires.fit in
     (lt, (c.requires.few, (c.requires.room, (g.0, c.requires.places))))
 
--- src/run.rt:595:37
-pub read_addition-read_group-requires : goal.read_addition-read_group-requires
-read_addition-read_group-requires t c =
+pub additions::read_addition-read_group-requires : goal.additions::read_addition-read_group-requires
+additions::read_addition-read_group-requires t c =
     let s = c.args.reader.code.now in
     let u = c.args.reader.id.index in
     let lt : 30 * c.args.reader.levels + 23 < t = let d = c.decreases in omega (arith, d) in
     let g = subst (FieldsFit s u) (c.in-Some.ensures ∙ ap (λ q. q ∷ c.in-Some.rest.now) c.in-Group.is) c.requires.fit in
     (lt, (c.requires.few, (c.requires.room, (subst (FieldsFit s u) (sym c.next.ensures) (fit_take (FieldOf s u) c.in-Group.count c.in-Some.rest.now g.1), c.requires.places))))
 
--- src/run.rt:564:1
-pub read_addition-returns-in-Added-clause-ok : goal.read_addition-returns-in-Added-clause-ok
-read_addition-returns-in-Added-clause-ok t c =
+pub additions::read_addition-returns-in-Added-clause-ok : goal.additions::read_addition-returns-in-Added-clause-ok
+additions::read_addition-returns-in-Added-clause-ok t c =
     let s = c.args.reader.code.now in
     let l = c.args.reader.levels in
     let k = c.args.progress.now.skipped in
@@ -167,9 +154,8 @@ read_addition-returns-in-Added-clause-ok t c =
     = ap (λ q. run_first s l (run_value s l) cs q ws k n b) (c.in-Some.ensures ∙ ap (λ q. q ∷ c.in-Some.rest.now) c.in-Added.is) in
     open_ok_as c.read_added.result (run_first s l (run_value s l) cs c.args.steps.now ws k n b) (run_added (run_value s l) c.in-Added.field ws k n b) (taken (row_of_values c.read_added.new.row.items) c.read_added.new.progress.skipped c.read_added.new.progress.left) (bits_left c.read_added.new.bits) e c.read_added.ensures.ok
 
--- src/run.rt:564:1
-pub read_addition-returns-in-Added-clause-err : goal.read_addition-returns-in-Added-clause-err
-read_addition-returns-in-Added-clause-err t c =
+pub additions::read_addition-returns-in-Added-clause-err : goal.additions::read_addition-returns-in-Added-clause-err
+additions::read_addition-returns-in-Added-clause-err t c =
     let s = c.args.reader.code.now in
     let l = c.args.reader.levels in
     let k = c.args.progress.now.skipped in
@@ -181,18 +167,15 @@ read_addition-returns-in-Added-clause-err t c =
     = ap (λ q. run_first s l (run_value s l) cs q ws k n b) (c.in-Some.ensures ∙ ap (λ q. q ∷ c.in-Some.rest.now) c.in-Added.is) in
     open_err_as c.read_added.result (run_first s l (run_value s l) cs c.args.steps.now ws k n b) (run_added (run_value s l) c.in-Added.field ws k n b) (bits_left c.read_added.new.bits) e c.read_added.ensures.err
 
--- src/run.rt:564:1
-pub read_addition-returns-in-Added-clause-went : goal.read_addition-returns-in-Added-clause-went
-read_addition-returns-in-Added-clause-went t c = c.read_added.ensures.went
+pub additions::read_addition-returns-in-Added-clause-went : goal.additions::read_addition-returns-in-Added-clause-went
+additions::read_addition-returns-in-Added-clause-went t c = c.read_added.ensures.went
 
--- src/run.rt:564:1
-pub read_addition-returns-in-Added-clause-places :
-    goal.read_addition-returns-in-Added-clause-places
-read_addition-returns-in-Added-clause-places t c = c.read_added.ensures.places
+pub additions::read_addition-returns-in-Added-clause-places :
+    goal.additions::read_addition-returns-in-Added-clause-places
+additions::read_addition-returns-in-Added-clause-places t c = c.read_added.ensures.places
 
--- src/run.rt:564:1
-pub read_addition-returns-in-Group-clause-ok : goal.read_addition-returns-in-Group-clause-ok
-read_addition-returns-in-Group-clause-ok t c =
+pub additions::read_addition-returns-in-Group-clause-ok : goal.additions::read_addition-returns-in-Group-clause-ok
+additions::read_addition-returns-in-Group-clause-ok t c =
     let s = c.args.reader.code.now in
     let l = c.args.reader.levels in
     let k = c.args.progress.now.skipped in
@@ -206,9 +189,8 @@ read_addition-returns-in-Group-clause-ok t c =
     ∙ ap (λ q. run_group s l (run_value s l) cs q ws k n b) (sym (fields_taken c.in-Group.count c.in-Some.rest.now) ∙ ap fields_in (sym c.next.ensures)) in
     open_ok_as c.read_group.result (run_first s l (run_value s l) cs c.args.steps.now ws k n b) (run_group s l (run_value s l) cs fs ws k n b) (taken (row_of_values c.read_group.new.row.items) c.read_group.new.progress.skipped c.read_group.new.progress.left) (bits_left c.read_group.new.bits) e c.read_group.ensures.ok
 
--- src/run.rt:564:1
-pub read_addition-returns-in-Group-clause-err : goal.read_addition-returns-in-Group-clause-err
-read_addition-returns-in-Group-clause-err t c =
+pub additions::read_addition-returns-in-Group-clause-err : goal.additions::read_addition-returns-in-Group-clause-err
+additions::read_addition-returns-in-Group-clause-err t c =
     let s = c.args.reader.code.now in
     let l = c.args.reader.levels in
     let k = c.args.progress.now.skipped in
@@ -222,18 +204,15 @@ read_addition-returns-in-Group-clause-err t c =
     ∙ ap (λ q. run_group s l (run_value s l) cs q ws k n b) (sym (fields_taken c.in-Group.count c.in-Some.rest.now) ∙ ap fields_in (sym c.next.ensures)) in
     open_err_as c.read_group.result (run_first s l (run_value s l) cs c.args.steps.now ws k n b) (run_group s l (run_value s l) cs fs ws k n b) (bits_left c.read_group.new.bits) e c.read_group.ensures.err
 
--- src/run.rt:564:1
-pub read_addition-returns-in-Group-clause-went : goal.read_addition-returns-in-Group-clause-went
-read_addition-returns-in-Group-clause-went t c = c.read_group.ensures.went
+pub additions::read_addition-returns-in-Group-clause-went : goal.additions::read_addition-returns-in-Group-clause-went
+additions::read_addition-returns-in-Group-clause-went t c = c.read_group.ensures.went
 
--- src/run.rt:564:1
-pub read_addition-returns-in-Group-clause-places :
-    goal.read_addition-returns-in-Group-clause-places
-read_addition-returns-in-Group-clause-places t c = c.read_group.ensures.places
+pub additions::read_addition-returns-in-Group-clause-places :
+    goal.additions::read_addition-returns-in-Group-clause-places
+additions::read_addition-returns-in-Group-clause-places t c = c.read_group.ensures.places
 
--- src/run.rt:564:1
-pub read_addition-returns-in-Bit-clause-ok : goal.read_addition-returns-in-Bit-clause-ok
-read_addition-returns-in-Bit-clause-ok t c =
+pub additions::read_addition-returns-in-Bit-clause-ok : goal.additions::read_addition-returns-in-Bit-clause-ok
+additions::read_addition-returns-in-Bit-clause-ok t c =
     let s = c.args.reader.code.now in
     let l = c.args.reader.levels in
     let k = c.args.progress.now.skipped in
@@ -244,17 +223,14 @@ read_addition-returns-in-Bit-clause-ok t c =
     let none : is_addition c.in-Some.step ≡ false = (one_of (λ e. ap is_addition e) (one_of (λ e. ap is_addition e.2) (one_of (λ e. ap is_addition e) (λ e. ap is_addition e.1)))) c.in-Bit.is in
     ap (λ q. run_first s l (run_value s l) cs q ws k n b) c.in-Some.ensures ∙ first_none s l (run_value s l) cs c.in-Some.step c.in-Some.rest.now ws k n b none
 
--- src/run.rt:564:1
-pub read_addition-returns-in-Bit-clause-went : goal.read_addition-returns-in-Bit-clause-went
-read_addition-returns-in-Bit-clause-went t c = went_same c.args.progress.now (bits_left c.args.bits.now)
+pub additions::read_addition-returns-in-Bit-clause-went : goal.additions::read_addition-returns-in-Bit-clause-went
+additions::read_addition-returns-in-Bit-clause-went t c = went_same c.args.progress.now (bits_left c.args.bits.now)
 
--- src/run.rt:564:1
-pub read_addition-returns-in-Bit-clause-places : goal.read_addition-returns-in-Bit-clause-places
-read_addition-returns-in-Bit-clause-places t c = refl
+pub additions::read_addition-returns-in-Bit-clause-places : goal.additions::read_addition-returns-in-Bit-clause-places
+additions::read_addition-returns-in-Bit-clause-places t c = refl
 
--- src/run.rt:564:1
-pub read_addition-returns-in-Map-clause-ok : goal.read_addition-returns-in-Map-clause-ok
-read_addition-returns-in-Map-clause-ok t c =
+pub additions::read_addition-returns-in-Map-clause-ok : goal.additions::read_addition-returns-in-Map-clause-ok
+additions::read_addition-returns-in-Map-clause-ok t c =
     let s = c.args.reader.code.now in
     let l = c.args.reader.levels in
     let k = c.args.progress.now.skipped in
@@ -265,17 +241,14 @@ read_addition-returns-in-Map-clause-ok t c =
     let none : is_addition c.in-Some.step ≡ false = (one_of (λ e. ap is_addition e.1) (one_of (λ e. ap is_addition e.1) (λ e. ap is_addition e.1))) c.in-Map.is in
     ap (λ q. run_first s l (run_value s l) cs q ws k n b) c.in-Some.ensures ∙ first_none s l (run_value s l) cs c.in-Some.step c.in-Some.rest.now ws k n b none
 
--- src/run.rt:564:1
-pub read_addition-returns-in-Map-clause-went : goal.read_addition-returns-in-Map-clause-went
-read_addition-returns-in-Map-clause-went t c = went_same c.args.progress.now (bits_left c.args.bits.now)
+pub additions::read_addition-returns-in-Map-clause-went : goal.additions::read_addition-returns-in-Map-clause-went
+additions::read_addition-returns-in-Map-clause-went t c = went_same c.args.progress.now (bits_left c.args.bits.now)
 
--- src/run.rt:564:1
-pub read_addition-returns-in-Map-clause-places : goal.read_addition-returns-in-Map-clause-places
-read_addition-returns-in-Map-clause-places t c = refl
+pub additions::read_addition-returns-in-Map-clause-places : goal.additions::read_addition-returns-in-Map-clause-places
+additions::read_addition-returns-in-Map-clause-places t c = refl
 
--- src/run.rt:564:1
-pub read_addition-returns-in-Member-clause-ok : goal.read_addition-returns-in-Member-clause-ok
-read_addition-returns-in-Member-clause-ok t c =
+pub additions::read_addition-returns-in-Member-clause-ok : goal.additions::read_addition-returns-in-Member-clause-ok
+additions::read_addition-returns-in-Member-clause-ok t c =
     let s = c.args.reader.code.now in
     let l = c.args.reader.levels in
     let k = c.args.progress.now.skipped in
@@ -286,19 +259,16 @@ read_addition-returns-in-Member-clause-ok t c =
     let none : is_addition c.in-Some.step ≡ false = (one_of (λ e. ap is_addition e.1) (one_of (λ e. ap is_addition e) (λ e. ap is_addition e.1))) c.in-Member.is in
     ap (λ q. run_first s l (run_value s l) cs q ws k n b) c.in-Some.ensures ∙ first_none s l (run_value s l) cs c.in-Some.step c.in-Some.rest.now ws k n b none
 
--- src/run.rt:564:1
-pub read_addition-returns-in-Member-clause-went : goal.read_addition-returns-in-Member-clause-went
-read_addition-returns-in-Member-clause-went t c = went_same c.args.progress.now (bits_left c.args.bits.now)
+pub additions::read_addition-returns-in-Member-clause-went : goal.additions::read_addition-returns-in-Member-clause-went
+additions::read_addition-returns-in-Member-clause-went t c = went_same c.args.progress.now (bits_left c.args.bits.now)
 
--- src/run.rt:564:1
-pub read_addition-returns-in-Member-clause-places :
-    goal.read_addition-returns-in-Member-clause-places
-read_addition-returns-in-Member-clause-places t c = refl
+pub additions::read_addition-returns-in-Member-clause-places :
+    goal.additions::read_addition-returns-in-Member-clause-places
+additions::read_addition-returns-in-Member-clause-places t c = refl
 
--- src/run.rt:564:1
-pub read_addition-returns-in-EachSorted-clause-ok :
-    goal.read_addition-returns-in-EachSorted-clause-ok
-read_addition-returns-in-EachSorted-clause-ok t c =
+pub additions::read_addition-returns-in-EachSorted-clause-ok :
+    goal.additions::read_addition-returns-in-EachSorted-clause-ok
+additions::read_addition-returns-in-EachSorted-clause-ok t c =
     let s = c.args.reader.code.now in
     let l = c.args.reader.levels in
     let k = c.args.progress.now.skipped in
@@ -309,19 +279,16 @@ read_addition-returns-in-EachSorted-clause-ok t c =
     let none : is_addition c.in-Some.step ≡ false = (one_of (λ e. ap is_addition e.1) (λ e. ap is_addition e.1)) c.in-EachSorted.is in
     ap (λ q. run_first s l (run_value s l) cs q ws k n b) c.in-Some.ensures ∙ first_none s l (run_value s l) cs c.in-Some.step c.in-Some.rest.now ws k n b none
 
--- src/run.rt:564:1
-pub read_addition-returns-in-EachSorted-clause-went :
-    goal.read_addition-returns-in-EachSorted-clause-went
-read_addition-returns-in-EachSorted-clause-went t c = went_same c.args.progress.now (bits_left c.args.bits.now)
+pub additions::read_addition-returns-in-EachSorted-clause-went :
+    goal.additions::read_addition-returns-in-EachSorted-clause-went
+additions::read_addition-returns-in-EachSorted-clause-went t c = went_same c.args.progress.now (bits_left c.args.bits.now)
 
--- src/run.rt:564:1
-pub read_addition-returns-in-EachSorted-clause-places :
-    goal.read_addition-returns-in-EachSorted-clause-places
-read_addition-returns-in-EachSorted-clause-places t c = refl
+pub additions::read_addition-returns-in-EachSorted-clause-places :
+    goal.additions::read_addition-returns-in-EachSorted-clause-places
+additions::read_addition-returns-in-EachSorted-clause-places t c = refl
 
--- src/run.rt:564:1
-pub read_addition-returns-in-Root-clause-ok : goal.read_addition-returns-in-Root-clause-ok
-read_addition-returns-in-Root-clause-ok t c =
+pub additions::read_addition-returns-in-Root-clause-ok : goal.additions::read_addition-returns-in-Root-clause-ok
+additions::read_addition-returns-in-Root-clause-ok t c =
     let s = c.args.reader.code.now in
     let l = c.args.reader.levels in
     let k = c.args.progress.now.skipped in
@@ -332,33 +299,26 @@ read_addition-returns-in-Root-clause-ok t c =
     let none : is_addition c.in-Some.step ≡ false = (one_of (λ e. ap is_addition e.1) (λ e. ap is_addition e.2)) c.in-Root.is in
     ap (λ q. run_first s l (run_value s l) cs q ws k n b) c.in-Some.ensures ∙ first_none s l (run_value s l) cs c.in-Some.step c.in-Some.rest.now ws k n b none
 
--- src/run.rt:564:1
-pub read_addition-returns-in-Root-clause-went : goal.read_addition-returns-in-Root-clause-went
-read_addition-returns-in-Root-clause-went t c = went_same c.args.progress.now (bits_left c.args.bits.now)
+pub additions::read_addition-returns-in-Root-clause-went : goal.additions::read_addition-returns-in-Root-clause-went
+additions::read_addition-returns-in-Root-clause-went t c = went_same c.args.progress.now (bits_left c.args.bits.now)
 
--- src/run.rt:564:1
-pub read_addition-returns-in-Root-clause-places : goal.read_addition-returns-in-Root-clause-places
-read_addition-returns-in-Root-clause-places t c = refl
+pub additions::read_addition-returns-in-Root-clause-places : goal.additions::read_addition-returns-in-Root-clause-places
+additions::read_addition-returns-in-Root-clause-places t c = refl
 
--- src/run.rt:549:5
-pub read_additions-loop-i-init : goal.read_additions-loop-i-init
-read_additions-loop-i-init t c = (refl, went_same c.args.progress.now (bits_left c.args.bits.now), refl)
+pub additions::read_additions-loop-i-init : goal.additions::read_additions-loop-i-init
+additions::read_additions-loop-i-init t c = (refl, went_same c.args.progress.now (bits_left c.args.bits.now), refl)
 
--- src/run.rt:550:24
-pub read_additions-offset_bounds-additions-i : goal.read_additions-offset_bounds-additions-i
-read_additions-offset_bounds-additions-i t c = search rules
+pub additions::read_additions-offset_bounds-additions-i : goal.additions::read_additions-offset_bounds-additions-i
+additions::read_additions-offset_bounds-additions-i t c = search rules
 
--- src/run.rt:550:24
-pub read_additions-bounds-additions-i : goal.read_additions-bounds-additions-i
-read_additions-bounds-additions-i t c = c.loop-i-test.true
+pub additions::read_additions-bounds-additions-i : goal.additions::read_additions-bounds-additions-i
+additions::read_additions-bounds-additions-i t c = c.loop-i-test.true
 
--- src/run.rt:552:66
-pub read_additions-after-requires : goal.read_additions-after-requires
-read_additions-after-requires t c = (let h = c.loop-i-test.true in omega (arith, h))
+pub additions::read_additions-after-requires : goal.additions::read_additions-after-requires
+additions::read_additions-after-requires t c = (let h = c.loop-i-test.true in omega (arith, h))
 
--- src/run.rt:552:23
-pub read_additions-read_addition-requires : goal.read_additions-read_addition-requires
-read_additions-read_addition-requires t c =
+pub additions::read_additions-read_addition-requires : goal.additions::read_additions-read_addition-requires
+additions::read_additions-read_addition-requires t c =
     let s = c.args.reader.code.now in
     let u = c.args.reader.id.index in
     let lt : 30 * c.args.reader.levels + 24 < t = let d = c.decreases in omega (arith, d) in (
@@ -375,9 +335,8 @@ read_additions-read_addition-requires t c =
       ),
     )
 
--- src/run.rt:554:34
-pub read_additions-returns-in-Err-clause-err : goal.read_additions-returns-in-Err-clause-err
-read_additions-returns-in-Err-clause-err t c =
+pub additions::read_additions-returns-in-Err-clause-err : goal.additions::read_additions-returns-in-Err-clause-err
+additions::read_additions-returns-in-Err-clause-err t c =
     let s = c.args.reader.code.now in
     let l = c.args.reader.levels in
     let cs = components (kind_at s c.args.reader.id.index) in
@@ -389,13 +348,11 @@ read_additions-returns-in-Err-clause-err t c =
     let d : drop c.loop-i.i steps ≡ st ∷ drop (c.loop-i.i + 1) steps = drop_more steps c.loop-i.i Bit c.loop-i-test.true in
     before_stop s l (run_value s l) cs all c.args.progress.now b (length c.args.row.now.items) (drop c.loop-i.i steps) (drop (c.loop-i.i + 1) steps) st d q c.loop-i.row.items c.loop-i.progress (bits_left c.loop-i.bits) c.loop-i.invariant c.after.result.now c.in-Err.stop (bits_left c.read_addition.new.bits) c.after.ensures (sym c.is_addition.ensures ∙ c.if-is_addition.true) (sym c.first_bit.ensures ∙ c.if-first_bit.true) c.in-Err.ensures.err
 
--- src/run.rt:549:5
-pub read_additions-loop-i-smaller : goal.read_additions-loop-i-smaller
-read_additions-loop-i-smaller t c = (let h = c.loop-i-test.true in omega (arith, h))
+pub additions::read_additions-loop-i-smaller : goal.additions::read_additions-loop-i-smaller
+additions::read_additions-loop-i-smaller t c = (let h = c.loop-i-test.true in omega (arith, h))
 
--- src/run.rt:549:5
-pub read_additions-loop-i-preserved : goal.read_additions-loop-i-preserved
-read_additions-loop-i-preserved t c =
+pub additions::read_additions-loop-i-preserved : goal.additions::read_additions-loop-i-preserved
+additions::read_additions-loop-i-preserved t c =
     let s = c.args.reader.code.now in
     let l = c.args.reader.levels in
     let cs = components (kind_at s c.args.reader.id.index) in
@@ -406,26 +363,24 @@ read_additions-loop-i-preserved t c =
     let st = slice_index_or steps c.loop-i.i Bit in
     let d : drop c.loop-i.i steps ≡ st ∷ drop (c.loop-i.i + 1) steps = drop_more steps c.loop-i.i Bit c.loop-i-test.true in
     elim c.if-is_addition.branch [
-      | goal.read_additions-then-is_addition w ↦ elim w.if-first_bit.branch [
-        | goal.read_additions-then-first_bit+in-Ok w' ↦ before_as s l (run_value s l) cs all c.args.progress.now b (length c.args.row.now.items) (drop (c.loop-i.i + 1) steps) c.if-is_addition.map.now (other_bits q) c.if-is_addition.row.items w'.read_addition.new.row.items c.if-is_addition.progress w'.read_addition.new.progress (bits_left c.if-is_addition.bits) (bits_left w'.read_addition.new.bits)
+      | goal.additions::read_additions-then-is_addition w ↦ elim w.if-first_bit.branch [
+        | goal.additions::read_additions-then-first_bit+in-Ok w' ↦ before_as s l (run_value s l) cs all c.args.progress.now b (length c.args.row.now.items) (drop (c.loop-i.i + 1) steps) c.if-is_addition.map.now (other_bits q) c.if-is_addition.row.items w'.read_addition.new.row.items c.if-is_addition.progress w'.read_addition.new.progress (bits_left c.if-is_addition.bits) (bits_left w'.read_addition.new.bits)
             (ap (λ m. m.now) w.map-is ∙ w.other_bits-map.ensures) (ap (λ v. v.items) (w.row-is ∙ w'.row-is)) (w.progress-is ∙ w'.progress-is) (ap bits_left (w.bits-is ∙ w'.bits-is))
             (before_read s l (run_value s l) cs all c.args.progress.now b (length c.args.row.now.items) (drop c.loop-i.i steps) (drop (c.loop-i.i + 1) steps) st d q c.loop-i.row.items c.loop-i.progress (bits_left c.loop-i.bits) c.loop-i.invariant w'.after.result.now w'.read_addition.new.row.items w'.read_addition.new.progress (bits_left w'.read_addition.new.bits) w'.after.ensures (sym c.is_addition.ensures ∙ w.if-is_addition.true) (sym w.first_bit.ensures ∙ w'.if-first_bit.true) w'.in-Ok.ensures.ok w'.in-Ok.ensures.went w'.in-Ok.ensures.places)
-        | goal.read_additions-else-first_bit w' ↦ before_as s l (run_value s l) cs all c.args.progress.now b (length c.args.row.now.items) (drop (c.loop-i.i + 1) steps) c.if-is_addition.map.now (other_bits q) c.if-is_addition.row.items c.loop-i.row.items c.if-is_addition.progress c.loop-i.progress (bits_left c.if-is_addition.bits) (bits_left c.loop-i.bits)
+        | goal.additions::read_additions-else-first_bit w' ↦ before_as s l (run_value s l) cs all c.args.progress.now b (length c.args.row.now.items) (drop (c.loop-i.i + 1) steps) c.if-is_addition.map.now (other_bits q) c.if-is_addition.row.items c.loop-i.row.items c.if-is_addition.progress c.loop-i.progress (bits_left c.if-is_addition.bits) (bits_left c.loop-i.bits)
             (ap (λ m. m.now) w.map-is ∙ w.other_bits-map.ensures) (ap (λ v. v.items) (w.row-is ∙ w'.row-is)) (w.progress-is ∙ w'.progress-is) (ap bits_left (w.bits-is ∙ w'.bits-is))
             (before_left s l (run_value s l) cs all c.args.progress.now b (length c.args.row.now.items) (drop c.loop-i.i steps) (drop (c.loop-i.i + 1) steps) st d q c.loop-i.row.items c.loop-i.progress (bits_left c.loop-i.bits) c.loop-i.invariant (sym c.is_addition.ensures ∙ w.if-is_addition.true) (sym w.first_bit.ensures ∙ w'.if-first_bit.false))
       ]
-      | goal.read_additions-else-is_addition w ↦ before_as s l (run_value s l) cs all c.args.progress.now b (length c.args.row.now.items) (drop (c.loop-i.i + 1) steps) c.if-is_addition.map.now q c.if-is_addition.row.items c.loop-i.row.items c.if-is_addition.progress c.loop-i.progress (bits_left c.if-is_addition.bits) (bits_left c.loop-i.bits)
+      | goal.additions::read_additions-else-is_addition w ↦ before_as s l (run_value s l) cs all c.args.progress.now b (length c.args.row.now.items) (drop (c.loop-i.i + 1) steps) c.if-is_addition.map.now q c.if-is_addition.row.items c.loop-i.row.items c.if-is_addition.progress c.loop-i.progress (bits_left c.if-is_addition.bits) (bits_left c.loop-i.bits)
           (ap (λ m. m.now) w.map-is) (ap (λ v. v.items) (w.row-is)) (w.progress-is) (ap bits_left (w.bits-is))
           (before_none s l (run_value s l) cs all c.args.progress.now b (length c.args.row.now.items) (drop c.loop-i.i steps) (drop (c.loop-i.i + 1) steps) st d q c.loop-i.row.items c.loop-i.progress (bits_left c.loop-i.bits) c.loop-i.invariant (sym c.is_addition.ensures ∙ w.if-is_addition.false))
     ]
 
--- src/run.rt:560:5
-pub read_additions-skip_unknown-requires : goal.read_additions-skip_unknown-requires
-read_additions-skip_unknown-requires t c = open_room_after c.args.progress.now c.loop-i.progress (bits_left c.args.bits.now) (bits_left c.loop-i.bits) c.requires.room c.loop-i.invariant.1
+pub additions::read_additions-skip_unknown-requires : goal.additions::read_additions-skip_unknown-requires
+additions::read_additions-skip_unknown-requires t c = open_room_after c.args.progress.now c.loop-i.progress (bits_left c.args.bits.now) (bits_left c.loop-i.bits) c.requires.room c.loop-i.invariant.1
 
--- src/run.rt:523:1
-pub read_additions-returns-clause-ok : goal.read_additions-returns-clause-ok
-read_additions-returns-clause-ok t c =
+pub additions::read_additions-returns-clause-ok : goal.additions::read_additions-returns-clause-ok
+additions::read_additions-returns-clause-ok t c =
     let s = c.args.reader.code.now in
     let l = c.args.reader.levels in
     let k = c.args.progress.now.skipped in
@@ -439,9 +394,8 @@ read_additions-returns-clause-ok t c =
     let none : ss ≡ [] = drop_all c.loop-i.i c.args.additions.steps.now (let h = c.loop-i-test.false in omega (arith, h)) in
     before_end s l (run_value s l) cs all c.args.progress.now b (length c.args.row.now.items) ss q c.loop-i.row.items c.loop-i.progress (bits_left c.loop-i.bits) c.loop-i.invariant none c.skip_unknown.result c.skip_unknown.new.progress (bits_left c.skip_unknown.new.bits) c.skip_unknown.ensures.ok c.skip_unknown.ensures.left
 
--- src/run.rt:523:1
-pub read_additions-returns-clause-err : goal.read_additions-returns-clause-err
-read_additions-returns-clause-err t c =
+pub additions::read_additions-returns-clause-err : goal.additions::read_additions-returns-clause-err
+additions::read_additions-returns-clause-err t c =
     let s = c.args.reader.code.now in
     let l = c.args.reader.levels in
     let k = c.args.progress.now.skipped in
@@ -455,9 +409,8 @@ read_additions-returns-clause-err t c =
     let none : ss ≡ [] = drop_all c.loop-i.i c.args.additions.steps.now (let h = c.loop-i-test.false in omega (arith, h)) in
     before_fault s l (run_value s l) cs all c.args.progress.now b (length c.args.row.now.items) ss q c.loop-i.row.items c.loop-i.progress (bits_left c.loop-i.bits) c.loop-i.invariant none c.skip_unknown.result (bits_left c.skip_unknown.new.bits) c.skip_unknown.ensures.err
 
--- src/run.rt:523:1
-pub read_additions-returns-clause-went : goal.read_additions-returns-clause-went
-read_additions-returns-clause-went t c =
+pub additions::read_additions-returns-clause-went : goal.additions::read_additions-returns-clause-went
+additions::read_additions-returns-clause-went t c =
     let s = c.args.reader.code.now in
     let l = c.args.reader.levels in
     let k = c.args.progress.now.skipped in
@@ -471,19 +424,16 @@ read_additions-returns-clause-went t c =
     let none : ss ≡ [] = drop_all c.loop-i.i c.args.additions.steps.now (let h = c.loop-i-test.false in omega (arith, h)) in
     before_went s l (run_value s l) cs all c.args.progress.now b (length c.args.row.now.items) ss q c.loop-i.row.items c.loop-i.progress (bits_left c.loop-i.bits) c.loop-i.invariant none c.skip_unknown.result c.skip_unknown.new.progress (bits_left c.skip_unknown.new.bits) c.skip_unknown.ensures.room c.skip_unknown.ensures.left
 
--- src/run.rt:760:9
-pub read_each-size_of-constraint-requires : goal.read_each-size_of-constraint-requires
-read_each-size_of-constraint-requires t c = subst (λ q. IsList q c.args.reader.id.index) (sym c.schema.ensures) c.requires.list
+pub elements::read_each-size_of-constraint-requires : goal.elements::read_each-size_of-constraint-requires
+elements::read_each-size_of-constraint-requires t c = subst (λ q. IsList q c.args.reader.id.index) (sym c.schema.ensures) c.requires.list
 
--- src/run.rt:763:11
-pub read_each-read_list-requires : goal.read_each-read_list-requires
-read_each-read_list-requires t c =
+pub elements::read_each-read_list-requires : goal.elements::read_each-read_list-requires
+elements::read_each-read_list-requires t c =
     let lt : 30 * c.args.reader.levels + 27 < t = let d = c.decreases in omega (arith, d) in
     (lt, (c.requires.few, (c.requires.room, (c.size_of-constraint.ensures.bounds, c.new-list.ensures))))
 
--- src/run.rt:737:1
-pub read_each-returns-in-Ok-clause-ok : goal.read_each-returns-in-Ok-clause-ok
-read_each-returns-in-Ok-clause-ok t c =
+pub elements::read_each-returns-in-Ok-clause-ok : goal.elements::read_each-returns-in-Ok-clause-ok
+elements::read_each-returns-in-Ok-clause-ok t c =
     let s = c.args.reader.code.now in
     let value = run_value s c.args.reader.levels in
     let k = constraint_of c.size_of-constraint.result.now in
@@ -492,13 +442,11 @@ read_each-returns-in-Ok-clause-ok t c =
     (gathered c.read_list.new.list) _ c.read_list.new.progress.skipped c.read_list.new.progress.left (bits_left c.read_list.new.bits)
     e c.in-Ok.ensures.ok (c.abstract_values.ensures.list_ c.read_list.new.list.values)
 
--- src/run.rt:737:1
-pub read_each-returns-in-Ok-clause-went : goal.read_each-returns-in-Ok-clause-went
-read_each-returns-in-Ok-clause-went t c = c.in-Ok.ensures.went
+pub elements::read_each-returns-in-Ok-clause-went : goal.elements::read_each-returns-in-Ok-clause-went
+elements::read_each-returns-in-Ok-clause-went t c = c.in-Ok.ensures.went
 
--- src/run.rt:737:1
-pub read_each-returns-in-Err-clause-err : goal.read_each-returns-in-Err-clause-err
-read_each-returns-in-Err-clause-err t c =
+pub elements::read_each-returns-in-Err-clause-err : goal.elements::read_each-returns-in-Err-clause-err
+elements::read_each-returns-in-Err-clause-err t c =
     let s = c.args.reader.code.now in
     let value = run_value s c.args.reader.levels in
     let k = constraint_of c.size_of-constraint.result.now in
@@ -506,16 +454,14 @@ read_each-returns-in-Err-clause-err t c =
     each_stops s value c.args.reader.id.index c.args.sorted c.args.element.index k c.args.progress.now.skipped c.args.progress.now.left (bits_left c.args.bits.now)
     c.in-Err.stop (bits_left c.read_list.new.bits) e c.in-Err.ensures.err
 
--- src/run.rt:981:23
-pub read_element-read_value-requires : goal.read_element-read_value-requires
-read_element-read_value-requires t c =
+pub elements::read_element-read_value-requires : goal.elements::read_element-read_value-requires
+elements::read_element-read_value-requires t c =
     let lt : 30 * c.args.reader.levels < t = let d = c.decreases in omega (arith, d) in
     let few : c.args.reader.levels ≤ 64 = let h = c.requires.few in omega (arith, h) in
     (lt, (few, c.requires.room))
 
--- src/run.rt:983:22
-pub read_element-returns-in-Err-clause-err : goal.read_element-returns-in-Err-clause-err
-read_element-returns-in-Err-clause-err t c =
+pub elements::read_element-returns-in-Err-clause-err : goal.elements::read_element-returns-in-Err-clause-err
+elements::read_element-returns-in-Err-clause-err t c =
     let value = run_value c.args.reader.code.now c.args.reader.levels c.args.reader.id.index in
     let es = gathered c.args.list.now in
     let b = bits_left c.args.bits.now in
@@ -525,22 +471,19 @@ read_element-returns-in-Err-clause-err t c =
     let i : c.len-number.result ≡ length es.values = c.len-number.ensures ∙ c.args.list.now.values.ok.0 ∙ sym (length-map c.args.list.now.values.items abstract) in
     element_stops value c.args.sorted es p.skipped p.left b c.len-number.result c.in-Err.stop c.within.result r i c.in-Err.ensures.err c.within.ensures
 
--- src/run.rt:985:27
-pub read_element-overflow_sub-len : goal.read_element-overflow_sub-len
-read_element-overflow_sub-len t c =
+pub elements::read_element-overflow_sub-len : goal.elements::read_element-overflow_sub-len
+elements::read_element-overflow_sub-len t c =
     let l = fewer_left c.args.progress.now c.read_value.new.progress (bits_left c.args.bits.now) (bits_left c.read_value.new.bits) (value_by c.args.reader.code.now c.args.reader.levels c.args.reader.id.index c.args.progress.now.left (bits_left c.args.bits.now)) (abstract c.in-Ok.value) c.in-Ok.ensures.ok c.in-Ok.ensures.went in
     let e = c.len.ensures in
     let f = c.len-2.ensures in
     omega (arith, l, e, f)
 
--- src/run.rt:985:9
-pub read_element-front-own-requires : goal.read_element-front-own-requires
-read_element-front-own-requires t c = let e = c.len.ensures in omega (arith, e)
+pub elements::read_element-front-own-requires : goal.elements::read_element-front-own-requires
+elements::read_element-front-own-requires t c = let e = c.len.ensures in omega (arith, e)
 
--- src/run.rt:989:9
-pub read_element-returns-then-not-at_most-clause-err :
-    goal.read_element-returns-then-not-at_most-clause-err
-read_element-returns-then-not-at_most-clause-err t c =
+pub elements::read_element-returns-then-not-at_most-clause-err :
+    goal.elements::read_element-returns-then-not-at_most-clause-err
+elements::read_element-returns-then-not-at_most-clause-err t c =
     let value = run_value c.args.reader.code.now c.args.reader.levels c.args.reader.id.index in
     let es = gathered c.args.list.now in
     let b = bits_left c.args.bits.now in
@@ -553,27 +496,22 @@ read_element-returns-then-not-at_most-clause-err t c =
     element_refused value c.args.sorted es p.skipped p.left b c.len-number.result (taken (abstract c.in-Ok.value) q.skipped q.left) r (bits_left c.front-own.result)
     c.at-stop.result c.within-then-not-at_most.result i c.in-Ok.ensures.ok own o c.at-stop.ensures c.within-then-not-at_most.ensures
 
--- src/run.rt:991:5
-pub read_element-returns-in_err-push-clause-ok : goal.read_element-returns-in_err-push-clause-ok
-read_element-returns-in_err-push-clause-ok t c = nothing_returned _ c.from_residual.result c.from_residual.ensures.1
+pub elements::read_element-returns-in_err-push-clause-ok : goal.elements::read_element-returns-in_err-push-clause-ok
+elements::read_element-returns-in_err-push-clause-ok t c = nothing_returned _ c.from_residual.result c.from_residual.ensures.1
 
--- src/run.rt:991:5
-pub read_element-returns-in_err-push-clause-err : goal.read_element-returns-in_err-push-clause-err
-read_element-returns-in_err-push-clause-err t c = memory_stops _ _ c.from_residual.result c.from_residual.ensures.1
+pub elements::read_element-returns-in_err-push-clause-err : goal.elements::read_element-returns-in_err-push-clause-err
+elements::read_element-returns-in_err-push-clause-err t c = memory_stops _ _ c.from_residual.result c.from_residual.ensures.1
 
--- src/run.rt:991:5
-pub read_element-returns-in_err-push-clause-went :
-    goal.read_element-returns-in_err-push-clause-went
-read_element-returns-in_err-push-clause-went t c = nothing_returned _ c.from_residual.result c.from_residual.ensures.1
+pub elements::read_element-returns-in_err-push-clause-went :
+    goal.elements::read_element-returns-in_err-push-clause-went
+elements::read_element-returns-in_err-push-clause-went t c = nothing_returned _ c.from_residual.result c.from_residual.ensures.1
 
--- src/run.rt:991:5
-pub read_element-returns-in_err-push-clause-fewer :
-    goal.read_element-returns-in_err-push-clause-fewer
-read_element-returns-in_err-push-clause-fewer t c = nothing_returned _ c.from_residual.result c.from_residual.ensures.1
+pub elements::read_element-returns-in_err-push-clause-fewer :
+    goal.elements::read_element-returns-in_err-push-clause-fewer
+elements::read_element-returns-in_err-push-clause-fewer t c = nothing_returned _ c.from_residual.result c.from_residual.ensures.1
 
--- src/run.rt:957:1
-pub read_element-returns-clause-ok : goal.read_element-returns-clause-ok
-read_element-returns-clause-ok t c =
+pub elements::read_element-returns-clause-ok : goal.elements::read_element-returns-clause-ok
+elements::read_element-returns-clause-ok t c =
     let value = run_value c.args.reader.code.now c.args.reader.levels c.args.reader.id.index in
     let es = gathered c.args.list.now in
     let b = bits_left c.args.bits.now in
@@ -583,33 +521,28 @@ read_element-returns-clause-ok t c =
     let own = own_are (bits_left c.front-own.result) b r c.len.result c.len-2.result c.len.ensures c.len-2.ensures c.front-own.ensures in
     let given = at_most es.before (bits_left c.front-own.result) in
     let o : (not c.args.sorted || given) ≡ true = elim c.else-sorted.branch [
-      | read_element-else-sorted-via-then-sorted+else-not-at_most w ↦ in_order_by c.args.sorted w.at_most.result given w.if-not-at_most.false w.at_most.ensures
-      | read_element-else-sorted-via-else-sorted w ↦ in_any_order c.args.sorted given w.if-sorted.false
+      | elements::read_element-else-sorted-via-then-sorted+else-not-at_most w ↦ in_order_by c.args.sorted w.at_most.result given w.if-not-at_most.false w.at_most.ensures
+      | elements::read_element-else-sorted-via-else-sorted w ↦ in_any_order c.args.sorted given w.if-sorted.false
     ] in
     element_read value c.args.sorted es p.skipped p.left b (abstract c.in-Ok.value) q.skipped q.left r (bits_left c.front-own.result) (map abstract c.push.new.self.items)
     c.in-Ok.ensures.ok own o (ap (map abstract) c.in_ok-push.ensures.items ∙ map_push abstract c.args.list.now.values.items c.in-Ok.value)
 
--- src/run.rt:957:1
-pub read_element-returns-clause-went : goal.read_element-returns-clause-went
-read_element-returns-clause-went t c = c.in-Ok.ensures.went
+pub elements::read_element-returns-clause-went : goal.elements::read_element-returns-clause-went
+elements::read_element-returns-clause-went t c = c.in-Ok.ensures.went
 
--- src/run.rt:957:1
-pub read_element-returns-clause-fewer : goal.read_element-returns-clause-fewer
-read_element-returns-clause-fewer t c = c.in-Ok.ensures.fewer
+pub elements::read_element-returns-clause-fewer : goal.elements::read_element-returns-clause-fewer
+elements::read_element-returns-clause-fewer t c = c.in-Ok.ensures.fewer
 
--- src/run.rt:946:5
-pub read_elements-loop-i-init : goal.read_elements-loop-i-init
-read_elements-loop-i-init t c = elements_none (run_value c.args.reader.code.now c.args.reader.levels c.args.reader.id.index) c.args.batch.sorted c.args.batch.count (gathered c.args.list.now) c.args.progress.now (bits_left c.args.bits.now)
+pub elements::read_elements-loop-i-init : goal.elements::read_elements-loop-i-init
+elements::read_elements-loop-i-init t c = elements_none (run_value c.args.reader.code.now c.args.reader.levels c.args.reader.id.index) c.args.batch.sorted c.args.batch.count (gathered c.args.list.now) c.args.progress.now (bits_left c.args.bits.now)
 
--- src/run.rt:947:15
-pub read_elements-read_element-requires : goal.read_elements-read_element-requires
-read_elements-read_element-requires t c =
+pub elements::read_elements-read_element-requires : goal.elements::read_elements-read_element-requires
+elements::read_elements-read_element-requires t c =
     let lt : 30 * c.args.reader.levels + 23 < t = let d = c.decreases in omega (arith, d) in
     (lt, (c.requires.few, room_after c.args.progress.now c.loop-i.progress (bits_left c.args.bits.now) (bits_left c.loop-i.bits) c.loop-i.invariant.1 c.requires.room))
 
--- src/run.rt:949:26
-pub read_elements-returns-in-Err-clause-err : goal.read_elements-returns-in-Err-clause-err
-read_elements-returns-in-Err-clause-err t c =
+pub elements::read_elements-returns-in-Err-clause-err : goal.elements::read_elements-returns-in-Err-clause-err
+elements::read_elements-returns-in-Err-clause-err t c =
     let value = run_value c.args.reader.code.now c.args.reader.levels c.args.reader.id.index in
     let m = c.args.batch.count in
     let b = bits_left c.args.bits.now in
@@ -620,13 +553,11 @@ read_elements-returns-in-Err-clause-err t c =
     let fs = gathered c.loop-i.list in
     elements_stop value c.args.batch.sorted m c.loop-i._i es fs p q b z c.in-Err.stop (bits_left c.read_element.new.bits) c.loop-i-test.true c.loop-i.invariant c.in-Err.ensures.err
 
--- src/run.rt:946:5
-pub read_elements-loop-i-smaller : goal.read_elements-loop-i-smaller
-read_elements-loop-i-smaller t c = let l = c.loop-i-test.true in omega (arith, l)
+pub elements::read_elements-loop-i-smaller : goal.elements::read_elements-loop-i-smaller
+elements::read_elements-loop-i-smaller t c = let l = c.loop-i-test.true in omega (arith, l)
 
--- src/run.rt:946:5
-pub read_elements-loop-i-preserved : goal.read_elements-loop-i-preserved
-read_elements-loop-i-preserved t c =
+pub elements::read_elements-loop-i-preserved : goal.elements::read_elements-loop-i-preserved
+elements::read_elements-loop-i-preserved t c =
     let value = run_value c.args.reader.code.now c.args.reader.levels c.args.reader.id.index in
     let m = c.args.batch.count in
     let b = bits_left c.args.bits.now in
@@ -638,9 +569,8 @@ read_elements-loop-i-preserved t c =
     elements_more value c.args.batch.sorted m c.loop-i._i es fs p q b z (gathered c.read_element.new.list) c.read_element.new.progress (bits_left c.read_element.new.bits)
     c.loop-i-test.true c.loop-i.invariant c.in-Ok.ensures.ok c.in-Ok.ensures.went c.in-Ok.ensures.fewer
 
--- src/run.rt:924:1
-pub read_elements-returns-clause-ok : goal.read_elements-returns-clause-ok
-read_elements-returns-clause-ok t c =
+pub elements::read_elements-returns-clause-ok : goal.elements::read_elements-returns-clause-ok
+elements::read_elements-returns-clause-ok t c =
     let value = run_value c.args.reader.code.now c.args.reader.levels c.args.reader.id.index in
     let m = c.args.batch.count in
     let b = bits_left c.args.bits.now in
@@ -652,21 +582,18 @@ read_elements-returns-clause-ok t c =
     let l : m ≤ c.loop-i._i = let h = c.loop-i-test.false in omega (arith, h) in
     elements_all value c.args.batch.sorted m c.loop-i._i es fs p q b z l c.loop-i.invariant
 
--- src/run.rt:924:1
-pub read_elements-returns-clause-went : goal.read_elements-returns-clause-went
-read_elements-returns-clause-went t c = c.loop-i.invariant.1
+pub elements::read_elements-returns-clause-went : goal.elements::read_elements-returns-clause-went
+elements::read_elements-returns-clause-went t c = c.loop-i.invariant.1
 
--- src/run.rt:924:1
-pub read_elements-returns-clause-fewer : goal.read_elements-returns-clause-fewer
-read_elements-returns-clause-fewer t c =
+pub elements::read_elements-returns-clause-fewer : goal.elements::read_elements-returns-clause-fewer
+elements::read_elements-returns-clause-fewer t c =
     let m = c.args.batch.count in
     let h = c.loop-i-test.false in
     let k = c.loop-i.invariant.2 in
     omega (arith, h, k)
 
--- src/run.rt:505:22
-pub read_extension-returns-in-Err-clause-err : goal.read_extension-returns-in-Err-clause-err
-read_extension-returns-in-Err-clause-err t c =
+pub additions::read_extension-returns-in-Err-clause-err : goal.additions::read_extension-returns-in-Err-clause-err
+additions::read_extension-returns-in-Err-clause-err t c =
     let s = c.args.reader.code.now in
     let l = c.args.reader.levels in
     let k = c.args.progress.now.skipped in
@@ -678,15 +605,13 @@ read_extension-returns-in-Err-clause-err t c =
     let go : List Bool → List Bool → Reading (Taken Row) = λ q r. run_additions s l (run_value s l) cs c.args.steps.now q ws k n r in
     stop_next (bitmap_from b) go c.in-Err.stop r c.in-Err.ensures.err
 
--- src/run.rt:511:5
-pub read_extension-read_additions-requires : goal.read_extension-read_additions-requires
-read_extension-read_additions-requires t c =
+pub additions::read_extension-read_additions-requires : goal.additions::read_extension-read_additions-requires
+additions::read_extension-read_additions-requires t c =
     let lt : 30 * c.args.reader.levels + 25 < t = let d = c.decreases in omega (arith, d) in
     (lt, (c.requires.few, (room_shorter c.args.progress.now (bits_left c.args.bits.now) (bits_left c.read_bitmap.new.bits) c.requires.room c.in-Ok.ensures.shorter, (c.requires.fit, c.requires.places))))
 
--- src/run.rt:478:1
-pub read_extension-returns-clause-ok : goal.read_extension-returns-clause-ok
-read_extension-returns-clause-ok t c =
+pub additions::read_extension-returns-clause-ok : goal.additions::read_extension-returns-clause-ok
+additions::read_extension-returns-clause-ok t c =
     let s = c.args.reader.code.now in
     let l = c.args.reader.levels in
     let k = c.args.progress.now.skipped in
@@ -699,9 +624,8 @@ read_extension-returns-clause-ok t c =
     let e : onward (bitmap_from b) go ≡ go c.as_slice.result.now r = ap (λ o. onward o go) c.in-Ok.ensures.ok ∙ ap (λ q. go q r) (sym c.as_slice.ensures.value) in
     open_ok_as c.read_additions.result (onward (bitmap_from b) go) (go c.as_slice.result.now r) (taken (row_of_values c.read_additions.new.row.items) c.read_additions.new.progress.skipped c.read_additions.new.progress.left) (bits_left c.read_additions.new.bits) e c.read_additions.ensures.ok
 
--- src/run.rt:478:1
-pub read_extension-returns-clause-err : goal.read_extension-returns-clause-err
-read_extension-returns-clause-err t c =
+pub additions::read_extension-returns-clause-err : goal.additions::read_extension-returns-clause-err
+additions::read_extension-returns-clause-err t c =
     let s = c.args.reader.code.now in
     let l = c.args.reader.levels in
     let k = c.args.progress.now.skipped in
@@ -714,35 +638,29 @@ read_extension-returns-clause-err t c =
     let e : onward (bitmap_from b) go ≡ go c.as_slice.result.now r = ap (λ o. onward o go) c.in-Ok.ensures.ok ∙ ap (λ q. go q r) (sym c.as_slice.ensures.value) in
     open_err_as c.read_additions.result (onward (bitmap_from b) go) (go c.as_slice.result.now r) (bits_left c.read_additions.new.bits) e c.read_additions.ensures.err
 
--- src/run.rt:478:1
-pub read_extension-returns-clause-went : goal.read_extension-returns-clause-went
-read_extension-returns-clause-went t c = open_went_on c.read_additions.result c.args.progress.now c.read_additions.new.progress (bits_left c.args.bits.now) (bits_left c.read_bitmap.new.bits) (bits_left c.read_additions.new.bits) c.in-Ok.ensures.shorter c.read_additions.ensures.went
+pub additions::read_extension-returns-clause-went : goal.additions::read_extension-returns-clause-went
+additions::read_extension-returns-clause-went t c = open_went_on c.read_additions.result c.args.progress.now c.read_additions.new.progress (bits_left c.args.bits.now) (bits_left c.read_bitmap.new.bits) (bits_left c.read_additions.new.bits) c.in-Ok.ensures.shorter c.read_additions.ensures.went
 
--- src/run.rt:294:36
-pub read_fields-core-requires : goal.read_fields-core-requires
-read_fields-core-requires t c = subst (λ q. c.args.reader.id.index < length q) (sym c.schema.ensures) c.requires.there
+pub components::read_fields-core-requires : goal.components::read_fields-core-requires
+components::read_fields-core-requires t c = subst (λ q. c.args.reader.id.index < length q) (sym c.schema.ensures) c.requires.there
 
--- src/run.rt:296:11
-pub read_fields-read_row-requires : goal.read_fields-read_row-requires
-read_fields-read_row-requires t c =
+pub components::read_fields-read_row-requires : goal.components::read_fields-read_row-requires
+components::read_fields-read_row-requires t c =
     let d = c.decreases in
     let lt : 30 * c.args.reader.levels + 27 < t = omega (arith, d) in
     let many : length c.in-Ok.row.items ≡ length (components (kind_at c.args.reader.code.now c.args.reader.id.index)) = c.in-Ok.ensures.length ∙ sym (components_many (components (kind_at c.args.reader.code.now c.args.reader.id.index)) (map component_of c.components_of-components.result.now) (length c.components_of-components.result.now) (components_are c.args.reader.code.now c.schema.result.now c.args.reader.id.index (kind_of c.core.result.now) c.core.ensures.is.0 (map component_of c.components_of-components.result.now) c.schema.ensures c.core.ensures.is.1 c.components_of-components.ensures) (map-length component_of c.components_of-components.result.now)) in
     (lt, (c.requires.few, (c.requires.room, (c.requires.fit, (many, c.in-Ok.ensures.row (components (kind_at c.args.reader.code.now c.args.reader.id.index)) (components_many (components (kind_at c.args.reader.code.now c.args.reader.id.index)) (map component_of c.components_of-components.result.now) (length c.components_of-components.result.now) (components_are c.args.reader.code.now c.schema.result.now c.args.reader.id.index (kind_of c.core.result.now) c.core.ensures.is.0 (map component_of c.components_of-components.result.now) c.schema.ensures c.core.ensures.is.1 c.components_of-components.ensures) (map-length component_of c.components_of-components.result.now)))))))
 
--- src/run.rt:271:1
-pub read_fields-returns-clause-ok : goal.read_fields-returns-clause-ok
-read_fields-returns-clause-ok t c =
+pub components::read_fields-returns-clause-ok : goal.components::read_fields-returns-clause-ok
+components::read_fields-returns-clause-ok t c =
     ap (λ o. onward o (λ w r. read (as_fields w) r)) c.in-Ok-read_row.ensures.ok
     ∙ ap (λ q. read (taken q c.read_row.new.progress.skipped c.read_row.new.progress.left) (bits_left c.read_row.new.bits)) (sym (c.abstract_values.ensures.fields_ c.read_row.new.row))
 
--- src/run.rt:271:1
-pub read_fields-returns-clause-went : goal.read_fields-returns-clause-went
-read_fields-returns-clause-went t c = c.in-Ok-read_row.ensures.went
+pub components::read_fields-returns-clause-went : goal.components::read_fields-returns-clause-went
+components::read_fields-returns-clause-went t c = c.in-Ok-read_row.ensures.went
 
--- src/run.rt:678:22
-pub read_group-returns-in-Err-clause-err : goal.read_group-returns-in-Err-clause-err
-read_group-returns-in-Err-clause-err t c =
+pub additions::read_group-returns-in-Err-clause-err : goal.additions::read_group-returns-in-Err-clause-err
+additions::read_group-returns-in-Err-clause-err t c =
     let s = c.args.reader.code.now in
     let l = c.args.reader.levels in
     let k = c.args.progress.now.skipped in
@@ -752,17 +670,14 @@ read_group-returns-in-Err-clause-err t c =
     let ws = row_of_values c.args.row.now.items in
     open_none (run_group_inside s l (run_value s l) cs (fields_in c.args.steps.now) ws k n) b (bits_left c.take_octets.new.bits) c.in-Err.stop c.in-Err.ensures.err
 
--- src/run.rt:678:22
-pub read_group-returns-in-Err-clause-places : goal.read_group-returns-in-Err-clause-places
-read_group-returns-in-Err-clause-places t c = refl
+pub additions::read_group-returns-in-Err-clause-places : goal.additions::read_group-returns-in-Err-clause-places
+additions::read_group-returns-in-Err-clause-places t c = refl
 
--- src/run.rt:680:21
-pub read_group-of-inner-requires : goal.read_group-of-inner-requires
-read_group-of-inner-requires t c = octets_few c.args.progress.now (bits_left c.args.bits.now) (bits_left c.take_octets.new.bits) c.in-Ok.octets.items c.as_slice.result.now c.as_slice.ensures.value c.in-Ok.ensures.shorter c.requires.room
+pub additions::read_group-of-inner-requires : goal.additions::read_group-of-inner-requires
+additions::read_group-of-inner-requires t c = octets_few c.args.progress.now (bits_left c.args.bits.now) (bits_left c.take_octets.new.bits) c.in-Ok.octets.items c.as_slice.result.now c.as_slice.ensures.value c.in-Ok.ensures.shorter c.requires.room
 
--- src/run.rt:682:22
-pub read_group-read_group_members-requires : goal.read_group-read_group_members-requires
-read_group-read_group_members-requires t c =
+pub additions::read_group-read_group_members-requires : goal.additions::read_group-read_group_members-requires
+additions::read_group-read_group_members-requires t c =
     let s = c.args.reader.code.now in
     let l = c.args.reader.levels in
     let k = c.args.progress.now.skipped in
@@ -776,9 +691,8 @@ read_group-read_group_members-requires t c =
     let lt : 30 * c.args.reader.levels + 22 < t = let d = c.decreases in omega (arith, d) in
     (lt, (c.requires.few, (inner_room c.args.progress.now b r i o sl h c.requires.room, (c.requires.fit, c.requires.places))))
 
--- src/run.rt:684:22
-pub read_group-overflow_sub-all : goal.read_group-overflow_sub-all
-read_group-overflow_sub-all t c =
+pub additions::read_group-overflow_sub-all : goal.additions::read_group-overflow_sub-all
+additions::read_group-overflow_sub-all t c =
     let s = c.args.reader.code.now in
     let l = c.args.reader.levels in
     let k = c.args.progress.now.skipped in
@@ -799,9 +713,8 @@ read_group-overflow_sub-all t c =
     let u = c.len-all.ensures in
     omega (arith, y, z, u)
 
--- src/run.rt:685:17
-pub read_group-returns-then-fills-clause-ok : goal.read_group-returns-then-fills-clause-ok
-read_group-returns-then-fills-clause-ok t c =
+pub additions::read_group-returns-then-fills-clause-ok : goal.additions::read_group-returns-then-fills-clause-ok
+additions::read_group-returns-then-fills-clause-ok t c =
     let s = c.args.reader.code.now in
     let l = c.args.reader.levels in
     let k = c.args.progress.now.skipped in
@@ -818,9 +731,8 @@ read_group-returns-then-fills-clause-ok t c =
     let h : Octets b r i o sl = record { is = c.of-inner.ensures; same = c.as_slice.ensures.value; shorter = c.in-Ok.ensures.shorter } in
     inner_good f b r i o sl h c.in-Ok.ensures.ok (bits_left c.read_group_members.new.bits) (taken (row_of_values c.read_group_members.new.row.items) c.read_group_members.new.progress.skipped c.read_group_members.new.progress.left) c.len-all.result c.len.result c.fills.result c.in-Ok-read_group_members.ensures.ok c.len-all.ensures c.len.ensures c.fills.ensures c.if-fills.true
 
--- src/run.rt:685:17
-pub read_group-returns-then-fills-clause-went : goal.read_group-returns-then-fills-clause-went
-read_group-returns-then-fills-clause-went t c =
+pub additions::read_group-returns-then-fills-clause-went : goal.additions::read_group-returns-then-fills-clause-went
+additions::read_group-returns-then-fills-clause-went t c =
     let s = c.args.reader.code.now in
     let l = c.args.reader.levels in
     let k = c.args.progress.now.skipped in
@@ -833,13 +745,11 @@ read_group-returns-then-fills-clause-went t c =
     let h : Octets b r i o sl = record { is = c.of-inner.ensures; same = c.as_slice.ensures.value; shorter = c.in-Ok.ensures.shorter } in
     inner_went c.args.progress.now c.read_group_members.new.progress b r i (bits_left c.read_group_members.new.bits) o sl h c.in-Ok-read_group_members.ensures.went
 
--- src/run.rt:685:17
-pub read_group-returns-then-fills-clause-places : goal.read_group-returns-then-fills-clause-places
-read_group-returns-then-fills-clause-places t c = c.read_group_members.ensures.places
+pub additions::read_group-returns-then-fills-clause-places : goal.additions::read_group-returns-then-fills-clause-places
+additions::read_group-returns-then-fills-clause-places t c = c.read_group_members.ensures.places
 
--- src/run.rt:691:13
-pub read_group-fault_place-requires : goal.read_group-fault_place-requires
-read_group-fault_place-requires t c =
+pub additions::read_group-fault_place-requires : goal.additions::read_group-fault_place-requires
+additions::read_group-fault_place-requires t c =
     let s = c.args.reader.code.now in
     let l = c.args.reader.levels in
     let k = c.args.progress.now.skipped in
@@ -852,9 +762,8 @@ read_group-fault_place-requires t c =
     let h : Octets b r i o sl = record { is = c.of-inner.ensures; same = c.as_slice.ensures.value; shorter = c.in-Ok.ensures.shorter } in
     place_room b r i o sl c.len-all.result c.len-2.result c.min-left.result h c.len-all.ensures c.min-left.ensures
 
--- src/run.rt:647:1
-pub read_group-returns-clause-err : goal.read_group-returns-clause-err
-read_group-returns-clause-err t c =
+pub additions::read_group-returns-clause-err : goal.additions::read_group-returns-clause-err
+additions::read_group-returns-clause-err t c =
     let s = c.args.reader.code.now in
     let l = c.args.reader.levels in
     let k = c.args.progress.now.skipped in
@@ -873,20 +782,18 @@ read_group-returns-clause-err t c =
     let p = bits_left c.fault_place.result in
     let y = c.match-read_group_members.stop in
     elim c.match-read_group_members.branch [
-      | goal.read_group-in-Ok-read_group_members+else-fills w ↦ inner_bad f b r i o sl h c.in-Ok.ensures.ok z p (taken (row_of_values c.read_group_members.new.row.items) c.read_group_members.new.progress.skipped c.read_group_members.new.progress.left) c.len-all.result w.len.result c.len-2.result c.len-3.result c.min-left.result w.fills.result w.at-stop.result y
+      | goal.additions::read_group-in-Ok-read_group_members+else-fills w ↦ inner_bad f b r i o sl h c.in-Ok.ensures.ok z p (taken (row_of_values c.read_group_members.new.row.items) c.read_group_members.new.progress.skipped c.read_group_members.new.progress.left) c.len-all.result w.len.result c.len-2.result c.len-3.result c.min-left.result w.fills.result w.at-stop.result y
           (λ v. c.inside_laws.ensures.group_read s l k n cs fs ws i z v c.accepted.ensures) w.in-Ok-read_group_members.ensures.ok c.len-all.ensures w.len.ensures w.fills.ensures w.if-fills.false w.at-stop.ensures w.stop-is (c.len-3.ensures ∙ c.in-Ok.octets.ok.0) c.len-2.ensures c.min-left.ensures c.fault_place.ensures
-      | goal.read_group-in-Err-read_group_members w ↦ inner_stop f b r i o sl h c.in-Ok.ensures.ok z p c.len-all.result c.len-2.result c.len-3.result c.min-left.result w.in-Err-read_group_members.stop y
+      | goal.additions::read_group-in-Err-read_group_members w ↦ inner_stop f b r i o sl h c.in-Ok.ensures.ok z p c.len-all.result c.len-2.result c.len-3.result c.min-left.result w.in-Err-read_group_members.stop y
           (λ d. c.inside_laws.ensures.group_refused s l k n cs fs ws i z d c.accepted.ensures) w.in-Err-read_group_members.ensures.err c.len-all.ensures w.stop-is (c.len-3.ensures ∙ c.in-Ok.octets.ok.0) c.len-2.ensures c.min-left.ensures c.fault_place.ensures
     ]
 
--- src/run.rt:647:1
-pub read_group-returns-clause-places : goal.read_group-returns-clause-places
-read_group-returns-clause-places t c = c.read_group_members.ensures.places
+pub additions::read_group-returns-clause-places : goal.additions::read_group-returns-clause-places
+additions::read_group-returns-clause-places t c = c.read_group_members.ensures.places
 
--- src/run.rt:725:22
-pub read_group_members-returns-in-Err-clause-err :
-    goal.read_group_members-returns-in-Err-clause-err
-read_group_members-returns-in-Err-clause-err t c =
+pub additions::read_group_members-returns-in-Err-clause-err :
+    goal.additions::read_group_members-returns-in-Err-clause-err
+additions::read_group_members-returns-in-Err-clause-err t c =
     let s = c.args.reader.code.now in
     let l = c.args.reader.levels in
     let k = c.args.progress.now.skipped in
@@ -899,15 +806,13 @@ read_group_members-returns-in-Err-clause-err t c =
     let go : List Sent → Bits → Reading (Taken Row) = λ xs r. run_members s l (run_value s l) cs xs ws k n r in
     stop_sent fs b r [] go c.in-Err.stop c.in-Err.ensures.err
 
--- src/run.rt:725:22
-pub read_group_members-returns-in-Err-clause-places :
-    goal.read_group_members-returns-in-Err-clause-places
-read_group_members-returns-in-Err-clause-places t c = refl
+pub additions::read_group_members-returns-in-Err-clause-places :
+    goal.additions::read_group_members-returns-in-Err-clause-places
+additions::read_group_members-returns-in-Err-clause-places t c = refl
 
--- src/run.rt:729:9
-pub read_group_members-returns-then-not-any_sent-clause-err :
-    goal.read_group_members-returns-then-not-any_sent-clause-err
-read_group_members-returns-then-not-any_sent-clause-err t c =
+pub additions::read_group_members-returns-then-not-any_sent-clause-err :
+    goal.additions::read_group_members-returns-then-not-any_sent-clause-err
+additions::read_group_members-returns-then-not-any_sent-clause-err t c =
     let s = c.args.reader.code.now in
     let l = c.args.reader.levels in
     let k = c.args.progress.now.skipped in
@@ -921,14 +826,12 @@ read_group_members-returns-then-not-any_sent-clause-err t c =
     stop_at (run_group_inside s l (run_value s l) cs fs ws k n b) NotCanonical c.at.result b
     (none_sent fs b r c.in-Ok.sent.items go c.in-Ok.ensures.ok (ap any_sent (sym c.as_slice.ensures.value) ∙ sym c.any_sent.ensures ∙ c.if-not-any_sent.true)) c.at.ensures
 
--- src/run.rt:729:9
-pub read_group_members-returns-then-not-any_sent-clause-places :
-    goal.read_group_members-returns-then-not-any_sent-clause-places
-read_group_members-returns-then-not-any_sent-clause-places t c = refl
+pub additions::read_group_members-returns-then-not-any_sent-clause-places :
+    goal.additions::read_group_members-returns-then-not-any_sent-clause-places
+additions::read_group_members-returns-then-not-any_sent-clause-places t c = refl
 
--- src/run.rt:731:5
-pub read_group_members-read_members-requires : goal.read_group_members-read_members-requires
-read_group_members-read_members-requires t c =
+pub additions::read_group_members-read_members-requires : goal.additions::read_group_members-read_members-requires
+additions::read_group_members-read_members-requires t c =
     let s = c.args.reader.code.now in
     let u = c.args.reader.id.index in
     let lt : 30 * c.args.reader.levels + 20 < t = let d = c.decreases in omega (arith, d) in (
@@ -945,9 +848,8 @@ read_group_members-read_members-requires t c =
       ),
     )
 
--- src/run.rt:696:1
-pub read_group_members-returns-clause-ok : goal.read_group_members-returns-clause-ok
-read_group_members-returns-clause-ok t c =
+pub additions::read_group_members-returns-clause-ok : goal.additions::read_group_members-returns-clause-ok
+additions::read_group_members-returns-clause-ok t c =
     let s = c.args.reader.code.now in
     let l = c.args.reader.levels in
     let k = c.args.progress.now.skipped in
@@ -962,9 +864,8 @@ read_group_members-returns-clause-ok t c =
     = some_sent fs b r c.in-Ok.sent.items go c.in-Ok.ensures.ok (ap any_sent (sym c.as_slice.ensures.value) ∙ sym c.any_sent.ensures ∙ c.if-not-any_sent.false) ∙ ap (λ xs. go xs r) (sym c.as_slice-2.ensures.value) in
     open_ok_as c.read_members.result (run_group_inside s l (run_value s l) cs fs ws k n b) (go c.as_slice-2.result.now r) (taken (row_of_values c.read_members.new.row.items) c.read_members.new.progress.skipped c.read_members.new.progress.left) (bits_left c.read_members.new.bits) e c.read_members.ensures.ok
 
--- src/run.rt:696:1
-pub read_group_members-returns-clause-err : goal.read_group_members-returns-clause-err
-read_group_members-returns-clause-err t c =
+pub additions::read_group_members-returns-clause-err : goal.additions::read_group_members-returns-clause-err
+additions::read_group_members-returns-clause-err t c =
     let s = c.args.reader.code.now in
     let l = c.args.reader.levels in
     let k = c.args.progress.now.skipped in
@@ -979,35 +880,29 @@ read_group_members-returns-clause-err t c =
     = some_sent fs b r c.in-Ok.sent.items go c.in-Ok.ensures.ok (ap any_sent (sym c.as_slice.ensures.value) ∙ sym c.any_sent.ensures ∙ c.if-not-any_sent.false) ∙ ap (λ xs. go xs r) (sym c.as_slice-2.ensures.value) in
     open_err_as c.read_members.result (run_group_inside s l (run_value s l) cs fs ws k n b) (go c.as_slice-2.result.now r) (bits_left c.read_members.new.bits) e c.read_members.ensures.err
 
--- src/run.rt:696:1
-pub read_group_members-returns-clause-went : goal.read_group_members-returns-clause-went
-read_group_members-returns-clause-went t c = open_went_on c.read_members.result c.args.progress.now c.read_members.new.progress (bits_left c.args.bits.now) (bits_left c.read_presences.new.bits) (bits_left c.read_members.new.bits) c.in-Ok.ensures.shorter c.read_members.ensures.went
+pub additions::read_group_members-returns-clause-went : goal.additions::read_group_members-returns-clause-went
+additions::read_group_members-returns-clause-went t c = open_went_on c.read_members.result c.args.progress.now c.read_members.new.progress (bits_left c.args.bits.now) (bits_left c.read_presences.new.bits) (bits_left c.read_members.new.bits) c.in-Ok.ensures.shorter c.read_members.ensures.went
 
--- src/run.rt:696:1
-pub read_group_members-returns-clause-places : goal.read_group_members-returns-clause-places
-read_group_members-returns-clause-places t c = c.read_members.ensures.places
+pub additions::read_group_members-returns-clause-places : goal.additions::read_group_members-returns-clause-places
+additions::read_group_members-returns-clause-places t c = c.read_members.ensures.places
 
--- src/run.rt:809:11
-pub read_list-read_size-requires : goal.read_list-read_size-requires
-read_list-read_size-requires t c = c.requires.bounds
+pub elements::read_list-read_size-requires : goal.elements::read_list-read_size-requires
+elements::read_list-read_size-requires t c = c.requires.bounds
 
--- src/run.rt:815:13
-pub read_list-read_elements-requires : goal.read_list-read_elements-requires
-read_list-read_elements-requires t c =
+pub elements::read_list-read_elements-requires : goal.elements::read_list-read_elements-requires
+elements::read_list-read_elements-requires t c =
     let lt : 30 * c.args.reader.levels + 24 < t = let d = c.decreases in omega (arith, d) in
     let s = reading_shorter (c.count_laws.ensures.size (constraint_of c.args.listed.constraint.now) c.requires.bounds) (bits_left c.args.bits.now) (bits_left c.read_size.new.bits) c.in-Ok-AtOnce.field-0 c.in-Ok-AtOnce.ensures in
     (lt, (c.requires.few, room_before c.args.progress.now (bits_left c.args.bits.now) (bits_left c.read_size.new.bits) s c.requires.room))
 
--- src/run.rt:823:13
-pub read_list-read_parts-requires : goal.read_list-read_parts-requires
-read_list-read_parts-requires t c =
+pub elements::read_list-read_parts-requires : goal.elements::read_list-read_parts-requires
+elements::read_list-read_parts-requires t c =
     let lt : 30 * c.args.reader.levels + 26 < t = let d = c.decreases in omega (arith, d) in
     let s = reading_shorter (c.count_laws.ensures.size (constraint_of c.args.listed.constraint.now) c.requires.bounds) (bits_left c.args.bits.now) (bits_left c.read_size.new.bits) c.in-Ok-Counted.field-0 c.in-Ok-Counted.ensures in
     (lt, (c.requires.few, room_before c.args.progress.now (bits_left c.args.bits.now) (bits_left c.read_size.new.bits) s c.requires.room))
 
--- src/run.rt:786:1
-pub read_list-returns-in-Ok-AtOnce-clause-ok : goal.read_list-returns-in-Ok-AtOnce-clause-ok
-read_list-returns-in-Ok-AtOnce-clause-ok t c =
+pub elements::read_list-returns-in-Ok-AtOnce-clause-ok : goal.elements::read_list-returns-in-Ok-AtOnce-clause-ok
+elements::read_list-returns-in-Ok-AtOnce-clause-ok t c =
     let value = run_value c.args.reader.code.now c.args.reader.levels c.args.reader.id.index in
     let k = constraint_of c.args.listed.constraint.now in
     let es = gathered c.args.list.now in
@@ -1019,9 +914,8 @@ read_list-returns-in-Ok-AtOnce-clause-ok t c =
     returned_as (run_list value c.args.listed.sorted k p.skipped p.left b) (run_elements value c.args.listed.sorted c.in-Ok-AtOnce.count es p.skipped p.left r) w
     (read (taken (gathered c.read_elements.new.list) c.read_elements.new.progress.skipped c.read_elements.new.progress.left) (bits_left c.read_elements.new.bits)) c.read_elements.result c.read_elements.ensures.ok
 
--- src/run.rt:786:1
-pub read_list-returns-in-Ok-AtOnce-clause-err : goal.read_list-returns-in-Ok-AtOnce-clause-err
-read_list-returns-in-Ok-AtOnce-clause-err t c =
+pub elements::read_list-returns-in-Ok-AtOnce-clause-err : goal.elements::read_list-returns-in-Ok-AtOnce-clause-err
+elements::read_list-returns-in-Ok-AtOnce-clause-err t c =
     let value = run_value c.args.reader.code.now c.args.reader.levels c.args.reader.id.index in
     let k = constraint_of c.args.listed.constraint.now in
     let es = gathered c.args.list.now in
@@ -1032,15 +926,13 @@ read_list-returns-in-Ok-AtOnce-clause-err t c =
     let w = list_at_once value c.args.listed.sorted k es c.requires.none p.skipped p.left b r c.in-Ok-AtOnce.count e in
     refused_as (run_list value c.args.listed.sorted k p.skipped p.left b) (run_elements value c.args.listed.sorted c.in-Ok-AtOnce.count es p.skipped p.left r) w (bits_left c.read_elements.new.bits) c.read_elements.result c.read_elements.ensures.err
 
--- src/run.rt:786:1
-pub read_list-returns-in-Ok-AtOnce-clause-went : goal.read_list-returns-in-Ok-AtOnce-clause-went
-read_list-returns-in-Ok-AtOnce-clause-went t c =
+pub elements::read_list-returns-in-Ok-AtOnce-clause-went : goal.elements::read_list-returns-in-Ok-AtOnce-clause-went
+elements::read_list-returns-in-Ok-AtOnce-clause-went t c =
     let s = reading_shorter (c.count_laws.ensures.size (constraint_of c.args.listed.constraint.now) c.requires.bounds) (bits_left c.args.bits.now) (bits_left c.read_size.new.bits) c.in-Ok-AtOnce.field-0 c.in-Ok-AtOnce.ensures in
     all_before c.args.progress.now c.read_elements.new.progress (bits_left c.args.bits.now) (bits_left c.read_size.new.bits) (bits_left c.read_elements.new.bits) c.read_elements.result s c.read_elements.ensures.went
 
--- src/run.rt:786:1
-pub read_list-returns-in-Ok-Counted-clause-ok : goal.read_list-returns-in-Ok-Counted-clause-ok
-read_list-returns-in-Ok-Counted-clause-ok t c =
+pub elements::read_list-returns-in-Ok-Counted-clause-ok : goal.elements::read_list-returns-in-Ok-Counted-clause-ok
+elements::read_list-returns-in-Ok-Counted-clause-ok t c =
     let value = run_value c.args.reader.code.now c.args.reader.levels c.args.reader.id.index in
     let k = constraint_of c.args.listed.constraint.now in
     let es = gathered c.args.list.now in
@@ -1052,9 +944,8 @@ read_list-returns-in-Ok-Counted-clause-ok t c =
     returned_as (run_list value c.args.listed.sorted k p.skipped p.left b) (run_parts value c.args.listed.sorted (size_fault k c.in-Ok-Counted.outside) (suc p.left) true es p.skipped p.left r) w
     (read (taken (gathered c.read_parts.new.list) c.read_parts.new.progress.skipped c.read_parts.new.progress.left) (bits_left c.read_parts.new.bits)) c.read_parts.result c.read_parts.ensures.ok
 
--- src/run.rt:786:1
-pub read_list-returns-in-Ok-Counted-clause-err : goal.read_list-returns-in-Ok-Counted-clause-err
-read_list-returns-in-Ok-Counted-clause-err t c =
+pub elements::read_list-returns-in-Ok-Counted-clause-err : goal.elements::read_list-returns-in-Ok-Counted-clause-err
+elements::read_list-returns-in-Ok-Counted-clause-err t c =
     let value = run_value c.args.reader.code.now c.args.reader.levels c.args.reader.id.index in
     let k = constraint_of c.args.listed.constraint.now in
     let es = gathered c.args.list.now in
@@ -1065,115 +956,93 @@ read_list-returns-in-Ok-Counted-clause-err t c =
     let w = list_counted value c.args.listed.sorted k es c.requires.none p.skipped p.left b r c.in-Ok-Counted.outside e in
     refused_as (run_list value c.args.listed.sorted k p.skipped p.left b) (run_parts value c.args.listed.sorted (size_fault k c.in-Ok-Counted.outside) (suc p.left) true es p.skipped p.left r) w (bits_left c.read_parts.new.bits) c.read_parts.result c.read_parts.ensures.err
 
--- src/run.rt:786:1
-pub read_list-returns-in-Ok-Counted-clause-went : goal.read_list-returns-in-Ok-Counted-clause-went
-read_list-returns-in-Ok-Counted-clause-went t c =
+pub elements::read_list-returns-in-Ok-Counted-clause-went : goal.elements::read_list-returns-in-Ok-Counted-clause-went
+elements::read_list-returns-in-Ok-Counted-clause-went t c =
     let s = reading_shorter (c.count_laws.ensures.size (constraint_of c.args.listed.constraint.now) c.requires.bounds) (bits_left c.args.bits.now) (bits_left c.read_size.new.bits) c.in-Ok-Counted.field-0 c.in-Ok-Counted.ensures in
     all_before c.args.progress.now c.read_parts.new.progress (bits_left c.args.bits.now) (bits_left c.read_size.new.bits) (bits_left c.read_parts.new.bits) c.read_parts.result s c.read_parts.ensures.went
 
--- src/run.rt:786:1
-pub read_list-returns-in-Err-clause-err : goal.read_list-returns-in-Err-clause-err
-read_list-returns-in-Err-clause-err t c =
+pub elements::read_list-returns-in-Err-clause-err : goal.elements::read_list-returns-in-Err-clause-err
+elements::read_list-returns-in-Err-clause-err t c =
     list_stops (run_value c.args.reader.code.now c.args.reader.levels c.args.reader.id.index) c.args.listed.sorted (constraint_of c.args.listed.constraint.now) c.args.progress.now.skipped c.args.progress.now.left (bits_left c.args.bits.now) (bits_left c.read_size.new.bits)
     c.in-Err.refusal c.at.result c.in-Err.ensures c.at.ensures
 
--- src/run.rt:413:9
-pub read_member-read_present-requires : goal.read_member-read_present-requires
-read_member-read_present-requires t c =
+pub components::read_member-read_present-requires : goal.components::read_member-read_present-requires
+components::read_member-read_present-requires t c =
     let d = c.decreases in
     let lt : 30 * c.args.reader.levels + 18 < t = omega (arith, d) in
     (lt, (c.requires.few, (c.requires.room, (c.requires.fits, c.requires.places))))
 
--- src/run.rt:413:9
-pub read_member-returns-then-sent-clause-ok : goal.read_member-returns-then-sent-clause-ok
-read_member-returns-then-sent-clause-ok t c = row_as c.read_present.result (run_member c.args.reader.code.now c.args.reader.levels (run_value c.args.reader.code.now c.args.reader.levels) (components (kind_at c.args.reader.code.now c.args.reader.id.index)) c.args.sent (row_of_values c.args.row.now.items) c.args.progress.now.skipped c.args.progress.now.left (bits_left c.args.bits.now)) (run_present c.args.reader.code.now (run_value c.args.reader.code.now c.args.reader.levels) (components (kind_at c.args.reader.code.now c.args.reader.id.index)) c.args.sent.field (row_of_values c.args.row.now.items) c.args.progress.now.skipped c.args.progress.now.left (bits_left c.args.bits.now)) (row_of_values c.read_present.new.row.items) c.read_present.new.progress (bits_left c.read_present.new.bits) (member_present c.args.reader.code.now c.args.reader.levels (components (kind_at c.args.reader.code.now c.args.reader.id.index)) c.args.sent (row_of_values c.args.row.now.items) c.args.progress.now.skipped c.args.progress.now.left (bits_left c.args.bits.now) c.if-sent.true) c.read_present.ensures.ok
+pub components::read_member-returns-then-sent-clause-ok : goal.components::read_member-returns-then-sent-clause-ok
+components::read_member-returns-then-sent-clause-ok t c = row_as c.read_present.result (run_member c.args.reader.code.now c.args.reader.levels (run_value c.args.reader.code.now c.args.reader.levels) (components (kind_at c.args.reader.code.now c.args.reader.id.index)) c.args.sent (row_of_values c.args.row.now.items) c.args.progress.now.skipped c.args.progress.now.left (bits_left c.args.bits.now)) (run_present c.args.reader.code.now (run_value c.args.reader.code.now c.args.reader.levels) (components (kind_at c.args.reader.code.now c.args.reader.id.index)) c.args.sent.field (row_of_values c.args.row.now.items) c.args.progress.now.skipped c.args.progress.now.left (bits_left c.args.bits.now)) (row_of_values c.read_present.new.row.items) c.read_present.new.progress (bits_left c.read_present.new.bits) (member_present c.args.reader.code.now c.args.reader.levels (components (kind_at c.args.reader.code.now c.args.reader.id.index)) c.args.sent (row_of_values c.args.row.now.items) c.args.progress.now.skipped c.args.progress.now.left (bits_left c.args.bits.now) c.if-sent.true) c.read_present.ensures.ok
 
--- src/run.rt:413:9
-pub read_member-returns-then-sent-clause-err : goal.read_member-returns-then-sent-clause-err
-read_member-returns-then-sent-clause-err t c = stops_as c.read_present.result (run_member c.args.reader.code.now c.args.reader.levels (run_value c.args.reader.code.now c.args.reader.levels) (components (kind_at c.args.reader.code.now c.args.reader.id.index)) c.args.sent (row_of_values c.args.row.now.items) c.args.progress.now.skipped c.args.progress.now.left (bits_left c.args.bits.now)) (run_present c.args.reader.code.now (run_value c.args.reader.code.now c.args.reader.levels) (components (kind_at c.args.reader.code.now c.args.reader.id.index)) c.args.sent.field (row_of_values c.args.row.now.items) c.args.progress.now.skipped c.args.progress.now.left (bits_left c.args.bits.now)) (bits_left c.read_present.new.bits) (member_present c.args.reader.code.now c.args.reader.levels (components (kind_at c.args.reader.code.now c.args.reader.id.index)) c.args.sent (row_of_values c.args.row.now.items) c.args.progress.now.skipped c.args.progress.now.left (bits_left c.args.bits.now) c.if-sent.true) c.read_present.ensures.err
+pub components::read_member-returns-then-sent-clause-err : goal.components::read_member-returns-then-sent-clause-err
+components::read_member-returns-then-sent-clause-err t c = stops_as c.read_present.result (run_member c.args.reader.code.now c.args.reader.levels (run_value c.args.reader.code.now c.args.reader.levels) (components (kind_at c.args.reader.code.now c.args.reader.id.index)) c.args.sent (row_of_values c.args.row.now.items) c.args.progress.now.skipped c.args.progress.now.left (bits_left c.args.bits.now)) (run_present c.args.reader.code.now (run_value c.args.reader.code.now c.args.reader.levels) (components (kind_at c.args.reader.code.now c.args.reader.id.index)) c.args.sent.field (row_of_values c.args.row.now.items) c.args.progress.now.skipped c.args.progress.now.left (bits_left c.args.bits.now)) (bits_left c.read_present.new.bits) (member_present c.args.reader.code.now c.args.reader.levels (components (kind_at c.args.reader.code.now c.args.reader.id.index)) c.args.sent (row_of_values c.args.row.now.items) c.args.progress.now.skipped c.args.progress.now.left (bits_left c.args.bits.now) c.if-sent.true) c.read_present.ensures.err
 
--- src/run.rt:413:9
-pub read_member-returns-then-sent-clause-went : goal.read_member-returns-then-sent-clause-went
-read_member-returns-then-sent-clause-went t c = c.read_present.ensures.went
+pub components::read_member-returns-then-sent-clause-went : goal.components::read_member-returns-then-sent-clause-went
+components::read_member-returns-then-sent-clause-went t c = c.read_present.ensures.went
 
--- src/run.rt:413:9
-pub read_member-returns-then-sent-clause-places : goal.read_member-returns-then-sent-clause-places
-read_member-returns-then-sent-clause-places t c = c.read_present.ensures.places
+pub components::read_member-returns-then-sent-clause-places : goal.components::read_member-returns-then-sent-clause-places
+components::read_member-returns-then-sent-clause-places t c = c.read_present.ensures.places
 
--- src/run.rt:415:8
-pub read_member-may_lack-requires-clause-there : goal.read_member-may_lack-requires-clause-there
-read_member-may_lack-requires-clause-there t c = (c.requires.fits.component, c.requires.fits.there)
+pub components::read_member-may_lack-requires-clause-there : goal.components::read_member-may_lack-requires-clause-there
+components::read_member-may_lack-requires-clause-there t c = (c.requires.fits.component, c.requires.fits.there)
 
--- src/run.rt:415:8
-pub read_member-may_lack-requires-clause-few : goal.read_member-may_lack-requires-clause-few
-read_member-may_lack-requires-clause-few t c = c.requires.few
+pub components::read_member-may_lack-requires-clause-few : goal.components::read_member-may_lack-requires-clause-few
+components::read_member-may_lack-requires-clause-few t c = c.requires.few
 
--- src/run.rt:416:9
-pub read_member-returns-then-may_lack-clause-ok : goal.read_member-returns-then-may_lack-clause-ok
-read_member-returns-then-may_lack-clause-ok t c = member_absent c.args.reader.code.now c.args.reader.levels (components (kind_at c.args.reader.code.now c.args.reader.id.index)) c.args.sent (row_of_values c.args.row.now.items) c.args.progress.now.skipped c.args.progress.now.left (bits_left c.args.bits.now) c.if-sent.false ∙ absent_ok c.args.reader.code.now c.args.reader.levels (components (kind_at c.args.reader.code.now c.args.reader.id.index)) c.args.sent.field (row_of_values c.args.row.now.items) c.args.progress.now.skipped c.args.progress.now.left (bits_left c.args.bits.now) c.requires.fits.component c.may_lack.result c.requires.fits.there (c.may_lack.ensures c.requires.fits.component c.requires.fits.there) c.if-may_lack.true
+pub components::read_member-returns-then-may_lack-clause-ok : goal.components::read_member-returns-then-may_lack-clause-ok
+components::read_member-returns-then-may_lack-clause-ok t c = member_absent c.args.reader.code.now c.args.reader.levels (components (kind_at c.args.reader.code.now c.args.reader.id.index)) c.args.sent (row_of_values c.args.row.now.items) c.args.progress.now.skipped c.args.progress.now.left (bits_left c.args.bits.now) c.if-sent.false ∙ absent_ok c.args.reader.code.now c.args.reader.levels (components (kind_at c.args.reader.code.now c.args.reader.id.index)) c.args.sent.field (row_of_values c.args.row.now.items) c.args.progress.now.skipped c.args.progress.now.left (bits_left c.args.bits.now) c.requires.fits.component c.may_lack.result c.requires.fits.there (c.may_lack.ensures c.requires.fits.component c.requires.fits.there) c.if-may_lack.true
 
-pub read_member-returns-then-may_lack-clause-went : goal.read_member-returns-then-may_lack-clause-went
-read_member-returns-then-may_lack-clause-went t c = went_same c.args.progress.now (bits_left c.args.bits.now)
+pub components::read_member-returns-then-may_lack-clause-went : goal.components::read_member-returns-then-may_lack-clause-went
+components::read_member-returns-then-may_lack-clause-went t c = went_same c.args.progress.now (bits_left c.args.bits.now)
 
-pub read_member-returns-then-may_lack-clause-places : goal.read_member-returns-then-may_lack-clause-places
-read_member-returns-then-may_lack-clause-places t c = refl
+pub components::read_member-returns-then-may_lack-clause-places : goal.components::read_member-returns-then-may_lack-clause-places
+components::read_member-returns-then-may_lack-clause-places t c = refl
 
--- src/run.rt:386:1
-pub read_member-returns-clause-err : goal.read_member-returns-clause-err
-read_member-returns-clause-err t c =
+pub components::read_member-returns-clause-err : goal.components::read_member-returns-clause-err
+components::read_member-returns-clause-err t c =
     stop_as (run_member c.args.reader.code.now c.args.reader.levels (run_value c.args.reader.code.now c.args.reader.levels) (components (kind_at c.args.reader.code.now c.args.reader.id.index)) c.args.sent (row_of_values c.args.row.now.items) c.args.progress.now.skipped c.args.progress.now.left (bits_left c.args.bits.now)) (run_absent c.args.reader.code.now c.args.reader.levels (components (kind_at c.args.reader.code.now c.args.reader.id.index)) c.args.sent.field (row_of_values c.args.row.now.items) c.args.progress.now.skipped c.args.progress.now.left (bits_left c.args.bits.now)) c.within.result (bits_left c.args.bits.now) (member_absent c.args.reader.code.now c.args.reader.levels (components (kind_at c.args.reader.code.now c.args.reader.id.index)) c.args.sent (row_of_values c.args.row.now.items) c.args.progress.now.skipped c.args.progress.now.left (bits_left c.args.bits.now) c.if-sent.false)
     (absent_deep c.args.reader.code.now c.args.reader.levels (components (kind_at c.args.reader.code.now c.args.reader.id.index)) c.args.sent.field (row_of_values c.args.row.now.items) c.args.progress.now.skipped c.args.progress.now.left (bits_left c.args.bits.now) c.requires.fits.component c.may_lack.result c.at-stop.result c.within.result c.requires.fits.there (c.may_lack.ensures c.requires.fits.component c.requires.fits.there) c.if-may_lack.false c.at-stop.ensures c.within.ensures)
 
--- src/run.rt:386:1
-pub read_member-returns-clause-places : goal.read_member-returns-clause-places
-read_member-returns-clause-places t c = refl
+pub components::read_member-returns-clause-places : goal.components::read_member-returns-clause-places
+components::read_member-returns-clause-places t c = refl
 
--- src/run.rt:376:5
-pub read_members-loop-i-init : goal.read_members-loop-i-init
-read_members-loop-i-init t c = (refl, went_same c.args.progress.now (bits_left c.args.bits.now), refl)
+pub components::read_members-loop-i-init : goal.components::read_members-loop-i-init
+components::read_members-loop-i-init t c = (refl, went_same c.args.progress.now (bits_left c.args.bits.now), refl)
 
--- src/run.rt:377:56
-pub read_members-bounds-sent-i : goal.read_members-bounds-sent-i
-read_members-bounds-sent-i t c = c.loop-i-test.true
+pub components::read_members-bounds-sent-i : goal.components::read_members-bounds-sent-i
+components::read_members-bounds-sent-i t c = c.loop-i-test.true
 
--- src/run.rt:377:15
-pub read_members-read_member-requires : goal.read_members-read_member-requires
-read_members-read_member-requires t c =
+pub components::read_members-read_member-requires : goal.components::read_members-read_member-requires
+components::read_members-read_member-requires t c =
     let d = c.decreases in
     let lt : 30 * c.args.reader.levels + 19 < t = omega (arith, d) in
     (lt, (c.requires.few, (room_left c.args.progress.now c.loop-i.progress (bits_left c.args.bits.now) (bits_left c.loop-i.bits) c.requires.room c.loop-i.invariant.1, (sent_there c.args.reader.code.now c.args.reader.id.index c.args.sent.now c.loop-i.i _ c.requires.fit (drop_more c.args.sent.now c.loop-i.i _ c.loop-i-test.true), c.loop-i.invariant.2 ∙ c.requires.places))))
 
--- src/run.rt:379:26
-pub read_members-returns-in-Err-clause-err : goal.read_members-returns-in-Err-clause-err
-read_members-returns-in-Err-clause-err t c = members_stop c.args.reader.code.now c.args.reader.levels (components (kind_at c.args.reader.code.now c.args.reader.id.index)) c.args.sent.now c.loop-i.i _ (row_of_values c.loop-i.row.items) c.loop-i.progress.skipped c.loop-i.progress.left (bits_left c.loop-i.bits) (drop_more c.args.sent.now c.loop-i.i _ c.loop-i-test.true) (run_members c.args.reader.code.now c.args.reader.levels (run_value c.args.reader.code.now c.args.reader.levels) (components (kind_at c.args.reader.code.now c.args.reader.id.index)) c.args.sent.now (row_of_values c.args.row.now.items) c.args.progress.now.skipped c.args.progress.now.left (bits_left c.args.bits.now)) c.in-Err.stop (bits_left c.read_member.new.bits) c.loop-i.invariant.0 c.in-Err.ensures.err
+pub components::read_members-returns-in-Err-clause-err : goal.components::read_members-returns-in-Err-clause-err
+components::read_members-returns-in-Err-clause-err t c = members_stop c.args.reader.code.now c.args.reader.levels (components (kind_at c.args.reader.code.now c.args.reader.id.index)) c.args.sent.now c.loop-i.i _ (row_of_values c.loop-i.row.items) c.loop-i.progress.skipped c.loop-i.progress.left (bits_left c.loop-i.bits) (drop_more c.args.sent.now c.loop-i.i _ c.loop-i-test.true) (run_members c.args.reader.code.now c.args.reader.levels (run_value c.args.reader.code.now c.args.reader.levels) (components (kind_at c.args.reader.code.now c.args.reader.id.index)) c.args.sent.now (row_of_values c.args.row.now.items) c.args.progress.now.skipped c.args.progress.now.left (bits_left c.args.bits.now)) c.in-Err.stop (bits_left c.read_member.new.bits) c.loop-i.invariant.0 c.in-Err.ensures.err
 
--- src/run.rt:379:26
-pub read_members-returns-in-Err-clause-places : goal.read_members-returns-in-Err-clause-places
-read_members-returns-in-Err-clause-places t c = c.in-Err.ensures.places ∙ c.loop-i.invariant.2
+pub components::read_members-returns-in-Err-clause-places : goal.components::read_members-returns-in-Err-clause-places
+components::read_members-returns-in-Err-clause-places t c = c.in-Err.ensures.places ∙ c.loop-i.invariant.2
 
--- src/run.rt:376:5
-pub read_members-loop-i-preserved : goal.read_members-loop-i-preserved
-read_members-loop-i-preserved t c = (
+pub components::read_members-loop-i-preserved : goal.components::read_members-loop-i-preserved
+components::read_members-loop-i-preserved t c = (
   members_next c.args.reader.code.now c.args.reader.levels (components (kind_at c.args.reader.code.now c.args.reader.id.index)) c.args.sent.now c.loop-i.i _ (row_of_values c.loop-i.row.items) c.loop-i.progress.skipped c.loop-i.progress.left (bits_left c.loop-i.bits) (drop_more c.args.sent.now c.loop-i.i _ c.loop-i-test.true) (run_members c.args.reader.code.now c.args.reader.levels (run_value c.args.reader.code.now c.args.reader.levels) (components (kind_at c.args.reader.code.now c.args.reader.id.index)) c.args.sent.now (row_of_values c.args.row.now.items) c.args.progress.now.skipped c.args.progress.now.left (bits_left c.args.bits.now)) (row_of_values c.read_member.new.row.items) c.read_member.new.progress.skipped c.read_member.new.progress.left (bits_left c.read_member.new.bits) c.loop-i.invariant.0 c.in-Ok.ensures.ok,
   both_went c.args.progress.now c.loop-i.progress c.read_member.new.progress (bits_left c.args.bits.now) (bits_left c.loop-i.bits) (bits_left c.read_member.new.bits) c.loop-i.invariant.1 c.in-Ok.ensures.went,
   c.in-Ok.ensures.places ∙ c.loop-i.invariant.2,
 )
 
--- src/run.rt:350:1
-pub read_members-returns-clause-ok : goal.read_members-returns-clause-ok
-read_members-returns-clause-ok t c = members_end c.args.reader.code.now c.args.reader.levels (components (kind_at c.args.reader.code.now c.args.reader.id.index)) c.args.sent.now c.loop-i.i (row_of_values c.loop-i.row.items) c.loop-i.progress.skipped c.loop-i.progress.left (bits_left c.loop-i.bits) (run_members c.args.reader.code.now c.args.reader.levels (run_value c.args.reader.code.now c.args.reader.levels) (components (kind_at c.args.reader.code.now c.args.reader.id.index)) c.args.sent.now (row_of_values c.args.row.now.items) c.args.progress.now.skipped c.args.progress.now.left (bits_left c.args.bits.now)) (let h = c.loop-i-test.false in omega (arith, h)) c.loop-i.invariant.0
+pub components::read_members-returns-clause-ok : goal.components::read_members-returns-clause-ok
+components::read_members-returns-clause-ok t c = members_end c.args.reader.code.now c.args.reader.levels (components (kind_at c.args.reader.code.now c.args.reader.id.index)) c.args.sent.now c.loop-i.i (row_of_values c.loop-i.row.items) c.loop-i.progress.skipped c.loop-i.progress.left (bits_left c.loop-i.bits) (run_members c.args.reader.code.now c.args.reader.levels (run_value c.args.reader.code.now c.args.reader.levels) (components (kind_at c.args.reader.code.now c.args.reader.id.index)) c.args.sent.now (row_of_values c.args.row.now.items) c.args.progress.now.skipped c.args.progress.now.left (bits_left c.args.bits.now)) (let h = c.loop-i-test.false in omega (arith, h)) c.loop-i.invariant.0
 
--- src/run.rt:350:1
-pub read_members-returns-clause-went : goal.read_members-returns-clause-went
-read_members-returns-clause-went t c = c.loop-i.invariant.1
+pub components::read_members-returns-clause-went : goal.components::read_members-returns-clause-went
+components::read_members-returns-clause-went t c = c.loop-i.invariant.1
 
--- src/run.rt:350:1
-pub read_members-returns-clause-places : goal.read_members-returns-clause-places
-read_members-returns-clause-places t c = c.loop-i.invariant.2
+pub components::read_members-returns-clause-places : goal.components::read_members-returns-clause-places
+components::read_members-returns-clause-places t c = c.loop-i.invariant.2
 
--- src/run.rt:251:22
-pub read_opened-returns-in-Err-clause-err : goal.read_opened-returns-in-Err-clause-err
-read_opened-returns-in-Err-clause-err t c =
+pub value::read_opened-returns-in-Err-clause-err : goal.value::read_opened-returns-in-Err-clause-err
+value::read_opened-returns-in-Err-clause-err t c =
     let s = c.args.reader.code.now in
     let l = c.args.reader.levels in
     let k = c.args.progress.now.skipped in
@@ -1181,13 +1050,11 @@ read_opened-returns-in-Err-clause-err t c =
     let b = bits_left c.args.bits.now in
     open_none (run_value s l c.args.reader.id.index k n) b (bits_left c.take_octets.new.bits) c.in-Err.stop c.in-Err.ensures.err
 
--- src/run.rt:253:21
-pub read_opened-of-inner-requires : goal.read_opened-of-inner-requires
-read_opened-of-inner-requires t c = octets_few c.args.progress.now (bits_left c.args.bits.now) (bits_left c.take_octets.new.bits) c.in-Ok.octets.items c.as_slice.result.now c.as_slice.ensures.value c.in-Ok.ensures.shorter c.requires.room
+pub value::read_opened-of-inner-requires : goal.value::read_opened-of-inner-requires
+value::read_opened-of-inner-requires t c = octets_few c.args.progress.now (bits_left c.args.bits.now) (bits_left c.take_octets.new.bits) c.in-Ok.octets.items c.as_slice.result.now c.as_slice.ensures.value c.in-Ok.ensures.shorter c.requires.room
 
--- src/run.rt:255:22
-pub read_opened-read_value-requires : goal.read_opened-read_value-requires
-read_opened-read_value-requires t c =
+pub value::read_opened-read_value-requires : goal.value::read_opened-read_value-requires
+value::read_opened-read_value-requires t c =
     let s = c.args.reader.code.now in
     let l = c.args.reader.levels in
     let k = c.args.progress.now.skipped in
@@ -1202,9 +1069,8 @@ read_opened-read_value-requires t c =
     let few : c.args.reader.levels ≤ 64 = let m = c.requires.few in omega (arith, m) in
     (lt, (few, inner_room c.args.progress.now b r i o sl h c.requires.room))
 
--- src/run.rt:257:22
-pub read_opened-overflow_sub-all : goal.read_opened-overflow_sub-all
-read_opened-overflow_sub-all t c =
+pub value::read_opened-overflow_sub-all : goal.value::read_opened-overflow_sub-all
+value::read_opened-overflow_sub-all t c =
     let s = c.args.reader.code.now in
     let l = c.args.reader.levels in
     let k = c.args.progress.now.skipped in
@@ -1222,9 +1088,8 @@ read_opened-overflow_sub-all t c =
     let u = c.len-all.ensures in
     omega (arith, y, z, u)
 
--- src/run.rt:258:17
-pub read_opened-returns-then-fills-clause-ok : goal.read_opened-returns-then-fills-clause-ok
-read_opened-returns-then-fills-clause-ok t c =
+pub value::read_opened-returns-then-fills-clause-ok : goal.value::read_opened-returns-then-fills-clause-ok
+value::read_opened-returns-then-fills-clause-ok t c =
     let s = c.args.reader.code.now in
     let l = c.args.reader.levels in
     let k = c.args.progress.now.skipped in
@@ -1238,9 +1103,8 @@ read_opened-returns-then-fills-clause-ok t c =
     let h : Octets b r i o sl = record { is = c.of-inner.ensures; same = c.as_slice.ensures.value; shorter = c.in-Ok.ensures.shorter } in
     inner_good f b r i o sl h c.in-Ok.ensures.ok (bits_left c.read_value.new.bits) (taken (abstract c.in-Ok-read_value.value) c.read_value.new.progress.skipped c.read_value.new.progress.left) c.len-all.result c.len.result c.fills.result c.in-Ok-read_value.ensures.ok c.len-all.ensures c.len.ensures c.fills.ensures c.if-fills.true
 
--- src/run.rt:258:17
-pub read_opened-returns-then-fills-clause-went : goal.read_opened-returns-then-fills-clause-went
-read_opened-returns-then-fills-clause-went t c =
+pub value::read_opened-returns-then-fills-clause-went : goal.value::read_opened-returns-then-fills-clause-went
+value::read_opened-returns-then-fills-clause-went t c =
     let s = c.args.reader.code.now in
     let l = c.args.reader.levels in
     let k = c.args.progress.now.skipped in
@@ -1253,9 +1117,8 @@ read_opened-returns-then-fills-clause-went t c =
     let h : Octets b r i o sl = record { is = c.of-inner.ensures; same = c.as_slice.ensures.value; shorter = c.in-Ok.ensures.shorter } in
     inner_went c.args.progress.now c.read_value.new.progress b r i (bits_left c.read_value.new.bits) o sl h c.in-Ok-read_value.ensures.went
 
--- src/run.rt:264:13
-pub read_opened-fault_place-requires : goal.read_opened-fault_place-requires
-read_opened-fault_place-requires t c =
+pub value::read_opened-fault_place-requires : goal.value::read_opened-fault_place-requires
+value::read_opened-fault_place-requires t c =
     let s = c.args.reader.code.now in
     let l = c.args.reader.levels in
     let k = c.args.progress.now.skipped in
@@ -1268,9 +1131,8 @@ read_opened-fault_place-requires t c =
     let h : Octets b r i o sl = record { is = c.of-inner.ensures; same = c.as_slice.ensures.value; shorter = c.in-Ok.ensures.shorter } in
     place_room b r i o sl c.len-all.result c.len-2.result c.min-left.result h c.len-all.ensures c.min-left.ensures
 
--- src/run.rt:227:1
-pub read_opened-returns-clause-err : goal.read_opened-returns-clause-err
-read_opened-returns-clause-err t c =
+pub value::read_opened-returns-clause-err : goal.value::read_opened-returns-clause-err
+value::read_opened-returns-clause-err t c =
     let s = c.args.reader.code.now in
     let l = c.args.reader.levels in
     let k = c.args.progress.now.skipped in
@@ -1289,45 +1151,41 @@ read_opened-returns-clause-err t c =
     = λ v a t x g e u w q j. inner_bad f b r i o sl h c.in-Ok.ensures.ok z p v c.len-all.result a c.len-2.result c.len-3.result c.min-left.result t x y
     (λ v. c.inside_laws.ensures.value_read s l c.args.reader.id.index k n i z v c.accepted.ensures) g c.len-all.ensures e u w q j (c.len-3.ensures ∙ c.in-Ok.octets.ok.0) c.len-2.ensures c.min-left.ensures c.fault_place.ensures in
     elim c.match-read_value.branch [
-      | goal.read_opened-in-Ok-read_value+else-fills+in-Bits-1 w ↦ bad (taken (abstract w.in-Ok-read_value.value) c.read_value.new.progress.skipped c.read_value.new.progress.left) w.len.result w.fills.result w.at-stop.result w.in-Ok-read_value.ensures.ok w.len.ensures w.fills.ensures w.if-fills.false w.at-stop.ensures w.stop-is
-      | goal.read_opened-in-Ok-read_value+else-fills+in-Octets-1 w ↦ bad (taken (abstract w.in-Ok-read_value.value) c.read_value.new.progress.skipped c.read_value.new.progress.left) w.len.result w.fills.result w.at-stop.result w.in-Ok-read_value.ensures.ok w.len.ensures w.fills.ensures w.if-fills.false w.at-stop.ensures w.stop-is
-      | goal.read_opened-in-Ok-read_value+else-fills+in-Text-1 w ↦ bad (taken (abstract w.in-Ok-read_value.value) c.read_value.new.progress.skipped c.read_value.new.progress.left) w.len.result w.fills.result w.at-stop.result w.in-Ok-read_value.ensures.ok w.len.ensures w.fills.ensures w.if-fills.false w.at-stop.ensures w.stop-is
-      | goal.read_opened-in-Ok-read_value+else-fills+in-Oid-1 w ↦ bad (taken (abstract w.in-Ok-read_value.value) c.read_value.new.progress.skipped c.read_value.new.progress.left) w.len.result w.fills.result w.at-stop.result w.in-Ok-read_value.ensures.ok w.len.ensures w.fills.ensures w.if-fills.false w.at-stop.ensures w.stop-is
-      | goal.read_opened-in-Ok-read_value+else-fills+in-RelativeOid-1 w ↦ bad (taken (abstract w.in-Ok-read_value.value) c.read_value.new.progress.skipped c.read_value.new.progress.left) w.len.result w.fills.result w.at-stop.result w.in-Ok-read_value.ensures.ok w.len.ensures w.fills.ensures w.if-fills.false w.at-stop.ensures w.stop-is
-      | goal.read_opened-in-Ok-read_value+else-fills+in-Fields-1 w ↦ bad (taken (abstract w.in-Ok-read_value.value) c.read_value.new.progress.skipped c.read_value.new.progress.left) w.len.result w.fills.result w.at-stop.result w.in-Ok-read_value.ensures.ok w.len.ensures w.fills.ensures w.if-fills.false w.at-stop.ensures w.stop-is
-      | goal.read_opened-in-Ok-read_value+else-fills+in-List-1 w ↦ bad (taken (abstract w.in-Ok-read_value.value) c.read_value.new.progress.skipped c.read_value.new.progress.left) w.len.result w.fills.result w.at-stop.result w.in-Ok-read_value.ensures.ok w.len.ensures w.fills.ensures w.if-fills.false w.at-stop.ensures w.stop-is
-      | goal.read_opened-in-Ok-read_value+else-fills+in-Alt-1 w ↦ bad (taken (abstract w.in-Ok-read_value.value) c.read_value.new.progress.skipped c.read_value.new.progress.left) w.len.result w.fills.result w.at-stop.result w.in-Ok-read_value.ensures.ok w.len.ensures w.fills.ensures w.if-fills.false w.at-stop.ensures w.stop-is
-      | goal.read_opened-in-Ok-read_value+else-fills+in-Bool-1 w ↦ bad (taken (abstract w.in-Ok-read_value.value) c.read_value.new.progress.skipped c.read_value.new.progress.left) w.len.result w.fills.result w.at-stop.result w.in-Ok-read_value.ensures.ok w.len.ensures w.fills.ensures w.if-fills.false w.at-stop.ensures w.stop-is
-      | goal.read_opened-in-Err-read_value w ↦ inner_stop f b r i o sl h c.in-Ok.ensures.ok z p c.len-all.result c.len-2.result c.len-3.result c.min-left.result w.in-Err-read_value.stop y
+      | goal.value::read_opened-in-Ok-read_value+else-fills+in-Bits-1 w ↦ bad (taken (abstract w.in-Ok-read_value.value) c.read_value.new.progress.skipped c.read_value.new.progress.left) w.len.result w.fills.result w.at-stop.result w.in-Ok-read_value.ensures.ok w.len.ensures w.fills.ensures w.if-fills.false w.at-stop.ensures w.stop-is
+      | goal.value::read_opened-in-Ok-read_value+else-fills+in-Octets-1 w ↦ bad (taken (abstract w.in-Ok-read_value.value) c.read_value.new.progress.skipped c.read_value.new.progress.left) w.len.result w.fills.result w.at-stop.result w.in-Ok-read_value.ensures.ok w.len.ensures w.fills.ensures w.if-fills.false w.at-stop.ensures w.stop-is
+      | goal.value::read_opened-in-Ok-read_value+else-fills+in-Text-1 w ↦ bad (taken (abstract w.in-Ok-read_value.value) c.read_value.new.progress.skipped c.read_value.new.progress.left) w.len.result w.fills.result w.at-stop.result w.in-Ok-read_value.ensures.ok w.len.ensures w.fills.ensures w.if-fills.false w.at-stop.ensures w.stop-is
+      | goal.value::read_opened-in-Ok-read_value+else-fills+in-Oid-1 w ↦ bad (taken (abstract w.in-Ok-read_value.value) c.read_value.new.progress.skipped c.read_value.new.progress.left) w.len.result w.fills.result w.at-stop.result w.in-Ok-read_value.ensures.ok w.len.ensures w.fills.ensures w.if-fills.false w.at-stop.ensures w.stop-is
+      | goal.value::read_opened-in-Ok-read_value+else-fills+in-RelativeOid-1 w ↦ bad (taken (abstract w.in-Ok-read_value.value) c.read_value.new.progress.skipped c.read_value.new.progress.left) w.len.result w.fills.result w.at-stop.result w.in-Ok-read_value.ensures.ok w.len.ensures w.fills.ensures w.if-fills.false w.at-stop.ensures w.stop-is
+      | goal.value::read_opened-in-Ok-read_value+else-fills+in-Fields-1 w ↦ bad (taken (abstract w.in-Ok-read_value.value) c.read_value.new.progress.skipped c.read_value.new.progress.left) w.len.result w.fills.result w.at-stop.result w.in-Ok-read_value.ensures.ok w.len.ensures w.fills.ensures w.if-fills.false w.at-stop.ensures w.stop-is
+      | goal.value::read_opened-in-Ok-read_value+else-fills+in-List-1 w ↦ bad (taken (abstract w.in-Ok-read_value.value) c.read_value.new.progress.skipped c.read_value.new.progress.left) w.len.result w.fills.result w.at-stop.result w.in-Ok-read_value.ensures.ok w.len.ensures w.fills.ensures w.if-fills.false w.at-stop.ensures w.stop-is
+      | goal.value::read_opened-in-Ok-read_value+else-fills+in-Alt-1 w ↦ bad (taken (abstract w.in-Ok-read_value.value) c.read_value.new.progress.skipped c.read_value.new.progress.left) w.len.result w.fills.result w.at-stop.result w.in-Ok-read_value.ensures.ok w.len.ensures w.fills.ensures w.if-fills.false w.at-stop.ensures w.stop-is
+      | goal.value::read_opened-in-Ok-read_value+else-fills+in-Bool-1 w ↦ bad (taken (abstract w.in-Ok-read_value.value) c.read_value.new.progress.skipped c.read_value.new.progress.left) w.len.result w.fills.result w.at-stop.result w.in-Ok-read_value.ensures.ok w.len.ensures w.fills.ensures w.if-fills.false w.at-stop.ensures w.stop-is
+      | goal.value::read_opened-in-Err-read_value w ↦ inner_stop f b r i o sl h c.in-Ok.ensures.ok z p c.len-all.result c.len-2.result c.len-3.result c.min-left.result w.in-Err-read_value.stop y
           (λ d. c.inside_laws.ensures.value_refused s l c.args.reader.id.index k n i z d c.accepted.ensures) w.in-Err-read_value.ensures.err c.len-all.ensures w.stop-is (c.len-3.ensures ∙ c.in-Ok.octets.ok.0) c.len-2.ensures c.min-left.ensures c.fault_place.ensures
     ]
 
--- src/run.rt:894:18
-pub read_part-overflow_cast-before : goal.read_part-overflow_cast-before
-read_part-overflow_cast-before t c =
+pub elements::read_part-overflow_cast-before : goal.elements::read_part-overflow_cast-before
+elements::read_part-overflow_cast-before t c =
     let e = c.len-before.ensures in
     let l = c.args.list.now.values.ok.1 in
     let s = c.args.list.now.values.small in
     omega (arith, e, l, s)
 
--- src/run.rt:896:11
-pub read_part-read_total-requires : goal.read_part-read_total-requires
-read_part-read_total-requires t c =
+pub elements::read_part-read_total-requires : goal.elements::read_part-read_total-requires
+elements::read_part-read_total-requires t c =
     let e = c.len-before.ensures in
     let l = c.args.list.now.values.ok.1 in
     let s = c.args.list.now.values.small in
     omega (arith, e, l, s)
 
--- src/run.rt:898:19
-pub read_part-read_elements-requires : goal.read_part-read_elements-requires
-read_part-read_elements-requires t c =
+pub elements::read_part-read_elements-requires : goal.elements::read_part-read_elements-requires
+elements::read_part-read_elements-requires t c =
     let lt : 30 * c.args.reader.levels + 24 < t = let d = c.decreases in omega (arith, d) in
     (lt, (c.requires.few, room_before c.args.progress.now (bits_left c.args.bits.now) (bits_left c.read_total.new.bits) c.in-Ok-Last.ensures.shorter c.requires.room))
 
--- src/run.rt:900:30
-pub read_part-returns-in-Err-read_elements-clause-err :
-    goal.read_part-returns-in-Err-read_elements-clause-err
-read_part-returns-in-Err-read_elements-clause-err t c =
+pub elements::read_part-returns-in-Err-read_elements-clause-err :
+    goal.elements::read_part-returns-in-Err-read_elements-clause-err
+elements::read_part-returns-in-Err-read_elements-clause-err t c =
     λ f.
     let value = run_value c.args.reader.code.now c.args.reader.levels c.args.reader.id.index in
     let sorted = c.args.fragment.size.sorted in
@@ -1341,23 +1199,20 @@ read_part-returns-in-Err-read_elements-clause-err t c =
     let e = told_at test full c.len-before.result (length es.values) b r c.in-Ok-Last.field-0 (last c.in-Ok-Last.count) i c.in-Ok-Last.field-0-is c.in-Ok-Last.ensures.is in
     stop_last value sorted test f full es p.skipped p.left c.in-Ok-Last.count b r (bits_left c.read_elements.new.bits) c.in-Err-read_elements.stop e c.in-Err-read_elements.ensures.err
 
--- src/run.rt:905:25
-pub read_part-overflow_mul-count : goal.read_part-overflow_mul-count
-read_part-overflow_mul-count t c =
+pub elements::read_part-overflow_mul-count : goal.elements::read_part-overflow_mul-count
+elements::read_part-overflow_mul-count t c =
     let few = subst IsFewParts c.in-Ok-Part.field-0-is c.in-Ok-Part.ensures.few in
     let l = few.1 in
     omega (arith, l)
 
--- src/run.rt:906:19
-pub read_part-read_elements-requires-in-Ok-Part : goal.read_part-read_elements-requires-in-Ok-Part
-read_part-read_elements-requires-in-Ok-Part t c =
+pub elements::read_part-read_elements-requires-in-Ok-Part : goal.elements::read_part-read_elements-requires-in-Ok-Part
+elements::read_part-read_elements-requires-in-Ok-Part t c =
     let lt : 30 * c.args.reader.levels + 24 < t = let d = c.decreases in omega (arith, d) in
     (lt, (c.requires.few, room_before c.args.progress.now (bits_left c.args.bits.now) (bits_left c.read_total.new.bits) c.in-Ok-Part.ensures.shorter c.requires.room))
 
--- src/run.rt:908:30
-pub read_part-returns-in-Err-read_elements-2-clause-err :
-    goal.read_part-returns-in-Err-read_elements-2-clause-err
-read_part-returns-in-Err-read_elements-2-clause-err t c =
+pub elements::read_part-returns-in-Err-read_elements-2-clause-err :
+    goal.elements::read_part-returns-in-Err-read_elements-2-clause-err
+elements::read_part-returns-in-Err-read_elements-2-clause-err t c =
     λ f.
     let value = run_value c.args.reader.code.now c.args.reader.levels c.args.reader.id.index in
     let sorted = c.args.fragment.size.sorted in
@@ -1371,9 +1226,8 @@ read_part-returns-in-Err-read_elements-2-clause-err t c =
     let e = told_at test full c.len-before.result (length es.values) b r c.in-Ok-Part.field-0 (part c.in-Ok-Part.times) i c.in-Ok-Part.field-0-is c.in-Ok-Part.ensures.is in
     stop_more value sorted test f full es p.skipped p.left c.in-Ok-Part.times b r (bits_left c.read_elements-in-Ok-Part.new.bits) c.in-Err-read_elements-2.stop e c.in-Err-read_elements-2.ensures.err
 
--- src/run.rt:873:1
-pub read_part-returns-in-Ok-clause-ok : goal.read_part-returns-in-Ok-clause-ok
-read_part-returns-in-Ok-clause-ok t c =
+pub elements::read_part-returns-in-Ok-clause-ok : goal.elements::read_part-returns-in-Ok-clause-ok
+elements::read_part-returns-in-Ok-clause-ok t c =
     λ f.
     let value = run_value c.args.reader.code.now c.args.reader.levels c.args.reader.id.index in
     let sorted = c.args.fragment.size.sorted in
@@ -1387,14 +1241,12 @@ read_part-returns-in-Ok-clause-ok t c =
     let e = told_at test full c.len-before.result (length es.values) b r c.in-Ok-Last.field-0 (last c.in-Ok-Last.count) i c.in-Ok-Last.field-0-is c.in-Ok-Last.ensures.is in
     part_last value sorted test f full es (gathered c.read_elements.new.list) p.skipped p.left c.read_elements.new.progress.skipped c.read_elements.new.progress.left c.in-Ok-Last.count b r (bits_left c.read_elements.new.bits) e c.in-Ok.ensures.ok
 
--- src/run.rt:873:1
-pub read_part-returns-in-Ok-clause-went : goal.read_part-returns-in-Ok-clause-went
-read_part-returns-in-Ok-clause-went t c = went_before c.args.progress.now c.read_elements.new.progress (bits_left c.args.bits.now) (bits_left c.read_total.new.bits) (bits_left c.read_elements.new.bits) c.in-Ok-Last.ensures.shorter c.in-Ok.ensures.went
+pub elements::read_part-returns-in-Ok-clause-went : goal.elements::read_part-returns-in-Ok-clause-went
+elements::read_part-returns-in-Ok-clause-went t c = went_before c.args.progress.now c.read_elements.new.progress (bits_left c.args.bits.now) (bits_left c.read_total.new.bits) (bits_left c.read_elements.new.bits) c.in-Ok-Last.ensures.shorter c.in-Ok.ensures.went
 
--- src/run.rt:873:1
-pub read_part-returns-in-Ok-read_elements-clause-ok :
-    goal.read_part-returns-in-Ok-read_elements-clause-ok
-read_part-returns-in-Ok-read_elements-clause-ok t c =
+pub elements::read_part-returns-in-Ok-read_elements-clause-ok :
+    goal.elements::read_part-returns-in-Ok-read_elements-clause-ok
+elements::read_part-returns-in-Ok-read_elements-clause-ok t c =
     λ f.
     let value = run_value c.args.reader.code.now c.args.reader.levels c.args.reader.id.index in
     let sorted = c.args.fragment.size.sorted in
@@ -1408,23 +1260,20 @@ read_part-returns-in-Ok-read_elements-clause-ok t c =
     let e = told_at test full c.len-before.result (length es.values) b r c.in-Ok-Part.field-0 (part c.in-Ok-Part.times) i c.in-Ok-Part.field-0-is c.in-Ok-Part.ensures.is in
     part_more value sorted test f full es (gathered c.read_elements-in-Ok-Part.new.list) p.skipped p.left c.read_elements-in-Ok-Part.new.progress.skipped c.read_elements-in-Ok-Part.new.progress.left c.in-Ok-Part.times b r (bits_left c.read_elements-in-Ok-Part.new.bits) e c.in-Ok-read_elements.ensures.ok
 
--- src/run.rt:873:1
-pub read_part-returns-in-Ok-read_elements-clause-went :
-    goal.read_part-returns-in-Ok-read_elements-clause-went
-read_part-returns-in-Ok-read_elements-clause-went t c = went_before c.args.progress.now c.read_elements-in-Ok-Part.new.progress (bits_left c.args.bits.now) (bits_left c.read_total.new.bits) (bits_left c.read_elements-in-Ok-Part.new.bits) c.in-Ok-Part.ensures.shorter c.in-Ok-read_elements.ensures.went
+pub elements::read_part-returns-in-Ok-read_elements-clause-went :
+    goal.elements::read_part-returns-in-Ok-read_elements-clause-went
+elements::read_part-returns-in-Ok-read_elements-clause-went t c = went_before c.args.progress.now c.read_elements-in-Ok-Part.new.progress (bits_left c.args.bits.now) (bits_left c.read_total.new.bits) (bits_left c.read_elements-in-Ok-Part.new.bits) c.in-Ok-Part.ensures.shorter c.in-Ok-read_elements.ensures.went
 
--- src/run.rt:873:1
-pub read_part-returns-in-Ok-read_elements-clause-fewer :
-    goal.read_part-returns-in-Ok-read_elements-clause-fewer
-read_part-returns-in-Ok-read_elements-clause-fewer t c =
+pub elements::read_part-returns-in-Ok-read_elements-clause-fewer :
+    goal.elements::read_part-returns-in-Ok-read_elements-clause-fewer
+elements::read_part-returns-in-Ok-read_elements-clause-fewer t c =
     let few = subst IsFewParts c.in-Ok-Part.field-0-is c.in-Ok-Part.ensures.few in
     let l = few.0 in
     let h = c.in-Ok-read_elements.ensures.fewer in
     omega (arith, l, h)
 
--- src/run.rt:873:1
-pub read_part-returns-in-Err-clause-err : goal.read_part-returns-in-Err-clause-err
-read_part-returns-in-Err-clause-err t c =
+pub elements::read_part-returns-in-Err-clause-err : goal.elements::read_part-returns-in-Err-clause-err
+elements::read_part-returns-in-Err-clause-err t c =
     λ f.
     let value = run_value c.args.reader.code.now c.args.reader.levels c.args.reader.id.index in
     let sorted = c.args.fragment.size.sorted in
@@ -1437,9 +1286,8 @@ read_part-returns-in-Err-clause-err t c =
     let i : c.len-before.result ≡ length es.values = c.len-before.ensures ∙ c.args.list.now.values.ok.0 ∙ sym (length-map c.args.list.now.values.items abstract) in
     stop_told value sorted test f full es c.len-before.result p.skipped p.left b r c.in-Err.refusal c.at.result i c.in-Err.ensures.is c.at.ensures
 
--- src/run.rt:855:5
-pub read_parts-loop-more-init : goal.read_parts-loop-more-init
-read_parts-loop-more-init t c =
+pub elements::read_parts-loop-more-init : goal.elements::read_parts-loop-more-init
+elements::read_parts-loop-more-init t c =
     let value = run_value c.args.reader.code.now c.args.reader.levels c.args.reader.id.index in
     let sorted = c.args.size.sorted in
     let test = size_fault (constraint_of c.args.size.constraint.now) c.args.size.outside in
@@ -1448,20 +1296,17 @@ read_parts-loop-more-init t c =
     let all = run_parts value sorted test (suc p.left) true (gathered c.args.list.now) p.skipped p.left b in
     (so_far_first value sorted test all true (gathered c.args.list.now) p b refl, went_same p b)
 
--- src/run.rt:856:15
-pub read_parts-read_part-requires : goal.read_parts-read_part-requires
-read_parts-read_part-requires t c =
+pub elements::read_parts-read_part-requires : goal.elements::read_parts-read_part-requires
+elements::read_parts-read_part-requires t c =
     let lt : 30 * c.args.reader.levels + 25 < t = let d = c.decreases in omega (arith, d) in
     (lt, (c.requires.few, room_after c.args.progress.now c.loop-more.progress (bits_left c.args.bits.now) (bits_left c.loop-more.bits) c.loop-more.invariant.1 c.requires.room))
 
--- src/run.rt:855:5
-pub read_parts-loop-more-smaller-in-Ok-Nothing : goal.read_parts-loop-more-smaller-in-Ok-Nothing
-read_parts-loop-more-smaller-in-Ok-Nothing t c = less_last c.loop-more.more c.read_part.new.progress.left c.loop-more.progress.left c.loop-more-test.true c.in-Ok-Nothing.ensures.went.left
+pub elements::read_parts-loop-more-smaller-in-Ok-Nothing : goal.elements::read_parts-loop-more-smaller-in-Ok-Nothing
+elements::read_parts-loop-more-smaller-in-Ok-Nothing t c = less_last c.loop-more.more c.read_part.new.progress.left c.loop-more.progress.left c.loop-more-test.true c.in-Ok-Nothing.ensures.went.left
 
--- src/run.rt:855:5
-pub read_parts-loop-more-preserved-in-Ok-Nothing :
-    goal.read_parts-loop-more-preserved-in-Ok-Nothing
-read_parts-loop-more-preserved-in-Ok-Nothing t c =
+pub elements::read_parts-loop-more-preserved-in-Ok-Nothing :
+    goal.elements::read_parts-loop-more-preserved-in-Ok-Nothing
+elements::read_parts-loop-more-preserved-in-Ok-Nothing t c =
     let value = run_value c.args.reader.code.now c.args.reader.levels c.args.reader.id.index in
     let sorted = c.args.size.sorted in
     let test = size_fault (constraint_of c.args.size.constraint.now) c.args.size.outside in
@@ -1477,16 +1322,14 @@ read_parts-loop-more-preserved-in-Ok-Nothing t c =
     let g = subst (λ y. IsPart value (record { size = c.args.size; full = c.loop-more.full }) es q z y fs u r) c.in-Ok-Nothing.field-0-is c.in-Ok-Nothing.ensures.ok in
     (so_far_last value sorted test all c.loop-more.more c.loop-more.full c.loop-more.full es fs q u z r c.loop-more-test.true c.loop-more.invariant.0 g, went_on p q u b z r c.loop-more.invariant.1 c.in-Ok-Nothing.ensures.went)
 
--- src/run.rt:855:5
-pub read_parts-loop-more-smaller : goal.read_parts-loop-more-smaller
-read_parts-loop-more-smaller t c =
+pub elements::read_parts-loop-more-smaller : goal.elements::read_parts-loop-more-smaller
+elements::read_parts-loop-more-smaller t c =
     let u = c.read_part.new.progress.left in
     let q = c.loop-more.progress.left in
     less_more c.loop-more.more u q (subst (λ y. IsLess y u q) c.in-Ok-More.field-0-is c.in-Ok-More.ensures.fewer)
 
--- src/run.rt:855:5
-pub read_parts-loop-more-preserved : goal.read_parts-loop-more-preserved
-read_parts-loop-more-preserved t c =
+pub elements::read_parts-loop-more-preserved : goal.elements::read_parts-loop-more-preserved
+elements::read_parts-loop-more-preserved t c =
     let value = run_value c.args.reader.code.now c.args.reader.levels c.args.reader.id.index in
     let sorted = c.args.size.sorted in
     let test = size_fault (constraint_of c.args.size.constraint.now) c.args.size.outside in
@@ -1504,9 +1347,8 @@ read_parts-loop-more-preserved t c =
     let h = so_far_more value sorted test all c.loop-more.more c.loop-more.full c.in-Ok-More.next es fs q u z r c.loop-more-test.true l c.loop-more.invariant.0 g in
     (subst (λ y. IsSoFar value sorted test all y c.in-Ok-More.next fs u r) (sym c.loop-more-test.true) h, went_on p q u b z r c.loop-more.invariant.1 c.in-Ok-More.ensures.went)
 
--- src/run.rt:859:26
-pub read_parts-returns-in-Err-clause-err : goal.read_parts-returns-in-Err-clause-err
-read_parts-returns-in-Err-clause-err t c =
+pub elements::read_parts-returns-in-Err-clause-err : goal.elements::read_parts-returns-in-Err-clause-err
+elements::read_parts-returns-in-Err-clause-err t c =
     let value = run_value c.args.reader.code.now c.args.reader.levels c.args.reader.id.index in
     let sorted = c.args.size.sorted in
     let test = size_fault (constraint_of c.args.size.constraint.now) c.args.size.outside in
@@ -1518,9 +1360,8 @@ read_parts-returns-in-Err-clause-err t c =
     let z = bits_left c.loop-more.bits in
     so_far_stops value sorted test all c.loop-more.more c.loop-more.full es q z (bits_left c.read_part.new.bits) c.in-Err.stop c.loop-more-test.true c.loop-more.invariant.0 c.in-Err.ensures.err
 
--- src/run.rt:830:1
-pub read_parts-returns-clause-ok : goal.read_parts-returns-clause-ok
-read_parts-returns-clause-ok t c =
+pub elements::read_parts-returns-clause-ok : goal.elements::read_parts-returns-clause-ok
+elements::read_parts-returns-clause-ok t c =
     let value = run_value c.args.reader.code.now c.args.reader.levels c.args.reader.id.index in
     let sorted = c.args.size.sorted in
     let test = size_fault (constraint_of c.args.size.constraint.now) c.args.size.outside in
@@ -1532,275 +1373,229 @@ read_parts-returns-clause-ok t c =
     let z = bits_left c.loop-more.bits in
     so_far_all value sorted test all c.loop-more.more c.loop-more.full es q z c.loop-more-test.false c.loop-more.invariant.0
 
--- src/run.rt:830:1
-pub read_parts-returns-clause-went : goal.read_parts-returns-clause-went
-read_parts-returns-clause-went t c = c.loop-more.invariant.1
+pub elements::read_parts-returns-clause-went : goal.elements::read_parts-returns-clause-went
+elements::read_parts-returns-clause-went t c = c.loop-more.invariant.1
 
--- src/run.rt:170:13
-pub read_pick-core-requires : goal.read_pick-core-requires
-read_pick-core-requires t c = subst (λ q. c.args.reader.id.index < length q) (sym c.schema.ensures) c.requires.there
+pub alternatives::read_pick-core-requires : goal.alternatives::read_pick-core-requires
+alternatives::read_pick-core-requires t c = subst (λ q. c.args.reader.id.index < length q) (sym c.schema.ensures) c.requires.there
 
--- src/run.rt:171:22
-pub read_pick-read_call-requires : goal.read_pick-read_call-requires
-read_pick-read_call-requires t c = calls_have_width c.args.reader.code.now c.args.reader.id.index (kind_of c.core.result.now) c.args.calls.now c.requires.pick (kind_found c.args.reader.code.now c.schema.result.now c.args.reader.id.index (kind_of c.core.result.now) c.core.ensures.is.0 c.schema.ensures c.core.ensures.is.1) (λ root more e h. c.has_few.ensures root more e h)
+pub alternatives::read_pick-read_call-requires : goal.alternatives::read_pick-read_call-requires
+alternatives::read_pick-read_call-requires t c = calls_have_width c.args.reader.code.now c.args.reader.id.index (kind_of c.core.result.now) c.args.calls.now c.requires.pick (kind_found c.args.reader.code.now c.schema.result.now c.args.reader.id.index (kind_of c.core.result.now) c.core.ensures.is.0 c.schema.ensures c.core.ensures.is.1) (λ root more e h. c.has_few.ensures root more e h)
 
--- src/run.rt:173:25
-pub read_pick-returns-in-Err-clause-err : goal.read_pick-returns-in-Err-clause-err
-read_pick-returns-in-Err-clause-err t c =
+pub alternatives::read_pick-returns-in-Err-clause-err : goal.alternatives::read_pick-returns-in-Err-clause-err
+alternatives::read_pick-returns-in-Err-clause-err t c =
     stop_next (plain (call_from c.args.calls.now (bits_left c.args.bits.now))) (λ q r. run_chosen (run_value c.args.reader.code.now c.args.reader.levels) q c.args.progress.now.skipped c.args.progress.now.left r) c.at.result (bits_left c.read_call.new.bits)
     (stop_at (plain (call_from c.args.calls.now (bits_left c.args.bits.now))) c.in-Err.refusal c.at.result (bits_left c.read_call.new.bits) (ap plain c.in-Err.ensures) c.at.ensures)
 
--- src/run.rt:175:5
-pub read_pick-read_chosen-requires : goal.read_pick-read_chosen-requires
-read_pick-read_chosen-requires t c =
+pub alternatives::read_pick-read_chosen-requires : goal.alternatives::read_pick-read_chosen-requires
+alternatives::read_pick-read_chosen-requires t c =
     let d = c.decreases in
     let lt : 30 * c.args.reader.levels + 27 < t = omega (arith, d) in
     (lt, (c.requires.few, call_room c.args.reader.code.now c.args.reader.id.index c.args.progress.now (bits_left c.args.bits.now) (bits_left c.read_call.new.bits) c.args.calls.now (chosen_of c.in-Ok.call) c.in-Ok.ensures c.requires.room))
 
--- src/run.rt:148:1
-pub read_pick-returns-clause-ok : goal.read_pick-returns-clause-ok
-read_pick-returns-clause-ok t c =
+pub alternatives::read_pick-returns-clause-ok : goal.alternatives::read_pick-returns-clause-ok
+alternatives::read_pick-returns-clause-ok t c =
     got_as c.read_chosen.result (onward (plain (call_from c.args.calls.now (bits_left c.args.bits.now))) (λ q r. run_chosen (run_value c.args.reader.code.now c.args.reader.levels) q c.args.progress.now.skipped c.args.progress.now.left r)) (run_chosen (run_value c.args.reader.code.now c.args.reader.levels) (chosen_of c.in-Ok.call) c.args.progress.now.skipped c.args.progress.now.left (bits_left c.read_call.new.bits)) c.read_chosen.new.progress (bits_left c.read_chosen.new.bits)
     (ap (λ o. onward (plain o) (λ q r. run_chosen (run_value c.args.reader.code.now c.args.reader.levels) q c.args.progress.now.skipped c.args.progress.now.left r)) c.in-Ok.ensures) c.read_chosen.ensures.ok
 
--- src/run.rt:148:1
-pub read_pick-returns-clause-err : goal.read_pick-returns-clause-err
-read_pick-returns-clause-err t c =
+pub alternatives::read_pick-returns-clause-err : goal.alternatives::read_pick-returns-clause-err
+alternatives::read_pick-returns-clause-err t c =
     stops_as c.read_chosen.result (onward (plain (call_from c.args.calls.now (bits_left c.args.bits.now))) (λ q r. run_chosen (run_value c.args.reader.code.now c.args.reader.levels) q c.args.progress.now.skipped c.args.progress.now.left r)) (run_chosen (run_value c.args.reader.code.now c.args.reader.levels) (chosen_of c.in-Ok.call) c.args.progress.now.skipped c.args.progress.now.left (bits_left c.read_call.new.bits)) (bits_left c.read_chosen.new.bits)
     (ap (λ o. onward (plain o) (λ q r. run_chosen (run_value c.args.reader.code.now c.args.reader.levels) q c.args.progress.now.skipped c.args.progress.now.left r)) c.in-Ok.ensures) c.read_chosen.ensures.err
 
--- src/run.rt:148:1
-pub read_pick-returns-clause-went : goal.read_pick-returns-clause-went
-read_pick-returns-clause-went t c = went_ok c.read_chosen.result c.args.progress.now c.args.progress.now c.read_chosen.new.progress (bits_left c.args.bits.now) (bits_left c.read_call.new.bits) (bits_left c.read_chosen.new.bits) (went_shorter c.args.progress.now (bits_left c.args.bits.now) (bits_left c.read_call.new.bits) (call_shorter c.args.calls.now (bits_left c.args.bits.now) (bits_left c.read_call.new.bits) (chosen_of c.in-Ok.call) c.in-Ok.ensures)) c.read_chosen.ensures.went
+pub alternatives::read_pick-returns-clause-went : goal.alternatives::read_pick-returns-clause-went
+alternatives::read_pick-returns-clause-went t c = went_ok c.read_chosen.result c.args.progress.now c.args.progress.now c.read_chosen.new.progress (bits_left c.args.bits.now) (bits_left c.read_call.new.bits) (bits_left c.read_chosen.new.bits) (went_shorter c.args.progress.now (bits_left c.args.bits.now) (bits_left c.read_call.new.bits) (call_shorter c.args.calls.now (bits_left c.args.bits.now) (bits_left c.read_call.new.bits) (chosen_of c.in-Ok.call) c.in-Ok.ensures)) c.read_chosen.ensures.went
 
--- src/run.rt:453:23
-pub read_present-read_value-requires : goal.read_present-read_value-requires
-read_present-read_value-requires t c =
+pub components::read_present-read_value-requires : goal.components::read_present-read_value-requires
+components::read_present-read_value-requires t c =
     let f = c.requires.few in
     let d = c.decreases in
     let lt : 30 * c.args.reader.levels < t = omega (arith, d) in
     let few : c.args.reader.levels ≤ 64 = omega (arith, f) in
     (lt, (few, c.requires.room))
 
--- src/run.rt:462:22
-pub read_present-returns-in-Err-clause-err : goal.read_present-returns-in-Err-clause-err
-read_present-returns-in-Err-clause-err t c = present_stop c.args.reader.code.now c.args.reader.levels (components (kind_at c.args.reader.code.now c.args.reader.id.index)) c.args.field (row_of_values c.args.row.now.items) c.args.progress.now.skipped c.args.progress.now.left (bits_left c.args.bits.now) c.in-Err.stop c.within.result (bits_left c.read_value.new.bits) c.in-Err.ensures.err c.within.ensures
+pub components::read_present-returns-in-Err-clause-err : goal.components::read_present-returns-in-Err-clause-err
+components::read_present-returns-in-Err-clause-err t c = present_stop c.args.reader.code.now c.args.reader.levels (components (kind_at c.args.reader.code.now c.args.reader.id.index)) c.args.field (row_of_values c.args.row.now.items) c.args.progress.now.skipped c.args.progress.now.left (bits_left c.args.bits.now) c.in-Err.stop c.within.result (bits_left c.read_value.new.bits) c.in-Err.ensures.err c.within.ensures
 
--- src/run.rt:462:22
-pub read_present-returns-in-Err-clause-places : goal.read_present-returns-in-Err-clause-places
-read_present-returns-in-Err-clause-places t c = refl
+pub components::read_present-returns-in-Err-clause-places : goal.components::read_present-returns-in-Err-clause-places
+components::read_present-returns-in-Err-clause-places t c = refl
 
--- src/run.rt:465:12
-pub read_present-is_default-requires : goal.read_present-is_default-requires
-read_present-is_default-requires t c =
+pub components::read_present-is_default-requires : goal.components::read_present-is_default-requires
+components::read_present-is_default-requires t c =
     let r = is_component c.args.reader.code.now c.schema.result.now c.args.reader.id.index c.args.field c.args.reader.levels (abstract c.in-Ok.value) c.requires.fits c.schema.ensures c.requires.few (λ s' u m n' w h g. c.levels_grow.ensures s' u m n' w h g) c.in-Ok.ensures.value in
     (r.0, r.1.0, r.1.1)
 
-pub read_present-returns-then-is_default-clause-err : goal.read_present-returns-then-is_default-clause-err
-read_present-returns-then-is_default-clause-err t c =
+pub components::read_present-returns-then-is_default-clause-err : goal.components::read_present-returns-then-is_default-clause-err
+components::read_present-returns-then-is_default-clause-err t c =
     present_same c.args.reader.code.now c.args.reader.levels (components (kind_at c.args.reader.code.now c.args.reader.id.index)) c.args.field (row_of_values c.args.row.now.items) c.args.progress.now.skipped c.args.progress.now.left (bits_left c.args.bits.now) (taken (abstract c.in-Ok.value) c.read_value.new.progress.skipped c.read_value.new.progress.left) (bits_left c.read_value.new.bits) c.at-stop.result c.within-then-is_default.result c.in-Ok.ensures.ok
     (same_as_default c.args.reader.code.now c.args.reader.levels (components (kind_at c.args.reader.code.now c.args.reader.id.index)) c.args.field (row_of_values c.args.row.now.items) c.args.progress.now.skipped c.args.progress.now.left (bits_left c.args.bits.now) c.requires.fits.component (abstract c.in-Ok.value) c.read_value.new.progress.skipped c.read_value.new.progress.left c.is_default.result c.requires.fits.there c.if-progress-skipped.true (default_as c.args.reader.code.now c.schema.result.now c.args.reader.id.index c.args.field.place c.requires.fits.component (abstract c.in-Ok.value) c.is_default.result c.schema.ensures c.requires.fits.there c.is_default.ensures) c.if-is_default.true) c.at-stop.ensures c.within-then-is_default.ensures
 
-pub read_present-returns-then-is_default-clause-places : goal.read_present-returns-then-is_default-clause-places
-read_present-returns-then-is_default-clause-places t c = refl
+pub components::read_present-returns-then-is_default-clause-places : goal.components::read_present-returns-then-is_default-clause-places
+components::read_present-returns-then-is_default-clause-places t c = refl
 
--- src/run.rt:471:5
-pub read_present-put-requires : goal.read_present-put-requires
-read_present-put-requires t c = subst (λ q. c.args.field.place < q) (sym c.requires.places) (within_row (components (kind_at c.args.reader.code.now c.args.reader.id.index)) c.args.field.place c.requires.fits.component c.requires.fits.there)
+pub components::read_present-put-requires : goal.components::read_present-put-requires
+components::read_present-put-requires t c = subst (λ q. c.args.field.place < q) (sym c.requires.places) (within_row (components (kind_at c.args.reader.code.now c.args.reader.id.index)) c.args.field.place c.requires.fits.component c.requires.fits.there)
 
--- src/run.rt:424:1
-pub read_present-returns-clause-ok : goal.read_present-returns-clause-ok
-read_present-returns-clause-ok t c =
+pub components::read_present-returns-clause-ok : goal.components::read_present-returns-clause-ok
+components::read_present-returns-clause-ok t c =
     present_ok c.args.reader.code.now c.args.reader.levels (components (kind_at c.args.reader.code.now c.args.reader.id.index)) c.args.field (row_of_values c.args.row.now.items) c.args.progress.now.skipped c.args.progress.now.left (bits_left c.args.bits.now) (abstract c.in-Ok.value) c.read_value.new.progress.skipped c.read_value.new.progress.left (bits_left c.read_value.new.bits) (row_of_values c.put.new.row.items) c.in-Ok.ensures.ok
     (elim c.else-progress-skipped.branch [
-      | read_present-else-progress-skipped-via-then-progress-skipped+else-is_default w ↦ no_default c.args.reader.code.now c.args.reader.levels (components (kind_at c.args.reader.code.now c.args.reader.id.index)) c.args.field (row_of_values c.args.row.now.items) c.args.progress.now.skipped c.args.progress.now.left (bits_left c.args.bits.now) c.requires.fits.component (abstract c.in-Ok.value) c.read_value.new.progress.skipped c.read_value.new.progress.left w.is_default.result c.requires.fits.there (default_as c.args.reader.code.now w.schema.result.now c.args.reader.id.index c.args.field.place c.requires.fits.component (abstract c.in-Ok.value) w.is_default.result w.schema.ensures c.requires.fits.there w.is_default.ensures) w.if-is_default.false
-      | read_present-else-progress-skipped-via-else-progress-skipped w ↦ some_skipped c.args.reader.code.now c.args.reader.levels (components (kind_at c.args.reader.code.now c.args.reader.id.index)) c.args.field (row_of_values c.args.row.now.items) c.args.progress.now.skipped c.args.progress.now.left (bits_left c.args.bits.now) (abstract c.in-Ok.value) c.read_value.new.progress.skipped c.read_value.new.progress.left w.if-progress-skipped.false
+      | components::read_present-else-progress-skipped-via-then-progress-skipped+else-is_default w ↦ no_default c.args.reader.code.now c.args.reader.levels (components (kind_at c.args.reader.code.now c.args.reader.id.index)) c.args.field (row_of_values c.args.row.now.items) c.args.progress.now.skipped c.args.progress.now.left (bits_left c.args.bits.now) c.requires.fits.component (abstract c.in-Ok.value) c.read_value.new.progress.skipped c.read_value.new.progress.left w.is_default.result c.requires.fits.there (default_as c.args.reader.code.now w.schema.result.now c.args.reader.id.index c.args.field.place c.requires.fits.component (abstract c.in-Ok.value) w.is_default.result w.schema.ensures c.requires.fits.there w.is_default.ensures) w.if-is_default.false
+      | components::read_present-else-progress-skipped-via-else-progress-skipped w ↦ some_skipped c.args.reader.code.now c.args.reader.levels (components (kind_at c.args.reader.code.now c.args.reader.id.index)) c.args.field (row_of_values c.args.row.now.items) c.args.progress.now.skipped c.args.progress.now.left (bits_left c.args.bits.now) (abstract c.in-Ok.value) c.read_value.new.progress.skipped c.read_value.new.progress.left w.if-progress-skipped.false
     ]) c.put.ensures.row
 
--- src/run.rt:424:1
-pub read_present-returns-clause-went : goal.read_present-returns-clause-went
-read_present-returns-clause-went t c = c.in-Ok.ensures.went
+pub components::read_present-returns-clause-went : goal.components::read_present-returns-clause-went
+components::read_present-returns-clause-went t c = c.in-Ok.ensures.went
 
--- src/run.rt:424:1
-pub read_present-returns-clause-places : goal.read_present-returns-clause-places
-read_present-returns-clause-places t c = c.put.ensures.length
+pub components::read_present-returns-clause-places : goal.components::read_present-returns-clause-places
+components::read_present-returns-clause-places t c = c.put.ensures.length
 
--- src/run.rt:332:25
-pub read_row-returns-in-Err-clause-err : goal.read_row-returns-in-Err-clause-err
-read_row-returns-in-Err-clause-err t c =
+pub components::read_row-returns-in-Err-clause-err : goal.components::read_row-returns-in-Err-clause-err
+components::read_row-returns-in-Err-clause-err t c =
     no_mark c.args.reader.code.now c.args.reader.levels (components (kind_at c.args.reader.code.now c.args.reader.id.index)) c.args.shape.extensible c.args.shape.count c.args.shape.steps.now c.args.progress.now.skipped c.args.progress.now.left (bits_left c.args.bits.now) c.at.result (bits_left c.read_mark.new.bits)
     (stop_at (mark_from c.args.shape.extensible (bits_left c.args.bits.now)) c.in-Err.refusal c.at.result (bits_left c.read_mark.new.bits) c.in-Err.ensures.is c.at.ensures)
 
-pub read_row-returns-in-Err-read_presences-clause-err : goal.read_row-returns-in-Err-read_presences-clause-err
-read_row-returns-in-Err-read_presences-clause-err t c =
+pub components::read_row-returns-in-Err-read_presences-clause-err : goal.components::read_row-returns-in-Err-read_presences-clause-err
+components::read_row-returns-in-Err-read_presences-clause-err t c =
     no_presences c.args.reader.code.now c.args.reader.levels (components (kind_at c.args.reader.code.now c.args.reader.id.index)) c.args.shape.extensible c.args.shape.count c.args.shape.steps.now c.args.progress.now.skipped c.args.progress.now.left (bits_left c.args.bits.now) c.in-Ok.more (bits_left c.read_mark.new.bits) (bits_left c.read_presences.new.bits) (fields_in c.next.result.now) c.in-Err-read_presences.stop c.in-Ok.ensures.is (ap fields_in c.next.ensures ∙ fields_taken c.args.shape.count c.args.shape.steps.now) c.in-Err-read_presences.ensures.err
 
--- src/run.rt:338:11
-pub read_row-read_members-requires : goal.read_row-read_members-requires
-read_row-read_members-requires t c =
+pub components::read_row-read_members-requires : goal.components::read_row-read_members-requires
+components::read_row-read_members-requires t c =
     let d = c.decreases in
     let lt : 30 * c.args.reader.levels + 20 < t = omega (arith, d) in
     (lt, (c.requires.few, (room_left c.args.progress.now c.args.progress.now (bits_left c.args.bits.now) (bits_left c.read_presences.new.bits) c.requires.room (both_went c.args.progress.now c.args.progress.now c.args.progress.now (bits_left c.args.bits.now) (bits_left c.read_mark.new.bits) (bits_left c.read_presences.new.bits) (went_shorter c.args.progress.now (bits_left c.args.bits.now) (bits_left c.read_mark.new.bits) c.in-Ok.ensures.shorter) (went_shorter c.args.progress.now (bits_left c.read_mark.new.bits) (bits_left c.read_presences.new.bits) c.in-Ok-read_presences.ensures.shorter)), ((subst (AreSent c.args.reader.code.now c.args.reader.id.index) (sym c.as_slice.ensures.value) (sent_fit c.args.reader.code.now c.args.reader.id.index c.in-Ok-read_presences.sent.items (fields_in c.next.result.now) c.in-Ok-read_presences.ensures.fields (fields_fit c.args.reader.code.now c.args.reader.id.index c.next.result.now (subst (FieldsFit c.args.reader.code.now c.args.reader.id.index) (sym c.next.ensures) (all_taken (FieldOf c.args.reader.code.now c.args.reader.id.index) c.args.shape.count c.args.shape.steps.now c.requires.fit))))), c.requires.places))))
 
-pub read_row-returns-in-Err-read_members-clause-err : goal.read_row-returns-in-Err-read_members-clause-err
-read_row-returns-in-Err-read_members-clause-err t c =
+pub components::read_row-returns-in-Err-read_members-clause-err : goal.components::read_row-returns-in-Err-read_members-clause-err
+components::read_row-returns-in-Err-read_members-clause-err t c =
     no_members c.args.reader.code.now c.args.reader.levels (components (kind_at c.args.reader.code.now c.args.reader.id.index)) c.args.shape.extensible c.args.shape.count c.args.shape.steps.now c.args.progress.now.skipped c.args.progress.now.left (bits_left c.args.bits.now) c.in-Ok.more (bits_left c.read_mark.new.bits) (bits_left c.read_presences.new.bits) (bits_left c.read_members.new.bits) (fields_in c.next.result.now) c.in-Ok-read_presences.sent.items (row_of_values c.args.row.now.items) c.in-Err-read_members.stop c.in-Ok.ensures.is (ap fields_in c.next.ensures ∙ fields_taken c.args.shape.count c.args.shape.steps.now) c.in-Ok-read_presences.ensures.ok c.requires.empty
     (subst (λ xs. IsStop (run_members c.args.reader.code.now c.args.reader.levels (run_value c.args.reader.code.now c.args.reader.levels) (components (kind_at c.args.reader.code.now c.args.reader.id.index)) xs (row_of_values c.args.row.now.items) c.args.progress.now.skipped c.args.progress.now.left (bits_left c.read_presences.new.bits)) c.in-Err-read_members.stop (bits_left c.read_members.new.bits)) c.as_slice.ensures.value c.in-Err-read_members.ensures.err)
 
--- src/run.rt:343:9
-pub read_row-read_extension-requires : goal.read_row-read_extension-requires
-read_row-read_extension-requires t c =
+pub components::read_row-read_extension-requires : goal.components::read_row-read_extension-requires
+components::read_row-read_extension-requires t c =
     let d = c.decreases in
     let lt : 30 * c.args.reader.levels + 26 < t = omega (arith, d) in
     (lt, (c.requires.few, (room_left c.args.progress.now c.read_members.new.progress (bits_left c.args.bits.now) (bits_left c.read_members.new.bits) c.requires.room (both_went c.args.progress.now c.args.progress.now c.read_members.new.progress (bits_left c.args.bits.now) (bits_left c.read_presences.new.bits) (bits_left c.read_members.new.bits) (both_went c.args.progress.now c.args.progress.now c.args.progress.now (bits_left c.args.bits.now) (bits_left c.read_mark.new.bits) (bits_left c.read_presences.new.bits) (went_shorter c.args.progress.now (bits_left c.args.bits.now) (bits_left c.read_mark.new.bits) c.in-Ok.ensures.shorter) (went_shorter c.args.progress.now (bits_left c.read_mark.new.bits) (bits_left c.read_presences.new.bits) c.in-Ok-read_presences.ensures.shorter)) c.in-Ok-read_members.ensures.went), (subst (FieldsFit c.args.reader.code.now c.args.reader.id.index) (sym c.past.ensures) (all_dropped (FieldOf c.args.reader.code.now c.args.reader.id.index) c.args.shape.count c.args.shape.steps.now c.requires.fit), c.in-Ok-read_members.ensures.places ∙ c.requires.places))))
 
--- src/run.rt:329:1
-pub read_row-returns-then-more-clause-ok : goal.read_row-returns-then-more-clause-ok
-read_row-returns-then-more-clause-ok t c =
+pub components::read_row-returns-then-more-clause-ok : goal.components::read_row-returns-then-more-clause-ok
+components::read_row-returns-then-more-clause-ok t c =
     row_as c.read_extension.result (run_structure c.args.reader.code.now c.args.reader.levels (run_value c.args.reader.code.now c.args.reader.levels) (components (kind_at c.args.reader.code.now c.args.reader.id.index)) c.args.shape.extensible c.args.shape.count c.args.shape.steps.now c.args.progress.now.skipped c.args.progress.now.left (bits_left c.args.bits.now)) (run_rest c.args.reader.code.now c.args.reader.levels (run_value c.args.reader.code.now c.args.reader.levels) (components (kind_at c.args.reader.code.now c.args.reader.id.index)) true c.past.result.now (row_of_values c.read_members.new.row.items) c.read_members.new.progress.skipped c.read_members.new.progress.left (bits_left c.read_members.new.bits)) (row_of_values c.read_extension.new.row.items) c.read_extension.new.progress (bits_left c.read_extension.new.bits)
     ((rest_is c.args.reader.code.now c.args.reader.levels (components (kind_at c.args.reader.code.now c.args.reader.id.index)) c.args.shape.extensible c.args.shape.count c.args.shape.steps.now c.args.progress.now.skipped c.args.progress.now.left (bits_left c.args.bits.now) c.in-Ok.more (bits_left c.read_mark.new.bits) (bits_left c.read_presences.new.bits) (bits_left c.read_members.new.bits) (fields_in c.next.result.now) c.in-Ok-read_presences.sent.items (row_of_values c.args.row.now.items) (row_of_values c.read_members.new.row.items) c.read_members.new.progress.skipped c.read_members.new.progress.left c.in-Ok.ensures.is (ap fields_in c.next.ensures ∙ fields_taken c.args.shape.count c.args.shape.steps.now) c.in-Ok-read_presences.ensures.ok c.requires.empty (subst (λ xs. run_members c.args.reader.code.now c.args.reader.levels (run_value c.args.reader.code.now c.args.reader.levels) (components (kind_at c.args.reader.code.now c.args.reader.id.index)) xs (row_of_values c.args.row.now.items) c.args.progress.now.skipped c.args.progress.now.left (bits_left c.read_presences.new.bits) ≡ read (taken (row_of_values c.read_members.new.row.items) c.read_members.new.progress.skipped c.read_members.new.progress.left) (bits_left c.read_members.new.bits)) c.as_slice.ensures.value c.in-Ok-read_members.ensures.ok)) ∙ ap (λ q. run_rest c.args.reader.code.now c.args.reader.levels (run_value c.args.reader.code.now c.args.reader.levels) (components (kind_at c.args.reader.code.now c.args.reader.id.index)) q (drop c.args.shape.count c.args.shape.steps.now) (row_of_values c.read_members.new.row.items) c.read_members.new.progress.skipped c.read_members.new.progress.left (bits_left c.read_members.new.bits)) c.if-more.true ∙ ap (λ q. run_rest c.args.reader.code.now c.args.reader.levels (run_value c.args.reader.code.now c.args.reader.levels) (components (kind_at c.args.reader.code.now c.args.reader.id.index)) true q (row_of_values c.read_members.new.row.items) c.read_members.new.progress.skipped c.read_members.new.progress.left (bits_left c.read_members.new.bits)) (sym c.past.ensures)) c.read_extension.ensures.ok
 
--- src/run.rt:329:1
-pub read_row-returns-then-more-clause-err : goal.read_row-returns-then-more-clause-err
-read_row-returns-then-more-clause-err t c =
+pub components::read_row-returns-then-more-clause-err : goal.components::read_row-returns-then-more-clause-err
+components::read_row-returns-then-more-clause-err t c =
     stops_as c.read_extension.result (run_structure c.args.reader.code.now c.args.reader.levels (run_value c.args.reader.code.now c.args.reader.levels) (components (kind_at c.args.reader.code.now c.args.reader.id.index)) c.args.shape.extensible c.args.shape.count c.args.shape.steps.now c.args.progress.now.skipped c.args.progress.now.left (bits_left c.args.bits.now)) (run_rest c.args.reader.code.now c.args.reader.levels (run_value c.args.reader.code.now c.args.reader.levels) (components (kind_at c.args.reader.code.now c.args.reader.id.index)) true c.past.result.now (row_of_values c.read_members.new.row.items) c.read_members.new.progress.skipped c.read_members.new.progress.left (bits_left c.read_members.new.bits)) (bits_left c.read_extension.new.bits)
     ((rest_is c.args.reader.code.now c.args.reader.levels (components (kind_at c.args.reader.code.now c.args.reader.id.index)) c.args.shape.extensible c.args.shape.count c.args.shape.steps.now c.args.progress.now.skipped c.args.progress.now.left (bits_left c.args.bits.now) c.in-Ok.more (bits_left c.read_mark.new.bits) (bits_left c.read_presences.new.bits) (bits_left c.read_members.new.bits) (fields_in c.next.result.now) c.in-Ok-read_presences.sent.items (row_of_values c.args.row.now.items) (row_of_values c.read_members.new.row.items) c.read_members.new.progress.skipped c.read_members.new.progress.left c.in-Ok.ensures.is (ap fields_in c.next.ensures ∙ fields_taken c.args.shape.count c.args.shape.steps.now) c.in-Ok-read_presences.ensures.ok c.requires.empty (subst (λ xs. run_members c.args.reader.code.now c.args.reader.levels (run_value c.args.reader.code.now c.args.reader.levels) (components (kind_at c.args.reader.code.now c.args.reader.id.index)) xs (row_of_values c.args.row.now.items) c.args.progress.now.skipped c.args.progress.now.left (bits_left c.read_presences.new.bits) ≡ read (taken (row_of_values c.read_members.new.row.items) c.read_members.new.progress.skipped c.read_members.new.progress.left) (bits_left c.read_members.new.bits)) c.as_slice.ensures.value c.in-Ok-read_members.ensures.ok)) ∙ ap (λ q. run_rest c.args.reader.code.now c.args.reader.levels (run_value c.args.reader.code.now c.args.reader.levels) (components (kind_at c.args.reader.code.now c.args.reader.id.index)) q (drop c.args.shape.count c.args.shape.steps.now) (row_of_values c.read_members.new.row.items) c.read_members.new.progress.skipped c.read_members.new.progress.left (bits_left c.read_members.new.bits)) c.if-more.true ∙ ap (λ q. run_rest c.args.reader.code.now c.args.reader.levels (run_value c.args.reader.code.now c.args.reader.levels) (components (kind_at c.args.reader.code.now c.args.reader.id.index)) true q (row_of_values c.read_members.new.row.items) c.read_members.new.progress.skipped c.read_members.new.progress.left (bits_left c.read_members.new.bits)) (sym c.past.ensures)) c.read_extension.ensures.err
 
--- src/run.rt:329:1
-pub read_row-returns-then-more-clause-went : goal.read_row-returns-then-more-clause-went
-read_row-returns-then-more-clause-went t c = went_done c.read_extension.result c.args.progress.now c.read_members.new.progress c.read_extension.new.progress (bits_left c.args.bits.now) (bits_left c.read_members.new.bits) (bits_left c.read_extension.new.bits) (both_went c.args.progress.now c.args.progress.now c.read_members.new.progress (bits_left c.args.bits.now) (bits_left c.read_presences.new.bits) (bits_left c.read_members.new.bits) (both_went c.args.progress.now c.args.progress.now c.args.progress.now (bits_left c.args.bits.now) (bits_left c.read_mark.new.bits) (bits_left c.read_presences.new.bits) (went_shorter c.args.progress.now (bits_left c.args.bits.now) (bits_left c.read_mark.new.bits) c.in-Ok.ensures.shorter) (went_shorter c.args.progress.now (bits_left c.read_mark.new.bits) (bits_left c.read_presences.new.bits) c.in-Ok-read_presences.ensures.shorter)) c.in-Ok-read_members.ensures.went) c.read_extension.ensures.went
+pub components::read_row-returns-then-more-clause-went : goal.components::read_row-returns-then-more-clause-went
+components::read_row-returns-then-more-clause-went t c = went_done c.read_extension.result c.args.progress.now c.read_members.new.progress c.read_extension.new.progress (bits_left c.args.bits.now) (bits_left c.read_members.new.bits) (bits_left c.read_extension.new.bits) (both_went c.args.progress.now c.args.progress.now c.read_members.new.progress (bits_left c.args.bits.now) (bits_left c.read_presences.new.bits) (bits_left c.read_members.new.bits) (both_went c.args.progress.now c.args.progress.now c.args.progress.now (bits_left c.args.bits.now) (bits_left c.read_mark.new.bits) (bits_left c.read_presences.new.bits) (went_shorter c.args.progress.now (bits_left c.args.bits.now) (bits_left c.read_mark.new.bits) c.in-Ok.ensures.shorter) (went_shorter c.args.progress.now (bits_left c.read_mark.new.bits) (bits_left c.read_presences.new.bits) c.in-Ok-read_presences.ensures.shorter)) c.in-Ok-read_members.ensures.went) c.read_extension.ensures.went
 
--- src/run.rt:304:1
-pub read_row-returns-clause-ok : goal.read_row-returns-clause-ok
-read_row-returns-clause-ok t c = (rest_is c.args.reader.code.now c.args.reader.levels (components (kind_at c.args.reader.code.now c.args.reader.id.index)) c.args.shape.extensible c.args.shape.count c.args.shape.steps.now c.args.progress.now.skipped c.args.progress.now.left (bits_left c.args.bits.now) c.in-Ok.more (bits_left c.read_mark.new.bits) (bits_left c.read_presences.new.bits) (bits_left c.read_members.new.bits) (fields_in c.next.result.now) c.in-Ok-read_presences.sent.items (row_of_values c.args.row.now.items) (row_of_values c.read_members.new.row.items) c.read_members.new.progress.skipped c.read_members.new.progress.left c.in-Ok.ensures.is (ap fields_in c.next.ensures ∙ fields_taken c.args.shape.count c.args.shape.steps.now) c.in-Ok-read_presences.ensures.ok c.requires.empty (subst (λ xs. run_members c.args.reader.code.now c.args.reader.levels (run_value c.args.reader.code.now c.args.reader.levels) (components (kind_at c.args.reader.code.now c.args.reader.id.index)) xs (row_of_values c.args.row.now.items) c.args.progress.now.skipped c.args.progress.now.left (bits_left c.read_presences.new.bits) ≡ read (taken (row_of_values c.read_members.new.row.items) c.read_members.new.progress.skipped c.read_members.new.progress.left) (bits_left c.read_members.new.bits)) c.as_slice.ensures.value c.in-Ok-read_members.ensures.ok)) ∙ ap (λ q. run_rest c.args.reader.code.now c.args.reader.levels (run_value c.args.reader.code.now c.args.reader.levels) (components (kind_at c.args.reader.code.now c.args.reader.id.index)) q (drop c.args.shape.count c.args.shape.steps.now) (row_of_values c.read_members.new.row.items) c.read_members.new.progress.skipped c.read_members.new.progress.left (bits_left c.read_members.new.bits)) c.if-more.false
+pub components::read_row-returns-clause-ok : goal.components::read_row-returns-clause-ok
+components::read_row-returns-clause-ok t c = (rest_is c.args.reader.code.now c.args.reader.levels (components (kind_at c.args.reader.code.now c.args.reader.id.index)) c.args.shape.extensible c.args.shape.count c.args.shape.steps.now c.args.progress.now.skipped c.args.progress.now.left (bits_left c.args.bits.now) c.in-Ok.more (bits_left c.read_mark.new.bits) (bits_left c.read_presences.new.bits) (bits_left c.read_members.new.bits) (fields_in c.next.result.now) c.in-Ok-read_presences.sent.items (row_of_values c.args.row.now.items) (row_of_values c.read_members.new.row.items) c.read_members.new.progress.skipped c.read_members.new.progress.left c.in-Ok.ensures.is (ap fields_in c.next.ensures ∙ fields_taken c.args.shape.count c.args.shape.steps.now) c.in-Ok-read_presences.ensures.ok c.requires.empty (subst (λ xs. run_members c.args.reader.code.now c.args.reader.levels (run_value c.args.reader.code.now c.args.reader.levels) (components (kind_at c.args.reader.code.now c.args.reader.id.index)) xs (row_of_values c.args.row.now.items) c.args.progress.now.skipped c.args.progress.now.left (bits_left c.read_presences.new.bits) ≡ read (taken (row_of_values c.read_members.new.row.items) c.read_members.new.progress.skipped c.read_members.new.progress.left) (bits_left c.read_members.new.bits)) c.as_slice.ensures.value c.in-Ok-read_members.ensures.ok)) ∙ ap (λ q. run_rest c.args.reader.code.now c.args.reader.levels (run_value c.args.reader.code.now c.args.reader.levels) (components (kind_at c.args.reader.code.now c.args.reader.id.index)) q (drop c.args.shape.count c.args.shape.steps.now) (row_of_values c.read_members.new.row.items) c.read_members.new.progress.skipped c.read_members.new.progress.left (bits_left c.read_members.new.bits)) c.if-more.false
 
--- src/run.rt:304:1
-pub read_row-returns-clause-went : goal.read_row-returns-clause-went
-read_row-returns-clause-went t c = (both_went c.args.progress.now c.args.progress.now c.read_members.new.progress (bits_left c.args.bits.now) (bits_left c.read_presences.new.bits) (bits_left c.read_members.new.bits) (both_went c.args.progress.now c.args.progress.now c.args.progress.now (bits_left c.args.bits.now) (bits_left c.read_mark.new.bits) (bits_left c.read_presences.new.bits) (went_shorter c.args.progress.now (bits_left c.args.bits.now) (bits_left c.read_mark.new.bits) c.in-Ok.ensures.shorter) (went_shorter c.args.progress.now (bits_left c.read_mark.new.bits) (bits_left c.read_presences.new.bits) c.in-Ok-read_presences.ensures.shorter)) c.in-Ok-read_members.ensures.went)
+pub components::read_row-returns-clause-went : goal.components::read_row-returns-clause-went
+components::read_row-returns-clause-went t c = (both_went c.args.progress.now c.args.progress.now c.read_members.new.progress (bits_left c.args.bits.now) (bits_left c.read_presences.new.bits) (bits_left c.read_members.new.bits) (both_went c.args.progress.now c.args.progress.now c.args.progress.now (bits_left c.args.bits.now) (bits_left c.read_mark.new.bits) (bits_left c.read_presences.new.bits) (went_shorter c.args.progress.now (bits_left c.args.bits.now) (bits_left c.read_mark.new.bits) c.in-Ok.ensures.shorter) (went_shorter c.args.progress.now (bits_left c.read_mark.new.bits) (bits_left c.read_presences.new.bits) c.in-Ok-read_presences.ensures.shorter)) c.in-Ok-read_members.ensures.went)
 
--- src/run.rt:114:32
-pub read_steps-read_fields-requires : goal.read_steps-read_fields-requires
-read_steps-read_fields-requires t c =
+pub value::read_steps-read_fields-requires : goal.value::read_steps-read_fields-requires
+value::read_steps-read_fields-requires t c =
     let d = c.decreases in
     let lt : 30 * c.args.reader.levels + 28 < t = omega (arith, d) in
     let there = type_there c.args.reader.code.now c.args.reader.id.index c.steps.result.now c.plan_of.result (plans.Fields c.in-Fields.shape) c.steps.ensures c.in-Fields.is c.plan_of.ensures.some (λ h. h) in
     (lt, (c.requires.few, (c.requires.room, (there, fits_as c.args.reader.code.now c.args.reader.id.index c.steps.result.now c.plan_of.result (plans.Fields c.in-Fields.shape) c.steps.ensures c.in-Fields.is (c.plan_of.ensures.fits c.args.reader.code.now c.args.reader.id.index) (c.routines_fit.ensures c.args.reader.code.now c.args.reader.id.index)))))
 
--- src/run.rt:115:40
-pub read_steps-read_each-requires : goal.read_steps-read_each-requires
-read_steps-read_each-requires t c =
+pub value::read_steps-read_each-requires : goal.value::read_steps-read_each-requires
+value::read_steps-read_each-requires t c =
     let d = c.decreases in
     let lt : 30 * c.args.reader.levels + 28 < t = omega (arith, d) in
     (lt, (c.requires.few, (c.requires.room, fits_as c.args.reader.code.now c.args.reader.id.index c.steps.result.now c.plan_of.result (plans.List c.in-List.element c.in-List.sorted) c.steps.ensures c.in-List.is (c.plan_of.ensures.fits c.args.reader.code.now c.args.reader.id.index) (c.routines_fit.ensures c.args.reader.code.now c.args.reader.id.index))))
 
--- src/run.rt:116:32
-pub read_steps-read_pick-requires : goal.read_steps-read_pick-requires
-read_steps-read_pick-requires t c =
+pub value::read_steps-read_pick-requires : goal.value::read_steps-read_pick-requires
+value::read_steps-read_pick-requires t c =
     let d = c.decreases in
     let lt : 30 * c.args.reader.levels + 28 < t = omega (arith, d) in
     let there = type_there c.args.reader.code.now c.args.reader.id.index c.steps.result.now c.plan_of.result (plans.Choice c.in-Choice.calls) c.steps.ensures c.in-Choice.is c.plan_of.ensures.some (λ h. h) in
     (lt, (c.requires.few, (c.requires.room, (fits_as c.args.reader.code.now c.args.reader.id.index c.steps.result.now c.plan_of.result (plans.Choice c.in-Choice.calls) c.steps.ensures c.in-Choice.is (c.plan_of.ensures.fits c.args.reader.code.now c.args.reader.id.index) (c.routines_fit.ensures c.args.reader.code.now c.args.reader.id.index), there))))
 
--- src/run.rt:117:23
-pub read_steps-read_contents-requires : goal.read_steps-read_contents-requires
-read_steps-read_contents-requires t c =
+pub value::read_steps-read_contents-requires : goal.value::read_steps-read_contents-requires
+value::read_steps-read_contents-requires t c =
     record { there = type_there c.args.reader.code.now c.args.reader.id.index c.steps.result.now c.plan_of.result plans.Leaf c.steps.ensures c.in-Leaf.is c.plan_of.ensures.some (λ h. h) }
 
--- src/run.rt:92:1
-pub read_steps-returns-in-Fields-clause-ok : goal.read_steps-returns-in-Fields-clause-ok
-read_steps-returns-in-Fields-clause-ok t c =
+pub value::read_steps-returns-in-Fields-clause-ok : goal.value::read_steps-returns-in-Fields-clause-ok
+value::read_steps-returns-in-Fields-clause-ok t c =
     got_as c.read_fields.result (run_steps c.args.reader.code.now c.args.reader.levels (run_value c.args.reader.code.now c.args.reader.levels) c.args.reader.id.index (routine_at c.args.reader.code.now c.args.reader.id.index) c.args.progress.now.skipped c.args.progress.now.left (bits_left c.args.bits.now)) (run_plan c.args.reader.code.now c.args.reader.levels (run_value c.args.reader.code.now c.args.reader.levels) c.args.reader.id.index (plans.Fields c.in-Fields.shape) c.args.progress.now.skipped c.args.progress.now.left (bits_left c.args.bits.now)) c.read_fields.new.progress (bits_left c.read_fields.new.bits)
     (as_plan c.args.reader.code.now c.args.reader.levels c.args.reader.id.index c.args.progress.now.skipped c.args.progress.now.left (bits_left c.args.bits.now) c.steps.result.now c.plan_of.result (plans.Fields c.in-Fields.shape) c.steps.ensures c.plan_of.ensures.is c.in-Fields.is) c.read_fields.ensures.ok
 
--- src/run.rt:92:1
-pub read_steps-returns-in-Fields-clause-err : goal.read_steps-returns-in-Fields-clause-err
-read_steps-returns-in-Fields-clause-err t c =
+pub value::read_steps-returns-in-Fields-clause-err : goal.value::read_steps-returns-in-Fields-clause-err
+value::read_steps-returns-in-Fields-clause-err t c =
     stops_as c.read_fields.result (run_steps c.args.reader.code.now c.args.reader.levels (run_value c.args.reader.code.now c.args.reader.levels) c.args.reader.id.index (routine_at c.args.reader.code.now c.args.reader.id.index) c.args.progress.now.skipped c.args.progress.now.left (bits_left c.args.bits.now)) (run_plan c.args.reader.code.now c.args.reader.levels (run_value c.args.reader.code.now c.args.reader.levels) c.args.reader.id.index (plans.Fields c.in-Fields.shape) c.args.progress.now.skipped c.args.progress.now.left (bits_left c.args.bits.now)) (bits_left c.read_fields.new.bits)
     (as_plan c.args.reader.code.now c.args.reader.levels c.args.reader.id.index c.args.progress.now.skipped c.args.progress.now.left (bits_left c.args.bits.now) c.steps.result.now c.plan_of.result (plans.Fields c.in-Fields.shape) c.steps.ensures c.plan_of.ensures.is c.in-Fields.is) c.read_fields.ensures.err
 
--- src/run.rt:92:1
-pub read_steps-returns-in-Fields-clause-went : goal.read_steps-returns-in-Fields-clause-went
-read_steps-returns-in-Fields-clause-went t c = c.read_fields.ensures.went
+pub value::read_steps-returns-in-Fields-clause-went : goal.value::read_steps-returns-in-Fields-clause-went
+value::read_steps-returns-in-Fields-clause-went t c = c.read_fields.ensures.went
 
--- src/run.rt:92:1
-pub read_steps-returns-in-List-clause-ok : goal.read_steps-returns-in-List-clause-ok
-read_steps-returns-in-List-clause-ok t c =
+pub value::read_steps-returns-in-List-clause-ok : goal.value::read_steps-returns-in-List-clause-ok
+value::read_steps-returns-in-List-clause-ok t c =
     got_as c.read_each.result (run_steps c.args.reader.code.now c.args.reader.levels (run_value c.args.reader.code.now c.args.reader.levels) c.args.reader.id.index (routine_at c.args.reader.code.now c.args.reader.id.index) c.args.progress.now.skipped c.args.progress.now.left (bits_left c.args.bits.now)) (run_plan c.args.reader.code.now c.args.reader.levels (run_value c.args.reader.code.now c.args.reader.levels) c.args.reader.id.index (plans.List c.in-List.element c.in-List.sorted) c.args.progress.now.skipped c.args.progress.now.left (bits_left c.args.bits.now)) c.read_each.new.progress (bits_left c.read_each.new.bits)
     (as_plan c.args.reader.code.now c.args.reader.levels c.args.reader.id.index c.args.progress.now.skipped c.args.progress.now.left (bits_left c.args.bits.now) c.steps.result.now c.plan_of.result (plans.List c.in-List.element c.in-List.sorted) c.steps.ensures c.plan_of.ensures.is c.in-List.is) c.read_each.ensures.ok
 
--- src/run.rt:92:1
-pub read_steps-returns-in-List-clause-err : goal.read_steps-returns-in-List-clause-err
-read_steps-returns-in-List-clause-err t c =
+pub value::read_steps-returns-in-List-clause-err : goal.value::read_steps-returns-in-List-clause-err
+value::read_steps-returns-in-List-clause-err t c =
     stops_as c.read_each.result (run_steps c.args.reader.code.now c.args.reader.levels (run_value c.args.reader.code.now c.args.reader.levels) c.args.reader.id.index (routine_at c.args.reader.code.now c.args.reader.id.index) c.args.progress.now.skipped c.args.progress.now.left (bits_left c.args.bits.now)) (run_plan c.args.reader.code.now c.args.reader.levels (run_value c.args.reader.code.now c.args.reader.levels) c.args.reader.id.index (plans.List c.in-List.element c.in-List.sorted) c.args.progress.now.skipped c.args.progress.now.left (bits_left c.args.bits.now)) (bits_left c.read_each.new.bits)
     (as_plan c.args.reader.code.now c.args.reader.levels c.args.reader.id.index c.args.progress.now.skipped c.args.progress.now.left (bits_left c.args.bits.now) c.steps.result.now c.plan_of.result (plans.List c.in-List.element c.in-List.sorted) c.steps.ensures c.plan_of.ensures.is c.in-List.is) c.read_each.ensures.err
 
--- src/run.rt:92:1
-pub read_steps-returns-in-List-clause-went : goal.read_steps-returns-in-List-clause-went
-read_steps-returns-in-List-clause-went t c = c.read_each.ensures.went
+pub value::read_steps-returns-in-List-clause-went : goal.value::read_steps-returns-in-List-clause-went
+value::read_steps-returns-in-List-clause-went t c = c.read_each.ensures.went
 
--- src/run.rt:92:1
-pub read_steps-returns-in-Choice-clause-ok : goal.read_steps-returns-in-Choice-clause-ok
-read_steps-returns-in-Choice-clause-ok t c =
+pub value::read_steps-returns-in-Choice-clause-ok : goal.value::read_steps-returns-in-Choice-clause-ok
+value::read_steps-returns-in-Choice-clause-ok t c =
     got_as c.read_pick.result (run_steps c.args.reader.code.now c.args.reader.levels (run_value c.args.reader.code.now c.args.reader.levels) c.args.reader.id.index (routine_at c.args.reader.code.now c.args.reader.id.index) c.args.progress.now.skipped c.args.progress.now.left (bits_left c.args.bits.now)) (run_plan c.args.reader.code.now c.args.reader.levels (run_value c.args.reader.code.now c.args.reader.levels) c.args.reader.id.index (plans.Choice c.in-Choice.calls) c.args.progress.now.skipped c.args.progress.now.left (bits_left c.args.bits.now)) c.read_pick.new.progress (bits_left c.read_pick.new.bits)
     (as_plan c.args.reader.code.now c.args.reader.levels c.args.reader.id.index c.args.progress.now.skipped c.args.progress.now.left (bits_left c.args.bits.now) c.steps.result.now c.plan_of.result (plans.Choice c.in-Choice.calls) c.steps.ensures c.plan_of.ensures.is c.in-Choice.is) c.read_pick.ensures.ok
 
--- src/run.rt:92:1
-pub read_steps-returns-in-Choice-clause-err : goal.read_steps-returns-in-Choice-clause-err
-read_steps-returns-in-Choice-clause-err t c =
+pub value::read_steps-returns-in-Choice-clause-err : goal.value::read_steps-returns-in-Choice-clause-err
+value::read_steps-returns-in-Choice-clause-err t c =
     stops_as c.read_pick.result (run_steps c.args.reader.code.now c.args.reader.levels (run_value c.args.reader.code.now c.args.reader.levels) c.args.reader.id.index (routine_at c.args.reader.code.now c.args.reader.id.index) c.args.progress.now.skipped c.args.progress.now.left (bits_left c.args.bits.now)) (run_plan c.args.reader.code.now c.args.reader.levels (run_value c.args.reader.code.now c.args.reader.levels) c.args.reader.id.index (plans.Choice c.in-Choice.calls) c.args.progress.now.skipped c.args.progress.now.left (bits_left c.args.bits.now)) (bits_left c.read_pick.new.bits)
     (as_plan c.args.reader.code.now c.args.reader.levels c.args.reader.id.index c.args.progress.now.skipped c.args.progress.now.left (bits_left c.args.bits.now) c.steps.result.now c.plan_of.result (plans.Choice c.in-Choice.calls) c.steps.ensures c.plan_of.ensures.is c.in-Choice.is) c.read_pick.ensures.err
 
--- src/run.rt:92:1
-pub read_steps-returns-in-Choice-clause-went : goal.read_steps-returns-in-Choice-clause-went
-read_steps-returns-in-Choice-clause-went t c = c.read_pick.ensures.went
+pub value::read_steps-returns-in-Choice-clause-went : goal.value::read_steps-returns-in-Choice-clause-went
+value::read_steps-returns-in-Choice-clause-went t c = c.read_pick.ensures.went
 
--- src/run.rt:92:1
-pub read_steps-returns-in-Leaf-clause-ok : goal.read_steps-returns-in-Leaf-clause-ok
-read_steps-returns-in-Leaf-clause-ok t c =
+pub value::read_steps-returns-in-Leaf-clause-ok : goal.value::read_steps-returns-in-Leaf-clause-ok
+value::read_steps-returns-in-Leaf-clause-ok t c =
     got_as c.read_contents.result (run_steps c.args.reader.code.now c.args.reader.levels (run_value c.args.reader.code.now c.args.reader.levels) c.args.reader.id.index (routine_at c.args.reader.code.now c.args.reader.id.index) c.args.progress.now.skipped c.args.progress.now.left (bits_left c.args.bits.now)) (run_plan c.args.reader.code.now c.args.reader.levels (run_value c.args.reader.code.now c.args.reader.levels) c.args.reader.id.index (plans.Leaf) c.args.progress.now.skipped c.args.progress.now.left (bits_left c.args.bits.now)) c.args.progress.now (bits_left c.read_contents.new.bits)
     (as_plan c.args.reader.code.now c.args.reader.levels c.args.reader.id.index c.args.progress.now.skipped c.args.progress.now.left (bits_left c.args.bits.now) c.steps.result.now c.plan_of.result (plans.Leaf) c.steps.ensures c.plan_of.ensures.is c.in-Leaf.is) c.read_contents.ensures.ok
 
--- src/run.rt:92:1
-pub read_steps-returns-in-Leaf-clause-err : goal.read_steps-returns-in-Leaf-clause-err
-read_steps-returns-in-Leaf-clause-err t c =
+pub value::read_steps-returns-in-Leaf-clause-err : goal.value::read_steps-returns-in-Leaf-clause-err
+value::read_steps-returns-in-Leaf-clause-err t c =
     stops_as c.read_contents.result (run_steps c.args.reader.code.now c.args.reader.levels (run_value c.args.reader.code.now c.args.reader.levels) c.args.reader.id.index (routine_at c.args.reader.code.now c.args.reader.id.index) c.args.progress.now.skipped c.args.progress.now.left (bits_left c.args.bits.now)) (run_plan c.args.reader.code.now c.args.reader.levels (run_value c.args.reader.code.now c.args.reader.levels) c.args.reader.id.index (plans.Leaf) c.args.progress.now.skipped c.args.progress.now.left (bits_left c.args.bits.now)) (bits_left c.read_contents.new.bits)
     (as_plan c.args.reader.code.now c.args.reader.levels c.args.reader.id.index c.args.progress.now.skipped c.args.progress.now.left (bits_left c.args.bits.now) c.steps.result.now c.plan_of.result (plans.Leaf) c.steps.ensures c.plan_of.ensures.is c.in-Leaf.is) c.read_contents.ensures.err
 
--- src/run.rt:92:1
-pub read_steps-returns-in-Leaf-clause-went : goal.read_steps-returns-in-Leaf-clause-went
-read_steps-returns-in-Leaf-clause-went t c = shorter_ok c.read_contents.result c.args.progress.now (bits_left c.args.bits.now) (bits_left c.read_contents.new.bits) c.read_contents.ensures.shorter
+pub value::read_steps-returns-in-Leaf-clause-went : goal.value::read_steps-returns-in-Leaf-clause-went
+value::read_steps-returns-in-Leaf-clause-went t c = shorter_ok c.read_contents.result c.args.progress.now (bits_left c.args.bits.now) (bits_left c.read_contents.new.bits) c.read_contents.ensures.shorter
 
--- src/run.rt:92:1
-pub read_steps-returns-in-Nothing-clause-err : goal.read_steps-returns-in-Nothing-clause-err
-read_steps-returns-in-Nothing-clause-err t c =
+pub value::read_steps-returns-in-Nothing-clause-err : goal.value::read_steps-returns-in-Nothing-clause-err
+value::read_steps-returns-in-Nothing-clause-err t c =
     stop_at (run_steps c.args.reader.code.now c.args.reader.levels (run_value c.args.reader.code.now c.args.reader.levels) c.args.reader.id.index (routine_at c.args.reader.code.now c.args.reader.id.index) c.args.progress.now.skipped c.args.progress.now.left (bits_left c.args.bits.now)) why.Outside c.at.result (bits_left c.args.bits.now)
     (as_plan c.args.reader.code.now c.args.reader.levels c.args.reader.id.index c.args.progress.now.skipped c.args.progress.now.left (bits_left c.args.bits.now) c.steps.result.now c.plan_of.result (plans.Nothing) c.steps.ensures c.plan_of.ensures.is c.in-Nothing.is) c.at.ensures
 
--- src/run.rt:75:9
-pub read_value-returns-then-reader-eq0-clause-err :
-    goal.read_value-returns-then-reader-eq0-clause-err
-read_value-returns-then-reader-eq0-clause-err t c =
+pub value::read_value-returns-then-reader-eq0-clause-err :
+    goal.value::read_value-returns-then-reader-eq0-clause-err
+value::read_value-returns-then-reader-eq0-clause-err t c =
     stop_at (run_value c.args.reader.code.now c.args.reader.levels c.args.reader.id.index c.args.progress.now.skipped c.args.progress.now.left (bits_left c.args.bits.now)) why.TooDeep c.at.result (bits_left c.args.bits.now)
     (value_deep c.args.reader.code.now c.args.reader.levels c.args.reader.id.index c.args.progress.now.skipped c.args.progress.now.left (bits_left c.args.bits.now) (let h = c.if-reader-eq0.true in omega (arith, h))) c.at.ensures
 
--- src/run.rt:78:9
-pub read_value-returns-then-progress-eq0-clause-err :
-    goal.read_value-returns-then-progress-eq0-clause-err
-read_value-returns-then-progress-eq0-clause-err t c =
+pub value::read_value-returns-then-progress-eq0-clause-err :
+    goal.value::read_value-returns-then-progress-eq0-clause-err
+value::read_value-returns-then-progress-eq0-clause-err t c =
     stop_at (run_value c.args.reader.code.now c.args.reader.levels c.args.reader.id.index c.args.progress.now.skipped c.args.progress.now.left (bits_left c.args.bits.now)) why.NodesLimit c.at-then-progress-eq0.result (bits_left c.args.bits.now)
     (value_full c.args.reader.code.now c.args.reader.levels c.args.reader.id.index c.args.progress.now.skipped c.args.progress.now.left (bits_left c.args.bits.now) (let h = c.if-reader-eq0.false in omega (arith, h)) (let h = c.if-progress-eq0.true in omega (arith, h))) c.at-then-progress-eq0.ensures
 
--- src/run.rt:80:5
-pub read_value-overflow_sub-progress : goal.read_value-overflow_sub-progress
-read_value-overflow_sub-progress t c = let h = c.if-progress-eq0.false in omega (arith, h)
+pub value::read_value-overflow_sub-progress : goal.value::read_value-overflow_sub-progress
+value::read_value-overflow_sub-progress t c = let h = c.if-progress-eq0.false in omega (arith, h)
 
--- src/run.rt:83:21
-pub read_value-overflow_sub-reader : goal.read_value-overflow_sub-reader
-read_value-overflow_sub-reader t c = let h = c.if-reader-eq0.false in omega (arith, h)
+pub value::read_value-overflow_sub-reader : goal.value::read_value-overflow_sub-reader
+value::read_value-overflow_sub-reader t c = let h = c.if-reader-eq0.false in omega (arith, h)
 
--- src/run.rt:81:5
-pub read_value-read_steps-requires : goal.read_value-read_steps-requires
-read_value-read_steps-requires t c =
+pub value::read_value-read_steps-requires : goal.value::read_value-read_steps-requires
+value::read_value-read_steps-requires t c =
     let h = c.if-reader-eq0.false in
     let d = c.decreases in
     let f = c.requires.few in
@@ -1808,25 +1603,20 @@ read_value-read_steps-requires t c =
     let few : c.args.reader.levels - 1 ≤ 63 = omega (arith, f) in
     (lt, (few, c.requires.room))
 
--- src/run.rt:52:1
-pub read_value-returns-clause-ok : goal.read_value-returns-clause-ok
-read_value-returns-clause-ok t c = got_as c.read_steps.result (run_value c.args.reader.code.now c.args.reader.levels c.args.reader.id.index c.args.progress.now.skipped c.args.progress.now.left (bits_left c.args.bits.now)) (run_steps c.args.reader.code.now (c.args.reader.levels - 1) (run_value c.args.reader.code.now (c.args.reader.levels - 1)) c.args.reader.id.index (routine_at c.args.reader.code.now c.args.reader.id.index) c.args.progress.now.skipped (c.args.progress.now.left - 1) (bits_left c.args.bits.now)) c.read_steps.new.progress (bits_left c.read_steps.new.bits) (as_steps c) c.read_steps.ensures.ok
+pub value::read_value-returns-clause-ok : goal.value::read_value-returns-clause-ok
+value::read_value-returns-clause-ok t c = got_as c.read_steps.result (run_value c.args.reader.code.now c.args.reader.levels c.args.reader.id.index c.args.progress.now.skipped c.args.progress.now.left (bits_left c.args.bits.now)) (run_steps c.args.reader.code.now (c.args.reader.levels - 1) (run_value c.args.reader.code.now (c.args.reader.levels - 1)) c.args.reader.id.index (routine_at c.args.reader.code.now c.args.reader.id.index) c.args.progress.now.skipped (c.args.progress.now.left - 1) (bits_left c.args.bits.now)) c.read_steps.new.progress (bits_left c.read_steps.new.bits) (as_steps c) c.read_steps.ensures.ok
 
--- src/run.rt:52:1
-pub read_value-returns-clause-err : goal.read_value-returns-clause-err
-read_value-returns-clause-err t c = stops_as c.read_steps.result (run_value c.args.reader.code.now c.args.reader.levels c.args.reader.id.index c.args.progress.now.skipped c.args.progress.now.left (bits_left c.args.bits.now)) (run_steps c.args.reader.code.now (c.args.reader.levels - 1) (run_value c.args.reader.code.now (c.args.reader.levels - 1)) c.args.reader.id.index (routine_at c.args.reader.code.now c.args.reader.id.index) c.args.progress.now.skipped (c.args.progress.now.left - 1) (bits_left c.args.bits.now)) (bits_left c.read_steps.new.bits) (as_steps c) c.read_steps.ensures.err
+pub value::read_value-returns-clause-err : goal.value::read_value-returns-clause-err
+value::read_value-returns-clause-err t c = stops_as c.read_steps.result (run_value c.args.reader.code.now c.args.reader.levels c.args.reader.id.index c.args.progress.now.skipped c.args.progress.now.left (bits_left c.args.bits.now)) (run_steps c.args.reader.code.now (c.args.reader.levels - 1) (run_value c.args.reader.code.now (c.args.reader.levels - 1)) c.args.reader.id.index (routine_at c.args.reader.code.now c.args.reader.id.index) c.args.progress.now.skipped (c.args.progress.now.left - 1) (bits_left c.args.bits.now)) (bits_left c.read_steps.new.bits) (as_steps c) c.read_steps.ensures.err
 
--- src/run.rt:52:1
-pub read_value-returns-clause-went : goal.read_value-returns-clause-went
-read_value-returns-clause-went t c = went_value c.read_steps.result c.args.progress.now c.read_steps.new.progress (bits_left c.args.bits.now) (bits_left c.read_steps.new.bits) (let h = c.if-progress-eq0.false in omega (arith, h)) c.read_steps.ensures.went
+pub value::read_value-returns-clause-went : goal.value::read_value-returns-clause-went
+value::read_value-returns-clause-went t c = went_value c.read_steps.result c.args.progress.now c.read_steps.new.progress (bits_left c.args.bits.now) (bits_left c.read_steps.new.bits) (let h = c.if-progress-eq0.false in omega (arith, h)) c.read_steps.ensures.went
 
--- src/run.rt:52:1
-pub read_value-returns-clause-fewer : goal.read_value-returns-clause-fewer
-read_value-returns-clause-fewer t c = fewer_value c.read_steps.result c.args.progress.now c.read_steps.new.progress (bits_left c.args.bits.now) (bits_left c.read_steps.new.bits) (let h = c.if-progress-eq0.false in omega (arith, h)) c.read_steps.ensures.went
+pub value::read_value-returns-clause-fewer : goal.value::read_value-returns-clause-fewer
+value::read_value-returns-clause-fewer t c = fewer_value c.read_steps.result c.args.progress.now c.read_steps.new.progress (bits_left c.args.bits.now) (bits_left c.read_steps.new.bits) (let h = c.if-progress-eq0.false in omega (arith, h)) c.read_steps.ensures.went
 
--- src/run.rt:52:1
-pub read_value-returns-clause-value : goal.read_value-returns-clause-value
-read_value-returns-clause-value t c =
+pub value::read_value-returns-clause-value : goal.value::read_value-returns-clause-value
+value::read_value-returns-clause-value t c =
     let s = c.args.reader.code.now in
     let l = c.args.reader.levels in
     let u = c.args.reader.id.index in
@@ -1835,43 +1625,43 @@ read_value-returns-clause-value t c =
     value_of c.read_steps.result s l u c.args.progress.now.skipped n b (bits_left c.read_steps.new.bits) c.read_steps.new.progress
     (c.value_laws.ensures s l u n c.accepted.ensures) (c.step_laws.ensures s l u n b c.accepted.ensures) (run_steps c.args.reader.code.now (c.args.reader.levels - 1) (run_value c.args.reader.code.now (c.args.reader.levels - 1)) c.args.reader.id.index (routine_at c.args.reader.code.now c.args.reader.id.index) c.args.progress.now.skipped (c.args.progress.now.left - 1) (bits_left c.args.bits.now)) (as_steps c) c.read_steps.ensures.ok
 
-pub read_fields-returns-in-Err-read_row-clause-err : goal.read_fields-returns-in-Err-read_row-clause-err
-read_fields-returns-in-Err-read_row-clause-err t c = stop_next (run_structure c.args.reader.code.now c.args.reader.levels (run_value c.args.reader.code.now c.args.reader.levels) (components (kind_at c.args.reader.code.now c.args.reader.id.index)) c.args.shape.extensible c.args.shape.count c.args.shape.steps.now c.args.progress.now.skipped c.args.progress.now.left (bits_left c.args.bits.now)) (λ w r. read (as_fields w) r) c.in-Err-read_row.stop (bits_left c.read_row.new.bits) c.in-Err-read_row.ensures.err
+pub components::read_fields-returns-in-Err-read_row-clause-err : goal.components::read_fields-returns-in-Err-read_row-clause-err
+components::read_fields-returns-in-Err-read_row-clause-err t c = stop_next (run_structure c.args.reader.code.now c.args.reader.levels (run_value c.args.reader.code.now c.args.reader.levels) (components (kind_at c.args.reader.code.now c.args.reader.id.index)) c.args.shape.extensible c.args.shape.count c.args.shape.steps.now c.args.progress.now.skipped c.args.progress.now.left (bits_left c.args.bits.now)) (λ w r. read (as_fields w) r) c.in-Err-read_row.stop (bits_left c.read_row.new.bits) c.in-Err-read_row.ensures.err
 
-pub read_chosen-read_opened-requires : goal.read_chosen-read_opened-requires
-read_chosen-read_opened-requires t c =
+pub alternatives::read_chosen-read_opened-requires : goal.alternatives::read_chosen-read_opened-requires
+alternatives::read_chosen-read_opened-requires t c =
     let d = c.decreases in
     let lt : 30 * c.args.reader.levels + 10 < t = omega (arith, d) in
     (lt, (c.requires.few, c.requires.room))
 
-pub read_chosen-read_value-requires : goal.read_chosen-read_value-requires
-read_chosen-read_value-requires t c =
+pub alternatives::read_chosen-read_value-requires : goal.alternatives::read_chosen-read_value-requires
+alternatives::read_chosen-read_value-requires t c =
     let f = c.requires.few in
     let d = c.decreases in
     let lt : 30 * c.args.reader.levels < t = omega (arith, d) in
     let few : c.args.reader.levels ≤ 64 = omega (arith, f) in
     (lt, (few, c.requires.room))
 
-pub read_chosen-returns-in-Ok-clause-ok : goal.read_chosen-returns-in-Ok-clause-ok
-read_chosen-returns-in-Ok-clause-ok t c = chosen_as c.args.reader.code.now c.args.reader.levels c.args.call.number c.args.call.ty.index c.args.progress.now.skipped c.args.progress.now.left (bits_left c.args.bits.now) c.alternative.result (open_from (run_value c.args.reader.code.now c.args.reader.levels c.args.call.ty.index c.args.progress.now.skipped c.args.progress.now.left) (bits_left c.args.bits.now)) (run_chosen (run_value c.args.reader.code.now c.args.reader.levels) (chosen_of c.args.call) c.args.progress.now.skipped c.args.progress.now.left (bits_left c.args.bits.now)) (abstract c.in-Ok.value) c.read_opened.new.progress (bits_left c.read_opened.new.bits) (chosen_open c.args.reader.code.now c.args.reader.levels c.args.call.number c.args.call.ty.index c.args.progress.now.skipped c.args.progress.now.left (bits_left c.args.bits.now) c.args.call.open c.if-call.true) c.in-Ok.ensures.ok c.alternative.ensures.ok
+pub alternatives::read_chosen-returns-in-Ok-clause-ok : goal.alternatives::read_chosen-returns-in-Ok-clause-ok
+alternatives::read_chosen-returns-in-Ok-clause-ok t c = chosen_as c.args.reader.code.now c.args.reader.levels c.args.call.number c.args.call.ty.index c.args.progress.now.skipped c.args.progress.now.left (bits_left c.args.bits.now) c.alternative.result (open_from (run_value c.args.reader.code.now c.args.reader.levels c.args.call.ty.index c.args.progress.now.skipped c.args.progress.now.left) (bits_left c.args.bits.now)) (run_chosen (run_value c.args.reader.code.now c.args.reader.levels) (chosen_of c.args.call) c.args.progress.now.skipped c.args.progress.now.left (bits_left c.args.bits.now)) (abstract c.in-Ok.value) c.read_opened.new.progress (bits_left c.read_opened.new.bits) (chosen_open c.args.reader.code.now c.args.reader.levels c.args.call.number c.args.call.ty.index c.args.progress.now.skipped c.args.progress.now.left (bits_left c.args.bits.now) c.args.call.open c.if-call.true) c.in-Ok.ensures.ok c.alternative.ensures.ok
 
-pub read_chosen-returns-in-Ok-clause-err : goal.read_chosen-returns-in-Ok-clause-err
-read_chosen-returns-in-Ok-clause-err t c = only_memory c.alternative.result (run_chosen (run_value c.args.reader.code.now c.args.reader.levels) (chosen_of c.args.call) c.args.progress.now.skipped c.args.progress.now.left (bits_left c.args.bits.now)) (bits_left c.read_opened.new.bits) c.alternative.ensures.err
+pub alternatives::read_chosen-returns-in-Ok-clause-err : goal.alternatives::read_chosen-returns-in-Ok-clause-err
+alternatives::read_chosen-returns-in-Ok-clause-err t c = only_memory c.alternative.result (run_chosen (run_value c.args.reader.code.now c.args.reader.levels) (chosen_of c.args.call) c.args.progress.now.skipped c.args.progress.now.left (bits_left c.args.bits.now)) (bits_left c.read_opened.new.bits) c.alternative.ensures.err
 
-pub read_chosen-returns-in-Ok-clause-went : goal.read_chosen-returns-in-Ok-clause-went
-read_chosen-returns-in-Ok-clause-went t c = whatever c.alternative.result c.in-Ok.ensures.went
+pub alternatives::read_chosen-returns-in-Ok-clause-went : goal.alternatives::read_chosen-returns-in-Ok-clause-went
+alternatives::read_chosen-returns-in-Ok-clause-went t c = whatever c.alternative.result c.in-Ok.ensures.went
 
-pub read_chosen-returns-in-Err-clause-err : goal.read_chosen-returns-in-Err-clause-err
-read_chosen-returns-in-Err-clause-err t c = stop_as (run_chosen (run_value c.args.reader.code.now c.args.reader.levels) (chosen_of c.args.call) c.args.progress.now.skipped c.args.progress.now.left (bits_left c.args.bits.now)) (next' c.args.call.number (open_from (run_value c.args.reader.code.now c.args.reader.levels c.args.call.ty.index c.args.progress.now.skipped c.args.progress.now.left) (bits_left c.args.bits.now))) c.within.result (bits_left c.read_opened.new.bits) (chosen_open c.args.reader.code.now c.args.reader.levels c.args.call.number c.args.call.ty.index c.args.progress.now.skipped c.args.progress.now.left (bits_left c.args.bits.now) c.args.call.open c.if-call.true) (chosen_stop c.args.reader.code.now c.args.reader.levels c.args.call.number c.args.call.ty.index c.args.progress.now.skipped c.args.progress.now.left (bits_left c.args.bits.now) (open_from (run_value c.args.reader.code.now c.args.reader.levels c.args.call.ty.index c.args.progress.now.skipped c.args.progress.now.left) (bits_left c.args.bits.now)) c.in-Err.stop c.within.result (bits_left c.read_opened.new.bits) c.in-Err.ensures.err c.within.ensures)
+pub alternatives::read_chosen-returns-in-Err-clause-err : goal.alternatives::read_chosen-returns-in-Err-clause-err
+alternatives::read_chosen-returns-in-Err-clause-err t c = stop_as (run_chosen (run_value c.args.reader.code.now c.args.reader.levels) (chosen_of c.args.call) c.args.progress.now.skipped c.args.progress.now.left (bits_left c.args.bits.now)) (next' c.args.call.number (open_from (run_value c.args.reader.code.now c.args.reader.levels c.args.call.ty.index c.args.progress.now.skipped c.args.progress.now.left) (bits_left c.args.bits.now))) c.within.result (bits_left c.read_opened.new.bits) (chosen_open c.args.reader.code.now c.args.reader.levels c.args.call.number c.args.call.ty.index c.args.progress.now.skipped c.args.progress.now.left (bits_left c.args.bits.now) c.args.call.open c.if-call.true) (chosen_stop c.args.reader.code.now c.args.reader.levels c.args.call.number c.args.call.ty.index c.args.progress.now.skipped c.args.progress.now.left (bits_left c.args.bits.now) (open_from (run_value c.args.reader.code.now c.args.reader.levels c.args.call.ty.index c.args.progress.now.skipped c.args.progress.now.left) (bits_left c.args.bits.now)) c.in-Err.stop c.within.result (bits_left c.read_opened.new.bits) c.in-Err.ensures.err c.within.ensures)
 
-pub read_chosen-returns-in-Ok-read_value-clause-ok : goal.read_chosen-returns-in-Ok-read_value-clause-ok
-read_chosen-returns-in-Ok-read_value-clause-ok t c = chosen_as c.args.reader.code.now c.args.reader.levels c.args.call.number c.args.call.ty.index c.args.progress.now.skipped c.args.progress.now.left (bits_left c.args.bits.now) c.alternative-in-Ok-read_value.result (run_value c.args.reader.code.now c.args.reader.levels c.args.call.ty.index c.args.progress.now.skipped c.args.progress.now.left (bits_left c.args.bits.now)) (run_chosen (run_value c.args.reader.code.now c.args.reader.levels) (chosen_of c.args.call) c.args.progress.now.skipped c.args.progress.now.left (bits_left c.args.bits.now)) (abstract c.in-Ok-read_value.value) c.read_value.new.progress (bits_left c.read_value.new.bits) (chosen_root c.args.reader.code.now c.args.reader.levels c.args.call.number c.args.call.ty.index c.args.progress.now.skipped c.args.progress.now.left (bits_left c.args.bits.now) c.args.call.open c.if-call.false) c.in-Ok-read_value.ensures.ok c.alternative-in-Ok-read_value.ensures.ok
+pub alternatives::read_chosen-returns-in-Ok-read_value-clause-ok : goal.alternatives::read_chosen-returns-in-Ok-read_value-clause-ok
+alternatives::read_chosen-returns-in-Ok-read_value-clause-ok t c = chosen_as c.args.reader.code.now c.args.reader.levels c.args.call.number c.args.call.ty.index c.args.progress.now.skipped c.args.progress.now.left (bits_left c.args.bits.now) c.alternative-in-Ok-read_value.result (run_value c.args.reader.code.now c.args.reader.levels c.args.call.ty.index c.args.progress.now.skipped c.args.progress.now.left (bits_left c.args.bits.now)) (run_chosen (run_value c.args.reader.code.now c.args.reader.levels) (chosen_of c.args.call) c.args.progress.now.skipped c.args.progress.now.left (bits_left c.args.bits.now)) (abstract c.in-Ok-read_value.value) c.read_value.new.progress (bits_left c.read_value.new.bits) (chosen_root c.args.reader.code.now c.args.reader.levels c.args.call.number c.args.call.ty.index c.args.progress.now.skipped c.args.progress.now.left (bits_left c.args.bits.now) c.args.call.open c.if-call.false) c.in-Ok-read_value.ensures.ok c.alternative-in-Ok-read_value.ensures.ok
 
-pub read_chosen-returns-in-Ok-read_value-clause-err : goal.read_chosen-returns-in-Ok-read_value-clause-err
-read_chosen-returns-in-Ok-read_value-clause-err t c = only_memory c.alternative-in-Ok-read_value.result (run_chosen (run_value c.args.reader.code.now c.args.reader.levels) (chosen_of c.args.call) c.args.progress.now.skipped c.args.progress.now.left (bits_left c.args.bits.now)) (bits_left c.read_value.new.bits) c.alternative-in-Ok-read_value.ensures.err
+pub alternatives::read_chosen-returns-in-Ok-read_value-clause-err : goal.alternatives::read_chosen-returns-in-Ok-read_value-clause-err
+alternatives::read_chosen-returns-in-Ok-read_value-clause-err t c = only_memory c.alternative-in-Ok-read_value.result (run_chosen (run_value c.args.reader.code.now c.args.reader.levels) (chosen_of c.args.call) c.args.progress.now.skipped c.args.progress.now.left (bits_left c.args.bits.now)) (bits_left c.read_value.new.bits) c.alternative-in-Ok-read_value.ensures.err
 
-pub read_chosen-returns-in-Ok-read_value-clause-went : goal.read_chosen-returns-in-Ok-read_value-clause-went
-read_chosen-returns-in-Ok-read_value-clause-went t c = whatever c.alternative-in-Ok-read_value.result c.in-Ok-read_value.ensures.went
+pub alternatives::read_chosen-returns-in-Ok-read_value-clause-went : goal.alternatives::read_chosen-returns-in-Ok-read_value-clause-went
+alternatives::read_chosen-returns-in-Ok-read_value-clause-went t c = whatever c.alternative-in-Ok-read_value.result c.in-Ok-read_value.ensures.went
 
-pub read_chosen-returns-in-Err-read_value-clause-err : goal.read_chosen-returns-in-Err-read_value-clause-err
-read_chosen-returns-in-Err-read_value-clause-err t c = stop_as (run_chosen (run_value c.args.reader.code.now c.args.reader.levels) (chosen_of c.args.call) c.args.progress.now.skipped c.args.progress.now.left (bits_left c.args.bits.now)) (next' c.args.call.number (run_value c.args.reader.code.now c.args.reader.levels c.args.call.ty.index c.args.progress.now.skipped c.args.progress.now.left (bits_left c.args.bits.now))) c.within-in-Err-read_value.result (bits_left c.read_value.new.bits) (chosen_root c.args.reader.code.now c.args.reader.levels c.args.call.number c.args.call.ty.index c.args.progress.now.skipped c.args.progress.now.left (bits_left c.args.bits.now) c.args.call.open c.if-call.false) (chosen_stop c.args.reader.code.now c.args.reader.levels c.args.call.number c.args.call.ty.index c.args.progress.now.skipped c.args.progress.now.left (bits_left c.args.bits.now) (run_value c.args.reader.code.now c.args.reader.levels c.args.call.ty.index c.args.progress.now.skipped c.args.progress.now.left (bits_left c.args.bits.now)) c.in-Err-read_value.stop c.within-in-Err-read_value.result (bits_left c.read_value.new.bits) c.in-Err-read_value.ensures.err c.within-in-Err-read_value.ensures)
+pub alternatives::read_chosen-returns-in-Err-read_value-clause-err : goal.alternatives::read_chosen-returns-in-Err-read_value-clause-err
+alternatives::read_chosen-returns-in-Err-read_value-clause-err t c = stop_as (run_chosen (run_value c.args.reader.code.now c.args.reader.levels) (chosen_of c.args.call) c.args.progress.now.skipped c.args.progress.now.left (bits_left c.args.bits.now)) (next' c.args.call.number (run_value c.args.reader.code.now c.args.reader.levels c.args.call.ty.index c.args.progress.now.skipped c.args.progress.now.left (bits_left c.args.bits.now))) c.within-in-Err-read_value.result (bits_left c.read_value.new.bits) (chosen_root c.args.reader.code.now c.args.reader.levels c.args.call.number c.args.call.ty.index c.args.progress.now.skipped c.args.progress.now.left (bits_left c.args.bits.now) c.args.call.open c.if-call.false) (chosen_stop c.args.reader.code.now c.args.reader.levels c.args.call.number c.args.call.ty.index c.args.progress.now.skipped c.args.progress.now.left (bits_left c.args.bits.now) (run_value c.args.reader.code.now c.args.reader.levels c.args.call.ty.index c.args.progress.now.skipped c.args.progress.now.left (bits_left c.args.bits.now)) c.in-Err-read_value.stop c.within-in-Err-read_value.result (bits_left c.read_value.new.bits) c.in-Err-read_value.ensures.err c.within-in-Err-read_value.ensures)

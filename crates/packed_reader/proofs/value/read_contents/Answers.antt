@@ -2,7 +2,7 @@ use Rattle.asn_base.specs.Abstract.{abstract}
 use Rattle.asn_base.specs.Seen.{kind_of}
 use Rattle.bits.specs.Left.{bits_left}
 use Rattle.packed_reader.proofs.Plans.{reading_shorter}
-use Rattle.packed_reader.proofs.run.read_contents.Goals as goal
+use Rattle.packed_reader.proofs.value.read_contents.Goals as goal
 
 pub returns-in-Ok-clause-shorter : goal.returns-in-Ok-clause-shorter
 returns-in-Ok-clause-shorter c =
