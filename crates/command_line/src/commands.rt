@@ -114,11 +114,7 @@ fn context_arg<'a>(alloc: Global) -> Arg<'a>
     ensures rule { rule_of result ≡ flag_rule (codes "context") }
     ensures local { result.global ≡ false }
 {
-    flag_arg(
-        alloc,
-        "context",
-        "Show the line of a fault in a text, too",
-    )
+    flag_arg(alloc, "context", "Show the line of a fault in a text, too")
 }
 
 /// `--hex`, for the octets that are read or checked.

@@ -14,8 +14,9 @@ use std::alloc::{AllocError, Global};
 /// What is wrong with a text of a program's words that gives no octets.
 fn complaint(alloc: Global, program: &str, text: &str) -> Result<String, AllocError> {
     let told = shown(alloc, text)?;
+    let wanted = "two hexadecimal digits for each octet, or @ and the name of a file";
     format!(in alloc;
-        "--hex wants two hexadecimal digits an octet, or @ and the name of a file, and not {told} ({program} --help shows the words)"
+        "found {told} after --hex, expected {wanted} ({program} --help shows the words)"
     )
 }
 

@@ -80,7 +80,7 @@ x
 51 1 error 51 WrongKind: m.asn:1:39: found 'w' in w, which the type does not take, expected a constraint of this kind of type: numbers, sizes from 0 on, or single characters | error 51 WrongKind: M.w
 52 1 error 52 Reconstrained: m.asn:1:39: found 'w' in w, after a constraint with an extension marker, which this compiler does not support, expected one constraint | error 52 Reconstrained: M.w
 53 1 error 53 LowerAboveUpper: m.asn:1:39: found 'w' in w, a lower end above the upper one, expected ends that ascend | error 53 LowerAboveUpper: M.w
-55 1 error 55 MarkerPlace: m.asn:1:39: found 'w' in w, with an extension marker that this compiler does not support, expected the marker after one value or range of an INTEGER, or after one SIZE of another type than a character string | error 55 MarkerPlace: M.w
+55 1 error 55 MarkerPlace: m.asn:1:39: found 'w' in w, with an extension marker that this compiler does not support, expected the marker after one value or range of an INTEGER, or after one SIZE that is not of characters | error 55 MarkerPlace: M.w
 1 3 error 1 Memory: out of memory | error 1 Memory
 55 1 error 55 MarkerPlace: m.asn:1:39: found 'w' in w, which is not allowed at this place by the extension marker of its list, expected additions after the marker, and the root before it | error 55 MarkerPlace: M.w
 56 1 error 56 AdditionOrder: m.asn:1:39: found 'w' in w, an addition that does not ascend, expected ascending numbers in an enumeration, ascending tags in a CHOICE | error 56 AdditionOrder: M.w

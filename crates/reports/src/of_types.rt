@@ -95,7 +95,7 @@ pub(crate) fn of_bounds(
         BoundFault::MarkerPlace(spot) => (
             spot,
             "with an extension marker that this compiler does not support",
-            "the marker after one value or range of an INTEGER, or after one SIZE of another type than a character string",
+            "the marker after one value or range of an INTEGER, or after one SIZE that is not of characters",
         ),
     };
     of_spot(alloc, text, spot, which, expected)
