@@ -153,9 +153,9 @@ pub fn unpacked()
     written_is_read();
 }
 
-/// What [`crate::Kit::ber`] and [`crate::Kit::unper`] print is value notation (X.680, clause 17). Read in any module, the
-/// printed text means the value that the octets encode, and no other. The exceptions are a text of more than 16,777,216
-/// octets, and a value with a line end in one of its texts.
+/// What [`crate::Kit::ber`] and [`crate::Kit::unper`] print is value notation (X.680, clause 17). Read in any module,
+/// the printed text means the value that the octets encode, and no other. The exceptions are a text of more than
+/// 16,777,216 octets, and a value with a line end in one of its texts.
 pub fn printed()
     ensures read { (xs : List (List ℕ)) (p : Program) (s : List Resolved) (r : Rules) (name o text : List ℕ) (k : ℕ)
         (M : Name) →
