@@ -4,9 +4,9 @@
 # the most that one more run had resident, in megabytes, if /usr/bin/time can measure it. Both grow in line with the
 # text. If the program bound_bench is built, this prints how long constraints take, in microseconds, among them one of
 # 60,000 numbers. It also prints how long it takes to type the notation of a long value and to print its value, in
-# milliseconds, for one run each. If module_rows is built, this prints how long it takes to open and to settle modules
-# full of types, values and DEFAULTs. It also prints how long it takes to compare two of their types. Each is one run,
-# in milliseconds.
+# milliseconds, for one run each. If the program rows is built, this prints how long it takes to open and to settle
+# modules full of types, values and DEFAULTs. It also prints how long it takes to compare two of their types. Each is
+# one run, in milliseconds.
 set -euo pipefail
 
 if [[ $# -eq 1 && ($1 == --help || $1 == -h) ]]; then
@@ -241,7 +241,7 @@ else
   printf '%s\n' "bounds: bound_bench is not built (rt run in crates/bound_bench)"
 fi
 
-# settlings: lays out what module_rows says of modules that were opened and settled, and of types that were compared.
+# settlings: lays out what rows says of modules that were opened and settled, and of types that were compared.
 settlings() {
   awk -F '[:,] ' '
     function tell(call, what, words,   took) {
@@ -253,9 +253,9 @@ settlings() {
 }
 
 # A program of its own settles and compares types too: modules of 2,048 and of 4,096 types, and as many as fit.
-rows=$here/crates/module_rows
-if [[ -x $rows/out/module_rows ]]; then
-  { "$rows/out/module_rows" "$rows/data/speed.rows" >/dev/null; } 2>&1 | settlings
+rows=$here/crates/rows
+if [[ -x $rows/out/rows ]]; then
+  { (cd "$rows/data" && "$rows/out/rows" modules/speed.rows >/dev/null); } 2>&1 | settlings
 else
-  printf '%s\n' "settlings: module_rows is not built (rt run in crates/module_rows)"
+  printf '%s\n' "settlings: rows is not built (rt run in crates/rows)"
 fi

@@ -474,8 +474,8 @@ show_edits() {
 row_names() {
   find "$top/crates" -name out -prune -o \( -name '*.antt' -o -name '*.rt' \) -print0 |
     xargs -0 sed -nE "s/^((pub|abbrev) )*([a-z][A-Za-z0-9_']*) :.*/\3/p; s/^ *(pub )?fn ([a-z_0-9]+).*/\2/p"
-  sed -nE 's/^=== //p' "$top"/crates/*/data/*.rows | tr ' ' '\n'
-  printf '%s\n' "$top"/crates/* "$top"/crates/*/data/*.rows "$top"/crates/*/trial/*.edit | sed -E 's/.*\///; s/\.[a-z]+$//'
+  sed -nE 's/^=== //p' "$top"/crates/*/data/{,*/}*.rows | tr ' ' '\n'
+  printf '%s\n' "$top"/crates/* "$top"/crates/*/data/{,*/}*.rows "$top"/crates/*/trial/*.edit | sed -E 's/.*\///; s/\.[a-z]+$//'
 }
 
 # show_rows: which rows need which clause, and the status 1 where a row that is named is in no file.

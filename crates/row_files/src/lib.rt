@@ -1,4 +1,4 @@
-//! Files of rows: what a test asks, and the texts that it asks about.
+//! Files of rows: what a test asks, and the texts that it asks about. `indent` lays out answers below a row's title.
 //!
 //! A file is read line by line.
 //!
@@ -18,8 +18,10 @@
 
 mod fault;
 mod forms;
+mod layout;
 mod marks;
 mod row;
 
 pub use fault::RowFault;
+pub use layout::indent;
 pub use row::{Row, RowText, rows};

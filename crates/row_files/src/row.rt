@@ -7,7 +7,7 @@ ghost use Rattle.row_files.specs.Rows.{first_word, IsOfText, IsOfFile};
 use crate::fault::RowFault;
 use crate::forms::{form_of, is_among, put_texts};
 use crate::marks::{Block, blocks_of};
-use std::alloc::Global;
+use std::alloc::{AllocError, Global};
 
 /// What a row asks, and its texts.
 #[derive(Drop)]
@@ -44,6 +44,16 @@ impl Row {
         ensures { result ≡ list_any (λ w. bytes_eq (string_bytes w) word.now) self.now.words.items }
     {
         is_among(&self.words, word)
+    }
+
+    /// The words of the row, with a blank between each two.
+    pub fn title(&self, alloc: Global) -> Result<String, AllocError> {
+        let mut text = String::from_str(alloc, self.command())?;
+        for word in self.words.iter().skip(1) {
+            text.push(' ')?;
+            text.push_str(word.as_str())?;
+        }
+        Ok(text)
     }
 }
 

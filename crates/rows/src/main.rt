@@ -1,10 +1,13 @@
-//! Answers rows of data by the calls that the program `asnc` makes, and prints each answer below the words of its row.
-//! It also prints each answer that isn't the one that its row wants.
+//! Answers rows of data, and prints each answer below the words of its row.
 //!
-//! The words of the command line name files of rows. The first word of a row is a command, and the second is the name
-//! of the row. The commands are `line`, `asnc`, `job`, `octcheck`, `octjob` and `sweep`. Each is described at its
-//! function and at the head of the files that use it. If a row has a text named `wanted`, its answer must be that text,
-//! as the module `wanted` says. This program doesn't know these answers.
+//! The words of the command line name files of rows. `text_answers` answers those of the folders `text` and `expected`,
+//! `module_answers` those of `modules`, and `codec_answers` those of `codec`. This crate answers all others by the
+//! calls that the program `asnc` makes. It also prints each of its answers that isn't the one that its row wants.
+//!
+//! The first word of such a row is a command, and the second is the name of the row. The commands are `line`, `asnc`,
+//! `job`, `octcheck`, `octjob` and `sweep`. Each is described at its function and at the head of the files that use it.
+//! If a row has a text named `wanted`, its answer must be that text, as the module `wanted` says. This program doesn't
+//! know these answers.
 //!
 //! The answers of the stored run and of the rows were written by hand or made by other tools, not taken from this
 //! program. The exceptions are those of `hints.rows` and lists of expected tokens, which were compared by hand with the
@@ -41,11 +44,7 @@ fn answer_of(alloc: Global, row: &Row) -> Result<String, Refusal> {
 /// The words of a row, and below them the lines of its answer, each after two blanks. If the row wants another answer,
 /// that follows.
 fn entry(alloc: Global, row: &Row, count: &mut Count) -> Result<String, AllocError> {
-    let mut text = String::from_str(alloc, row.command())?;
-    for word in row.words.iter().skip(1) {
-        text.push(' ')?;
-        text.push_str(word.as_str())?;
-    }
+    let mut text = row.title(alloc)?;
     let answer = match answer_of(alloc, row) {
         Ok(answer) => answer,
         Err(Refusal::Told(words)) => words,
@@ -69,8 +68,8 @@ fn indent(alloc: Global, text: &mut String, answer: &str) -> Result<(), AllocErr
     Ok(())
 }
 
-/// Prints the answers to the rows of a file.
-fn answer_file(rt: &HostRuntime, file: &str, count: &mut Count) -> io::Result<()> {
+/// Prints the answers to the rows of a file of this crate.
+fn answer_own(rt: &HostRuntime, file: &str, count: &mut Count) -> io::Result<()> {
     println!(rt; "{file}")?;
     let octets = fs::read(rt, file)?;
     let rows = match rows(rt.alloc(), octets.as_slice()) {
@@ -82,6 +81,21 @@ fn answer_file(rt: &HostRuntime, file: &str, count: &mut Count) -> io::Result<()
         println!(rt; "{text}")?;
     }
     Ok(())
+}
+
+/// Prints the answers to the rows of a file, by the crate that answers its folder.
+fn answer_file(rt: &HostRuntime, file: &str, count: &mut Count) -> io::Result<()> {
+    let folder = match file.split_once('/') {
+        Some((folder, _)) => folder,
+        None => "",
+    };
+    match folder {
+        "text" => text_answers::answer_file(rt, file),
+        "expected" => text_answers::compare_file(rt, file),
+        "modules" => module_answers::answer_file(rt, file),
+        "codec" => codec_answers::answer_file(rt, file),
+        _ => answer_own(rt, file, count),
+    }
 }
 
 /// The status is 1 if an answer isn't the one that its row wants.
