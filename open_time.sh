@@ -2,7 +2,7 @@
 # Prints how long the program takes to open modules of growing size. Some are ordinary ones, and some cost a careless
 # front end more than their length. The time is the least processor time of five runs, in milliseconds. The memory is
 # the most that one more run had resident, in megabytes, if /usr/bin/time can measure it. Both grow in line with the
-# text. If the program bound_bench is built, this prints how long constraints take, in microseconds, among them one of
+# text. If the program bench is built, this prints how long constraints take, in microseconds, among them one of
 # 60,000 numbers. It also prints how long it takes to type the notation of a long value and to print its value, in
 # milliseconds, for one run each. If the program rows is built, this prints how long it takes to open and to settle
 # modules full of types, values and DEFAULTs. It also prints how long it takes to compare two of their types. Each is
@@ -221,7 +221,7 @@ measure record_values 10000 20000 40000
 measure endless 180 360 720
 measure long_name 1 2 4
 
-# notations: lays out what bound_bench says of long notations, a line for each call that answered; other lines stay.
+# notations: lays out what bench says of long notations, a line for each call that answered; other lines stay.
 notations() {
   awk -F '[:,] ' '
     function tell(call, words,   took) {
@@ -234,11 +234,11 @@ notations() {
 }
 
 # Constraints and long notations alone, by a program of their own.
-bounds=$here/crates/bound_bench/out/bound_bench
-if [[ -x $bounds ]]; then
-  { "$bounds" >/dev/null; } 2>&1 | notations
+bench=$here/crates/bench/out/bench
+if [[ -x $bench ]]; then
+  { "$bench" bounds >/dev/null; } 2>&1 | notations
 else
-  printf '%s\n' "bounds: bound_bench is not built (rt run in crates/bound_bench)"
+  printf '%s\n' "bounds: bench is not built (rt run in crates/bench)"
 fi
 
 # settlings: lays out what rows says of modules that were opened and settled, and of types that were compared.

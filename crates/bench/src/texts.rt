@@ -1,10 +1,8 @@
 //! Reads texts of 8 MiB and of 16 MiB, and writes how many tokens each has. The time of each reading, in microseconds,
 //! is written to standard error.
-#![tactic(auto)]
 
 use std::alloc::{AllocError, Global};
 use std::io;
-use std::process::ExitCode;
 use std::time::{Duration, Instant};
 
 /// A text of one piece, repeated up to its middle, and then of another piece.
@@ -66,12 +64,12 @@ fn text_of(alloc: Global, shape: &Shape, times: usize) -> Result<Vec<u8>, AllocE
     Ok(text)
 }
 
-/// The least time of five readings of a text. The number of its tokens is written.
+/// The lesser time of two readings of a text. The number of its tokens is written.
 fn least_time(rt: &HostRuntime, shape: &Shape, times: usize) -> io::Result<Duration> {
     let text = text_of(rt.alloc(), shape, times)?;
     let mut least = Duration::MAX;
     let mut count = 0;
-    for _ in 0..5 {
+    for _ in 0..2 {
         let start = Instant::now(rt)?;
         if let Ok(tokens) = text::lex(rt.alloc(), &text) {
             count = tokens.len();
@@ -82,10 +80,11 @@ fn least_time(rt: &HostRuntime, shape: &Shape, times: usize) -> io::Result<Durat
     Ok(least)
 }
 
-fn main(rt: HostRuntime) -> io::Result<ExitCode> {
+/// Measures a text of each shape, of 8 MiB and of 16 MiB.
+pub fn measure_texts(rt: &HostRuntime) -> io::Result<()> {
     for shape in &SHAPES {
-        let half = least_time(&rt, shape, 1 << 16)?;
-        let whole = least_time(&rt, shape, 1 << 17)?;
+        let half = least_time(rt, shape, 1 << 16)?;
+        let whole = least_time(rt, shape, 1 << 17)?;
         eprintln!(rt;
             "{}: {} us, {} us",
             shape.name,
@@ -93,5 +92,5 @@ fn main(rt: HostRuntime) -> io::Result<ExitCode> {
             whole.as_micros()
         )?;
     }
-    Ok(ExitCode::SUCCESS)
+    Ok(())
 }

@@ -1,15 +1,12 @@
 //! Finds which values the constraints of modules leave, for each module in two sizes, and writes how many types each
 //! has. Then it reads, types and prints long values, and writes how long their texts are. The times of `bound`, the
-//! least of five runs, and of `value_at`, `typed` and `print` are written to standard error, in microseconds.
-#![tactic(auto)]
+//! least of three runs, and of `value_at`, `typed` and `print` are written to standard error, in microseconds.
 
-mod notations;
-
+use crate::notations;
 use constraints::bound;
 use resolve::{Linked, link};
 use std::alloc::{AllocError, Global};
 use std::io;
-use std::process::ExitCode;
 use std::time::{Duration, Instant};
 use tagging::tag;
 use trees::{
@@ -237,13 +234,13 @@ fn linked_of(alloc: Global, shape: Shape, count: usize) -> Result<Option<Linked>
     Ok(link(alloc, modules).ok())
 }
 
-/// The least time of five runs of `bound`. The number of types is written.
+/// The least time of three runs of `bound`. The number of types is written.
 fn least_time(rt: &HostRuntime, shape: Shape, count: usize) -> io::Result<Duration> {
     let mut least = Duration::MAX;
     let mut bounded = 0;
     if let Some(linked) = linked_of(rt.alloc(), shape, count)? {
         if let Ok(tagged) = tag(rt.alloc(), &linked) {
-            for _ in 0..5 {
+            for _ in 0..3 {
                 let start = Instant::now(rt)?;
                 if let Ok(limits) = bound(rt.alloc(), &tagged) {
                     bounded = limits.linked().types().len();
@@ -256,11 +253,12 @@ fn least_time(rt: &HostRuntime, shape: Shape, count: usize) -> io::Result<Durati
     Ok(least)
 }
 
-fn main(rt: HostRuntime) -> io::Result<ExitCode> {
+/// Measures a module of each shape, in two sizes, and then long values.
+pub fn measure_bounds(rt: &HostRuntime) -> io::Result<()> {
     for shape in &SHAPES {
         let count = shape.most();
-        let half = least_time(&rt, *shape, count / 2)?;
-        let whole = least_time(&rt, *shape, count)?;
+        let half = least_time(rt, *shape, count / 2)?;
+        let whole = least_time(rt, *shape, count)?;
         eprintln!(rt;
             "{}: {} us, {} us",
             shape.name(),
@@ -268,6 +266,5 @@ fn main(rt: HostRuntime) -> io::Result<ExitCode> {
             whole.as_micros()
         )?;
     }
-    notations::measure_all(&rt)?;
-    Ok(ExitCode::SUCCESS)
+    notations::measure_all(rt)
 }

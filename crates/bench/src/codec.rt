@@ -2,13 +2,8 @@
 //! by the basic rules. It prints how many octets and rows of the account each has, and whether the decoded value is
 //! encoded the same again. The times in microseconds, and the megabytes in each second, are written to standard error.
 //!
-//! `codec_bench FILE .. -- TYPE VALUE ..`: encodes values that the modules in the files name, each under a type, and
-//! after them values of growing size.
-#![tactic(auto)]
-
-mod named;
-mod shape;
-mod timing;
+//! The command line names values of modules, each under a type, as `named` describes. Values of growing size come after
+//! them.
 
 use crate::named::measure_named;
 use crate::shape::{Made, Shape, value_of};
@@ -16,7 +11,6 @@ use crate::timing::{Subject, measure};
 use codec_code::{Code, compile};
 use sample_types::{schema, type_named};
 use std::io;
-use std::process::ExitCode;
 
 /// Measures a value of a shape.
 fn measure_shape(rt: &HostRuntime, code: &Code, shape: Shape<'_>) -> io::Result<()> {
@@ -50,24 +44,19 @@ fn measure_shapes(rt: &HostRuntime, code: &Code) -> io::Result<()> {
         measure_shape(rt, code, string)?;
     }
     let mut names = Shape::of("message of SET OFs", "set-of-sets", Made::Sets, 53);
-    names.times = 1000;
+    names.times = 300;
     measure_shape(rt, code, names)?;
     let mut levels = Shape::of("levels", "levels", Made::Levels, 64);
-    levels.times = 1000;
+    levels.times = 300;
     measure_shape(rt, code, levels)
 }
 
-fn main(rt: HostRuntime) -> io::Result<ExitCode> {
-    measure_named(&rt)?;
+/// Measures the values that the command line names, and then values of all shapes.
+pub fn measure_codec(rt: &HostRuntime) -> io::Result<()> {
+    measure_named(rt)?;
     let schema = schema(rt.alloc())?;
     match compile(rt.alloc(), &schema) {
-        Ok(code) => {
-            measure_shapes(&rt, &code)?;
-            Ok(ExitCode::SUCCESS)
-        }
-        Err(fault) => {
-            println!(rt; "{fault}")?;
-            Ok(ExitCode::FAILURE)
-        }
+        Ok(code) => measure_shapes(rt, &code),
+        Err(fault) => println!(rt; "{fault}"),
     }
 }

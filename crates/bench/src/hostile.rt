@@ -1,10 +1,26 @@
-//! The messages.
+//! Decodes messages that would cost a careless decoder more than their length. One has each length in its longest form,
+//! one has 400 levels of headers, and one has empty elements. The number of decoded members is written to standard
+//! output. The time in microseconds, and the megabytes in each second, are written to standard error.
 
+use ber_reader::read_ber;
+use codec_code::{Code, compile};
+use sample_types::{schema, type_named};
 use std::alloc::{AllocError, Global};
+use std::time::{Duration, Instant};
+use std::{env, io};
+
+/// How often a message is decoded. The least time counts.
+const RUNS: usize = 3;
+
+const MESSAGES: [Hostile; 3] = [
+    Hostile::LongLengths,
+    Hostile::Levels,
+    Hostile::EmptyElements,
+];
 
 /// The kinds of messages.
 #[derive(Clone, Copy)]
-pub enum Hostile {
+enum Hostile {
     /// A SEQUENCE OF small SEQUENCEs, in which each length has 127 octets.
     LongLengths,
     /// An OCTET STRING in segments that are nested in 400 levels of headers.
@@ -21,7 +37,7 @@ const LONG_ELEMENT: usize = 4 * (LONGEST + 1) + 4;
 
 impl Hostile {
     /// The name of the message in print.
-    pub fn name(self) -> &'static str {
+    fn name(self) -> &'static str {
         match self {
             Hostile::LongLengths => "lengths in their longest form",
             Hostile::Levels => "400 levels of headers",
@@ -30,7 +46,7 @@ impl Hostile {
     }
 
     /// The name of the message's sample type.
-    pub fn ty(self) -> &'static str {
+    fn ty(self) -> &'static str {
         match self {
             Hostile::LongLengths => "rows",
             Hostile::Levels => "octets",
@@ -112,10 +128,64 @@ fn empty_elements(alloc: Global, size: usize) -> Result<Vec<u8>, AllocError> {
 }
 
 /// The message with about this number of octets. The one with 400 levels always has the same number.
-pub fn message_of(alloc: Global, hostile: Hostile, size: usize) -> Result<Vec<u8>, AllocError> {
+fn message_of(alloc: Global, hostile: Hostile, size: usize) -> Result<Vec<u8>, AllocError> {
     match hostile {
         Hostile::LongLengths => long_lengths(alloc, size),
         Hostile::Levels => levels(alloc),
         Hostile::EmptyElements => empty_elements(alloc, size),
     }
+}
+
+/// The number of members in a decoded message, or None after a fault.
+fn members_in(rt: &HostRuntime, code: &Code, ty: &str, octets: &[u8]) -> Option<usize> {
+    let id = type_named(ty)?;
+    match read_ber(rt.alloc(), code, id, octets) {
+        Ok(read) => Some(read.view.top().count()),
+        Err(_) => None,
+    }
+}
+
+/// Decodes a message of about this number of octets.
+fn measure(rt: &HostRuntime, code: &Code, hostile: Hostile, size: usize) -> io::Result<()> {
+    let octets = message_of(rt.alloc(), hostile, size)?;
+    let mut least = Duration::MAX;
+    let mut members = None;
+    for _ in 0..RUNS {
+        let start = Instant::now(rt)?;
+        members = members_in(rt, code, hostile.ty(), octets.as_slice());
+        least = least.min(start.elapsed(rt)?);
+    }
+    let name = hostile.name();
+    let count = octets.len();
+    match members {
+        Some(members) => println!(rt; "{name} of {count} octets: {members} members")?,
+        None => println!(rt; "{name} of {count} octets: not read")?,
+    }
+    let micros = least.as_micros().max(1);
+    let rate = count as u128 / micros;
+    eprintln!(rt; "{name} of {count} octets: {micros} us, {rate} MB/s")
+}
+
+/// Decodes each message in each of these sizes. The messages have about this number of octets.
+pub fn measure_hostile(rt: &HostRuntime, sizes: &[usize]) -> io::Result<()> {
+    let schema = schema(rt.alloc())?;
+    let code = match compile(rt.alloc(), &schema) {
+        Ok(code) => code,
+        Err(fault) => return println!(rt; "{fault}"),
+    };
+    for size in sizes {
+        for hostile in &MESSAGES {
+            measure(rt, &code, *hostile, *size)?;
+        }
+    }
+    Ok(())
+}
+
+/// Decodes each message in each size that a word of the command line after the first gives.
+pub fn measure_asked(rt: &HostRuntime) -> io::Result<()> {
+    let mut sizes = Vec::new(rt.alloc());
+    for word in env::args(rt)?.skip(2) {
+        sizes.push(word.as_str().parse::<usize>().unwrap_or(0))?;
+    }
+    measure_hostile(rt, sizes.as_slice())
 }

@@ -1,6 +1,6 @@
 use Rattle.std.proofs.Common.{map}
 use Rattle.front_end.specs.Accepted.{octets_of}
-use Rattle.codec_bench.proofs.named.measure_named.Goals as goal
+use Rattle.bench.proofs.named.measure_named.Goals as goal
 
 pub of-modules-requires : goal.of-modules-requires
 of-modules-requires c =

@@ -13,10 +13,10 @@ use std::{env, fs, io};
 use trees::ValueSyntax;
 
 /// How often a message is encoded in one run.
-const TIMES: usize = 1000;
+const TIMES: usize = 300;
 
-/// The contents of the command line: the texts of the files before the word `--`, and the names of types and values
-/// after it.
+/// The contents of the command line after the first word: the texts of the files before the word `--`, and the names of
+/// types and values after it.
 #[derive(Drop)]
 struct Words {
     texts: Vec<Vec<u8>>,
@@ -28,7 +28,7 @@ fn asked(rt: &HostRuntime) -> io::Result<Words> {
     let mut texts = Vec::new(rt.alloc());
     let mut names = Vec::new(rt.alloc());
     let mut behind = false;
-    for word in env::args(rt)?.skip(1) {
+    for word in env::args(rt)?.skip(2) {
         if behind {
             names.push(word)?;
         } else if word.as_str() == "--" {

@@ -1,7 +1,7 @@
 use Rattle.std.proofs.Common.{IfSome, sym, subst, ◌∙◌}
 use Rattle.type_table.specs.Lists.{AreSound}
 use Rattle.resolve.specs.Program.{Program}
-use Rattle.bound_bench.proofs.notations.measure_all.Goals as goal
+use Rattle.bench.proofs.notations.measure_all.Goals as goal
 
 pub measure_each-requires : goal.measure_each-requires
 measure_each-requires c =
