@@ -34,7 +34,7 @@ use Rattle.packed_reader.proofs.Exact.{stop_exact, convert, next_exact, Made, ma
 use Rattle.packed_reader.proofs.Opening.{not_true, Opened, open_exact}
 use Rattle.packed_reader.proofs.Members.{moved}
 use Rattle.packed_reader.proofs.Fields.{IsKindRead, structure_exact}
-use Rattle.packed_reader.proofs.Elements.{IsListRead, list_exact}
+use Rattle.packed_reader.proofs.ElementsRead.{IsListRead, list_exact}
 use Rattle.packed_reader.proofs.Chosen.{IsChosen, chosen_root, chosen_added, chosen_reading}
 
 -- ---- bits as they stand

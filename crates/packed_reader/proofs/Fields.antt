@@ -22,7 +22,7 @@ use Rattle.packed_reader.specs.Values.{IsValueRead, structure_from}
 use Rattle.packed_reader.proofs.Exact.{convert, Made, made_exact}
 use Rattle.packed_reader.proofs.Opening.{not_true}
 use Rattle.packed_reader.proofs.Members.{IsValid, all_nodes, AllRead, none_read, one_read, AreTold, AllTold, none_told, one_told}
-use Rattle.packed_reader.proofs.Additions.{telling, AllMore, none_more, one_more, AdditionsTold, nothing_told, alone_told, group_told, AdditionsRead, nothing_read, alone_read, group_read, addition_nodes, may_lack_addition}
+use Rattle.packed_reader.proofs.AdditionsRead.{telling, AllMore, none_more, one_more, AdditionsTold, nothing_told, alone_told, group_told, AdditionsRead, nothing_read, alone_read, group_read, addition_nodes, may_lack_addition}
 use Rattle.packed_reader.proofs.Pieces.{own_told, own_only, IsRest, IsMark, ArePieces, pieces_exact}
 use Rattle.packed_reader.proofs.Within.{told_component}
 use Rattle.packed_reader.proofs.Natural.{root_same, behind_same, additions_same, on_additions}

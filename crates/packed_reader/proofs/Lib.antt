@@ -1,7 +1,7 @@
 mod Exact
 mod Opening
 mod Members
-mod Additions
+mod AdditionsRead
 mod Pieces
 mod Within
 mod Lacking
@@ -9,7 +9,7 @@ mod Natural
 mod Places
 mod Groups
 mod Fields
-mod Elements
+mod ElementsRead
 mod Chosen
 mod AllKinds
 mod Whole

@@ -19,7 +19,7 @@ use Rattle.packed_reader.specs.Values.{IsValueRead}
 use Rattle.packed_reader.proofs.Exact.{done_exact, convert, next_exact, Made, made_exact, plain_exact, tested_exact}
 use Rattle.packed_reader.proofs.Opening.{not_true}
 use Rattle.packed_reader.proofs.Members.{Tells, presences_exact, AreMembersRead, AllTold, members_exact}
-use Rattle.packed_reader.proofs.Additions.{one_telling, AdditionsTold, AreAdditionsRead, additions_exact, unknown_exact}
+use Rattle.packed_reader.proofs.AdditionsRead.{one_telling, AdditionsTold, AreAdditionsRead, additions_exact, unknown_exact}
 
 -- ---- a bit for each addition
 

@@ -1151,15 +1151,7 @@ value::read_opened-returns-clause-err t c =
     = λ v a t x g e u w q j. inner_bad f b r i o sl h c.in-Ok.ensures.ok z p v c.len-all.result a c.len-2.result c.len-3.result c.min-left.result t x y
     (λ v. c.inside_laws.ensures.value_read s l c.args.reader.id.index k n i z v c.accepted.ensures) g c.len-all.ensures e u w q j (c.len-3.ensures ∙ c.in-Ok.octets.ok.0) c.len-2.ensures c.min-left.ensures c.fault_place.ensures in
     elim c.match-read_value.branch [
-      | goal.value::read_opened-in-Ok-read_value+else-fills+in-Bits-1 w ↦ bad (taken (abstract w.in-Ok-read_value.value) c.read_value.new.progress.skipped c.read_value.new.progress.left) w.len.result w.fills.result w.at-stop.result w.in-Ok-read_value.ensures.ok w.len.ensures w.fills.ensures w.if-fills.false w.at-stop.ensures w.stop-is
-      | goal.value::read_opened-in-Ok-read_value+else-fills+in-Octets-1 w ↦ bad (taken (abstract w.in-Ok-read_value.value) c.read_value.new.progress.skipped c.read_value.new.progress.left) w.len.result w.fills.result w.at-stop.result w.in-Ok-read_value.ensures.ok w.len.ensures w.fills.ensures w.if-fills.false w.at-stop.ensures w.stop-is
-      | goal.value::read_opened-in-Ok-read_value+else-fills+in-Text-1 w ↦ bad (taken (abstract w.in-Ok-read_value.value) c.read_value.new.progress.skipped c.read_value.new.progress.left) w.len.result w.fills.result w.at-stop.result w.in-Ok-read_value.ensures.ok w.len.ensures w.fills.ensures w.if-fills.false w.at-stop.ensures w.stop-is
-      | goal.value::read_opened-in-Ok-read_value+else-fills+in-Oid-1 w ↦ bad (taken (abstract w.in-Ok-read_value.value) c.read_value.new.progress.skipped c.read_value.new.progress.left) w.len.result w.fills.result w.at-stop.result w.in-Ok-read_value.ensures.ok w.len.ensures w.fills.ensures w.if-fills.false w.at-stop.ensures w.stop-is
-      | goal.value::read_opened-in-Ok-read_value+else-fills+in-RelativeOid-1 w ↦ bad (taken (abstract w.in-Ok-read_value.value) c.read_value.new.progress.skipped c.read_value.new.progress.left) w.len.result w.fills.result w.at-stop.result w.in-Ok-read_value.ensures.ok w.len.ensures w.fills.ensures w.if-fills.false w.at-stop.ensures w.stop-is
-      | goal.value::read_opened-in-Ok-read_value+else-fills+in-Fields-1 w ↦ bad (taken (abstract w.in-Ok-read_value.value) c.read_value.new.progress.skipped c.read_value.new.progress.left) w.len.result w.fills.result w.at-stop.result w.in-Ok-read_value.ensures.ok w.len.ensures w.fills.ensures w.if-fills.false w.at-stop.ensures w.stop-is
-      | goal.value::read_opened-in-Ok-read_value+else-fills+in-List-1 w ↦ bad (taken (abstract w.in-Ok-read_value.value) c.read_value.new.progress.skipped c.read_value.new.progress.left) w.len.result w.fills.result w.at-stop.result w.in-Ok-read_value.ensures.ok w.len.ensures w.fills.ensures w.if-fills.false w.at-stop.ensures w.stop-is
-      | goal.value::read_opened-in-Ok-read_value+else-fills+in-Alt-1 w ↦ bad (taken (abstract w.in-Ok-read_value.value) c.read_value.new.progress.skipped c.read_value.new.progress.left) w.len.result w.fills.result w.at-stop.result w.in-Ok-read_value.ensures.ok w.len.ensures w.fills.ensures w.if-fills.false w.at-stop.ensures w.stop-is
-      | goal.value::read_opened-in-Ok-read_value+else-fills+in-Bool-1 w ↦ bad (taken (abstract w.in-Ok-read_value.value) c.read_value.new.progress.skipped c.read_value.new.progress.left) w.len.result w.fills.result w.at-stop.result w.in-Ok-read_value.ensures.ok w.len.ensures w.fills.ensures w.if-fills.false w.at-stop.ensures w.stop-is
+      | goal.value::read_opened-in-Ok-read_value+else-fills w ↦ bad (taken (abstract w.in-Ok-read_value.value) c.read_value.new.progress.skipped c.read_value.new.progress.left) w.len.result w.fills.result w.at-stop.result w.in-Ok-read_value.ensures.ok w.len.ensures w.fills.ensures w.if-fills.false w.at-stop.ensures w.stop-is
       | goal.value::read_opened-in-Err-read_value w ↦ inner_stop f b r i o sl h c.in-Ok.ensures.ok z p c.len-all.result c.len-2.result c.len-3.result c.min-left.result w.in-Err-read_value.stop y
           (λ d. c.inside_laws.ensures.value_refused s l c.args.reader.id.index k n i z d c.accepted.ensures) w.in-Err-read_value.ensures.err c.len-all.ensures w.stop-is (c.len-3.ensures ∙ c.in-Ok.octets.ok.0) c.len-2.ensures c.min-left.ensures c.fault_place.ensures
     ]
