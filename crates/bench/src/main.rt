@@ -11,9 +11,11 @@
 
 mod bounds;
 mod codec;
+mod codes;
 mod hostile;
 mod named;
 mod notations;
+mod packed;
 mod shape;
 mod texts;
 mod timing;

@@ -3,9 +3,9 @@
 ghost use Rattle.front_end.specs.Accepted.{Keeps};
 ghost use Rattle.std.specs.Prelude.{◌<◌, IfSome, length};
 
+use crate::codes::Codes;
 use crate::timing::{Subject, measure};
 use asn_base::schema::TypeId;
-use codec_code::{Code, compile};
 use front_end::law::accepted_keep;
 use front_end::{Modules, open};
 use resolve::Referent;
@@ -64,7 +64,7 @@ fn notation_at<'a>(modules: &'a Modules, word: &'a str) -> Option<(&'a str, &'a 
 fn measure_one(
     rt: &HostRuntime,
     modules: &Modules,
-    code: &Code,
+    codes: &Codes,
     ty: &str,
     name: &str,
 ) -> io::Result<()> {
@@ -82,7 +82,7 @@ fn measure_one(
         members: 1,
         times: TIMES,
     };
-    measure(rt, code, subject)
+    measure(rt, codes, subject)
 }
 
 /// Measures each value that the command line names.
@@ -93,12 +93,12 @@ pub fn measure_named(rt: &HostRuntime) -> io::Result<()> {
         Ok(front) => front,
         Err(fault) => return println!(rt; "{fault}"),
     };
-    let Ok(code) = compile(rt.alloc(), &front.schema) else {
+    let Some(codes) = Codes::of(rt.alloc(), &front.schema) else {
         return println!(rt; "want of memory");
     };
     let modules = Modules::of(front.linked);
     for pair in asked.names.as_slice().chunks_exact(2) {
-        measure_one(rt, &modules, &code, pair[0].as_str(), pair[1].as_str())?;
+        measure_one(rt, &modules, &codes, pair[0].as_str(), pair[1].as_str())?;
     }
     Ok(())
 }

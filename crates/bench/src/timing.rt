@@ -1,5 +1,7 @@
-//! The times to encode a value and to decode it.
+//! The times to encode a value by the distinguished rules and to decode it by the basic rules.
 
+use crate::codes::Codes;
+use crate::packed::measure_packed;
 use asn_base::schema::TypeId;
 use asn_base::value::Value;
 use ber_reader::read_ber;
@@ -9,7 +11,7 @@ use std::io;
 use std::time::{Duration, Instant};
 
 /// How often the encodings of a value are repeated. The least time counts.
-const RUNS: usize = 3;
+pub const RUNS: usize = 3;
 
 /// A value of a type with this number of members. It is encoded a number of times, one encoding after another.
 #[derive(Clone, Copy)]
@@ -110,7 +112,7 @@ fn read_back(rt: &HostRuntime, code: &Code, subject: Subject<'_>, octets: &[u8])
 }
 
 /// Prints a time.
-fn told(
+pub fn told(
     rt: &HostRuntime,
     what: &str,
     subject: Subject<'_>,
@@ -130,8 +132,13 @@ fn told(
     )
 }
 
-/// Encodes a value, and decodes the encoding.
-pub fn measure(rt: &HostRuntime, code: &Code, subject: Subject<'_>) -> io::Result<()> {
+/// Encodes a value, and decodes the encoding, by both families of rules.
+pub fn measure(rt: &HostRuntime, codes: &Codes, subject: Subject<'_>) -> io::Result<()> {
+    measure_basic(rt, &codes.code, subject)?;
+    measure_packed(rt, &codes.packed, subject)
+}
+
+fn measure_basic(rt: &HostRuntime, code: &Code, subject: Subject<'_>) -> io::Result<()> {
     let octets = to_list(rt, code, subject)?;
     to_sink(rt, code, subject, octets.len())?;
     read(rt, code, subject, octets.as_slice())?;
