@@ -157,22 +157,22 @@ pub fn unpacked()
 /// the printed text means the value that the octets encode, and no other. The exceptions are a text of more than
 /// 16,777,216 octets, and a value with a line end in one of its texts.
 pub fn printed()
-    ensures read { (xs : List (List ℕ)) (p : Program) (s : List Resolved) (r : Rules) (name o text : List ℕ) (k : ℕ)
+    ensures read { (xs : List (List ℕ)) (p : Program) (s : List Resolved) (r : Rules) (name o printed : List ℕ) (k : ℕ)
         (M : Name) →
         Accepted xs p s →
-        (w : IsReadAs p s r name o text k) →
+        (w : IsReadAs p s r name o printed k) →
         HasNoLineEnd w.read.value →
-        IsUtf8 text →
-        length text ≤ 16777216 →
-        IsReadBack p (Allows p) (AllowsCode p) M w.type text w.read.value }
-    ensures unpacked { (xs : List (List ℕ)) (p : Program) (s : List Resolved) (name o text : List ℕ) (k : ℕ)
+        IsUtf8 printed →
+        length printed ≤ 16777216 →
+        IsReadBack p (Allows p) (AllowsCode p) M w.type printed w.read.value }
+    ensures unpacked { (xs : List (List ℕ)) (p : Program) (s : List Resolved) (name o printed : List ℕ) (k : ℕ)
         (M : Name) →
         Accepted xs p s →
-        (w : IsUnpackedAs p s name o text k) →
+        (w : IsUnpackedAs p s name o printed k) →
         HasNoLineEnd w.read.value →
-        IsUtf8 text →
-        length text ≤ 16777216 →
-        IsReadBack p (Allows p) (AllowsCode p) M w.type text w.read.value }
+        IsUtf8 printed →
+        length printed ≤ 16777216 →
+        IsReadBack p (Allows p) (AllowsCode p) M w.type printed w.read.value }
 {
     accepted_keep();
     message_laws();
