@@ -1,5 +1,5 @@
 -- Rows of the headline: what each of its parts says, in full. A definition that lost a part would fail one of them.
-use Rattle.std.proofs.Common.{◌≡◌, ◌×◌, ℕ, ◌≤◌, List, length}
+use Rattle.std.proofs.Common.{◌≡◌, ℕ, ◌≤◌, List, length}
 use Rattle.asn_base.specs.Abstract.{AbstractValue}
 use Rattle.asn_base.specs.Same.{Same}
 use Rattle.asn_base.specs.Typed.{IsValue}
