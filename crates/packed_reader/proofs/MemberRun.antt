@@ -8,13 +8,13 @@ use Rattle.asn_base.specs.declared.tag.Tag.{Tag}
 use Rattle.asn_base.specs.Abstract.{AbstractValue, Row, abstract, alternative, fields}
 use Rattle.asn_base.specs.declared.value.Value.{Value}
 use Rattle.asn_base.specs.Schemas.{components}
-use Rattle.asn_base.specs.Types.{Alternative, Component, Kind, a_null, a_choice, Resolved, TypeNumber}
+use Rattle.asn_base.specs.Types.{Alternative, Component, Kind, a_null, a_choice, Presence, mandatory, optional, default, addition, Resolved, TypeNumber}
 use Rattle.packed_code.specs.declared.step.PackedField.{PackedField}
 use Rattle.packed_code.specs.declared.step.PackedStep.{PackedStep}
 use Rattle.packed_code.specs.declared.step.PackedStep.TheVariants as steps
 use Rattle.packed_code.specs.Meaning.{next_fields}
-use Rattle.packed_code.specs.Routines.{root_calls, more_calls}
-use Rattle.packed_encodings.specs.Computed.{is_default, kind_at}
+use Rattle.packed_code.specs.Routines.{has_default, root_calls, more_calls}
+use Rattle.packed_encodings.specs.Computed.{is_default, kind_at, same_within}
 use Rattle.packed_encodings.specs.Leaves.{place_width}
 use Rattle.packed_encodings.specs.Lengths.{Bits, fewest_bits}
 use Rattle.packed_encodings.specs.Orders.{Member, missing, standing, component}
@@ -52,6 +52,19 @@ kind_found s q t k tags e h = ap (λ z. kind_at z t) (sym e) ∙ ap (λ o. elim 
 differ_by : (x d : Bool) → x ≡ false → not (x && d) ≡ true
 differ_by true d e = absurd (cc)
 differ_by false d e = refl
+
+-- no value of a component without DEFAULT is the same as its DEFAULT
+abbrev by_presence : (AbstractValue → Bool) → Presence → Bool
+by_presence same p = elim p [ default d ↦ same d | mandatory ↦ false | optional ↦ false | addition o g ↦ false ]
+
+by_none : (same : AbstractValue → Bool) (p : Presence) → has_default p ≡ false → by_presence same p ≡ false
+by_none same mandatory e = refl
+by_none same optional e = refl
+by_none same (default d) e = absurd (cc)
+by_none same (addition o g) e = refl
+
+lacks_default : (s : List Resolved) (c : Component) (v : AbstractValue) → has_default c.presence ≡ false → is_default s c v ≡ false
+lacks_default s c v e = by_none (same_within 64 s c.type v) c.presence e
 
 module _ (s : List Resolved) (l : ℕ) (cs : List Component) (f : PackedField) (ws : Row) (k n : ℕ) (b : Bits) where
   abbrev V : Bits → Reading (Taken AbstractValue)
@@ -93,6 +106,9 @@ module _ (s : List Resolved) (l : ℕ) (cs : List Component) (f : PackedField) (
       off : (x : Bool) → not (x && false) ≡ true
       off true = refl
       off false = refl
+
+  pub never_default : (d : Component) (v : AbstractValue) (k' n' : ℕ) → slice_get cs f.place ≡ Some d → f.with_default ≡ has_default d.presence → f.with_default ≡ false → T (taken v k' n') ≡ true
+  never_default d v k' n' e i t = no_default d v k' n' false e (sym (lacks_default s d v (sym i ∙ t))) refl
 
   pub some_skipped : (v : AbstractValue) (k' n' : ℕ) → (k' ≡ k → ⊥) → T (taken v k' n') ≡ true
   some_skipped v k' n' h = differ_by (k' == k) (is_default s (component_of_field cs f) v) (ne_eqb k' k h)

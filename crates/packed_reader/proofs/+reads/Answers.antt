@@ -64,8 +64,8 @@ use Rattle.packed_reader.proofs.Plans.{as_plan, fits_as, type_there, shorter_ok}
 use Rattle.packed_reader.proofs.Flow.{went_same}
 use Rattle.packed_reader.proofs.Presences.{fields_taken}
 use Rattle.packed_reader.proofs.Calls.{call_shorter, call_room, components_are, components_many, map-length, is_component, default_as}
-use Rattle.packed_reader.proofs.MemberRun.{kind_found, within_row, present_stop, present_same, present_ok, same_as_default, no_default, some_skipped, absent_ok, absent_deep, member_present, member_absent, members_next, members_stop, members_end, sent_there, sent_fit, fields_fit, all_taken, all_dropped, no_mark, no_presences, no_members, rest_is, calls_have_width, chosen_open, chosen_root, chosen_as, chosen_stop, next', only_memory, whatever}
-use Rattle.packed_reader.proofs.+reads.Goals.{components::read_present-else-progress-skipped-via-then-progress-skipped+else-is_default, components::read_present-else-progress-skipped-via-else-progress-skipped}
+use Rattle.packed_reader.proofs.MemberRun.{kind_found, within_row, present_stop, present_same, present_ok, same_as_default, no_default, never_default, some_skipped, absent_ok, absent_deep, member_present, member_absent, members_next, members_stop, members_end, sent_there, sent_fit, fields_fit, all_taken, all_dropped, no_mark, no_presences, no_members, rest_is, calls_have_width, chosen_open, chosen_root, chosen_as, chosen_stop, next', only_memory, whatever}
+use Rattle.packed_reader.proofs.+reads.Goals.{components::read_present-else-progress-skipped-via-then-progress-skipped+then-field+else-is_default, components::read_present-else-progress-skipped-via-then-progress-skipped+else-field, components::read_present-else-progress-skipped-via-else-progress-skipped}
 
 as_steps : {t : ℕ} (c : goal.value::read_value-After-read_steps t) → run_value c.args.reader.code.now c.args.reader.levels c.args.reader.id.index c.args.progress.now.skipped c.args.progress.now.left (bits_left c.args.bits.now)
     ≡ run_steps c.args.reader.code.now (c.args.reader.levels - 1) (run_value c.args.reader.code.now (c.args.reader.levels - 1)) c.args.reader.id.index (routine_at c.args.reader.code.now c.args.reader.id.index) c.args.progress.now.skipped (c.args.progress.now.left - 1) (bits_left c.args.bits.now)
@@ -1432,7 +1432,8 @@ pub components::read_present-returns-clause-ok : goal.components::read_present-r
 components::read_present-returns-clause-ok t c =
     present_ok c.args.reader.code.now c.args.reader.levels (components (kind_at c.args.reader.code.now c.args.reader.id.index)) c.args.field (row_of_values c.args.row.now.items) c.args.progress.now.skipped c.args.progress.now.left (bits_left c.args.bits.now) (abstract c.in-Ok.value) c.read_value.new.progress.skipped c.read_value.new.progress.left (bits_left c.read_value.new.bits) (row_of_values c.put.new.row.items) c.in-Ok.ensures.ok
     (elim c.else-progress-skipped.branch [
-      | components::read_present-else-progress-skipped-via-then-progress-skipped+else-is_default w ↦ no_default c.args.reader.code.now c.args.reader.levels (components (kind_at c.args.reader.code.now c.args.reader.id.index)) c.args.field (row_of_values c.args.row.now.items) c.args.progress.now.skipped c.args.progress.now.left (bits_left c.args.bits.now) c.requires.fits.component (abstract c.in-Ok.value) c.read_value.new.progress.skipped c.read_value.new.progress.left w.is_default.result c.requires.fits.there (default_as c.args.reader.code.now w.schema.result.now c.args.reader.id.index c.args.field.place c.requires.fits.component (abstract c.in-Ok.value) w.is_default.result w.schema.ensures c.requires.fits.there w.is_default.ensures) w.if-is_default.false
+      | components::read_present-else-progress-skipped-via-then-progress-skipped+then-field+else-is_default w ↦ no_default c.args.reader.code.now c.args.reader.levels (components (kind_at c.args.reader.code.now c.args.reader.id.index)) c.args.field (row_of_values c.args.row.now.items) c.args.progress.now.skipped c.args.progress.now.left (bits_left c.args.bits.now) c.requires.fits.component (abstract c.in-Ok.value) c.read_value.new.progress.skipped c.read_value.new.progress.left w.is_default.result c.requires.fits.there (default_as c.args.reader.code.now w.schema.result.now c.args.reader.id.index c.args.field.place c.requires.fits.component (abstract c.in-Ok.value) w.is_default.result w.schema.ensures c.requires.fits.there w.is_default.ensures) w.if-is_default.false
+      | components::read_present-else-progress-skipped-via-then-progress-skipped+else-field w ↦ never_default c.args.reader.code.now c.args.reader.levels (components (kind_at c.args.reader.code.now c.args.reader.id.index)) c.args.field (row_of_values c.args.row.now.items) c.args.progress.now.skipped c.args.progress.now.left (bits_left c.args.bits.now) c.requires.fits.component (abstract c.in-Ok.value) c.read_value.new.progress.skipped c.read_value.new.progress.left c.requires.fits.there (ap (λ q. q.with_default) c.requires.fits.is) w.if-field.false
       | components::read_present-else-progress-skipped-via-else-progress-skipped w ↦ some_skipped c.args.reader.code.now c.args.reader.levels (components (kind_at c.args.reader.code.now c.args.reader.id.index)) c.args.field (row_of_values c.args.row.now.items) c.args.progress.now.skipped c.args.progress.now.left (bits_left c.args.bits.now) (abstract c.in-Ok.value) c.read_value.new.progress.skipped c.read_value.new.progress.left w.if-progress-skipped.false
     ]) c.put.ensures.row
 
