@@ -1,5 +1,5 @@
 -- Bits that are compared by the numbers that they are.
-use Rattle.std.proofs.Common.{arith, ◌≡◌, ℕ, suc, ◌+◌, ◌*◌, ◌/◌, ◌%◌, ◌^◌, ◌<◌, ◌≤◌, ⊎_elim, Bool, true, false, List, [], ◌∷◌, ◌++◌, length, length-append, refl, sym, ap, ◌∙◌}
+use Rattle.std.proofs.Common.{arith, ◌≡◌, ℕ, suc, ◌+◌, ◌*◌, ◌/◌, ◌%◌, ◌^◌, ◌<◌, ◌≤◌, ⊎_elim, Bool, true, false, [], ◌∷◌, ◌++◌, length, length-append, refl, sym, ap, ◌∙◌}
 use Rattle.std.specs.Prelude.{cond, zero, min, not, ◌&&◌, ◌==◌, nat_lt}
 use Rattle.std.proofs.lemmas.Bool.{lt-ltb, le-ltb, cases_lt}
 use Rattle.std.proofs.Math.Nat.{pow-succ', mod-eq_of_lt}

@@ -1,8 +1,7 @@
-use Rattle.std.proofs.Common.{rules, ◌≡◌, ◌+◌, ◌≤◌, ◌<◌, IfErr, IfOk, OnOk, length, suc, true, ℕ, ◌-◌, ◌*◌, ◌/◌, ◌%◌, Bool, false, nat_eq, nat_lt, List, [], ◌∷◌, ◌++◌, slice_index_or, slice_set, bit_and, bit_or, Fits, w8, w32, w64, Bor, MutBor}
+use Rattle.std.proofs.Common.{rules, ◌≡◌, ◌+◌, ◌≤◌, ◌<◌, length, suc, true, ℕ, ◌-◌, ◌*◌, Bool, false, List, [], ◌∷◌, slice_index_or}
 use Rattle.asn_base.specs.Abstract.{abstract}
-use Rattle.asn_base.specs.Schemas.{AreBounds, IsSize, components}
+use Rattle.asn_base.specs.Schemas.{components}
 use Rattle.asn_base.specs.Seen.{constraint_of}
-use Rattle.asn_base.specs.Typed.{ValueIn}
 use Rattle.bits.specs.Left.{bits_left}
 use Rattle.packed_code.specs.Routines.{routine_at}
 use Rattle.packed_encodings.specs.Computed.{kind_at}
@@ -10,12 +9,11 @@ use Rattle.packed_reader.specs.Code.{chosen_of}
 use Rattle.packed_reader.specs.Readings.{next as onward}
 use Rattle.packed_reader.specs.Readings.{plain}
 use Rattle.packed_reader.specs.Steps.{call_from}
-use Rattle.packed_reader.specs.Structures.{no_row, open_from}
-use Rattle.packed_reader.specs.proving.Code.{AreSent, HasRoom, IsGot, IsLess, IsPart, IsStop, Went, gathered, row_of_values}
-use Rattle.packed_reader.specs.proving.Plans.{AreCalls}
-use Rattle.packed_reader.specs.proving.Running.{no_elements, run_added, run_additions, run_chosen, run_each, run_element, run_elements, run_fields, run_first, run_group, run_group_inside, run_leaf, run_list, run_member, run_members, run_parts, run_present, run_rest, run_steps, run_structure, run_value}
+use Rattle.packed_reader.specs.Structures.{open_from}
+use Rattle.packed_reader.specs.proving.Code.{AreSent, IsLess, IsPart, IsStop, gathered, row_of_values}
+use Rattle.packed_reader.specs.proving.Running.{run_added, run_additions, run_chosen, run_elements, run_first, run_group, run_group_inside, run_list, run_member, run_members, run_parts, run_present, run_rest, run_steps, run_structure, run_value}
 use Rattle.packed_readings.specs.Counts.{size_fault}
-use Rattle.packed_writer.specs.proving.Values.{FieldFits, FieldsFit, IsList, fields_in}
+use Rattle.packed_writer.specs.proving.Values.{FieldsFit, IsList, fields_in}
 use Rattle.std.proofs.Common.{arith, map, refl, sym, ap, subst, ◌∙◌}
 use Rattle.std.specs.Prelude.{not, ◌||◌}
 use Rattle.std.proofs.lemmas.List.{map_push, length-map}
@@ -50,7 +48,7 @@ use Rattle.packed_reader.proofs.+reads.Goals as goal
 use Rattle.std.proofs.Common.{arith, refl, sym, ap, subst, ◌∙◌}
 use Rattle.decode_faults.specs.declared.refusal.Refusal.TheVariants as why
 use Rattle.packed_reader.specs.Readings.{read, taken}
-use Rattle.packed_reader.proofs.Flow.{stop_next, stop_within, stop_as, stop_at, stop_bare, stop_of}
+use Rattle.packed_reader.proofs.Flow.{stop_next, stop_as, stop_at}
 use Rattle.packed_reader.specs.declared.plan.Plan.TheVariants as plans
 use Rattle.packed_reader.specs.proving.Plans.{run_plan}
 use Rattle.packed_reader.proofs.ValueRun.{value_steps, value_deep, value_full, value_of, went_value, fewer_value, got_as, row_as, stops_as, went_on as both_went, went_ok, went_done, went_shorter, room_left}
