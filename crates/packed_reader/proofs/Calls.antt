@@ -1,5 +1,5 @@
 -- What calls say of components, and of the bits that are left.
-use Rattle.std.proofs.Common.{arith, ◌≡◌, ℕ, zero, suc, ◌+◌, ◌^◌, ◌<◌, ◌≤◌, Bool, true, false, List, [], ◌∷◌, ◌++◌, length, map, Option, Some, None, slice_get, refl, sym, ap, subst, ◌∙◌, length-append}
+use Rattle.std.proofs.Common.{arith, ◌≡◌, ℕ, zero, suc, ◌≤◌, Bool, true, false, List, [], ◌∷◌, length, map, Some, slice_get, refl, sym, ap, subst, ◌∙◌}
 use Rattle.std.specs.Prelude.{if◌then◌else◌, nat_lt, take, drop}
 use Rattle.asn_base.specs.declared.tag.Tag.{Tag}
 use Rattle.asn_base.specs.Abstract.{AbstractValue}
@@ -13,11 +13,11 @@ use Rattle.packed_encodings.specs.Computed.{is_default, kind_at}
 use Rattle.packed_encodings.specs.Lengths.{Bits}
 use Rattle.decode_faults.specs.declared.refusal.Refusal.{Refusal}
 use Rattle.decode_faults.specs.declared.refusal.Refusal.TheVariants as why
-use Rattle.packed_readings.specs.Outcome.{Outcome, found, stops, onward, Judged, good, bad, judging, verdict, bit_from, field_from, small_from, block_from, worth}
+use Rattle.packed_readings.specs.Outcome.{Outcome, found, stops, onward, Judged, good, bad, judging, verdict, bit_from, field_from, small_from, worth}
 use Rattle.packed_reader.specs.declared.reader.Progress.{Progress}
 use Rattle.packed_reader.specs.Steps.{added_call, call_from, or_refused, ranked_call, root_call}
 use Rattle.packed_reader.specs.Values.{Chosen}
-use Rattle.packed_reader.specs.proving.Code.{HasRoom, Went}
+use Rattle.packed_reader.specs.proving.Code.{HasRoom}
 use Rattle.packed_writer.specs.proving.Values.{FieldFits, HasComponent}
 use Rattle.packed_reader.proofs.MemberRun.{kind_found}
 use Rattle.packed_reader.proofs.ValueRun.{went_shorter, room_left}

@@ -1,15 +1,15 @@
 -- What is read first, and what then; and why reading stops.
-use Rattle.std.proofs.Common.{arith, ◌≡◌, ℕ, ◌+◌, ◌≤◌, Bool, true, false, List, [], ◌∷◌, length, refl, sym, ap, subst, ◌∙◌}
+use Rattle.std.proofs.Common.{arith, ◌≡◌, ◌+◌, ◌≤◌, List, [], ◌∷◌, length, refl, sym, ap, subst, ◌∙◌}
 use Rattle.packed_encodings.specs.Lengths.{Bits}
 use Rattle.decode_faults.specs.declared.refusal.Refusal.{Refusal}
 use Rattle.packed_readings.specs.declared.refusal.PackedFault.{PackedFault}
 use Rattle.packed_readings.specs.declared.refusal.PackedFault.TheVariants as faults
-use Rattle.packed_readings.specs.Outcome.{Outcome, found, stops, IsFault}
+use Rattle.packed_readings.specs.Outcome.{Outcome, stops, IsFault}
 use Rattle.packed_reader.specs.declared.part.Part.{Part}
 use Rattle.packed_reader.specs.declared.reader.Progress.{Progress}
 use Rattle.packed_reader.specs.declared.stop.Stop.{Stop}
 use Rattle.packed_reader.specs.declared.stop.Stop.TheVariants.{Memory, Refused}
-use Rattle.packed_reader.specs.Readings.{Reading, read, refused, stop, next, in_part, plain, tested, Taken, taken}
+use Rattle.packed_reader.specs.Readings.{Reading, refused, stop, next, in_part, plain}
 use Rattle.packed_reader.specs.proving.Code.{IsStopAt, IsStopOf, IsWithin, IsStop, IsBare, Went}
 
 pub refused_as : (X : Type 0) (e f : Refusal) (ps qs : List Part) (r : Bits) → e ≡ f → ps ≡ qs → ◌≡◌ {A = Reading X} (refused (record { why = e; path = ps }) r) (refused (record { why = f; path = qs }) r)

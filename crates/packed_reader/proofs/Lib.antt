@@ -34,3 +34,4 @@ mod Listing
 mod OpenRun
 mod MessageRun
 mod RowsPut
+mod BitOrder

@@ -1,22 +1,21 @@
 -- Components and alternatives, as calls read them.
-use Rattle.std.proofs.Common.{arith, ◌≡◌, ℕ, zero, suc, ◌+◌, ◌-◌, ◌^◌, ◌<◌, ◌≤◌, ◌==◌, ◌&&◌, Bool, true, false, List, [], ◌∷◌, ◌++◌, length, map, take, drop, Option, Some, None, slice_get, refl, sym, ap, subst, ◌∙◌}
+use Rattle.std.proofs.Common.{arith, ◌≡◌, ℕ, zero, suc, ◌+◌, ◌-◌, ◌^◌, ◌<◌, ◌≤◌, ◌==◌, ◌&&◌, Bool, true, false, List, [], ◌∷◌, ◌++◌, length, map, take, drop, Some, None, slice_get, refl, sym, ap, subst, ◌∙◌}
 use Rattle.std.specs.Prelude.{if◌then◌else◌, not, Result, Ok, Err, IfOk, IfErr}
 use Rattle.std.specs.List.{AllByRecursion}
 use Rattle.std.proofs.lemmas.Bool.{eq-eqb, ne_eqb}
 use Rattle.std.proofs.lemmas.Int.Digits.{length-digits_of-le}
 use Rattle.asn_base.specs.declared.tag.Tag.{Tag}
-use Rattle.asn_base.specs.Abstract.{AbstractValue, Row, abstract, alternative, fields}
+use Rattle.asn_base.specs.Abstract.{AbstractValue, Row, abstract, alternative}
 use Rattle.asn_base.specs.declared.value.Value.{Value}
-use Rattle.asn_base.specs.Schemas.{components}
-use Rattle.asn_base.specs.Types.{Alternative, Component, Kind, a_null, a_choice, Resolved, TypeNumber}
+use Rattle.asn_base.specs.Types.{Alternative, Component, Kind, a_null, a_choice, Presence, mandatory, optional, default, addition, Resolved}
 use Rattle.packed_code.specs.declared.step.PackedField.{PackedField}
 use Rattle.packed_code.specs.declared.step.PackedStep.{PackedStep}
 use Rattle.packed_code.specs.declared.step.PackedStep.TheVariants as steps
 use Rattle.packed_code.specs.Meaning.{next_fields}
-use Rattle.packed_code.specs.Routines.{root_calls, more_calls}
-use Rattle.packed_encodings.specs.Computed.{is_default, kind_at}
+use Rattle.packed_code.specs.Routines.{has_default, root_calls, more_calls}
+use Rattle.packed_encodings.specs.Computed.{is_default, kind_at, same_within}
 use Rattle.packed_encodings.specs.Leaves.{place_width}
-use Rattle.packed_encodings.specs.Lengths.{Bits, fewest_bits}
+use Rattle.packed_encodings.specs.Lengths.{Bits}
 use Rattle.packed_encodings.specs.Orders.{Member, missing, standing, component}
 use Rattle.decode_faults.specs.declared.refusal.Refusal.TheVariants as why
 use Rattle.packed_reader.specs.declared.part.Part.TheVariants.{Component as Component', Alternative as Alternative'}
@@ -26,14 +25,14 @@ use Rattle.packed_reader.specs.declared.stop.Stop.{Stop}
 use Rattle.packed_reader.specs.declared.stop.Stop.TheVariants.{Memory}
 use Rattle.packed_reader.specs.Code.{HaveWidth, chosen_by}
 use Rattle.packed_reader.specs.Levels.{is_within, may_lack}
-use Rattle.packed_reader.specs.Readings.{Reading, read, refused, stop, next, in_part, plain, tested, Taken, taken}
+use Rattle.packed_reader.specs.Readings.{Reading, read, stop, next, in_part, tested, Taken, taken}
 use Rattle.packed_reader.specs.Steps.{no_component}
 use Rattle.packed_reader.specs.Structures.{mark_from, no_row, open_from, with_value}
-use Rattle.packed_reader.specs.Values.{Chosen, in_root, added, alternative_of}
+use Rattle.packed_reader.specs.Values.{alternative_of}
 use Rattle.packed_reader.specs.proving.Code.{AreSent, IsGot, IsStop, IsStopAt, IsWithin}
 use Rattle.packed_reader.specs.proving.Plans.{AreCalls}
-use Rattle.packed_reader.specs.proving.Running.{RunsValue, component_of_field, differs, put, run_absent, run_chosen, run_fields, run_member, run_members, run_presences, run_present, run_rest, run_structure, run_value, as_fields}
-use Rattle.packed_writer.specs.proving.Values.{FieldFits, FieldsFit, FieldOf, HasComponent, fields_in}
+use Rattle.packed_reader.specs.proving.Running.{component_of_field, differs, put, run_absent, run_chosen, run_member, run_members, run_presences, run_present, run_rest, run_structure, run_value}
+use Rattle.packed_writer.specs.proving.Values.{FieldFits, FieldsFit, fields_in}
 use Rattle.packed_reader.proofs.Flow.{stop_next, stop_within, stop_as, stop_at, stop_here}
 
 pub component_is : (cs : List Component) (f : PackedField) (d : Component) → slice_get cs f.place ≡ Some d → component_of_field cs f ≡ d
@@ -52,6 +51,19 @@ kind_found s q t k tags e h = ap (λ z. kind_at z t) (sym e) ∙ ap (λ o. elim 
 differ_by : (x d : Bool) → x ≡ false → not (x && d) ≡ true
 differ_by true d e = absurd (cc)
 differ_by false d e = refl
+
+-- no value of a component without DEFAULT is the same as its DEFAULT
+abbrev by_presence : (AbstractValue → Bool) → Presence → Bool
+by_presence same p = elim p [ default d ↦ same d | mandatory ↦ false | optional ↦ false | addition o g ↦ false ]
+
+by_none : (same : AbstractValue → Bool) (p : Presence) → has_default p ≡ false → by_presence same p ≡ false
+by_none same mandatory e = refl
+by_none same optional e = refl
+by_none same (default d) e = absurd (cc)
+by_none same (addition o g) e = refl
+
+lacks_default : (s : List Resolved) (c : Component) (v : AbstractValue) → has_default c.presence ≡ false → is_default s c v ≡ false
+lacks_default s c v e = by_none (same_within 64 s c.type v) c.presence e
 
 module _ (s : List Resolved) (l : ℕ) (cs : List Component) (f : PackedField) (ws : Row) (k n : ℕ) (b : Bits) where
   abbrev V : Bits → Reading (Taken AbstractValue)
@@ -93,6 +105,9 @@ module _ (s : List Resolved) (l : ℕ) (cs : List Component) (f : PackedField) (
       off : (x : Bool) → not (x && false) ≡ true
       off true = refl
       off false = refl
+
+  pub never_default : (d : Component) (v : AbstractValue) (k' n' : ℕ) → slice_get cs f.place ≡ Some d → f.with_default ≡ has_default d.presence → f.with_default ≡ false → T (taken v k' n') ≡ true
+  never_default d v k' n' e i t = no_default d v k' n' false e (sym (lacks_default s d v (sym i ∙ t))) refl
 
   pub some_skipped : (v : AbstractValue) (k' n' : ℕ) → (k' ≡ k → ⊥) → T (taken v k' n') ≡ true
   some_skipped v k' n' h = differ_by (k' == k) (is_default s (component_of_field cs f) v) (ne_eqb k' k h)

@@ -1,11 +1,11 @@
 -- Messages, as calls read them.
-use Rattle.std.proofs.Common.{arith, ◌≡◌, ℕ, zero, suc, ◌+◌, ◌*◌, ◌-◌, ◌^◌, ◌<◌, ◌≤◌, ◌==◌, Bool, true, false, List, [], ◌∷◌, ◌++◌, length, refl, sym, ap, subst, ◌∙◌, length-append}
-use Rattle.std.specs.Prelude.{◌↔◌, if◌then◌else◌, nat_lt, Result, Ok, Err, IfOk, IfErr, MatchResult}
-use Rattle.std.proofs.lemmas.Bool.{lt-ltb, le-ltb}
+use Rattle.std.proofs.Common.{arith, ◌≡◌, ℕ, ◌+◌, ◌-◌, ◌^◌, ◌<◌, ◌≤◌, ◌==◌, false, List, [], ◌∷◌, ◌++◌, length, refl, sym, ap, subst, ◌∙◌}
+use Rattle.std.specs.Prelude.{◌↔◌, if◌then◌else◌, Result, Ok, Err, IfOk, IfErr, MatchResult}
+use Rattle.std.proofs.lemmas.Bool.{le-ltb}
 use Rattle.bits.specs.Words.{octet_bits}
 use Rattle.asn_base.specs.Abstract.{AbstractValue, abstract}
 use Rattle.asn_base.specs.declared.value.Value.{Value}
-use Rattle.asn_base.specs.Types.{Resolved, TypeNumber}
+use Rattle.asn_base.specs.Types.{Resolved}
 use Rattle.encodings.specs.Header.{Octets}
 use Rattle.packed_encodings.specs.Lengths.{Bits}
 use Rattle.packed_encodings.specs.Packing.{Reads}

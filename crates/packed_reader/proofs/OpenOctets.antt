@@ -1,5 +1,5 @@
 -- Octets of an open type, and where a fault within them is.
-use Rattle.std.proofs.Common.{arith, ◌≡◌, ℕ, zero, suc, ◌+◌, ◌*◌, ◌-◌, ◌<◌, ◌≤◌, Bool, true, false, List, [], ◌∷◌, ◌++◌, length, map, drop, refl, sym, ap, subst, ◌∙◌, append_assoc, length-append}
+use Rattle.std.proofs.Common.{arith, ◌≡◌, ℕ, ◌+◌, ◌*◌, ◌-◌, ◌<◌, ◌≤◌, [], ◌∷◌, ◌++◌, length, drop, refl, sym, ap, ◌∙◌, append_assoc, length-append}
 use Rattle.std.specs.Prelude.{if◌then◌else◌, nat_lt}
 use Rattle.std.proofs.lemmas.Bool.{lt-ltb, le-ltb}
 use Rattle.bits.specs.Words.{word, octet_bits}
@@ -7,8 +7,6 @@ use Rattle.encodings.specs.Header.{Octets}
 use Rattle.packed_encodings.specs.Lengths.{Bits, Items, all_bits, Counted, short, long, fragment, CountedOctets}
 use Rattle.packed_readings.specs.Outcome.{IsReading, found}
 use Rattle.packed_readings.specs.Counts.{octets_from}
-use Rattle.packed_reader.specs.Readings.{Reading, read, refused, stop, next, in_part, plain}
-use Rattle.packed_reader.specs.Structures.{is_filling, filled_from, before_rest, open_from}
 use Rattle.packed_reader.proofs.Opening.{all_octets, octets_length, together, used_length}
 
 all_joined : (xs ys : Items) → length (all_bits (xs ++ ys)) ≡ length (all_bits xs) + length (all_bits ys)

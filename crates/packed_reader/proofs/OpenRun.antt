@@ -25,8 +25,8 @@ use Rattle.packed_reader.specs.declared.stop.Stop.TheVariants.{Memory, Refused}
 use Rattle.packed_reader.specs.Readings.{Fault, Reading, read, refused, stop, next, in_part, plain, tested, Taken, taken}
 use Rattle.packed_reader.specs.Structures.{is_filling, open_from, unknown_from, with_value}
 use Rattle.packed_reader.specs.proving.Code.{AreSent, HasRoom, IsStop, IsStopAt, IsWithin, Went, row_of_values}
-use Rattle.packed_reader.specs.proving.Running.{RunsValue, any_sent, first_bit, is_addition, other_bits, put, run_added, run_additions, run_first, run_members, run_presences, run_unknown}
-use Rattle.packed_writer.specs.proving.Values.{FieldFits, FieldOf, FieldsFit, fields_in}
+use Rattle.packed_reader.specs.proving.Running.{RunsValue, any_sent, first_bit, is_addition, other_bits, put, run_added, run_additions, run_first, run_presences, run_unknown}
+use Rattle.packed_writer.specs.proving.Values.{FieldFits, FieldsFit, fields_in}
 use Rattle.packed_reader.proofs.Flow.{stop_as, stop_next, stop_within}
 use Rattle.packed_reader.proofs.Opening.{octets_length}
 use Rattle.packed_reader.proofs.RunningState.{next_next, plus_none}

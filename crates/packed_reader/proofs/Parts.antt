@@ -1,5 +1,5 @@
 -- Elements after their number, as calls read them.
-use Rattle.std.proofs.Common.{arith, ◌≡◌, ◌≤◌, ◌<◌, ◌+◌, ◌*◌, ◌==◌, ◌∷◌, ◌++◌, [], ℕ, zero, suc, Bool, true, false, List, Option, length, map, refl, sym, ap, subst, ◌∙◌}
+use Rattle.std.proofs.Common.{arith, ◌≡◌, ◌≤◌, ◌<◌, ◌*◌, ◌==◌, ℕ, zero, suc, Bool, true, false, Option, length, sym, ap, subst, ◌∙◌}
 use Rattle.packed_encodings.specs.Lengths.{Bits}
 use Rattle.decode_faults.specs.declared.refusal.Refusal.{Refusal}
 use Rattle.packed_readings.specs.declared.count.Count.TheVariants.{Last as last, Part as part}

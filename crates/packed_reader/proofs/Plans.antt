@@ -1,5 +1,5 @@
 -- The steps of a routine are those of its type.
-use Rattle.std.proofs.Common.{arith, ◌≡◌, ℕ, zero, suc, ◌+◌, ◌≤◌, ◌<◌, List, [], ◌∷◌, ◌++◌, length, Option, Some, None, slice_get, ap, subst, sym, refl, ◌∙◌, length-append}
+use Rattle.std.proofs.Common.{arith, ◌≡◌, ℕ, zero, suc, ◌≤◌, ◌<◌, List, [], ◌∷◌, length, Some, None, slice_get, ap, subst, sym, refl, ◌∙◌, length-append}
 use Rattle.std.specs.Prelude.{Result, Ok, Err, IfOk}
 use Rattle.packed_code.specs.Routines.{routine_at, routine_of}
 use Rattle.packed_reader.specs.declared.plan.Plan.{Plan}
@@ -8,7 +8,6 @@ use Rattle.packed_reader.specs.proving.Code.{Went}
 use Rattle.packed_reader.specs.proving.Plans.{IsNothing, PlanFits, run_plan}
 use Rattle.packed_reader.specs.proving.Running.{RunsValue, run_steps, run_value}
 use Rattle.packed_reader.proofs.ValueRun.{went_shorter}
-use Rattle.std.specs.List.{AllByRecursion}
 use Rattle.asn_base.specs.Types.{Resolved, TypeNumber}
 use Rattle.packed_code.specs.declared.step.PackedStep.{PackedStep}
 use Rattle.packed_encodings.specs.Lengths.{Bits}

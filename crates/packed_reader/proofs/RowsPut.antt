@@ -1,7 +1,7 @@
 -- Values at their places, in memory.
-use Rattle.std.proofs.Common.{arith, ◌≡◌, ℕ, zero, suc, ◌<◌, ◌≤◌, List, [], ◌∷◌, length, map, set, Option, Some, None, refl, sym, ap, subst, ◌∙◌}
+use Rattle.std.proofs.Common.{◌≡◌, ℕ, zero, suc, List, [], ◌∷◌, length, set, Option, Some, None, refl, sym, ap, ◌∙◌}
 use Rattle.std.specs.Prelude.{replicate}
-use Rattle.asn_base.specs.Abstract.{AbstractValue, Row, end, absent, present, abstract}
+use Rattle.asn_base.specs.Abstract.{absent, present, abstract}
 use Rattle.asn_base.specs.declared.value.Value.{Value}
 use Rattle.asn_base.specs.Types.{Component}
 use Rattle.packed_reader.specs.Structures.{no_row, with_value}

@@ -1,17 +1,17 @@
 -- A value by the steps of its routine, as calls read it.
-use Rattle.std.proofs.Common.{arith, ◌≡◌, ℕ, zero, suc, ◌+◌, ◌-◌, ◌^◌, ◌<◌, ◌≤◌, Bool, true, false, List, [], ◌∷◌, ◌++◌, length, refl, sym, ap, subst, ◌∙◌}
+use Rattle.std.proofs.Common.{arith, ◌≡◌, ℕ, zero, suc, ◌+◌, ◌-◌, ◌^◌, ◌<◌, ◌≤◌, Bool, true, false, List, [], ◌++◌, length, sym, ap, subst, ◌∙◌}
 use Rattle.std.specs.Prelude.{if◌then◌else◌, nat_lt, Result, Ok, Err, IfOk, IfErr, OnOk}
 use Rattle.bits.specs.Words.{octet_bits}
 use Rattle.asn_base.specs.Abstract.{AbstractValue, Row, abstract}
 use Rattle.asn_base.specs.declared.value.Value.{Value}
 use Rattle.asn_base.specs.Typed.{ValueIn}
-use Rattle.asn_base.specs.Types.{Resolved, TypeNumber}
+use Rattle.asn_base.specs.Types.{Resolved}
 use Rattle.packed_code.specs.Routines.{routine_at}
 use Rattle.packed_encodings.specs.Lengths.{Bits}
 use Rattle.decode_faults.specs.declared.refusal.Refusal.TheVariants as why
 use Rattle.packed_readings.specs.Counts.{octets_from}
 use Rattle.packed_readings.specs.Outcome.{found}
-use Rattle.packed_reader.specs.Readings.{Fault, Reading, read, refused, stop, next, in_part, plain, Taken, taken, IsExact}
+use Rattle.packed_reader.specs.Readings.{Reading, read, refused, stop, next, plain, Taken, taken, IsExact}
 use Rattle.packed_reader.specs.Steps.{steps_from, value_by}
 use Rattle.packed_reader.specs.Structures.{is_filling, filled_from, before_rest, open_from}
 use Rattle.packed_reader.specs.Values.{IsValueRead, value_from}
@@ -20,9 +20,8 @@ use Rattle.packed_reader.specs.declared.reader.Progress.{Progress}
 use Rattle.packed_reader.specs.proving.Running.{past, run_steps, run_value}
 use Rattle.packed_reader.specs.declared.stop.Stop.{Stop}
 use Rattle.packed_reader.specs.declared.stop.Stop.TheVariants.{Memory, Refused}
-use Rattle.packed_reader.proofs.Exact.{not_both, one_value, one_fault}
+use Rattle.packed_reader.proofs.Exact.{not_both, one_value}
 use Rattle.packed_reader.proofs.Flow.{stop_as, stop_at, stop_next, stop_bare}
-use Rattle.packed_reader.proofs.Opening.{used_length}
 
 abbrev Runs' : Type 0
 Runs' = (s : List Resolved) (l t k n : ℕ) (b : List Bool) → run_steps s l (run_value s l) t (routine_at s t) k n b ≡ past k (steps_from s l (value_by s l) t (routine_at s t) n b)

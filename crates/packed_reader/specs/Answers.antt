@@ -9,7 +9,7 @@ use Rattle.packed_reader.specs.declared.fault.PerFault.{PerFault}
 use Rattle.packed_reader.specs.declared.fault.PerFault.TheVariants as per
 use Rattle.packed_reader.specs.declared.fault.RefusedBits.{RefusedBits}
 use Rattle.packed_reader.specs.Readings.{Fault}
-use Rattle.packed_reader.specs.Values.{Answer, answers, too_long, faulty}
+use Rattle.packed_reader.specs.Values.{Answer, too_long, faulty}
 
 -- a fault without its place
 abbrev pub fault_of : RefusedBits → Fault

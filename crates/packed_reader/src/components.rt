@@ -229,6 +229,7 @@ fn read_present(
         Err(stop) => return Err(stop.within(Part::Component(field.place))),
     };
     if progress.skipped == skipped
+        && field.with_default
         && is_default(reader.code.schema(), reader.id, field.place, &value)
     {
         *bits = start;

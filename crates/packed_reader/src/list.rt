@@ -9,6 +9,7 @@ ghost use Rattle.packed_readings.specs.Counts.{count_from, size_fault, total};
 ghost use Rattle.packed_readings.specs.Outcome.{bad, good, judging, outcome};
 ghost use Rattle.std.specs.Prelude.{◌≡◌, ◌≤◌, ◌^◌, IfErr, IfOk, length};
 
+use crate::open::all_clear;
 use asn_base::constraint::Constraint;
 use asn_base::value::Value;
 use bits::cursor::Bits;
@@ -60,10 +61,14 @@ pub(crate) fn at_most(first: Bits<'_>, second: Bits<'_>) -> bool
     let mut one = first;
     let mut two = second;
     while one.len() > 0 {
-        let left = one.take(1) == 1;
-        let right = two.len() > 0 && two.take(1) == 1;
+        let n = one.len().min(two.len()).min(64);
+        if n == 0 {
+            return all_clear(one);
+        }
+        let left = one.take(n);
+        let right = two.take(n);
         if left != right {
-            return right;
+            return left < right;
         }
     }
     true

@@ -21,7 +21,7 @@ use packed_readings::{read_bit, read_octets};
 use std::alloc::Global;
 
 /// Whether all bits are 0.
-fn all_clear(bits: Bits<'_>) -> bool
+pub(crate) fn all_clear(bits: Bits<'_>) -> bool
     ensures { result ≡ structures.all_clear (bits_left bits.entry) }
 {
     let mut rest = bits;

@@ -79,7 +79,7 @@ pub(crate) fn read_presences(
     ensures fields { IfOk result (λ v. map (λ x. x.field) v.items ≡ fields_in steps.now) }
     ensures shorter { IfOk result (λ x. length (bits_left bits.new) ≤ length (bits_left bits.old)) }
 {
-    let mut sent = Vec::new(alloc);
+    let mut sent = Vec::with_capacity(alloc, steps.len())?;
     for i in 0..steps.len() {
         match push_presence(alloc, steps[i], bits, &mut sent) {
             Ok(()) => {}

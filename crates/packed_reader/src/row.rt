@@ -14,7 +14,7 @@ pub(crate) fn empty_row(alloc: Global, count: usize) -> Result<Vec<Option<Value>
     ensures row { IfOk result (λ v. (cs : List Component) → length cs ≡ count → row_of_values v.items ≡ no_row cs) }
     ensures length { IfOk result (λ v. length v.items ≡ count) }
 {
-    let mut row = Vec::new(alloc);
+    let mut row = Vec::with_capacity(alloc, count)?;
     for _i in 0..count {
         row.push(None)?;
     }

@@ -1,8 +1,7 @@
-use Rattle.std.proofs.Common.{rules, ◌≡◌, ◌+◌, ◌≤◌, ◌<◌, IfErr, IfOk, OnOk, length, suc, true, ℕ, ◌-◌, ◌*◌, ◌/◌, ◌%◌, Bool, false, nat_eq, nat_lt, List, [], ◌∷◌, ◌++◌, slice_index_or, slice_set, bit_and, bit_or, Fits, w8, w32, w64, Bor, MutBor}
+use Rattle.std.proofs.Common.{rules, ◌≡◌, ◌+◌, ◌≤◌, ◌<◌, length, suc, true, ℕ, ◌-◌, ◌*◌, Bool, false, List, [], ◌∷◌, slice_index_or}
 use Rattle.asn_base.specs.Abstract.{abstract}
-use Rattle.asn_base.specs.Schemas.{AreBounds, IsSize, components}
+use Rattle.asn_base.specs.Schemas.{components}
 use Rattle.asn_base.specs.Seen.{constraint_of}
-use Rattle.asn_base.specs.Typed.{ValueIn}
 use Rattle.bits.specs.Left.{bits_left}
 use Rattle.packed_code.specs.Routines.{routine_at}
 use Rattle.packed_encodings.specs.Computed.{kind_at}
@@ -10,12 +9,11 @@ use Rattle.packed_reader.specs.Code.{chosen_of}
 use Rattle.packed_reader.specs.Readings.{next as onward}
 use Rattle.packed_reader.specs.Readings.{plain}
 use Rattle.packed_reader.specs.Steps.{call_from}
-use Rattle.packed_reader.specs.Structures.{no_row, open_from}
-use Rattle.packed_reader.specs.proving.Code.{AreSent, HasRoom, IsGot, IsLess, IsPart, IsStop, Went, gathered, row_of_values}
-use Rattle.packed_reader.specs.proving.Plans.{AreCalls}
-use Rattle.packed_reader.specs.proving.Running.{no_elements, run_added, run_additions, run_chosen, run_each, run_element, run_elements, run_fields, run_first, run_group, run_group_inside, run_leaf, run_list, run_member, run_members, run_parts, run_present, run_rest, run_steps, run_structure, run_value}
+use Rattle.packed_reader.specs.Structures.{open_from}
+use Rattle.packed_reader.specs.proving.Code.{AreSent, IsLess, IsPart, IsStop, gathered, row_of_values}
+use Rattle.packed_reader.specs.proving.Running.{run_added, run_additions, run_chosen, run_elements, run_first, run_group, run_group_inside, run_list, run_member, run_members, run_parts, run_present, run_rest, run_steps, run_structure, run_value}
 use Rattle.packed_readings.specs.Counts.{size_fault}
-use Rattle.packed_writer.specs.proving.Values.{FieldFits, FieldsFit, IsList, fields_in}
+use Rattle.packed_writer.specs.proving.Values.{FieldsFit, IsList, fields_in}
 use Rattle.std.proofs.Common.{arith, map, refl, sym, ap, subst, ◌∙◌}
 use Rattle.std.specs.Prelude.{not, ◌||◌}
 use Rattle.std.proofs.lemmas.List.{map_push, length-map}
@@ -50,7 +48,7 @@ use Rattle.packed_reader.proofs.+reads.Goals as goal
 use Rattle.std.proofs.Common.{arith, refl, sym, ap, subst, ◌∙◌}
 use Rattle.decode_faults.specs.declared.refusal.Refusal.TheVariants as why
 use Rattle.packed_reader.specs.Readings.{read, taken}
-use Rattle.packed_reader.proofs.Flow.{stop_next, stop_within, stop_as, stop_at, stop_bare, stop_of}
+use Rattle.packed_reader.proofs.Flow.{stop_next, stop_as, stop_at}
 use Rattle.packed_reader.specs.declared.plan.Plan.TheVariants as plans
 use Rattle.packed_reader.specs.proving.Plans.{run_plan}
 use Rattle.packed_reader.proofs.ValueRun.{value_steps, value_deep, value_full, value_of, went_value, fewer_value, got_as, row_as, stops_as, went_on as both_went, went_ok, went_done, went_shorter, room_left}
@@ -64,8 +62,8 @@ use Rattle.packed_reader.proofs.Plans.{as_plan, fits_as, type_there, shorter_ok}
 use Rattle.packed_reader.proofs.Flow.{went_same}
 use Rattle.packed_reader.proofs.Presences.{fields_taken}
 use Rattle.packed_reader.proofs.Calls.{call_shorter, call_room, components_are, components_many, map-length, is_component, default_as}
-use Rattle.packed_reader.proofs.MemberRun.{kind_found, within_row, present_stop, present_same, present_ok, same_as_default, no_default, some_skipped, absent_ok, absent_deep, member_present, member_absent, members_next, members_stop, members_end, sent_there, sent_fit, fields_fit, all_taken, all_dropped, no_mark, no_presences, no_members, rest_is, calls_have_width, chosen_open, chosen_root, chosen_as, chosen_stop, next', only_memory, whatever}
-use Rattle.packed_reader.proofs.+reads.Goals.{components::read_present-else-progress-skipped-via-then-progress-skipped+else-is_default, components::read_present-else-progress-skipped-via-else-progress-skipped}
+use Rattle.packed_reader.proofs.MemberRun.{kind_found, within_row, present_stop, present_same, present_ok, same_as_default, no_default, never_default, some_skipped, absent_ok, absent_deep, member_present, member_absent, members_next, members_stop, members_end, sent_there, sent_fit, fields_fit, all_taken, all_dropped, no_mark, no_presences, no_members, rest_is, calls_have_width, chosen_open, chosen_root, chosen_as, chosen_stop, next', only_memory, whatever}
+use Rattle.packed_reader.proofs.+reads.Goals.{components::read_present-else-progress-skipped-via-then-progress-skipped+then-field+else-is_default, components::read_present-else-progress-skipped-via-then-progress-skipped+else-field, components::read_present-else-progress-skipped-via-else-progress-skipped}
 
 as_steps : {t : ℕ} (c : goal.value::read_value-After-read_steps t) → run_value c.args.reader.code.now c.args.reader.levels c.args.reader.id.index c.args.progress.now.skipped c.args.progress.now.left (bits_left c.args.bits.now)
     ≡ run_steps c.args.reader.code.now (c.args.reader.levels - 1) (run_value c.args.reader.code.now (c.args.reader.levels - 1)) c.args.reader.id.index (routine_at c.args.reader.code.now c.args.reader.id.index) c.args.progress.now.skipped (c.args.progress.now.left - 1) (bits_left c.args.bits.now)
@@ -1432,7 +1430,8 @@ pub components::read_present-returns-clause-ok : goal.components::read_present-r
 components::read_present-returns-clause-ok t c =
     present_ok c.args.reader.code.now c.args.reader.levels (components (kind_at c.args.reader.code.now c.args.reader.id.index)) c.args.field (row_of_values c.args.row.now.items) c.args.progress.now.skipped c.args.progress.now.left (bits_left c.args.bits.now) (abstract c.in-Ok.value) c.read_value.new.progress.skipped c.read_value.new.progress.left (bits_left c.read_value.new.bits) (row_of_values c.put.new.row.items) c.in-Ok.ensures.ok
     (elim c.else-progress-skipped.branch [
-      | components::read_present-else-progress-skipped-via-then-progress-skipped+else-is_default w ↦ no_default c.args.reader.code.now c.args.reader.levels (components (kind_at c.args.reader.code.now c.args.reader.id.index)) c.args.field (row_of_values c.args.row.now.items) c.args.progress.now.skipped c.args.progress.now.left (bits_left c.args.bits.now) c.requires.fits.component (abstract c.in-Ok.value) c.read_value.new.progress.skipped c.read_value.new.progress.left w.is_default.result c.requires.fits.there (default_as c.args.reader.code.now w.schema.result.now c.args.reader.id.index c.args.field.place c.requires.fits.component (abstract c.in-Ok.value) w.is_default.result w.schema.ensures c.requires.fits.there w.is_default.ensures) w.if-is_default.false
+      | components::read_present-else-progress-skipped-via-then-progress-skipped+then-field+else-is_default w ↦ no_default c.args.reader.code.now c.args.reader.levels (components (kind_at c.args.reader.code.now c.args.reader.id.index)) c.args.field (row_of_values c.args.row.now.items) c.args.progress.now.skipped c.args.progress.now.left (bits_left c.args.bits.now) c.requires.fits.component (abstract c.in-Ok.value) c.read_value.new.progress.skipped c.read_value.new.progress.left w.is_default.result c.requires.fits.there (default_as c.args.reader.code.now w.schema.result.now c.args.reader.id.index c.args.field.place c.requires.fits.component (abstract c.in-Ok.value) w.is_default.result w.schema.ensures c.requires.fits.there w.is_default.ensures) w.if-is_default.false
+      | components::read_present-else-progress-skipped-via-then-progress-skipped+else-field w ↦ never_default c.args.reader.code.now c.args.reader.levels (components (kind_at c.args.reader.code.now c.args.reader.id.index)) c.args.field (row_of_values c.args.row.now.items) c.args.progress.now.skipped c.args.progress.now.left (bits_left c.args.bits.now) c.requires.fits.component (abstract c.in-Ok.value) c.read_value.new.progress.skipped c.read_value.new.progress.left c.requires.fits.there (ap (λ q. q.with_default) c.requires.fits.is) w.if-field.false
       | components::read_present-else-progress-skipped-via-else-progress-skipped w ↦ some_skipped c.args.reader.code.now c.args.reader.levels (components (kind_at c.args.reader.code.now c.args.reader.id.index)) c.args.field (row_of_values c.args.row.now.items) c.args.progress.now.skipped c.args.progress.now.left (bits_left c.args.bits.now) (abstract c.in-Ok.value) c.read_value.new.progress.skipped c.read_value.new.progress.left w.if-progress-skipped.false
     ]) c.put.ensures.row
 

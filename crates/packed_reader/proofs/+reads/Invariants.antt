@@ -1,4 +1,4 @@
-use Rattle.std.proofs.Common.{◌≡◌, ◌+◌, ◌-◌, ◌*◌, ◌≤◌, ◌<◌, ℕ, suc, Bool, true, false, cond, drop, map, length}
+use Rattle.std.proofs.Common.{◌≡◌, ◌+◌, ◌-◌, ◌*◌, ◌≤◌, suc, true, cond, drop, length}
 use Rattle.asn_base.specs.Schemas.{components}
 use Rattle.asn_base.specs.Seen.{constraint_of}
 use Rattle.bits.specs.Left.{bits_left}

@@ -1,12 +1,10 @@
 -- What the functions of the reader's code answer.
-use Rattle.std.specs.Prelude.{◌≡◌, ℕ, suc, ◌+◌, ◌<◌, ◌≤◌, ◌^◌, Bool, List, [], ◌∷◌, ◌++◌, length, map, option_map}
-use Rattle.std.specs.Prelude.{Option, Some, None, slice_get}
-use Rattle.asn_base.specs.Abstract.{AbstractValue, abstract, Row, row_of_options}
+use Rattle.std.specs.Prelude.{◌≡◌, ℕ, suc, ◌+◌, ◌<◌, ◌≤◌, ◌^◌, List, [], ◌∷◌, length, map, option_map}
+use Rattle.std.specs.Prelude.{Option, Some, slice_get}
+use Rattle.asn_base.specs.Abstract.{abstract, Row, row_of_options}
 use Rattle.asn_base.specs.declared.value.Value.{Value}
 use Rattle.asn_base.specs.Schemas.{components}
 use Rattle.asn_base.specs.Types.{Component, Resolved, TypeNumber}
-use Rattle.packed_code.specs.declared.step.PackedField.{PackedField}
-use Rattle.packed_code.specs.Routines.{field_of}
 use Rattle.packed_encodings.specs.Computed.{kind_at}
 use Rattle.packed_encodings.specs.Lengths.{Bits}
 use Rattle.packed_readings.specs.declared.refusal.PackedFault.{PackedFault}

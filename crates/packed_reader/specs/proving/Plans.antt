@@ -1,5 +1,5 @@
 -- What a plan of a routine reads.
-use Rattle.std.specs.Prelude.{◌≡◌, ℕ, Bool, List, [], take}
+use Rattle.std.specs.Prelude.{◌≡◌, ℕ, List, take}
 use Rattle.asn_base.specs.Types.{Resolved, TypeNumber}
 use Rattle.packed_code.specs.declared.step.PackedStep.{PackedStep}
 use Rattle.packed_encodings.specs.Computed.{kind_at}

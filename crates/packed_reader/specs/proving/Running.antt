@@ -1,19 +1,18 @@
 -- What the reader's code computes, in the order in which it does: the state goes from part to part, and each value is
 -- put at its place at once. `k` counts additions that were skipped so far, and `n` values that may still begin.
-use Rattle.std.specs.Prelude.{◌≡◌, ℕ, zero, suc, ◌+◌, ◌*◌, ◌==◌, nat_lt, ◌≤◌, ◌^◌, Bool, true, false, not, ◌&&◌, ◌||◌}
-use Rattle.std.specs.Prelude.{if◌then◌else◌, List, [], ◌∷◌, ◌++◌, length, map}
-use Rattle.std.specs.Prelude.{drop, take, Option, Some, None, slice_get}
-use Rattle.asn_base.specs.Abstract.{AbstractValue, fields, list, Row, end, absent, present}
+use Rattle.std.specs.Prelude.{ℕ, zero, suc, ◌+◌, ◌*◌, ◌==◌, Bool, true, false, not, ◌&&◌, ◌||◌}
+use Rattle.std.specs.Prelude.{if◌then◌else◌, List, [], ◌∷◌, ◌++◌, length}
+use Rattle.std.specs.Prelude.{drop, take, Option}
+use Rattle.asn_base.specs.Abstract.{AbstractValue, fields, list, Row, end, present}
 use Rattle.asn_base.specs.Types.{Component, Constraint, Kind, Resolved, TypeNumber}
 use Rattle.asn_base.specs.Schemas.{components}
 use Rattle.packed_encodings.specs.Lengths.{Bits}
-use Rattle.packed_encodings.specs.Orders.{Member, component}
+use Rattle.packed_encodings.specs.Orders.{component}
 use Rattle.packed_encodings.specs.Computed.{is_default, kind_at}
 use Rattle.packed_code.specs.declared.step.PackedField.{PackedField}
 use Rattle.packed_code.specs.declared.step.PackedStep.{PackedStep}
 use Rattle.packed_code.specs.declared.step.PackedStep.TheVariants as steps
 use Rattle.packed_code.specs.Meaning.{next_fields}
-use Rattle.packed_code.specs.Routines.{routine_at}
 use Rattle.decode_faults.specs.declared.refusal.Refusal.{Refusal}
 use Rattle.decode_faults.specs.declared.refusal.Refusal.TheVariants as why
 use Rattle.packed_readings.specs.declared.count.Count.{Count}

@@ -1,5 +1,4 @@
-use Rattle.std.proofs.Common.{length}
-use Rattle.packed_reader.proofs.MessageRun.{reads_of, few_of, only_of, read_of, long_of, ends_of, begins}
+use Rattle.packed_reader.proofs.MessageRun.{only_of, read_of, ends_of, begins}
 use Rattle.packed_reader.proofs.message.read_uper.Goals as goal
 
 pub returns-clause-only : goal.returns-clause-only

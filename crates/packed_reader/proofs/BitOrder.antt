@@ -1,0 +1,133 @@
+-- Bits that are compared by the numbers that they are.
+use Rattle.std.proofs.Common.{arith, ◌≡◌, ℕ, suc, ◌+◌, ◌*◌, ◌/◌, ◌%◌, ◌^◌, ◌<◌, ◌≤◌, ⊎_elim, Bool, true, false, [], ◌∷◌, ◌++◌, length, length-append, refl, sym, ap, ◌∙◌}
+use Rattle.std.specs.Prelude.{cond, zero, min, not, ◌&&◌, ◌==◌, nat_lt}
+use Rattle.std.proofs.lemmas.Bool.{lt-ltb, le-ltb, cases_lt}
+use Rattle.std.proofs.Math.Nat.{pow-succ', mod-eq_of_lt}
+use Rattle.std.proofs.Math.Arith.{mod-mul}
+use Rattle.std.proofs.lemmas.Nat.{pow_pos}
+use Rattle.bits.specs.Words.{word}
+use Rattle.packed_encodings.specs.Lengths.{Bits}
+use Rattle.packed_readings.specs.Outcome.{worth}
+use Rattle.packed_reader.specs.Lists.{at_most}
+use Rattle.packed_reader.specs.Structures.{all_clear}
+
+-- ---- the number that bits are
+
+word_length : (k n : ℕ) → length (word k n) ≡ k
+word_length zero n = refl
+word_length (suc k) n = let e = word_length k n in omega arith
+
+bit_of : (n : ℕ) → cond (n % 2 == 1) 1 0 ≡ n % 2
+bit_of n = grind arith
+
+bit_times : (b : Bool) (m : ℕ) → cond b m 0 ≡ cond b 1 0 * m
+bit_times true m = omega arith
+bit_times false m = omega arith
+
+worth_of_word : (k n : ℕ) → worth (word k n) ≡ n % 2 ^ k
+worth_of_word zero n = grind arith
+worth_of_word (suc k) n =
+    let c : cond (n / 2 ^ k % 2 == 1) (2 ^ length (word k n)) 0 ≡ (n / 2 ^ k % 2) * 2 ^ length (word k n) = bit_times (n / 2 ^ k % 2 == 1) (2 ^ length (word k n)) ∙ ap (λ q. q * 2 ^ length (word k n)) (bit_of (n / 2 ^ k)) in
+    let l : 2 ^ length (word k n) ≡ 2 ^ k = ap (λ q. 2 ^ q) (word_length k n) in
+    let h : worth (word k n) ≡ n % 2 ^ k = worth_of_word k n in
+    let p : 2 ^ suc k ≡ 2 * 2 ^ k = pow-succ' 2 k in
+    let m : n % (2 * 2 ^ k) ≡ (n / 2 ^ k % 2) * 2 ^ k + n % 2 ^ k = mod-mul n (omega arith) (pow_pos k) in
+    let d : cond (n / 2 ^ k % 2 == 1) (2 ^ length (word k n)) 0 ≡ (n / 2 ^ k % 2) * 2 ^ k = c ∙ ap (λ q. (n / 2 ^ k % 2) * q) l in
+    ap (λ q. q + worth (word k n)) d ∙ ap (λ q. (n / 2 ^ k % 2) * 2 ^ k + q) h ∙ sym m ∙ ap (λ q. n % q) (sym p)
+
+worth_word : (k n : ℕ) → n < 2 ^ k → worth (word k n) ≡ n
+worth_word k n l = worth_of_word k n ∙ mod-eq_of_lt l
+
+worth_below : (b : Bits) → worth b < 2 ^ length b
+worth_below [] = omega arith
+worth_below (true ∷ b) = let h = worth_below b in let p : 2 ^ suc (length b) ≡ 2 * 2 ^ length b = pow-succ' 2 (length b) in omega (arith, h, p)
+worth_below (false ∷ b) = let h = worth_below b in let p : 2 ^ suc (length b) ≡ 2 * 2 ^ length b = pow-succ' 2 (length b) in omega (arith, h, p)
+
+-- ---- the order
+
+as_long : (x y : Bits) → length x ≡ length y → 2 ^ length x ≡ 2 ^ length y
+as_long x y l = ap (λ q. 2 ^ q) l
+
+below : (x y p q : Bits) → length x ≡ length y → worth x < worth y → at_most (x ++ p) (y ++ q) ≡ true
+below [] [] p q l h = absurd (omega (arith, h))
+below [] (y ∷ ys) p q l h = absurd (omega (arith, l))
+below (x ∷ xs) [] p q l h = absurd (omega (arith, l))
+below (false ∷ xs) (true ∷ ys) p q l h = refl
+below (true ∷ xs) (false ∷ ys) p q l h =
+    let m : length xs ≡ length ys = omega (arith, l) in
+    let e = as_long xs ys m in
+    let g = worth_below ys in
+    absurd (omega (arith, h, e, g))
+below (false ∷ xs) (false ∷ ys) p q l h = below xs ys p q (omega (arith, l)) (omega (arith, h))
+below (true ∷ xs) (true ∷ ys) p q l h =
+    let m : length xs ≡ length ys = omega (arith, l) in
+    let e = as_long xs ys m in
+    below xs ys p q m (omega (arith, h, e))
+
+above : (x y p q : Bits) → length x ≡ length y → worth y < worth x → at_most (x ++ p) (y ++ q) ≡ false
+above [] [] p q l h = absurd (omega (arith, h))
+above [] (y ∷ ys) p q l h = absurd (omega (arith, l))
+above (x ∷ xs) [] p q l h = absurd (omega (arith, l))
+above (true ∷ xs) (false ∷ ys) p q l h = refl
+above (false ∷ xs) (true ∷ ys) p q l h =
+    let m : length xs ≡ length ys = omega (arith, l) in
+    let e = as_long xs ys m in
+    let g = worth_below xs in
+    absurd (omega (arith, h, e, g))
+above (false ∷ xs) (false ∷ ys) p q l h = above xs ys p q (omega (arith, l)) (omega (arith, h))
+above (true ∷ xs) (true ∷ ys) p q l h =
+    let m : length xs ≡ length ys = omega (arith, l) in
+    let e = as_long xs ys m in
+    above xs ys p q m (omega (arith, h, e))
+
+same_front : (x p q : Bits) → at_most (x ++ p) (x ++ q) ≡ at_most p q
+same_front [] p q = refl
+same_front (false ∷ xs) p q = same_front xs p q
+same_front (true ∷ xs) p q = same_front xs p q
+
+-- ---- numbers at the front
+
+module _ (k m n : ℕ) (x y p q : Bits) (e : x ≡ word k m ++ p) (f : y ≡ word k n ++ q) where
+  split : at_most x y ≡ at_most (word k m ++ p) (word k n ++ q)
+  split = ap (λ z. at_most z y) e ∙ ap (λ z. at_most (word k m ++ p) z) f
+
+  equal_lengths : length (word k m) ≡ length (word k n)
+  equal_lengths = word_length k m ∙ sym (word_length k n)
+
+  -- bits that differ are in the order of their numbers
+  pub numbers_apart : m < 2 ^ k → n < 2 ^ k → (m ≡ n → ⊥) → nat_lt m n ≡ at_most x y
+  numbers_apart hm hn d = ⊎_elim
+      (λ l. lt-ltb m n l ∙ sym (split ∙ below (word k m) (word k n) p q equal_lengths (in_order l)))
+      (λ l. le-ltb m n l ∙ sym (split ∙ above (word k m) (word k n) p q equal_lengths (in_turn l)))
+      (cases_lt m n)
+    where
+      in_order : m < n → worth (word k m) < worth (word k n)
+      in_order l = let a = worth_word k m hm in let b = worth_word k n hn in omega (arith, a, b, l)
+
+      in_turn : n ≤ m → worth (word k n) < worth (word k m)
+      in_turn l = let a = worth_word k m hm in let b = worth_word k n hn in omega (arith, a, b, l, d)
+
+  -- bits that are the same decide nothing
+  pub numbers_same : m ≡ n → at_most p q ≡ at_most x y
+  numbers_same s = sym (split ∙ ap (λ z. at_most (word k z ++ p) (word k n ++ q)) s ∙ same_front (word k n) p q)
+
+-- a number was taken, so fewer bits are left
+pub fewer_left : (k m : ℕ) (x p : Bits) → x ≡ word k m ++ p → (k ≡ 0 → ⊥) → length p < length x
+fewer_left k m x p e h =
+    let a = word_length k m in
+    let b : length x ≡ length (word k m) + length p = ap length e ∙ length-append (word k m) p in
+    omega (arith, a, b, h)
+
+-- no bits can be taken of both, since nothing is left of the second
+none_of : (a b m n : ℕ) → m ≡ min a b → n ≡ min m 64 → 0 < a → n ≡ 0 → b ≡ 0
+none_of a b m n e f l g = omega (arith, e, f, l, g)
+
+all_clear_is : (x y : Bits) → length y ≡ 0 → all_clear x ≡ at_most x y
+all_clear_is [] [] l = refl
+all_clear_is (x ∷ xs) [] l = ap (λ q. not x && q) (all_clear_is xs [] l)
+all_clear_is x (y ∷ ys) l = absurd (omega (arith, l))
+
+pub second_ended : (x y : Bits) (w a b m n : ℕ) (q z : Bool) → w ≡ length x → 0 < w → a ≡ length x → b ≡ length y → m ≡ min a b → n ≡ min m 64 → n ≡ 0 → q ≡ all_clear x → at_most x y ≡ z → q ≡ z
+second_ended x y w a b m n q z s t e f g h k i j =
+    let l : 0 < a = omega (arith, s, t, e) in
+    i ∙ all_clear_is x y (sym f ∙ none_of a b m n g h l k) ∙ j
