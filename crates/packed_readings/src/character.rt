@@ -20,7 +20,24 @@ use decode_faults::Refusal;
 fn finds_code(alphabet: &[u8], code: u64) -> bool
     ensures { IsTrue result → IsMember code alphabet.now }
 {
-    let place = alphabet.partition_point(|other| (*other as u64) < code);
+    is_before_gaps(alphabet, code)
+        || has_code_at(alphabet, alphabet.partition_point(|other| (*other as u64) < code), code)
+}
+
+/// Whether the code is in the alphabet, found by its distance from the first code. A code after a gap is missed.
+fn is_before_gaps(alphabet: &[u8], code: u64) -> bool
+    ensures { IsTrue result → IsMember code alphabet.now }
+{
+    match alphabet.first() {
+        Some(first) => has_code_at(alphabet, code.wrapping_sub(*first as u64) as usize, code),
+        None => false,
+    }
+}
+
+/// Whether the code stands at this place of the alphabet.
+fn has_code_at(alphabet: &[u8], place: usize, code: u64) -> bool
+    ensures { IsTrue result → IsMember code alphabet.now }
+{
     match alphabet.get(place) {
         Some(other) => *other as u64 == code,
         None => false,
