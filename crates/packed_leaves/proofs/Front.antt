@@ -13,7 +13,7 @@ use Rattle.packed_counts.specs.Counts.{items_next, count_bits, Adds}
 use Rattle.packed_leaves.proofs.Counting.{AtOnce, Part, all_at_once, first_part, whole_octets}
 
 -- the high j of m bits, then the low k
-word_split : (j k m n : ℕ) → j + k ≡ m → word m n ≡ word j (n / 2 ^ k) ++ word k n
+pub word_split : (j k m n : ℕ) → j + k ≡ m → word m n ≡ word j (n / 2 ^ k) ++ word k n
 word_split zero k m n e = ap (λ q. word q n) (let c : m ≡ k = omega (arith, e) in c)
 word_split (suc j) k zero n e = elim (let c : suc j + k ≢ 0 = (λ f. omega (arith, f)) in c e) [ ]
 word_split (suc j) k (suc m) n e =

@@ -5,11 +5,12 @@ ghost use Rattle.asn_base.specs.Schemas.{AreBounds, CodesAscend, IsAlphabet, IsS
 ghost use Rattle.asn_base.specs.Seen.{constraint_of};
 ghost use Rattle.asn_base.specs.Typed.{Fits};
 ghost use Rattle.asn_base.specs.Types.{a_restricted_string};
+ghost use Rattle.bits.specs.Words.{word};
 ghost use Rattle.packed_counts.specs.Counts.{Adds};
 ghost use Rattle.packed_encodings.specs.Computed.{character_bits, code_place, codes_below, leaf_bits};
 ghost use Rattle.packed_encodings.specs.Lengths.{Counted, all_bits};
 ghost use Rattle.packed_leaves.specs.proving.Texts.{IsOf};
-ghost use Rattle.std.specs.Prelude.{◌≡◌, ◌++◌, ◌^◌, ◌<◌, ◌≤◌, OnOk, length, map};
+ghost use Rattle.std.specs.Prelude.{◌≡◌, ◌++◌, ◌^◌, ◌*◌, ◌<◌, ◌≤◌, IfSome, OnOk, length, map};
 
 use crate::item::place_bits;
 use crate::value;
@@ -57,7 +58,7 @@ fn alphabet_of(codes: &[u8]) -> Alphabet<'_>
 }
 
 /// The place of a code in the alphabet, or the number of codes if it isn't there.
-fn place_of(codes: &[u8], code: u8) -> usize
+fn searched_place(codes: &[u8], code: u8) -> usize
     ensures { result ≡ code_place codes.now code }
 {
     for i in 0..codes.len() {
@@ -68,27 +69,96 @@ fn place_of(codes: &[u8], code: u8) -> usize
     codes.len()
 }
 
-/// Adds a character: its code if all codes fit, or else its place (30.5.4).
-fn push_character(out: &mut BitBuf, alphabet: Alphabet<'_>, code: u8) -> Result<(), AllocError>
+/// The place of a code in the alphabet, found by its distance from the first code. A code after a gap is missed.
+#[inline(always)]
+fn place_before_gaps(codes: &[u8], code: u8) -> Option<usize>
+    requires ascend { CodesAscend codes.now }
+    ensures { IfSome result (λ p. p ≡ code_place codes.now code) }
+{
+    let first = match codes.first() {
+        Some(first) => *first,
+        None => return None,
+    };
+    let place = code.wrapping_sub(first) as usize;
+    match codes.get(place) {
+        Some(other) if *other == code => Some(place),
+        _ => None,
+    }
+}
+
+/// The place of a code in the alphabet, or the number of codes if it isn't there.
+#[inline(always)]
+fn place_of(codes: &[u8], code: u8) -> usize
+    requires ascend { CodesAscend codes.now }
+    ensures { result ≡ code_place codes.now code }
+{
+    match place_before_gaps(codes, code) {
+        Some(place) => place,
+        None => searched_place(codes, code),
+    }
+}
+
+/// The number that the low bits of a number are.
+#[inline(always)]
+fn low_bits(number: u64, width: usize) -> u64
+    requires { width ≤ 8 }
+    ensures bits { word width result ≡ word width number }
+    ensures small { result < 2 ^ width }
+{
+    number & ((1 << width) - 1)
+}
+
+/// The bits of a character as a number: of its code if all codes fit, or else of its place (30.5.4).
+#[inline(always)]
+fn number_of(alphabet: Alphabet<'_>, code: u8) -> u64
     requires { IsOf alphabet.codes.now alphabet }
-    ensures { OnOk result (out.new ≡ out.old ++ character_bits alphabet.entry.codes.now code) }
+    ensures bits { word alphabet.entry.width result ≡ character_bits alphabet.entry.codes.now code }
+    ensures small { result < 2 ^ alphabet.entry.width }
 {
     let number = if alphabet.by_code {
         code as usize
     } else {
         place_of(alphabet.codes, code)
     };
-    out.push_word(number as u64, alphabet.width)?;
+    low_bits(number as u64, alphabet.width)
+}
+
+/// The bits of at most eight characters, one after the other, as a number.
+fn group_of(alphabet: Alphabet<'_>, text: &[u8]) -> u64
+    requires is { IsOf alphabet.codes.now alphabet }
+    requires few { length text.now ≤ 8 }
+    ensures { word (length text.now * alphabet.entry.width) result
+        ≡ all_bits (map (character_bits alphabet.entry.codes.now) text.now) }
+{
+    let mut number = 0;
+    for code in text {
+        number = (number << alphabet.width) + number_of(alphabet, *code);
+    }
+    number
+}
+
+/// Adds the bits of at most eight characters.
+fn push_group(out: &mut BitBuf, alphabet: Alphabet<'_>, text: &[u8]) -> Result<(), AllocError>
+    requires is { IsOf alphabet.codes.now alphabet }
+    requires few { length text.now ≤ 8 }
+    ensures { OnOk result (out.new ≡ out.old ++ all_bits (map (character_bits alphabet.entry.codes.now) text.now)) }
+{
+    out.push_word(group_of(alphabet, text), text.len() * alphabet.width)?;
     Ok(())
 }
 
+/// Adds characters, eight at a time.
 fn push_characters(out: &mut BitBuf, alphabet: Alphabet<'_>, text: &[u8]) -> Result<(), AllocError>
     requires { IsOf alphabet.codes.now alphabet }
     ensures { OnOk result (out.new ≡ out.old ++ all_bits (map (character_bits alphabet.entry.codes.now) text.now)) }
 {
-    for i in 0..text.len() {
-        push_character(out, alphabet, text[i])?;
+    let mut rest = text;
+    while rest.len() > 8 {
+        let (front, after) = rest.split_at(8);
+        push_group(out, alphabet, front)?;
+        rest = after;
     }
+    push_group(out, alphabet, rest)?;
     Ok(())
 }
 

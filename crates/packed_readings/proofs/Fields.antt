@@ -36,7 +36,7 @@ bit_times : (b : Bool) (m : ℕ) → cond b m 0 ≡ cond b 1 0 * m
 bit_times true m = omega arith
 bit_times false m = omega arith
 
-worth_of_word : (k n : ℕ) → worth (word k n) ≡ n % 2 ^ k
+pub worth_of_word : (k n : ℕ) → worth (word k n) ≡ n % 2 ^ k
 worth_of_word zero n = grind arith
 worth_of_word (suc k) n =
     let c : cond (n / 2 ^ k % 2 == 1) (2 ^ length (word k n)) 0 ≡ (n / 2 ^ k % 2) * 2 ^ length (word k n) = bit_times (n / 2 ^ k % 2 == 1) (2 ^ length (word k n)) ∙ ap (λ q. q * 2 ^ length (word k n)) (bit_of (n / 2 ^ k)) in
@@ -206,7 +206,7 @@ bits_read n = block (AreSeveral IsBit n) n (λ x. x)
       p.whole ∙ ap all_bits e ∙ single_all v,
     )))
 
-word_of_block : (n : ℕ) (x : Bits) → length x ≡ n → word n (worth x) ≡ x
+pub word_of_block : (n : ℕ) (x : Bits) → length x ≡ n → word n (worth x) ≡ x
 word_of_block n x l = ap (λ q. word q (worth x)) (sym l) ∙ word_worth x
 
 -- the octets of this number of bits

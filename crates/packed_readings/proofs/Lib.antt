@@ -16,3 +16,4 @@ mod Counted
 mod Judging
 mod Adding
 mod BitsRead
+mod Known

@@ -1,5 +1,5 @@
 -- What code answers is what the functions compute.
-use Rattle.std.proofs.Common.{arith, ◌≡◌, ℕ, suc, ◌+◌, ◌-◌, ◌^◌, ◌<◌, List, [], ◌∷◌, ◌++◌, map, refl, sym, ap, subst, ◌∙◌, append_assoc}
+use Rattle.std.proofs.Common.{arith, ◌≡◌, ℕ, suc, ◌+◌, ◌-◌, ◌^◌, ◌<◌, ◌≤◌, List, [], ◌∷◌, ◌++◌, map, refl, sym, ap, subst, ◌∙◌, append_assoc}
 use Rattle.std.proofs.lemmas.List.{append-nil, length-map}
 use Rattle.std.specs.Int.Digits.{AllBelowBase}
 use Rattle.bits.specs.Words.{word, octet_bits}
@@ -9,6 +9,10 @@ use Rattle.decode_faults.specs.declared.refusal.Refusal.{Refusal}
 use Rattle.packed_readings.specs.Outcome.{Outcome, found, stops, onward, field_from, each_from}
 use Rattle.packed_readings.specs.Counts.{several_octets}
 use Rattle.packed_readings.specs.Code.{Gained}
+use Rattle.packed_readings.specs.declared.refusal.PackedFault.{PackedFault}
+use Rattle.packed_readings.specs.declared.refusal.PackedFault.TheVariants.{Memory, Refused}
+use Rattle.packed_readings.specs.Outcome.{IsFault}
+use Rattle.packed_readings.specs.proving.Progress.{Added, Faults}
 use Rattle.packed_readings.proofs.Fields.{field, octets_read}
 use Rattle.packed_readings.proofs.Octets.{items_of_octets}
 
@@ -38,12 +42,6 @@ octets_taken n old new left after a t =
     }
 
 -- ---- one after the other
-
--- i of them were added
-pub record Added {X : Type 0} (f : Bits → Outcome X) (i : ℕ) (first : Bits) (old new : List X) (left : Bits) : Type 0 where
-  pub values : List X
-  pub joined : new ≡ old ++ values
-  pub goes_on : (m : ℕ) → each_from f (i + m) first ≡ onward (each_from f m left) (λ ys s. found (values ++ ys) s)
 
 all_of : {X : Type 0} (o : Outcome (List X)) → o ≡ onward o (λ ys s. found ys s)
 all_of (found ys s) = refl
@@ -83,3 +81,27 @@ added_stops f i n first left rest old new e a l d =
     ap (λ q. each_from f q first) (let k : n ≡ i + suc (n - i - 1) = omega (arith, l) in k)
     ∙ a.goes_on (suc (n - i - 1))
     ∙ ap (λ o. onward (onward o (λ x r. onward (each_from f (n - i - 1) r) (λ xs s. found (x ∷ xs) s))) (λ ys s. found (a.values ++ ys) s)) d
+
+-- ---- several at once
+
+then_more : {X : Type 0} (o : Outcome (List X)) (vs ws : List X) → onward (onward o (λ ys s. found (ws ++ ys) s)) (λ ys s. found (vs ++ ys) s) ≡ onward o (λ ys s. found ((vs ++ ws) ++ ys) s)
+then_more (found ys s) vs ws = ap (λ q. found q s) (sym (append_assoc vs ws ys))
+then_more (stops e s) vs ws = refl
+
+pub added_more : {X : Type 0} (f : Bits → Outcome X) (i k n : ℕ) (first left rest : Bits) (old mid new : List X) → Added f i first old mid left → Added f k left mid new rest → n ≡ i + k → Added f n first old new rest
+added_more f i k n first left rest old mid new a b e = record {
+  values = a.values ++ b.values;
+  joined = b.joined ∙ ap (λ q. q ++ b.values) a.joined ∙ append_assoc old a.values b.values;
+  goes_on = λ m.
+      ap (λ q. each_from f q first) (let c : n + m ≡ i + (k + m) = omega (arith, e) in c)
+      ∙ a.goes_on (k + m)
+      ∙ ap (λ o. onward o (λ ys s. found (a.values ++ ys) s)) (b.goes_on m)
+      ∙ then_more (each_from f m rest) a.values b.values;
+}
+
+pub added_fault : {X : Type 0} (f : Bits → Outcome X) (i k n : ℕ) (first left rest : Bits) (old mid : List X) (e : PackedFault) → Added f i first old mid left → Faults f k left e rest → i + k ≤ n → IsFault (each_from f n first) e rest
+added_fault f i k n first left rest old mid Memory a h l = tt
+added_fault f i k n first left rest old mid (Refused e) a h l =
+    ap (λ q. each_from f q first) (let c : n ≡ i + (n - i) = omega (arith, l) in c)
+    ∙ a.goes_on (n - i)
+    ∙ ap (λ o. onward o (λ ys s. found (a.values ++ ys) s)) (h (n - i) (omega (arith, l)))

@@ -7,8 +7,10 @@ ghost use Rattle.packed_encodings.specs.Leaves.{place_width};
 ghost use Rattle.packed_readings.specs.Code.{Gained};
 ghost use Rattle.packed_readings.specs.Leaves.{character_from, character_of, is_code};
 ghost use Rattle.packed_readings.specs.Outcome.{IsFault, bad, each_from, good, outcome};
+ghost use Rattle.packed_readings.specs.proving.Progress.{Added, Faults, Starts};
 ghost use Rattle.std.specs.Int.Digits.{AllBelowBase};
-ghost use Rattle.std.specs.Prelude.{◌≡◌, ◌↔◌, ◌^◌, ◌≤◌, IfErr, IfOk, IsTrue, OnOk, length};
+ghost use Rattle.std.specs.Prelude.{◌≡◌, ◌↔◌, ◌*◌, ◌/◌, ◌^◌, ◌<◌, ◌≤◌, drop, length};
+ghost use Rattle.std.specs.Prelude.{IfErr, IfOk, IsTrue, OnOk};
 
 use crate::field::read_field;
 use crate::refusal::PackedFault;
@@ -20,7 +22,29 @@ use decode_faults::Refusal;
 fn finds_code(alphabet: &[u8], code: u64) -> bool
     ensures { IsTrue result → IsMember code alphabet.now }
 {
-    let place = alphabet.partition_point(|other| (*other as u64) < code);
+    has_code_at(
+        alphabet,
+        alphabet.partition_point(|other| (*other as u64) < code),
+        code,
+    )
+}
+
+/// Whether the code is in the alphabet, found by its distance from the first code. A code after a gap is missed.
+#[inline(always)]
+fn is_before_gaps(alphabet: &[u8], code: u64) -> bool
+    ensures { IsTrue result → IsMember code alphabet.now }
+{
+    match alphabet.first() {
+        Some(first) => has_code_at(alphabet, code.wrapping_sub(*first as u64) as usize, code),
+        None => false,
+    }
+}
+
+/// Whether the code stands at this place of the alphabet.
+#[inline(always)]
+fn has_code_at(alphabet: &[u8], place: usize, code: u64) -> bool
+    ensures { IsTrue result → IsMember code alphabet.now }
+{
     match alphabet.get(place) {
         Some(other) => *other as u64 == code,
         None => false,
@@ -39,14 +63,17 @@ fn has_code(alphabet: &[u8], code: u64) -> bool
     false
 }
 
-/// Whether the code is in the alphabet. A binary search comes first; all codes are compared only if it fails.
+/// Whether the code is in the alphabet. The quickest test comes first. All codes are compared only if a binary search
+/// fails too.
+#[inline(always)]
 fn is_among(alphabet: &[u8], code: u64) -> bool
     ensures { IsTrue result ↔ IsMember code alphabet.now }
 {
-    finds_code(alphabet, code) || has_code(alphabet, code)
+    is_before_gaps(alphabet, code) || finds_code(alphabet, code) || has_code(alphabet, code)
 }
 
 /// Whether the code is in the alphabet.
+#[inline(always)]
 #[tactic(auto, using(crate::proofs::Items::code_same))]
 fn is_code(alphabet: &[u8], code: u64) -> bool
     ensures { result ≡ is_code alphabet.now code }
@@ -78,6 +105,7 @@ fn is_by_code(alphabet: &[u8], width: usize) -> bool
 }
 
 /// The character with this code, if `by_code` is true, or at this place.
+#[inline(always)]
 #[tactic(auto, using(crate::proofs::Items::code_octet))]
 fn character(alphabet: &[u8], by_code: bool, number: u64) -> Result<u8, Refusal>
     requires { by_code ≡ codes_below (2 ^ place_width (length alphabet.now)) alphabet.now }
@@ -97,28 +125,148 @@ fn character(alphabet: &[u8], by_code: bool, number: u64) -> Result<u8, Refusal>
     }
 }
 
-/// Takes one character.
-fn read_character(
-    alphabet: &[u8],
+/// An alphabet: its codes, and how many bits a character has. The bits are the code if all codes fit, or else its place
+/// in the alphabet (30.5.4).
+#[derive(Clone, Copy)]
+struct Alphabet<'a> {
+    codes: &'a [u8],
     width: usize,
     by_code: bool,
-    bits: &mut Bits<'_>,
-) -> Result<u8, Refusal>
-    requires width { width ≡ place_width (length alphabet.now) }
-    requires few { width ≤ 64 }
-    requires by_code { by_code ≡ codes_below (2 ^ place_width (length alphabet.now)) alphabet.now }
-    ensures { character_from alphabet.now (bits_left bits.old) ≡ outcome result (bits_left bits.new) }
+    ghost wide: { width ≡ place_width (length codes.now) },
+    ghost few: { width ≤ 64 },
+    ghost tested: { by_code ≡ codes_below (2 ^ place_width (length codes.now)) codes.now },
+}
+
+fn alphabet_of(codes: &[u8]) -> Alphabet<'_>
+    ensures { result.codes.now ≡ codes.now }
+{
+    let width = width_of_place(codes.len());
+    let by_code = is_by_code(codes, width);
+    Alphabet {
+        codes,
+        width,
+        by_code,
+    }
+}
+
+/// Takes one character.
+fn read_character(alphabet: Alphabet<'_>, bits: &mut Bits<'_>) -> Result<u8, Refusal>
+    ensures { character_from alphabet.entry.codes.now (bits_left bits.old) ≡ outcome result (bits_left bits.new) }
 {
     let start = *bits;
-    let number = match read_field(bits, width) {
+    let number = match read_field(bits, alphabet.width) {
         Ok(number) => number,
         Err(truncated) => return Err(truncated),
     };
-    match character(alphabet, by_code, number) {
+    match character(alphabet.codes, alphabet.by_code, number) {
         Ok(code) => Ok(code),
         Err(refusal) => {
             *bits = start;
             Err(refusal)
+        }
+    }
+}
+
+/// Takes one character, whose bits are already known: they stand in `number` before its last `after` bits.
+#[inline(always)]
+fn take_known(
+    alphabet: Alphabet<'_>,
+    number: u64,
+    after: usize,
+    bits: &mut Bits<'_>,
+) -> Result<u8, Refusal>
+    requires few { alphabet.width ≤ 8 }
+    requires small { after < 64 }
+    requires known { Starts alphabet.width (number / 2 ^ after) (bits_left bits.old) }
+    ensures is { character_from alphabet.entry.codes.now (bits_left bits.old) ≡ outcome result (bits_left bits.new) }
+    ensures taken { IfOk result (λ c. bits_left bits.new ≡ drop alphabet.entry.width (bits_left bits.old)) }
+{
+    let only = (number >> after) & ((1 << alphabet.width) - 1);
+    match character(alphabet.codes, alphabet.by_code, only) {
+        Ok(code) => {
+            bits.skip(alphabet.width);
+            Ok(code)
+        }
+        Err(refusal) => Err(refusal),
+    }
+}
+
+/// Takes some characters, whose bits are taken as one number, and adds their codes.
+fn read_group(
+    alphabet: Alphabet<'_>,
+    count: usize,
+    bits: &mut Bits<'_>,
+    out: &mut Vec<u8>,
+) -> Result<(), PackedFault>
+    requires narrow { alphabet.width ≤ 8 }
+    requires few { count ≤ 8 }
+    requires left { count * alphabet.width ≤ length (bits_left bits.old) }
+    ensures ok { OnOk result (Added (character_from alphabet.entry.codes.now) count (bits_left bits.old)
+        out.old.items out.new.items (bits_left bits.new)) }
+    ensures err { IfErr result
+        (λ e. Faults (character_from alphabet.entry.codes.now) count (bits_left bits.old) e (bits_left bits.new)) }
+{
+    let mut ahead = *bits;
+    let number = ahead.take(count * alphabet.width);
+    for i in 0..count {
+        let code = match take_known(alphabet, number, (count - 1 - i) * alphabet.width, bits) {
+            Ok(code) => code,
+            Err(refusal) => return Err(PackedFault::Refused(refusal)),
+        };
+        match out.push(code) {
+            Ok(()) => {}
+            Err(_) => return Err(PackedFault::Memory),
+        }
+    }
+    Ok(())
+}
+
+/// Takes one character, and adds its code.
+fn read_one(
+    alphabet: Alphabet<'_>,
+    bits: &mut Bits<'_>,
+    out: &mut Vec<u8>,
+) -> Result<(), PackedFault>
+    ensures ok { OnOk result (Added (character_from alphabet.entry.codes.now) 1 (bits_left bits.old)
+        out.old.items out.new.items (bits_left bits.new)) }
+    ensures err { IfErr result
+        (λ e. Faults (character_from alphabet.entry.codes.now) 1 (bits_left bits.old) e (bits_left bits.new)) }
+{
+    let code = match read_character(alphabet, bits) {
+        Ok(code) => code,
+        Err(refusal) => return Err(PackedFault::Refused(refusal)),
+    };
+    match out.push(code) {
+        Ok(()) => Ok(()),
+        Err(_) => Err(PackedFault::Memory),
+    }
+}
+
+/// Takes the next characters, up to eight but at most `left`, and adds their codes. The result is how many they are. If
+/// the bits end before so many, one is taken.
+fn read_next(
+    alphabet: Alphabet<'_>,
+    left: usize,
+    bits: &mut Bits<'_>,
+    out: &mut Vec<u8>,
+) -> Result<usize, PackedFault>
+    requires { 0 < left }
+    ensures some { IfOk result (λ n. (0 < n) × (n ≤ left)) }
+    ensures ok { IfOk result (λ n. Added (character_from alphabet.entry.codes.now) n (bits_left bits.old)
+        out.old.items out.new.items (bits_left bits.new)) }
+    ensures err { IfErr result
+        (λ e. Faults (character_from alphabet.entry.codes.now) left (bits_left bits.old) e (bits_left bits.new)) }
+{
+    let count = left.min(8);
+    if alphabet.width <= 8 && count * alphabet.width <= bits.len() {
+        match read_group(alphabet, count, bits, out) {
+            Ok(()) => Ok(count),
+            Err(fault) => Err(fault),
+        }
+    } else {
+        match read_one(alphabet, bits, out) {
+            Ok(()) => Ok(1),
+            Err(fault) => Err(fault),
         }
     }
 }
@@ -136,16 +284,12 @@ pub(crate) fn read_characters(
     ensures err { IfErr result
         (λ e. IsFault (each_from (character_from alphabet.now) count (bits_left bits.old)) e (bits_left bits.new)) }
 {
-    let width = width_of_place(alphabet.len());
-    let by_code = is_by_code(alphabet, width);
-    for _i in 0..count {
-        let code = match read_character(alphabet, width, by_code, bits) {
-            Ok(code) => code,
-            Err(refusal) => return Err(PackedFault::Refused(refusal)),
-        };
-        match out.push(code) {
-            Ok(()) => {}
-            Err(_) => return Err(PackedFault::Memory),
+    let known = alphabet_of(alphabet);
+    let mut left = count;
+    while left > 0 {
+        match read_next(known, left, bits, out) {
+            Ok(taken) => left -= taken,
+            Err(fault) => return Err(fault),
         }
     }
     Ok(())

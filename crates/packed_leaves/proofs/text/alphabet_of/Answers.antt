@@ -8,6 +8,7 @@ are_below-requires-clause-small c = subst (λ q. q ≤ 8) (sym c.place_bits-widt
 
 pub returns : goal.returns
 returns c = record {
+  ascend = c.requires.ascend;
   same = refl;
   wide = c.place_bits-width.ensures.is;
   few = subst (λ q. q ≤ 8) (sym c.place_bits-width.ensures.is) (few_bits (length c.args.codes.now) c.requires.few);

@@ -1,0 +1,135 @@
+-- The place of a code, and the bits of several characters as one number.
+use Rattle.std.proofs.Common.{arith, ◌≡◌, ℕ, zero, suc, ◌+◌, ◌-◌, ◌*◌, ◌/◌, ◌%◌, ◌^◌, ◌<◌, ◌≤◌, false, List, [], ◌∷◌, ◌++◌, length, get_or, map, drop, refl, sym, ap, subst, ◌∙◌, append_assoc}
+use Rattle.std.specs.Prelude.{◌==◌, if◌then◌else◌}
+use Rattle.std.specs.List.{AllByRecursion}
+use Rattle.std.specs.Int.RustNames.{bit_and}
+use Rattle.std.proofs.Math.Nat.{pow-succ', add-mul-div_right, mul_left_comm, mul_assoc, mul-le-mul_right, mod-eq_of_lt}
+use Rattle.std.proofs.Math.Seq.{drop-cons, drop-length}
+use Rattle.std.proofs.lemmas.Nat.{pow_pos, pow-add, pow_below, shr_high, shr_split, and_mask}
+use Rattle.std.proofs.lemmas.List.{append-nil}
+use Rattle.std.proofs.lemmas.Bool.{eq-eqb, eqb-true, false_from_ne_true}
+use Rattle.asn_base.specs.Schemas.{CodesAscend}
+use Rattle.bits.specs.Words.{word}
+use Rattle.packed_encodings.specs.Lengths.{Bits, all_bits}
+use Rattle.packed_encodings.specs.Computed.{code_place}
+use Rattle.packed_leaves.proofs.Front.{word_split}
+
+-- ---- places
+
+above : (d : ℕ) (ds : List ℕ) (i o : ℕ) → AllByRecursion (λ x. d < x) ds → i < length ds → o ≡ get_or ds i o → d < o
+above d [] i o a l e = absurd (omega (arith, l))
+above d (x ∷ ds) zero o a l e = subst (λ q. d < q) (sym e) a.0
+above d (x ∷ ds) (suc i) o a l e = above d ds i o a.1 (omega (arith, l)) e
+
+-- in codes that ascend, a code has one place
+pub place_there : (ds : List ℕ) (i o c : ℕ) → CodesAscend ds → i < length ds → o ≡ get_or ds i o → o ≡ c → i ≡ code_place ds c
+place_there [] i o c a l e f = absurd (omega (arith, l))
+place_there (d ∷ ds) zero o c a l e f = sym (ap (λ t. if t then 0 else suc (code_place ds c)) (eq-eqb d c (sym e ∙ f)))
+place_there (d ∷ ds) (suc i) o c a l e f =
+    let m : i < length ds = omega (arith, l) in
+    let b : d < o = above d ds i o a.0 m e in
+    let n : (d == c) ≡ false = false_from_ne_true (d == c) (λ t. (let g = eqb-true d c t in omega (arith, b, f, g))) in
+    ap suc (place_there ds i o c a.1 m e f) ∙ sym (ap (λ t. if t then 0 else suc (code_place ds c)) n)
+
+-- ---- low bits
+
+twice : (a p n : ℕ) → a * (2 * p) + n ≡ n + (2 * a) * p
+twice a p n = omega (arith, mul_left_comm a 2 p, mul_assoc 2 a p)
+
+even : (n a : ℕ) → (n + 2 * a) % 2 ≡ n % 2
+even n a = omega arith
+
+turned : (n a p : ℕ) → n + a * p ≡ a * p + n
+turned n a p = omega arith
+
+-- what is above the low k bits doesn't count
+word_low : (k a n : ℕ) → word k (a * 2 ^ k + n) ≡ word k n
+word_low zero a n = refl
+word_low (suc k) a n =
+    let p : 2 ^ suc k ≡ 2 * 2 ^ k = pow-succ' 2 k in
+    let c : a * 2 ^ suc k + n ≡ n + (2 * a) * 2 ^ k = ap (λ q. a * q + n) p ∙ twice a (2 ^ k) n in
+    let d : (a * 2 ^ suc k + n) / 2 ^ k ≡ n / 2 ^ k + 2 * a = ap (λ q. q / 2 ^ k) c ∙ add-mul-div_right n (2 * a) (pow_pos k) in
+    let m : (a * 2 ^ suc k + n) / 2 ^ k % 2 ≡ n / 2 ^ k % 2 = ap (λ q. q % 2) d ∙ even (n / 2 ^ k) a in
+    let r : word k (a * 2 ^ suc k + n) ≡ word k n = ap (word k) (c ∙ turned n (2 * a) (2 ^ k)) ∙ word_low k (2 * a) n in
+    ap (λ q. (q == 1) ∷ word k (a * 2 ^ suc k + n)) m ∙ ap (λ q. (n / 2 ^ k % 2 == 1) ∷ q) r
+
+pub small_shift : (w : ℕ) → w ≤ 8 → 1 * 2 ^ w % 18446744073709551616 ≡ 2 ^ w
+small_shift w h =
+    let p : 2 ^ w < 2 ^ 9 = pow_below w 9 (omega (arith, h)) in
+    let o : 1 * 2 ^ w ≡ 2 ^ w = omega arith in
+    ap (λ q. q % 18446744073709551616) o ∙ mod-eq_of_lt (omega (arith, p))
+
+pub masked : (w n : ℕ) → w ≤ 8 → bit_and n (1 * 2 ^ w % 18446744073709551616 - 1) ≡ n % 2 ^ w
+masked w n h = ap (λ q. bit_and n (q - 1)) (small_shift w h) ∙ and_mask n w
+
+pub low_word : (w n : ℕ) → w ≤ 8 → word w (bit_and n (1 * 2 ^ w % 18446744073709551616 - 1)) ≡ word w n
+low_word w n h = ap (word w) (masked w n h) ∙ sym (word_low w (n / 2 ^ w) (n % 2 ^ w)) ∙ ap (word w) (shr_split n w)
+
+-- ---- groups
+
+-- so many bits take at most 64
+pub times_more : (i w : ℕ) → (i + 1) * w ≡ i * w + w
+times_more i w = grind arith
+
+few_times : (i w : ℕ) → i < 8 → w ≤ 8 → i * w + w ≤ 64
+few_times i w l m =
+    let a : i * w ≤ 7 * w = mul-le-mul_right w (omega (arith, l)) in
+    omega (arith, a, m)
+
+power_at_most : (i j : ℕ) → i ≤ j → 2 ^ i ≤ 2 ^ j
+power_at_most i j h = let p : 2 ^ j ≡ 2 ^ (j - i) * 2 ^ i = ap (λ q. 2 ^ q) (let c : j ≡ (j - i) + i = omega (arith, h) in c) ∙ pow-add 2 (j - i) i in
+    let q : 1 * 2 ^ i ≤ 2 ^ (j - i) * 2 ^ i = mul-le-mul_right (2 ^ i) (pow_pos (j - i)) in
+    omega (arith, p, q)
+
+added_below : (a b v n : ℕ) → v < a → n < b → v * b + n < a * b
+added_below a b v n l m =
+    let k : (v + 1) * b ≤ a * b = mul-le-mul_right b (omega (arith, l)) in
+    let e : (v + 1) * b ≡ v * b + b = times_more v b in
+    omega (arith, k, e, m)
+
+-- one more character
+pub more_below : (i w v n : ℕ) → v < 2 ^ (i * w) → n < 2 ^ w → v * 2 ^ w + n < 2 ^ (i * w + w)
+more_below i w v n l m = subst (λ q. v * 2 ^ w + n < q) (sym (pow-add 2 (i * w) w)) (added_below (2 ^ (i * w)) (2 ^ w) v n l m)
+
+pub none_lost : (i w v : ℕ) → i < 8 → w ≤ 8 → v < 2 ^ (i * w) → v * 2 ^ w % 18446744073709551616 ≡ v * 2 ^ w
+none_lost i w v l m s =
+    let a : v * 2 ^ w + 0 < 2 ^ (i * w + w) = more_below i w v 0 s (pow_pos w) in
+    let b : 2 ^ (i * w + w) ≤ 2 ^ 64 = power_at_most (i * w + w) 64 (few_times i w l m) in
+    mod-eq_of_lt (omega (arith, a, b))
+
+-- the sum, in which no bit is lost
+pub sum_small : (i w v n : ℕ) → i < 8 → w ≤ 8 → v < 2 ^ (i * w) → n < 2 ^ w → v * 2 ^ w % 18446744073709551616 + n < 2 ^ ((i + 1) * w)
+sum_small i w v n l m s t =
+    subst (λ q. v * 2 ^ w % 18446744073709551616 + n < 2 ^ q) (sym (times_more i w))
+    (subst (λ q. q + n < 2 ^ (i * w + w)) (sym (none_lost i w v l m s)) (more_below i w v n s t))
+
+pub sum_fits : (i w v n : ℕ) → i < 8 → w ≤ 8 → v < 2 ^ (i * w) → n < 2 ^ w → v * 2 ^ w % 18446744073709551616 + n < 18446744073709551616
+sum_fits i w v n l m s t =
+    let a = sum_small i w v n l m s t in
+    let c : (i + 1) * w ≤ 64 = subst (λ q. q ≤ 64) (sym (times_more i w)) (few_times i w l m) in
+    let b : 2 ^ ((i + 1) * w) ≤ 2 ^ 64 = power_at_most ((i + 1) * w) 64 c in
+    omega (arith, a, b)
+
+word_joined : (j w v n : ℕ) → n < 2 ^ w → word (j + w) (v * 2 ^ w + n) ≡ word j v ++ word w n
+word_joined j w v n l =
+    word_split j w (j + w) (v * 2 ^ w + n) refl
+    ∙ ap (λ q. word j q ++ word w (v * 2 ^ w + n)) (shr_high v w n l)
+    ∙ ap (λ q. word j v ++ q) (word_low w v n)
+
+pub group_more : (f : ℕ → Bits) (text : List ℕ) (i w v n : ℕ) → i < length text → i < 8 → w ≤ 8 → v < 2 ^ (i * w) → n < 2 ^ w → word w n ≡ f (get_or text i 0) → word (i * w) v ++ all_bits (map f (drop i text)) ≡ all_bits (map f text) → word ((i + 1) * w) (v * 2 ^ w % 18446744073709551616 + n) ++ all_bits (map f (drop (i + 1) text)) ≡ all_bits (map f text)
+group_more f text i w v n k l m s t e h =
+    let rest : Bits = all_bits (map f (drop (i + 1) text)) in
+    let c : drop i text ≡ get_or text i 0 ∷ drop (i + 1) text = drop-cons text i 0 k ∙ ap (λ q. get_or text i 0 ∷ drop q text) (let g : suc i ≡ i + 1 = omega arith in g) in
+    ap (λ q. word q (v * 2 ^ w % 18446744073709551616 + n) ++ rest) (times_more i w)
+    ∙ ap (λ q. word (i * w + w) (q + n) ++ rest) (none_lost i w v l m s)
+    ∙ ap (λ q. q ++ rest) (word_joined (i * w) w v n t)
+    ∙ ap (λ q. (word (i * w) v ++ q) ++ rest) e
+    ∙ append_assoc (word (i * w) v) (f (get_or text i 0)) rest
+    ∙ ap (λ q. word (i * w) v ++ all_bits (map f q)) (sym c)
+    ∙ h
+
+-- the whole group
+pub group_whole : (f : ℕ → Bits) (text : List ℕ) (i w v : ℕ) → i ≡ length text → word (i * w) v ++ all_bits (map f (drop i text)) ≡ all_bits (map f text) → word (length text * w) v ≡ all_bits (map f text)
+group_whole f text i w v e h =
+    let n : drop (length text) text ≡ [] = drop-length text in
+    sym (append-nil (word (length text * w) v)) ∙ ap (λ q. word (length text * w) v ++ all_bits (map f q)) (sym n) ∙ subst (λ q. word (q * w) v ++ all_bits (map f (drop q text)) ≡ all_bits (map f text)) e h

@@ -1,0 +1,99 @@
+-- Characters whose bits were taken as one number.
+use Rattle.std.proofs.Common.{arith, ◌≡◌, ◌≢◌, ℕ, zero, suc, ◌+◌, ◌-◌, ◌*◌, ◌/◌, ◌%◌, ◌^◌, ◌<◌, ◌≤◌, List, ◌∷◌, ◌++◌, length, length-append, drop, sym, ap, ◌∙◌, append_assoc}
+use Rattle.std.specs.Prelude.{◌==◌}
+use Rattle.std.specs.Int.RustNames.{bit_and}
+use Rattle.std.proofs.Math.Nat.{suc-mul, mod-eq_of_lt}
+use Rattle.std.proofs.lemmas.Nat.{pow_pos, pow_below, shr-shr, and_mask, mod_below}
+use Rattle.std.proofs.lemmas.List.{drop_at}
+use Rattle.bits.specs.Words.{word}
+use Rattle.packed_encodings.specs.Lengths.{Bits}
+use Rattle.packed_encodings.specs.Leaves.{place_width}
+use Rattle.decode_faults.specs.declared.refusal.Refusal.{Refusal}
+use Rattle.packed_readings.specs.Outcome.{found, stops, onward, verdict, good, bad, field_from}
+use Rattle.packed_readings.specs.Leaves.{character_of, character_from}
+use Rattle.packed_readings.specs.proving.Progress.{Starts}
+use Rattle.packed_readings.proofs.Fields.{word_length, worth_of_word, word_of_block}
+use Rattle.packed_readings.proofs.Steps.{field_taken}
+
+-- the high j of m bits, then the low k
+word_split : (j k m n : ℕ) → j + k ≡ m → word m n ≡ word j (n / 2 ^ k) ++ word k n
+word_split zero k m n e = ap (λ q. word q n) (let c : m ≡ k = omega (arith, e) in c)
+word_split (suc j) k zero n e = elim (let c : suc j + k ≢ 0 = (λ f. omega (arith, f)) in c e) [ ]
+word_split (suc j) k (suc m) n e =
+    let g : j + k ≡ m = omega (arith, e) in
+    let d : n / 2 ^ m ≡ n / 2 ^ k / 2 ^ j = ap (λ q. n / 2 ^ q) (let c : m ≡ k + j = omega (arith, g) in c) ∙ sym (shr-shr n k j) in
+    ap (λ q. (q % 2 == 1) ∷ word m n) d ∙ ap (λ q. (n / 2 ^ k / 2 ^ j % 2 == 1) ∷ q) (word_split j k m n g)
+
+word_mod : (w n : ℕ) → word w (n % 2 ^ w) ≡ word w n
+word_mod w n = ap (word w) (sym (worth_of_word w n)) ∙ word_of_block w (word w n) (word_length w n)
+
+small_shift : (w : ℕ) → w ≤ 8 → 1 * 2 ^ w % 18446744073709551616 ≡ 2 ^ w
+small_shift w h =
+    let p : 2 ^ w < 2 ^ 9 = pow_below w 9 (omega (arith, h)) in
+    let o : 1 * 2 ^ w ≡ 2 ^ w = omega arith in
+    ap (λ q. q % 18446744073709551616) o ∙ mod-eq_of_lt (omega (arith, p))
+
+masked : (w n : ℕ) → w ≤ 8 → bit_and n (1 * 2 ^ w % 18446744073709551616 - 1) ≡ n % 2 ^ w
+masked w n h = ap (λ q. bit_and n (q - 1)) (small_shift w h) ∙ and_mask n w
+
+-- ---- one character
+
+pub enough : (w n : ℕ) (b : Bits) → Starts w n b → w ≤ length b
+enough w n b s =
+    let e = ap length s.is in
+    let a : length (word w n ++ s.rest) ≡ length (word w n) + length s.rest = length-append (word w n) s.rest in
+    let k = word_length w n in
+    omega (arith, e, a, k)
+
+after_it : (w n : ℕ) (b : Bits) (s : Starts w n b) → drop w b ≡ s.rest
+after_it w n b s = ap (drop w) s.is ∙ drop_at (word w n) s.rest w (word_length w n)
+
+abbrev low : ℕ → ℕ → ℕ
+low w n = bit_and n (1 * 2 ^ w % 18446744073709551616 - 1)
+
+number_taken : (w n : ℕ) (b : Bits) → w ≤ 8 → (s : Starts w n b) → field_from w b ≡ found (low w n) (drop w b)
+number_taken w n b h s =
+    field_taken w (n % 2 ^ w) b s.rest (s.is ∙ ap (λ q. q ++ s.rest) (sym (word_mod w n))) (mod_below n (2 ^ w) (pow_pos w))
+    ∙ ap (λ q. found q s.rest) (sym (masked w n h))
+    ∙ ap (λ q. found (low w n) q) (sym (after_it w n b s))
+
+judged_so : (a : List ℕ) (w n : ℕ) (b : Bits) → w ≡ place_width (length a) → w ≤ 8 → Starts w n b → character_from a b ≡ verdict (character_of a (low w n)) b (drop w b)
+judged_so a w n b e h s =
+    ap (λ q. onward (field_from q b) (λ v r. verdict (character_of a v) b r)) (sym e)
+    ∙ ap (λ q. onward q (λ v r. verdict (character_of a v) b r)) (number_taken w n b h s)
+
+pub known_found : (a : List ℕ) (w n c : ℕ) (b new : Bits) → w ≡ place_width (length a) → w ≤ 8 → Starts w n b → character_of a (low w n) ≡ good c → new ≡ drop w b → character_from a b ≡ found c new
+known_found a w n c b new e h s g d = judged_so a w n b e h s ∙ ap (λ q. verdict q b (drop w b)) g ∙ ap (λ q. found c q) (sym d)
+
+pub known_stops : (a : List ℕ) (w n : ℕ) (f : Refusal) (b : Bits) → w ≡ place_width (length a) → w ≤ 8 → Starts w n b → character_of a (low w n) ≡ bad f → character_from a b ≡ stops f b
+known_stops a w n f b e h s g = judged_so a w n b e h s ∙ ap (λ q. verdict q b (drop w b)) g
+
+-- ---- one after the other
+
+pub first_known : (count w n : ℕ) (b r : Bits) → b ≡ word (count * w) n ++ r → Starts ((count - 0) * w) n b
+first_known count w n b r e = record { rest = r; is = e ∙ ap (λ q. word (q * w) n ++ r) (let k : count ≡ count - 0 = omega arith in k) }
+
+module _ (count i w n : ℕ) (b : Bits) (l : i < count) (s : Starts ((count - i) * w) n b) where
+  abbrev behind : ℕ
+  behind = (count - 1 - i) * w
+
+  many : w + behind ≡ (count - i) * w
+  many =
+      let e : (count - i) * w ≡ suc (count - 1 - i) * w = ap (λ q. q * w) (let k : count - i ≡ suc (count - 1 - i) = omega (arith, l) in k) in
+      let m : suc (count - 1 - i) * w ≡ (count - 1 - i) * w + w = suc-mul (count - 1 - i) w in
+      omega (arith, e, m)
+
+  whole : b ≡ word w (n / 2 ^ behind) ++ (word behind n ++ s.rest)
+  whole = s.is ∙ ap (λ q. q ++ s.rest) (word_split w behind ((count - i) * w) n many) ∙ append_assoc (word w (n / 2 ^ behind)) (word behind n) s.rest
+
+  pub next_known : Starts w (n / 2 ^ behind) b
+  next_known = record { rest = word behind n ++ s.rest; is = whole }
+
+  pub later_known : (new : Bits) → new ≡ drop w b → Starts ((count - (i + 1)) * w) n new
+  unfolding next_known
+  later_known new d = record {
+    rest = s.rest;
+    is =
+        d ∙ after_it w (n / 2 ^ behind) b next_known
+        ∙ ap (λ q. word (q * w) n ++ s.rest) (let k : count - 1 - i ≡ count - (i + 1) = omega (arith, l) in k);
+  }
