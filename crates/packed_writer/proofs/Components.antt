@@ -245,6 +245,12 @@ split_at [] i h = absurd (omega (arith, h))
 split_at (x ∷ ss) zero h = (x, refl)
 split_at (x ∷ ss) (suc i) h = let r = split_at ss i (omega (arith, h)) in (r.0, r.1 ∙ ap (λ q. r.0 ∷ drop q (x ∷ ss)) (let c : suc (i + 1) ≡ suc i + 1 = omega arith in c))
 
+-- the step at a place is the first of those from there on
+pub step_there : (ss : List PackedStep) (i : ℕ) (st : PackedStep) → i < length ss → drop i ss ≡ get_or ss i st ∷ drop (i + 1) ss
+step_there [] i st h = absurd (omega (arith, h))
+step_there (x ∷ ss) zero st h = refl
+step_there (x ∷ ss) (suc i) st h = step_there ss i st (omega (arith, h)) ∙ ap (λ q. get_or ss i st ∷ drop q (x ∷ ss)) (let c : suc (i + 1) ≡ suc i + 1 = omega arith in c)
+
 pub levels_up : {s : List Resolved} (n m t : ℕ) (v : AbstractValue) → ((s : List Resolved) (t m n : ℕ) (v : AbstractValue) → m ≤ n → ValueIn s m t v → ValueIn s n t v) → n - 1 ≤ m → ValueIn s (n - 1) t v → ValueIn s m t v
 levels_up {s} n m t v law h a = law s t (n - 1) m v h a
 

@@ -1,5 +1,6 @@
 mod Additions
 mod Below
+mod ByWords
 mod Components
 mod Counting
 mod Defaults

@@ -1,6 +1,7 @@
 //! The encodings of elements as items after their number, and the order of items in a SET OF (X.691, 20 and 22).
 
 ghost use Rattle.asn_base.specs.Seen.{bounds_of};
+ghost use Rattle.bits.specs.Words.{word_bits};
 ghost use Rattle.packed_counts.specs.Counts.{Adds, HasLeast};
 ghost use Rattle.packed_encodings.specs.Computed as computed;
 ghost use Rattle.packed_encodings.specs.Computed.{sized_bits};
@@ -18,28 +19,36 @@ use packed_encodings::{function_laws, order_laws};
 use std::alloc::AllocError;
 use std::cmp::Ordering;
 
-/// The bit at a place, or 0 past the end.
-fn bit_at(bits: &BitBuf, place: usize) -> bool
-    ensures { result ≡ get_or bits.now place false }
+/// The word at a place, or 0 past the end.
+#[inline(always)]
+fn word_at(words: &[u64], place: usize) -> u64
+    ensures { result ≡ get_or words.now place 0 }
 {
-    match bits.get(place) {
-        Some(bit) => bit,
-        None => false,
+    match words.get(place) {
+        Some(word) => *word,
+        None => 0,
     }
+}
+
+/// Whether the first words are before the second as bits, where the shorter ones are filled with zeros.
+fn are_below(firsts: &[u64], seconds: &[u64]) -> bool
+    ensures { result ≡ computed.is_below (word_bits firsts.now) (word_bits seconds.now) }
+{
+    for place in 0..firsts.len().max(seconds.len()) {
+        let one = word_at(firsts, place);
+        let two = word_at(seconds, place);
+        if one != two {
+            return one < two;
+        }
+    }
+    false
 }
 
 /// Whether the first bits are before the second in the order of 22.1, where the shorter bits are filled with zeros.
 fn is_below(first: &BitBuf, second: &BitBuf) -> bool
     ensures { result ≡ computed.is_below first.now second.now }
 {
-    for place in 0..first.len().max(second.len()) {
-        let one = bit_at(first, place);
-        let two = bit_at(second, place);
-        if one != two {
-            return two;
-        }
-    }
-    false
+    are_below(first.words(), second.words())
 }
 
 fn compare(first: &BitBuf, second: &BitBuf) -> Ordering

@@ -19,7 +19,8 @@ ghost use Rattle.packed_encodings.specs.Leaves.{root_bit};
 ghost use Rattle.packed_writer.specs.proving.Values.{AreIn, FieldFits, FieldOf, FieldsFit, IsCalled};
 ghost use Rattle.packed_writer.specs.proving.Values.{IsIn, IsList, IsListOf, IsNumber, IsPick, StepsFit};
 ghost use Rattle.packed_writer.specs.proving.Values.{added_bits, all_items, fields_in, first_bits};
-ghost use Rattle.std.specs.Prelude.{◌≡◌, ◌++◌, ◌-◌, ◌<◌, ◌≤◌, ◌∷◌, [], OnOk, Some, false, length, map, slice_get, true};
+ghost use Rattle.std.specs.Prelude.{◌≡◌, ◌++◌, ◌-◌, ◌<◌, ◌≤◌, ◌∷◌, [], IfSome, OnOk, Some, false, length, map};
+ghost use Rattle.std.specs.Prelude.{slice_get, true};
 
 use crate::fields::{after, any_written, field_of, first, next, push_bitmap, push_map, written};
 use crate::items::{push_items, sort};
@@ -39,8 +40,21 @@ use packed_encodings::{computing_laws, function_laws};
 use packed_leaves::push_leaf;
 use std::alloc::{AllocError, Global};
 
+/// The step, if there is exactly one.
+#[inline(always)]
+fn only(steps: &[PackedStep]) -> Option<PackedStep>
+    ensures { IfSome result (λ s. steps.now ≡ s ∷ []) }
+{
+    if steps.len() == 1 {
+        Some(steps[0])
+    } else {
+        None
+    }
+}
+
 /// Adds the bits of a value by the routine of its type. `AllocError` only if an allocation fails.
 #[cycle(writes)]
+#[inline(always)]
 pub(crate) fn push_value(
     alloc: Global,
     code: &PackedCode,
@@ -55,8 +69,13 @@ pub(crate) fn push_value(
     routine_laws();
     levels_grow();
     routines_fit();
-    push_steps(alloc, code, out, typed, code.steps(typed.id))?;
-    Ok(())
+    let steps = code.steps(typed.id);
+    match only(steps) {
+        Some(PackedStep::Number(least, width)) => push_offset(out, typed.value, least, width),
+        Some(PackedStep::Bit) => push_contents(alloc, code, out, typed),
+        Some(PackedStep::Leaf) => push_contents(alloc, code, out, typed),
+        _ => push_steps(alloc, code, out, typed, steps),
+    }
 }
 
 /// Adds the bits of the steps, one step after another.
@@ -74,7 +93,11 @@ fn push_steps(
         ++ steps_bits code.now typed.entry.id.index (abstract typed.entry.value.now) steps.now) }
 {
     for i in 0..steps.len() {
-        push_step(alloc, code, out, typed, after(steps, i))?;
+        if let PackedStep::Field(field) = steps[i] {
+            push_field(alloc, code, out, typed, field)?;
+        } else {
+            push_step(alloc, code, out, typed, after(steps, i))?;
+        }
     }
     Ok(())
 }

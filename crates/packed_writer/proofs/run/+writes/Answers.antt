@@ -1,20 +1,22 @@
-use Rattle.std.proofs.Common.{◌≡◌, ◌+◌, ◌-◌, ◌*◌, ◌<◌, ◌≤◌, ◌++◌, ◌∷◌, [], true, false, length, map, arith, refl, sym, ap, subst, ◌∙◌, append_assoc}
+use Rattle.std.proofs.Common.{◌≡◌, ◌+◌, ◌-◌, ◌*◌, ◌<◌, ◌≤◌, ◌++◌, ◌∷◌, [], true, false, length, map, drop, arith, refl, sym, ap, subst, ◌∙◌, append_assoc}
 use Rattle.asn_base.specs.Abstract.{abstract}
 use Rattle.asn_base.specs.Seen.{constraint_of}
 use Rattle.asn_base.specs.Typed.{ValueIn, IsAllowedSize}
 use Rattle.packed_counts.specs.Counts.{Adds}
 use Rattle.packed_encodings.specs.Computed.{bits_of, open_bits, sorted, sized_bits}
 use Rattle.packed_encodings.specs.Lengths.{Counted, all_bits}
+use Rattle.packed_code.specs.declared.step.PackedStep.TheVariants as steps
 use Rattle.packed_code.specs.Meaning.{call_bits, field_bits, group_bits, map_bits, members_of, steps_bits}
 use Rattle.packed_writer.specs.proving.Values.{CallFits, IsCalled, FieldOf, FieldsFit, StepsFit, all_items, fields_in, first_bits}
 use Rattle.std.specs.List.Sorted.{IsPermutation}
 use Rattle.std.specs.Prelude.{OnOk, Some}
 use Rattle.bits.specs.Words.{word}
-use Rattle.packed_writer.proofs.Components.{all_take, next_is, split_at}
+use Rattle.packed_writer.proofs.Components.{all_take, next_is, split_at, step_there}
 use Rattle.packed_writer.proofs.Counting.{item_step, values_part, values_at_once, at_once, counted, items_long}
 use Rattle.packed_writer.proofs.Fitting.{fields_of_steps, fit_drop}
 use Rattle.packed_writer.proofs.Inside.{collect_step, item_found, part_bits, are_in, some_levels, sequence_of, set_of, has_least, in_bounds, in_sequence, in_set, sequence_listed, set_listed, all_encodings, is_called, is_choice, is_number}
 use Rattle.packed_writer.proofs.Steps.{added_is, group_is, steps_step, front_in, back_in, permuted_long, encoding}
+use Rattle.packed_writer.proofs.run.+writes.Goals.{push_steps-in-Field+in_ok-push_field, push_steps-in_default+in_ok-push_step}
 use Rattle.packed_writer.proofs.run.+writes.Goals as goal
 
 pub collect-loop-i-preserved : goal.collect-loop-i-preserved
@@ -269,9 +271,29 @@ push_steps-loop-i-preserved t c =
     let s = c.args.code.now in
     let t' = c.args.typed.id.index in
     let v = abstract c.args.typed.value.now in
-    let r = split_at c.args.steps.now c.loop-i.i c.loop-i-test.true in
-    steps_step s t' v c.args.steps.now c.loop-i.i r.0 c.loop-i.out c.push_step.new.out (c.args.out.now ++ steps_bits s t' v c.args.steps.now) r.1 c.loop-i.invariant
-    (c.in_ok-push_step.ensures ∙ ap (λ q. c.loop-i.out ++ first_bits s t' v q) c.after.ensures)
+    let ss = c.args.steps.now in
+    let r = split_at ss c.loop-i.i c.loop-i-test.true in
+    let step = steps_step s t' v ss c.loop-i.i r.0 c.loop-i.out c.match-steps-i.out (c.args.out.now ++ steps_bits s t' v ss) r.1 c.loop-i.invariant in
+    elim c.match-steps-i.branch [
+      | push_steps-in-Field+in_ok-push_field w ↦ step (w.out-is ∙ w.in_ok-push_field.ensures ∙ ap (λ q. c.loop-i.out ++ first_bits s t' v q) (sym (step_there ss c.loop-i.i steps.Bit c.loop-i-test.true ∙ ap (λ q. q ∷ drop (c.loop-i.i + 1) ss) w.in-Field.is)))
+      | push_steps-in_default+in_ok-push_step w ↦ step (w.out-is ∙ w.in_ok-push_step.ensures ∙ ap (λ q. c.loop-i.out ++ first_bits s t' v q) w.after.ensures)
+    ]
+
+pub push_steps-push_field-requires : goal.push_steps-push_field-requires
+push_steps-push_field-requires t c =
+    let s = c.args.code.now in
+    let u = c.args.typed.id.index in
+    let lt : 20 * c.args.typed.levels + 3 < t = let d = c.decreases in omega (arith, d) in
+    let f = subst (StepsFit s u) (step_there c.args.steps.now c.loop-i.i steps.Bit c.loop-i-test.true) (fit_drop s u c.loop-i.i c.args.steps.now c.requires.fit) in
+    (lt, (c.requires.value, subst (FieldOf s u) c.in-Field.is f.0))
+
+pub push_value-push_offset-requires : goal.push_value-push_offset-requires
+push_value-push_offset-requires t c =
+    let s = c.args.code.now in
+    let u = c.args.typed.id.index in
+    let f = subst (StepsFit s u) (sym c.steps-steps.ensures ∙ c.in-Some-Number.ensures) (c.routines_fit.ensures s u) in
+    let g = subst (λ q. CallFits s u q []) c.in-Some-Number.field-0-is f.1 in
+    is_number s c.args.typed.levels u (abstract c.args.typed.value.now) g.0 c.requires.is g.1
 
 pub push_call-returns-in_ok-push_opened-in-More : goal.push_call-returns-in_ok-push_opened-in-More
 push_call-returns-in_ok-push_opened-in-More t c =
