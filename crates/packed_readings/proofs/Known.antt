@@ -1,6 +1,10 @@
 -- Characters whose bits were taken as one number.
-use Rattle.std.proofs.Common.{arith, ◌≡◌, ◌≢◌, ℕ, zero, suc, ◌+◌, ◌-◌, ◌*◌, ◌/◌, ◌%◌, ◌^◌, ◌<◌, ◌≤◌, List, ◌∷◌, ◌++◌, length, length-append, drop, sym, ap, ◌∙◌, append_assoc}
-use Rattle.std.specs.Prelude.{◌==◌}
+use Rattle.std.proofs.Common.{arith, ◌≡◌, ◌≢◌, ℕ, zero, suc, ◌+◌, ◌-◌, ◌*◌, ◌/◌, ◌%◌, ◌^◌, ◌<◌, ◌≤◌, ◌⊎◌, inl, inr, ⊎_elim, max, Bool, true, false, true≢false, nat_lt, List, ◌∷◌, ◌++◌, length, length-append, get_or, drop, refl, sym, ap, ◌∙◌, append_assoc}
+use Rattle.std.specs.Prelude.{◌==◌, ◌&&◌}
+use Rattle.std.specs.Ordering.{nat_cmp, ord_max}
+use Rattle.std.proofs.lemmas.Bool.{lt-ltb, le-ltb, cases_lt}
+use Rattle.std.proofs.Math.Seq.{drop-cons, drop-length}
+use Rattle.packed_encodings.specs.Computed.{codes_below}
 use Rattle.std.specs.Int.RustNames.{bit_and}
 use Rattle.std.proofs.Math.Nat.{suc-mul, mod-eq_of_lt}
 use Rattle.std.proofs.lemmas.Nat.{pow_pos, pow_below, shr-shr, and_mask, mod_below}
@@ -97,3 +101,48 @@ module _ (count i w n : ℕ) (b : Bits) (l : i < count) (s : Starts ((count - i)
         d ∙ after_it w (n / 2 ^ behind) b next_known
         ∙ ap (λ q. word (q * w) n ++ s.rest) (let k : count - 1 - i ≡ count - (i + 1) = omega (arith, l) in k);
   }
+
+-- ---- the greatest code
+
+pub starts_at_none : (n : ℕ) (cs : List ℕ) → 0 < n → codes_below n cs ≡ (nat_lt 0 n && codes_below n cs)
+starts_at_none n cs l = sym (ap (λ q. q && codes_below n cs) (lt-ltb 0 n l))
+
+both_below : (n g c m : ℕ) (r : Bool) → g ≤ m → c ≤ m → (m ≡ g) ⊎ (m ≡ c) → (nat_lt g n && (nat_lt c n && r)) ≡ (nat_lt m n && r)
+both_below n g c m r a b e = ⊎_elim (λ l. below l) (λ l. above l) (cases_lt m n)
+  where
+    below : m < n → (nat_lt g n && (nat_lt c n && r)) ≡ (nat_lt m n && r)
+    below l =
+        ap (λ q. q && (nat_lt c n && r)) (lt-ltb g n (omega (arith, a, l)))
+        ∙ ap (λ q. q && r) (lt-ltb c n (omega (arith, b, l)))
+        ∙ sym (ap (λ q. q && r) (lt-ltb m n l))
+
+    none : (x y : Bool) → (x ≡ false) ⊎ (y ≡ false) → (x && (y && r)) ≡ false
+    none false y e = refl
+    none true false e = refl
+    none true true e = ⊎_elim (λ f. absurd (true≢false f)) (λ f. absurd (true≢false f)) e
+
+    above : n ≤ m → (nat_lt g n && (nat_lt c n && r)) ≡ (nat_lt m n && r)
+    above l =
+        none (nat_lt g n) (nat_lt c n) (⊎_elim (λ f. inl (le-ltb g n (omega (arith, f, l)))) (λ f. inr (le-ltb c n (omega (arith, f, l)))) e)
+        ∙ sym (ap (λ q. q && r) (le-ltb m n l))
+
+greater : (g c : ℕ) → (max g c ≡ g) ⊎ (max g c ≡ c)
+greater g c = ⊎_elim (λ l. inr (omega (arith, l))) (λ l. inl (omega (arith, l))) (cases_lt g c)
+
+is_max : (a b : ℕ) → ord_max nat_cmp a b ≡ max a b
+is_max a b = grind arith
+
+pub one_more : (n g i m : ℕ) (cs : List ℕ) → m ≡ ord_max nat_cmp g (get_or cs i 0) → i < length cs → codes_below n cs ≡ (nat_lt g n && codes_below n (drop i cs)) → codes_below n cs ≡ (nat_lt m n && codes_below n (drop (i + 1) cs))
+one_more n g i m cs f l e =
+    let c : ℕ = get_or cs i 0 in
+    let d : drop i cs ≡ c ∷ drop (i + 1) cs = drop-cons cs i 0 l ∙ ap (λ q. c ∷ drop q cs) (let k : suc i ≡ i + 1 = omega arith in k) in
+    e ∙ ap (λ q. nat_lt g n && codes_below n q) d
+    ∙ both_below n g c (max g c) (codes_below n (drop (i + 1) cs)) (omega arith) (omega arith) (greater g c)
+    ∙ ap (λ q. nat_lt q n && codes_below n (drop (i + 1) cs)) (sym (f ∙ is_max g c))
+
+pub none_more : (n g i : ℕ) (cs : List ℕ) → i ≡ length cs → codes_below n cs ≡ (nat_lt g n && codes_below n (drop i cs)) → codes_below n cs ≡ nat_lt g n
+none_more n g i cs l e = e ∙ ap (λ q. nat_lt g n && codes_below n q) (ap (λ q. drop q cs) l ∙ drop-length cs) ∙ and_true (nat_lt g n)
+  where
+    and_true : (b : Bool) → (b && true) ≡ b
+    and_true true = refl
+    and_true false = refl

@@ -10,7 +10,7 @@ ghost use Rattle.packed_readings.specs.Outcome.{IsFault, bad, each_from, good, o
 ghost use Rattle.packed_readings.specs.proving.Progress.{Added, Faults, Starts};
 ghost use Rattle.std.specs.Int.Digits.{AllBelowBase};
 ghost use Rattle.std.specs.Prelude.{◌≡◌, ◌↔◌, ◌*◌, ◌/◌, ◌^◌, ◌<◌, ◌≤◌, drop, length};
-ghost use Rattle.std.specs.Prelude.{IfErr, IfOk, IsTrue, OnOk};
+ghost use Rattle.std.specs.Prelude.{IfErr, IfOk, IsTrue, OnOk, nat_lt, ℕ};
 
 use crate::field::read_field;
 use crate::refusal::PackedFault;
@@ -86,14 +86,15 @@ pub(crate) fn are_octets(octets: &[u8])
     ensures { AllBelowBase 256 octets.now }
 {}
 
-/// Whether each code is below the limit.
-fn are_below(alphabet: &[u8], limit: u128) -> bool
-    ensures { result ≡ codes_below limit alphabet.now }
+/// The greatest code, or 0 if there is none.
+fn greatest_code(alphabet: &[u8]) -> u8
+    ensures { (n : ℕ) → 0 < n → codes_below n alphabet.now ≡ nat_lt result n }
 {
-    match alphabet.split_first() {
-        Some((code, others)) => (*code as u128) < limit && are_below(others, limit),
-        None => true,
+    let mut greatest = 0;
+    for code in alphabet {
+        greatest = greatest.max(*code);
     }
+    greatest
 }
 
 /// Whether all codes fit in as many bits as a place in the alphabet takes.
@@ -101,7 +102,7 @@ fn is_by_code(alphabet: &[u8], width: usize) -> bool
     requires { width ≤ 64 }
     ensures { result ≡ codes_below (2 ^ width) alphabet.now }
 {
-    are_below(alphabet, 1u128 << width)
+    (greatest_code(alphabet) as u128) < 1u128 << width
 }
 
 /// The character with this code, if `by_code` is true, or at this place.
