@@ -80,6 +80,7 @@ pub(crate) fn push_value(
 
 /// Adds the bits of the steps, one step after another.
 #[cycle(writes)]
+#[inline(never)]
 fn push_steps(
     alloc: Global,
     code: &PackedCode,
@@ -104,6 +105,7 @@ fn push_steps(
 
 /// Adds the bits of the first step, which come before those of the later steps.
 #[cycle(writes)]
+#[inline(never)]
 fn push_step(
     alloc: Global,
     code: &PackedCode,
@@ -140,6 +142,7 @@ fn push_step(
 }
 
 /// Adds the bits of a value without other values in it.
+#[inline(never)]
 fn push_contents(
     alloc: Global,
     code: &PackedCode,
@@ -157,6 +160,7 @@ fn push_contents(
 }
 
 /// Adds the bits of an INTEGER with both bounds: how far it is above the least number.
+#[inline(always)]
 fn push_offset(out: &mut BitBuf, value: &Value, least: i128, width: usize) -> Result<(), AllocError>
     requires { IsNumber (abstract value.now) }
     ensures { OnOk result (out.new ≡ out.old ++ number_bits least width (abstract value.now)) }
@@ -167,6 +171,7 @@ fn push_offset(out: &mut BitBuf, value: &Value, least: i128, width: usize) -> Re
 
 /// Adds a component of the root, if it is encoded.
 #[cycle(writes)]
+#[inline(always)]
 fn push_field(
     alloc: Global,
     code: &PackedCode,
