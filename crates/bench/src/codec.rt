@@ -1,6 +1,6 @@
 //! Encodes values by the distinguished rules, into a list and to a sink that keeps nothing, and decodes the encodings
-//! by the basic rules. Encodes them in canonical PER, and decodes those encodings. It prints how many octets and rows of
-//! the account each has, and whether the decoded value is encoded the same again. The times in microseconds, and the
+//! by the basic rules. Encodes them in canonical PER, and decodes those encodings. It prints how many octets and rows
+//! of the account each has, and whether the decoded value is encoded the same again. The times in microseconds, and the
 //! megabytes in each second, are written to standard error.
 //!
 //! The command line names values of modules, each under a type, as `named` describes. Values of growing size come after
