@@ -22,7 +22,7 @@ Examples:
   asnc list m.asn
 
 Exit status: 0 done, 1 the texts, names, values or octets are refused, 2 a bad command line,
-3 memory, a file or a device was wanting. A refusal is one line, with its number and
+3 out of memory, or a file or a device failed. A refusal is one line, with its number and
 its name; man asnc lists them.";
 
 /// The text at the end of the help of `der`.
@@ -72,7 +72,7 @@ It prints yes, or no and the first reason: NotOfType, Shape, Omitted, Numbers, P
 After a yes no BER encoding of the value is shorter.
 
 Exit status: 0 yes, 1 no, or the texts, names, value or account are refused, 2 a bad command line,
-3 memory or a file was wanting. A refusal is one line, with its number and its name; man octcheck lists them.";
+3 out of memory, or a file failed. A refusal is one line, with its number and its name; man octcheck lists them.";
 
 /// `--ID <SHOWN>`, which is required.
 fn text_arg<'a>(alloc: Global, id: &'a str, shown: &'a str, help: &'a str) -> Arg<'a>

@@ -40,7 +40,7 @@ fn is_before_gaps(alphabet: &[u8], code: u64) -> bool
     }
 }
 
-/// Whether the code stands at this place of the alphabet.
+/// Whether the code is at this place of the alphabet.
 #[inline(always)]
 fn has_code_at(alphabet: &[u8], place: usize, code: u64) -> bool
     ensures { IsTrue result → IsMember code alphabet.now }
@@ -168,7 +168,7 @@ fn read_character(alphabet: Alphabet<'_>, bits: &mut Bits<'_>) -> Result<u8, Ref
     }
 }
 
-/// Takes one character, whose bits are already known: they stand in `number` before its last `after` bits.
+/// Takes one character, whose bits are known: they are those of `number` before its last `after` bits.
 #[inline(always)]
 fn take_known(
     alphabet: Alphabet<'_>,
