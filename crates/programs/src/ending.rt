@@ -1,15 +1,13 @@
 //! What programs write, and how they end.
 
-ghost use Rattle.std.specs.Prelude.{◌≡◌, ◌⊎◌, ℕ, IfErr};
+ghost use Rattle.std.specs.Prelude.{◌≡◌, ◌⊎◌};
 ghost use Rattle.std.specs.Process.{exit_status};
 ghost use Rattle.messages.specs.Classes.{number_of};
 ghost use Rattle.messages.specs.Status.{status_of};
-ghost use Rattle.messages.specs.declared.fault.Fault.TheVariants.{Device};
 
 use command_line::Job;
 use messages::{Fault, status};
 use reports::report;
-use sinks::{Counted, send_all};
 use std::io;
 use std::process::ExitCode;
 
@@ -43,12 +41,4 @@ pub fn end_in(rt: &HostRuntime, job: &Job, texts: &[Vec<u8>], fault: &Fault) -> 
         },
         Err(_) => end(rt, &Fault::Memory),
     }
-}
-
-/// Writes a text to standard output. `Device`: standard output took no more of it.
-pub fn write(rt: &HostRuntime, text: &str) -> Result<(), Fault>
-    ensures { IfErr result (λ e. (n : ℕ) × (e ≡ Device n)) }
-{
-    let mut out = Counted::of(io::writer(rt));
-    send_all(&mut out, text.as_bytes()).map_err(|sent| Fault::Device(sent))
 }

@@ -1,10 +1,11 @@
 //! The files that a job names.
 
-ghost use Rattle.std.specs.Prelude.{◌≡◌, ℕ, [], IfOk, Vec as Vec', length};
-ghost use Rattle.std.specs.declared.alloc.Global.{Global as Global'};
-ghost use Rattle.command_line.specs.declared.request.Given.TheVariants.{Nothing, Octets};
+ghost use Rattle.std.specs.Prelude.{◌≡◌, IfOk, None, length};
+ghost use Rattle.check_jobs.specs.Inputs.{AreInputsOf, HasFile, IsFile};
+ghost use Rattle.command_line.specs.declared.request.Verb.TheVariants.{Check};
 
-use command_line::{Given, Job};
+use check_jobs::Inputs;
+use command_line::{Given, Job, Verb};
 use messages::Fault;
 use std::io::Read;
 use std::{fs, io};
@@ -54,7 +55,7 @@ fn check_input(rt: &HostRuntime, files: &[String]) -> Result<(), Fault> {
 }
 
 /// The texts of a job's files, in order: as many as there are files.
-pub fn texts_of(rt: &HostRuntime, job: &Job) -> Result<Vec<Vec<u8>>, Fault>
+fn texts_of(rt: &HostRuntime, job: &Job) -> Result<Vec<Vec<u8>>, Fault>
     ensures { IfOk result (λ v. length v.items ≡ length job.now.files.items) }
 {
     check_input(rt, job.files.as_slice())?;
@@ -68,19 +69,40 @@ pub fn texts_of(rt: &HostRuntime, job: &Job) -> Result<Vec<Vec<u8>>, Fault>
     Ok(texts)
 }
 
-/// The octets that a job gives; empty if it gives none.
-pub fn octets_of(rt: &HostRuntime, job: &Job) -> Result<Vec<u8>, Fault>
-    ensures nothing { job.now.octets ≡ Nothing → IfOk result (λ o. o.items ≡ []) }
-    ensures given { (v : Vec' ℕ Global') → job.now.octets ≡ Octets v → IfOk result (λ o. o.items ≡ v.items) }
+/// The contents of the file of octets that a job names, if it names one.
+fn octets_of(rt: &HostRuntime, job: &Job) -> Result<Option<Vec<u8>>, Fault>
+    ensures { IfOk result (HasFile job.now.octets) }
 {
     match &job.octets {
-        Given::Nothing => Ok(Vec::new(rt.alloc())),
-        Given::Octets(octets) => Ok(octets.clone()?),
-        Given::Path(name) => file_of(rt, name),
+        Given::Nothing | Given::Octets(_) => Ok(None),
+        Given::Path(name) => Ok(Some(file_of(rt, name)?)),
     }
 }
 
-/// The contents of the file of a job's account.
-pub fn account_of(rt: &HostRuntime, job: &Job) -> Result<Vec<u8>, Fault> {
-    file_of(rt, &job.account)
+/// The contents of the file of a job's account, if it names one.
+fn account_of(rt: &HostRuntime, job: &Job) -> Result<Option<Vec<u8>>, Fault>
+    ensures account { job.now.verb ≡ Check → IfOk result IsFile }
+    ensures no_account { (job.now.verb ≡ Check → ⊥) → IfOk result (λ a. a ≡ None) }
+{
+    match job.verb {
+        Verb::Check => Ok(Some(file_of(rt, &job.account)?)),
+        _ => Ok(None),
+    }
+}
+
+/// Reads the files that a job names: its octets, its account, and the texts of its modules.
+///
+/// `File`, `NoFile`, `Folder`: a file can't be read. `BadWords`: standard input would be read twice. `Memory`: an
+/// allocation failed.
+pub fn inputs_of(rt: &HostRuntime, job: &Job) -> Result<Inputs, Fault>
+    ensures { IfOk result (AreInputsOf job.now) }
+{
+    let octets = octets_of(rt, job)?;
+    let account = account_of(rt, job)?;
+    let files = texts_of(rt, job)?;
+    Ok(Inputs {
+        files,
+        octets,
+        account,
+    })
 }

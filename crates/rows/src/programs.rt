@@ -3,9 +3,9 @@
 use crate::refusal::Refusal;
 use crate::requests::{asked, texts_of, word};
 use crate::wanted::is_wanted;
-use asnc::{Fault, Kit, Rules, status};
+use asnc::{Fault, status};
 use command_line::{Given, Job, Verb, job};
-use judging::{answer, judge};
+use jobs::{Inputs, output};
 use reports::report;
 use row_files::{Row, RowText};
 use std::alloc::{AllocError, Global};
@@ -23,15 +23,6 @@ fn octets_in(alloc: Global, row: &Row, files: &[String]) -> Result<Vec<Vec<u8>>,
     Ok(all)
 }
 
-/// The octets that a job gives. Those of a file are in a text of the row.
-fn given_in(alloc: Global, row: &Row, given: &Given) -> Result<Vec<u8>, Fault> {
-    match given {
-        Given::Nothing => Ok(Vec::new(alloc)),
-        Given::Octets(octets) => Ok(octets.clone()?),
-        Given::Path(file) => octets_of(row, file),
-    }
-}
-
 /// The octets of a file, from a text of the row.
 fn octets_of(row: &Row, file: &String) -> Result<Vec<u8>, Fault> {
     match row.texts.iter().find(|t| t.name.as_str() == file.as_str()) {
@@ -40,73 +31,36 @@ fn octets_of(row: &Row, file: &String) -> Result<Vec<u8>, Fault> {
     }
 }
 
-/// A printed value, and how many additions were skipped, a line each.
-fn with_skipped(alloc: Global, mut text: String, skipped: u64) -> Result<String, Fault> {
-    let line = format!(in alloc; "\nskipped {skipped}")?;
-    text.push_str(line.as_str())?;
-    Ok(text)
+/// The octets of the file of octets that a job names, if it names one.
+fn given_in(row: &Row, given: &Given) -> Result<Option<Vec<u8>>, Fault> {
+    match given {
+        Given::Nothing | Given::Octets(_) => Ok(None),
+        Given::Path(file) => Ok(Some(octets_of(row, file)?)),
+    }
 }
 
-/// The value that octets encode, and how many additions were skipped.
-fn value_of(alloc: Global, job: &Job, kit: &Kit, octets: &[u8]) -> Result<String, Fault> {
-    let rules = if job.strict { Rules::Der } else { Rules::Ber };
-    let (text, skipped) = kit.ber(alloc, job.ty.as_str(), octets, rules)?;
-    with_skipped(alloc, text, skipped)
-}
-
-/// The value that octets are a message of in canonical PER, and how many additions were skipped.
-fn unpacked(alloc: Global, job: &Job, kit: &Kit, octets: &[u8]) -> Result<String, Fault> {
-    let (text, skipped) = kit.unper(alloc, job.ty.as_str(), octets)?;
-    with_skipped(alloc, text, skipped)
-}
-
-/// The result of a job of asnc: octets in hexadecimal, a value, an account, or the listing.
-fn kit_work(alloc: Global, job: &Job, texts: &[Vec<u8>], octets: &[u8]) -> Result<String, Fault> {
-    let kit = Kit::open(alloc, texts)?;
+/// The octets of the file of a job's account, if it names one.
+fn account_in(row: &Row, job: &Job) -> Result<Option<Vec<u8>>, Fault> {
     match job.verb {
-        Verb::Der => {
-            let (octets, _account) = kit.der(alloc, job.ty.as_str(), job.value.as_str())?;
-            Ok(hex::encode_upper(alloc, octets.as_slice())?)
-        }
-        Verb::Ber => value_of(alloc, job, &kit, octets),
-        Verb::Uper => {
-            let octets = kit.uper(alloc, job.ty.as_str(), job.value.as_str())?;
-            Ok(hex::encode_upper(alloc, octets.as_slice())?)
-        }
-        Verb::Unper => unpacked(alloc, job, &kit, octets),
-        Verb::Account => kit.account(alloc, job.ty.as_str(), job.value.as_str()),
-        Verb::List | Verb::Check => kit.list(alloc),
+        Verb::Check => Ok(Some(octets_of(row, &job.account)?)),
+        _ => Ok(None),
     }
 }
 
-/// The result of a job. `octets` are those that it gives, and `account` are those in its account's file.
-fn work(
-    alloc: Global,
-    job: &Job,
-    texts: &[Vec<u8>],
-    octets: &[u8],
-    account: &[u8],
-) -> Result<String, Fault> {
-    if job.verb != Verb::Check {
-        return kit_work(alloc, job, texts, octets);
+/// What a program prints, without the last line end. Octets that are no text are in hexadecimal.
+fn printed(alloc: Global, octets: &[u8]) -> Result<String, AllocError> {
+    match str::from_utf8(octets) {
+        Ok(text) => String::from_str(alloc, text.strip_suffix('\n').unwrap_or(text)),
+        Err(_) => hex::encode_upper(alloc, octets),
     }
-    let (ty, value) = (job.ty.as_str(), job.value.as_str());
-    let verdict = judge(alloc, texts, ty, value, octets, account)?;
-    Ok(String::from_str(alloc, answer(verdict))?)
 }
 
-/// The answer to a job: its result, or the line of its fault.
-fn outcome(
-    alloc: Global,
-    job: &Job,
-    texts: &[Vec<u8>],
-    octets: &[u8],
-    account: &[u8],
-) -> Result<String, AllocError> {
-    match work(alloc, job, texts, octets, account) {
-        Ok(told) => Ok(told),
+/// The answer to a job: what the program prints, or the line of its fault.
+fn outcome(alloc: Global, asked: &Asked) -> Result<String, AllocError> {
+    match output(alloc, &asked.job, &asked.inputs) {
+        Ok(output) => printed(alloc, output.octets.as_slice()),
         Err(fault) => {
-            let line = report(alloc, job, texts, &fault)?;
+            let line = report(alloc, &asked.job, asked.texts(), &fault)?;
             let status = status(&fault);
             format!(in alloc; "status {status}: {line}")
         }
@@ -156,8 +110,12 @@ pub fn line(alloc: Global, row: &Row) -> Result<String, Refusal> {
         context: row.has("caret"),
         files: names_of(alloc, row.texts.as_slice())?,
     };
-    let texts = texts_of(alloc, row)?;
-    Ok(outcome(alloc, &job, texts.as_slice(), &[], &[])?)
+    let inputs = Inputs {
+        files: texts_of(alloc, row)?,
+        octets: None,
+        account: None,
+    };
+    Ok(outcome(alloc, &Asked { job, inputs })?)
 }
 
 /// The words of a program's command line, which are those after the name of the row. `\n` means a line end.
@@ -179,33 +137,44 @@ fn job_in(alloc: Global, row: &Row, program: &str) -> Result<Job, Refusal> {
     }
 }
 
-/// A row's job, and the octets and account that it names, from the texts of the row.
+/// A row's job, and the contents of the files that it names, from the texts of the row.
 #[derive(Drop)]
 pub struct Asked {
     pub job: Job,
-    pub octets: Vec<u8>,
-    pub account: Vec<u8>,
-    pub texts: Vec<Vec<u8>>,
+    pub inputs: Inputs,
 }
 
-/// The octets and the account that a row's job names, in the order of its words.
+impl Asked {
+    /// The texts of the job's modules.
+    pub fn texts(&self) -> &[Vec<u8>] {
+        self.inputs.files.as_slice()
+    }
+
+    /// The octets that the job gives.
+    pub fn octets(&self) -> &[u8] {
+        self.inputs.octets_of(&self.job)
+    }
+
+    /// The octets of the job's account.
+    pub fn account(&self) -> &[u8] {
+        self.inputs.account()
+    }
+}
+
+/// The contents of the files that a row's job names, in the order of its words.
 fn named_in(alloc: Global, row: &Row, job: Job) -> Result<Asked, Fault> {
-    let octets = given_in(alloc, row, &job.octets)?;
-    let account = if job.account.is_empty() {
-        Vec::new(alloc)
-    } else {
-        octets_of(row, &job.account)?
-    };
-    let texts = octets_in(alloc, row, job.files.as_slice())?;
-    Ok(Asked {
-        job,
+    let octets = given_in(row, &job.octets)?;
+    let account = account_in(row, &job)?;
+    let files = octets_in(alloc, row, job.files.as_slice())?;
+    let inputs = Inputs {
+        files,
         octets,
         account,
-        texts,
-    })
+    };
+    Ok(Asked { job, inputs })
 }
 
-/// The job, the octets and the account that the command line of a row names.
+/// The job of a row's command line, and the contents of its files.
 pub fn asked_in(alloc: Global, row: &Row, program: &str) -> Result<Asked, Refusal> {
     let job = job_in(alloc, row, program)?;
     match named_in(alloc, row, job) {
@@ -217,19 +186,8 @@ pub fn asked_in(alloc: Global, row: &Row, program: &str) -> Result<Asked, Refusa
 /// `asnc NAME WORD..` and `octcheck NAME WORD..`: the output of the program for these words, with the texts of the row
 /// as its files.
 pub fn run(alloc: Global, row: &Row, program: &str) -> Result<String, Refusal> {
-    let Asked {
-        job,
-        octets,
-        account,
-        texts,
-    } = asked_in(alloc, row, program)?;
-    Ok(outcome(
-        alloc,
-        &job,
-        texts.as_slice(),
-        octets.as_slice(),
-        account.as_slice(),
-    )?)
+    let asked = asked_in(alloc, row, program)?;
+    Ok(outcome(alloc, &asked)?)
 }
 
 /// `job NAME WORD..` and `octjob NAME WORD..`: the job of asnc or octcheck for these words, a line for each part.

@@ -36,7 +36,7 @@ fn tried(
     account: &[u8],
     tally: &mut Tally,
 ) -> Result<(), AllocError> {
-    let texts = asked.texts.as_slice();
+    let texts = asked.texts();
     let (ty, value) = (asked.job.ty.as_str(), asked.job.value.as_str());
     match judge(alloc, texts, ty, value, octets, account) {
         Ok(Verdict::Yes) => tally.yes = tally.yes.saturating_add(1),
@@ -123,7 +123,7 @@ fn other_numbers(alloc: Global, asked: &Asked, text: &str) -> Result<Tally, Allo
         let down = format!(in alloc; "{}", number.saturating_sub(1))?;
         let more = replaced(alloc, text, *span, up.as_str())?;
         let less = replaced(alloc, text, *span, down.as_str())?;
-        let octets = asked.octets.as_slice();
+        let octets = asked.octets();
         tried(alloc, asked, octets, more.as_bytes(), &mut tally)?;
         tried(alloc, asked, octets, less.as_bytes(), &mut tally)?;
     }
@@ -154,13 +154,7 @@ fn fewer_rows(alloc: Global, asked: &Asked, text: &str) -> Result<Tally, AllocEr
     let mut tally = Tally::default();
     for span in &rows(alloc, text)? {
         let less = replaced(alloc, text, with_comma(text, *span), "")?;
-        tried(
-            alloc,
-            asked,
-            asked.octets.as_slice(),
-            less.as_bytes(),
-            &mut tally,
-        )?;
+        tried(alloc, asked, asked.octets(), less.as_bytes(), &mut tally)?;
     }
     Ok(tally)
 }
@@ -172,13 +166,7 @@ fn more_rows(alloc: Global, asked: &Asked, text: &str) -> Result<Tally, AllocErr
         let row = part(text, *span);
         let twice = format!(in alloc; "{row},{row}")?;
         let more = replaced(alloc, text, *span, twice.as_str())?;
-        tried(
-            alloc,
-            asked,
-            asked.octets.as_slice(),
-            more.as_bytes(),
-            &mut tally,
-        )?;
+        tried(alloc, asked, asked.octets(), more.as_bytes(), &mut tally)?;
     }
     Ok(tally)
 }
@@ -206,13 +194,7 @@ fn as_other_kinds(
     for kind in &KINDS {
         if *kind != part(text, span) {
             let other = replaced(alloc, text, span, kind)?;
-            tried(
-                alloc,
-                asked,
-                asked.octets.as_slice(),
-                other.as_bytes(),
-                tally,
-            )?;
+            tried(alloc, asked, asked.octets(), other.as_bytes(), tally)?;
         }
     }
     Ok(())
@@ -247,7 +229,7 @@ fn other_bits_of(
     tally: &mut Tally,
 ) -> Result<(), AllocError> {
     for bit in &[1u8, 2, 4, 8, 16, 32, 64, 128] {
-        let other = with_bit(alloc, asked.octets.as_slice(), place, *bit)?;
+        let other = with_bit(alloc, asked.octets(), place, *bit)?;
         tried(alloc, asked, other.as_slice(), text.as_bytes(), tally)?;
     }
     Ok(())
@@ -256,7 +238,7 @@ fn other_bits_of(
 /// Changes each bit of the octets in turn.
 fn other_bits(alloc: Global, asked: &Asked, text: &str) -> Result<Tally, AllocError> {
     let mut tally = Tally::default();
-    for place in 0..asked.octets.len() {
+    for place in 0..asked.octets().len() {
         other_bits_of(alloc, asked, text, place, &mut tally)?;
     }
     Ok(tally)
@@ -281,11 +263,9 @@ fn lines(alloc: Global, asked: &Asked, text: &str) -> Result<String, AllocError>
 /// and each bit of the octets.
 pub fn sweep(alloc: Global, row: &Row) -> Result<String, Refusal> {
     let asked = asked_in(alloc, row, "octcheck")?;
-    let text = str::from_utf8(asked.account.as_slice())
-        .unwrap_or("")
-        .trim();
+    let text = str::from_utf8(asked.account()).unwrap_or("").trim();
     let (ty, value) = (asked.job.ty.as_str(), asked.job.value.as_str());
-    let (texts, octets) = (asked.texts.as_slice(), asked.octets.as_slice());
+    let (texts, octets) = (asked.texts(), asked.octets());
     match judge(alloc, texts, ty, value, octets, text.as_bytes()) {
         Ok(verdict) => {
             let mut out = String::from_str(alloc, answer(verdict))?;

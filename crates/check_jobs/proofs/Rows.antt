@@ -1,0 +1,67 @@
+-- Worked rows: the line of a verdict, the octets that a job gives, and what each part of a conclusion says, in full.
+use Rattle.std.proofs.Common.{◌≡◌, ℕ, List, [], ◌∷◌, Bool, true, false, Option, Some, None, Vec, map, refl}
+use Rattle.std.specs.Prelude.{codes, string_bytes}
+use Rattle.std.specs.declared.alloc.Global.{Global}
+use Rattle.std.specs.declared.string.String.{String}
+use Rattle.account_checker.specs.declared.reason.Reason.TheVariants as reasons
+use Rattle.account_checker.specs.declared.reason.Verdict.TheVariants.{Yes, No}
+use Rattle.command_line.specs.declared.request.Given.TheVariants as given
+use Rattle.command_line.specs.declared.request.Job.{Job}
+use Rattle.front_end.specs.Accepted.{octets_of}
+use Rattle.judging.specs.Judged.{IsJudged, answer_of}
+use Rattle.sinks.specs.Sent.{SinkState, SentAll, SentFront}
+use Rattle.check_jobs.specs.declared.inputs.Inputs.{Inputs}
+use Rattle.check_jobs.specs.Checks.{IsChecked, IsCheckedInPart, IsVerdictLine, is_yes}
+use Rattle.check_jobs.specs.Inputs.{contents, line_of, octets_given}
+
+-- ---- lines
+
+yes_line : line_of (answer_of Yes) ≡ codes "yes\n"
+yes_line = refl
+
+no_line : line_of (answer_of (No reasons.Length)) ≡ codes "no Length\n"
+no_line = refl
+
+yes_is_yes : is_yes Yes ≡ true
+yes_is_yes = refl
+
+no_is_no : is_yes (No reasons.Header) ≡ false
+no_is_no = refl
+
+-- ---- octets
+
+no_octets : (file : Option (Vec ℕ Global)) → octets_given given.Nothing file ≡ []
+no_octets file = refl
+
+octets_of_words : (v : Vec ℕ Global) → octets_given (given.Octets v) None ≡ v.items
+octets_of_words v = refl
+
+octets_of_a_file : (v : Vec ℕ Global) (job : Job) → octets_given (given.Path job.ty) (Some v) ≡ v.items
+octets_of_a_file v job = refl
+
+-- ---- conclusions
+
+module _ (job : Job) (inputs : Inputs) (yes : Bool) (o : List ℕ) (r : IsVerdictLine job inputs yes o) where
+  line_verdict : IsJudged (map octets_of inputs.files.items) (string_bytes job.ty) (string_bytes job.value)
+      (octets_given job.octets inputs.octets) (contents inputs.account) r.verdict
+  line_verdict = r.judged
+
+  line_text : o ≡ line_of (answer_of r.verdict)
+  line_text = r.output_is
+
+  line_answer : yes ≡ is_yes r.verdict
+  line_answer = r.yes_is
+
+module _ (job : Job) (inputs : Inputs) (yes : Bool) (a b : SinkState) (r : IsChecked job inputs yes a b) where
+  checked_line : IsVerdictLine job inputs yes r.output
+  checked_line = r.line
+
+  checked_sent : SentAll a b r.output
+  checked_sent = r.sent
+
+module _ (job : Job) (inputs : Inputs) (a b : SinkState) (n : ℕ) (r : IsCheckedInPart job inputs a b n) where
+  part_line : IsVerdictLine job inputs r.yes r.output
+  part_line = r.line
+
+  part_sent : SentFront a b r.output n
+  part_sent = r.sent

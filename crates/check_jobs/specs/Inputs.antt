@@ -1,0 +1,42 @@
+-- The octets that a job has: those of the texts of its modules, those that it gives, and those of its account.
+use Rattle.std.specs.Prelude.{◌≡◌, ⊤, ℕ, List, [], ◌∷◌, ◌++◌, Option, Some, None, Vec, length}
+use Rattle.std.specs.declared.alloc.Global.{Global}
+use Rattle.command_line.specs.declared.request.Given.{Given}
+use Rattle.command_line.specs.declared.request.Given.TheVariants as given
+use Rattle.command_line.specs.declared.request.Job.{Job}
+use Rattle.command_line.specs.declared.request.Verb.TheVariants as verbs
+use Rattle.check_jobs.specs.declared.inputs.Inputs.{Inputs}
+
+-- the octets of a file; none if there is no file
+abbrev pub contents : Option (Vec ℕ Global) → List ℕ
+contents None = []
+contents (Some v) = v.items
+
+-- the octets that a job gives: those of its words, or those of the file that its words name
+abbrev pub octets_given : Given → Option (Vec ℕ Global) → List ℕ
+octets_given given.Nothing file = []
+octets_given (given.Octets v) file = v.items
+octets_given (given.Path name) file = contents file
+
+-- a line of output: a text and a line end
+abbrev pub line_of : List ℕ → List ℕ
+line_of text = text ++ (10 ∷ [])
+
+-- there is a file
+abbrev pub IsFile : Option (Vec ℕ Global) → Type 0
+IsFile None = ⊥
+IsFile (Some v) = ⊤
+
+-- the words of a job name a file of octets exactly if there is one
+abbrev pub HasFile : Given → Option (Vec ℕ Global) → Type 0
+HasFile (given.Path name) file = IsFile file
+HasFile given.Nothing file = file ≡ None
+HasFile (given.Octets v) file = file ≡ None
+
+-- What the files that a job names contain: a text for each of its modules, and the other files exactly if the job names
+-- them. Only the job of octcheck names an account.
+pub record AreInputsOf (job : Job) (inputs : Inputs) : Type 0 where
+  pub files : length inputs.files.items ≡ length job.files.items
+  pub octets : HasFile job.octets inputs.octets
+  pub account : job.verb ≡ verbs.Check → IsFile inputs.account
+  pub no_account : (job.verb ≡ verbs.Check → ⊥) → inputs.account ≡ None

@@ -1,0 +1,68 @@
+//! What a job has of its files, and what it prints.
+
+ghost use Rattle.std.specs.Prelude.{◌≡◌, IfOk, IfErr, string_bytes};
+ghost use Rattle.check_jobs.specs.Inputs.{contents, line_of, octets_given};
+ghost use Rattle.messages.specs.declared.fault.Fault.TheVariants.{Memory};
+
+use command_line::{Given, Job};
+use messages::Fault;
+
+/// The contents of the files that a job names.
+#[derive(Debug, Drop)]
+pub struct Inputs {
+    /// The texts of the job's modules, in order.
+    pub files: Vec<Vec<u8>>,
+    /// The file after `--hex @`, if the job names one.
+    pub octets: Option<Vec<u8>>,
+    /// The file after `--account`, if the job names one.
+    pub account: Option<Vec<u8>>,
+}
+
+/// The octets of a file. Without a file there are none.
+fn contents_of(file: &Option<Vec<u8>>) -> &[u8]
+    ensures { result.now ≡ contents file.now }
+{
+    match file {
+        Some(octets) => octets.as_slice(),
+        None => &[],
+    }
+}
+
+impl Inputs {
+    /// The octets that a job gives: those of its words, or those of the file that its words name. Without either there
+    /// are none.
+    pub fn octets_of<'a>(&'a self, job: &'a Job) -> &'a [u8]
+        ensures { result.now ≡ octets_given job.now.octets self.now.octets }
+    {
+        match &job.octets {
+            Given::Nothing => &[],
+            Given::Octets(octets) => octets.as_slice(),
+            Given::Path(_) => contents_of(&self.octets),
+        }
+    }
+
+    /// The octets of the account. Without a file there are none.
+    pub fn account(&self) -> &[u8]
+        ensures { result.now ≡ contents self.now.account }
+    {
+        contents_of(&self.account)
+    }
+}
+
+/// What a job prints.
+#[derive(Debug, Drop)]
+pub struct Output {
+    /// The octets for standard output.
+    pub octets: Vec<u8>,
+    /// False if they are a `no`.
+    pub yes: bool,
+}
+
+/// A text as a line of output. `Memory`: an allocation failed.
+pub fn ended(mut text: String) -> Result<Vec<u8>, Fault>
+    ensures line { IfOk result (λ v. v.items ≡ line_of (string_bytes text)) }
+    ensures memory { IfErr result (λ e. e ≡ Memory) }
+{
+    text.push_str("\n")?;
+    Ok(text.into_bytes())
+}

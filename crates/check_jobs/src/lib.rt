@@ -1,0 +1,9 @@
+//! Does the job of octcheck: it judges octets by the account beside them and writes the verdict to a sink. No codec
+//! program is compiled or run.
+#![tactic(auto)]
+
+mod checks;
+mod inputs;
+
+pub use checks::{check, check_output};
+pub use inputs::{Inputs, Output, ended};

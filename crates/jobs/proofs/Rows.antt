@@ -1,0 +1,134 @@
+-- Worked rows: lines of octets and of values, and what each part of a conclusion says, in full.
+use Rattle.std.proofs.Common.{◌≡◌, ◌⊎◌, ℕ, List, [], ◌∷◌, Bool, true, false, map, refl}
+use Rattle.std.specs.Prelude.{codes, string_bytes}
+use Rattle.std.specs.Fmt.{digits}
+use Rattle.asn_base.specs.Types.{Resolved}
+use Rattle.encodings.specs.Rules.{Basic, Distinguished}
+use Rattle.resolve.specs.Program.{Program}
+use Rattle.front_end.specs.Accepted.{Accepted, octets_of}
+use Rattle.asnc.specs.Kits.{IsNotOpened}
+use Rattle.asnc.specs.Packing.{IsPacked}
+use Rattle.asnc.specs.Reading.{IsReadAs}
+use Rattle.asnc.specs.Unpacking.{IsUnpackedAs}
+use Rattle.asnc.specs.Writing.{IsAccountOf, IsEncoded}
+use Rattle.messages.specs.declared.fault.Fault.{Fault}
+use Rattle.sinks.specs.Sent.{SinkState, SentAll, SentFront}
+use Rattle.command_line.specs.declared.request.Job.{Job}
+use Rattle.command_line.specs.declared.request.Verb.TheVariants as verbs
+use Rattle.check_jobs.specs.Checks.{IsNotChecked, IsVerdictLine}
+use Rattle.check_jobs.specs.Inputs.{line_of, octets_given}
+use Rattle.check_jobs.specs.declared.inputs.Inputs.{Inputs}
+use Rattle.jobs.specs.Done.{IsDone, IsDoneInPart}
+use Rattle.jobs.specs.Outputs.{IsCommandOutput, IsOutput, Prints, PrintsAccount, PrintsBer, PrintsDer, PrintsUnper}
+use Rattle.jobs.specs.Outputs.{PrintsUper, hex_line, rules_if, value_lines}
+use Rattle.jobs.specs.Refusals.{IsCommandRefused, IsNoOutput, Refuses}
+
+-- ---- lines
+
+hexadecimal : hex_line (48 ∷ 6 ∷ 255 ∷ []) ≡ codes "3006FF\n"
+hexadecimal = refl
+
+no_octets : hex_line [] ≡ codes "\n"
+no_octets = refl
+
+a_value : value_lines (codes "TRUE") 0 ≡ codes "TRUE\nskipped 0\n"
+unfolding digits
+a_value = refl
+
+skipped : value_lines (codes "{a 5}") 12 ≡ codes "{a 5}\nskipped 12\n"
+unfolding digits
+skipped = refl
+
+strict : rules_if true ≡ Distinguished
+strict = refl
+
+basic : rules_if false ≡ Basic
+basic = refl
+
+-- ---- what commands print
+
+module _ (p : Program) (s : List Resolved) (job : Job) (out : List ℕ) (r : PrintsDer p s job out) where
+  der_octets : IsEncoded p s (string_bytes job.ty) (string_bytes job.value) r.octets r.account
+  der_octets = r.encoded
+
+  der_raw : job.raw ≡ true → out ≡ r.octets
+  der_raw = r.raw
+
+  der_hex : job.raw ≡ false → out ≡ hex_line r.octets
+  der_hex = r.hex
+
+module _ (p : Program) (s : List Resolved) (job : Job) (o out : List ℕ) (r : PrintsBer p s job o out) where
+  ber_value : IsReadAs p s (rules_if job.strict) (string_bytes job.ty) o r.printed r.skipped
+  ber_value = r.read
+
+  ber_lines : out ≡ value_lines r.printed r.skipped
+  ber_lines = r.output_is
+
+module _ (p : Program) (s : List Resolved) (job : Job) (out : List ℕ) (r : PrintsUper p s job out) where
+  uper_octets : IsPacked p s (string_bytes job.ty) (string_bytes job.value) r.octets
+  uper_octets = r.packed
+
+  uper_line : out ≡ hex_line r.octets
+  uper_line = r.output_is
+
+module _ (p : Program) (s : List Resolved) (job : Job) (o out : List ℕ) (r : PrintsUnper p s job o out) where
+  unper_value : IsUnpackedAs p s (string_bytes job.ty) o r.printed r.skipped
+  unper_value = r.read
+
+  unper_lines : out ≡ value_lines r.printed r.skipped
+  unper_lines = r.output_is
+
+module _ (p : Program) (s : List Resolved) (job : Job) (out : List ℕ) (r : PrintsAccount p s job out) where
+  account_text : IsAccountOf p s (string_bytes job.ty) (string_bytes job.value) r.text
+  account_text = r.account
+
+  account_line : out ≡ line_of r.text
+  account_line = r.output_is
+
+-- ---- jobs
+
+module _ (job : Job) (inputs : Inputs) (out : List ℕ) (r : IsCommandOutput job inputs out) where
+  command_texts : Accepted (map octets_of inputs.files.items) r.program r.types
+  command_texts = r.accepted
+
+  command_prints : Prints job.verb r.program r.types job (octets_given job.octets inputs.octets) out
+  command_prints = r.prints
+
+module _ (job : Job) (inputs : Inputs) (yes : Bool) (out : List ℕ) (r : IsOutput job inputs yes out) where
+  output_of_a_check : job.verb ≡ verbs.Check → IsVerdictLine job inputs yes out
+  output_of_a_check = r.check
+
+  output_of_a_command : (job.verb ≡ verbs.Check → ⊥) → IsCommandOutput job inputs out
+  output_of_a_command = r.command
+
+  answer_of_a_command : (job.verb ≡ verbs.Check → ⊥) → yes ≡ true
+  answer_of_a_command = r.no_no
+
+module _ (job : Job) (inputs : Inputs) (e : Fault) (r : IsCommandRefused job inputs e) where
+  refused_texts : Accepted (map octets_of inputs.files.items) r.program r.types
+  refused_texts = r.accepted
+
+  refused_command : Refuses job.verb r.program r.types job (octets_given job.octets inputs.octets) e
+  refused_command = r.refuses
+
+module _ (job : Job) (inputs : Inputs) (e : Fault) (r : IsNoOutput job inputs e) where
+  no_verdict : job.verb ≡ verbs.Check → IsNotChecked job inputs e
+  no_verdict = r.check
+
+  no_output : (job.verb ≡ verbs.Check → ⊥)
+      → IsNotOpened (map octets_of inputs.files.items) e ⊎ IsCommandRefused job inputs e
+  no_output = r.command
+
+module _ (job : Job) (inputs : Inputs) (yes : Bool) (a b : SinkState) (r : IsDone job inputs yes a b) where
+  done_output : IsOutput job inputs yes r.output
+  done_output = r.asked
+
+  done_sent : SentAll a b r.output
+  done_sent = r.sent
+
+module _ (job : Job) (inputs : Inputs) (a b : SinkState) (n : ℕ) (r : IsDoneInPart job inputs a b n) where
+  part_output : IsOutput job inputs r.yes r.output
+  part_output = r.asked
+
+  part_sent : SentFront a b r.output n
+  part_sent = r.sent

@@ -1,0 +1,93 @@
+-- What each command of asnc prints, in octets.
+use Rattle.std.specs.Prelude.{◌≡◌, ⊤, ℕ, List, ◌++◌, Bool, true, false, codes, decimal, map, string_bytes}
+use Rattle.hex.specs.Hex.{encode_upper}
+use Rattle.asn_base.specs.Types.{Resolved}
+use Rattle.encodings.specs.Account.{Account}
+use Rattle.encodings.specs.Rules.{Rules, Basic, Distinguished}
+use Rattle.resolve.specs.Program.{Program}
+use Rattle.front_end.specs.Accepted.{Accepted, octets_of}
+use Rattle.asnc.specs.Packing.{IsPacked}
+use Rattle.asnc.specs.Reading.{IsReadAs}
+use Rattle.asnc.specs.Unpacking.{IsUnpackedAs}
+use Rattle.asnc.specs.Writing.{IsAccountOf, IsEncoded}
+use Rattle.command_line.specs.declared.request.Job.{Job}
+use Rattle.command_line.specs.declared.request.Verb.{Verb}
+use Rattle.command_line.specs.declared.request.Verb.TheVariants as verbs
+use Rattle.check_jobs.specs.Checks.{IsVerdictLine}
+use Rattle.check_jobs.specs.Inputs.{line_of, octets_given}
+use Rattle.check_jobs.specs.declared.inputs.Inputs.{Inputs}
+
+-- a line of octets in hexadecimal digits of upper case, two for each octet
+abbrev pub hex_line : List ℕ → List ℕ
+hex_line octets = line_of (encode_upper octets)
+
+-- a printed value, and the number of skipped additions, a line each
+abbrev pub value_lines : List ℕ → ℕ → List ℕ
+value_lines printed k = line_of (printed ++ (codes "\nskipped " ++ decimal k))
+
+-- the rules by which octets are read: with `--strict` the distinguished ones
+abbrev pub rules_if : Bool → Rules
+rules_if true = Distinguished
+rules_if false = Basic
+
+-- `der` prints the one DER encoding of the named value under the named type: with `--raw` its octets, otherwise a line
+-- of hexadecimal digits.
+pub record PrintsDer (p : Program) (s : List Resolved) (job : Job) (output : List ℕ) : Type 0 where
+  pub octets : List ℕ
+  pub account : Account
+  pub encoded : IsEncoded p s (string_bytes job.ty) (string_bytes job.value) octets account
+  pub raw : job.raw ≡ true → output ≡ octets
+  pub hex : job.raw ≡ false → output ≡ hex_line octets
+
+-- `ber` prints the one value of the named type that the octets encode by the rules, and how many additions that the
+-- type lacks are skipped.
+pub record PrintsBer (p : Program) (s : List Resolved) (job : Job) (octets output : List ℕ) : Type 0 where
+  pub printed : List ℕ
+  pub skipped : ℕ
+  pub read : IsReadAs p s (rules_if job.strict) (string_bytes job.ty) octets printed skipped
+  pub output_is : output ≡ value_lines printed skipped
+
+-- `uper` prints the one message of canonical PER of the named value under the named type.
+pub record PrintsUper (p : Program) (s : List Resolved) (job : Job) (output : List ℕ) : Type 0 where
+  pub octets : List ℕ
+  pub packed : IsPacked p s (string_bytes job.ty) (string_bytes job.value) octets
+  pub output_is : output ≡ hex_line octets
+
+-- `unper` prints the one value of the named type that the octets are a message of in canonical PER, and how many
+-- additions that the type lacks are skipped.
+pub record PrintsUnper (p : Program) (s : List Resolved) (job : Job) (octets output : List ℕ) : Type 0 where
+  pub printed : List ℕ
+  pub skipped : ℕ
+  pub read : IsUnpackedAs p s (string_bytes job.ty) octets printed skipped
+  pub output_is : output ≡ value_lines printed skipped
+
+-- `account` prints the text of the account of the one DER encoding.
+pub record PrintsAccount (p : Program) (s : List Resolved) (job : Job) (output : List ℕ) : Type 0 where
+  pub text : List ℕ
+  pub account : IsAccountOf p s (string_bytes job.ty) (string_bytes job.value) text
+  pub output_is : output ≡ line_of text
+
+-- What a command of asnc prints in a program with its types. `octets` are those that the job gives. Nothing is said of
+-- the text that `list` prints, which is for people. The other program has the command `check`.
+abbrev pub Prints : Verb → Program → List Resolved → Job → (octets output : List ℕ) → Type 0
+Prints verbs.Der p s job octets output = PrintsDer p s job output
+Prints verbs.Ber p s job octets output = PrintsBer p s job octets output
+Prints verbs.Uper p s job octets output = PrintsUper p s job output
+Prints verbs.Unper p s job octets output = PrintsUnper p s job octets output
+Prints verbs.Account p s job octets output = PrintsAccount p s job output
+Prints verbs.List p s job octets output = ⊤
+Prints verbs.Check p s job octets output = ⊥
+
+-- The texts of the job's files are accepted, as this program with these types, and the output is what the command
+-- prints in this program.
+pub record IsCommandOutput (job : Job) (inputs : Inputs) (output : List ℕ) : Type 0 where
+  pub program : Program
+  pub types : List Resolved
+  pub accepted : Accepted (map octets_of inputs.files.items) program types
+  pub prints : Prints job.verb program types job (octets_given job.octets inputs.octets) output
+
+-- The output is what the job asks for. `yes` is false if and only if that is a `no` of octcheck.
+pub record IsOutput (job : Job) (inputs : Inputs) (yes : Bool) (output : List ℕ) : Type 0 where
+  pub check : job.verb ≡ verbs.Check → IsVerdictLine job inputs yes output
+  pub command : (job.verb ≡ verbs.Check → ⊥) → IsCommandOutput job inputs output
+  pub no_no : (job.verb ≡ verbs.Check → ⊥) → yes ≡ true
