@@ -1,4 +1,4 @@
-//! `Kit::open`, `der`, `der_to`, `uper`, `ber`, `unper`, `account`, `later` and `list`, and `judge`, of small modules.
+//! `Kit::open`, `der`, `der_to`, `uper`, `ber`, `unper`, `account`, `later` and `list`, `judge` and `work`, of small modules.
 
 mod accounts;
 mod growths;
@@ -6,3 +6,4 @@ mod modules;
 mod reading;
 mod stopping;
 mod unpacking;
+mod working;

@@ -65,12 +65,13 @@ impl Starved for Packing {
     }
 }
 
-/// A sink that takes no memory. It compares what it takes with the encoding.
+/// A sink that takes no memory. It compares what it takes with octets that are wanted.
 #[derive(Drop)]
-struct Compared {
-    taken: usize,
-    wrong: bool,
-    failures: u64,
+pub struct Compared {
+    pub wanted: &'static [u8],
+    pub taken: usize,
+    pub wrong: bool,
+    pub failures: u64,
 }
 
 impl Sink for Compared {
@@ -85,7 +86,7 @@ impl Sink for Compared {
     }
 
     fn put(&mut self, octets: &[u8]) -> io::Result<usize> {
-        if self.taken > OCTETS.len() || !OCTETS[self.taken..].starts_with(octets) {
+        if self.taken > self.wanted.len() || !self.wanted[self.taken..].starts_with(octets) {
             self.wrong = true;
         }
         self.taken = self.taken.wrapping_add(octets.len());
@@ -185,6 +186,7 @@ fn der_to_with_ever_more_memory(rt: HostRuntime) -> Result<(), Fail> {
     let mut sending = Sending {
         kit: kit(alloc)?,
         sink: Compared {
+            wanted: &OCTETS,
             taken: 0,
             wrong: false,
             failures: 0,
