@@ -1,10 +1,15 @@
--- The octets that a job has: those of the texts of its modules, those that it gives, and those of its account.
+-- The octets that a job has: those of the texts of its modules, those that it gives, and those of its account. And the
+-- fault of words that ask for no job.
 use Rattle.std.specs.Prelude.{◌≡◌, ⊤, ℕ, List, [], ◌∷◌, ◌++◌, Option, Some, None, Vec, length}
 use Rattle.std.specs.declared.alloc.Global.{Global}
+use Rattle.command_line.specs.declared.fault.WordsFault.{WordsFault}
+use Rattle.command_line.specs.declared.fault.WordsFault.TheVariants as words
 use Rattle.command_line.specs.declared.request.Given.{Given}
 use Rattle.command_line.specs.declared.request.Given.TheVariants as given
 use Rattle.command_line.specs.declared.request.Job.{Job}
 use Rattle.command_line.specs.declared.request.Verb.TheVariants as verbs
+use Rattle.messages.specs.declared.fault.Fault.{Fault}
+use Rattle.messages.specs.declared.fault.Fault.TheVariants as faults
 use Rattle.check_jobs.specs.declared.inputs.Inputs.{Inputs}
 
 -- the octets of a file; none if there is no file
@@ -40,3 +45,9 @@ pub record AreInputsOf (job : Job) (inputs : Inputs) : Type 0 where
   pub octets : HasFile job.octets inputs.octets
   pub account : job.verb ≡ verbs.Check → IsFile inputs.account
   pub no_account : (job.verb ≡ verbs.Check → ⊥) → inputs.account ≡ None
+
+-- the same fault of words among those of all requests
+abbrev pub fault_of_words : WordsFault → Fault
+fault_of_words words.Memory = faults.Memory
+fault_of_words (words.Help t) = faults.Help t
+fault_of_words (words.BadWords t) = faults.BadWords t

@@ -4,6 +4,8 @@
 
 mod checks;
 mod inputs;
+mod words;
 
 pub use checks::{check, check_output};
 pub use inputs::{Inputs, Output, ended};
+pub use words::refusal;

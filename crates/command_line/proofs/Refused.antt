@@ -3,11 +3,11 @@ use Rattle.std.proofs.Common.{◌≡◌, ◌⊎◌, inl, inr, sym, ap, ◌∙◌
 use Rattle.clap.specs.Words.{App, Row, Text, IsAmong, fault_of, matches_of, subcommand_of}
 use Rattle.clap.specs.declared.error.kind.ErrorKind.{ErrorKind}
 use Rattle.clap.specs.declared.error.kind.ErrorKind.TheVariants as kinds
-use Rattle.messages.specs.declared.fault.Fault.{Fault}
-use Rattle.messages.specs.declared.fault.Fault.TheVariants as faults
+use Rattle.command_line.specs.declared.fault.WordsFault.{WordsFault}
+use Rattle.command_line.specs.declared.fault.WordsFault.TheVariants as faults
 use Rattle.command_line.specs.CommandLine.{asnc_app, octcheck_app, ChecksNoOctets, HasNoOctets, IsFaultOf, IsNoJobOf, IsNotGiven, IsRefusedBy, TakesOctets, TellsNone, text_in}
 
-pub refused_by : (a : App) (N : Type 0) (words : List Text) (k : ErrorKind) (fault : Fault)
+pub refused_by : (a : App) (N : Type 0) (words : List Text) (k : ErrorKind) (fault : WordsFault)
     → (k ≡ kinds.OutOfMemory) ⊎ IsAmong k (fault_of a words)
     → IsFaultOf k fault → IsRefusedBy a N words fault
 refused_by a N words k faults.Memory h f = tt
@@ -17,48 +17,22 @@ refused_by a N words k (faults.Help t) (inr h) (inl f) = inl (subst (λ (x : Err
 refused_by a N words k (faults.Help t) (inr h) (inr f) = inr (subst (λ (x : ErrorKind). IsAmong x (fault_of a words)) f h)
 refused_by a N words k (faults.BadWords t) (inl m) f = absurd (f.0 m)
 refused_by a N words k (faults.BadWords t) (inr h) f = inl (record { kind = k; among = h; no_help = f.1; no_version = f.2 })
-refused_by a N words k (faults.File n) h f = absurd f
-refused_by a N words k (faults.NoFile n) h f = absurd f
-refused_by a N words k (faults.Folder n) h f = absurd f
-refused_by a N words k (faults.Front e) h f = absurd f
-refused_by a N words k (faults.Value e) h f = absurd f
-refused_by a N words k (faults.NoType n) h f = absurd f
-refused_by a N words k (faults.NoValue n) h f = absurd f
-refused_by a N words k faults.TooLong h f = absurd f
-refused_by a N words k (faults.UnreadBits u) h f = absurd f
-refused_by a N words k faults.MessageLimit h f = absurd f
-refused_by a N words k (faults.Device n) h f = absurd f
-refused_by a N words k (faults.Unread e) h f = absurd f
-refused_by a N words k (faults.NotAccount s) h f = absurd f
 
-pub refused_as : (a b : App) (N : Type 0) (words : List Text) (k : ErrorKind) (fault : Fault) → a ≡ b
+pub refused_as : (a b : App) (N : Type 0) (words : List Text) (k : ErrorKind) (fault : WordsFault) → a ≡ b
     → (k ≡ kinds.OutOfMemory) ⊎ IsAmong k (fault_of a words)
     → IsFaultOf k fault → IsRefusedBy b N words fault
 refused_as a b N words k fault e h f = refused_by b N words k fault (subst (λ x. (k ≡ kinds.OutOfMemory) ⊎ IsAmong k (fault_of x words)) e h) f
 
 -- a command that takes octets has no job where no octets are given
-pub no_job : (command : Text) (rows : List Row) (fault : Fault) → TakesOctets command
+pub no_job : (command : Text) (rows : List Row) (fault : WordsFault) → TakesOctets command
     → IsNotGiven (text_in rows (codes "hex")) fault
     → IsNoJobOf command rows fault
 no_job command rows faults.Memory t n = tt
 no_job command rows (faults.BadWords b) t n = (t, n)
 no_job command rows (faults.Help b) t n = absurd n
-no_job command rows (faults.File b) t n = absurd n
-no_job command rows (faults.NoFile b) t n = absurd n
-no_job command rows (faults.Folder b) t n = absurd n
-no_job command rows (faults.Front b) t n = absurd n
-no_job command rows (faults.Value b) t n = absurd n
-no_job command rows (faults.NoType b) t n = absurd n
-no_job command rows (faults.NoValue b) t n = absurd n
-no_job command rows faults.TooLong t n = absurd n
-no_job command rows (faults.Device b) t n = absurd n
-no_job command rows (faults.Unread b) t n = absurd n
-no_job command rows (faults.UnreadBits b) t n = absurd n
-no_job command rows faults.MessageLimit t n = absurd n
-no_job command rows (faults.NotAccount b) t n = absurd n
 
 -- if a command has no job, the words are refused
-refused_without : (words : List Text) (command : Text) (rows : List Row) (fault : Fault)
+refused_without : (words : List Text) (command : Text) (rows : List Row) (fault : WordsFault)
     → fault_of asnc_app words ≡ []
     → option_map (λ p. p.0) (subcommand_of asnc_app words) ≡ Some command
     → option_map (λ p. p.1) (subcommand_of asnc_app words) ≡ Some rows
@@ -68,21 +42,8 @@ refused_without words command rows faults.Memory t c r n = tt
 refused_without words command rows (faults.BadWords b) t c r n =
     inr (record { taken = t; command = command; takes = n.0; called = c; rows = rows; found = r; none = n.1 })
 refused_without words command rows (faults.Help b) t c r n = absurd n
-refused_without words command rows (faults.File b) t c r n = absurd n
-refused_without words command rows (faults.NoFile b) t c r n = absurd n
-refused_without words command rows (faults.Folder b) t c r n = absurd n
-refused_without words command rows (faults.Front b) t c r n = absurd n
-refused_without words command rows (faults.Value b) t c r n = absurd n
-refused_without words command rows (faults.NoType b) t c r n = absurd n
-refused_without words command rows (faults.NoValue b) t c r n = absurd n
-refused_without words command rows faults.TooLong t c r n = absurd n
-refused_without words command rows (faults.UnreadBits u) t c r n = absurd n
-refused_without words command rows faults.MessageLimit t c r n = absurd n
-refused_without words command rows (faults.Device b) t c r n = absurd n
-refused_without words command rows (faults.Unread b) t c r n = absurd n
-refused_without words command rows (faults.NotAccount b) t c r n = absurd n
 
-pub refused_where : (words : List Text) (command : Text) (rows : List Row) (fault : Fault)
+pub refused_where : (words : List Text) (command : Text) (rows : List Row) (fault : WordsFault)
     → IsNoJobOf command rows fault
     → fault_of asnc_app words ≡ []
     → option_map (λ p. p.0) (subcommand_of asnc_app words) ≡ Some command
@@ -91,23 +52,10 @@ pub refused_where : (words : List Text) (command : Text) (rows : List Row) (faul
 refused_where words command rows fault n t c r = refused_without words command rows fault t c r n
 
 -- words of octcheck that give no octets are refused
-pub not_given : (words : List Text) (rows : List Row) (fault : Fault) → fault_of octcheck_app words ≡ [] →
+pub not_given : (words : List Text) (rows : List Row) (fault : WordsFault) → fault_of octcheck_app words ≡ [] →
     rows ≡ matches_of octcheck_app words → IsNotGiven (text_in rows (codes "hex")) fault →
     IsRefusedBy octcheck_app (ChecksNoOctets words) words fault
 not_given words rows faults.Memory t r n = tt
 not_given words rows (faults.BadWords b) t r n =
     inr (record { taken = t; none = subst (λ (q : List Row). TellsNone (text_in q (codes "hex"))) r n })
 not_given words rows (faults.Help b) t r n = absurd n
-not_given words rows (faults.File b) t r n = absurd n
-not_given words rows (faults.NoFile b) t r n = absurd n
-not_given words rows (faults.Folder b) t r n = absurd n
-not_given words rows (faults.Front b) t r n = absurd n
-not_given words rows (faults.Value b) t r n = absurd n
-not_given words rows (faults.NoType b) t r n = absurd n
-not_given words rows (faults.NoValue b) t r n = absurd n
-not_given words rows faults.TooLong t r n = absurd n
-not_given words rows (faults.UnreadBits u) t r n = absurd n
-not_given words rows faults.MessageLimit t r n = absurd n
-not_given words rows (faults.Device b) t r n = absurd n
-not_given words rows (faults.Unread b) t r n = absurd n
-not_given words rows (faults.NotAccount b) t r n = absurd n

@@ -7,8 +7,8 @@ use Rattle.clap.specs.declared.builder.ArgAction.TheVariants.{Append, Set, SetTr
 use Rattle.clap.specs.declared.error.kind.ErrorKind.{ErrorKind}
 use Rattle.clap.specs.declared.error.kind.ErrorKind.TheVariants as kinds
 use Rattle.hex.specs.Hex.{decode_of}
-use Rattle.messages.specs.declared.fault.Fault.{Fault}
-use Rattle.messages.specs.declared.fault.Fault.TheVariants as faults
+use Rattle.command_line.specs.declared.fault.WordsFault.{WordsFault}
+use Rattle.command_line.specs.declared.fault.WordsFault.TheVariants as faults
 use Rattle.command_line.specs.declared.request.Job.{Job}
 use Rattle.command_line.specs.declared.request.Verb.{Verb}
 use Rattle.command_line.specs.declared.request.Verb.TheVariants as verbs
@@ -242,20 +242,20 @@ pub record IsJobOf (command : Text) (rows : List Row) (job : Job) : Type 0 where
       → IsDerOf rows job
 
 -- the fault of a text that gives no octets; `Memory` says nothing of the text
-abbrev pub IsNotGiven : Text → Fault → Type 0
+abbrev pub IsNotGiven : Text → WordsFault → Type 0
 IsNotGiven text faults.Memory = ⊤
 IsNotGiven text (faults.BadWords t) = TellsNone text
-IsNotGiven text fault = ⊥
+IsNotGiven text (faults.Help t) = ⊥
 
 -- the command takes octets
 abbrev pub TakesOctets : Text → Type 0
 TakesOctets command = (command ≡ codes "ber") ⊎ (command ≡ codes "unper")
 
 -- the fault of a command without a job: the command takes octets, and the text of `--hex` gives none
-abbrev pub IsNoJobOf : Text → List Row → Fault → Type 0
+abbrev pub IsNoJobOf : Text → List Row → WordsFault → Type 0
 IsNoJobOf command rows faults.Memory = ⊤
 IsNoJobOf command rows (faults.BadWords t) = TakesOctets command × TellsNone (text_in rows (codes "hex"))
-IsNoJobOf command rows fault = ⊥
+IsNoJobOf command rows (faults.Help t) = ⊥
 
 -- the words of asnc have no fault, and the job has what they give for their command
 pub record IsCommand (words : List Text) (job : Job) : Type 0 where
@@ -277,12 +277,11 @@ pub record IsAsked (words : List Text) (job : Job) : Type 0 where
   pub command : (AreOfChecker words → ⊥) → IsCommand words job
 
 -- the fault that a failure of this kind to read the words becomes
-abbrev pub IsFaultOf : ErrorKind → Fault → Type 0
+abbrev pub IsFaultOf : ErrorKind → WordsFault → Type 0
 IsFaultOf k faults.Memory = k ≡ kinds.OutOfMemory
 IsFaultOf k (faults.Help t) = (k ≡ kinds.DisplayHelp) ⊎ (k ≡ kinds.DisplayVersion)
 IsFaultOf k (faults.BadWords t) =
     (k ≡ kinds.OutOfMemory → ⊥) × (k ≡ kinds.DisplayHelp → ⊥) × (k ≡ kinds.DisplayVersion → ⊥)
-IsFaultOf k fault = ⊥
 
 -- the words have no other fault than this: their command takes octets, and the text of `--hex` gives none
 pub record HasNoOctets (words : List Text) : Type 0 where
@@ -308,14 +307,13 @@ pub record AreWrong (a : App) (words : List Text) : Type 0 where
 
 -- The words of a program are refused. They ask for help or for the version, they have another fault, or they give no
 -- octets where octets are required. `Memory` says nothing of the words.
-abbrev pub IsRefusedBy : App → (NoOctets : Type 0) → List Text → Fault → Type 0
+abbrev pub IsRefusedBy : App → (NoOctets : Type 0) → List Text → WordsFault → Type 0
 IsRefusedBy a NoOctets words faults.Memory = ⊤
 IsRefusedBy a NoOctets words (faults.Help t) =
     IsAmong kinds.DisplayHelp (fault_of a words) ⊎ IsAmong kinds.DisplayVersion (fault_of a words)
 IsRefusedBy a NoOctets words (faults.BadWords t) = AreWrong a words ⊎ NoOctets
-IsRefusedBy a NoOctets words fault = ⊥
 
 -- the words of asnc or of octcheck are refused
-pub record IsRefused (words : List Text) (fault : Fault) : Type 0 where
+pub record IsRefused (words : List Text) (fault : WordsFault) : Type 0 where
   pub check : AreOfChecker words → IsRefusedBy octcheck_app (ChecksNoOctets words) words fault
   pub command : (AreOfChecker words → ⊥) → IsRefusedBy asnc_app (HasNoOctets words) words fault

@@ -2,9 +2,11 @@
 #![tactic(auto)]
 
 mod commands;
+mod fault;
 mod octets;
 mod request;
 mod words;
 
+pub use fault::WordsFault;
 pub use request::{Given, Job, Verb};
 pub use words::job;

@@ -5,9 +5,9 @@ ghost use Rattle.hex.specs.Hex.{decode_of};
 ghost use Rattle.hex.specs.declared.error.FromHexError.TheVariants.{OutOfMemory};
 ghost use Rattle.command_line.specs.CommandLine.{IsGiven, IsNotGiven};
 
+use crate::fault::WordsFault;
 use crate::request::Given;
 use hex::FromHexError;
-use messages::Fault;
 use shown_texts::shown;
 use std::alloc::{AllocError, Global};
 
@@ -31,7 +31,7 @@ fn file_name(text: &str) -> Option<&str>
 /// the octets; otherwise its digits are the octets, two for each.
 ///
 /// `BadWords`: the text gives no octets. `Memory`: an allocation failed.
-pub(crate) fn given_in(alloc: Global, program: &str, text: &str) -> Result<Given, Fault>
+pub(crate) fn given_in(alloc: Global, program: &str, text: &str) -> Result<Given, WordsFault>
     ensures given { IfOk result (IsGiven text.now) }
     ensures none { IfErr result (IsNotGiven text.now) }
 {
@@ -42,9 +42,9 @@ pub(crate) fn given_in(alloc: Global, program: &str, text: &str) -> Result<Given
         Ok(octets) => Ok(Given::Octets(octets)),
         Err(fault) => {
             if fault == FromHexError::OutOfMemory {
-                return Err(Fault::Memory);
+                return Err(WordsFault::Memory);
             }
-            Err(Fault::BadWords(complaint(alloc, program, text)?))
+            Err(WordsFault::BadWords(complaint(alloc, program, text)?))
         }
     }
 }

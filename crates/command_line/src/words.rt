@@ -8,11 +8,11 @@ ghost use Rattle.command_line.specs.CommandLine.{IsCommand, IsDerOf, IsFaultOf, 
 ghost use Rattle.command_line.specs.CommandLine.{IsNotGiven, IsRefused, IsRefusedBy, IsUnperOf, IsValueJobOf};
 
 use crate::commands::{asnc_command, octcheck_command};
+use crate::fault::WordsFault;
 use crate::octets::given_in;
 use crate::request::{Given, Job, Verb};
 use clap::ArgMatches;
 use clap::error::ErrorKind;
-use messages::Fault;
 use shown_texts::on_one_line;
 use std::alloc::{AllocError, Global};
 
@@ -37,16 +37,20 @@ fn complaint(alloc: Global, program: &str, message: &str) -> Result<String, Allo
     format!(in alloc; "{line}({program} --help shows the words)")
 }
 
-fn fault_of_clap(alloc: Global, program: &str, error: &clap::Error) -> Result<Fault, AllocError>
+fn fault_of_clap(
+    alloc: Global,
+    program: &str,
+    error: &clap::Error,
+) -> Result<WordsFault, AllocError>
     ensures { IfOk result (IsFaultOf (kind_of error.now)) }
 {
     match error.kind() {
-        ErrorKind::OutOfMemory => Ok(Fault::Memory),
-        ErrorKind::DisplayHelp => Ok(Fault::Help(error.to_string(alloc)?)),
-        ErrorKind::DisplayVersion => Ok(Fault::Help(error.to_string(alloc)?)),
+        ErrorKind::OutOfMemory => Ok(WordsFault::Memory),
+        ErrorKind::DisplayHelp => Ok(WordsFault::Help(error.to_string(alloc)?)),
+        ErrorKind::DisplayVersion => Ok(WordsFault::Help(error.to_string(alloc)?)),
         _ => {
             let message = error.to_string(alloc)?;
-            Ok(Fault::BadWords(complaint(alloc, program, message.as_str())?))
+            Ok(WordsFault::BadWords(complaint(alloc, program, message.as_str())?))
         }
     }
 }
@@ -96,7 +100,7 @@ fn der_job(alloc: Global, found: &ArgMatches<'_>) -> Result<Job, AllocError>
 }
 
 /// The job of `ber`. `BadWords`: the text of `--hex` gives no octets.
-fn ber_job(alloc: Global, found: &ArgMatches<'_>) -> Result<Job, Fault>
+fn ber_job(alloc: Global, found: &ArgMatches<'_>) -> Result<Job, WordsFault>
     ensures job { IfOk result (IsBerOf (rows_of (found_of found.now))) }
     ensures none { IfErr result (IsNotGiven (text_in (rows_of (found_of found.now)) (codes "hex"))) }
 {
@@ -118,7 +122,7 @@ fn ber_job(alloc: Global, found: &ArgMatches<'_>) -> Result<Job, Fault>
 }
 
 /// The job of `unper`. `BadWords`: the text of `--hex` gives no octets.
-fn unper_job(alloc: Global, found: &ArgMatches<'_>) -> Result<Job, Fault>
+fn unper_job(alloc: Global, found: &ArgMatches<'_>) -> Result<Job, WordsFault>
     ensures job { IfOk result (IsUnperOf (rows_of (found_of found.now))) }
     ensures none { IfErr result (IsNotGiven (text_in (rows_of (found_of found.now)) (codes "hex"))) }
 {
@@ -174,7 +178,7 @@ fn value_job(alloc: Global, found: &ArgMatches<'_>, verb: Verb) -> Result<Job, A
 }
 
 /// The job of `octcheck`. `BadWords`: the text of `--hex` gives no octets.
-fn check_job(alloc: Global, found: &ArgMatches<'_>) -> Result<Job, Fault>
+fn check_job(alloc: Global, found: &ArgMatches<'_>) -> Result<Job, WordsFault>
     ensures job { IfOk result (IsCheckOf (rows_of (found_of found.now))) }
     ensures none { IfErr result (IsNotGiven (text_in (rows_of (found_of found.now)) (codes "hex"))) }
 {
@@ -195,7 +199,7 @@ fn check_job(alloc: Global, found: &ArgMatches<'_>) -> Result<Job, Fault>
 }
 
 /// The job of a command, by what was found for it in the words.
-fn job_of(alloc: Global, command: &str, found: &ArgMatches<'_>) -> Result<Job, Fault>
+fn job_of(alloc: Global, command: &str, found: &ArgMatches<'_>) -> Result<Job, WordsFault>
     ensures job { IfOk result (IsJobOf command.now (rows_of (found_of found.now))) }
     ensures none { IfErr result (IsNoJobOf command.now (rows_of (found_of found.now))) }
 {
@@ -215,7 +219,7 @@ fn job_of(alloc: Global, command: &str, found: &ArgMatches<'_>) -> Result<Job, F
 }
 
 /// The job that the words of asnc ask for.
-fn command_job(alloc: Global, words: &[String]) -> Result<Job, Fault>
+fn command_job(alloc: Global, words: &[String]) -> Result<Job, WordsFault>
     ensures asked { IfOk result (IsCommand (map string_bytes words.now)) }
     ensures refused { IfErr result
         (IsRefusedBy asnc_app (HasNoOctets (map string_bytes words.now)) (map string_bytes words.now)) }
@@ -231,7 +235,7 @@ fn command_job(alloc: Global, words: &[String]) -> Result<Job, Fault>
 }
 
 /// The job that the words of octcheck ask for.
-fn checker_job(alloc: Global, words: &[String]) -> Result<Job, Fault>
+fn checker_job(alloc: Global, words: &[String]) -> Result<Job, WordsFault>
     ensures asked { IfOk result (IsCheck (map string_bytes words.now)) }
     ensures refused { IfErr result
         (IsRefusedBy octcheck_app (ChecksNoOctets (map string_bytes words.now)) (map string_bytes words.now)) }
@@ -264,7 +268,7 @@ fn are_of_checker(words: &[String]) -> bool
 ///
 /// `BadWords`: the words ask for nothing that the program does, or give octets that can't be read. `Help`: the words
 /// ask for help or for the version. `Memory`: an allocation failed.
-pub fn job(alloc: Global, words: &[String]) -> Result<Job, Fault>
+pub fn job(alloc: Global, words: &[String]) -> Result<Job, WordsFault>
     ensures asked { IfOk result (IsAsked (map string_bytes words.now)) }
     ensures refused { IfErr result (IsRefused (map string_bytes words.now)) }
 {

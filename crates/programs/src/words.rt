@@ -3,6 +3,7 @@
 ghost use Rattle.std.specs.Prelude.{◌≡◌, ◌∷◌, ℕ, List, IfOk, map, string_bytes};
 ghost use Rattle.command_line.specs.CommandLine.{IsAsked};
 
+use check_jobs::refusal;
 use command_line::{Job, job};
 use messages::Fault;
 use std::env;
@@ -32,5 +33,8 @@ pub fn job_of(rt: &HostRuntime, program: &str) -> Result<Job, Fault>
     ensures { IfOk result (λ j. (rest : List (List ℕ)) × IsAsked (program.now ∷ rest) j) }
 {
     let words = words_of(rt, program)?;
-    job(rt.alloc(), words.as_slice())
+    match job(rt.alloc(), words.as_slice()) {
+        Ok(job) => Ok(job),
+        Err(fault) => Err(refusal(fault)),
+    }
 }

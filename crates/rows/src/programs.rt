@@ -4,6 +4,7 @@ use crate::refusal::Refusal;
 use crate::requests::{asked, texts_of, word};
 use crate::wanted::is_wanted;
 use asnc::{Fault, status};
+use check_jobs::refusal;
 use command_line::{Given, Job, Verb, job};
 use jobs::{Inputs, output};
 use reports::report;
@@ -133,7 +134,7 @@ fn job_in(alloc: Global, row: &Row, program: &str) -> Result<Job, Refusal> {
     let words = command_line(alloc, row, program)?;
     match job(alloc, words.as_slice()) {
         Ok(job) => Ok(job),
-        Err(fault) => Err(refused(alloc, &fault)),
+        Err(fault) => Err(refused(alloc, &refusal(fault))),
     }
 }
 
