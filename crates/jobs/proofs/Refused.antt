@@ -71,9 +71,9 @@ pub no_device : (job : Job) (inputs : Inputs) (e : Fault) (n : ℕ) → e ≡ De
 no_device job inputs e n is r =
     let h = subst (λ x. IsNoOutput job inputs x) is r in
     elim (is_check job.verb) [
-      inl c ↦ (h.check c).on
+      | inl c ↦ (h.check c).on
       | inr c ↦ elim (h.command c) [
-          inl x ↦ x
-          | inr x ↦ refuses_no_device job.verb x.program x.types job (octets_given job.octets inputs.octets) n x.refuses
-        ]
+        | inl x ↦ x
+        | inr x ↦ refuses_no_device job.verb x.program x.types job (octets_given job.octets inputs.octets) n x.refuses
+      ]
     ]

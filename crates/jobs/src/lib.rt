@@ -2,7 +2,7 @@
 #![tactic(auto)]
 
 mod commands;
-mod work;
+mod outputs;
 
 pub use check_jobs::{Inputs, Output};
-pub use work::{output, work};
+pub use outputs::{output, work};
