@@ -2,6 +2,7 @@
 use Rattle.std.proofs.Common.{◌≡◌, ◌⊎◌, ℕ, List, [], ◌∷◌, Bool, true, false, map, refl}
 use Rattle.std.specs.Prelude.{codes, string_bytes}
 use Rattle.std.specs.Fmt.{digits}
+use Rattle.hex.proofs.OnLiterals.{hex_on_literals}
 use Rattle.asn_base.specs.Types.{Resolved}
 use Rattle.encodings.specs.Rules.{Basic, Distinguished}
 use Rattle.resolve.specs.Program.{Program}
@@ -26,9 +27,11 @@ use Rattle.jobs.specs.Refusals.{IsCommandRefused, IsNoOutput, Refuses}
 -- ---- lines
 
 hexadecimal : hex_line (48 ∷ 6 ∷ 255 ∷ []) ≡ codes "3006FF\n"
+unfolding hex_on_literals
 hexadecimal = refl
 
 no_octets : hex_line [] ≡ codes "\n"
+unfolding hex_on_literals
 no_octets = refl
 
 a_value : value_lines (codes "TRUE") 0 ≡ codes "TRUE\nskipped 0\n"

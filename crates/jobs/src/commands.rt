@@ -2,7 +2,7 @@
 
 ghost use Rattle.std.specs.Prelude.{◌≡◌, IfOk, IfErr, string_bytes};
 ghost use Rattle.asnc.specs.Packing.{IsNotPacked};
-ghost use Rattle.asnc.specs.Reading.{IsNotReadAs};
+ghost use Rattle.asnc.specs.Reading.{IsNotReadAs, rules_of};
 ghost use Rattle.asnc.specs.Unpacking.{IsNotUnpackedAs};
 ghost use Rattle.asnc.specs.Writing.{IsNotEncoded};
 ghost use Rattle.command_line.specs.declared.request.Verb.TheVariants.{Check};
@@ -88,8 +88,8 @@ fn account(alloc: Global, kit: &Kit, job: &Job) -> Result<Vec<u8>, Fault>
 }
 
 /// The rules by which a job reads octets.
-fn rules_of(job: &Job) -> Rules
-    ensures { asnc.specs.Reading.rules_of result ≡ rules_if job.now.strict }
+fn rules_in(job: &Job) -> Rules
+    ensures { rules_of result ≡ rules_if job.now.strict }
 {
     if job.strict { Rules::Der } else { Rules::Ber }
 }
@@ -100,7 +100,7 @@ fn ber(alloc: Global, kit: &Kit, job: &Job, octets: &[u8]) -> Result<Vec<u8>, Fa
     ensures refused { IfErr result (IsNotReadAs kit.now.program kit.now.types
         (rules_if job.now.strict) (string_bytes job.now.ty) octets.now) }
 {
-    let (text, skipped) = match kit.ber(alloc, job.ty.as_str(), octets, rules_of(job)) {
+    let (text, skipped) = match kit.ber(alloc, job.ty.as_str(), octets, rules_in(job)) {
         Ok(read) => read,
         Err(fault) => return Err(fault),
     };

@@ -1,0 +1,3 @@
+mod Weaker
+mod Coded
+mod Rows

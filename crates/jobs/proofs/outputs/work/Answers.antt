@@ -1,0 +1,6 @@
+use Rattle.std.proofs.Common.{refl}
+use Rattle.jobs.proofs.outputs.work.Goals as goal
+
+-- a device failed, so this says nothing
+pub returns-clause-refused : goal.returns-clause-refused
+returns-clause-refused g c = λ h. absurd (h c.in-Err-send_all.sent refl)
