@@ -55,7 +55,7 @@ fn value_of(alloc: Global, job: &Job, kit: &Kit, octets: &[u8]) -> Result<String
 }
 
 /// The value that octets are a message of in canonical PER, and how many additions were skipped.
-fn unpacked(alloc: Global, job: &Job, kit: &Kit, octets: &[u8]) -> Result<String, Fault> {
+pub fn unpacked(alloc: Global, job: &Job, kit: &Kit, octets: &[u8]) -> Result<String, Fault> {
     let (text, skipped) = kit.unper(alloc, job.ty.as_str(), octets)?;
     with_skipped(alloc, text, skipped)
 }
