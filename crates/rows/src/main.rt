@@ -5,9 +5,9 @@
 //! calls that the program `asnc` makes. It also prints each of its answers that isn't the one that its row wants.
 //!
 //! The first word of such a row is a command, and the second is the name of the row. The commands are `line`, `asnc`,
-//! `job`, `octcheck`, `octjob` and `sweep`. Each is described at its function and at the head of the files that use it.
-//! If a row has a text named `wanted`, its answer must be that text, as the module `wanted` says. This program doesn't
-//! know these answers.
+//! `job`, `octcheck`, `octjob`, `sweep` and `packed-sweep`. Each is described at its function and at the head of the
+//! files that use it. If a row has a text named `wanted`, its answer must be that text, as the module `wanted` says.
+//! This program doesn't know these answers.
 //!
 //! The answers of the stored run and of the rows were written by hand or made by other tools, not taken from this
 //! program. The exceptions are those of `hints.rows` and lists of expected tokens, which were compared by hand with the
@@ -15,6 +15,7 @@
 //! each `#` of its texts is replaced by a number, counted from 0.
 #![tactic(auto)]
 
+mod packed_sweeps;
 mod programs;
 mod refusal;
 mod requests;
@@ -37,6 +38,7 @@ fn answer_of(alloc: Global, row: &Row) -> Result<String, Refusal> {
         "job" => programs::job_of(alloc, row, "asnc"),
         "octjob" => programs::job_of(alloc, row, "octcheck"),
         "sweep" => sweeps::sweep(alloc, row),
+        "packed-sweep" => packed_sweeps::sweep(alloc, row),
         _ => Err(told(alloc, &"no such command")),
     }
 }

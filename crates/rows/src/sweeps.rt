@@ -210,7 +210,12 @@ fn other_kinds(alloc: Global, asked: &Asked, text: &str) -> Result<Tally, AllocE
 }
 
 /// The octets with one bit changed.
-fn with_bit(alloc: Global, octets: &[u8], place: usize, bit: u8) -> Result<Vec<u8>, AllocError> {
+pub fn with_bit(
+    alloc: Global,
+    octets: &[u8],
+    place: usize,
+    bit: u8,
+) -> Result<Vec<u8>, AllocError> {
     let mut out = Vec::new(alloc);
     let mut at: usize = 0;
     for octet in octets {
