@@ -1,5 +1,5 @@
-//! Answers rows of data by the public calls of codecs and of the crates that codecs use, and prints each answer below
-//! the words of its row.
+//! Answers rows of data by the public calls of codecs and of the crates that codecs use, each answer below the words of
+//! its row.
 //!
 //! The first word of a row is a command, and the second is the name of the row. Each command is described at its
 //! function and at the head of the file that uses it. The answers of the stored run are written by hand, or counted by
@@ -27,13 +27,15 @@ mod view;
 mod words;
 mod written;
 
+ghost use Rattle.std.specs.Prelude.{◌≡◌, IfOk, map, string_bytes};
+ghost use Rattle.row_files.specs.Rows.{IsEntry};
+
 use crate::refusal::{Refusal, told};
 use asn_base::schema::Schema;
-use codec_code::{Code, compile};
-use row_files::{Row, indent, rows};
+use codec_code::{Code, Fault, compile};
+use row_files::Row;
 use sample_types::schema;
 use std::alloc::{AllocError, Global};
-use std::{fs, io};
 
 /// The answer to a row whose command is about octets or values.
 fn answer_of(alloc: Global, schema: &Schema, code: &Code, row: &Row) -> Result<String, Refusal> {
@@ -75,16 +77,6 @@ fn answer_of_reader(
     }
 }
 
-/// The words of a row, and below them the lines of its answer, each after two blanks.
-fn entry(alloc: Global, schema: &Schema, code: &Code, row: &Row) -> Result<String, AllocError> {
-    let answer = match answer_of(alloc, schema, code, row) {
-        Ok(answer) => answer,
-        Err(Refusal::Told(words)) => words,
-        Err(Refusal::Memory) => return Err(AllocError),
-    };
-    indent(row.title(alloc)?, answer.as_str())
-}
-
 /// A copy of the schema of all sample types, with the levels of its DEFAULTs.
 fn copied(alloc: Global) -> Result<Schema, AllocError> {
     let mut copy = schema(alloc)?.copy(alloc)?;
@@ -92,26 +84,39 @@ fn copied(alloc: Global) -> Result<Schema, AllocError> {
     Ok(copy)
 }
 
-/// Prints the answers to the rows of a file, whose types are those of the schema.
-fn answer_rows(rt: &HostRuntime, schema: &Schema, code: &Code, file: &str) -> io::Result<()> {
-    let octets = fs::read(rt, file)?;
-    let rows = match rows(rt.alloc(), octets.as_slice()) {
-        Ok(rows) => rows,
-        Err(fault) => return println!(rt; "{fault}"),
-    };
-    for row in &rows {
-        let text = entry(rt.alloc(), schema, code, row)?;
-        println!(rt; "{text}")?;
-    }
-    Ok(())
+/// The sample types, whose values and messages the rows are about, and their routines.
+pub struct Samples {
+    schema: Schema,
+    code: Code,
 }
 
-/// Prints the answers to the rows of a file, or why the sample types don't compile.
-pub fn answer_file(rt: &HostRuntime, file: &str) -> io::Result<()> {
-    println!(rt; "{file}")?;
-    let schema = copied(rt.alloc())?;
-    match compile(rt.alloc(), &schema) {
-        Ok(code) => answer_rows(rt, &schema, &code, file),
-        Err(fault) => println!(rt; "{fault}"),
+impl Samples {
+    /// The sample types, with their routines. `AllocError` comes only if an allocation fails.
+    pub fn new(alloc: Global) -> Result<Samples, AllocError>
+        ensures { IfOk result (λ s. s.code ≡ s.schema) }
+    {
+        let schema = copied(alloc)?;
+        match compile(alloc, &schema) {
+            Ok(code) => Ok(Samples { schema, code }),
+            Err(Fault::Memory) => Err(AllocError),
+        }
+    }
+
+    /// The entry of a row: its title, and below it the lines of its answer.
+    pub fn answer(&self, alloc: Global, row: &Row) -> Result<String, AllocError>
+        ensures { IfOk result (λ s. IsEntry (map string_bytes row.now.words.items) (string_bytes s)) }
+    {
+        let answer = match answer_of(alloc, &self.schema, &self.code, row) {
+            Ok(answer) => answer,
+            Err(Refusal::Told(words)) => words,
+            Err(Refusal::Memory) => return Err(AllocError),
+        };
+        row.entry(alloc, answer.as_str())
+    }
+}
+
+impl Drop for Samples {
+    fn drop(self) {
+        let Samples { schema: _, code: _ } = self;
     }
 }

@@ -1,8 +1,11 @@
 //! Answers in print.
 
+ghost use Rattle.std.specs.Prelude.{IfOk, map, string_bytes};
+ghost use Rattle.row_files.specs.Rows.{IsEntry};
+
 use crate::refusal::Refusal;
 use crate::words::{asked, wanted};
-use row_files::{Row, indent};
+use row_files::Row;
 use std::alloc::{AllocError, Global};
 
 /// A heading, and below it a line for each word of a row that asks for something.
@@ -40,12 +43,14 @@ fn judged(alloc: Global, row: &Row, answer: String) -> Result<String, AllocError
     }
 }
 
-/// The words of a row, and below them its answer, or whether that is the wanted one.
+/// The entry of a row: its title, and below it its answer, or whether that is the wanted one.
 pub fn entry(
     alloc: Global,
     row: &Row,
     answer: Result<String, Refusal>,
-) -> Result<String, AllocError> {
+) -> Result<String, AllocError>
+    ensures { IfOk result (λ s. IsEntry (map string_bytes row.now.words.items) (string_bytes s)) }
+{
     let said = judged(alloc, row, words_of(answer)?)?;
-    indent(row.title(alloc)?, said.as_str())
+    row.entry(alloc, said.as_str())
 }

@@ -1,9 +1,9 @@
-//! Answers rows of data by the public calls of some crates, and prints each answer below the words of its row. These
-//! crates link, tag and bound modules, type values, accept schemas and compare their types.
+//! Answers rows of data by the public calls of some crates, each answer below the words of its row. These crates link,
+//! tag and bound modules, type values, accept schemas and compare their types.
 //!
-//! The first word of a row is a command, and the second is the name of the row. The commands are `link`, `tags`,
-//! `bounds`, `typed`, `settled`, `later` and `speed`. Each is described at its function and at the head of the files
-//! that use it.
+//! The first word of a row is a command, and the second is the name of the row. The commands of `answer` are `link`,
+//! `tags`, `bounds`, `typed`, `settled` and `later`. `measure` answers a row with the command `speed`. Each command is
+//! described at its function and at the head of the files that use it.
 //!
 //! The texts of a row are modules, and one named `later` is a module of a second schema. In a row with the word
 //! `numbered` each `#` of its texts is replaced by a number, counted from 0. A text named `wanted` is the wanted
@@ -29,11 +29,14 @@ mod types;
 mod versions;
 mod words;
 
+ghost use Rattle.std.specs.Prelude.{IfOk, map, string_bytes};
+ghost use Rattle.row_files.specs.Rows.{IsEntry};
+
 use crate::answers::entry;
 use crate::refusal::{Refusal, told};
-use row_files::{Row, rows};
-use std::alloc::Global;
-use std::{fs, io};
+use row_files::Row;
+pub use speed::measure;
+use std::alloc::{AllocError, Global};
 
 /// The answer to a row, by its command.
 fn answer_of(alloc: Global, row: &Row) -> Result<String, Refusal> {
@@ -45,25 +48,9 @@ fn answer_of(alloc: Global, row: &Row) -> Result<String, Refusal> {
     }
 }
 
-/// Prints the answer to a row.
-fn answer_row(rt: &HostRuntime, row: &Row) -> io::Result<()> {
-    if row.command() == "speed" {
-        return speed::measure(rt, row);
-    }
-    let text = entry(rt.alloc(), row, answer_of(rt.alloc(), row))?;
-    println!(rt; "{text}")
-}
-
-/// Prints the answers to the rows of a file.
-pub fn answer_file(rt: &HostRuntime, file: &str) -> io::Result<()> {
-    println!(rt; "{file}")?;
-    let octets = fs::read(rt, file)?;
-    let rows = match rows(rt.alloc(), octets.as_slice()) {
-        Ok(rows) => rows,
-        Err(fault) => return println!(rt; "{fault}"),
-    };
-    for row in &rows {
-        answer_row(rt, row)?;
-    }
-    Ok(())
+/// The entry of a row: its title, and below it its answer, or whether that is the wanted one.
+pub fn answer(alloc: Global, row: &Row) -> Result<String, AllocError>
+    ensures { IfOk result (λ s. IsEntry (map string_bytes row.now.words.items) (string_bytes s)) }
+{
+    entry(alloc, row, answer_of(alloc, row))
 }

@@ -1,6 +1,8 @@
 //! The times to settle long modules and to compare their types.
 
+ghost use Rattle.std.specs.Prelude.{IfOk, map, string_bytes};
 ghost use Rattle.front_end.specs.Accepted.{Keeps};
+ghost use Rattle.row_files.specs.Rows.{IsEntry};
 
 use crate::linking::type_at;
 use crate::words::{asked, word};
@@ -40,19 +42,24 @@ fn settling_linked(rt: &HostRuntime, linked: &Linked) -> io::Result<Option<Durat
     }
 }
 
-/// Writes the times to open a module and to settle it.
-fn measure_settling(rt: &HostRuntime, name: &str, text: &RowText) -> io::Result<()> {
+/// Opens and settles a module, and writes how many types it has. The times are written to standard error.
+fn measure_settling(
+    rt: &HostRuntime,
+    out: &mut String,
+    name: &str,
+    text: &RowText,
+) -> io::Result<()> {
     front_end::law::accepted_keep();
     let count = text.name.as_str();
     let octets = text.octets.len();
     let start = Instant::now(rt)?;
     let front = match open(rt.alloc(), slice::from_ref(&text.octets)) {
         Ok(front) => front,
-        Err(fault) => return println!(rt; "  {count}: {fault}"),
+        Err(fault) => return Ok(write!(out, "{count}: {fault}\n")?),
     };
     let opening = start.elapsed(rt)?.as_micros();
     let types = front.schema.types().len();
-    println!(rt; "  {count}: {types} types")?;
+    write!(out, "{count}: {types} types\n")?;
     let Some(settling) = settling_linked(rt, &front.linked)? else {
         return Ok(());
     };
@@ -85,34 +92,51 @@ fn opened(alloc: Global, count: usize, more: &str) -> Option<(Front, TypeId)> {
     Some((front, first))
 }
 
-/// Writes the time of a comparison of two circles of lists. Each list of the second circle has an addition more, so its
-/// first type is a later version of the first type of the first circle.
-fn measure_later(rt: &HostRuntime, name: &str, count: usize, later_count: usize) -> io::Result<()> {
+/// Compares two circles of lists, and writes whether the second is later. Each list of the second circle has an addition
+/// more, so its first type is a later version of the first type of the first circle. The time is written to standard
+/// error.
+fn measure_later(
+    rt: &HostRuntime,
+    out: &mut String,
+    name: &str,
+    count: usize,
+    later_count: usize,
+) -> io::Result<()> {
     let first = opened(rt.alloc(), count, "");
     let second = opened(rt.alloc(), later_count, ", c NULL");
     let (Some((first, one)), Some((second, other))) = (first, second) else {
-        return println!(rt; "  {count} and {later_count}: refused");
+        return Ok(write!(out, "{count} and {later_count}: refused\n")?);
     };
     let start = Instant::now(rt)?;
     let is_later = later(rt.alloc(), &first.schema, one, &second.schema, other)?;
     let comparing = start.elapsed(rt)?.as_micros();
-    println!(rt; "  {count} and {later_count}: {is_later}")?;
+    write!(out, "{count} and {later_count}: {is_later}\n")?;
     eprintln!(rt; "{name}: {count} and {later_count} types, compared {comparing} us")
 }
 
-/// `speed NAME WORD`: opens and settles each text of the row by itself. `speed NAME later NUMBER NUMBER`: compares the
-/// first types of two modules with these numbers of lists by `later`. The times are written to standard error.
-pub fn measure(rt: &HostRuntime, row: &Row) -> io::Result<()> {
+/// The lines of the answer to a row.
+fn measured(rt: &HostRuntime, row: &Row) -> io::Result<String> {
+    let mut lines = String::new(rt.alloc());
     let words = asked(rt.alloc(), row)?;
     let name = word(&words, 0);
-    println!(rt; "speed {name}")?;
     if name == "later" {
         let count = word(&words, 1).parse::<usize>().unwrap_or(0);
         let later_count = word(&words, 2).parse::<usize>().unwrap_or(0);
-        return measure_later(rt, name, count, later_count);
+        measure_later(rt, &mut lines, name, count, later_count)?;
+        return Ok(lines);
     }
     for text in &row.texts {
-        measure_settling(rt, name, text)?;
+        measure_settling(rt, &mut lines, name, text)?;
     }
-    Ok(())
+    Ok(lines)
+}
+
+/// `speed NAME WORD`: opens and settles each text of the row by itself. `speed NAME later NUMBER NUMBER`: compares the
+/// first types of two modules with these numbers of lists by `later`. The result is the entry of the row. The times are
+/// written to standard error.
+pub fn measure(rt: &HostRuntime, row: &Row) -> io::Result<String>
+    ensures { IfOk result (λ s. IsEntry (map string_bytes row.now.words.items) (string_bytes s)) }
+{
+    let lines = measured(rt, row)?;
+    Ok(row.entry(rt.alloc(), lines.as_str())?)
 }

@@ -32,111 +32,201 @@ x: this is a folder
 x
 5 0 error 5 Help: w x | w
 x
-31 1 error 31 UnknownName: w\\u{A}x names no module: a type is named as MODULE, a dot, and its name | error 31 UnknownName: w
+31 1 error 31 UnknownName: w\\u{A}x names no module: a type is named as MODULE, a dot, and its name | \
+    error 31 UnknownName: w
 x
-31 1 error 31 UnknownName: w\\u{A}x names no module: a value is named as MODULE, a dot, and its name | error 31 UnknownName: w
+31 1 error 31 UnknownName: w\\u{A}x names no module: a value is named as MODULE, a dot, and its name | \
+    error 31 UnknownName: w
 x
-71 1 error 71 TooLong: the encoding has more than 16777216 octets | error 71 TooLong: the encoding has more than 16777216 octets
-72 3 error 72 Device: the output took 7 octets and then no more | error 72 Device: the output took 7 octets and then no more
+71 1 error 71 TooLong: the encoding has more than 16777216 octets | \
+    error 71 TooLong: the encoding has more than 16777216 octets
+72 3 error 72 Device: the output took 7 octets and then no more | \
+    error 72 Device: the output took 7 octets and then no more
 1 3 error 1 Memory: out of memory | error 1 Memory: out of memory
 1 3 error 1 Memory: m.asn: out of memory | error 1 Memory
 2 1 error 2 Limit(Text): m.asn:1:39: found a longer text, expected at most 16777216 octets | error 2 Limit(Text) at 38
-2 1 error 2 Limit(Integer): m.asn:1:39: found a greater number, expected at most 2 to the 127 | error 2 Limit(Integer) at 38
+2 1 error 2 Limit(Integer): m.asn:1:39: found a greater number, expected at most 2 to the 127 | \
+    error 2 Limit(Integer) at 38
 10 1 error 10 NotUtf8: m.asn:1:39: found octets that are not UTF-8, expected UTF-8 | error 10 NotUtf8 at 38
-11 1 error 11 BadCharacter: m.asn:1:39: found w, which is allowed in comments and quotes only | error 11 BadCharacter at 38
+11 1 error 11 BadCharacter: m.asn:1:39: found w, which is allowed in comments and quotes only | \
+    error 11 BadCharacter at 38
 12 1 error 12 OpenComment: m.asn:1:39: found a comment without an end, expected its end | error 12 OpenComment at 38
-13 1 error 13 OpenString: m.asn:1:39: found an apostrophe that is not closed on its line, expected a second one | error 13 OpenString at 38
-14 1 error 14 BadNumber: m.asn:1:39: found a number that begins with 0 or has a letter after it, expected neither | error 14 BadNumber at 38
-15 1 error 15 BadName: m.asn:1:39: found a name that ends with a hyphen, expected a letter or a digit after it | error 15 BadName at 38
+13 1 error 13 OpenString: m.asn:1:39: found an apostrophe that is not closed on its line, expected a second one | \
+    error 13 OpenString at 38
+14 1 error 14 BadNumber: m.asn:1:39: found a number that begins with 0 or has a letter after it, expected neither | \
+    error 14 BadNumber at 38
+15 1 error 15 BadName: m.asn:1:39: found a name that ends with a hyphen, expected a letter or a digit after it | \
+    error 15 BadName at 38
 1 3 error 1 Memory: m.asn: out of memory | error 1 Memory
 2 1 error 2 Limit(Nesting): m.asn:1:39: found more open braces, expected at most 128 | error 2 Limit(Nesting) at token 7
-2 1 error 2 Limit(Integer): m.asn:1:39: found a greater number, expected at most 2 to the 127 minus 1 | error 2 Limit(Integer) at token 7
-2 1 error 2 Limit(TagNumber): m.asn:1:39: found a greater number of a tag, expected at most 2 to the 31 minus 1 | error 2 Limit(TagNumber) at token 7
-20 1 error 20 Unexpected: m.asn:1:39: found 'w', expected a type reference or an identifier or '{' or '(' or END | error 20 Unexpected at token 7
-21 1 error 21 OutOfProfile w: m.asn:1:39: found w, which this compiler does not support | error 21 OutOfProfile at token 7
+2 1 error 2 Limit(Integer): m.asn:1:39: found a greater number, expected at most 2 to the 127 minus 1 | \
+    error 2 Limit(Integer) at token 7
+2 1 error 2 Limit(TagNumber): m.asn:1:39: found a greater number of a tag, expected at most 2 to the 31 minus 1 | \
+    error 2 Limit(TagNumber) at token 7
+20 1 error 20 Unexpected: m.asn:1:39: found 'w', expected a type reference or an identifier or '{' or '(' or END | \
+    error 20 Unexpected at token 7
+21 1 error 21 OutOfProfile w: m.asn:1:39: found w, which this compiler does not support | \
+    error 21 OutOfProfile at token 7
 1 3 error 1 Memory: out of memory | error 1 Memory
 2 1 error 2 Limit(Modules): m.asn:1:39: found more modules, expected at most 256 | error 2 Limit(Modules): M.w
-2 1 error 2 Limit(Types): m.asn:1:39: found more types, expected at most 4096 type assignments and 65536 types in them | error 2 Limit(Types): M.w
+2 1 error 2 Limit(Types): m.asn:1:39: found more types, expected at most 4096 type assignments and 65536 types in them \
+    | error 2 Limit(Types): M.w
 2 1 error 2 Limit(Values): m.asn:1:39: found more value assignments, expected at most 65536 | error 2 Limit(Values): M.w
-2 1 error 2 Limit(Members): m.asn:1:39: found a longer list, expected at most 256 members and 64 additions | error 2 Limit(Members): M.w
-2 1 error 2 Limit(Items): m.asn:1:39: found more items, expected at most 1024 and 64 additions | error 2 Limit(Items): M.w
-2 1 error 2 Limit(NamedBit): m.asn:1:39: found a greater number of a named bit, expected at most 65535 | error 2 Limit(NamedBit): M.w
-2 1 error 2 Limit(Integer): m.asn:1:39: found another number, expected one from -2^127 to 2^127 - 1 | error 2 Limit(Integer): M.w
+2 1 error 2 Limit(Members): m.asn:1:39: found a longer list, expected at most 256 members and 64 additions | \
+    error 2 Limit(Members): M.w
+2 1 error 2 Limit(Items): m.asn:1:39: found more items, expected at most 1024 and 64 additions | \
+    error 2 Limit(Items): M.w
+2 1 error 2 Limit(NamedBit): m.asn:1:39: found a greater number of a named bit, expected at most 65535 | \
+    error 2 Limit(NamedBit): M.w
+2 1 error 2 Limit(Integer): m.asn:1:39: found another number, expected one from -2^127 to 2^127 - 1 | \
+    error 2 Limit(Integer): M.w
 30 1 error 30 Twice: m.asn:1:39: found the name w a second time, expected another name | error 30 Twice: M.w
-31 1 error 31 UnknownName: m.asn:1:39: found w, which has no meaning of this kind in the module M | error 31 UnknownName: M.w
-32 1 error 32 NotExported: m.asn:1:39: found w, which its module does not export, expected an exported name | error 32 NotExported: M.w
-33 1 error 33 Circular: m.asn:1:39: found w in the type w, which leads back to itself, expected another type | error 33 Circular: M.w
-34 1 error 34 UnknownModule: m.asn:1:39: found imports from the module w, expected a text with that module | error 34 UnknownModule: M.w
+31 1 error 31 UnknownName: m.asn:1:39: found w, which has no meaning of this kind in the module M | \
+    error 31 UnknownName: M.w
+32 1 error 32 NotExported: m.asn:1:39: found w, which its module does not export, expected an exported name | \
+    error 32 NotExported: M.w
+33 1 error 33 Circular: m.asn:1:39: found w in the type w, which leads back to itself, expected another type | \
+    error 33 Circular: M.w
+34 1 error 34 UnknownModule: m.asn:1:39: found imports from the module w, expected a text with that module | \
+    error 34 UnknownModule: M.w
 1 3 error 1 Memory: out of memory | error 1 Memory
-2 1 error 2 Limit(Tags): m.asn:1:39: found 'w' in w, a type with more than four tags, expected at most four, with those of the types that it refers to | error 2 Limit(Tags): M.w
-2 1 error 2 Limit(TagNumber): m.asn:1:39: found 'w' in w, a type whose automatic tag is too great, expected a number below 2 to the 31 | error 2 Limit(TagNumber): M.w
-40 1 error 40 TagClash: m.asn:1:39: found 'w' in w, whose first tag an earlier one can have too, expected another tag, as [0], or AUTOMATIC TAGS | error 40 TagClash: M.w
-41 1 error 41 ImplicitChoice: m.asn:1:39: found 'w' in w, before an untagged CHOICE, expected EXPLICIT, or neither word | error 41 ImplicitChoice: M.w
-42 1 error 42 UntaggedChoice: m.asn:1:39: found 'w' in w, an untagged CHOICE, which this compiler does not support here, expected a tag before it, as [0] | error 42 UntaggedChoice: M.w
-43 1 error 43 MixedAutomatic: m.asn:1:39: found 'w' in w, a tag among the additions of a list whose root has none, under AUTOMATIC TAGS, expected no tag, or one in the root too | error 43 MixedAutomatic: M.w
+2 1 error 2 Limit(Tags): m.asn:1:39: found 'w' in w, a type with more than four tags, expected at most four, with \
+    those of the types that it refers to | error 2 Limit(Tags): M.w
+2 1 error 2 Limit(TagNumber): m.asn:1:39: found 'w' in w, a type whose automatic tag is too great, expected a number \
+    below 2 to the 31 | error 2 Limit(TagNumber): M.w
+40 1 error 40 TagClash: m.asn:1:39: found 'w' in w, whose first tag an earlier one can have too, expected another tag, \
+    as [0], or AUTOMATIC TAGS | error 40 TagClash: M.w
+41 1 error 41 ImplicitChoice: m.asn:1:39: found 'w' in w, before an untagged CHOICE, expected EXPLICIT, or neither \
+    word | error 41 ImplicitChoice: M.w
+42 1 error 42 UntaggedChoice: m.asn:1:39: found 'w' in w, an untagged CHOICE, which this compiler does not support \
+    here, expected a tag before it, as [0] | error 42 UntaggedChoice: M.w
+43 1 error 43 MixedAutomatic: m.asn:1:39: found 'w' in w, a tag among the additions of a list whose root has none, \
+    under AUTOMATIC TAGS, expected no tag, or one in the root too | error 43 MixedAutomatic: M.w
 1 3 error 1 Memory: out of memory | error 1 Memory
-33 1 error 33 Circular: m.asn:1:39: found 'w' in w, which leads back to itself and is the end of a range, expected a number | error 33 Circular: M.w
-50 1 error 50 Empty: m.asn:1:39: found 'w' in w, whose constraints leave nothing, expected at least one number, size or character | error 50 Empty: M.w
-51 1 error 51 WrongKind: m.asn:1:39: found 'w' in w, which the type does not take, expected a constraint of this kind of type: numbers, sizes from 0 on, or single characters | error 51 WrongKind: M.w
-52 1 error 52 Reconstrained: m.asn:1:39: found 'w' in w, after a constraint with an extension marker, which this compiler does not support, expected one constraint | error 52 Reconstrained: M.w
-53 1 error 53 LowerAboveUpper: m.asn:1:39: found 'w' in w, a lower end above the upper one, expected ends that ascend | error 53 LowerAboveUpper: M.w
-55 1 error 55 MarkerPlace: m.asn:1:39: found 'w' in w, with an extension marker that this compiler does not support, expected the marker after one value or range of an INTEGER, or after one SIZE that is not of characters | error 55 MarkerPlace: M.w
+33 1 error 33 Circular: m.asn:1:39: found 'w' in w, which leads back to itself and is the end of a range, expected a \
+    number | error 33 Circular: M.w
+50 1 error 50 Empty: m.asn:1:39: found 'w' in w, whose constraints leave nothing, expected at least one number, size \
+    or character | error 50 Empty: M.w
+51 1 error 51 WrongKind: m.asn:1:39: found 'w' in w, which the type does not take, expected a constraint of this kind \
+    of type: numbers, sizes from 0 on, or single characters | error 51 WrongKind: M.w
+52 1 error 52 Reconstrained: m.asn:1:39: found 'w' in w, after a constraint with an extension marker, which this \
+    compiler does not support, expected one constraint | error 52 Reconstrained: M.w
+53 1 error 53 LowerAboveUpper: m.asn:1:39: found 'w' in w, a lower end above the upper one, expected ends that ascend \
+    | error 53 LowerAboveUpper: M.w
+55 1 error 55 MarkerPlace: m.asn:1:39: found 'w' in w, with an extension marker that this compiler does not support, \
+    expected the marker after one value or range of an INTEGER, or after one SIZE that is not of characters | \
+    error 55 MarkerPlace: M.w
 1 3 error 1 Memory: out of memory | error 1 Memory
-55 1 error 55 MarkerPlace: m.asn:1:39: found 'w' in w, which is not allowed at this place by the extension marker of its list, expected additions after the marker, and the root before it | error 55 MarkerPlace: M.w
-56 1 error 56 AdditionOrder: m.asn:1:39: found 'w' in w, an addition that does not ascend, expected ascending numbers in an enumeration, ascending tags in a CHOICE | error 56 AdditionOrder: M.w
-57 1 error 57 DefaultAddition: m.asn:1:39: found 'w' in w, an addition with a DEFAULT, which this compiler does not support, expected OPTIONAL, or neither | error 57 DefaultAddition: M.w
-2 1 error 2 Limit(Depth): m.asn:1:39: found a value at level 65, expected components in braces, of a, b, under the type that was asked for | error 2 Limit(Depth): M.w, expected components in braces, of a, b
-2 1 error 2 Limit(Nodes): m.asn:1:39: found 'w', which is one part too many, expected components in braces, of a, b, under the type that was asked for | error 2 Limit(Nodes): M.w, expected components in braces, of a, b
-2 1 error 2 Limit(Oid): m.asn:1:39: found 'w', which is too long or has too great a number, expected components in braces, of a, b, under the type that was asked for | error 2 Limit(Oid): M.w, expected components in braces, of a, b
-31 1 error 31 UnknownName: m.asn:1:39: found w, which means no value of that module, expected components in braces, of a, b, under the type that was asked for | error 31 UnknownName: M.w, expected components in braces, of a, b
-62 1 error 62 UnknownItem: m.asn:1:39: found w, which means no value, expected components in braces, of a, b, under the type that was asked for | error 62 UnknownItem: M.w, expected components in braces, of a, b
-33 1 error 33 Circular: m.asn:1:39: found w, which leads back to itself, expected components in braces, of a, b, under the type that was asked for | error 33 Circular: M.w, expected components in braces, of a, b
-60 1 error 60 NotOfType: m.asn:1:39: found 'w', expected components in braces, of a, b, under the type that was asked for | error 60 NotOfType: M.w, expected components in braces, of a, b
-62 1 error 62 UnknownItem: m.asn:1:39: found w, which is no bit of the type, expected components in braces, of a, b, under the type that was asked for | error 62 UnknownItem: M.w, expected components in braces, of a, b
-62 1 error 62 UnknownItem: m.asn:1:39: found 'w', which is no alternative, expected components in braces, of a, b, under the type that was asked for | error 62 UnknownItem: M.w, expected components in braces, of a, b
-62 1 error 62 UnknownItem: m.asn:1:39: found w, which is no component, expected components in braces, of a, b, under the type that was asked for | error 62 UnknownItem: M.w, expected components in braces, of a, b
-64 1 error 64 Repeated: m.asn:1:39: found the component w a second time, expected components in braces, of a, b, under the type that was asked for | error 64 Repeated: M.w, expected components in braces, of a, b
-63 1 error 63 Missing: m.asn:1:39: found no component w, expected components in braces, of a, b, under the type that was asked for | error 63 Missing: M.w, expected components in braces, of a, b
-60 1 error 60 NotOfType: m.asn:1:39: found the component w out of order, expected components in braces, of a, b, under the type that was asked for | error 60 NotOfType: M.w, expected components in braces, of a, b
-61 1 error 61 OutsideConstraint: m.asn:1:39: found 'w', expected components in braces, of a, b, under the type that was asked for | error 61 OutsideConstraint: M.w, expected components in braces, of a, b
-60 1 error 60 NotOfType: m.asn:1:39: found 'w', expected components in braces, of a, b | error 60 NotOfType: M.w, expected components in braces, of a, b
-60 1 error 60 NotOfType: m.asn:1:39: found 'w', expected components in braces, of a, b | error 60 NotOfType: M.w, expected components in braces, of a, b
+55 1 error 55 MarkerPlace: m.asn:1:39: found 'w' in w, which is not allowed at this place by the extension marker of \
+    its list, expected additions after the marker, and the root before it | error 55 MarkerPlace: M.w
+56 1 error 56 AdditionOrder: m.asn:1:39: found 'w' in w, an addition that does not ascend, expected ascending numbers \
+    in an enumeration, ascending tags in a CHOICE | error 56 AdditionOrder: M.w
+57 1 error 57 DefaultAddition: m.asn:1:39: found 'w' in w, an addition with a DEFAULT, which this compiler does not \
+    support, expected OPTIONAL, or neither | error 57 DefaultAddition: M.w
+2 1 error 2 Limit(Depth): m.asn:1:39: found a value at level 65, expected components in braces, of a, b, under the \
+    type that was asked for | error 2 Limit(Depth): M.w, expected components in braces, of a, b
+2 1 error 2 Limit(Nodes): m.asn:1:39: found 'w', which is one part too many, expected components in braces, of a, b, \
+    under the type that was asked for | error 2 Limit(Nodes): M.w, expected components in braces, of a, b
+2 1 error 2 Limit(Oid): m.asn:1:39: found 'w', which is too long or has too great a number, expected components in \
+    braces, of a, b, under the type that was asked for | error 2 Limit(Oid): M.w, expected components in braces, of a, b
+31 1 error 31 UnknownName: m.asn:1:39: found w, which means no value of that module, expected components in braces, of \
+    a, b, under the type that was asked for | error 31 UnknownName: M.w, expected components in braces, of a, b
+62 1 error 62 UnknownItem: m.asn:1:39: found w, which means no value, expected components in braces, of a, b, under \
+    the type that was asked for | error 62 UnknownItem: M.w, expected components in braces, of a, b
+33 1 error 33 Circular: m.asn:1:39: found w, which leads back to itself, expected components in braces, of a, b, under \
+    the type that was asked for | error 33 Circular: M.w, expected components in braces, of a, b
+60 1 error 60 NotOfType: m.asn:1:39: found 'w', expected components in braces, of a, b, under the type that was asked \
+    for | error 60 NotOfType: M.w, expected components in braces, of a, b
+62 1 error 62 UnknownItem: m.asn:1:39: found w, which is no bit of the type, expected components in braces, of a, b, \
+    under the type that was asked for | error 62 UnknownItem: M.w, expected components in braces, of a, b
+62 1 error 62 UnknownItem: m.asn:1:39: found 'w', which is no alternative, expected components in braces, of a, b, \
+    under the type that was asked for | error 62 UnknownItem: M.w, expected components in braces, of a, b
+62 1 error 62 UnknownItem: m.asn:1:39: found w, which is no component, expected components in braces, of a, b, under \
+    the type that was asked for | error 62 UnknownItem: M.w, expected components in braces, of a, b
+64 1 error 64 Repeated: m.asn:1:39: found the component w a second time, expected components in braces, of a, b, under \
+    the type that was asked for | error 64 Repeated: M.w, expected components in braces, of a, b
+63 1 error 63 Missing: m.asn:1:39: found no component w, expected components in braces, of a, b, under the type that \
+    was asked for | error 63 Missing: M.w, expected components in braces, of a, b
+60 1 error 60 NotOfType: m.asn:1:39: found the component w out of order, expected components in braces, of a, b, under \
+    the type that was asked for | error 60 NotOfType: M.w, expected components in braces, of a, b
+61 1 error 61 OutsideConstraint: m.asn:1:39: found 'w', expected components in braces, of a, b, under the type that \
+    was asked for | error 61 OutsideConstraint: M.w, expected components in braces, of a, b
+60 1 error 60 NotOfType: m.asn:1:39: found 'w', expected components in braces, of a, b | \
+    error 60 NotOfType: M.w, expected components in braces, of a, b
+60 1 error 60 NotOfType: m.asn:1:39: found 'w', expected components in braces, of a, b | \
+    error 60 NotOfType: M.w, expected components in braces, of a, b
 1 3 error 1 Memory: at octet 17, in a.b[2].c: out of memory | error 1 Memory at octet 17
-2 1 error 2 Limit(Message): at octet 17, in a.b[2].c: a message has at most 16777216 octets | error 2 Limit(Message) at octet 17
-2 1 error 2 Limit(Integer): at octet 17, in a.b[2].c: found another number, expected one from -2^127 to 2^127 - 1 | error 2 Limit(Integer) at octet 17
-2 1 error 2 Limit(Oid): at octet 17, in a.b[2].c: found other numbers of an object identifier, expected at most 64, each below 2^64 | error 2 Limit(Oid) at octet 17
-80 1 error 80 Truncated: at octet 17, in a.b[2].c: found the end of the octets, expected more octets of a header or of its contents | error 80 Truncated at octet 17
-81 1 error 81 Indefinite: at octet 17, in a.b[2].c: found a length in the indefinite form, expected one in a definite form | error 81 Indefinite at octet 17
-82 1 error 82 BadLength: at octet 17, in a.b[2].c: found a length that begins with FF or is more than 16777216, expected one that a message can have | error 82 BadLength at octet 17
-83 1 error 83 BadTag: at octet 17, in a.b[2].c: found identifier octets of no tag, expected those of a tag in an allowed form | error 83 BadTag at octet 17
-84 1 error 84 UnexpectedTag: at octet 17, in a.b[2].c: found a tag or a form of it that is not allowed here, expected one of the type | error 84 UnexpectedTag at octet 17
-85 1 error 85 Missing: at octet 17, in a.b[2].c: found the end of the contents, expected a mandatory component | error 85 Missing at octet 17
-86 1 error 86 BadContents: at octet 17, in a.b[2].c: found contents octets of no value, expected those of a value of the type | error 86 BadContents at octet 17
-87 1 error 87 EmptySegments: at octet 17, in a.b[2].c: found a constructed BIT STRING without segments, expected at least one | error 87 EmptySegments at octet 17
-88 1 error 88 OutsideConstraint: at octet 17, in a.b[2].c: found a value that the constraints do not allow, expected one that they allow | error 88 OutsideConstraint at octet 17
-89 1 error 89 Trailing: at octet 17, in a.b[2].c: found octets after the whole value, expected the end of the message | error 89 Trailing at octet 17
-95 1 error 95 TooDeep: at octet 17, in a.b[2].c: found more levels, expected at most 400 of headers and 64 of values | error 95 TooDeep at octet 17
+2 1 error 2 Limit(Message): at octet 17, in a.b[2].c: a message has at most 16777216 octets | \
+    error 2 Limit(Message) at octet 17
+2 1 error 2 Limit(Integer): at octet 17, in a.b[2].c: found another number, expected one from -2^127 to 2^127 - 1 | \
+    error 2 Limit(Integer) at octet 17
+2 1 error 2 Limit(Oid): at octet 17, in a.b[2].c: found other numbers of an object identifier, expected at most 64, \
+    each below 2^64 | error 2 Limit(Oid) at octet 17
+80 1 error 80 Truncated: at octet 17, in a.b[2].c: found the end of the octets, expected more octets of a header or of \
+    its contents | error 80 Truncated at octet 17
+81 1 error 81 Indefinite: at octet 17, in a.b[2].c: found a length in the indefinite form, expected one in a definite \
+    form | error 81 Indefinite at octet 17
+82 1 error 82 BadLength: at octet 17, in a.b[2].c: found a length that begins with FF or is more than 16777216, \
+    expected one that a message can have | error 82 BadLength at octet 17
+83 1 error 83 BadTag: at octet 17, in a.b[2].c: found identifier octets of no tag, expected those of a tag in an \
+    allowed form | error 83 BadTag at octet 17
+84 1 error 84 UnexpectedTag: at octet 17, in a.b[2].c: found a tag or a form of it that is not allowed here, expected \
+    one of the type | error 84 UnexpectedTag at octet 17
+85 1 error 85 Missing: at octet 17, in a.b[2].c: found the end of the contents, expected a mandatory component | \
+    error 85 Missing at octet 17
+86 1 error 86 BadContents: at octet 17, in a.b[2].c: found contents octets of no value, expected those of a value of \
+    the type | error 86 BadContents at octet 17
+87 1 error 87 EmptySegments: at octet 17, in a.b[2].c: found a constructed BIT STRING without segments, expected at \
+    least one | error 87 EmptySegments at octet 17
+88 1 error 88 OutsideConstraint: at octet 17, in a.b[2].c: found a value that the constraints do not allow, expected \
+    one that they allow | error 88 OutsideConstraint at octet 17
+89 1 error 89 Trailing: at octet 17, in a.b[2].c: found octets after the whole value, expected the end of the message \
+    | error 89 Trailing at octet 17
+95 1 error 95 TooDeep: at octet 17, in a.b[2].c: found more levels, expected at most 400 of headers and 64 of values | \
+    error 95 TooDeep at octet 17
 96 1 error 96 NotDer: found a BER encoding that is not DER, expected the DER encoding | error 96 NotDer at octet 17
-80 1 error 80 Truncated: at octet 17: found the end of the octets, expected more octets of a header or of its contents | error 80 Truncated at octet 17
-80 1 error 80 Truncated: at octet 17, in abcdefghijabcdefghijabcdefghijabcdefghijabcdefghijabcdefghij..: found the end of the octets, expected more octets of a header or of its contents | error 80 Truncated at octet 17
-100 1 error 100 NotAccount: a\\u{A}.json: at octet 7: found octets that are not UTF-8, expected text in JSON | error 100 NotAccount: at octet 7: found octets that are not UTF-8, expected text in JSON
-100 1 error 100 NotAccount: a\\u{A}.json: at octet 0: found no JSON array, expected an array of rows | error 100 NotAccount: at octet 0: found no JSON array, expected an array of rows
-100 1 error 100 NotAccount: a\\u{A}.json: at octet 41, in row 2: found no row, expected a kind and its numbers in an array | error 100 NotAccount: at octet 41, in row 2: found no row, expected a kind and its numbers in an array
-100 1 error 100 NotAccount: a\\u{A}.json: at octet 41: found more text after the rows, expected its end | error 100 NotAccount: at octet 41: found more text after the rows, expected its end
-100 1 error 100 NotAccount: a\\u{A}.json: found rows that are not those of one account, 3 of them, expected after each row as many members as it says, at most 400 deep | error 100 NotAccount: found rows that are not those of one account, 3 of them, expected after each row as many members as it says, at most 400 deep
-90 1 error 90 Truncated: at bit 17, in a.b[2].c: found the end of the octets, expected more bits of the value | error 90 Truncated at bit 17
-91 1 error 91 NotCanonical: at bit 17, in a.b[2].c: found bits that canonical PER does not have, expected the one form of a value | error 91 NotCanonical at bit 17
-92 1 error 92 OutsideConstraint: at bit 17, in a.b[2].c: found what the type does not allow, expected a number, a size, an index or contents within it | error 92 OutsideConstraint at bit 17
-93 1 error 93 UnknownAlternative: at bit 17, in a.b[2].c: found an alternative after the extension marker that the type lacks, expected one of its own | error 93 UnknownAlternative at bit 17
-93 1 error 93 UnknownEnumeration: at bit 17, in a.b[2].c: found an item after the extension marker that the type lacks, expected one of its own | error 93 UnknownEnumeration at bit 17
-94 1 error 94 Padding: at bit 17, in a.b[2].c: found bits after the value, expected zero bits up to the end of its last octet | error 94 Padding at bit 17
-95 1 error 95 TooDeep: at bit 17, in a.b[2].c: found a value at level 65, expected at most 64 levels | error 95 TooDeep at bit 17
-97 1 error 97 TooManyAdditions: at bit 17, in a.b[2].c: found more than 64 additions, expected at most 64 | error 97 TooManyAdditions at bit 17
-2 1 error 2 Limit(Integer): at bit 17, in a.b[2].c: found another number, expected one from -2^127 to 2^127 - 1 | error 2 Limit(Integer) at bit 17
-2 1 error 2 Limit(Oid): at bit 17, in a.b[2].c: found other numbers of an object identifier, expected at most 64, each below 2^64 | error 2 Limit(Oid) at bit 17
-2 1 error 2 Limit(Nodes): at bit 17, in a.b[2].c: found more values, expected at most 16777216 | error 2 Limit(Nodes) at bit 17
-90 1 error 90 Truncated: at bit 17: found the end of the octets, expected more bits of the value | error 90 Truncated at bit 17
-2 1 error 2 Limit(Message): a message has at most 16777216 octets | error 2 Limit(Message): a message has at most 16777216 octets
+80 1 error 80 Truncated: at octet 17: found the end of the octets, expected more octets of a header or of its contents \
+    | error 80 Truncated at octet 17
+80 1 error 80 Truncated: at octet 17, in abcdefghijabcdefghijabcdefghijabcdefghijabcdefghijabcdefghij..: found the end \
+    of the octets, expected more octets of a header or of its contents | error 80 Truncated at octet 17
+100 1 error 100 NotAccount: a\\u{A}.json: at octet 7: found octets that are not UTF-8, expected text in JSON | \
+    error 100 NotAccount: at octet 7: found octets that are not UTF-8, expected text in JSON
+100 1 error 100 NotAccount: a\\u{A}.json: at octet 0: found no JSON array, expected an array of rows | \
+    error 100 NotAccount: at octet 0: found no JSON array, expected an array of rows
+100 1 error 100 NotAccount: a\\u{A}.json: at octet 41, in row 2: found no row, expected a kind and its numbers in an \
+    array | error 100 NotAccount: at octet 41, in row 2: found no row, expected a kind and its numbers in an array
+100 1 error 100 NotAccount: a\\u{A}.json: at octet 41: found more text after the rows, expected its end | \
+    error 100 NotAccount: at octet 41: found more text after the rows, expected its end
+100 1 error 100 NotAccount: a\\u{A}.json: found rows that are not those of one account, 3 of them, expected after each \
+    row as many members as it says, at most 400 deep | \
+    error 100 NotAccount: found rows that are not those of one account, 3 of them, expected after each row as many \
+    members as it says, at most 400 deep
+90 1 error 90 Truncated: at bit 17, in a.b[2].c: found the end of the octets, expected more bits of the value | \
+    error 90 Truncated at bit 17
+91 1 error 91 NotCanonical: at bit 17, in a.b[2].c: found bits that canonical PER does not have, expected the one form \
+    of a value | error 91 NotCanonical at bit 17
+92 1 error 92 OutsideConstraint: at bit 17, in a.b[2].c: found what the type does not allow, expected a number, a \
+    size, an index or contents within it | error 92 OutsideConstraint at bit 17
+93 1 error 93 UnknownAlternative: at bit 17, in a.b[2].c: found an alternative after the extension marker that the \
+    type lacks, expected one of its own | error 93 UnknownAlternative at bit 17
+93 1 error 93 UnknownEnumeration: at bit 17, in a.b[2].c: found an item after the extension marker that the type \
+    lacks, expected one of its own | error 93 UnknownEnumeration at bit 17
+94 1 error 94 Padding: at bit 17, in a.b[2].c: found bits after the value, expected zero bits up to the end of its \
+    last octet | error 94 Padding at bit 17
+95 1 error 95 TooDeep: at bit 17, in a.b[2].c: found a value at level 65, expected at most 64 levels | \
+    error 95 TooDeep at bit 17
+97 1 error 97 TooManyAdditions: at bit 17, in a.b[2].c: found more than 64 additions, expected at most 64 | \
+    error 97 TooManyAdditions at bit 17
+2 1 error 2 Limit(Integer): at bit 17, in a.b[2].c: found another number, expected one from -2^127 to 2^127 - 1 | \
+    error 2 Limit(Integer) at bit 17
+2 1 error 2 Limit(Oid): at bit 17, in a.b[2].c: found other numbers of an object identifier, expected at most 64, each \
+    below 2^64 | error 2 Limit(Oid) at bit 17
+2 1 error 2 Limit(Nodes): at bit 17, in a.b[2].c: found more values, expected at most 16777216 | \
+    error 2 Limit(Nodes) at bit 17
+90 1 error 90 Truncated: at bit 17: found the end of the octets, expected more bits of the value | \
+    error 90 Truncated at bit 17
+2 1 error 2 Limit(Message): a message has at most 16777216 octets | \
+    error 2 Limit(Message): a message has at most 16777216 octets
 ";
 
 /// The module in the file m.asn.

@@ -1,4 +1,5 @@
-//! Files of rows: what a test asks, and the texts that it asks about. `indent` lays out answers below a row's title.
+//! Files of rows: what a test asks, and the texts that it asks about. `Row::entry` lays out an answer below the words of
+//! its row.
 //!
 //! A file is read line by line.
 //!
@@ -23,5 +24,4 @@ mod marks;
 mod row;
 
 pub use fault::RowFault;
-pub use layout::indent;
 pub use row::{Row, RowText, rows};

@@ -1,11 +1,12 @@
 //! The rows of a file.
 
-ghost use Rattle.std.specs.Prelude.{◌≡◌, IfOk, IfErr, IsUtf8, bytes_eq, map, string_bytes};
+ghost use Rattle.std.specs.Prelude.{◌≡◌, ◌++◌, IfOk, IfErr, IsUtf8, bytes_eq, map, string_bytes};
 ghost use Rattle.std.specs.List.{list_any};
-ghost use Rattle.row_files.specs.Rows.{first_word, IsOfText, IsOfFile};
+ghost use Rattle.row_files.specs.Rows.{IsEntry, IsOfFile, IsOfText, first_word, indented, title_of};
 
 use crate::fault::RowFault;
 use crate::forms::{form_of, is_among, put_texts};
+use crate::layout::with_lines;
 use crate::marks::{Block, blocks_of};
 use std::alloc::{AllocError, Global};
 
@@ -47,13 +48,19 @@ impl Row {
     }
 
     /// The words of the row, with a blank between each two.
-    pub fn title(&self, alloc: Global) -> Result<String, AllocError> {
-        let mut text = String::from_str(alloc, self.command())?;
-        for word in self.words.iter().skip(1) {
-            text.push(' ')?;
-            text.push_str(word.as_str())?;
-        }
-        Ok(text)
+    pub fn title(&self, alloc: Global) -> Result<String, AllocError>
+        ensures { IfOk result (λ t. string_bytes t ≡ title_of (map string_bytes self.now.words.items)) }
+    {
+        self.words.as_slice().join(alloc, " ")
+    }
+
+    /// The row's title, and below it the lines of an answer, each after two blanks. An empty line has no blanks.
+    pub fn entry(&self, alloc: Global, answer: &str) -> Result<String, AllocError>
+        ensures whole { IfOk result
+            (λ t. string_bytes t ≡ title_of (map string_bytes self.now.words.items) ++ indented answer.now) }
+        ensures entry { IfOk result (λ t. IsEntry (map string_bytes self.now.words.items) (string_bytes t)) }
+    {
+        with_lines(self.title(alloc)?, answer)
     }
 }
 

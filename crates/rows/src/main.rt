@@ -1,8 +1,9 @@
-//! Answers rows of data, and prints each answer below the words of its row.
+//! Answers rows of data. It prints the name of each file, and for each row of the file an entry: the words of the row,
+//! and below them the lines of its answer, each after two blanks.
 //!
 //! The words of the command line name files of rows. `text_answers` answers those of the folders `text` and `expected`,
 //! `module_answers` those of `modules`, and `codec_answers` those of `codec`. This crate answers all others by the
-//! calls that the program `asnc` makes. It also prints each of its answers that isn't the one that its row wants.
+//! calls that the program `asnc` makes. It also prints the wanted answer of each row that has another one.
 //!
 //! The first word of such a row is a command, and the second is the name of the row. The commands are `line`, `asnc`,
 //! `job`, `octcheck`, `octjob`, `sweep` and `packed-sweep`. Each is described at its function and at the head of the
@@ -22,8 +23,12 @@ mod requests;
 mod sweeps;
 mod wanted;
 
+ghost use Rattle.std.specs.Prelude.{IfOk, map, string_bytes};
+ghost use Rattle.row_files.specs.Rows.{IsEntry};
+
 use crate::refusal::{Refusal, told};
-use crate::wanted::{Count, differs, shown};
+use crate::wanted::{Count, differs, push_shown};
+use codec_answers::Samples;
 use row_files::{Row, rows};
 use std::alloc::{AllocError, Global};
 use std::process::ExitCode;
@@ -43,68 +48,73 @@ fn answer_of(alloc: Global, row: &Row) -> Result<String, Refusal> {
     }
 }
 
-/// The words of a row, and below them the lines of its answer, each after two blanks. If the row wants another answer,
-/// that follows.
-fn entry(alloc: Global, row: &Row, count: &mut Count) -> Result<String, AllocError> {
-    let mut text = row.title(alloc)?;
+/// The entry of a row that this crate answers: its title, and below it the lines of its answer. If the row wants
+/// another answer, that follows.
+fn own_answer(alloc: Global, row: &Row, count: &mut Count) -> Result<String, AllocError>
+    ensures { IfOk result (λ s. IsEntry (map string_bytes row.now.words.items) (string_bytes s)) }
+{
     let answer = match answer_of(alloc, row) {
         Ok(answer) => answer,
         Err(Refusal::Told(words)) => words,
         Err(Refusal::Memory) => return Err(AllocError),
     };
-    indent(alloc, &mut text, answer.as_str())?;
+    let mut lines = String::new(alloc);
+    push_shown(alloc, &mut lines, answer.as_str())?;
     if let Some(wanted) = differs(alloc, row, answer.as_str(), count)? {
-        indent(alloc, &mut text, "but wanted:")?;
-        indent(alloc, &mut text, wanted)?;
+        lines.push_str("but wanted:\n")?;
+        push_shown(alloc, &mut lines, wanted)?;
     }
-    Ok(text)
+    row.entry(alloc, lines.as_str())
 }
 
-/// Adds the lines of an answer, each after two blanks. Of a long line it adds only the beginning.
-fn indent(alloc: Global, text: &mut String, answer: &str) -> Result<(), AllocError> {
-    for line in answer.lines() {
-        let line = shown(alloc, line)?;
-        text.push_str(if line.is_empty() { "\n" } else { "\n  " })?;
-        text.push_str(line.as_str())?;
+/// The entry of a row of a folder, from the crate that answers the folder.
+fn answer(
+    rt: &HostRuntime,
+    samples: &Samples,
+    folder: &str,
+    row: &Row,
+    count: &mut Count,
+) -> io::Result<String>
+    ensures { IfOk result (λ s. IsEntry (map string_bytes row.now.words.items) (string_bytes s)) }
+{
+    let alloc = rt.alloc();
+    match folder {
+        "text" => Ok(text_answers::answer(alloc, row)?),
+        "expected" => Ok(text_answers::compare(alloc, row)?),
+        "modules" if row.command() == "speed" => module_answers::measure(rt, row),
+        "modules" => Ok(module_answers::answer(alloc, row)?),
+        "codec" => Ok(samples.answer(alloc, row)?),
+        _ => Ok(own_answer(alloc, row, count)?),
     }
-    Ok(())
 }
 
-/// Prints the answers to the rows of a file of this crate.
-fn answer_own(rt: &HostRuntime, file: &str, count: &mut Count) -> io::Result<()> {
+/// Prints the name of a file, and the entry of each of its rows.
+fn answer_file(
+    rt: &HostRuntime,
+    samples: &Samples,
+    file: &str,
+    count: &mut Count,
+) -> io::Result<()> {
     println!(rt; "{file}")?;
     let octets = fs::read(rt, file)?;
     let rows = match rows(rt.alloc(), octets.as_slice()) {
         Ok(rows) => rows,
         Err(fault) => return println!(rt; "{fault}"),
     };
+    let (folder, _) = file.split_once('/').unwrap_or(("", file));
     for row in &rows {
-        let text = entry(rt.alloc(), row, count)?;
-        println!(rt; "{text}")?;
+        let entry = answer(rt, samples, folder, row, count)?;
+        println!(rt; "{entry}")?;
     }
     Ok(())
 }
 
-/// Prints the answers to the rows of a file, by the crate that answers its folder.
-fn answer_file(rt: &HostRuntime, file: &str, count: &mut Count) -> io::Result<()> {
-    let folder = match file.split_once('/') {
-        Some((folder, _)) => folder,
-        None => "",
-    };
-    match folder {
-        "text" => text_answers::answer_file(rt, file),
-        "expected" => text_answers::compare_file(rt, file),
-        "modules" => module_answers::answer_file(rt, file),
-        "codec" => codec_answers::answer_file(rt, file),
-        _ => answer_own(rt, file, count),
-    }
-}
-
 /// The status is 1 if an answer isn't the one that its row wants.
 fn main(rt: HostRuntime) -> io::Result<ExitCode> {
+    let samples = Samples::new(rt.alloc())?;
     let mut count = Count::default();
     for file in env::args(&rt)?.skip(1) {
-        answer_file(&rt, file.as_str(), &mut count)?;
+        answer_file(&rt, &samples, file.as_str(), &mut count)?;
     }
     let Count {
         compared,

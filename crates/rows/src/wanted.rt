@@ -3,6 +3,9 @@
 //! Blanks and line ends don't count. If the text ends with `..`, only the beginning of the answer is compared, with
 //! what is before the `..`.
 
+ghost use Rattle.std.specs.Prelude.{◌≡◌, ◌<◌, ◌≤◌, IfOk, IsSome};
+ghost use Rattle.rows.specs.Wanted.{dense as dense', is_as_wanted as is_as_wanted'};
+
 use row_files::{Row, RowText};
 use std::alloc::{AllocError, Global};
 
@@ -19,31 +22,34 @@ pub fn is_wanted(text: &RowText) -> bool {
 }
 
 /// The octets of a text without blanks and line ends.
-fn dense(alloc: Global, text: &[u8]) -> Result<Vec<u8>, AllocError> {
-    let mut out = Vec::new(alloc);
-    for octet in text {
-        if !octet.is_ascii_whitespace() {
-            out.push(*octet)?;
-        }
-    }
-    Ok(out)
+fn dense(alloc: Global, text: &[u8]) -> Result<Vec<u8>, AllocError>
+    ensures { IfOk result (λ v. v.items ≡ dense' text.now) }
+{
+    text.iter()
+        .copied()
+        .filter(|octet| !octet.is_ascii_whitespace())
+        .collect(alloc)
 }
 
 /// Whether an answer is the wanted one.
-fn is_as_wanted(alloc: Global, wanted: &[u8], answer: &str) -> Result<bool, AllocError> {
+fn is_as_wanted(alloc: Global, wanted: &[u8], answer: &str) -> Result<bool, AllocError>
+    ensures { IfOk result (λ b. b ≡ is_as_wanted' wanted.now answer.now) }
+{
     let wanted = dense(alloc, wanted)?;
     let answer = dense(alloc, answer.as_bytes())?;
-    Ok(match wanted.as_slice().strip_suffix(b"..") {
-        Some(front) => answer.as_slice().starts_with(front),
-        None => answer == wanted,
-    })
+    let octets = wanted.as_slice();
+    if octets.ends_with(b"..") {
+        let front = &octets[..octets.len() - 2];
+        return Ok(answer.as_slice().starts_with(front));
+    }
+    Ok(answer == wanted)
 }
 
 /// The most octets of a line that are printed.
 const SHOWN: usize = 1024;
 
 /// The line, or of a long line its first octets and its number of octets.
-pub fn shown(alloc: Global, line: &str) -> Result<String, AllocError> {
+fn shown(alloc: Global, line: &str) -> Result<String, AllocError> {
     match line.get(..64) {
         Some(front) if line.len() > SHOWN => {
             let count = line.len();
@@ -53,13 +59,25 @@ pub fn shown(alloc: Global, line: &str) -> Result<String, AllocError> {
     }
 }
 
+/// Adds the lines of an answer, each with a line end. Of a long line it adds only the beginning.
+pub fn push_shown(alloc: Global, lines: &mut String, answer: &str) -> Result<(), AllocError> {
+    for line in answer.lines() {
+        lines.push_str(shown(alloc, line)?.as_str())?;
+        lines.push('\n')?;
+    }
+    Ok(())
+}
+
 /// The wanted answer, if the row's answer is another one. Counts the row if it wants an answer.
 pub fn differs<'a>(
     alloc: Global,
     row: &'a Row,
     answer: &str,
     count: &mut Count,
-) -> Result<Option<&'a str>, AllocError> {
+) -> Result<Option<&'a str>, AllocError>
+    ensures counted { IfOk result (λ wanted. IsSome wanted → 0 < count.new.different) }
+    ensures kept { count.old.different ≤ count.new.different }
+{
     let Some(wanted) = row.texts.iter().find(|text| is_wanted(text)) else {
         return Ok(None);
     };

@@ -167,7 +167,12 @@ fn put_memory(out: &mut String, what: &[u8]) -> Result<(), AllocError> {
 }
 
 /// Writes the answer to a row about a text.
-pub fn answer(alloc: Global, out: &mut String, row: &Row, octets: &[u8]) -> Result<(), AllocError> {
+pub fn put_answer(
+    alloc: Global,
+    out: &mut String,
+    row: &Row,
+    octets: &[u8],
+) -> Result<(), AllocError> {
     if let Some((before, behind)) = around(row.command()) {
         return answer_module(alloc, out, row, octets, before, behind);
     }

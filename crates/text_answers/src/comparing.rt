@@ -2,15 +2,17 @@
 //! parser takes.
 //!
 //! Each text of a row is a module. For each place from the start of the text to its end, and for each kind of token,
-//! `compare_file` compares whether the text can go on with that kind. If the two always agree, the line of the text
-//! gives the number of places, and how many kinds can come next at all places together. Otherwise a line gives the
+//! `compare` compares whether the text can go on with that kind. If the two always agree, the line of the text gives the
+//! number of places, and how many kinds can come next at all places together. Otherwise a line before that gives the
 //! place, the token, and which of the two takes it.
+
+ghost use Rattle.std.specs.Prelude.{IfOk, map, string_bytes};
+ghost use Rattle.row_files.specs.Rows.{IsEntry};
 
 use expected_tokens::{ALL, expected};
 use notation::SyntaxFault;
-use row_files::{Row, rows};
+use row_files::Row;
 use std::alloc::{AllocError, Global};
-use std::{fs, io};
 use syntax::parse;
 use text::{LexFault, Mark, Token, TokenKind};
 
@@ -80,9 +82,15 @@ fn is_among(kinds: &[TokenKind], kind: TokenKind) -> bool {
     kinds.iter().any(|other| sample(*other) == wanted)
 }
 
-/// Compares both at a place. The result is how many kinds can come next.
-fn compare_at(rt: &HostRuntime, text: &[u8], tokens: &[Token], place: usize) -> io::Result<usize> {
-    let alloc = rt.alloc();
+/// Compares both at a place, and writes a line for each kind that only one of the two takes. The result is how many
+/// kinds can come next.
+fn compare_at(
+    alloc: Global,
+    out: &mut String,
+    text: &[u8],
+    tokens: &[Token],
+    place: usize,
+) -> Result<usize, AllocError> {
     let before = tokens.get(..place).unwrap_or(tokens);
     let end = match before.last() {
         Some(token) => token.span.end,
@@ -95,48 +103,38 @@ fn compare_at(rt: &HostRuntime, text: &[u8], tokens: &[Token], place: usize) -> 
         let by_rules = is_among(kinds.as_slice(), *kind);
         let by_parser = is_taken(alloc, front, place, piece)?;
         if by_rules && !by_parser {
-            println!(rt; "  at token {place} {piece} by the rules alone")?;
+            write!(out, "at token {place} {piece} by the rules alone\n")?;
         }
         if by_parser && !by_rules {
-            println!(rt; "  at token {place} {piece} by the parser alone")?;
+            write!(out, "at token {place} {piece} by the parser alone\n")?;
         }
     }
     Ok(kinds.len())
 }
 
-/// Compares both at each place of a text.
-fn compare(rt: &HostRuntime, text: &[u8]) -> io::Result<()> {
-    let tokens = match text::lex(rt.alloc(), text) {
+/// Compares both at each place of a text, and writes the lines for it.
+fn put_comparison(alloc: Global, out: &mut String, text: &[u8]) -> Result<(), AllocError> {
+    let tokens = match text::lex(alloc, text) {
         Ok(tokens) => tokens,
-        Err(_) => return println!(rt; "no tokens"),
+        Err(LexFault::Memory) => return Err(AllocError),
+        Err(_) => return out.push_str("no tokens\n"),
     };
     let mut count: usize = 0;
     let places = tokens.len().saturating_add(1);
     for place in 0..places {
-        let kinds = compare_at(rt, text, tokens.as_slice(), place)?;
+        let kinds = compare_at(alloc, out, text, tokens.as_slice(), place)?;
         count = count.saturating_add(kinds);
     }
-    println!(rt; "{places} places, {count} kinds")
+    write!(out, "{places} places, {count} kinds\n")
 }
 
-fn compare_row(rt: &HostRuntime, row: &Row) -> io::Result<()> {
-    let title = row.title(rt.alloc())?;
-    println!(rt; "=== {title}")?;
+/// The entry of a row: its title, and below it what the comparison of each of its texts says.
+pub fn compare(alloc: Global, row: &Row) -> Result<String, AllocError>
+    ensures { IfOk result (λ s. IsEntry (map string_bytes row.now.words.items) (string_bytes s)) }
+{
+    let mut lines = String::new(alloc);
     for text in &row.texts {
-        compare(rt, text.octets.as_slice())?;
+        put_comparison(alloc, &mut lines, text.octets.as_slice())?;
     }
-    Ok(())
-}
-
-/// Prints what the comparisons of the rows of a file say.
-pub fn compare_file(rt: &HostRuntime, file: &str) -> io::Result<()> {
-    let octets = fs::read(rt, file)?;
-    let rows = match rows(rt.alloc(), octets.as_slice()) {
-        Ok(rows) => rows,
-        Err(fault) => return println!(rt; "{fault}"),
-    };
-    for row in &rows {
-        compare_row(rt, row)?;
-    }
-    Ok(())
+    row.entry(alloc, lines.as_str())
 }

@@ -1,7 +1,7 @@
 //! Answers rows of tests by the public calls of `text`, `notation` and `syntax`. The answer for each text is one line,
-//! with the syntax tree of the text or its fault. `compare_file` answers rows by the tokens that can come next.
+//! with the syntax tree of the text or its fault. `compare` answers rows by the tokens that can come next.
 //!
-//! `answer_file` prints the answers to the rows of a file. A row may ask for:
+//! The first word of a row says what `answer` is asked for:
 //!
 //! - `tokens`: the tokens of the text, each with its kind, its span in octets and its spelling.
 //! - `value`, `constraint`, `size`: the tree at the first token, and the place after it. `at N` begins at token N. With
@@ -33,46 +33,34 @@ mod tokens;
 mod types;
 mod values;
 
-use crate::ask::answer;
+ghost use Rattle.std.specs.Prelude.{IfOk, map, string_bytes};
+ghost use Rattle.row_files.specs.Rows.{IsEntry};
+
+use crate::ask::put_answer;
 use crate::pieces::put_octets;
-pub use comparing::compare_file;
-use row_files::{Row, RowText, rows};
+pub use comparing::compare;
+use row_files::{Row, RowText};
 use std::alloc::{AllocError, Global};
-use std::{fs, io};
 
-/// The line for a text: the text itself or, if texts aren't lines, its name, and then the answer.
-fn line_of(alloc: Global, row: &Row, text: &RowText) -> Result<String, AllocError> {
-    let mut line = String::new(alloc);
+/// Writes the line for a text: the text itself or, if texts aren't lines, its name, and then the answer.
+fn put_line(alloc: Global, out: &mut String, row: &Row, text: &RowText) -> Result<(), AllocError> {
     if row.has("lines") {
-        put_octets(&mut line, &text.octets)?;
+        put_octets(out, &text.octets)?;
     } else {
-        line.push_str(text.name.as_str())?;
+        out.push_str(text.name.as_str())?;
     }
-    line.push_str(" => ")?;
-    answer(alloc, &mut line, row, &text.octets)?;
-    Ok(line)
+    out.push_str(" => ")?;
+    put_answer(alloc, out, row, &text.octets)?;
+    out.push('\n')
 }
 
-fn answer_row(rt: &HostRuntime, row: &Row) -> io::Result<()> {
-    let title = row.title(rt.alloc())?;
-    println!(rt; "=== {title}")?;
+/// The entry of a row: its title, and below it a line for each of its texts.
+pub fn answer(alloc: Global, row: &Row) -> Result<String, AllocError>
+    ensures { IfOk result (λ s. IsEntry (map string_bytes row.now.words.items) (string_bytes s)) }
+{
+    let mut lines = String::new(alloc);
     for text in &row.texts {
-        let line = line_of(rt.alloc(), row, text)?;
-        println!(rt; "{line}")?;
+        put_line(alloc, &mut lines, row, text)?;
     }
-    Ok(())
-}
-
-/// Prints the answers to the rows of a file.
-pub fn answer_file(rt: &HostRuntime, file: &str) -> io::Result<()> {
-    println!(rt; "##### {file}")?;
-    let octets = fs::read(rt, file)?;
-    let rows = match rows(rt.alloc(), &octets) {
-        Ok(rows) => rows,
-        Err(fault) => return println!(rt; "{fault}"),
-    };
-    for row in &rows {
-        answer_row(rt, row)?;
-    }
-    Ok(())
+    row.entry(alloc, lines.as_str())
 }
