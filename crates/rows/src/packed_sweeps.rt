@@ -132,11 +132,11 @@ fn lines(alloc: Global, kit: &Kit, ty: &str, octets: &[u8]) -> Result<String, Al
     Ok(text)
 }
 
-/// `packed-sweep NAME WORD..`: the words are those of `asnc unper`. The answer is the value of the octets and the number
-/// of skipped additions. A line follows with how many proper beginnings of the octets are refused by 90 Truncated. The
-/// next line is on the octets with each bit changed in turn: how many are accepted, how many additions are skipped in
-/// these, and the sum of all octets of their printed values. The last line says how many of the others are refused by
-/// which number.
+/// `packed-sweep NAME WORD..`: the words are those of `asnc unper`. The answer is the value of the octets and the
+/// number of skipped additions. A line follows with how many proper beginnings of the octets are refused by 90
+/// Truncated. The next line is on the octets with each bit changed in turn: how many are accepted, how many additions
+/// are skipped in these, and the sum of all octets of their printed values. The last line says how many of the others
+/// are refused by which number.
 pub fn sweep(alloc: Global, row: &Row) -> Result<String, Refusal> {
     let asked = asked_in(alloc, row, "asnc")?;
     let kit = match Kit::open(alloc, asked.texts()) {
