@@ -27,7 +27,7 @@ struct Task {
 }
 
 /// The task of a command for A.v under B.T, with these octets in its words.
-fn task(alloc: Global, verb: Verb, octets: &[u8]) -> Result<Task, Fail> {
+fn task_of(alloc: Global, verb: Verb, octets: &[u8]) -> Result<Task, Fail> {
     let mut given = Vec::new(alloc);
     given.extend_from_slice(octets)?;
     let job = Job {
@@ -83,15 +83,19 @@ fn sinks_fail(rt: &HostRuntime, task: &Task, wanted: &[u8]) -> Result<(), Fail> 
 #[test]
 fn each_put_of_work_fails_in_turn(rt: HostRuntime) -> Result<(), Fail> {
     let alloc = rt.alloc();
-    sinks_fail(&rt, &task(alloc, Verb::Der, &[])?, DER.as_bytes())?;
-    sinks_fail(&rt, &task(alloc, Verb::Uper, &[])?, UPER.as_bytes())?;
-    sinks_fail(&rt, &task(alloc, Verb::Ber, &OCTETS)?, VALUE.as_bytes())?;
-    sinks_fail(&rt, &task(alloc, Verb::Unper, &PACKED)?, VALUE.as_bytes())
+    sinks_fail(&rt, &task_of(alloc, Verb::Der, &[])?, DER.as_bytes())?;
+    sinks_fail(&rt, &task_of(alloc, Verb::Uper, &[])?, UPER.as_bytes())?;
+    sinks_fail(&rt, &task_of(alloc, Verb::Ber, &OCTETS)?, VALUE.as_bytes())?;
+    sinks_fail(
+        &rt,
+        &task_of(alloc, Verb::Unper, &PACKED)?,
+        VALUE.as_bytes(),
+    )
 }
 
 #[test]
 fn each_put_of_raw_octets_fails_in_turn(rt: HostRuntime) -> Result<(), Fail> {
-    let mut raw = task(rt.alloc(), Verb::Der, &[])?;
+    let mut raw = task_of(rt.alloc(), Verb::Der, &[])?;
     raw.job.raw = true;
     sinks_fail(&rt, &raw, &OCTETS)
 }
@@ -107,7 +111,7 @@ fn account(alloc: Global) -> Result<Vec<u8>, Fail> {
 #[test]
 fn each_put_of_a_verdict_fails_in_turn(rt: HostRuntime) -> Result<(), Fail> {
     let alloc = rt.alloc();
-    let mut check = task(alloc, Verb::Check, &OCTETS)?;
+    let mut check = task_of(alloc, Verb::Check, &OCTETS)?;
     check.inputs.account = Some(account(alloc)?);
     sinks_fail(&rt, &check, b"yes\n")
 }
@@ -151,12 +155,12 @@ fn sweep_work(rt: &HostRuntime, name: &str, task: Task, wanted: &'static str) ->
 
 #[test]
 fn work_of_der_with_ever_more_memory(rt: HostRuntime) -> Result<(), Fail> {
-    let task = task(rt.alloc(), Verb::Der, &[])?;
+    let task = task_of(rt.alloc(), Verb::Der, &[])?;
     sweep_work(&rt, "work of der", task, DER)
 }
 
 #[test]
 fn work_of_unper_with_ever_more_memory(rt: HostRuntime) -> Result<(), Fail> {
-    let task = task(rt.alloc(), Verb::Unper, &PACKED)?;
+    let task = task_of(rt.alloc(), Verb::Unper, &PACKED)?;
     sweep_work(&rt, "work of unper", task, VALUE)
 }
