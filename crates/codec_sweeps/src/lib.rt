@@ -1,6 +1,6 @@
-//! Tests of compiling, of encoding by the distinguished rules and of decoding. Allocations fail one after another, and
-//! calls of a sink fail one after another. The crate has only tests, and no other crate needs it, so that no other
-//! crate is proved again for them.
+//! Tests of compiling, encoding and decoding by both families of rules, and of calls on values, schemas and accounts.
+//! Allocations fail one after another, and calls of a sink fail one after another. The crate has only tests, and no
+//! other crate needs it, so that no other crate is proved again for them.
 #![tactic(auto)]
 
 #[cfg(test)]

@@ -1,6 +1,10 @@
-//! `compile`, `write_der`, `write_der_to`, `read_ber`, `read_der` and `whereabouts` over the sample types.
+//! The public calls of the codecs, of accounts, values, schemas and versions, over the sample types.
 
+mod accounts;
+mod copies;
+mod free;
 mod memory;
+mod packed;
 mod reading;
 mod stopping;
 mod values;

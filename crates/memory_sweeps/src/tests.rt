@@ -1,6 +1,7 @@
 //! Each call answers `Memory` or the same as with enough memory. After `Memory`, its mutable arguments are unchanged,
 //! and the same call with enough memory gives the answer.
 
+mod bounds;
 mod front;
 mod headers;
 mod lexer;

@@ -1,11 +1,11 @@
 //! Allocations that fail one after another. Each call answers `Memory` and writes nothing, or it gives the answer.
 
-use super::values::{mixed_octets, mixed_value};
+use super::values::{mixed_octets, mixed_value, named};
 use asn_base::schema::{Schema, TypeId};
 use asn_base::value::Value;
 use codec_code::{Code, Coding, Fault, compile};
 use der_writer::{Sink, WriteFault, write_der, write_der_to};
-use sample_types::{schema, type_named};
+use sample_types::schema;
 use starving::{Starved, Swept, Turn, sweep};
 use std::alloc::Global;
 use std::io;
@@ -75,10 +75,7 @@ struct Writing {
 impl Starved for Writing {
     fn call(&mut self, alloc: Global) -> Turn {
         match write_der(alloc, &self.code, self.id, &self.value) {
-            Ok((octets, _account)) => {
-                let right = octets.as_slice() == self.octets.as_slice();
-                if right { Turn::Right } else { Turn::Wrong }
-            }
+            Ok((octets, _account)) => answer(octets.as_slice() == self.octets.as_slice()),
             Err(WriteFault::Memory) => Turn::Refused,
             Err(_) => Turn::Wrong,
         }
@@ -112,8 +109,13 @@ impl Starved for Sending {
     }
 }
 
+/// The result of a turn with an answer that is right or wrong.
+pub fn answer(right: bool) -> Turn {
+    if right { Turn::Right } else { Turn::Wrong }
+}
+
 /// Checks that a sweep had many calls that failed and many that were right, and no other ones.
-pub fn told(rt: &HostRuntime, name: &str, swept: Swept) -> Result<(), Fail> {
+pub fn report(rt: &HostRuntime, name: &str, swept: Swept) -> Result<(), Fail> {
     match swept {
         Swept::Endless => Ok(()),
         Swept::Wrong(turn) => {
@@ -128,14 +130,6 @@ pub fn told(rt: &HostRuntime, name: &str, swept: Swept) -> Result<(), Fail> {
                 Err("too few turns of a kind".into())
             }
         }
-    }
-}
-
-/// The type whose value is encoded.
-fn mixed() -> Result<TypeId, Fail> {
-    match type_named("mixed") {
-        Some(id) => Ok(id),
-        None => Err("no type".into()),
     }
 }
 
@@ -154,11 +148,11 @@ fn compile_with_ever_more_memory(rt: HostRuntime) -> Result<(), Fail> {
     // The seven steps are Head, four components, Rest and End.
     let mut compiling = Compiling {
         schema: schema(alloc)?,
-        id: mixed()?,
+        id: named("mixed")?,
         steps: 7,
     };
     let swept = sweep(alloc, &mut compiling)?;
-    told(&rt, "compile", swept)
+    report(&rt, "compile", swept)
 }
 
 #[test]
@@ -166,12 +160,12 @@ fn write_der_with_ever_more_memory(rt: HostRuntime) -> Result<(), Fail> {
     let alloc = rt.alloc();
     let mut writing = Writing {
         code: sample_code(alloc)?,
-        id: mixed()?,
+        id: named("mixed")?,
         value: mixed_value(alloc)?,
         octets: mixed_octets(alloc)?,
     };
     let swept = sweep(alloc, &mut writing)?;
-    told(&rt, "write_der", swept)
+    report(&rt, "write_der", swept)
 }
 
 #[test]
@@ -179,7 +173,7 @@ fn write_der_to_with_ever_more_memory(rt: HostRuntime) -> Result<(), Fail> {
     let alloc = rt.alloc();
     let mut sending = Sending {
         code: sample_code(alloc)?,
-        id: mixed()?,
+        id: named("mixed")?,
         value: mixed_value(alloc)?,
         sink: Compared {
             octets: mixed_octets(alloc)?,
@@ -189,5 +183,5 @@ fn write_der_to_with_ever_more_memory(rt: HostRuntime) -> Result<(), Fail> {
         },
     };
     let swept = sweep(alloc, &mut sending)?;
-    told(&rt, "write_der_to", swept)
+    report(&rt, "write_der_to", swept)
 }

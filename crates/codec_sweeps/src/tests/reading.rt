@@ -1,11 +1,11 @@
 //! Messages that are decoded while allocations fail one after another. Each call answers `Memory`, or gives the answer.
 
-use super::memory::{sample_code, told};
+use super::memory::{report, sample_code};
+use super::values::named;
 use asn_base::schema::TypeId;
 use ber_reader::{read_ber, read_der, whereabouts};
 use codec_code::Code;
 use decode_faults::ReadFault;
-use sample_types::type_named;
 use starving::{Starved, Swept, Turn, sweep};
 use std::alloc::{AllocError, Global};
 use std::test::Fail;
@@ -71,14 +71,6 @@ impl Starved for Finding {
     }
 }
 
-/// The sample type with this name.
-fn named(name: &str) -> Result<TypeId, Fail> {
-    match type_named(name) {
-        Some(id) => Ok(id),
-        None => Err("no type".into()),
-    }
-}
-
 /// The message of a SET with two additions that its type lacks: 3111 8500 3108 3106 020101 020102 8600 810100.
 fn two_unknown(alloc: Global) -> Result<Vec<u8>, AllocError> {
     let mut octets = Vec::new(alloc);
@@ -98,7 +90,7 @@ fn read_ber_with_ever_more_memory(rt: HostRuntime) -> Result<(), Fail> {
         wanted: Ok(2),
     };
     let swept = sweep(alloc, &mut reading)?;
-    told(&rt, "read_ber", swept)
+    report(&rt, "read_ber", swept)
 }
 
 /// The same octets keep the distinguished rules: known tags ascend, and unknown additions may be anywhere.
@@ -112,7 +104,7 @@ fn read_der_with_ever_more_memory(rt: HostRuntime) -> Result<(), Fail> {
         skipped: 2,
     };
     let swept = sweep(alloc, &mut reading)?;
-    told(&rt, "read_der", swept)
+    report(&rt, "read_der", swept)
 }
 
 /// The decoder doesn't allocate by an announced length before it checks that the message is long enough. So each turn
@@ -153,5 +145,5 @@ fn whereabouts_with_ever_more_memory(rt: HostRuntime) -> Result<(), Fail> {
         open: 4,
     };
     let swept = sweep(alloc, &mut finding)?;
-    told(&rt, "whereabouts", swept)
+    report(&rt, "whereabouts", swept)
 }

@@ -17,7 +17,8 @@ const A: &str = "A DEFINITIONS AUTOMATIC TAGS ::= BEGIN IMPORTS T, v FROM B;\n\
 const B: &str =
     "B DEFINITIONS ::= BEGIN EXPORTS T, v; T ::= [1] SEQUENCE { n Num } Num ::= [2] [3] [4] INTEGER v Num ::= 1 END";
 
-fn module(alloc: Global, text: &str) -> Result<Module, Fail> {
+/// The module of a text.
+pub fn module(alloc: Global, text: &str) -> Result<Module, Fail> {
     let octets = text.as_bytes();
     let tokens = lex(alloc, octets).ok().ok_or("tokens")?;
     Ok(parse(alloc, octets, &tokens).ok().ok_or("tree")?)
