@@ -67,8 +67,8 @@ impl Sample {
     /// The long value. The elements of a set are in descending order.
     pub fn value(self, alloc: Global) -> Result<Value, AllocError> {
         let mut elements = Vec::new(alloc);
-        for number in (1i128..60).rev() {
-            elements.push(self.element(alloc, number)?)?;
+        for place in 0u8..59 {
+            elements.push(self.element(alloc, 59 - i128::from(place))?)?;
         }
         Ok(Value::List(elements))
     }
