@@ -1,4 +1,5 @@
-//! `Kit::open`, `der`, `der_to`, `uper`, `ber`, `unper`, `account`, `later` and `list`, `judge` and `work`, of small modules.
+//! `Kit::open`, `der`, `der_to`, `uper`, `ber`, `unper`, `account`, `later` and `list`, `judge` and `work`, of small
+//! modules.
 
 mod accounts;
 mod growths;

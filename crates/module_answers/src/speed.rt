@@ -92,9 +92,9 @@ fn opened(alloc: Global, count: usize, more: &str) -> Option<(Front, TypeId)> {
     Some((front, first))
 }
 
-/// Compares two circles of lists, and writes whether the second is later. Each list of the second circle has an addition
-/// more, so its first type is a later version of the first type of the first circle. The time is written to standard
-/// error.
+/// Compares two circles of lists, and writes whether the second is later. Each list of the second circle has one more
+/// addition, so its first type is a later version of the first type of the first circle. The time is written to
+/// standard error.
 fn measure_later(
     rt: &HostRuntime,
     out: &mut String,

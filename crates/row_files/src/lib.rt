@@ -1,5 +1,5 @@
-//! Files of rows: what a test asks, and the texts that it asks about. `Row::entry` lays out an answer below the words of
-//! its row.
+//! Files of rows: what a test asks, and the texts that it asks about. `Row::entry` lays out an answer below the words
+//! of its row.
 //!
 //! A file is read line by line.
 //!

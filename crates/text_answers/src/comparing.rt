@@ -2,9 +2,9 @@
 //! parser takes.
 //!
 //! Each text of a row is a module. For each place from the start of the text to its end, and for each kind of token,
-//! `compare` compares whether the text can go on with that kind. If the two always agree, the line of the text gives the
-//! number of places, and how many kinds can come next at all places together. Otherwise a line before that gives the
-//! place, the token, and which of the two takes it.
+//! `compare` compares whether the text can go on with that kind. If the two always agree, the line of the text gives
+//! the number of places, and how many kinds can come next at all places together. Otherwise a line before that gives
+//! the place, the token, and which of the two takes it.
 
 ghost use Rattle.std.specs.Prelude.{IfOk, map, string_bytes};
 ghost use Rattle.row_files.specs.Rows.{IsEntry};
