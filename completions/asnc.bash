@@ -6,7 +6,7 @@ _asnc() {
   local before=${COMP_WORDS[COMP_CWORD - 1]}
   COMPREPLY=()
   if [[ $COMP_CWORD -eq 1 ]]; then
-    mapfile -t COMPREPLY < <(compgen -W 'der ber uper unper account list --help -h --version -V' -- "$current")
+    mapfile -t COMPREPLY < <(compgen -W 'der ber uper unper account list later --help -h --version -V' -- "$current")
     return
   fi
   local words
@@ -16,6 +16,7 @@ _asnc() {
     ber) words='--type --hex --strict --context --help -h' ;;
     unper) words='--type --hex --context --help -h' ;;
     list) words='--context --help -h' ;;
+    later) words='--type --newer --context --help -h' ;;
     *) return ;;
   esac
   if [[ $before == --type || $before == --value || $before == --hex ]]; then

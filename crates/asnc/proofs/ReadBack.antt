@@ -98,6 +98,8 @@ refused_message {e = faults.Help x} q m short h = absurd h
 refused_message {e = faults.File x} q m short h = absurd h
 refused_message {e = faults.NoFile x} q m short h = absurd h
 refused_message {e = faults.Folder x} q m short h = absurd h
+refused_message {e = faults.Newer x} q m short h = absurd h
+refused_message {e = faults.NoNewerType x} q m short h = absurd h
 refused_message {e = faults.Front x} q m short h = absurd h
 refused_message {e = faults.Value x} q m short h = absurd h
 refused_message {e = faults.TooLong} q m short h = absurd h
@@ -123,6 +125,8 @@ message_refused p s name o t k v (faults.Help x) one n m short h = absurd h
 message_refused p s name o t k v (faults.File x) one n m short h = absurd h
 message_refused p s name o t k v (faults.NoFile x) one n m short h = absurd h
 message_refused p s name o t k v (faults.Folder x) one n m short h = absurd h
+message_refused p s name o t k v (faults.Newer x) one n m short h = absurd h
+message_refused p s name o t k v (faults.NoNewerType x) one n m short h = absurd h
 message_refused p s name o t k v (faults.Front x) one n m short h = absurd h
 message_refused p s name o t k v (faults.Value x) one n m short h = absurd h
 message_refused p s name o t k v faults.TooLong one n m short h = absurd h

@@ -38,10 +38,11 @@ HasFile (given.Path name) file = IsFile file
 HasFile given.Nothing file = file ≡ None
 HasFile (given.Octets v) file = file ≡ None
 
--- What the files that a job names contain: a text for each of its modules, and the other files exactly if the job names
--- them. Only the job of octcheck names an account.
+-- What the files that a job names contain: a text for each of its modules and of its newer modules, and the other files
+-- exactly if the job names them. Only the job of octcheck names an account.
 pub record AreInputsOf (job : Job) (inputs : Inputs) : Type 0 where
   pub files : length inputs.files.items ≡ length job.files.items
+  pub newer : length inputs.newer.items ≡ length job.newer.items
   pub octets : HasFile job.octets inputs.octets
   pub account : job.verb ≡ verbs.Check → IsFile inputs.account
   pub no_account : (job.verb ≡ verbs.Check → ⊥) → inputs.account ≡ None

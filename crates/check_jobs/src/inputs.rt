@@ -10,8 +10,10 @@ use messages::Fault;
 /// The contents of the files that a job names.
 #[derive(Debug, Drop)]
 pub struct Inputs {
-    /// The texts of the job's modules, in order.
+    /// The texts of the job's modules, in order; those of the older modules if versions are compared.
     pub files: Vec<Vec<u8>>,
+    /// The texts of the newer modules, in order.
+    pub newer: Vec<Vec<u8>>,
     /// The file after `--hex @`, if the job names one.
     pub octets: Option<Vec<u8>>,
     /// The file after `--account`, if the job names one.

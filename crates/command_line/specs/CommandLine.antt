@@ -32,6 +32,15 @@ flag_rule id = record (new_rule id) { long = Some id; action = Some SetTrue }
 abbrev pub files_rule : Rule
 files_rule = record (new_rule (codes "FILE")) { required = true; action = Some Append }
 
+-- `--newer TEXT`, at least once
+abbrev pub newer_rule : Rule
+newer_rule = record (new_rule (codes "newer")) {
+  long = Some (codes "newer");
+  value_names = 1;
+  required = true;
+  action = Some Append;
+}
+
 -- `NAME --type TEXT --value TEXT`
 abbrev pub value_names_app : Text → App
 value_names_app name = with_rule (with_rule (new_app name) (text_rule (codes "type"))) (text_rule (codes "value"))
@@ -74,6 +83,16 @@ unper_app = with_rule unper_flags_app files_rule
 abbrev pub list_app : App
 list_app = with_rule (with_rule (new_app (codes "list")) (flag_rule (codes "context"))) files_rule
 
+-- `later --type TEXT --newer TEXT.. [--context]`
+abbrev pub later_names_app : App
+later_names_app =
+    with_rule (with_rule (with_rule (new_app (codes "later")) (text_rule (codes "type"))) newer_rule)
+    (flag_rule (codes "context"))
+
+-- `later --type TEXT --newer TEXT.. [--context] FILE..`
+abbrev pub later_app : App
+later_app = with_rule later_names_app files_rule
+
 -- the program asnc without its commands: a command is required, `help` isn't one, and there is a version
 abbrev pub bare_app : App
 bare_app = record (new_app (codes "asnc")) {
@@ -93,8 +112,12 @@ abbrev pub packed_app : App
 packed_app = with_subcommand (with_subcommand octets_app (value_app (codes "uper")).top) unper_app.top
 
 -- the commands `der`, `ber`, `uper`, `unper`, `account` and `list`
+abbrev pub listing_app : App
+listing_app = with_subcommand (with_subcommand packed_app (value_app (codes "account")).top) list_app.top
+
+-- the commands `der`, `ber`, `uper`, `unper`, `account`, `list` and `later`
 abbrev pub asnc_app : App
-asnc_app = with_subcommand (with_subcommand packed_app (value_app (codes "account")).top) list_app.top
+asnc_app = with_subcommand listing_app later_app.top
 
 -- the program octcheck without its arguments: there is a version, and there are no commands
 abbrev pub bare_check_app : App
@@ -141,6 +164,7 @@ pub record IsDerOf (rows : List Row) (job : Job) : Type 0 where
   pub context : (one_of (codes "context") rows ≡ Some (codes "true")) → job.context ≡ true
   pub no_context : (one_of (codes "context") rows ≡ Some (codes "false")) → job.context ≡ false
   pub files : map string_bytes job.files.items ≡ texts_in rows (codes "FILE")
+  pub no_newer : job.newer.items ≡ []
   pub no_account : string_bytes job.account ≡ []
   pub no_octets : job.octets ≡ given.Nothing
   pub not_strict : job.strict ≡ false
@@ -154,6 +178,7 @@ pub record IsValueJobOf (verb : Verb) (rows : List Row) (job : Job) : Type 0 whe
   pub context : (one_of (codes "context") rows ≡ Some (codes "true")) → job.context ≡ true
   pub no_context : (one_of (codes "context") rows ≡ Some (codes "false")) → job.context ≡ false
   pub files : map string_bytes job.files.items ≡ texts_in rows (codes "FILE")
+  pub no_newer : job.newer.items ≡ []
   pub no_account : string_bytes job.account ≡ []
   pub no_octets : job.octets ≡ given.Nothing
   pub not_raw : job.raw ≡ false
@@ -182,6 +207,7 @@ pub record IsBerOf (rows : List Row) (job : Job) : Type 0 where
   pub context : (one_of (codes "context") rows ≡ Some (codes "true")) → job.context ≡ true
   pub no_context : (one_of (codes "context") rows ≡ Some (codes "false")) → job.context ≡ false
   pub files : map string_bytes job.files.items ≡ texts_in rows (codes "FILE")
+  pub no_newer : job.newer.items ≡ []
   pub no_value : string_bytes job.value ≡ []
   pub no_account : string_bytes job.account ≡ []
   pub not_raw : job.raw ≡ false
@@ -195,6 +221,7 @@ pub record IsUnperOf (rows : List Row) (job : Job) : Type 0 where
   pub context : (one_of (codes "context") rows ≡ Some (codes "true")) → job.context ≡ true
   pub no_context : (one_of (codes "context") rows ≡ Some (codes "false")) → job.context ≡ false
   pub files : map string_bytes job.files.items ≡ texts_in rows (codes "FILE")
+  pub no_newer : job.newer.items ≡ []
   pub no_value : string_bytes job.value ≡ []
   pub no_account : string_bytes job.account ≡ []
   pub not_raw : job.raw ≡ false
@@ -209,8 +236,23 @@ pub record IsListOf (rows : List Row) (job : Job) : Type 0 where
   pub context : (one_of (codes "context") rows ≡ Some (codes "true")) → job.context ≡ true
   pub no_context : (one_of (codes "context") rows ≡ Some (codes "false")) → job.context ≡ false
   pub files : map string_bytes job.files.items ≡ texts_in rows (codes "FILE")
+  pub no_newer : job.newer.items ≡ []
   pub no_account : string_bytes job.account ≡ []
   pub no_octets : job.octets ≡ given.Nothing
+  pub not_strict : job.strict ≡ false
+
+-- The job has what was found for the arguments of `later`. Fields that `later` doesn't take are empty.
+pub record IsLaterOf (rows : List Row) (job : Job) : Type 0 where
+  pub verb : job.verb ≡ verbs.Later
+  pub type : string_bytes job.ty ≡ text_in rows (codes "type")
+  pub context : (one_of (codes "context") rows ≡ Some (codes "true")) → job.context ≡ true
+  pub no_context : (one_of (codes "context") rows ≡ Some (codes "false")) → job.context ≡ false
+  pub files : map string_bytes job.files.items ≡ texts_in rows (codes "FILE")
+  pub newer : map string_bytes job.newer.items ≡ texts_in rows (codes "newer")
+  pub no_value : string_bytes job.value ≡ []
+  pub no_account : string_bytes job.account ≡ []
+  pub no_octets : job.octets ≡ given.Nothing
+  pub not_raw : job.raw ≡ false
   pub not_strict : job.strict ≡ false
 
 -- The job has what was found for the arguments of `octcheck`, and the octets that the text of `--hex` gives. Fields
@@ -224,21 +266,25 @@ pub record IsCheckOf (rows : List Row) (job : Job) : Type 0 where
   pub context : (one_of (codes "context") rows ≡ Some (codes "true")) → job.context ≡ true
   pub no_context : (one_of (codes "context") rows ≡ Some (codes "false")) → job.context ≡ false
   pub files : map string_bytes job.files.items ≡ texts_in rows (codes "FILE")
+  pub no_newer : job.newer.items ≡ []
   pub not_raw : job.raw ≡ false
   pub not_strict : job.strict ≡ false
 
--- the job is that of the command with this name: `list`, `ber`, `uper`, `unper`, `account`, or otherwise `der`
+-- The job is that of the command with this name: `list`, `ber`, `uper`, `unper`, `account`, `later`, or otherwise
+-- `der`.
 pub record IsJobOf (command : Text) (rows : List Row) (job : Job) : Type 0 where
   pub list : command ≡ codes "list" → IsListOf rows job
   pub ber : command ≡ codes "ber" → IsBerOf rows job
   pub uper : command ≡ codes "uper" → IsValueJobOf verbs.Uper rows job
   pub unper : command ≡ codes "unper" → IsUnperOf rows job
   pub account : command ≡ codes "account" → IsValueJobOf verbs.Account rows job
+  pub later : command ≡ codes "later" → IsLaterOf rows job
   pub der : (command ≡ codes "list" → ⊥)
       → (command ≡ codes "ber" → ⊥)
       → (command ≡ codes "uper" → ⊥)
       → (command ≡ codes "unper" → ⊥)
       → (command ≡ codes "account" → ⊥)
+      → (command ≡ codes "later" → ⊥)
       → IsDerOf rows job
 
 -- the fault of a text that gives no octets; `Memory` says nothing of the text

@@ -4,9 +4,10 @@ ghost use Rattle.std.specs.Prelude.{◌≡◌, IfOk, codes, false, true};
 ghost use Rattle.clap.specs.Words.{app_of, rule_of};
 ghost use Rattle.clap.specs.declared.builder.command.Command.TheViews.{out-Command};
 ghost use Rattle.command_line.specs.CommandLine.{asnc_app, ber_app, ber_flags_app, check_names_app, check_texts_app};
-ghost use Rattle.command_line.specs.CommandLine.{der_app, der_flags_app, files_rule, flag_rule, list_app};
-ghost use Rattle.command_line.specs.CommandLine.{octcheck_app, octets_app, octets_names_app, packed_app, text_rule};
-ghost use Rattle.command_line.specs.CommandLine.{unper_app, unper_flags_app, value_app, value_names_app};
+ghost use Rattle.command_line.specs.CommandLine.{der_app, der_flags_app, files_rule, flag_rule, later_app};
+ghost use Rattle.command_line.specs.CommandLine.{later_names_app, list_app, listing_app, newer_rule, octcheck_app};
+ghost use Rattle.command_line.specs.CommandLine.{octets_app, octets_names_app, packed_app, text_rule, unper_app};
+ghost use Rattle.command_line.specs.CommandLine.{unper_flags_app, value_app, value_names_app};
 
 use clap::{Arg, ArgAction, Command};
 use std::alloc::{AllocError, Global};
@@ -20,8 +21,9 @@ Examples:
   asnc unper --type M.T --hex 0105 m.asn
   asnc account --type M.T --value M.v m.asn
   asnc list m.asn
+  asnc later --type M.T m.asn --newer n.asn
 
-Exit status: 0 done, 1 the texts, names, values or octets are refused, 2 a bad command line,
+Exit status: 0 done, 1 no, or the texts, names, values or octets are refused, 2 a bad command line,
 3 out of memory, or a file or a device failed. A refusal is one line, with its number and
 its name; man asnc lists them.";
 
@@ -61,6 +63,15 @@ const LIST_EXAMPLES: &str = "\
 Examples:
   asnc list m.asn
   asnc list --context fleet.asn telemetry.asn";
+
+/// The text at the end of the help of `later`.
+const LATER_EXAMPLES: &str = "\
+Examples:
+  asnc later --type M.T m.asn --newer n.asn
+  asnc later --type M.T a.asn b.asn --newer c.asn --newer d.asn
+
+It prints yes, or no. A later version only appends additions at extension markers;
+each version then decodes what the other encodes.";
 
 /// The text at the end of the help of `octcheck`.
 const CHECK_HELP: &str = "\
@@ -107,6 +118,19 @@ fn files_arg<'a>(alloc: Global) -> Arg<'a>
         .required(true)
         .action(ArgAction::Append)
         .help("The modules' texts; - is standard input, once")
+}
+
+/// `--newer`, once for each file of the newer modules, at least once.
+fn newer_arg<'a>(alloc: Global) -> Arg<'a>
+    ensures rule { rule_of result ≡ newer_rule }
+    ensures local { result.global ≡ false }
+{
+    Arg::new(alloc, "newer")
+        .long("newer")
+        .value_name("FILE")
+        .required(true)
+        .action(ArgAction::Append)
+        .help("A text of the newer modules; once for each; - is standard input, once")
 }
 
 /// `--context`, which is optional.
@@ -260,6 +284,26 @@ fn list_command<'a>(alloc: Global) -> Result<Command<'a>, AllocError>
         .arg(files_arg(alloc))
 }
 
+/// `later` with the name of a type, the newer files and `--context`.
+fn later_names<'a>(alloc: Global) -> Result<Command<'a>, AllocError>
+    ensures shape { IfOk result (λ c. app_of c ≡ later_names_app) }
+    ensures local { IfOk result (λ c. (out-Command c).has_globals ≡ false) }
+{
+    Command::new(alloc, "later")
+        .about("Say whether a type of newer modules is a later version of that of older ones")
+        .after_help(LATER_EXAMPLES)
+        .arg(text_arg(alloc, "type", "MODULE.TYPE", "The type, in both"))?
+        .arg(newer_arg(alloc))?
+        .arg(context_arg(alloc))
+}
+
+fn later_command<'a>(alloc: Global) -> Result<Command<'a>, AllocError>
+    ensures shape { IfOk result (λ c. app_of c ≡ later_app) }
+    ensures local { IfOk result (λ c. (out-Command c).has_globals ≡ false) }
+{
+    later_names(alloc)?.arg(files_arg(alloc))
+}
+
 /// The program asnc with the commands that write or read octets of DER and BER.
 fn octets_command<'a>(alloc: Global) -> Result<Command<'a>, AllocError>
     ensures shape { IfOk result (λ c. app_of c ≡ octets_app) }
@@ -287,15 +331,24 @@ fn packed_command<'a>(alloc: Global) -> Result<Command<'a>, AllocError>
         .subcommand(unper_command(alloc)?)
 }
 
-/// The program asnc.
-pub(crate) fn asnc_command<'a>(alloc: Global) -> Result<Command<'a>, AllocError>
-    ensures shape { IfOk result (λ c. app_of c ≡ asnc_app) }
+/// The program asnc with the commands that need one set of modules.
+fn listing_command<'a>(alloc: Global) -> Result<Command<'a>, AllocError>
+    ensures shape { IfOk result (λ c. app_of c ≡ listing_app) }
     ensures local { IfOk result (λ c. (out-Command c).has_globals ≡ false) }
     ensures wants { IfOk result (λ c. (out-Command c).subcommand_required ≡ true) }
 {
     packed_command(alloc)?
         .subcommand(account_command(alloc)?)?
         .subcommand(list_command(alloc)?)
+}
+
+/// The program asnc.
+pub(crate) fn asnc_command<'a>(alloc: Global) -> Result<Command<'a>, AllocError>
+    ensures shape { IfOk result (λ c. app_of c ≡ asnc_app) }
+    ensures local { IfOk result (λ c. (out-Command c).has_globals ≡ false) }
+    ensures wants { IfOk result (λ c. (out-Command c).subcommand_required ≡ true) }
+{
+    listing_command(alloc)?.subcommand(later_command(alloc)?)
 }
 
 /// The program octcheck with the names of a type and of a value.

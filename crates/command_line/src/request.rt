@@ -26,6 +26,8 @@ pub enum Verb {
     Account,
     /// Lists the types, with what is known of each.
     List,
+    /// Says whether a type of newer modules is a later version of that of older ones.
+    Later,
     /// Judges octets by an account of them.
     Check,
 }
@@ -47,6 +49,8 @@ pub struct Job {
     pub strict: bool,
     /// Whether a fault in a text is shown with the line in which it is.
     pub context: bool,
-    /// The names of the files with the modules' texts, in order.
+    /// The names of the files with the modules' texts, in order; those of the older modules if versions are compared.
     pub files: Vec<String>,
+    /// The names of the files with the newer modules' texts, in order.
+    pub newer: Vec<String>,
 }

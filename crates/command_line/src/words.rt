@@ -4,8 +4,9 @@ ghost use Rattle.std.specs.Prelude.{◌≡◌, ◌↔◌, ℕ, List, IfOk, IfErr
 ghost use Rattle.clap.specs.Words.{found_of, kind_of, rows_of};
 ghost use Rattle.command_line.specs.CommandLine.{asnc_app, octcheck_app, text_in, texts_in, AreOfChecker};
 ghost use Rattle.command_line.specs.CommandLine.{ChecksNoOctets, HasNoOctets, IsAsked, IsBerOf, IsCheck, IsCheckOf};
-ghost use Rattle.command_line.specs.CommandLine.{IsCommand, IsDerOf, IsFaultOf, IsJobOf, IsListOf, IsNoJobOf};
-ghost use Rattle.command_line.specs.CommandLine.{IsNotGiven, IsRefused, IsRefusedBy, IsUnperOf, IsValueJobOf};
+ghost use Rattle.command_line.specs.CommandLine.{IsCommand, IsDerOf, IsFaultOf, IsJobOf, IsLaterOf, IsListOf};
+ghost use Rattle.command_line.specs.CommandLine.{IsNoJobOf, IsNotGiven, IsRefused, IsRefusedBy, IsUnperOf};
+ghost use Rattle.command_line.specs.CommandLine.{IsValueJobOf};
 
 use crate::commands::{asnc_command, octcheck_command};
 use crate::fault::WordsFault;
@@ -61,10 +62,11 @@ fn text_of(alloc: Global, found: &ArgMatches<'_>, id: &str) -> Result<String, Al
     String::from_str(alloc, found.get_str(id).unwrap_or(""))
 }
 
-fn files_of(alloc: Global, found: &ArgMatches<'_>) -> Result<Vec<String>, AllocError>
-    ensures { IfOk result (λ v. map string_bytes v.items ≡ texts_in (rows_of (found_of found.now)) (codes "FILE")) }
+/// The names of the files that were given for an argument.
+fn files_of(alloc: Global, found: &ArgMatches<'_>, id: &str) -> Result<Vec<String>, AllocError>
+    ensures { IfOk result (λ v. map string_bytes v.items ≡ texts_in (rows_of (found_of found.now)) id.now) }
 {
-    match found.get_strs("FILE") {
+    match found.get_strs(id) {
         Some(names) => texts_of(alloc, names),
         None => Ok(Vec::new(alloc)),
     }
@@ -95,7 +97,8 @@ fn der_job(alloc: Global, found: &ArgMatches<'_>) -> Result<Job, AllocError>
         raw,
         strict: false,
         context,
-        files: files_of(alloc, found)?,
+        files: files_of(alloc, found, "FILE")?,
+        newer: Vec::new(alloc),
     })
 }
 
@@ -117,7 +120,8 @@ fn ber_job(alloc: Global, found: &ArgMatches<'_>) -> Result<Job, WordsFault>
         raw: false,
         strict,
         context,
-        files: files_of(alloc, found)?,
+        files: files_of(alloc, found, "FILE")?,
+        newer: Vec::new(alloc),
     })
 }
 
@@ -138,7 +142,8 @@ fn unper_job(alloc: Global, found: &ArgMatches<'_>) -> Result<Job, WordsFault>
         raw: false,
         strict: false,
         context,
-        files: files_of(alloc, found)?,
+        files: files_of(alloc, found, "FILE")?,
+        newer: Vec::new(alloc),
     })
 }
 
@@ -155,7 +160,26 @@ fn list_job(alloc: Global, found: &ArgMatches<'_>) -> Result<Job, AllocError>
         raw: false,
         strict: false,
         context,
-        files: files_of(alloc, found)?,
+        files: files_of(alloc, found, "FILE")?,
+        newer: Vec::new(alloc),
+    })
+}
+
+fn later_job(alloc: Global, found: &ArgMatches<'_>) -> Result<Job, AllocError>
+    ensures { IfOk result (IsLaterOf (rows_of (found_of found.now))) }
+{
+    let context = found.get_flag("context");
+    Ok(Job {
+        verb: Verb::Later,
+        ty: text_of(alloc, found, "type")?,
+        value: String::new(alloc),
+        account: String::new(alloc),
+        octets: Given::Nothing,
+        raw: false,
+        strict: false,
+        context,
+        files: files_of(alloc, found, "FILE")?,
+        newer: files_of(alloc, found, "newer")?,
     })
 }
 
@@ -173,7 +197,8 @@ fn value_job(alloc: Global, found: &ArgMatches<'_>, verb: Verb) -> Result<Job, A
         raw: false,
         strict: false,
         context,
-        files: files_of(alloc, found)?,
+        files: files_of(alloc, found, "FILE")?,
+        newer: Vec::new(alloc),
     })
 }
 
@@ -194,7 +219,8 @@ fn check_job(alloc: Global, found: &ArgMatches<'_>) -> Result<Job, WordsFault>
         raw: false,
         strict: false,
         context,
-        files: files_of(alloc, found)?,
+        files: files_of(alloc, found, "FILE")?,
+        newer: Vec::new(alloc),
     })
 }
 
@@ -213,6 +239,8 @@ fn job_of(alloc: Global, command: &str, found: &ArgMatches<'_>) -> Result<Job, W
         unper_job(alloc, found)
     } else if command == "account" {
         Ok(value_job(alloc, found, Verb::Account)?)
+    } else if command == "later" {
+        Ok(later_job(alloc, found)?)
     } else {
         Ok(der_job(alloc, found)?)
     }

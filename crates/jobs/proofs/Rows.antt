@@ -6,13 +6,16 @@ use Rattle.hex.proofs.OnLiterals.{hex_on_literals}
 use Rattle.asn_base.specs.Types.{Resolved}
 use Rattle.encodings.specs.Rules.{Basic, Distinguished}
 use Rattle.resolve.specs.Program.{Program}
-use Rattle.front_end.specs.Accepted.{Accepted, octets_of}
+use Rattle.front_end.specs.Accepted.{Accepted, AreAccepted, octets_of}
+use Rattle.front_end.specs.declared.fault.FrontFault.{FrontFault}
 use Rattle.asnc.specs.Kits.{IsNotOpened}
 use Rattle.asnc.specs.Packing.{IsPacked}
 use Rattle.asnc.specs.Reading.{IsReadAs}
 use Rattle.asnc.specs.Unpacking.{IsUnpackedAs}
+use Rattle.asnc.specs.Versions.{IsCompared}
 use Rattle.asnc.specs.Writing.{IsAccountOf, IsEncoded}
 use Rattle.messages.specs.declared.fault.Fault.{Fault}
+use Rattle.messages.specs.declared.fault.Fault.TheVariants as faults
 use Rattle.sinks.specs.Sent.{SinkState, SentAll, SentFront}
 use Rattle.command_line.specs.declared.request.Job.{Job}
 use Rattle.command_line.specs.declared.request.Verb.TheVariants as verbs
@@ -20,9 +23,10 @@ use Rattle.check_jobs.specs.Checks.{IsNotChecked, IsVerdictLine}
 use Rattle.check_jobs.specs.Inputs.{line_of, octets_given}
 use Rattle.check_jobs.specs.declared.inputs.Inputs.{Inputs}
 use Rattle.jobs.specs.Done.{IsDone, IsDoneInPart}
-use Rattle.jobs.specs.Outputs.{IsCommandOutput, IsOutput, Prints, PrintsAccount, PrintsBer, PrintsDer, PrintsUnper}
-use Rattle.jobs.specs.Outputs.{PrintsUper, hex_line, rules_if, value_lines}
-use Rattle.jobs.specs.Refusals.{IsCommandRefused, IsNoOutput, Refuses}
+use Rattle.jobs.specs.Outputs.{IsAnswerLine, IsCommandOutput, IsOutput, Prints, PrintsAccount, PrintsBer, PrintsDer}
+use Rattle.jobs.specs.Outputs.{PrintsUnper, PrintsUper, hex_line, rules_if, value_lines, word_of}
+use Rattle.jobs.specs.Refusals.{AreNewerRefused, AreWithoutType, IsCommandRefused, IsNoAnswer, IsNoOutput, LacksType}
+use Rattle.jobs.specs.Refusals.{Refuses}
 
 -- ---- lines
 
@@ -47,6 +51,12 @@ strict = refl
 
 basic : rules_if false ≡ Basic
 basic = refl
+
+later_version : line_of (word_of true) ≡ codes "yes\n"
+later_version = refl
+
+other_version : line_of (word_of false) ≡ codes "no\n"
+other_version = refl
 
 -- ---- what commands print
 
@@ -88,6 +98,19 @@ module _ (p : Program) (s : List Resolved) (job : Job) (out : List ℕ) (r : Pri
   account_line : out ≡ line_of r.text
   account_line = r.output_is
 
+module _ (job : Job) (inputs : Inputs) (yes : Bool) (out : List ℕ) (r : IsAnswerLine job inputs yes out) where
+  older_texts : Accepted (map octets_of inputs.files.items) r.older r.older_types
+  older_texts = r.older_accepted
+
+  newer_texts : Accepted (map octets_of inputs.newer.items) r.newer r.newer_types
+  newer_texts = r.newer_accepted
+
+  later_answer : IsCompared r.older r.older_types r.newer r.newer_types (string_bytes job.ty) yes
+  later_answer = r.compared
+
+  later_line : out ≡ line_of (word_of yes)
+  later_line = r.output_is
+
 -- ---- jobs
 
 module _ (job : Job) (inputs : Inputs) (out : List ℕ) (r : IsCommandOutput job inputs out) where
@@ -101,10 +124,13 @@ module _ (job : Job) (inputs : Inputs) (yes : Bool) (out : List ℕ) (r : IsOutp
   output_of_a_check : job.verb ≡ verbs.Check → IsVerdictLine job inputs yes out
   output_of_a_check = r.check
 
-  output_of_a_command : (job.verb ≡ verbs.Check → ⊥) → IsCommandOutput job inputs out
+  output_of_later : job.verb ≡ verbs.Later → IsAnswerLine job inputs yes out
+  output_of_later = r.later
+
+  output_of_a_command : (job.verb ≡ verbs.Check → ⊥) → (job.verb ≡ verbs.Later → ⊥) → IsCommandOutput job inputs out
   output_of_a_command = r.command
 
-  answer_of_a_command : (job.verb ≡ verbs.Check → ⊥) → yes ≡ true
+  answer_of_a_command : (job.verb ≡ verbs.Check → ⊥) → (job.verb ≡ verbs.Later → ⊥) → yes ≡ true
   answer_of_a_command = r.no_no
 
 module _ (job : Job) (inputs : Inputs) (e : Fault) (r : IsCommandRefused job inputs e) where
@@ -118,9 +144,31 @@ module _ (job : Job) (inputs : Inputs) (e : Fault) (r : IsNoOutput job inputs e)
   no_verdict : job.verb ≡ verbs.Check → IsNotChecked job inputs e
   no_verdict = r.check
 
+  no_answer : job.verb ≡ verbs.Later
+      → IsNoAnswer (map octets_of inputs.files.items) (map octets_of inputs.newer.items) (string_bytes job.ty) e
+  no_answer = r.later
+
   no_output : (job.verb ≡ verbs.Check → ⊥)
+      → (job.verb ≡ verbs.Later → ⊥)
       → IsNotOpened (map octets_of inputs.files.items) e ⊎ IsCommandRefused job inputs e
   no_output = r.command
+
+module _ (older newer : List (List ℕ)) (f : FrontFault) (r : AreNewerRefused older newer f) where
+  older_are_accepted : AreAccepted older r.program
+  older_are_accepted = r.accepted
+
+  newer_are_refused : IsNotOpened newer (faults.Front f)
+  newer_are_refused = r.refused
+
+module _ (older newer : List (List ℕ)) (name : List ℕ) (e : Fault) (r : AreWithoutType older newer name e) where
+  older_have_no_type : AreAccepted older r.program
+  older_have_no_type = r.accepted
+
+  newer_have_no_type : AreAccepted newer r.newer_program
+  newer_have_no_type = r.newer_accepted
+
+  name_lacks : LacksType r.program r.newer_program name e
+  name_lacks = r.lacks
 
 module _ (job : Job) (inputs : Inputs) (yes : Bool) (a b : SinkState) (r : IsDone job inputs yes a b) where
   done_output : IsOutput job inputs yes r.output

@@ -9,6 +9,7 @@ use Rattle.front_end.specs.Accepted.{Accepted, octets_of}
 use Rattle.asnc.specs.Packing.{IsPacked}
 use Rattle.asnc.specs.Reading.{IsReadAs}
 use Rattle.asnc.specs.Unpacking.{IsUnpackedAs}
+use Rattle.asnc.specs.Versions.{IsCompared}
 use Rattle.asnc.specs.Writing.{IsAccountOf, IsEncoded}
 use Rattle.command_line.specs.declared.request.Job.{Job}
 use Rattle.command_line.specs.declared.request.Verb.{Verb}
@@ -24,6 +25,11 @@ hex_line octets = line_of (encode_upper octets)
 -- a printed value, and the number of skipped additions, a line each
 abbrev pub value_lines : List ℕ → ℕ → List ℕ
 value_lines printed k = line_of (printed ++ (codes "\nskipped " ++ decimal k))
+
+-- the word of an answer
+abbrev pub word_of : Bool → List ℕ
+word_of true = codes "yes"
+word_of false = codes "no"
 
 -- the rules by which octets are read: with `--strict` the distinguished ones
 abbrev pub rules_if : Bool → Rules
@@ -68,7 +74,7 @@ pub record PrintsAccount (p : Program) (s : List Resolved) (job : Job) (output :
   pub output_is : output ≡ line_of text
 
 -- What a command of asnc prints in a program with its types. `octets` are those that the job gives. Nothing is said of
--- the text that `list` prints, which is for people. The other program has the command `check`.
+-- the text that `list` prints, which is for people. `later` needs two programs, and `check` is of octcheck.
 abbrev pub Prints : Verb → Program → List Resolved → Job → (octets output : List ℕ) → Type 0
 Prints verbs.Der p s job octets output = PrintsDer p s job output
 Prints verbs.Ber p s job octets output = PrintsBer p s job octets output
@@ -76,6 +82,7 @@ Prints verbs.Uper p s job octets output = PrintsUper p s job output
 Prints verbs.Unper p s job octets output = PrintsUnper p s job octets output
 Prints verbs.Account p s job octets output = PrintsAccount p s job output
 Prints verbs.List p s job octets output = ⊤
+Prints verbs.Later p s job octets output = ⊥
 Prints verbs.Check p s job octets output = ⊥
 
 -- The texts of the job's files are accepted, as this program with these types, and the output is what the command
@@ -86,8 +93,24 @@ pub record IsCommandOutput (job : Job) (inputs : Inputs) (output : List ℕ) : T
   pub accepted : Accepted (map octets_of inputs.files.items) program types
   pub prints : Prints job.verb program types job (octets_given job.octets inputs.octets) output
 
--- The output is what the job asks for. `yes` is false if and only if that is a `no` of octcheck.
+-- `later` prints whether the newer texts' type of the job's name is a later version of the older texts' one (X.680,
+-- clauses 7, 20, 25 and 29): a line of `yes`, or of `no` if `yes` is false.
+pub record IsAnswerLine (job : Job) (inputs : Inputs) (yes : Bool) (output : List ℕ) : Type 0 where
+  pub older : Program
+  pub older_types : List Resolved
+  -- the texts of the job's files are accepted, as the older program
+  pub older_accepted : Accepted (map octets_of inputs.files.items) older older_types
+  pub newer : Program
+  pub newer_types : List Resolved
+  -- the texts of its newer files are accepted, as the newer program
+  pub newer_accepted : Accepted (map octets_of inputs.newer.items) newer newer_types
+  -- the name finds a type in each; the answer is yes exactly if the newer one is a later version of the older one
+  pub compared : IsCompared older older_types newer newer_types (string_bytes job.ty) yes
+  pub output_is : output ≡ line_of (word_of yes)
+
+-- The output is what the job asks for. `yes` is false if and only if that is a `no` of octcheck or of `later`.
 pub record IsOutput (job : Job) (inputs : Inputs) (yes : Bool) (output : List ℕ) : Type 0 where
   pub check : job.verb ≡ verbs.Check → IsVerdictLine job inputs yes output
-  pub command : (job.verb ≡ verbs.Check → ⊥) → IsCommandOutput job inputs output
-  pub no_no : (job.verb ≡ verbs.Check → ⊥) → yes ≡ true
+  pub later : job.verb ≡ verbs.Later → IsAnswerLine job inputs yes output
+  pub command : (job.verb ≡ verbs.Check → ⊥) → (job.verb ≡ verbs.Later → ⊥) → IsCommandOutput job inputs output
+  pub no_no : (job.verb ≡ verbs.Check → ⊥) → (job.verb ≡ verbs.Later → ⊥) → yes ≡ true

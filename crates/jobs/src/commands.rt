@@ -5,7 +5,7 @@ ghost use Rattle.asnc.specs.Packing.{IsNotPacked};
 ghost use Rattle.asnc.specs.Reading.{IsNotReadAs, rules_of};
 ghost use Rattle.asnc.specs.Unpacking.{IsNotUnpackedAs};
 ghost use Rattle.asnc.specs.Writing.{IsNotEncoded};
-ghost use Rattle.command_line.specs.declared.request.Verb.TheVariants.{Check};
+ghost use Rattle.command_line.specs.declared.request.Verb.TheVariants.{Check, Later};
 ghost use Rattle.jobs.specs.Outputs.{hex_line, rules_if, value_lines, Prints};
 ghost use Rattle.jobs.specs.Outputs.{PrintsAccount, PrintsBer, PrintsDer, PrintsUnper, PrintsUper};
 ghost use Rattle.jobs.specs.Refusals.{Refuses};
@@ -144,6 +144,7 @@ pub(crate) fn command_output(
     octets: &[u8],
 ) -> Result<Vec<u8>, Fault>
     requires asnc { job.now.verb ≡ Check → ⊥ }
+    requires one { job.now.verb ≡ Later → ⊥ }
     ensures printed { IfOk result (λ v.
         Prints job.now.verb kit.now.program kit.now.types job.now octets.now v.items) }
     ensures refused { IfErr result
@@ -156,6 +157,7 @@ pub(crate) fn command_output(
         Verb::Unper => unper(alloc, kit, job, octets),
         Verb::Account => account(alloc, kit, job),
         Verb::List => list(alloc, kit),
+        Verb::Later => unreachable!(),
         Verb::Check => unreachable!(),
     }
 }

@@ -3,6 +3,7 @@
 
 mod commands;
 mod outputs;
+mod versions;
 
 pub use check_jobs::{Inputs, Output};
 pub use outputs::{output, work};

@@ -1,7 +1,7 @@
 //! A job, from its inputs to a sink.
 
 ghost use Rattle.std.specs.Prelude.{◌≡◌, ◌<◌, ℕ, IfOk, IfErr};
-ghost use Rattle.command_line.specs.declared.request.Verb.TheVariants.{Check};
+ghost use Rattle.command_line.specs.declared.request.Verb.TheVariants.{Check, Later};
 ghost use Rattle.jobs.specs.Done.{IsDone, IsDoneInPart};
 ghost use Rattle.jobs.specs.Outputs.{IsCommandOutput, IsOutput};
 ghost use Rattle.jobs.specs.Refusals.{IsCommandRefused, IsNoOutput};
@@ -9,6 +9,7 @@ ghost use Rattle.messages.specs.declared.fault.Fault.TheVariants.{Device};
 ghost use Rattle.sinks.specs.Sent.{state};
 
 use crate::commands::command_output;
+use crate::versions::later_output;
 use asnc::Kit;
 use check_jobs::{Inputs, Output, check_output};
 use command_line::{Job, Verb};
@@ -16,9 +17,10 @@ use messages::Fault;
 use sinks::{Sink, send_all};
 use std::alloc::Global;
 
-/// What a job of asnc prints.
+/// What a job of asnc prints, if it needs one program.
 fn asnc_output(alloc: Global, job: &Job, inputs: &Inputs) -> Result<Output, Fault>
     requires asnc { job.now.verb ≡ Check → ⊥ }
+    requires one { job.now.verb ≡ Later → ⊥ }
     ensures printed { IfOk result (λ o. IsOutput job.now inputs.now o.yes o.octets.items) }
     ensures refused { IfErr result (IsNoOutput job.now inputs.now) }
 {
@@ -37,10 +39,12 @@ fn asnc_output(alloc: Global, job: &Job, inputs: &Inputs) -> Result<Output, Faul
 /// - `der`, `uper`: octets in hexadecimal digits of upper case and a line end; with `--raw` the octets alone.
 /// - `ber`, `unper`: the printed value, a line end, `skipped`, the number of skipped additions, and a line end.
 /// - `account`: the text of the account and a line end. `list`: the listing.
-/// - `octcheck`: `yes`, or `no` and the first reason, and a line end.
+/// - `later`: `yes` or `no`, and a line end. `octcheck`: `yes`, or `no` and the first reason, and a line end.
 ///
 /// The faults are those of [`Kit::open`] for the texts, and then those of the command's call of [`Kit`]; for octcheck
-/// they are those of [`judging::judge`]. `Memory` comes too if an allocation fails.
+/// they are those of [`judging::judge`]. Of `later` they are those of the older texts, then `Newer` for those of the newer
+/// texts, then `NoType` or `NoNewerType` if the name finds no type in the older or in the newer ones. `Memory` comes too
+/// if an allocation fails.
 pub fn output(alloc: Global, job: &Job, inputs: &Inputs) -> Result<Output, Fault>
     // The output is exactly what the job asks for.
     ensures printed { IfOk result (λ o. IsOutput job.now inputs.now o.yes o.octets.items) }
@@ -50,6 +54,10 @@ pub fn output(alloc: Global, job: &Job, inputs: &Inputs) -> Result<Output, Fault
     match job.verb {
         Verb::Check => match check_output(alloc, job, inputs) {
             Ok(output) => Ok(output),
+            Err(fault) => Err(fault),
+        },
+        Verb::Later => match later_output(alloc, job, inputs) {
+            Ok(answer) => Ok(answer),
             Err(fault) => Err(fault),
         },
         _ => asnc_output(alloc, job, inputs),

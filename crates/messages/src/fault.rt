@@ -57,9 +57,15 @@ pub enum Fault {
     /// The texts are not accepted.
     #[error("error {0}")]
     Front(FrontFault),
+    /// The newer texts are not accepted, where versions are compared.
+    #[error("error {0}")]
+    Newer(FrontFault),
     /// The name of a type, as the caller wrote it, that no module has.
     #[error("error 31 UnknownName: {0}")]
     NoType(String),
+    /// The name of a type, as the caller wrote it, that no newer module has, where versions are compared.
+    #[error("error 31 UnknownName: {0}")]
+    NoNewerType(String),
     /// The name of a value, as the caller wrote it, that no module has.
     #[error("error 31 UnknownName: {0}")]
     NoValue(String),

@@ -12,13 +12,13 @@ use std::process::ExitCode;
 fn run(rt: &HostRuntime, job: &Job) -> ExitCode {
     let inputs = match inputs_of(rt, job) {
         Ok(inputs) => inputs,
-        Err(fault) => return end_in(rt, job, &[], &fault),
+        Err(fault) => return end_in(rt, job, &[], &[], &fault),
     };
     let mut out = Counted::of(io::writer(rt));
     match check(rt.alloc(), job, &inputs, &mut out) {
         Ok(true) => ExitCode::SUCCESS,
         Ok(false) => ExitCode::from(1),
-        Err(fault) => end_in(rt, job, inputs.files.as_slice(), &fault),
+        Err(fault) => end_in(rt, job, &inputs.files, &[], &fault),
     }
 }
 

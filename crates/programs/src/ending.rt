@@ -29,12 +29,18 @@ pub fn end(rt: &HostRuntime, fault: &Fault) -> ExitCode
     }
 }
 
-/// Writes a fault that a job met, in its files or in their texts, and returns the exit status; 3 if it can't be
-/// written.
-pub fn end_in(rt: &HostRuntime, job: &Job, texts: &[Vec<u8>], fault: &Fault) -> ExitCode
+/// Writes a fault that a job met, in its files, in their texts or in the newer texts, and returns the exit status; 3 if
+/// it can't be written.
+pub fn end_in(
+    rt: &HostRuntime,
+    job: &Job,
+    texts: &[Vec<u8>],
+    newer: &[Vec<u8>],
+    fault: &Fault,
+) -> ExitCode
     ensures { (exit_status result ≡ status_of (number_of fault.now)) ⊎ (exit_status result ≡ 3) }
 {
-    match report(rt.alloc(), job, texts, fault) {
+    match report(rt.alloc(), job, texts, newer, fault) {
         Ok(line) => match eprintln!(rt; "{line}") {
             Ok(()) => ExitCode::from(status(fault)),
             Err(_) => ExitCode::from(3),

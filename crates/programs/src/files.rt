@@ -45,22 +45,27 @@ fn text_of(rt: &HostRuntime, file: &str) -> io::Result<Vec<u8>> {
     }
 }
 
+/// How many of the files are standard input.
+fn inputs_in(files: &[String]) -> usize {
+    files.iter().filter(|file| file.as_str() == "-").count()
+}
+
 /// Checks that standard input is not to be read twice; the error is `BadWords`.
-fn check_input(rt: &HostRuntime, files: &[String]) -> Result<(), Fault> {
-    if files.iter().filter(|file| file.as_str() == "-").count() > 1 {
+fn check_input(rt: &HostRuntime, job: &Job) -> Result<(), Fault> {
+    let count = inputs_in(job.files.as_slice());
+    if count.saturating_add(inputs_in(job.newer.as_slice())) > 1 {
         let words = String::from_str(rt.alloc(), "standard input, -, can be one FILE alone")?;
         return Err(Fault::BadWords(words));
     }
     Ok(())
 }
 
-/// The texts of a job's files, in order: as many as there are files.
-fn texts_of(rt: &HostRuntime, job: &Job) -> Result<Vec<Vec<u8>>, Fault>
-    ensures { IfOk result (λ v. length v.items ≡ length job.now.files.items) }
+/// The texts of files, in order: as many as there are files.
+fn texts_of(rt: &HostRuntime, files: &[String]) -> Result<Vec<Vec<u8>>, Fault>
+    ensures { IfOk result (λ v. length v.items ≡ length files.now) }
 {
-    check_input(rt, job.files.as_slice())?;
     let mut texts = Vec::new(rt.alloc());
-    for file in &job.files {
+    for file in files {
         match text_of(rt, file.as_str()) {
             Ok(text) => texts.push(text)?,
             Err(error) => return Err(file_fault(file.clone()?, error)),
@@ -90,7 +95,7 @@ fn account_of(rt: &HostRuntime, job: &Job) -> Result<Option<Vec<u8>>, Fault>
     }
 }
 
-/// Reads the files that a job names: its octets, its account, and the texts of its modules.
+/// Reads the files that a job names: its octets, its account, the texts of its modules, and those of its newer modules.
 ///
 /// `File`, `NoFile`, `Folder`: a file can't be read. `BadWords`: standard input would be read twice. `Memory`: an
 /// allocation failed.
@@ -99,9 +104,12 @@ pub fn inputs_of(rt: &HostRuntime, job: &Job) -> Result<Inputs, Fault>
 {
     let octets = octets_of(rt, job)?;
     let account = account_of(rt, job)?;
-    let files = texts_of(rt, job)?;
+    check_input(rt, job)?;
+    let files = texts_of(rt, job.files.as_slice())?;
+    let newer = texts_of(rt, job.newer.as_slice())?;
     Ok(Inputs {
         files,
+        newer,
         octets,
         account,
     })

@@ -227,6 +227,14 @@ x
     error 90 Truncated at bit 17
 2 1 error 2 Limit(Message): a message has at most 16777216 octets | \
     error 2 Limit(Message): a message has at most 16777216 octets
+31 1 error 31 UnknownName: in the newer texts, w\\u{A}x names no module: a type is named as MODULE, a dot, and its name \
+    | error 31 UnknownName: w
+x
+10 1 error 10 NotUtf8: n.asn:1:39: found octets that are not UTF-8, expected UTF-8 | error 10 NotUtf8 at 38
+21 1 error 21 OutOfProfile w: n.asn:1:39: found w, which this compiler does not support | \
+    error 21 OutOfProfile at token 7
+33 1 error 33 Circular: n.asn:1:39: found 'w' in w, which leads back to itself and is the end of a range, expected a \
+    number | error 33 Circular: M.w
 ";
 
 /// The module in the file m.asn.
@@ -452,8 +460,23 @@ fn front_fault(alloc: Global, number: usize) -> Result<Option<FrontFault>, Fail>
     }
 }
 
-/// The fault with a number below 109 in this table.
+/// The faults of newer texts, by number.
+fn newer_fault(alloc: Global, number: usize) -> Result<Option<Fault>, Fail> {
+    let fault = match number {
+        109 => Fault::NoNewerType(String::from_str(alloc, "w\nx")?),
+        110 => Fault::Newer(FrontFault::Text(0, LexFault::NotUtf8(PLACE))),
+        111 => Fault::Newer(FrontFault::Tree(0, SyntaxFault::OutOfProfile(7))),
+        112 => Fault::Newer(FrontFault::Bound(BoundFault::Circular(here(alloc)?))),
+        _ => return Ok(None),
+    };
+    Ok(Some(fault))
+}
+
+/// The fault with a number below 113 in this table.
 fn fault_of(alloc: Global, number: usize) -> Result<Fault, Fail> {
+    if let Some(fault) = newer_fault(alloc, number)? {
+        return Ok(fault);
+    }
     if let Some(stop) = stop(number) {
         return Ok(Fault::NotAccount(stop));
     }
@@ -500,6 +523,7 @@ fn job(alloc: Global) -> Result<Job, AllocError> {
         strict: false,
         context: false,
         files: vec![in alloc; String::from_str(alloc, "m.asn")?]?,
+        newer: vec![in alloc; String::from_str(alloc, "n.asn")?]?,
     })
 }
 
@@ -509,9 +533,9 @@ fn told_of_faults(rt: HostRuntime) -> Result<(), Fail> {
     let job = job(alloc)?;
     let texts = vec![in alloc; Vec::from_slice(alloc, TEXT.as_bytes())?]?;
     let mut told = String::new(alloc);
-    for index in 0..109 {
+    for index in 0..113 {
         let fault = fault_of(alloc, index)?;
-        let line = report(alloc, &job, texts.as_slice(), &fault)?;
+        let line = report(alloc, &job, texts.as_slice(), texts.as_slice(), &fault)?;
         let (number, status) = (number(&fault), status(&fault));
         let part = format!(in alloc; "{number} {status} {line} | {fault}\n")?;
         told.push_str(part.as_str())?;

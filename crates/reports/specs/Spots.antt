@@ -1,5 +1,6 @@
--- Where a fault is: at an octet of a text, at a token of one, or at an octet of the text of a module that it names.
-use Rattle.std.specs.Prelude.{ℕ, Option, None, Some, option_map}
+-- Where a fault is: in the older or the newer texts, at an octet of a text, at a token of one, or at an octet of the text
+-- of a module that it names.
+use Rattle.std.specs.Prelude.{ℕ, Bool, true, false, Option, None, Some, option_map}
 use Rattle.trees.specs.declared.place.Spot.{Spot}
 use Rattle.text.specs.declared.fault.LexFault.{LexFault}
 use Rattle.text.specs.declared.fault.LexFault.TheVariants as texts
@@ -65,8 +66,17 @@ front_spot (fronts.Assigned t) = Some t.spot
 
 abbrev pub spot_of : Fault → Option Spot
 spot_of (faults.Front f) = front_spot f
+spot_of (faults.Newer f) = front_spot f
 spot_of (faults.Value t) = Some t.spot
 spot_of fault = None
+
+-- ---- the texts
+
+-- whether a fault is one of the newer texts, where versions are compared
+abbrev pub is_newer : Fault → Bool
+is_newer (faults.Newer f) = true
+is_newer (faults.NoNewerType name) = true
+is_newer fault = false
 
 -- ---- the text, the octet or the token
 
@@ -75,9 +85,10 @@ front_text (fronts.Text k f) = Some k
 front_text (fronts.Tree k f) = Some k
 front_text fault = None
 
--- the number of the text whose octets or tokens are at fault
+-- the number of the text whose octets or tokens are at fault, among the texts of `is_newer`
 abbrev pub text_of : Fault → Option ℕ
 text_of (faults.Front f) = front_text f
+text_of (faults.Newer f) = front_text f
 text_of fault = None
 
 abbrev pub lex_octet : LexFault → Option ℕ
@@ -100,6 +111,7 @@ front_octet fault = place_in (front_spot fault)
 -- the octet of its text at which a fault is, if it isn't a fault of tokens
 abbrev pub octet_of : Fault → Option ℕ
 octet_of (faults.Front f) = front_octet f
+octet_of (faults.Newer f) = front_octet f
 octet_of fault = place_in (spot_of fault)
 
 abbrev pub tree_token : SyntaxFault → Option ℕ
@@ -115,4 +127,5 @@ front_token fault = None
 -- the token of its text at which a fault of tokens is
 abbrev pub token_of : Fault → Option ℕ
 token_of (faults.Front f) = front_token f
+token_of (faults.Newer f) = front_token f
 token_of fault = None

@@ -66,7 +66,11 @@ fn text_of_spot(
     spot: &Spot,
 ) -> Result<Option<usize>, AllocError> {
     let first = module_text(alloc, texts, 0, spot.module.as_str())?;
-    let is_twice = matches!(fault, Fault::Front(FrontFault::Name(NameFault::Twice(_))));
+    let is_twice = matches!(
+        fault,
+        Fault::Front(FrontFault::Name(NameFault::Twice(_)))
+            | Fault::Newer(FrontFault::Name(NameFault::Twice(_)))
+    );
     match first {
         Some(number) if is_twice && spot.module.as_str() == spot.name.as_str() => {
             let behind = number.saturating_add(1);
@@ -92,7 +96,7 @@ pub(crate) fn text_number(
         return text_of_spot(alloc, texts, fault, spot);
     }
     match fault {
-        Fault::NoType(name) | Fault::NoValue(name) => {
+        Fault::NoType(name) | Fault::NoNewerType(name) | Fault::NoValue(name) => {
             let (module, _) = parts(name.as_str());
             module_text(alloc, texts, 0, module)
         }

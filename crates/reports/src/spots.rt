@@ -1,11 +1,12 @@
 //! The place of a fault, as the fault gives it.
 
-ghost use Rattle.std.specs.Prelude.{◌≡◌, option_map};
+ghost use Rattle.std.specs.Prelude.{◌≡◌, false, option_map, true};
 ghost use Rattle.reports.specs.Spots.{addition_spot, bound_spot, front_spot, name_spot, spot_of, tag_spot};
-ghost use Rattle.reports.specs.Spots.{front_octet, front_text, front_token, lex_octet};
+ghost use Rattle.reports.specs.Spots.{front_octet, front_text, front_token, is_newer, lex_octet};
 ghost use Rattle.reports.specs.Spots.{octet_of, text_of, token_of, tree_token};
 
 use additions::ExtFault;
+use command_line::Job;
 use constraints::BoundFault;
 use front_end::FrontFault;
 use messages::Fault;
@@ -76,19 +77,62 @@ pub(crate) fn spot(fault: &Fault) -> Option<&Spot>
     ensures { option_map (λ s. s.now) result ≡ spot_of fault.now }
 {
     match fault {
-        Fault::Front(inner) => of_front(inner),
+        Fault::Front(inner) | Fault::Newer(inner) => of_front(inner),
         Fault::Value(told) => Some(&told.spot),
         _ => None,
     }
 }
 
-/// The number of the text whose octets or tokens are at fault.
+/// Whether a fault is one of the newer texts, where versions are compared.
+pub(crate) fn is_of_newer(fault: &Fault) -> bool
+    ensures { result ≡ is_newer fault.now }
+{
+    match fault {
+        Fault::Newer(_) | Fault::NoNewerType(_) => true,
+        _ => false,
+    }
+}
+
+/// The names of the files of the texts that have a fault: those of the newer modules, or the others.
+pub(crate) fn names_at<'a>(job: &'a Job, fault: &Fault) -> &'a [String]
+    ensures newer { is_newer fault.now ≡ true → result.now ≡ job.now.newer.items }
+    ensures others { is_newer fault.now ≡ false → result.now ≡ job.now.files.items }
+{
+    if is_of_newer(fault) {
+        job.newer.as_slice()
+    } else {
+        job.files.as_slice()
+    }
+}
+
+/// The texts that have a fault: those of the newer modules, or the others.
+pub(crate) fn texts_at<'a>(
+    texts: &'a [Vec<u8>],
+    newer: &'a [Vec<u8>],
+    fault: &Fault,
+) -> &'a [Vec<u8>]
+    ensures newer { is_newer fault.now ≡ true → result.now ≡ newer.now }
+    ensures others { is_newer fault.now ≡ false → result.now ≡ texts.now }
+{
+    if is_of_newer(fault) { newer } else { texts }
+}
+
+fn text_in(fault: &FrontFault) -> Option<usize>
+    ensures { result ≡ front_text fault.now }
+{
+    match fault {
+        FrontFault::Text(number, _) => Some(*number),
+        FrontFault::Tree(number, _) => Some(*number),
+        _ => None,
+    }
+}
+
+/// The number of the text whose octets or tokens are at fault, among those of [`texts_at`].
 pub(crate) fn text_told(fault: &Fault) -> Option<usize>
     ensures { result ≡ text_of fault.now }
 {
     match fault {
-        Fault::Front(FrontFault::Text(number, _)) => Some(*number),
-        Fault::Front(FrontFault::Tree(number, _)) => Some(*number),
+        Fault::Front(inner) | Fault::Newer(inner) => text_in(inner),
         _ => None,
     }
 }
@@ -115,16 +159,35 @@ fn of_tokens(fault: &SyntaxFault) -> Option<usize>
     }
 }
 
+fn octet_at(fault: &FrontFault) -> Option<usize>
+    ensures { result ≡ front_octet fault.now }
+{
+    match fault {
+        FrontFault::Text(_, inner) => of_octets(inner),
+        other => match of_front(other) {
+            Some(spot) => Some(spot.at),
+            None => None,
+        },
+    }
+}
+
 /// The octet of its text, counted from 0, at which a fault of the octets or of the names is.
 pub(crate) fn octet_told(fault: &Fault) -> Option<usize>
     ensures { result ≡ octet_of fault.now }
 {
     match fault {
-        Fault::Front(FrontFault::Text(_, inner)) => of_octets(inner),
-        other => match spot(other) {
-            Some(spot) => Some(spot.at),
-            None => None,
-        },
+        Fault::Front(inner) | Fault::Newer(inner) => octet_at(inner),
+        Fault::Value(told) => Some(told.spot.at),
+        _ => None,
+    }
+}
+
+fn token_at(fault: &FrontFault) -> Option<usize>
+    ensures { result ≡ front_token fault.now }
+{
+    match fault {
+        FrontFault::Tree(_, inner) => of_tokens(inner),
+        _ => None,
     }
 }
 
@@ -133,7 +196,7 @@ pub(crate) fn token_told(fault: &Fault) -> Option<usize>
     ensures { result ≡ token_of fault.now }
 {
     match fault {
-        Fault::Front(FrontFault::Tree(_, inner)) => of_tokens(inner),
+        Fault::Front(inner) | Fault::Newer(inner) => token_at(inner),
         _ => None,
     }
 }

@@ -11,6 +11,7 @@ use crate::of_readings::{of_unread, of_unread_bits};
 use crate::of_texts::{left_out, of_octets, of_tokens};
 use crate::of_types::{of_additions, of_bounds, of_tags};
 use crate::of_values::of_value;
+use crate::spots::{names_at, texts_at};
 use command_line::Job;
 use front_end::FrontFault;
 use messages::Fault;
@@ -20,10 +21,12 @@ use std::alloc::{AllocError, Global};
 /// What follows the name of a fault: the construct that this compiler leaves out. The result is empty for another
 /// fault.
 fn construct(alloc: Global, text: &[u8], fault: &Fault) -> Result<String, AllocError> {
-    let Fault::Front(FrontFault::Tree(_, inner)) = fault else {
-        return Ok(String::new(alloc));
+    let spelled = match fault {
+        Fault::Front(FrontFault::Tree(_, inner)) | Fault::Newer(FrontFault::Tree(_, inner)) => {
+            left_out(alloc, text, inner)?
+        }
+        _ => return Ok(String::new(alloc)),
     };
-    let spelled = left_out(alloc, text, inner)?;
     if spelled.is_empty() {
         return Ok(spelled);
     }
@@ -50,6 +53,16 @@ fn of_front(
     }
 }
 
+/// The words for the name of a type that the newer texts lack.
+fn of_no_newer_type(
+    alloc: Global,
+    texts: &[Vec<u8>],
+    name: &str,
+) -> Result<String, AllocError> {
+    let words = of_no_name(alloc, texts, name, false)?;
+    format!(in alloc; "in the newer texts, {words}")
+}
+
 /// The words of a fault.
 fn sentence(
     alloc: Global,
@@ -58,12 +71,13 @@ fn sentence(
     fault: &Fault,
 ) -> Result<String, AllocError> {
     match fault {
-        Fault::Front(inner) => of_front(alloc, texts, text, inner),
+        Fault::Front(inner) | Fault::Newer(inner) => of_front(alloc, texts, text, inner),
         Fault::Value(told) => {
             let under = ", under the type that was asked for";
             of_value(alloc, texts, text, told, under)
         }
         Fault::NoType(name) => of_no_name(alloc, texts, name.as_str(), false),
+        Fault::NoNewerType(name) => of_no_newer_type(alloc, texts, name.as_str()),
         Fault::NoValue(name) => of_no_name(alloc, texts, name.as_str(), true),
         Fault::TooLong => String::from_str(alloc, "the encoding has more than 16777216 octets"),
         Fault::Unread(unread) => of_unread(alloc, unread),
@@ -80,8 +94,8 @@ fn sentence(
 }
 
 /// The name of the file that holds a text, as a message shows it.
-fn file_of(alloc: Global, job: &Job, number: usize) -> Result<String, AllocError> {
-    match job.files.get(number) {
+fn file_of(alloc: Global, names: &[String], number: usize) -> Result<String, AllocError> {
+    match names.get(number) {
         Some(file) => escaped(alloc, file.as_str()),
         None => String::from_str(alloc, "a text"),
     }
@@ -108,7 +122,7 @@ fn after_heading(
     };
     let words = sentence(alloc, texts, text, fault)?;
     let what = construct(alloc, text, fault)?;
-    let file = file_of(alloc, job, number)?;
+    let file = file_of(alloc, names_at(job, fault), number)?;
     let Some(octet) = octet_in(alloc, text, fault)? else {
         let line = format!(in alloc; "{what}: {file}: {words}")?;
         return on_one_line(alloc, line.as_str());
@@ -122,7 +136,8 @@ fn after_heading(
     Ok(told)
 }
 
-/// One line that reports a fault that a job met in the texts of its files.
+/// One line that reports a fault that a job met in the texts of its files. `texts` are those of the job's `files`, and
+/// `newer` those of its `newer` ones.
 ///
 /// An example is `error 20 Unexpected: m.asn:3:14: found '}', expected a type`. The parts are the number and the name
 /// of the fault, the file, the line and the column of the place, and what was found and expected there. Line and column
@@ -137,12 +152,13 @@ pub fn report(
     alloc: Global,
     job: &Job,
     texts: &[Vec<u8>],
+    newer: &[Vec<u8>],
     fault: &Fault,
 ) -> Result<String, AllocError>
     ensures { IfOk result (λ s. Begins (heading_of fault.now) (string_bytes s)) }
 {
     let mut told = heading(alloc, fault)?;
-    let rest = after_heading(alloc, job, texts, fault)?;
+    let rest = after_heading(alloc, job, texts_at(texts, newer, fault), fault)?;
     told.push_str(rest.as_str())?;
     Ok(told)
 }

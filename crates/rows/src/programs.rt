@@ -61,7 +61,7 @@ fn outcome(alloc: Global, asked: &Asked) -> Result<String, AllocError> {
     match output(alloc, &asked.job, &asked.inputs) {
         Ok(output) => printed(alloc, output.octets.as_slice()),
         Err(fault) => {
-            let line = report(alloc, &asked.job, asked.texts(), &fault)?;
+            let line = report(alloc, &asked.job, asked.texts(), asked.newer(), &fault)?;
             let status = status(&fault);
             format!(in alloc; "status {status}: {line}")
         }
@@ -110,9 +110,11 @@ pub fn line(alloc: Global, row: &Row) -> Result<String, Refusal> {
         strict: false,
         context: row.has("caret"),
         files: names_of(alloc, row.texts.as_slice())?,
+        newer: Vec::new(alloc),
     };
     let inputs = Inputs {
         files: texts_of(alloc, row)?,
+        newer: Vec::new(alloc),
         octets: None,
         account: None,
     };
@@ -151,6 +153,11 @@ impl Asked {
         self.inputs.files.as_slice()
     }
 
+    /// The texts of the job's newer modules.
+    pub fn newer(&self) -> &[Vec<u8>] {
+        self.inputs.newer.as_slice()
+    }
+
     /// The octets that the job gives.
     pub fn octets(&self) -> &[u8] {
         self.inputs.octets_of(&self.job)
@@ -167,8 +174,10 @@ fn named_in(alloc: Global, row: &Row, job: Job) -> Result<Asked, Fault> {
     let octets = given_in(row, &job.octets)?;
     let account = account_in(row, &job)?;
     let files = octets_in(alloc, row, job.files.as_slice())?;
+    let newer = octets_in(alloc, row, job.newer.as_slice())?;
     let inputs = Inputs {
         files,
+        newer,
         octets,
         account,
     };
@@ -191,6 +200,15 @@ pub fn run(alloc: Global, row: &Row, program: &str) -> Result<String, Refusal> {
     Ok(outcome(alloc, &asked)?)
 }
 
+/// Adds a line for each file of newer modules.
+fn push_newer(alloc: Global, text: &mut String, newer: &[String]) -> Result<(), AllocError> {
+    for file in newer {
+        let line = format!(in alloc; "\nnewer file {file}")?;
+        text.push_str(line.as_str())?;
+    }
+    Ok(())
+}
+
 /// `job NAME WORD..` and `octjob NAME WORD..`: the job of asnc or octcheck for these words, a line for each part.
 pub fn job_of(alloc: Global, row: &Row, program: &str) -> Result<String, Refusal> {
     let job = job_in(alloc, row, program)?;
@@ -201,6 +219,7 @@ pub fn job_of(alloc: Global, row: &Row, program: &str) -> Result<String, Refusal
         Verb::Unper => "unper",
         Verb::Account => "account",
         Verb::List => "list",
+        Verb::Later => "later",
         Verb::Check => "check",
     };
     let octets = match job.octets {
@@ -217,5 +236,6 @@ pub fn job_of(alloc: Global, row: &Row, program: &str) -> Result<String, Refusal
         let line = format!(in alloc; "\nfile {file}")?;
         text.push_str(line.as_str())?;
     }
+    push_newer(alloc, &mut text, job.newer.as_slice())?;
     Ok(text)
 }

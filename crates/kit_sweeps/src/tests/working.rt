@@ -40,9 +40,11 @@ fn task_of(alloc: Global, verb: Verb, octets: &[u8]) -> Result<Task, Fail> {
         strict: false,
         context: false,
         files: Vec::new(alloc),
+        newer: Vec::new(alloc),
     };
     let inputs = Inputs {
         files: texts(alloc)?,
+        newer: texts(alloc)?,
         octets: None,
         account: None,
     };
@@ -91,6 +93,11 @@ fn each_put_of_work_fails_in_turn(rt: HostRuntime) -> Result<(), Fail> {
         &task_of(alloc, Verb::Unper, &PACKED)?,
         VALUE.as_bytes(),
     )
+}
+
+#[test]
+fn each_put_of_an_answer_fails_in_turn(rt: HostRuntime) -> Result<(), Fail> {
+    sinks_fail(&rt, &task_of(rt.alloc(), Verb::Later, &[])?, b"yes\n")
 }
 
 #[test]

@@ -13,6 +13,7 @@ returns-clause-job c = record {
   context = grind (arith, c.get_flag-context.ensures.value, one_text-rows);
   no_context = grind (arith, c.get_flag-context.ensures.other, one_text-rows);
   files = search rules;
+  no_newer = search rules;
   no_value = search rules;
   no_account = search rules;
   not_raw = refl;
