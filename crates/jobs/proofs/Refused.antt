@@ -16,14 +16,15 @@ use Rattle.messages.specs.declared.fault.Fault.TheVariants.{Device, Memory}
 use Rattle.check_jobs.specs.declared.inputs.Inputs.{Inputs}
 use Rattle.check_jobs.specs.Inputs.{octets_given}
 use Rattle.jobs.specs.Refusals.{IsNoOutput, Refuses}
+use Rattle.named_values.specs.Given.{Given, named}
 
 -- ---- memory is a reason for any command
 
-pub not_encoded : (p : Program) (s : List Resolved) (first second : List ℕ) (e : Fault) → e ≡ Memory →
+pub not_encoded : (p : Program) (s : List Resolved) (first : List ℕ) (second : Given) (e : Fault) → e ≡ Memory →
     IsNotEncoded p s first second e
 not_encoded p s first second e is = subst (λ x. IsNotEncoded p s first second x) (sym is) (inl tt)
 
-pub not_packed : (p : Program) (s : List Resolved) (first second : List ℕ) (e : Fault) → e ≡ Memory →
+pub not_packed : (p : Program) (s : List Resolved) (first : List ℕ) (second : Given) (e : Fault) → e ≡ Memory →
     IsNotPacked p s first second e
 not_packed p s first second e is = subst (λ x. IsNotPacked p s first second x) (sym is) (inl tt)
 
@@ -37,23 +38,23 @@ not_unpacked p s name o e is = subst (λ x. IsNotUnpackedAs p s name o x) (sym i
 
 -- ---- a device is no reason
 
-not_written : (p : Program) (s : List Resolved) (first second : List ℕ) (n : ℕ) →
+not_written : (p : Program) (s : List Resolved) (first : List ℕ) (second : Given) (n : ℕ) →
     IsNotEncoded p s first second (Device n) → ⊥
 not_written p s first second n (inl h) = h
 not_written p s first second n (inr h) = let is = h.0 in cc
 
-not_put : (p : Program) (s : List Resolved) (first second : List ℕ) (n : ℕ) →
+not_put : (p : Program) (s : List Resolved) (first : List ℕ) (second : Given) (n : ℕ) →
     IsNotPacked p s first second (Device n) → ⊥
 not_put p s first second n (inl h) = h
 not_put p s first second n (inr h) = let is = h.0 in cc
 
 refuses_no_device : (v : Verb) (p : Program) (s : List Resolved) (job : Job) (o : List ℕ) (n : ℕ) →
     Refuses v p s job o (Device n) → ⊥
-refuses_no_device verbs.Der p s job o n h = not_written p s (string_bytes job.ty) (string_bytes job.value) n h
+refuses_no_device verbs.Der p s job o n h = not_written p s (string_bytes job.ty) (named (string_bytes job.value)) n h
 refuses_no_device verbs.Ber p s job o n h = h
-refuses_no_device verbs.Uper p s job o n h = not_put p s (string_bytes job.ty) (string_bytes job.value) n h
+refuses_no_device verbs.Uper p s job o n h = not_put p s (string_bytes job.ty) (named (string_bytes job.value)) n h
 refuses_no_device verbs.Unper p s job o n h = h
-refuses_no_device verbs.Account p s job o n h = not_written p s (string_bytes job.ty) (string_bytes job.value) n h
+refuses_no_device verbs.Account p s job o n h = not_written p s (string_bytes job.ty) (named (string_bytes job.value)) n h
 refuses_no_device verbs.List p s job o n h = cc
 refuses_no_device verbs.Check p s job o n h = h
 

@@ -93,7 +93,8 @@ pub(crate) fn text_told(fault: &Fault) -> Option<usize>
     }
 }
 
-fn of_octets(fault: &LexFault) -> Option<usize>
+/// The octet at which a fault of the octets of a text is.
+pub(crate) fn octet_of_lexing(fault: &LexFault) -> Option<usize>
     ensures { result ≡ lex_octet fault.now }
 {
     match fault {
@@ -105,7 +106,8 @@ fn of_octets(fault: &LexFault) -> Option<usize>
     }
 }
 
-fn of_tokens(fault: &SyntaxFault) -> Option<usize>
+/// The token at which a fault of the tokens of a text is.
+pub(crate) fn token_of_parsing(fault: &SyntaxFault) -> Option<usize>
     ensures { result ≡ tree_token fault.now }
 {
     match fault {
@@ -120,7 +122,7 @@ pub(crate) fn octet_told(fault: &Fault) -> Option<usize>
     ensures { result ≡ octet_of fault.now }
 {
     match fault {
-        Fault::Front(FrontFault::Text(_, inner)) => of_octets(inner),
+        Fault::Front(FrontFault::Text(_, inner)) => octet_of_lexing(inner),
         other => match spot(other) {
             Some(spot) => Some(spot.at),
             None => None,
@@ -133,7 +135,7 @@ pub(crate) fn token_told(fault: &Fault) -> Option<usize>
     ensures { result ≡ token_of fault.now }
 {
     match fault {
-        Fault::Front(FrontFault::Tree(_, inner)) => of_tokens(inner),
+        Fault::Front(FrontFault::Tree(_, inner)) => token_of_parsing(inner),
         _ => None,
     }
 }
