@@ -19,6 +19,7 @@ use Rattle.asnc.specs.Packing.{HasLongBits, IsNotPacked, IsPacked}
 use Rattle.asnc.specs.Reading.{IsNotReadAs, IsReadAs, IsUnread}
 use Rattle.asnc.specs.Writing.{IsEncoded, IsNotEncoded, StandsForLong}
 use Rattle.named_values.specs.Meant.{IsMeant, IsNotMeant}
+use Rattle.named_values.specs.Given.{Given}
 
 -- ---- texts
 
@@ -38,6 +39,7 @@ opened law xs p (faults.Folder x) a h = absurd h
 opened law xs p (faults.Newer x) a h = absurd h
 opened law xs p (faults.NoNewerType x) a h = absurd h
 opened law xs p (faults.Value x) a h = absurd h
+opened law xs p (faults.Notation x) a h = absurd h
 opened law xs p faults.TooLong a h = absurd h
 opened law xs p (faults.UnreadBits u) a h = absurd h
 opened law xs p faults.MessageLimit a h = absurd h
@@ -47,14 +49,16 @@ opened law xs p (faults.NotAccount s) a h = absurd h
 -- ---- values
 
 abbrev pub OneMeaning : Type 0
-OneMeaning = (p : Program) (first second : List ℕ) (t u : ℕ) (v w : AbstractValue) → Keeps p → IsMeant p first second t v →
+OneMeaning = (p : Program) (first : List ℕ) (second : Given) (t u : ℕ) (v w : AbstractValue) → Keeps p →
+    IsMeant p first second t v →
     IsMeant p first second u w → (t ≡ u) × (v ≡ w)
 
 abbrev pub Refuses : Type 0
-Refuses = (p : Program) (first second : List ℕ) (t : ℕ) (v : AbstractValue) (e : Fault) → Keeps p →
+Refuses = (p : Program) (first : List ℕ) (second : Given) (t : ℕ) (v : AbstractValue) (e : Fault) → Keeps p →
     IsMeant p first second t v → IsNotMeant p first second e → e ≡ faults.Memory
 
-not_long : {p : Program} {s : List Resolved} {first second o : List ℕ} {a : Account} → OneMeaning → Keeps p →
+not_long : {p : Program} {s : List Resolved} {first : List ℕ} {second : Given} {o : List ℕ} {a : Account} → OneMeaning →
+    Keeps p →
     IsEncoded p s first second o a → StandsForLong p s first second → ⊥
 not_long {p} {s} {first} {second} {o} one kept m n =
     let e = one p first second m.type n.type m.value n.value kept m.meant n.meant in
@@ -63,12 +67,14 @@ not_long {p} {s} {first} {second} {o} one kept m n =
     let z = m.encoding.not_too_long in
     absurd (omega (arith, g, z))
 
-pub written : OneMeaning → Refuses → (p : Program) (s : List Resolved) (first second o : List ℕ) (a : Account) (e : Fault) → Keeps p →
+pub written : OneMeaning → Refuses → (p : Program) (s : List Resolved) (first : List ℕ) (second : Given) (o : List ℕ)
+    (a : Account) (e : Fault) → Keeps p →
     IsEncoded p s first second o a → IsNotEncoded p s first second e → e ≡ faults.Memory
 written one refused p s first second o a e kept m (inl h) = refused p first second m.type m.value e kept m.meant h
 written one refused p s first second o a e kept m (inr h) = absurd (not_long one kept m h.1)
 
-not_long_bits : {p : Program} {s : List Resolved} {first second o : List ℕ} → OneMeaning → Keeps p →
+not_long_bits : {p : Program} {s : List Resolved} {first : List ℕ} {second : Given} {o : List ℕ} → OneMeaning →
+    Keeps p →
     IsPacked p s first second o → HasLongBits p s first second → ⊥
 not_long_bits {p} {s} {first} {second} {o} one kept m n =
     let e = one p first second m.type n.type m.value n.value kept m.meant n.meant in
@@ -78,7 +84,8 @@ not_long_bits {p} {s} {first} {second} {o} one kept m n =
     let z = m.message.not_too_long in
     absurd (omega (arith, g, z))
 
-pub packed : OneMeaning → Refuses → (p : Program) (s : List Resolved) (first second o : List ℕ) (e : Fault) → Keeps p →
+pub packed : OneMeaning → Refuses → (p : Program) (s : List Resolved) (first : List ℕ) (second : Given) (o : List ℕ)
+    (e : Fault) → Keeps p →
     IsPacked p s first second o → IsNotPacked p s first second e → e ≡ faults.Memory
 packed one refused p s first second o e kept m (inl h) = refused p first second m.type m.value e kept m.meant h
 packed one refused p s first second o e kept m (inr h) = absurd (not_long_bits one kept m h.1)
@@ -115,6 +122,7 @@ read p s r name o printed k (faults.Newer x) m h = absurd h
 read p s r name o printed k (faults.NoNewerType x) m h = absurd h
 read p s r name o printed k (faults.Front x) m h = absurd h
 read p s r name o printed k (faults.Value x) m h = absurd h
+read p s r name o printed k (faults.Notation x) m h = absurd h
 read p s r name o printed k faults.TooLong m h = absurd h
 read p s r name o printed k (faults.UnreadBits u) m h = absurd h
 read p s r name o printed k faults.MessageLimit m h = absurd h

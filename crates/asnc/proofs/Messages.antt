@@ -25,6 +25,7 @@ use Rattle.asnc.specs.Writing.{IsEncoded}
 use Rattle.asnc.specs.declared.reading.Rules.{Rules as Rules'}
 use Rattle.asnc.specs.declared.reading.Rules.TheVariants as asked
 use Rattle.asnc.proofs.Weaker.{basic_of}
+use Rattle.named_values.specs.Given.{Given}
 
 -- a type that has a value is there
 pub type_there : {s : List Resolved} {n t : ℕ} {v : AbstractValue} → ValueIn s n t v → t < length s
@@ -42,11 +43,13 @@ only_not_der r e q n (inl f) = let g = sym q ∙ f in cc
 only_not_der r e q n (inr f) = absurd (n (let g = sym q ∙ f in cc))
 
 -- a fault other than `Memory` is true
-pub unread_by : {Z : Type 0} (s : List Resolved) (l : Rules) (t : ℕ) (o : List ℕ) (r : Result Z ReadFault) (e : ReadFault)
+pub unread_by : {Z : Type 0} (s : List Resolved) (l : Rules) (t : ℕ) (o : List ℕ) (r : Result Z ReadFault)
+    (e : ReadFault)
     → r ≡ Err e
     → (e ≡ reading.Memory → ⊥)
     → ((i : IsEncoding s t o) → Says s l t i.value i.count o → IfErr r (λ f. f ≡ reading.Memory))
-    → ((i : IsEncoding s t o) → (Says s l t i.value i.count o → ⊥) → (r ≡ Err reading.NotDer) ⊎ (r ≡ Err reading.Memory))
+    →
+    ((i : IsEncoding s t o) → (Says s l t i.value i.count o → ⊥) → (r ≡ Err reading.NotDer) ⊎ (r ≡ Err reading.Memory))
     → (r ≡ Err reading.NotDer → (l ≡ Distinguished) × IsNotDer s t o)
     → (16777216 < length o → r ≡ Err reading.MessageLimit)
     → (r ≡ Err reading.MessageLimit → 16777216 < length o)
@@ -64,7 +67,8 @@ unread_by s l t o r e q n read basic not_der limit long more trailing less why =
   more = λ h. only_trailing r e q n (more h);
   trailing = λ m. trailing (q ∙ ap Err m);
   less = λ b. (let g = sym q ∙ less b in cc);
-  why = subst (λ x. IfErr x (λ f. (f ≡ reading.Memory → ⊥) → (f ≡ reading.NotDer → ⊥) → IsRefused s (id_of t) o f)) q why n;
+  why = subst
+    (λ x. IfErr x (λ f. (f ≡ reading.Memory → ⊥) → (f ≡ reading.NotDer → ⊥) → IsRefused s (id_of t) o f)) q why n;
 }
 
 -- what holds of any refusal
@@ -94,7 +98,8 @@ answer_of {p} {s} {l} {name} {o} {printed} {k} {t} {v} w n r sm sy =
     }
 
 -- it is a message that is read
-pub message_is_read : {p : Program} {s : List Resolved} {name o : List ℕ} {v : AbstractValue} (m : IsMessageOf p s name o v)
+pub message_is_read : {p : Program} {s : List Resolved} {name o : List ℕ} {v : AbstractValue}
+    (m : IsMessageOf p s name o v)
     → IsEncoding s m.type o
 message_is_read m = record {
   value = m.ber.0;
@@ -120,7 +125,8 @@ pub encoding_is_read : (p : Program) (s : List Resolved) (l : Rules) (name o : L
     → e ≡ faults.Memory
 encoding_is_read p s l name o faults.Memory t m i y r = refl
 encoding_is_read p s l name o (faults.NoType x) t m i y r = absurd (r.1 t m)
-encoding_is_read p s l name o (faults.Unread u) t m i y r = absurd (none_of t r.type i (r.named.only t m) y r.unread.unread)
+encoding_is_read p s l name o (faults.Unread u) t m i y r = absurd
+    (none_of t r.type i (r.named.only t m) y r.unread.unread)
 encoding_is_read p s l name o (faults.NoValue x) t m i y r = absurd r
 encoding_is_read p s l name o (faults.BadWords x) t m i y r = absurd r
 encoding_is_read p s l name o (faults.Help x) t m i y r = absurd r
@@ -131,6 +137,7 @@ encoding_is_read p s l name o (faults.Newer x) t m i y r = absurd r
 encoding_is_read p s l name o (faults.NoNewerType x) t m i y r = absurd r
 encoding_is_read p s l name o (faults.Front x) t m i y r = absurd r
 encoding_is_read p s l name o (faults.Value x) t m i y r = absurd r
+encoding_is_read p s l name o (faults.Notation x) t m i y r = absurd r
 encoding_is_read p s l name o faults.TooLong t m i y r = absurd r
 encoding_is_read p s l name o (faults.UnreadBits u) t m i y r = absurd r
 encoding_is_read p s l name o faults.MessageLimit t m i y r = absurd r
@@ -153,7 +160,7 @@ says_by asked.Ber d = basic_of d
 says_by asked.Der d = d
 
 -- it is a message of the value
-pub written_message : {p : Program} {s : List Resolved} {first second o : List ℕ} {a : Account}
+pub written_message : {p : Program} {s : List Resolved} {first : List ℕ} {second : Given} {o : List ℕ} {a : Account}
     → ((t : ℕ) (w : AbstractValue) (d : Says s Distinguished t w 0 o) (b : Says s Basic t w 0 o) → levels b ≡ levels d)
     → (m : IsEncoded p s first second o a)
     → IsMessageOf p s first o m.value
@@ -169,7 +176,8 @@ written_message {p} {s} {first} {second} {o} {a} one m =
     }
 
 -- and is read back, by either rules
-pub written_is_read : {p : Program} {s : List Resolved} {first second o : List ℕ} {a : Account} (l : Rules') (e : Fault)
+pub written_is_read : {p : Program} {s : List Resolved} {first : List ℕ} {second : Given} {o : List ℕ} {a : Account}
+    (l : Rules') (e : Fault)
     → ((t : ℕ) (w : AbstractValue) (d : Says s Distinguished t w 0 o) (b : Says s Basic t w 0 o) → levels b ≡ levels d)
     → IsEncoded p s first second o a
     → IsNotReadAs p s (rules_of l) first o e

@@ -16,12 +16,15 @@ use Rattle.asnc.specs.Packing.{IsPacked}
 use Rattle.asnc.specs.Unpacking.{IsNotUnpackedAs, IsUnpackedAs}
 use Rattle.asnc.specs.Versions.{IsCompared, IsPackedKeptAnswer, IsWidenedAnswer}
 use Rattle.asnc.proofs.ReadBack.{message_refused, unpacked_of}
+use Rattle.named_values.specs.Given.{Given}
 
 -- the message of a named value is one of a value of the type that its name finds
-pub message_of_named : {p : Program} {s : List Resolved} {first second o : List ℕ} {t : ℕ} → Names p first t
+pub message_of_named : {p : Program} {s : List Resolved} {first : List ℕ} {second : Given} {o : List ℕ} {t : ℕ} →
+    Names p first t
     → (w : IsPacked p s first second o)
     → IsMessage s t w.value o
-message_of_named {s = s} {o = o} n w = subst (λ u. IsMessage s u w.value o) (n.only w.type w.meant.named.typed) w.message
+message_of_named {s = s} {o = o} n w = subst (λ u. IsMessage s u w.value o)
+    (n.only w.type w.meant.named.typed) w.message
 
 -- what a type keeps, or makes, of a value is read of octets, with so many additions
 abbrev pub IsReadFrom : List Resolved → ℕ → AbstractValue → ℕ → List ℕ → Type 0

@@ -18,6 +18,7 @@ use Rattle.named_values.specs.Named.{Names, TypeNamed}
 use Rattle.asnc.specs.Headline.{IsAnswer}
 use Rattle.asnc.specs.Packing.{IsPacked}
 use Rattle.asnc.specs.Unpacking.{IsFirstFault, IsNotUnpacked, IsNotUnpackedAs, IsNotUnpackedBy, IsUnpacked, IsUnpackedAs}
+use Rattle.named_values.specs.Given.{Given}
 
 -- ---- refusals
 
@@ -25,7 +26,8 @@ not_above : (n : ℕ) → (16777216 < n → ⊥) → n ≤ 16777216
 not_above n h = let l = lt_of_not-le {n = 16777217} {m = n} h in omega (arith, l)
 
 -- what a call refuses octets for is true
-pub refused_by : {Z : Type 0} (s : List Resolved) (t : ℕ) (o : List ℕ) (r : Result Z PerFault) (e : PerFault) → r ≡ Err e
+pub refused_by : {Z : Type 0} (s : List Resolved) (t : ℕ) (o : List ℕ) (r : Result Z PerFault) (e : PerFault) →
+    r ≡ Err e
     → ((w : AbstractValue) (k : ℕ) → Reads s t w k o → length o ≤ 16777216 → IfErr r (λ f. f ≡ per.Memory))
     → (16777216 < length o → r ≡ Err per.MessageLimit)
     → (r ≡ Err per.MessageLimit → 16777216 < length o)
@@ -66,7 +68,7 @@ pub one_answer : (p : Program) (s : List Resolved) (name o printed again : List 
 one_answer p s name o printed again k j r q = same_text (unpacked_of q.type r (r.named.only q.type q.named.is)) q.read
 
 -- what is read of the message of a value is that value
-pub answer_of_message : {p : Program} {s : List Resolved} {first second o printed : List ℕ} {k : ℕ}
+pub answer_of_message : {p : Program} {s : List Resolved} {first : List ℕ} {second : Given} {o printed : List ℕ} {k : ℕ}
     (w : IsPacked p s first second o)
     (r : IsUnpackedAs p s first o printed k)
     → ((v : AbstractValue) × Same s w.type w.value v × Reads s w.type v 0 o)
@@ -102,6 +104,7 @@ refused_message {e = faults.Newer x} q m short h = absurd h
 refused_message {e = faults.NoNewerType x} q m short h = absurd h
 refused_message {e = faults.Front x} q m short h = absurd h
 refused_message {e = faults.Value x} q m short h = absurd h
+refused_message {e = faults.Notation x} q m short h = absurd h
 refused_message {e = faults.TooLong} q m short h = absurd h
 refused_message {e = faults.Device n} q m short h = absurd h
 refused_message {e = faults.Unread u} q m short h = absurd h
@@ -117,8 +120,10 @@ pub message_refused : (p : Program) (s : List Resolved) (name o : List ℕ) (t k
     → e ≡ faults.Memory
 message_refused p s name o t k v faults.Memory one n m short h = refl
 message_refused p s name o t k v (faults.NoType x) one n m short h = absurd (h.1 t n)
-message_refused p s name o t k v faults.MessageLimit one n m short h = refused_message (one h.type h.named) m short h.fault
-message_refused p s name o t k v (faults.UnreadBits u) one n m short h = refused_message (one h.type h.named) m short h.fault
+message_refused p s name o t k v faults.MessageLimit one n m short h = refused_message
+    (one h.type h.named) m short h.fault
+message_refused p s name o t k v (faults.UnreadBits u) one n m short h = refused_message
+    (one h.type h.named) m short h.fault
 message_refused p s name o t k v (faults.NoValue x) one n m short h = absurd h
 message_refused p s name o t k v (faults.BadWords x) one n m short h = absurd h
 message_refused p s name o t k v (faults.Help x) one n m short h = absurd h
@@ -129,13 +134,14 @@ message_refused p s name o t k v (faults.Newer x) one n m short h = absurd h
 message_refused p s name o t k v (faults.NoNewerType x) one n m short h = absurd h
 message_refused p s name o t k v (faults.Front x) one n m short h = absurd h
 message_refused p s name o t k v (faults.Value x) one n m short h = absurd h
+message_refused p s name o t k v (faults.Notation x) one n m short h = absurd h
 message_refused p s name o t k v faults.TooLong one n m short h = absurd h
 message_refused p s name o t k v (faults.Device n) one n' m short h = absurd h
 message_refused p s name o t k v (faults.Unread u) one n m short h = absurd h
 message_refused p s name o t k v (faults.NotAccount x) one n m short h = absurd h
 
 -- the message that is written of a value is refused for want of memory alone
-pub written_refused : (p : Program) (s : List Resolved) (first second o : List ℕ) (e : Fault)
+pub written_refused : (p : Program) (s : List Resolved) (first : List ℕ) (second : Given) (o : List ℕ) (e : Fault)
     (w : IsPacked p s first second o)
     → ((v : AbstractValue) × Same s w.type w.value v × Reads s w.type v 0 o)
     → IsNotUnpackedAs p s first o e

@@ -24,7 +24,7 @@ use Rattle.messages.specs.declared.fault.Fault.TheVariants.{Memory}
 use Rattle.front_end.specs.Accepted.{Accepted}
 use Rattle.front_end.specs.Untyped.{StandsFor}
 use Rattle.judging.specs.Judged.{IsAccountIn, IsJudged}
-use Rattle.named_values.specs.Named.{AreNamed, TypeNamed}
+use Rattle.named_values.specs.Named.{AreGiven, TypeNamed}
 use Rattle.asnc.specs.Headline.{IsAnswer, IsMessageOf, IsRight, IsRightlyPacked, IsRightlyRead, IsRightlyUnpacked}
 use Rattle.asnc.specs.Reading.{IsNotReadAs, IsRead, IsReadAs, rules_of}
 use Rattle.asnc.specs.Unpacking.{IsNotUnpackedAs, IsUnpackedAs, IsUnpackedBy}
@@ -38,7 +38,7 @@ module _ (xs : List (List ℕ)) (n m o : List ℕ) (a : Account) (r : IsRight xs
   der_texts : Accepted xs r.program r.types
   der_texts = r.accepted
 
-  der_names : AreNamed r.program n m r.type r.within r.notation
+  der_names : AreGiven r.program n m r.type r.within r.notation
   der_names = r.named
 
   der_meaning : StandsFor r.program r.within r.type r.notation r.value
@@ -66,7 +66,7 @@ module _ (xs : List (List ℕ)) (n m o : List ℕ) (r : IsRightlyPacked xs n m o
   per_texts : Accepted xs r.program r.types
   per_texts = r.accepted
 
-  per_names : AreNamed r.program n m r.type r.within r.notation
+  per_names : AreGiven r.program n m r.type r.within r.notation
   per_names = r.named
 
   per_meaning : StandsFor r.program r.within r.type r.notation r.value

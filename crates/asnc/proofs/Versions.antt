@@ -20,9 +20,11 @@ use Rattle.asnc.specs.Writing.{IsEncoded}
 use Rattle.asnc.specs.declared.reading.Rules.{Rules as Rules'}
 use Rattle.asnc.specs.declared.reading.Rules.TheVariants as asked
 use Rattle.asnc.proofs.Messages.{encoding_is_read}
+use Rattle.named_values.specs.Given.{Given}
 
 -- the encoding of a named value is one of a value of the type that its name finds
-pub der_of_named : {p : Program} {s : List Resolved} {first second o : List ℕ} {a : Account} {t : ℕ} → Names p first t
+pub der_of_named : {p : Program} {s : List Resolved} {first : List ℕ} {second : Given} {o : List ℕ} {a : Account}
+    {t : ℕ} → Names p first t
     → (w : IsEncoded p s first second o a)
     → Der s t w.value 0 o
 der_of_named {s = s} {o = o} n w = subst (λ u. Der s u w.value 0 o) (n.only w.type w.meant.named.typed) w.encoding.der
@@ -35,7 +37,8 @@ read_of_named {s = s} {l = l} {o = o} {printed = printed} {k = k} n r =
     subst (λ u. IsRead s l u o printed k) (n.only r.type r.named.is) r.read
 
 -- octets that are read as a value encode one
-pub readable : {s : List Resolved} {t k : ℕ} {v : AbstractValue} {o : List ℕ} (m : IsReadable s t v k o) → length o ≤ 16777216
+pub readable : {s : List Resolved} {t k : ℕ} {v : AbstractValue} {o : List ℕ} (m : IsReadable s t v k o) →
+    length o ≤ 16777216
     → IsEncoding s t o
 readable {k = k} m short = record {
   value = m.value;
@@ -63,7 +66,8 @@ older_answer {s = s} {v = v} c m a =
       skipped = sym q.1;
     }
 
-pub newer_answer : {p q : Program} {s r : List Resolved} {l : Rules} {name o printed : List ℕ} {k : ℕ} {v : AbstractValue}
+pub newer_answer : {p q : Program} {s r : List Resolved} {l : Rules} {name o printed : List ℕ} {k : ℕ}
+    {v : AbstractValue}
     (c : IsCompared p s q r name true)
     → IsReadable r c.newer (widened r c.newer v) 0 o
     → IsReadAs q r l name o printed k
@@ -91,7 +95,8 @@ older_refused {p = p} {s = s} {name = name} {o = o} {e = e} v c m short n =
     encoding_is_read p s Basic name o e c.older c.older_named.is (readable m short) m.encodes.says_it n
 
 -- what is said by the distinguished rules is said by either
-says_strictly : (l : Rules') {s : List Resolved} {t : ℕ} {v : AbstractValue} {o : List ℕ} (m : IsStrictlyReadAs s t v 0 o)
+says_strictly : (l : Rules') {s : List Resolved} {t : ℕ} {v : AbstractValue} {o : List ℕ}
+    (m : IsStrictlyReadAs s t v 0 o)
     → Says s (rules_of l) t m.is.value 0 o
 says_strictly asked.Ber m = m.is.encodes.says_it
 says_strictly asked.Der m = m.strict

@@ -19,20 +19,22 @@ use Rattle.resolve.specs.Program.{Program}
 use Rattle.front_end.specs.Accepted.{Accepted}
 use Rattle.front_end.specs.Untyped.{StandsFor}
 use Rattle.account_checker.specs.Reasons.{IsRight as IsRightBesideIt}
-use Rattle.named_values.specs.Named.{AreNamed, TypeNamed}
+use Rattle.named_values.specs.Named.{AreGiven, TypeNamed}
+use Rattle.named_values.specs.Given.{Given}
 
--- For these texts of modules, the names of a type and of a value, the octets o are the value's DER encoding, and
--- account a describes them.
-pub record IsRight (texts : List (List ℕ)) (first second o : List ℕ) (a : Account) : Type 0 where
+-- For these texts of modules, the name of a type and a value that is given, the octets o are the value's DER encoding,
+-- and account a describes them.
+pub record IsRight (texts : List (List ℕ)) (first : List ℕ) (second : Given) (o : List ℕ) (a : Account) : Type 0 where
   -- the texts are accepted, as this program with these types
   pub program : Program
   pub types : List Resolved
   pub accepted : Accepted texts program types
-  -- the first name is that of this type, and the value with the second name has this notation in this module
+  -- the first name is that of this type; the value that is given, by its name or by a text, has this notation, which is
+  -- read in this module
   pub type : ℕ
   pub within : Name
   pub notation : Tree
-  pub named : AreNamed program first second type within notation
+  pub named : AreGiven program first second type within notation
   -- the notation means this value under the type, and the value is one of the type
   pub value : AbstractValue
   pub stands : StandsFor program within type notation value
@@ -47,18 +49,19 @@ pub record IsRight (texts : List (List ℕ)) (first second o : List ℕ) (a : Ac
   -- the checker accepts the account
   pub checked : IsRightBesideIt types type value o a
 
--- For these texts of modules, the names of a type and of a value, the octets o are the value's one message of unaligned
--- canonical PER (X.691, clause 11.1).
-pub record IsRightlyPacked (texts : List (List ℕ)) (first second o : List ℕ) : Type 0 where
+-- For these texts of modules, the name of a type and a value that is given, the octets o are the value's one message
+-- of unaligned canonical PER (X.691, clause 11.1).
+pub record IsRightlyPacked (texts : List (List ℕ)) (first : List ℕ) (second : Given) (o : List ℕ) : Type 0 where
   -- the texts are accepted, as this program with these types
   pub program : Program
   pub types : List Resolved
   pub accepted : Accepted texts program types
-  -- the first name is that of this type; the value of the second name has this notation in this module
+  -- the first name is that of this type; the value that is given, by its name or by a text, has this notation, which is
+  -- read in this module
   pub type : ℕ
   pub within : Name
   pub notation : Tree
-  pub named : AreNamed program first second type within notation
+  pub named : AreGiven program first second type within notation
   -- the notation stands for this value under the type, and it is one of the type
   pub value : AbstractValue
   pub stands : StandsFor program within type notation value

@@ -1,5 +1,5 @@
--- The octets of a named value of a program under a named type in canonical PER, unaligned, and why there are none
--- (X.691, clause 11.1).
+-- The octets of a value that is given under a named type of a program in canonical PER, unaligned, and why there are
+-- none (X.691, clause 11.1).
 use Rattle.std.specs.Prelude.{◌≡◌, ◌⊎◌, ℕ, ◌<◌, List, length}
 use Rattle.asn_base.specs.Abstract.{AbstractValue}
 use Rattle.asn_base.specs.Types.{Resolved}
@@ -11,23 +11,24 @@ use Rattle.resolve.specs.Program.{Program}
 use Rattle.messages.specs.declared.fault.Fault.{Fault}
 use Rattle.messages.specs.declared.fault.Fault.TheVariants as faults
 use Rattle.named_values.specs.Meant.{IsMeant, IsNotMeant}
+use Rattle.named_values.specs.Given.{Given}
 
--- The texts name a type and a value. The octets are the bits of the value that the notation stands for under the type,
--- filled to octets, and no others are (X.691, 11.1).
-pub record IsPacked (p : Program) (s : List Resolved) (first second o : List ℕ) : Type 0 where
+-- The name is that of a type, and a value is given. The octets are the bits of the value that its notation stands for
+-- under the type, filled to octets, and no others are (X.691, 11.1).
+pub record IsPacked (p : Program) (s : List Resolved) (first : List ℕ) (second : Given) (o : List ℕ) : Type 0 where
   pub type : ℕ
   pub value : AbstractValue
   pub meant : IsMeant p first second type value
   pub message : IsMessage s type value o
 
--- The texts name a type and a value, and the bits of the value that the notation stands for are too long.
-pub record HasLongBits (p : Program) (s : List Resolved) (first second : List ℕ) : Type 0 where
+-- The name is that of a type, and the bits of the value that the given notation stands for are too long.
+pub record HasLongBits (p : Program) (s : List Resolved) (first : List ℕ) (second : Given) : Type 0 where
   pub type : ℕ
   pub value : AbstractValue
   pub meant : IsMeant p first second type value
   pub longer : (b : Bits) (o : List ℕ) → Packed s type value b → Padded b o → 16777216 < length o
 
 -- Why a value is not packed: the texts mean no value, or its bits are too long.
-abbrev pub IsNotPacked : Program → List Resolved → List ℕ → List ℕ → Fault → Type 0
+abbrev pub IsNotPacked : Program → List Resolved → (first : List ℕ) → (second : Given) → Fault → Type 0
 IsNotPacked p s first second fault =
     IsNotMeant p first second fault ⊎ ((fault ≡ faults.TooLong) × HasLongBits p s first second)

@@ -1,4 +1,4 @@
--- The whole promise: what is written of one named value, by both encodings, and what is read of it.
+-- The whole promise: what is written of one value that is given, by both encodings, and what is read of it.
 use Rattle.std.specs.Prelude.{◌≡◌, ℕ, List}
 use Rattle.asn_base.specs.Abstract.{AbstractValue}
 use Rattle.asn_base.specs.Types.{Resolved}
@@ -13,11 +13,12 @@ use Rattle.asnc.specs.Headline.{IsAnswer, IsMessageOf, IsRight, IsRightlyPacked}
 use Rattle.asnc.specs.Reading.{IsNotReadAs, IsReadAs, rules_of}
 use Rattle.asnc.specs.Unpacking.{IsNotUnpackedAs, IsUnpackedAs}
 use Rattle.asnc.specs.declared.reading.Rules.{Rules as Rules'}
+use Rattle.named_values.specs.Given.{Given}
 
 -- The texts are accepted as program p with types s. The octets o with account a are written for value v of the type
 -- with the first name, and b is its message of canonical PER.
-pub record IsWhole (texts : List (List ℕ)) (p : Program) (s : List Resolved) (first second o b : List ℕ) (a : Account)
-    (v u : AbstractValue) : Type 0 where
+pub record IsWhole (texts : List (List ℕ)) (p : Program) (s : List Resolved) (first : List ℕ) (second : Given)
+    (o b : List ℕ) (a : Account) (v u : AbstractValue) : Type 0 where
   -- o is the only DER encoding of the value, no definite-length BER encoding is shorter, and the checker accepts a
   pub encoded : IsRight texts first second o a
   -- the checker accepts o and the text of the account, without the compiler

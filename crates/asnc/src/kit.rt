@@ -31,6 +31,7 @@ ghost use Rattle.asnc.specs.Reading.{IsNotReadAs, IsReadAs, IsReadBy, IsUnread, 
 ghost use Rattle.asnc.specs.Unpacking.{IsNotUnpackedAs, IsNotUnpackedBy, IsUnpackedAs, IsUnpackedBy};
 ghost use Rattle.asnc.specs.Versions.{IsCompared, IsNotCompared};
 ghost use Rattle.asnc.specs.Writing.{IsAccountOf, IsEncoded, IsNotEncoded, IsSent, IsSentInPart};
+ghost use Rattle.named_values.specs.Given.{as_given};
 ghost use Rattle.named_values.specs.Meant.{IsMeant, IsNotMeant};
 ghost use Rattle.named_values.specs.Named.{Names, TypeNamed};
 
@@ -47,7 +48,7 @@ use front_end::law::{accepted_keep, values_of_schema};
 use front_end::{FrontFault, Modules};
 use later_versions::later;
 use messages::Fault;
-use named_values::{meant, type_number};
+use named_values::{ValueGiven, meant, type_number};
 use octet_account::account::Account;
 use packed_code::{PackedCode, compile_packed};
 use packed_reader::PerFault;
@@ -154,11 +155,28 @@ impl Kit {
         let _code = &self.code;
     }
 
-    /// The type with the first name, and the value that the second name means under this type.
-    fn value_of(&self, alloc: Global, ty: &str, value: &str) -> Result<(TypeId, Value), Fault>
-        ensures meant { IfOk result (λ r. IsMeant self.now.program ty.now value.now r.0.index (abstract r.1)) }
+    /// Returns the type of a name, and the value that the notation of a value that is given means under this type
+    /// (X.680,
+    /// clause 17). The type is named as `Module.Name`, by the module that assigns or imports the name. The value is
+    /// given by such a name, or by a text that is a notation. The names in this text are read in the module that the
+    /// name of the type begins with.
+    ///
+    /// The error is the first fault, in this order. `NoType`: the name of the type is that of none. `NoValue`: the name
+    /// of the value is that of none. `Notation`: the text of a notation has a fault at a place in it: its octets aren't
+    /// those of tokens, its tokens aren't those of one value, or it means no value of the type. `Value`: the value's
+    /// notation means no value of the type, and the place is in the text of a module. `Memory`: an allocation failed.
+    pub fn value_of(
+        &self,
+        alloc: Global,
+        ty: &str,
+        value: ValueGiven<'_>,
+    ) -> Result<(TypeId, Value), Fault>
+        // The type has this name, and this is the value that is meant.
+        ensures meant { IfOk result (λ r. IsMeant self.now.program ty.now (as_given value) r.0.index (abstract r.1)) }
+        // It is a value of the type, as the other calls require.
         ensures is { IfOk result (λ r. IsValue self.now.types r.0.index (abstract r.1)) }
-        ensures refused { IfErr result (IsNotMeant self.now.program ty.now value.now) }
+        // A fault is true.
+        ensures refused { IfErr result (IsNotMeant self.now.program ty.now (as_given value)) }
     {
         values_of_schema();
         self.modules.kept();
@@ -166,19 +184,23 @@ impl Kit {
     }
 
     /// Returns the octets that encode a value of a type by the distinguished rules, and the account of these octets.
-    /// The type and the value are named as `Module.Name`, by the module that assigns or imports the name. The value's
-    /// notation is read under this type, whatever type it is assigned with.
+    /// The type is named and the value is given as for [`Kit::value_of`]. The value's notation is read under this type,
+    /// whatever type a named value is assigned with.
     ///
-    /// `NoType`: the first name is not that of a type. `NoValue`: the second name is not that of a value. `Value`: the
-    /// value's notation means no value of the type. `TooLong`: the encoding has more than 16,777,216 octets. `Memory`:
-    /// an allocation failed.
-    pub fn der(&self, alloc: Global, ty: &str, value: &str) -> Result<(Vec<u8>, Account), Fault>
+    /// `NoType`, `NoValue`, `Notation` and `Value` come as for [`Kit::value_of`]. `TooLong`: the encoding has more than
+    /// 16,777,216 octets. `Memory`: an allocation failed.
+    pub fn der(
+        &self,
+        alloc: Global,
+        ty: &str,
+        value: ValueGiven<'_>,
+    ) -> Result<(Vec<u8>, Account), Fault>
         // The octets are the only DER encoding of what the value's notation means under the type. The account is that
         // of the octets.
         ensures encoded { IfOk result (λ r.
-            IsEncoded self.now.program self.now.types ty.now value.now r.0.items r.1) }
+            IsEncoded self.now.program self.now.types ty.now (as_given value) r.0.items r.1) }
         // A fault is true.
-        ensures refused { IfErr result (IsNotEncoded self.now.program self.now.types ty.now value.now) }
+        ensures refused { IfErr result (IsNotEncoded self.now.program self.now.types ty.now (as_given value)) }
     {
         let (id, typed) = match self.value_of(alloc, ty, value) {
             Ok(found) => found,
@@ -194,13 +216,18 @@ impl Kit {
 
     /// Returns the text of the account that [`Kit::der`] returns, in JSON without white space.
     ///
-    /// `NoType`, `NoValue`, `Value`, `TooLong` and `Memory` come as for [`Kit::der`].
-    pub fn account(&self, alloc: Global, ty: &str, value: &str) -> Result<String, Fault>
+    /// The faults come as for [`Kit::der`].
+    pub fn account(
+        &self,
+        alloc: Global,
+        ty: &str,
+        value: ValueGiven<'_>,
+    ) -> Result<String, Fault>
         // The text is that of the account of the only DER encoding.
         ensures told { IfOk result (λ s.
-            IsAccountOf self.now.program self.now.types ty.now value.now (string_bytes s)) }
+            IsAccountOf self.now.program self.now.types ty.now (as_given value) (string_bytes s)) }
         // A fault is true.
-        ensures refused { IfErr result (IsNotEncoded self.now.program self.now.types ty.now value.now) }
+        ensures refused { IfErr result (IsNotEncoded self.now.program self.now.types ty.now (as_given value)) }
     {
         let (_octets, account) = match self.der(alloc, ty, value) {
             Ok(written) => written,
@@ -214,31 +241,31 @@ impl Kit {
 
     /// Writes the octets that [`Kit::der`] returns to a sink, one octet after the other, and returns their account.
     ///
-    /// `NoType`, `NoValue`, `Value`, `TooLong` and `Memory` come as for [`Kit::der`], before the first octet. `Device`:
-    /// one call of the sink failed, which isn't tried again; the fault has the number of octets that went out before.
+    /// The faults of [`Kit::der`] come before the first octet. `Device`: one call of the sink failed, which isn't
+    /// tried again; the fault has the number of octets that went out before.
     pub fn der_to<S: Sink>(
         &self,
         alloc: Global,
         ty: &str,
-        value: &str,
+        value: ValueGiven<'_>,
         sink: &mut S,
     ) -> Result<Account, Fault>
         requires room { S.failed sink.old < u64.MAX }
         // The sink took exactly the only DER encoding, and no call failed. The account is that of the encoding.
-        ensures sent { IfOk result (IsSent self.now.program self.now.types ty.now value.now
+        ensures sent { IfOk result (IsSent self.now.program self.now.types ty.now (as_given value)
             (state (S.taken sink.old) (S.failed sink.old))
             (state (S.taken sink.new) (S.failed sink.new))) }
         // The sink took exactly the first n octets of the encoding, fewer than there are, and one call failed.
         ensures device { IfErr result (λ e. (n : ℕ) →
             e ≡ Device n →
-            IsSentInPart self.now.program self.now.types ty.now value.now
+            IsSentInPart self.now.program self.now.types ty.now (as_given value)
             (state (S.taken sink.old) (S.failed sink.old))
             (state (S.taken sink.new) (S.failed sink.new))
             n) }
         // Any other fault is true, as one of `der`, and no octet went out.
         ensures refused { IfErr result (λ e.
             ((n : ℕ) → e ≡ Device n → ⊥) →
-            IsNotEncoded self.now.program self.now.types ty.now value.now e × (sink.new ≡ sink.old)) }
+            IsNotEncoded self.now.program self.now.types ty.now (as_given value) e × (sink.new ≡ sink.old)) }
     {
         let (id, typed) = match self.value_of(alloc, ty, value) {
             Ok(found) => found,
@@ -253,18 +280,22 @@ impl Kit {
         }
     }
 
-    /// Encodes a value of a type in canonical PER, unaligned: its bits, filled to octets (X.691, 11.1). Both are named
-    /// as for [`Kit::der`], and the value's notation is read under this type.
+    /// Encodes a value of a type in canonical PER, unaligned: its bits, filled to octets (X.691, 11.1). The type is
+    /// named and the value is given as for [`Kit::value_of`], and the value's notation is read under this type.
     ///
-    /// `NoType`: the first name is not that of a type. `NoValue`: the second name is not that of a value. `Value`: the
-    /// notation stands for no value of the type. `TooLong`: there are more than 16,777,216 octets. `Memory`: an
-    /// allocation failed.
-    pub fn uper(&self, alloc: Global, ty: &str, value: &str) -> Result<Vec<u8>, Fault>
+    /// `NoType`, `NoValue`, `Notation` and `Value` come as for [`Kit::value_of`]. `TooLong`: there are more than
+    /// 16,777,216 octets. `Memory`: an allocation failed.
+    pub fn uper(
+        &self,
+        alloc: Global,
+        ty: &str,
+        value: ValueGiven<'_>,
+    ) -> Result<Vec<u8>, Fault>
         // The octets are the bits of the value that the notation stands for under the type, and no others are.
         ensures packed { IfOk result (λ o.
-            IsPacked self.now.program self.now.types ty.now value.now o.items) }
+            IsPacked self.now.program self.now.types ty.now (as_given value) o.items) }
         // The reason of a refusal applies.
-        ensures refused { IfErr result (IsNotPacked self.now.program self.now.types ty.now value.now) }
+        ensures refused { IfErr result (IsNotPacked self.now.program self.now.types ty.now (as_given value)) }
     {
         let (id, typed) = match self.value_of(alloc, ty, value) {
             Ok(found) => found,

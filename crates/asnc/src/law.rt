@@ -31,6 +31,7 @@ ghost use Rattle.version_laws.specs.Versions.{IsKnown};
 ghost use Rattle.account_checker.specs.declared.reason.Verdict.TheVariants.{Yes};
 ghost use Rattle.judging.specs.Judged.{IsAccountIn, IsJudged};
 ghost use Rattle.asnc.specs.declared.reading.Rules.{Rules as Rules'};
+ghost use Rattle.named_values.specs.Given.{Given};
 
 use asn_base::law::sameness;
 use encodings::{der_laws, level_laws, message_laws};
@@ -44,7 +45,8 @@ use version_laws::packed_law::{earlier_reads_packed, later_reads_packed};
 
 /// What [`crate::Kit::der`] returns for texts that [`crate::Kit::open`] took is right, from the texts to the octets.
 pub fn headline()
-    ensures { (xs : List (List ℕ)) (p : Program) (s : List Resolved) (first second o : List ℕ) (a : Account) →
+    ensures { (xs : List (List ℕ)) (p : Program) (s : List Resolved) (first : List ℕ) (second : Given) (o : List ℕ)
+        (a : Account) →
         Accepted xs p s →
         IsEncoded p s first second o a →
         IsRight xs first second o a }
@@ -53,7 +55,7 @@ pub fn headline()
 /// What [`crate::Kit::uper`] returns for texts that [`crate::Kit::open`] took is right, from the texts to the octets.
 /// They are the bits of the value, no others are, and they are read as a value that is the same, and as no other.
 pub fn packed()
-    ensures { (xs : List (List ℕ)) (p : Program) (s : List Resolved) (first second o : List ℕ) →
+    ensures { (xs : List (List ℕ)) (p : Program) (s : List Resolved) (first : List ℕ) (second : Given) (o : List ℕ) →
         Accepted xs p s →
         IsPacked p s first second o →
         IsRightlyPacked xs first second o }
@@ -65,13 +67,15 @@ pub fn packed()
 /// [`judging::judge`] accepts what [`crate::Kit::der`] returns for texts that [`crate::Kit::open`] took, by the text of
 /// the account beside it, in any JSON spelling. So it accepts what [`crate::Kit::account`] returns.
 pub fn judged()
-    ensures account { (xs : List (List ℕ)) (p : Program) (s : List Resolved) (first second o text : List ℕ)
+    ensures account { (xs : List (List ℕ)) (p : Program) (s : List Resolved) (first : List ℕ) (second : Given)
+        (o text : List ℕ)
         (a : Account) →
         Accepted xs p s →
         IsEncoded p s first second o a →
         IsAccountIn text a →
         IsJudged xs first second o text Yes }
-    ensures text { (xs : List (List ℕ)) (p : Program) (s : List Resolved) (first second text : List ℕ) →
+    ensures text { (xs : List (List ℕ)) (p : Program) (s : List Resolved) (first : List ℕ) (second : Given)
+        (text : List ℕ) →
         Accepted xs p s →
         IsUtf8 text →
         (w : IsAccountOf p s first second text) →
@@ -109,11 +113,13 @@ pub fn reading()
         e ≡ Memory }
     // The octets that are written for a value are such an encoding of it, and have no fault by either rules except
     // `Memory`.
-    ensures written { (xs : List (List ℕ)) (p : Program) (s : List Resolved) (first second o : List ℕ) (a : Account) →
+    ensures written { (xs : List (List ℕ)) (p : Program) (s : List Resolved) (first : List ℕ) (second : Given)
+        (o : List ℕ) (a : Account) →
         Accepted xs p s →
         (w : IsEncoded p s first second o a) →
         IsMessageOf p s first o w.value }
-    ensures read_back { (xs : List (List ℕ)) (p : Program) (s : List Resolved) (first second o : List ℕ) (a : Account)
+    ensures read_back { (xs : List (List ℕ)) (p : Program) (s : List Resolved) (first : List ℕ) (second : Given)
+        (o : List ℕ) (a : Account)
         (r : Rules') (e : Fault) →
         Accepted xs p s →
         IsEncoded p s first second o a →
@@ -140,12 +146,12 @@ pub fn unpacked()
         IsUnpackedAs p s name o again j →
         (printed ≡ again) × (k ≡ j) }
     // For the message that is written of a value, the printed text is that value, and no additions were skipped.
-    ensures answered { (p : Program) (s : List Resolved) (first second o printed : List ℕ) (k : ℕ)
+    ensures answered { (p : Program) (s : List Resolved) (first : List ℕ) (second : Given) (o printed : List ℕ) (k : ℕ)
         (w : IsPacked p s first second o) →
         IsUnpackedAs p s first o printed k →
         IsAnswer p s first printed k w.value }
     // It has no fault except `Memory`.
-    ensures read_back { (p : Program) (s : List Resolved) (first second o : List ℕ) (e : Fault) →
+    ensures read_back { (p : Program) (s : List Resolved) (first : List ℕ) (second : Given) (o : List ℕ) (e : Fault) →
         IsPacked p s first second o →
         IsNotUnpackedAs p s first o e →
         e ≡ Memory }
@@ -183,7 +189,8 @@ pub fn printed()
 /// [`crate::Kit::open`] took is right, [`judging::judge`] accepts it, and [`crate::Kit::ber`] and [`crate::Kit::unper`]
 /// give the value back.
 pub fn whole()
-    ensures { (xs : List (List ℕ)) (p : Program) (s : List Resolved) (first second o b : List ℕ) (a : Account) →
+    ensures { (xs : List (List ℕ)) (p : Program) (s : List Resolved) (first : List ℕ) (second : Given) (o b : List ℕ)
+        (a : Account) →
         Accepted xs p s →
         (w : IsEncoded p s first second o a) →
         (q : IsPacked p s first second b) →
@@ -201,7 +208,8 @@ pub fn whole()
 pub fn versions()
     // The older version prints what it keeps of the value, and skips the additions that it leaves out. The exception is
     // a value with an alternative or an item that the older version doesn't know.
-    ensures older { (xs ys : List (List ℕ)) (p q : Program) (s r : List Resolved) (name second o printed : List ℕ)
+    ensures older { (xs ys : List (List ℕ)) (p q : Program) (s r : List Resolved) (name : List ℕ) (second : Given)
+        (o printed : List ℕ)
         (a : Account) (k : ℕ) →
         Accepted xs p s →
         Accepted ys q r →
@@ -212,7 +220,8 @@ pub fn versions()
         IsReadAs p s Basic name o printed k →
         IsKeptAnswer p s name printed k w.value }
     // It has no fault except `Memory`.
-    ensures older_reads { (xs ys : List (List ℕ)) (p q : Program) (s r : List Resolved) (name second o : List ℕ)
+    ensures older_reads { (xs ys : List (List ℕ)) (p q : Program) (s r : List Resolved) (name : List ℕ) (second : Given)
+        (o : List ℕ)
         (a : Account) (e : Fault) →
         Accepted xs p s →
         Accepted ys q r →
@@ -223,7 +232,8 @@ pub fn versions()
         IsNotReadAs p s Basic name o e →
         e ≡ Memory }
     // The newer version prints the value with what was appended absent, by either rules, and skips nothing.
-    ensures newer { (xs ys : List (List ℕ)) (p q : Program) (s r : List Resolved) (name second o printed : List ℕ)
+    ensures newer { (xs ys : List (List ℕ)) (p q : Program) (s r : List Resolved) (name : List ℕ) (second : Given)
+        (o printed : List ℕ)
         (a : Account) (k : ℕ) (l : Rules') →
         Accepted xs p s →
         Accepted ys q r →
@@ -232,7 +242,8 @@ pub fn versions()
         IsReadAs q r (rules_of l) name o printed k →
         IsWidenedAnswer q r name printed k w.value }
     // It has no fault except `Memory`.
-    ensures newer_reads { (xs ys : List (List ℕ)) (p q : Program) (s r : List Resolved) (name second o : List ℕ)
+    ensures newer_reads { (xs ys : List (List ℕ)) (p q : Program) (s r : List Resolved) (name : List ℕ) (second : Given)
+        (o : List ℕ)
         (a : Account) (e : Fault) (l : Rules') →
         Accepted xs p s →
         Accepted ys q r →
@@ -250,7 +261,8 @@ pub fn versions()
 pub fn packed_versions()
     // The older version prints what it keeps of the value, and skips the additions that it leaves out. The exception is
     // a value with an alternative or an item that the older version doesn't know.
-    ensures older { (xs ys : List (List ℕ)) (p q : Program) (s r : List Resolved) (name second o printed : List ℕ)
+    ensures older { (xs ys : List (List ℕ)) (p q : Program) (s r : List Resolved) (name : List ℕ) (second : Given)
+        (o printed : List ℕ)
         (k : ℕ) →
         Accepted xs p s →
         Accepted ys q r →
@@ -260,7 +272,8 @@ pub fn packed_versions()
         IsUnpackedAs p s name o printed k →
         IsPackedKeptAnswer p s r c.newer name printed k w.value }
     // It has no fault except `Memory`.
-    ensures older_reads { (xs ys : List (List ℕ)) (p q : Program) (s r : List Resolved) (name second o : List ℕ)
+    ensures older_reads { (xs ys : List (List ℕ)) (p q : Program) (s r : List Resolved) (name : List ℕ) (second : Given)
+        (o : List ℕ)
         (e : Fault) →
         Accepted xs p s →
         Accepted ys q r →
@@ -270,7 +283,8 @@ pub fn packed_versions()
         IsNotUnpackedAs p s name o e →
         e ≡ Memory }
     // The newer version prints the value with what was appended absent, and skips nothing.
-    ensures newer { (xs ys : List (List ℕ)) (p q : Program) (s r : List Resolved) (name second o printed : List ℕ)
+    ensures newer { (xs ys : List (List ℕ)) (p q : Program) (s r : List Resolved) (name : List ℕ) (second : Given)
+        (o printed : List ℕ)
         (k : ℕ) →
         Accepted xs p s →
         Accepted ys q r →
@@ -279,7 +293,8 @@ pub fn packed_versions()
         IsUnpackedAs q r name o printed k →
         IsWidenedAnswer q r name printed k w.value }
     // It has no fault except `Memory`.
-    ensures newer_reads { (xs ys : List (List ℕ)) (p q : Program) (s r : List Resolved) (name second o : List ℕ)
+    ensures newer_reads { (xs ys : List (List ℕ)) (p q : Program) (s r : List Resolved) (name : List ℕ) (second : Given)
+        (o : List ℕ)
         (e : Fault) →
         Accepted xs p s →
         Accepted ys q r →
@@ -300,14 +315,16 @@ pub fn one_answer()
         IsNotOpened xs e →
         e ≡ Memory }
     // If there is an encoding, the texts mean a value of the type, and its encoding isn't too long.
-    ensures written { (xs : List (List ℕ)) (p : Program) (s : List Resolved) (first second o : List ℕ) (a : Account)
+    ensures written { (xs : List (List ℕ)) (p : Program) (s : List Resolved) (first : List ℕ) (second : Given)
+        (o : List ℕ) (a : Account)
         (e : Fault) →
         Accepted xs p s →
         IsEncoded p s first second o a →
         IsNotEncoded p s first second e →
         e ≡ Memory }
     // If a value is packed, it is one of the type, and its bits are not too long.
-    ensures packed { (xs : List (List ℕ)) (p : Program) (s : List Resolved) (first second o : List ℕ) (e : Fault) →
+    ensures packed { (xs : List (List ℕ)) (p : Program) (s : List Resolved) (first : List ℕ) (second : Given)
+        (o : List ℕ) (e : Fault) →
         Accepted xs p s →
         IsPacked p s first second o →
         IsNotPacked p s first second e →

@@ -5,6 +5,7 @@ use Rattle.account_checker.specs.declared.reason.Verdict.TheVariants.{Yes, No}
 use Rattle.front_end.specs.Accepted.{octets_of}
 use Rattle.judging.specs.Judged.{IsJudged, IsNotJudged, answer_of}
 use Rattle.messages.specs.declared.fault.Fault.{Fault}
+use Rattle.named_values.specs.Given.{named}
 use Rattle.sinks.specs.Sent.{SinkState, SentAll, SentFront}
 use Rattle.command_line.specs.declared.request.Job.{Job}
 use Rattle.check_jobs.specs.declared.inputs.Inputs.{Inputs}
@@ -20,7 +21,7 @@ is_yes (No r) = false
 pub record IsVerdictLine (job : Job) (inputs : Inputs) (yes : Bool) (output : List ℕ) : Type 0 where
   pub verdict : Verdict
   -- the verdict is the one on the texts, the names of a type and of a value, the octets and the account
-  pub judged : IsJudged (map octets_of inputs.files.items) (string_bytes job.ty) (string_bytes job.value)
+  pub judged : IsJudged (map octets_of inputs.files.items) (string_bytes job.ty) (named (string_bytes job.value))
       (octets_given job.octets inputs.octets) (contents inputs.account) verdict
   pub output_is : output ≡ line_of (answer_of verdict)
   pub yes_is : yes ≡ is_yes verdict
@@ -28,7 +29,7 @@ pub record IsVerdictLine (job : Job) (inputs : Inputs) (yes : Bool) (output : Li
 -- there is no verdict on the claim of the job, for the first fault in the order texts, names, value and account
 abbrev pub IsNotChecked : Job → Inputs → Fault → Type 0
 IsNotChecked job inputs fault =
-    IsNotJudged (map octets_of inputs.files.items) (string_bytes job.ty) (string_bytes job.value)
+    IsNotJudged (map octets_of inputs.files.items) (string_bytes job.ty) (named (string_bytes job.value))
     (contents inputs.account) fault
 
 -- a sink went from state a to state b because it took exactly the line of the verdict

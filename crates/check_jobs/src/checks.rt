@@ -9,7 +9,7 @@ ghost use Rattle.sinks.specs.Sent.{state};
 
 use crate::inputs::{Inputs, Output, ended};
 use command_line::Job;
-use judging::{Verdict, answer, judge};
+use judging::{ValueGiven, Verdict, answer, judge};
 use messages::Fault;
 use sinks::{Sink, send_all};
 use std::alloc::Global;
@@ -44,7 +44,7 @@ pub fn check_output(alloc: Global, job: &Job, inputs: &Inputs) -> Result<Output,
         alloc,
         inputs.files.as_slice(),
         job.ty.as_str(),
-        job.value.as_str(),
+        ValueGiven::Named(job.value.as_str()),
         inputs.octets_of(job),
         inputs.account(),
     ) {

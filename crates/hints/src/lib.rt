@@ -7,4 +7,4 @@ mod wants;
 
 pub use hint::{did_you_mean, is_small};
 pub use near::is_near;
-pub use wants::wanted;
+pub use wants::{wanted, wanted_in_value};

@@ -1,4 +1,4 @@
-//! What can come at a place of a module's text, in words.
+//! What can come at a place of a module's text, or of the text of a notation, in words.
 
 ghost use Rattle.std.specs.Prelude.{◌≡◌, IfOk, codes, string_bytes};
 
@@ -6,7 +6,7 @@ use crate::near::is_near;
 use expected_tokens::expected;
 use std::alloc::{AllocError, Global};
 use text::reserved::Word;
-use text::{Mark, Token, TokenKind};
+use text::{Mark, Span, Token, TokenKind};
 
 /// The number of kinds of tokens with which a type can begin.
 const TYPE_KINDS: usize = 19;
@@ -173,6 +173,72 @@ pub fn wanted(
     }
     let front = tokens.get(..place).unwrap_or(tokens);
     let kinds = expected(alloc, front)?;
+    let mut words = list(alloc, kinds.as_slice())?;
+    if let Some(word) = meant(kinds.as_slice(), found) {
+        words.push_str("; did you mean ")?;
+        words.push_str(word)?;
+        words.push('?')?;
+    }
+    Ok(words)
+}
+
+/// The kinds of the tokens of a module up to the notation of a value, as in `M DEFINITIONS ::= BEGIN v T ::=`.
+const BEFORE_VALUE: [TokenKind; 7] = [
+    TokenKind::TypeReference,
+    TokenKind::Reserved(Word::Definitions),
+    TokenKind::Mark(Mark::Assign),
+    TokenKind::Reserved(Word::Begin),
+    TokenKind::Identifier,
+    TokenKind::TypeReference,
+    TokenKind::Mark(Mark::Assign),
+];
+
+/// Tokens with those of a module before them, up to the notation of a value.
+fn in_module(alloc: Global, tokens: &[Token]) -> Result<Vec<Token>, AllocError> {
+    let mut all = Vec::new(alloc);
+    for kind in &BEFORE_VALUE {
+        let span = Span { start: 0, end: 0 };
+        all.push(Token { kind: *kind, span })?;
+    }
+    for token in tokens {
+        all.push(*token)?;
+    }
+    Ok(all)
+}
+
+/// Whether a token of this kind comes after a value in a module: with it the next assignment begins, or the module ends.
+fn comes_after_value(kind: TokenKind) -> bool {
+    matches!(
+        kind,
+        TokenKind::Identifier | TokenKind::TypeReference | TokenKind::Reserved(Word::End)
+    )
+}
+
+/// Kinds of tokens after a whole value in words: those that go on with it, and the end of the notation.
+fn list_after_value(alloc: Global, kinds: &[TokenKind]) -> Result<String, AllocError> {
+    let mut words = String::new(alloc);
+    for kind in kinds {
+        if !comes_after_value(*kind) {
+            join(&mut words, called(*kind))?;
+        }
+    }
+    join(&mut words, "the end of the notation")?;
+    Ok(words)
+}
+
+/// Returns what can come at a place of the notation of a value that is a text of its own, in words. `AllocError` comes
+/// only if an allocation fails.
+pub fn wanted_in_value(
+    alloc: Global,
+    tokens: &[Token],
+    place: usize,
+    found: &str,
+) -> Result<String, AllocError> {
+    let front = in_module(alloc, tokens.get(..place).unwrap_or(tokens))?;
+    let kinds = expected(alloc, front.as_slice())?;
+    if kinds.iter().any(|kind| *kind == TokenKind::Reserved(Word::End)) {
+        return list_after_value(alloc, kinds.as_slice());
+    }
     let mut words = list(alloc, kinds.as_slice())?;
     if let Some(word) = meant(kinds.as_slice(), found) {
         words.push_str("; did you mean ")?;

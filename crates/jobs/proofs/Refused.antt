@@ -21,14 +21,15 @@ use Rattle.named_values.specs.Named.{TypeNamed}
 use Rattle.check_jobs.specs.declared.inputs.Inputs.{Inputs}
 use Rattle.check_jobs.specs.Inputs.{octets_given}
 use Rattle.jobs.specs.Refusals.{IsNewerFault, IsNoAnswer, IsNoOutput, LacksType, Refuses}
+use Rattle.named_values.specs.Given.{Given, named}
 
 -- ---- memory is a reason for any command
 
-pub not_encoded : (p : Program) (s : List Resolved) (first second : List ℕ) (e : Fault) → e ≡ Memory →
+pub not_encoded : (p : Program) (s : List Resolved) (first : List ℕ) (second : Given) (e : Fault) → e ≡ Memory →
     IsNotEncoded p s first second e
 not_encoded p s first second e is = subst (λ x. IsNotEncoded p s first second x) (sym is) (inl tt)
 
-pub not_packed : (p : Program) (s : List Resolved) (first second : List ℕ) (e : Fault) → e ≡ Memory →
+pub not_packed : (p : Program) (s : List Resolved) (first : List ℕ) (second : Given) (e : Fault) → e ≡ Memory →
     IsNotPacked p s first second e
 not_packed p s first second e is = subst (λ x. IsNotPacked p s first second x) (sym is) (inl tt)
 
@@ -42,23 +43,23 @@ not_unpacked p s name o e is = subst (λ x. IsNotUnpackedAs p s name o x) (sym i
 
 -- ---- a device is no reason
 
-not_written : (p : Program) (s : List Resolved) (first second : List ℕ) (n : ℕ) →
+not_written : (p : Program) (s : List Resolved) (first : List ℕ) (second : Given) (n : ℕ) →
     IsNotEncoded p s first second (Device n) → ⊥
 not_written p s first second n (inl h) = h
 not_written p s first second n (inr h) = let is = h.0 in cc
 
-not_put : (p : Program) (s : List Resolved) (first second : List ℕ) (n : ℕ) →
+not_put : (p : Program) (s : List Resolved) (first : List ℕ) (second : Given) (n : ℕ) →
     IsNotPacked p s first second (Device n) → ⊥
 not_put p s first second n (inl h) = h
 not_put p s first second n (inr h) = let is = h.0 in cc
 
 refuses_no_device : (v : Verb) (p : Program) (s : List Resolved) (job : Job) (o : List ℕ) (n : ℕ) →
     Refuses v p s job o (Device n) → ⊥
-refuses_no_device verbs.Der p s job o n h = not_written p s (string_bytes job.ty) (string_bytes job.value) n h
+refuses_no_device verbs.Der p s job o n h = not_written p s (string_bytes job.ty) (named (string_bytes job.value)) n h
 refuses_no_device verbs.Ber p s job o n h = h
-refuses_no_device verbs.Uper p s job o n h = not_put p s (string_bytes job.ty) (string_bytes job.value) n h
+refuses_no_device verbs.Uper p s job o n h = not_put p s (string_bytes job.ty) (named (string_bytes job.value)) n h
 refuses_no_device verbs.Unper p s job o n h = h
-refuses_no_device verbs.Account p s job o n h = not_written p s (string_bytes job.ty) (string_bytes job.value) n h
+refuses_no_device verbs.Account p s job o n h = not_written p s (string_bytes job.ty) (named (string_bytes job.value)) n h
 refuses_no_device verbs.List p s job o n h = cc
 refuses_no_device verbs.Later p s job o n h = h
 refuses_no_device verbs.Check p s job o n h = h
@@ -117,6 +118,7 @@ older_refused older newer name (faults.File x) h = absurd h
 older_refused older newer name (faults.NoFile x) h = absurd h
 older_refused older newer name (faults.Folder x) h = absurd h
 older_refused older newer name (faults.Value x) h = absurd h
+older_refused older newer name (faults.Notation f) h = absurd h
 older_refused older newer name faults.TooLong h = absurd h
 older_refused older newer name (faults.UnreadBits u) h = absurd h
 older_refused older newer name faults.MessageLimit h = absurd h
@@ -139,6 +141,7 @@ newer_refused older newer name p (faults.File x) a h = absurd h
 newer_refused older newer name p (faults.NoFile x) a h = absurd h
 newer_refused older newer name p (faults.Folder x) a h = absurd h
 newer_refused older newer name p (faults.Value x) a h = absurd h
+newer_refused older newer name p (faults.Notation f) a h = absurd h
 newer_refused older newer name p faults.TooLong a h = absurd h
 newer_refused older newer name p (faults.UnreadBits u) a h = absurd h
 newer_refused older newer name p faults.MessageLimit a h = absurd h
@@ -163,6 +166,7 @@ without_type older newer name p q (faults.File x) a b h = absurd h
 without_type older newer name p q (faults.NoFile x) a b h = absurd h
 without_type older newer name p q (faults.Folder x) a b h = absurd h
 without_type older newer name p q (faults.Value x) a b h = absurd h
+without_type older newer name p q (faults.Notation f) a b h = absurd h
 without_type older newer name p q faults.TooLong a b h = absurd h
 without_type older newer name p q (faults.UnreadBits u) a b h = absurd h
 without_type older newer name p q faults.MessageLimit a b h = absurd h

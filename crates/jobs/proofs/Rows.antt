@@ -16,6 +16,7 @@ use Rattle.asnc.specs.Versions.{IsCompared}
 use Rattle.asnc.specs.Writing.{IsAccountOf, IsEncoded}
 use Rattle.messages.specs.declared.fault.Fault.{Fault}
 use Rattle.messages.specs.declared.fault.Fault.TheVariants as faults
+use Rattle.named_values.specs.Given.{named}
 use Rattle.sinks.specs.Sent.{SinkState, SentAll, SentFront}
 use Rattle.command_line.specs.declared.request.Job.{Job}
 use Rattle.command_line.specs.declared.request.Verb.TheVariants as verbs
@@ -61,7 +62,7 @@ other_version = refl
 -- ---- what commands print
 
 module _ (p : Program) (s : List Resolved) (job : Job) (out : List ℕ) (r : PrintsDer p s job out) where
-  der_octets : IsEncoded p s (string_bytes job.ty) (string_bytes job.value) r.octets r.account
+  der_octets : IsEncoded p s (string_bytes job.ty) (named (string_bytes job.value)) r.octets r.account
   der_octets = r.encoded
 
   der_raw : job.raw ≡ true → out ≡ r.octets
@@ -78,7 +79,7 @@ module _ (p : Program) (s : List Resolved) (job : Job) (o out : List ℕ) (r : P
   ber_lines = r.output_is
 
 module _ (p : Program) (s : List Resolved) (job : Job) (out : List ℕ) (r : PrintsUper p s job out) where
-  uper_octets : IsPacked p s (string_bytes job.ty) (string_bytes job.value) r.octets
+  uper_octets : IsPacked p s (string_bytes job.ty) (named (string_bytes job.value)) r.octets
   uper_octets = r.packed
 
   uper_line : out ≡ hex_line r.octets
@@ -92,7 +93,7 @@ module _ (p : Program) (s : List Resolved) (job : Job) (o out : List ℕ) (r : P
   unper_lines = r.output_is
 
 module _ (p : Program) (s : List Resolved) (job : Job) (out : List ℕ) (r : PrintsAccount p s job out) where
-  account_text : IsAccountOf p s (string_bytes job.ty) (string_bytes job.value) r.text
+  account_text : IsAccountOf p s (string_bytes job.ty) (named (string_bytes job.value)) r.text
   account_text = r.account
 
   account_line : out ≡ line_of r.text

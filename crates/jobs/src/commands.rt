@@ -10,8 +10,9 @@ ghost use Rattle.jobs.specs.Outputs.{hex_line, rules_if, value_lines, Prints};
 ghost use Rattle.jobs.specs.Outputs.{PrintsAccount, PrintsBer, PrintsDer, PrintsUnper, PrintsUper};
 ghost use Rattle.jobs.specs.Refusals.{Refuses};
 ghost use Rattle.messages.specs.declared.fault.Fault.TheVariants.{Memory};
+ghost use Rattle.named_values.specs.Given.{named};
 
-use asnc::{Kit, Rules};
+use asnc::{Kit, Rules, ValueGiven};
 use check_jobs::ended;
 use command_line::{Job, Verb};
 use messages::Fault;
@@ -40,9 +41,9 @@ fn value_text(alloc: Global, mut text: String, skipped: u64) -> Result<Vec<u8>, 
 fn der(alloc: Global, kit: &Kit, job: &Job) -> Result<Vec<u8>, Fault>
     ensures printed { IfOk result (λ v. PrintsDer kit.now.program kit.now.types job.now v.items) }
     ensures refused { IfErr result
-        (IsNotEncoded kit.now.program kit.now.types (string_bytes job.now.ty) (string_bytes job.now.value)) }
+        (IsNotEncoded kit.now.program kit.now.types (string_bytes job.now.ty) (named (string_bytes job.now.value))) }
 {
-    let (octets, _account) = match kit.der(alloc, job.ty.as_str(), job.value.as_str()) {
+    let (octets, _account) = match kit.der(alloc, job.ty.as_str(), ValueGiven::Named(job.value.as_str())) {
         Ok(written) => written,
         Err(fault) => return Err(fault),
     };
@@ -59,9 +60,9 @@ fn der(alloc: Global, kit: &Kit, job: &Job) -> Result<Vec<u8>, Fault>
 fn uper(alloc: Global, kit: &Kit, job: &Job) -> Result<Vec<u8>, Fault>
     ensures printed { IfOk result (λ v. PrintsUper kit.now.program kit.now.types job.now v.items) }
     ensures refused { IfErr result
-        (IsNotPacked kit.now.program kit.now.types (string_bytes job.now.ty) (string_bytes job.now.value)) }
+        (IsNotPacked kit.now.program kit.now.types (string_bytes job.now.ty) (named (string_bytes job.now.value))) }
 {
-    let octets = match kit.uper(alloc, job.ty.as_str(), job.value.as_str()) {
+    let octets = match kit.uper(alloc, job.ty.as_str(), ValueGiven::Named(job.value.as_str())) {
         Ok(octets) => octets,
         Err(fault) => return Err(fault),
     };
@@ -75,9 +76,9 @@ fn uper(alloc: Global, kit: &Kit, job: &Job) -> Result<Vec<u8>, Fault>
 fn account(alloc: Global, kit: &Kit, job: &Job) -> Result<Vec<u8>, Fault>
     ensures printed { IfOk result (λ v. PrintsAccount kit.now.program kit.now.types job.now v.items) }
     ensures refused { IfErr result
-        (IsNotEncoded kit.now.program kit.now.types (string_bytes job.now.ty) (string_bytes job.now.value)) }
+        (IsNotEncoded kit.now.program kit.now.types (string_bytes job.now.ty) (named (string_bytes job.now.value))) }
 {
-    let text = match kit.account(alloc, job.ty.as_str(), job.value.as_str()) {
+    let text = match kit.account(alloc, job.ty.as_str(), ValueGiven::Named(job.value.as_str())) {
         Ok(text) => text,
         Err(fault) => return Err(fault),
     };

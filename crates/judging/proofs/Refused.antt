@@ -15,14 +15,17 @@ use Rattle.named_values.specs.Meant.{IsMeant, IsNotMeant}
 use Rattle.judging.specs.Judged.{IsAccountIn, IsNoAccount, IsNotJudged, IsNotJudgedOn, IsVerdictOn}
 use Rattle.account_checker.specs.declared.reason.Verdict.{Verdict}
 use Rattle.asn_base.specs.Types.{Resolved}
+use Rattle.named_values.specs.Given.{Given}
 
 -- texts that mean no value have no verdict
-pub not_meant : (p : Program) (first second account : List ℕ) (e : Fault) → IsNotMeant p first second e →
+pub not_meant : (p : Program) (first : List ℕ) (second : Given) (account : List ℕ) (e : Fault) →
+    IsNotMeant p first second e →
     IsNotJudgedOn p first second account e
 not_meant p first second account faults.Memory h = h
 not_meant p first second account (faults.NoType x) h = h
 not_meant p first second account (faults.NoValue x) h = h
 not_meant p first second account (faults.Value t) h = h
+not_meant p first second account (faults.Notation t) h = h
 not_meant p first second account (faults.Front f) h = h
 not_meant p first second account (faults.Unread u) h = h
 not_meant p first second account (faults.BadWords x) h = h
@@ -39,13 +42,15 @@ not_meant p first second account (faults.Device n) h = h
 not_meant p first second account (faults.NotAccount s) h = absurd h
 
 -- a value without an account has none
-pub not_read : (p : Program) (first second account : List ℕ) (t : ℕ) (v : AbstractValue) (e : Fault) →
+pub not_read : (p : Program) (first : List ℕ) (second : Given) (account : List ℕ) (t : ℕ) (v : AbstractValue)
+    (e : Fault) →
     IsMeant p first second t v → IsNoAccount account e → IsNotJudgedOn p first second account e
 not_read p first second account t v faults.Memory m h = tt
 not_read p first second account t v (faults.NotAccount s) m h = record { type = t; value = v; meant = m; none = h }
 not_read p first second account t v (faults.NoType x) m h = absurd h
 not_read p first second account t v (faults.NoValue x) m h = absurd h
 not_read p first second account t v (faults.Value x) m h = absurd h
+not_read p first second account t v (faults.Notation x) m h = absurd h
 not_read p first second account t v (faults.Front f) m h = absurd h
 not_read p first second account t v (faults.Unread u) m h = absurd h
 not_read p first second account t v (faults.BadWords x) m h = absurd h
@@ -61,12 +66,14 @@ not_read p first second account t v faults.MessageLimit m h = absurd h
 not_read p first second account t v (faults.Device n) m h = absurd h
 
 -- if there is no verdict in the program of accepted texts, there is none for these texts
-pub not_judged : (xs : List (List ℕ)) (p : Program) (first second account : List ℕ) (e : Fault) → AreAccepted xs p →
+pub not_judged : (xs : List (List ℕ)) (p : Program) (first : List ℕ) (second : Given) (account : List ℕ) (e : Fault) →
+    AreAccepted xs p →
     IsNotJudgedOn p first second account e → IsNotJudged xs first second account e
 not_judged xs p first second account faults.Memory a h = tt
 not_judged xs p first second account (faults.NoType x) a h = record { program = p; accepted = a; on = h }
 not_judged xs p first second account (faults.NoValue x) a h = record { program = p; accepted = a; on = h }
 not_judged xs p first second account (faults.Value x) a h = record { program = p; accepted = a; on = h }
+not_judged xs p first second account (faults.Notation x) a h = record { program = p; accepted = a; on = h }
 not_judged xs p first second account (faults.NotAccount s) a h = record { program = p; accepted = a; on = h }
 not_judged xs p first second account (faults.Front f) a h = absurd h
 not_judged xs p first second account (faults.Unread u) a h = absurd h
@@ -96,16 +103,22 @@ in_text o t a e u i = record { utf8 = u; is = subst (λ x. IsTextOf x a) e i }
 -- ---- there is a verdict
 
 abbrev pub Refuses : Type 0
-Refuses = (p : Program) (first second : List ℕ) (t : ℕ) (v : AbstractValue) (e : Fault) → Keeps p →
+Refuses = (p : Program) (first : List ℕ) (second : Given) (t : ℕ) (v : AbstractValue) (e : Fault) → Keeps p →
     IsMeant p first second t v → IsNotMeant p first second e → e ≡ faults.Memory
 
-pub not_refused : Refuses → (p : Program) (s : List Resolved) (first second o account : List ℕ) (r : Verdict) (e : Fault) →
+pub not_refused : Refuses → (p : Program) (s : List Resolved) (first : List ℕ) (second : Given) (o account : List ℕ)
+    (r : Verdict) (e : Fault) →
     Keeps p → IsVerdictOn p s first second o account r → IsNotJudgedOn p first second account e → e ≡ faults.Memory
 not_refused law p s first second o account r (faults.NotAccount x) k v h = absurd (h.none v.told v.read)
 not_refused law p s first second o account r faults.Memory k v h = refl
-not_refused law p s first second o account r (faults.NoType x) k v h = law p first second v.type v.value (faults.NoType x) k v.meant h
-not_refused law p s first second o account r (faults.NoValue x) k v h = law p first second v.type v.value (faults.NoValue x) k v.meant h
-not_refused law p s first second o account r (faults.Value x) k v h = law p first second v.type v.value (faults.Value x) k v.meant h
+not_refused law p s first second o account r (faults.NoType x) k v h = law p first second v.type v.value
+    (faults.NoType x) k v.meant h
+not_refused law p s first second o account r (faults.NoValue x) k v h = law p first second v.type v.value
+    (faults.NoValue x) k v.meant h
+not_refused law p s first second o account r (faults.Value x) k v h = law p first second v.type v.value
+    (faults.Value x) k v.meant h
+not_refused law p s first second o account r (faults.Notation x) k v h = law p first second v.type v.value
+    (faults.Notation x) k v.meant h
 not_refused law p s first second o account r (faults.Front f) k v h = absurd h
 not_refused law p s first second o account r (faults.Unread u) k v h = absurd h
 not_refused law p s first second o account r (faults.BadWords x) k v h = absurd h
@@ -121,20 +134,24 @@ not_refused law p s first second o account r faults.MessageLimit k v h = absurd 
 not_refused law p s first second o account r (faults.Device n) k v h = absurd h
 
 abbrev pub Excludes : Type 0
-Excludes = (xs : List (List ℕ)) (p : Program) (f : FrontFault) → (f ≡ texts.Memory → ⊥) → Stands xs f → AreAccepted xs p → ⊥
+Excludes = (xs : List (List ℕ)) (p : Program) (f : FrontFault) → (f ≡ texts.Memory → ⊥) → Stands xs f →
+    AreAccepted xs p → ⊥
 
 abbrev pub OneProgram : Type 0
 OneProgram = (xs : List (List ℕ)) (p q : Program) → AreAccepted xs p → AreAccepted xs q → p ≡ q
 
 -- the same if the program is that of the texts
-in_texts : Refuses → OneProgram → (xs : List (List ℕ)) (p q : Program) (s : List Resolved) (first second o account : List ℕ)
-    (r : Verdict) (e : Fault) → Keeps p → AreAccepted xs p → AreAccepted xs q → IsVerdictOn p s first second o account r →
+in_texts : Refuses → OneProgram → (xs : List (List ℕ)) (p q : Program) (s : List Resolved) (first : List ℕ)
+    (second : Given) (o account : List ℕ)
+    (r : Verdict) (e : Fault) → Keeps p → AreAccepted xs p → AreAccepted xs q →
+    IsVerdictOn p s first second o account r →
     IsNotJudgedOn q first second account e → e ≡ faults.Memory
 in_texts law one xs p q s first second o account r e k a b v h =
-    not_refused law p s first second o account r e k v (subst (λ x. IsNotJudgedOn x first second account e) (one xs q p b a) h)
+    not_refused law p s first second o account r e k v
+    (subst (λ x. IsNotJudgedOn x first second account e) (one xs q p b a) h)
 
 pub texts_judged : Refuses → OneProgram → Excludes → (xs : List (List ℕ)) (p : Program) (s : List Resolved)
-    (first second o account : List ℕ) (r : Verdict) (e : Fault) → Keeps p → AreAccepted xs p →
+    (first : List ℕ) (second : Given) (o account : List ℕ) (r : Verdict) (e : Fault) → Keeps p → AreAccepted xs p →
     IsVerdictOn p s first second o account r → IsNotJudged xs first second account e → e ≡ faults.Memory
 texts_judged law one other xs p s first second o account r faults.Memory k a v h = refl
 texts_judged law one other xs p s first second o account r (faults.Front f) k a v h = absurd (other xs p f h.0 h.1 a)
@@ -144,6 +161,8 @@ texts_judged law one other xs p s first second o account r (faults.NoValue x) k 
     in_texts law one xs p h.program s first second o account r (faults.NoValue x) k a h.accepted v h.on
 texts_judged law one other xs p s first second o account r (faults.Value x) k a v h =
     in_texts law one xs p h.program s first second o account r (faults.Value x) k a h.accepted v h.on
+texts_judged law one other xs p s first second o account r (faults.Notation x) k a v h =
+    in_texts law one xs p h.program s first second o account r (faults.Notation x) k a h.accepted v h.on
 texts_judged law one other xs p s first second o account r (faults.NotAccount x) k a v h =
     in_texts law one xs p h.program s first second o account r (faults.NotAccount x) k a h.accepted v h.on
 texts_judged law one other xs p s first second o account r (faults.Unread u) k a v h = absurd h.on

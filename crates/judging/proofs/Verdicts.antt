@@ -12,6 +12,7 @@ use Rattle.resolve.specs.Program.{Program}
 use Rattle.front_end.specs.Accepted.{Keeps}
 use Rattle.named_values.specs.Meant.{IsMeant}
 use Rattle.judging.specs.Judged.{IsVerdict, IsVerdictOn}
+use Rattle.named_values.specs.Given.{Given}
 
 pub verdict_is : (s : List Resolved) (t : ℕ) (v : AbstractValue) (o : List ℕ) (a : Account) (r : Verdict)
     → (r ≡ Yes ↔ IsRight s t v o a)
@@ -34,10 +35,12 @@ abbrev pub OneAccount : Type 0
 OneAccount = (text : List ℕ) (a b : Account) → IsTextOf text a → IsTextOf text b → a ≡ b
 
 abbrev pub OneMeaning : Type 0
-OneMeaning = (p : Program) (first second : List ℕ) (t u : ℕ) (v w : AbstractValue) → Keeps p → IsMeant p first second t v →
+OneMeaning = (p : Program) (first : List ℕ) (second : Given) (t u : ℕ) (v w : AbstractValue) → Keeps p →
+    IsMeant p first second t v →
     IsMeant p first second u w → (t ≡ u) × (v ≡ w)
 
-one_of_two : OneReason → NoReason → (s : List Resolved) (t : ℕ) (v : AbstractValue) (o : List ℕ) (a : Account) (r e : Verdict)
+one_of_two : OneReason → NoReason → (s : List Resolved) (t : ℕ) (v : AbstractValue) (o : List ℕ) (a : Account)
+    (r e : Verdict)
     → IsVerdict s t v o a r
     → IsVerdict s t v o a e
     → r ≡ e
@@ -47,7 +50,8 @@ one_of_two one none s t v o a (No r) Yes h k = absurd (none s t v o a r k h)
 one_of_two one none s t v o a (No r) (No e) h k = ap No (one s t v o a r e h k)
 
 pub one_verdict : OneReason → NoReason → OneAccount → OneMeaning → (p : Program) (s : List Resolved)
-    (first second o account : List ℕ) (r e : Verdict) → Keeps p → IsVerdictOn p s first second o account r →
+    (first : List ℕ) (second : Given) (o account : List ℕ) (r e : Verdict) → Keeps p →
+    IsVerdictOn p s first second o account r →
     IsVerdictOn p s first second o account e → r ≡ e
 one_verdict one none account_of meaning p s first second o account r e kept a b =
     let m = meaning p first second a.type b.type a.value b.value kept a.meant b.meant in

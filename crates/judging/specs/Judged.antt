@@ -1,4 +1,4 @@
--- The answers of the checker (X.690, clauses 8, 10 and 11): what a verdict means for a value that texts name, and what
+-- The answers of the checker (X.690, clauses 8, 10 and 11): what a verdict means for a value that is given, and what
 -- follows from a yes. They also say why there is no verdict.
 use Rattle.std.specs.Prelude.{◌≡◌, ℕ, List, IsUtf8, codes}
 use Rattle.asn_base.specs.Abstract.{AbstractValue}
@@ -21,7 +21,8 @@ use Rattle.front_end.specs.declared.fault.FrontFault.TheVariants as texts
 use Rattle.messages.specs.declared.fault.Fault.{Fault}
 use Rattle.messages.specs.declared.fault.Fault.TheVariants as faults
 use Rattle.named_values.specs.Meant.{IsMeant, IsNotMeant}
-use Rattle.named_values.specs.Named.{AreNamed}
+use Rattle.named_values.specs.Named.{AreGiven}
+use Rattle.named_values.specs.Given.{Given}
 
 -- the octets are UTF-8, and the text that they are is that of account a
 pub record IsAccountIn (octets : List ℕ) (a : Account) : Type 0 where
@@ -34,9 +35,10 @@ abbrev pub IsVerdict : List Resolved → ℕ → AbstractValue → List ℕ → 
 IsVerdict s t v o a Yes = IsRight s t v o a
 IsVerdict s t v o a (No r) = Fails s t v o a r
 
--- The names of a type and of a value mean a value of a type of program p, and the text `account` is that of an account.
+-- The name of a type and what is given mean a value of a type of program p, and the text `account` is that of an account.
 -- Verdict r is the one on these and octets o.
-pub record IsVerdictOn (p : Program) (s : List Resolved) (first second o account : List ℕ) (r : Verdict) : Type 0 where
+pub record IsVerdictOn (p : Program) (s : List Resolved) (first : List ℕ) (second : Given) (o account : List ℕ)
+    (r : Verdict) : Type 0 where
   pub type : ℕ
   pub value : AbstractValue
   pub meant : IsMeant p first second type value
@@ -46,23 +48,25 @@ pub record IsVerdictOn (p : Program) (s : List Resolved) (first second o account
 
 -- The texts xs are accepted, as a program with its types, and verdict r is the one in this program. It is on the names
 -- of a type and of a value, octets o, and the text of an account.
-pub record IsJudged (xs : List (List ℕ)) (first second o account : List ℕ) (r : Verdict) : Type 0 where
+pub record IsJudged (xs : List (List ℕ)) (first : List ℕ) (second : Given) (o account : List ℕ) (r : Verdict)
+    : Type 0 where
   pub program : Program
   pub types : List Resolved
   pub accepted : Accepted xs program types
   pub on : IsVerdictOn program types first second o account r
 
--- What a yes alone means for texts xs, the name of a type, the name of a value, and octets o.
-pub record IsConfirmed (xs : List (List ℕ)) (first second o : List ℕ) : Type 0 where
+-- What a yes alone means for texts xs, the name of a type, a value that is given, and octets o.
+pub record IsConfirmed (xs : List (List ℕ)) (first : List ℕ) (second : Given) (o : List ℕ) : Type 0 where
   -- the texts are accepted, as this program with these types
   pub program : Program
   pub types : List Resolved
   pub accepted : Accepted xs program types
-  -- the first name is that of this type, and the value with the second name has this notation in this module
+  -- the first name is that of this type; the value that is given, by its name or by a text, has this notation, which is
+  -- read in this module
   pub type : ℕ
   pub within : Name
   pub notation : Tree
-  pub named : AreNamed program first second type within notation
+  pub named : AreGiven program first second type within notation
   -- the notation means this value under the type, and the value is one of the type
   pub value : AbstractValue
   pub stands : StandsFor program within type notation value
@@ -79,26 +83,27 @@ IsNoAccount octets (faults.NotAccount s) = (a : Account) → IsAccountIn octets 
 IsNoAccount octets fault = ⊥
 
 -- the two texts mean a value, and the third isn't the text of an account
-pub record HasNoAccount (p : Program) (first second account : List ℕ) : Type 0 where
+pub record HasNoAccount (p : Program) (first : List ℕ) (second : Given) (account : List ℕ) : Type 0 where
   pub type : ℕ
   pub value : AbstractValue
   pub meant : IsMeant p first second type value
   pub none : (a : Account) → IsAccountIn account a → ⊥
 
 -- There is no verdict in a program: the texts mean no value, or otherwise there is no account.
-abbrev pub IsNotJudgedOn : Program → List ℕ → List ℕ → List ℕ → Fault → Type 0
+abbrev pub IsNotJudgedOn : Program → (first : List ℕ) → (second : Given) → (account : List ℕ) → Fault → Type 0
 IsNotJudgedOn p first second account (faults.NotAccount s) = HasNoAccount p first second account
 IsNotJudgedOn p first second account fault = IsNotMeant p first second fault
 
 -- the texts are accepted, and there is no verdict in their program
-pub record IsNotJudgedIn (xs : List (List ℕ)) (first second account : List ℕ) (fault : Fault) : Type 0 where
+pub record IsNotJudgedIn (xs : List (List ℕ)) (first : List ℕ) (second : Given) (account : List ℕ) (fault : Fault)
+    : Type 0 where
   pub program : Program
   pub accepted : AreAccepted xs program
   pub on : IsNotJudgedOn program first second account fault
 
 -- There is no verdict. A fault of the texts is true, the first one in reading order; or otherwise there is no verdict
 -- in their program. `Memory` says nothing.
-abbrev pub IsNotJudged : List (List ℕ) → List ℕ → List ℕ → List ℕ → Fault → Type 0
+abbrev pub IsNotJudged : List (List ℕ) → (first : List ℕ) → (second : Given) → (account : List ℕ) → Fault → Type 0
 IsNotJudged xs first second account faults.Memory = Unit {0}
 IsNotJudged xs first second account (faults.Front f) = (f ≡ texts.Memory → ⊥) × Stands xs f
 IsNotJudged xs first second account fault = IsNotJudgedIn xs first second account fault

@@ -7,6 +7,7 @@ ghost use Rattle.front_end.specs.Accepted.{octets_of};
 ghost use Rattle.front_end.specs.Faults.{Stands};
 ghost use Rattle.judging.specs.Judged.{IsAccountIn, IsJudged, IsVerdict, IsVerdictOn};
 ghost use Rattle.judging.specs.Judged.{IsNoAccount, IsNotJudged, IsNotJudgedOn};
+ghost use Rattle.named_values.specs.Given.{Given, as_given};
 
 use account_checker::check;
 use account_checker::reason::Verdict;
@@ -16,7 +17,7 @@ use asn_base::value::Value;
 use front_end::law::accepted_keep;
 use front_end::{FrontFault, Modules};
 use messages::Fault;
-use named_values::meant;
+use named_values::{ValueGiven, meant};
 use octet_account::account::Account;
 use std::alloc::Global;
 
@@ -24,14 +25,14 @@ use std::alloc::Global;
 #[derive(Clone, Copy)]
 struct Claim<'a> {
     ty: &'a str,
-    value: &'a str,
+    value: ValueGiven<'a>,
     octets: &'a [u8],
     account: &'a [u8],
 }
 
 /// A fault of texts, as a user sees it.
 fn refusal(fault: FrontFault) -> Fault
-    ensures { (xs : List (List ℕ)) (first second account : List ℕ) →
+    ensures { (xs : List (List ℕ)) (first : List ℕ) (second : Given) (account : List ℕ) →
         Stands xs fault →
         IsNotJudged xs first second account result }
 {
@@ -83,9 +84,9 @@ fn judge_in(
     claim: &Claim<'_>,
 ) -> Result<Verdict, Fault>
     ensures judged { IfOk result (IsVerdictOn modules.now schema.now
-        claim.now.ty.now claim.now.value.now claim.now.octets.now claim.now.account.now) }
+        claim.now.ty.now (as_given claim.now.value) claim.now.octets.now claim.now.account.now) }
     ensures refused { IfErr result (IsNotJudgedOn modules.now
-        claim.now.ty.now claim.now.value.now claim.now.account.now) }
+        claim.now.ty.now (as_given claim.now.value) claim.now.account.now) }
 {
     let (id, value) = match meant(alloc, modules, claim.ty, claim.value) {
         Ok(found) => found,
@@ -98,31 +99,31 @@ fn judge_in(
     Ok(verdict(schema, id, &value, claim.octets, &account))
 }
 
-/// Decides whether octets are a shortest encoding of a value, by the account beside them. The type and the value are
-/// named as `Module.Name`, by the module that assigns or imports the name. The value's notation is read under this
-/// type.
+/// Decides whether octets are a shortest encoding of a value, by the account beside them. The type is named as
+/// `Module.Name`, by the module that assigns or imports the name. The value is given by such a name, or by a text that
+/// is a notation. The value's notation is read under this type.
 ///
 /// The verdict is what [`check`] returns for the types of the texts, the value, the octets and the account. `Yes`: no
 /// BER encoding of the value has fewer octets, whoever made the octets and the account. `No`: the first reason that
 /// fails.
 ///
 /// The result is the first fault, in this order. `Front`: the fault of the texts that [`front_end::open`] finds.
-/// `NoType`: the first name is not that of a type. `NoValue`: the second name is not that of a value. `Value`: the
-/// value's notation means no value of the type. `NotAccount`: the account isn't UTF-8, or isn't the text of an account.
-/// `Memory`: an allocation failed.
+/// `NoType`: the name of the type is that of none. `NoValue`: the name of the value is that of none. `Notation`: the
+/// text of a notation has a fault at a place in it. `Value`: the value's notation means no value of the type.
+/// `NotAccount`: the account isn't UTF-8, or isn't the text of an account. `Memory`: an allocation failed.
 pub fn judge(
     alloc: Global,
     texts: &[Vec<u8>],
     ty: &str,
-    value: &str,
+    value: ValueGiven<'_>,
     octets: &[u8],
     account: &[u8],
 ) -> Result<Verdict, Fault>
-    // The verdict is right for the value that the names mean in the texts.
+    // The verdict is right for the value that is meant in the texts.
     ensures judged { IfOk result
-        (IsJudged (map octets_of texts.now) ty.now value.now octets.now account.now) }
+        (IsJudged (map octets_of texts.now) ty.now (as_given value) octets.now account.now) }
     // A fault is true, and is the first one in the order above.
-    ensures refused { IfErr result (IsNotJudged (map octets_of texts.now) ty.now value.now account.now) }
+    ensures refused { IfErr result (IsNotJudged (map octets_of texts.now) ty.now (as_given value) account.now) }
 {
     accepted_keep();
     let front = match front_end::open(alloc, texts) {

@@ -9,6 +9,7 @@ ghost use Rattle.front_end.specs.Accepted.{Keeps};
 ghost use Rattle.messages.specs.declared.fault.Fault.{Fault};
 ghost use Rattle.messages.specs.declared.fault.Fault.TheVariants.{Memory};
 ghost use Rattle.judging.specs.Judged.{IsConfirmed, IsJudged, IsNotJudged, IsNotJudgedOn, IsVerdictOn};
+ghost use Rattle.named_values.specs.Given.{Given};
 
 use account_checker::law::one_reason;
 use account_text::law::one_account_of_a_text;
@@ -19,7 +20,7 @@ use named_values::law::one_meaning;
 /// What a yes alone means, whoever made the octets and the account. The octets are an encoding of the value that the
 /// names mean, and no encoding by the basic rules is shorter.
 pub fn yes_alone()
-    ensures { (xs : List (List ℕ)) (first second o account : List ℕ) →
+    ensures { (xs : List (List ℕ)) (first : List ℕ) (second : Given) (o account : List ℕ) →
         IsJudged xs first second o account Yes →
         IsConfirmed xs first second o }
 {
@@ -30,19 +31,22 @@ pub fn yes_alone()
 
 /// There is at most one verdict. If there is one, the claim has no fault except `Memory`.
 pub fn one_verdict()
-    ensures one { (p : Program) (s : List Resolved) (first second o account : List ℕ) (r e : Verdict) →
+    ensures one { (p : Program) (s : List Resolved) (first : List ℕ) (second : Given) (o account : List ℕ)
+        (r e : Verdict) →
         Keeps p →
         IsVerdictOn p s first second o account r →
         IsVerdictOn p s first second o account e →
         r ≡ e }
-    ensures not_refused { (p : Program) (s : List Resolved) (first second o account : List ℕ) (r : Verdict)
+    ensures not_refused { (p : Program) (s : List Resolved) (first : List ℕ) (second : Given) (o account : List ℕ)
+        (r : Verdict)
         (e : Fault) →
         Keeps p →
         IsVerdictOn p s first second o account r →
         IsNotJudgedOn p first second account e →
         e ≡ Memory }
     // Accepted texts have no fault.
-    ensures texts { (xs : List (List ℕ)) (first second o account : List ℕ) (r : Verdict) (e : Fault) →
+    ensures texts { (xs : List (List ℕ)) (first : List ℕ) (second : Given) (o account : List ℕ) (r : Verdict)
+        (e : Fault) →
         IsJudged xs first second o account r →
         IsNotJudged xs first second account e →
         e ≡ Memory }

@@ -8,4 +8,5 @@ mod words;
 
 pub use account_checker::reason::{Reason, Verdict};
 pub use judged::judge;
+pub use named_values::ValueGiven;
 pub use words::answer;

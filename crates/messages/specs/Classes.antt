@@ -24,6 +24,8 @@ use Rattle.told_values.specs.declared.telling.Reason.{Reason}
 use Rattle.told_values.specs.declared.telling.Reason.TheVariants as reasons
 use Rattle.front_end.specs.declared.fault.FrontFault.{FrontFault}
 use Rattle.front_end.specs.declared.fault.FrontFault.TheVariants as fronts
+use Rattle.messages.specs.declared.fault.NotationFault.{NotationFault}
+use Rattle.messages.specs.declared.fault.NotationFault.TheVariants as notations
 use Rattle.messages.specs.declared.fault.Fault.{Fault}
 use Rattle.messages.specs.declared.fault.Fault.TheVariants as faults
 use Rattle.messages.specs.declared.classes.Class.{Class}
@@ -109,6 +111,12 @@ reason_class_of reasons.Missing = (63, codes "Missing")
 reason_class_of reasons.Behind = (60, codes "NotOfType")
 reason_class_of reasons.Outside = (61, codes "OutsideConstraint")
 
+-- the text of a notation in place of the name of a value: its octets, its tokens or its value
+abbrev pub notation_class_of : NotationFault → ℕ × List ℕ
+notation_class_of (notations.Octets f) = text_class_of f
+notation_class_of (notations.Tokens f) = tree_class_of f
+notation_class_of (notations.Value t) = reason_class_of t.reason
+
 -- octets that can't be read (X.690, clause 8)
 abbrev pub read_class_of : ReadFault → ℕ × List ℕ
 read_class_of readings.Memory = (1, codes "Memory")
@@ -166,6 +174,7 @@ class_of (faults.NoType name) = (31, codes "UnknownName")
 class_of (faults.NoNewerType name) = (31, codes "UnknownName")
 class_of (faults.NoValue name) = (31, codes "UnknownName")
 class_of (faults.Value t) = reason_class_of t.reason
+class_of (faults.Notation f) = notation_class_of f
 class_of faults.TooLong = (71, codes "TooLong")
 class_of (faults.Device n) = (72, codes "Device")
 class_of (faults.Unread u) = read_class_of u.fault

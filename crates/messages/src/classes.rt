@@ -2,9 +2,9 @@
 
 ghost use Rattle.messages.specs.Classes.{IsClass, class_of, front_class_of, text_class_of, tree_class_of};
 ghost use Rattle.messages.specs.Classes.{name_class_of, tag_class_of, bit_class_of, bound_class_of};
-ghost use Rattle.messages.specs.Classes.{addition_class_of, reason_class_of, read_class_of};
+ghost use Rattle.messages.specs.Classes.{addition_class_of, notation_class_of, reason_class_of, read_class_of};
 
-use crate::fault::Fault;
+use crate::fault::{Fault, NotationFault};
 use additions::ExtFault;
 use constraints::BoundFault;
 use decode_faults::{ReadFault, Refusal};
@@ -41,6 +41,7 @@ pub(crate) fn told_class(fault: &Fault) -> Class
         Fault::Front(fault) | Fault::Newer(fault) => of_front(fault),
         Fault::NoType(_) | Fault::NoNewerType(_) | Fault::NoValue(_) => is(31, "UnknownName"),
         Fault::Value(told) => of_reason(told.reason),
+        Fault::Notation(fault) => of_notation(fault),
         Fault::TooLong => is(71, "TooLong"),
         Fault::Device(_) => is(72, "Device"),
         Fault::Unread(unread) => of_reading(unread.fault),
@@ -168,6 +169,16 @@ fn of_reason(reason: Reason) -> Class
         Reason::UnknownAlternative | Reason::UnknownField => is(62, "UnknownItem"),
         Reason::Missing => is(63, "Missing"),
         Reason::Repeated => is(64, "Repeated"),
+    }
+}
+
+fn of_notation(fault: &NotationFault) -> Class
+    ensures { IsClass result (notation_class_of fault.now) }
+{
+    match fault {
+        NotationFault::Octets(fault) => of_text(fault),
+        NotationFault::Tokens(fault) => of_tree(fault),
+        NotationFault::Value(told) => of_reason(told.reason),
     }
 }
 

@@ -9,7 +9,9 @@ use crate::classes::told_class;
 use account_text::Stop;
 use decode_faults::{ReadFault, Refusal};
 use front_end::FrontFault;
+use notation::SyntaxFault;
 use std::alloc::{AllocError, AllocFailed};
+use text::LexFault;
 use thiserror::Error;
 use told_values::ValueTold;
 
@@ -31,6 +33,22 @@ pub struct UnreadBits {
     pub refusal: Refusal,
     pub bit: usize,
     pub path: String,
+}
+
+/// Why the text of a notation, which is given in place of the name of a value, stands for no value of the type. Each
+/// place is one in that text, and not in the text of a module.
+#[derive(Debug, Drop, Error)]
+pub enum NotationFault {
+    /// The text has no tokens (X.680, clause 12). The place is that of an octet.
+    #[error("{0}")]
+    Octets(LexFault),
+    /// The tokens of the text are not those of one value (X.680, clause 17). The place is that of a token.
+    #[error("{0}")]
+    Tokens(SyntaxFault),
+    /// The notation stands for no value of the type. The offset is that of an octet of the text, and the module is the
+    /// one in which the names of the notation are read.
+    #[error("{0}")]
+    Value(ValueTold),
 }
 
 /// A refusal: its text begins with its number and name, except for help that was asked for.
@@ -69,9 +87,13 @@ pub enum Fault {
     /// The name of a value, as the caller wrote it, that no module has.
     #[error("error 31 UnknownName: {0}")]
     NoValue(String),
-    /// The notation of the value stands for no value of the type.
+    /// The notation of the value stands for no value of the type. The place is in the text of the module that the fault
+    /// names.
     #[error("error {0}")]
     Value(ValueTold),
+    /// The text of a notation stands for no value of the type. The place is in that text.
+    #[error("error {0}")]
+    Notation(NotationFault),
     /// The encoding has more than 16,777,216 octets.
     #[error("error 71 TooLong: the encoding has more than 16777216 octets")]
     TooLong,

@@ -1,6 +1,7 @@
 -- Two texts name one type and one value at most.
 use Rattle.std.proofs.Common.{◌≡◌, ℕ, suc, ◌<◌, List, [], ◌∷◌, ◌++◌, length, Option, Some, None, refl, sym, ap, ◌∙◌, arith, subst, get_or}
-use Rattle.std.specs.Prelude.{slice_get}
+use Rattle.std.specs.Prelude.{slice_get, String}
+use Rattle.std.specs.Global.{Global}
 use Rattle.asn_base.specs.Abstract.{AbstractValue}
 use Rattle.trees.specs.Values.{Name, Tree}
 use Rattle.names.specs.declared.scope.Assigned.{Assigned}
@@ -11,10 +12,18 @@ use Rattle.resolve.specs.Program.{Program}
 use Rattle.front_end.specs.Accepted.{Keeps}
 use Rattle.front_end.specs.Untyped.{StandsFor}
 use Rattle.told_values.specs.declared.telling.ValueTold.{ValueTold}
+use Rattle.text.specs.declared.fault.LexFault.{LexFault}
+use Rattle.notation.specs.declared.fault.SyntaxFault.{SyntaxFault}
 use Rattle.messages.specs.declared.fault.Fault.{Fault}
 use Rattle.messages.specs.declared.fault.Fault.TheVariants as faults
-use Rattle.named_values.specs.Meant.{IsMeant, IsNotMeant, StandsForNone}
-use Rattle.named_values.specs.Named.{AreNamed, IsNamed, IsQualified}
+use Rattle.messages.specs.declared.fault.NotationFault.{NotationFault}
+use Rattle.messages.specs.declared.fault.NotationFault.TheVariants as texts
+use Rattle.written_values.specs.Written.{IsNotation, IsNoNotation}
+use Rattle.written_values.specs.declared.written.WrittenFault.{WrittenFault}
+use Rattle.written_values.specs.declared.written.WrittenFault.TheVariants as wrong
+use Rattle.named_values.specs.Given.{Given, named, written}
+use Rattle.named_values.specs.Meant.{IsMeant, IsNotMeant, IsWrongText, NamesNoValue, NamesType, StandsForNone}
+use Rattle.named_values.specs.Named.{AreGiven, IsGivenAs, IsNamed, IsQualified}
 
 -- ---- the parts of a text
 
@@ -84,13 +93,36 @@ pub record AreSame (t u : ℕ) (M N : Name) (n m : Tree) : Type 0 where
   pub within : M ≡ N
   pub notation : n ≡ m
 
-pub one_pair : (p : Program) (first second : List ℕ) (t u : ℕ) (M N : Name) (n m : Tree) → IsApart p.modules →
-    AreNamed p first second t M n → AreNamed p first second u N m → AreSame t u M N n m
-one_pair p first second t u M N n m apart a b =
-    let e = one_name p first (assigned.Type t) (assigned.Type u) apart a.typed b.typed in
-    let f = one_name p second (assigned.Value a.number) (assigned.Value b.number) apart a.valued b.valued in
+-- ---- the notation of a value that is given
+
+abbrev pub OneNotation : Type 0
+OneNotation = (x : List ℕ) (n m : Tree) → IsNotation x n → IsNotation x m → n ≡ m
+
+abbrev pub WrongAreNone : Type 0
+WrongAreNone = (x : List ℕ) (n : Tree) (f : WrittenFault) → (f ≡ wrong.Memory → ⊥) → IsNoNotation x f → IsNotation x n
+    → ⊥
+
+one_given : OneNotation → (p : Program) (first : List ℕ) (second : Given) (M N : Name) (n m : Tree)
+    → IsApart p.modules
+    → IsGivenAs p first second M n
+    → IsGivenAs p first second N m
+    → (M ≡ N) × (n ≡ m)
+one_given one p first (named text) M N n m apart a b =
+    let f = one_name p text (assigned.Value a.number) (assigned.Value b.number) apart a.valued b.valued in
     let i : b.number ≡ a.number = cc in
-    let z = one_place p a.number M N n m a.at (subst (λ k. IsValueAt p k N m) i b.at) in
+    one_place p a.number M N n m a.at (subst (λ k. IsValueAt p k N m) i b.at)
+one_given one p first (written x) M N n m apart a b =
+    let e = one_spelling first M N a.within.name b.within.name a.within.is b.within.is in
+    (e.0, one x n m a.is b.is)
+
+pub one_pair : OneNotation → (p : Program) (first : List ℕ) (second : Given) (t u : ℕ) (M N : Name) (n m : Tree)
+    → IsApart p.modules
+    → AreGiven p first second t M n
+    → AreGiven p first second u N m
+    → AreSame t u M N n m
+one_pair one p first second t u M N n m apart a b =
+    let e = one_name p first (assigned.Type t) (assigned.Type u) apart a.typed b.typed in
+    let z = one_given one p first second M N n m apart a.given b.given in
     record { type = (let q : t ≡ u = cc in q); within = z.0; notation = z.1 }
 
 -- ---- the value
@@ -101,38 +133,145 @@ moved : {p : Program} {t u : ℕ} {M N : Name} {n m : Tree} {v : AbstractValue} 
 moved {p} {t} {u} {M} {N} {n} {m} {v} e h =
     subst (λ k. StandsFor p N u k v) e.notation (subst (λ L. StandsFor p L u n v) e.within (subst (λ i. StandsFor p M i n v) e.type h))
 
-none_is_one : {p : Program} {first second : List ℕ} {i : ℕ} {v : AbstractValue} {t : ValueTold} → IsApart p.modules →
-    IsMeant p first second i v → StandsForNone p first second t → ⊥
-none_is_one {p} {first} {second} {i} {v} apart k n =
-    n.none.none v (moved (one_pair p first second i n.type k.within n.within k.notation n.notation apart k.named n.named) k.stands)
+none_is_one : OneNotation → {p : Program} {first : List ℕ} {second : Given} {i : ℕ} {v : AbstractValue}
+    {t : ValueTold}
+    → IsApart p.modules
+    → IsMeant p first second i v
+    → StandsForNone p first second t
+    → ⊥
+none_is_one one {p} {first} {second} {i} {v} apart k n =
+    n.none.none v (moved (one_pair one p first second i n.type k.within n.within k.notation n.notation apart k.named n.named) k.stands)
 
 abbrev pub OneValue : Type 0
 OneValue = (p : Program) (M : Name) (i : ℕ) (n : Tree) (v w : AbstractValue) → Keeps p → StandsFor p M i n v →
     StandsFor p M i n w → v ≡ w
 
-pub one_meant : OneValue → (p : Program) (first second : List ℕ) (t u : ℕ) (v w : AbstractValue) → Keeps p →
-    IsMeant p first second t v → IsMeant p first second u w → (t ≡ u) × (v ≡ w)
-one_meant one p first second t u v w kept k l =
-    let e = one_pair p first second t u k.within l.within k.notation l.notation kept.read.apart k.named l.named in
+pub one_meant : OneNotation → OneValue → (p : Program) (first : List ℕ) (second : Given) (t u : ℕ) (v w : AbstractValue)
+    → Keeps p
+    → IsMeant p first second t v
+    → IsMeant p first second u w
+    → (t ≡ u) × (v ≡ w)
+one_meant one_text one p first second t u v w kept k l =
+    let e = one_pair one_text p first second t u k.within l.within k.notation l.notation kept.read.apart k.named l.named in
     (e.type, one p l.within u l.notation v w kept (moved e k.stands) l.stands)
 
-pub meant_refused : (p : Program) (first second : List ℕ) (t : ℕ) (v : AbstractValue) (e : Fault) → Keeps p →
-    IsMeant p first second t v → IsNotMeant p first second e → e ≡ faults.Memory
-meant_refused p first second t v faults.Memory kept m h = refl
-meant_refused p first second t v (faults.NoType x) kept m h = absurd (h.1 t m.named.typed)
-meant_refused p first second t v (faults.NoValue x) kept m h = absurd (h.2 m.named.number m.named.valued)
-meant_refused p first second t v (faults.Value x) kept m h = absurd (none_is_one kept.read.apart m h)
-meant_refused p first second t v (faults.Front f) kept m h = absurd h
-meant_refused p first second t v (faults.Unread u) kept m h = absurd h
-meant_refused p first second t v (faults.BadWords x) kept m h = absurd h
-meant_refused p first second t v (faults.Help x) kept m h = absurd h
-meant_refused p first second t v (faults.File x) kept m h = absurd h
-meant_refused p first second t v (faults.NoFile x) kept m h = absurd h
-meant_refused p first second t v (faults.Folder x) kept m h = absurd h
-meant_refused p first second t v (faults.Newer x) kept m h = absurd h
-meant_refused p first second t v (faults.NoNewerType x) kept m h = absurd h
-meant_refused p first second t v faults.TooLong kept m h = absurd h
-meant_refused p first second t v (faults.UnreadBits u) kept m h = absurd h
-meant_refused p first second t v faults.MessageLimit kept m h = absurd h
-meant_refused p first second t v (faults.Device n) kept m h = absurd h
-meant_refused p first second t v (faults.NotAccount x) kept m h = absurd h
+-- ---- refusals
+
+-- a name that is one of a value is not refused
+pub name_refused : (p : Program) (first : List ℕ) (second : Given) (M : Name) (n : Tree) (x : String Global)
+    → IsGivenAs p first second M n
+    → NamesNoValue p second x
+    → ⊥
+name_refused p first (named text) M n x g h = h.1 g.number g.valued
+name_refused p first (written y) M n x g h = h
+
+-- a text with a fault of its octets is no notation of a value
+pub octets_refused : WrongAreNone → (p : Program) (first : List ℕ) (second : Given) (M : Name) (n : Tree) (f : LexFault)
+    → IsGivenAs p first second M n
+    → IsWrongText p first second (texts.Octets f)
+    → ⊥
+octets_refused none p first (named text) M n f g h = h
+octets_refused none p first (written x) M n f g h = none x n (wrong.Octets f) (λ e. absurd cc) h.1 g.is
+
+-- a text with a fault of its tokens is no notation of a value
+pub tokens_refused : WrongAreNone → (p : Program) (first : List ℕ) (second : Given) (M : Name) (n : Tree)
+    (f : SyntaxFault)
+    → IsGivenAs p first second M n
+    → IsWrongText p first second (texts.Tokens f)
+    → ⊥
+tokens_refused none p first (named text) M n f g h = h
+tokens_refused none p first (written x) M n f g h = none x n (wrong.Tokens f) (λ e. absurd cc) h.1 g.is
+
+-- a fault of the value of a text is one of its notation
+pub value_refused : (p : Program) (first : List ℕ) (second : Given) (t : ValueTold)
+    → IsWrongText p first second (texts.Value t)
+    → StandsForNone p first second t
+value_refused p first (named text) t h = absurd h
+value_refused p first (written x) t h = h.none
+
+text_refused : OneNotation → WrongAreNone → (p : Program) (first : List ℕ) (second : Given) (t : ℕ) (v : AbstractValue)
+    (f : NotationFault)
+    → IsApart p.modules
+    → IsMeant p first second t v
+    → IsWrongText p first second f
+    → ⊥
+text_refused one none p first second t v (texts.Octets f) apart m h = octets_refused none p first second m.within m.notation f m.named.given h
+text_refused one none p first second t v (texts.Tokens f) apart m h = tokens_refused none p first second m.within m.notation f m.named.given h
+text_refused one none p first second t v (texts.Value x) apart m h = none_is_one one apart m (value_refused p first second x h)
+
+pub meant_refused : OneNotation → WrongAreNone → (p : Program) (first : List ℕ) (second : Given) (t : ℕ)
+    (v : AbstractValue) (e : Fault)
+    → Keeps p
+    → IsMeant p first second t v
+    → IsNotMeant p first second e
+    → e ≡ faults.Memory
+meant_refused one none p first second t v faults.Memory kept m h = refl
+meant_refused one none p first second t v (faults.NoType x) kept m h = absurd (h.1 t m.named.typed)
+meant_refused one none p first second t v (faults.NoValue x) kept m h = absurd (name_refused p first second m.within m.notation x m.named.given h.1)
+meant_refused one none p first second t v (faults.Value x) kept m h = absurd (none_is_one one kept.read.apart m h)
+meant_refused one none p first second t v (faults.Notation f) kept m h = absurd (text_refused one none p first second t v f kept.read.apart m h)
+meant_refused one none p first second t v (faults.Front f) kept m h = absurd h
+meant_refused one none p first second t v (faults.Unread u) kept m h = absurd h
+meant_refused one none p first second t v (faults.BadWords x) kept m h = absurd h
+meant_refused one none p first second t v (faults.Help x) kept m h = absurd h
+meant_refused one none p first second t v (faults.File x) kept m h = absurd h
+meant_refused one none p first second t v (faults.NoFile x) kept m h = absurd h
+meant_refused one none p first second t v (faults.Folder x) kept m h = absurd h
+meant_refused one none p first second t v (faults.Newer x) kept m h = absurd h
+meant_refused one none p first second t v (faults.NoNewerType x) kept m h = absurd h
+meant_refused one none p first second t v faults.TooLong kept m h = absurd h
+meant_refused one none p first second t v (faults.UnreadBits u) kept m h = absurd h
+meant_refused one none p first second t v faults.MessageLimit kept m h = absurd h
+meant_refused one none p first second t v (faults.Device n) kept m h = absurd h
+meant_refused one none p first second t v (faults.NotAccount x) kept m h = absurd h
+
+-- ---- the order of refusals
+
+-- the name of the type of a text that is wrong is that of a type
+pub text_typed : (p : Program) (first : List ℕ) (second : Given) (f : NotationFault)
+    → IsWrongText p first second f
+    → NamesType p first
+text_typed p first (named text) f h = absurd h
+text_typed p first (written x) (texts.Octets f) h = h.0
+text_typed p first (written x) (texts.Tokens f) h = h.0
+text_typed p first (written x) (texts.Value t) h = (h.none.type, h.none.named.typed)
+
+-- a value is given by a name or by a text
+pub name_or_text : (p : Program) (first : List ℕ) (second : Given) (x : String Global) (f : NotationFault)
+    → NamesNoValue p second x
+    → IsWrongText p first second f
+    → ⊥
+name_or_text p first (named text) x f a b = b
+name_or_text p first (written y) x f a b = a
+
+abbrev pub OneFault : Type 0
+OneFault = (x : List ℕ) (f g : WrittenFault) → (f ≡ wrong.Memory → ⊥) → (g ≡ wrong.Memory → ⊥) → IsNoNotation x f
+    → IsNoNotation x g
+    → f ≡ g
+
+pub one_text : OneFault → (p : Program) (first : List ℕ) (second : Given) (f g : LexFault)
+    → IsWrongText p first second (texts.Octets f)
+    → IsWrongText p first second (texts.Octets g)
+    → f ≡ g
+one_text one p first (named text) f g a b = absurd a
+one_text one p first (written x) f g a b =
+    let e = one x (wrong.Octets f) (wrong.Octets g) (λ e. absurd cc) (λ e. absurd cc) a.1 b.1 in
+    let q : f ≡ g = cc in q
+
+pub one_tree : OneFault → (p : Program) (first : List ℕ) (second : Given) (f g : SyntaxFault)
+    → IsWrongText p first second (texts.Tokens f)
+    → IsWrongText p first second (texts.Tokens g)
+    → f ≡ g
+one_tree one p first (named text) f g a b = absurd a
+one_tree one p first (written x) f g a b =
+    let e = one x (wrong.Tokens f) (wrong.Tokens g) (λ e. absurd cc) (λ e. absurd cc) a.1 b.1 in
+    let q : f ≡ g = cc in q
+
+pub octets_or_tokens : OneFault → (p : Program) (first : List ℕ) (second : Given) (f : LexFault) (g : SyntaxFault)
+    → IsWrongText p first second (texts.Octets f)
+    → IsWrongText p first second (texts.Tokens g)
+    → ⊥
+octets_or_tokens one p first (named text) f g a b = a
+octets_or_tokens one p first (written x) f g a b =
+    let e = one x (wrong.Octets f) (wrong.Tokens g) (λ e. absurd cc) (λ e. absurd cc) a.1 b.1 in
+    absurd cc

@@ -1,38 +1,70 @@
--- The value that the names of a type and of a value mean, and why they mean none (X.680, clauses 14.1, 16 and 17).
-use Rattle.std.specs.Prelude.{◌≡◌, ℕ, List, string_bytes}
+-- The value that the name of a type and a value that is given mean, and why they mean none (X.680, clauses 14.1, 16 and
+-- 17).
+use Rattle.std.specs.Prelude.{◌≡◌, ℕ, ◌<◌, List, length, string_bytes, String}
+use Rattle.std.specs.Global.{Global}
 use Rattle.asn_base.specs.Abstract.{AbstractValue}
 use Rattle.trees.specs.Values.{Name, Tree}
+use Rattle.names.specs.Faults.{module_told}
 use Rattle.resolve.specs.Program.{Program}
 use Rattle.front_end.specs.Untyped.{StandsFor, IsNone}
 use Rattle.told_values.specs.declared.telling.ValueTold.{ValueTold}
 use Rattle.messages.specs.declared.fault.Fault.{Fault}
 use Rattle.messages.specs.declared.fault.Fault.TheVariants as faults
-use Rattle.named_values.specs.Named.{AreNamed, TypeNamed, ValueNamed}
+use Rattle.messages.specs.declared.fault.NotationFault.{NotationFault}
+use Rattle.messages.specs.declared.fault.NotationFault.TheVariants as texts
+use Rattle.written_values.specs.Written.{HasNoTokens, IsNoValue}
+use Rattle.named_values.specs.Given.{Given, named, written}
+use Rattle.named_values.specs.Named.{AreGiven, TypeNamed, ValueNamed}
 
--- The first name is that of type t of program p, and the second that of a value, whose notation stands for v under this
--- type. The value may be assigned with another type.
-pub record IsMeant (p : Program) (first second : List ℕ) (t : ℕ) (v : AbstractValue) : Type 0 where
+-- The first name is that of type t of program p, and the notation of the value that is given stands for v under this
+-- type. A named value may be assigned with another type.
+pub record IsMeant (p : Program) (first : List ℕ) (second : Given) (t : ℕ) (v : AbstractValue) : Type 0 where
   pub within : Name
   pub notation : Tree
-  pub named : AreNamed p first second t within notation
+  pub named : AreGiven p first second t within notation
   pub stands : StandsFor p within t notation v
 
--- The texts name a type and a value, whose notation stands for no value of the type. `told` is a fault of that
--- notation.
-pub record StandsForNone (p : Program) (first second : List ℕ) (told : ValueTold) : Type 0 where
+-- The first name is that of a type, and the notation of the value that is given stands for no value of the type. `told`
+-- is a fault of that notation.
+pub record StandsForNone (p : Program) (first : List ℕ) (second : Given) (told : ValueTold) : Type 0 where
   pub type : ℕ
   pub within : Name
   pub notation : Tree
-  pub named : AreNamed p first second type within notation
+  pub named : AreGiven p first second type within notation
   pub none : IsNone p within type notation told
 
--- The texts mean no value. NoType: the first one names no type. NoValue: it does, and the second one names no value.
--- Value: the value's notation stands for no value of the type. NoType and NoValue have the text that names nothing.
--- Memory says nothing.
-abbrev pub IsNotMeant : Program → List ℕ → List ℕ → Fault → Type 0
+-- the first text names a type
+abbrev pub NamesType : Program → List ℕ → Type 0
+NamesType p first = (t : ℕ) × TypeNamed p first t
+
+-- the value is given by a text that is the name x, and no value has this name
+abbrev pub NamesNoValue : Program → Given → String Global → Type 0
+NamesNoValue p (named text) x = (string_bytes x ≡ text) × ((i : ℕ) → ValueNamed p text i → ⊥)
+NamesNoValue p (written text) x = ⊥
+
+-- The notation that the text x is stands for no value of the type, and the place of the fault is in that text. The
+-- module of the fault is the one in which the notation is read.
+pub record IsWrongWithin (p : Program) (first x : List ℕ) (told : ValueTold) : Type 0 where
+  pub none : StandsForNone p first (written x) told
+  pub within : module_told told.spot ≡ none.within
+  pub at : told.spot.at < length x
+
+-- The first text names a type, and the value is given by a text with this fault. The text has no tokens, or its tokens
+-- aren't those of one value, or the notation stands for no value of the type.
+abbrev pub IsWrongText : Program → (first : List ℕ) → Given → NotationFault → Type 0
+IsWrongText p first (named text) f = ⊥
+IsWrongText p first (written x) (texts.Octets f) = NamesType p first × HasNoTokens x f
+IsWrongText p first (written x) (texts.Tokens f) = NamesType p first × IsNoValue x f
+IsWrongText p first (written x) (texts.Value t) = IsWrongWithin p first x t
+
+-- The name and what is given mean no value. NoType: the name is that of no type. NoValue: it is, and the name of the
+-- value is that of none. Value: the value's notation stands for no value of the type. Notation: the text of a notation
+-- is wrong, and the fault is at a place in it. NoType and NoValue have the text that names nothing. Memory says
+-- nothing.
+abbrev pub IsNotMeant : Program → (first : List ℕ) → (second : Given) → Fault → Type 0
 IsNotMeant p first second faults.Memory = Unit {0}
 IsNotMeant p first second (faults.NoType x) = (string_bytes x ≡ first) × ((t : ℕ) → TypeNamed p first t → ⊥)
-IsNotMeant p first second (faults.NoValue x) =
-    (string_bytes x ≡ second) × ((t : ℕ) × TypeNamed p first t) × ((i : ℕ) → ValueNamed p second i → ⊥)
+IsNotMeant p first second (faults.NoValue x) = NamesType p first × NamesNoValue p second x
 IsNotMeant p first second (faults.Value t) = StandsForNone p first second t
+IsNotMeant p first second (faults.Notation f) = IsWrongText p first second f
 IsNotMeant p first second fault = ⊥

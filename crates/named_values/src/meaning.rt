@@ -1,16 +1,23 @@
-//! The value that two names mean.
+//! The value that the name of a type and a value that is given mean.
 
-ghost use Rattle.std.specs.Prelude.{◌<◌, IfOk, IfErr, length};
+ghost use Rattle.std.specs.Prelude.{◌≡◌, ◌<◌, ℕ, List, IfOk, IfErr, length, true};
 ghost use Rattle.asn_base.specs.Abstract.{abstract};
-ghost use Rattle.named_values.specs.Meant.{IsMeant, IsNotMeant};
-ghost use Rattle.named_values.specs.Named.{TypeNamed, ValueNamed};
+ghost use Rattle.names.specs.Faults.{module_told};
+ghost use Rattle.resolve.specs.Program.{Program};
+ghost use Rattle.written_values.specs.Written.{IsNoNotation};
+ghost use Rattle.named_values.specs.Given.{as_given, named, written};
+ghost use Rattle.named_values.specs.Meant.{IsMeant, IsNotMeant, NamesType, StandsForNone};
+ghost use Rattle.named_values.specs.Named.{IsWithin, TypeNamed, ValueNamed};
 
-use crate::naming::{notation_at, type_number, value_number};
+use crate::given::ValueGiven;
+use crate::naming::{module_in, notation_at, type_number, value_number};
 use asn_base::schema::TypeId;
 use asn_base::value::Value;
 use front_end::{Modules, Untyped};
-use messages::Fault;
-use std::alloc::Global;
+use messages::{Fault, NotationFault};
+use std::alloc::{AllocError, Global};
+use told_values::ValueTold;
+use written_values::{WrittenFault, notation_of};
 
 /// The value that the notation of a value stands for under a type, both found by their names.
 fn typed(
@@ -25,8 +32,8 @@ fn typed(
     requires named { TypeNamed modules.now ty.now id.index }
     requires within { number < length modules.now.values }
     requires valued { ValueNamed modules.now value.now number }
-    ensures meant { IfOk result (λ v. IsMeant modules.now ty.now value.now id.index (abstract v)) }
-    ensures refused { IfErr result (IsNotMeant modules.now ty.now value.now) }
+    ensures meant { IfOk result (λ v. IsMeant modules.now ty.now (named value.now) id.index (abstract v)) }
+    ensures refused { IfErr result (IsNotMeant modules.now ty.now (named value.now)) }
 {
     let (within, notation) = notation_at(modules.linked(), number);
     match modules.typed(alloc, id, within, notation) {
@@ -36,26 +43,167 @@ fn typed(
     }
 }
 
-/// The type that `ty` names, and the value that the notation of the value named by `value` stands for under it.
-///
-/// `NoType`: `ty` is no type's name. `NoValue`: `ty` is one, and `value` is no value's name. `Value`: the notation
-/// stands for no value of the type. `Memory`: there is not enough memory.
-pub fn meant(
+/// The value of a name under a type.
+fn of_name(
     alloc: Global,
     modules: &Modules,
     ty: &str,
+    id: TypeId,
     value: &str,
-) -> Result<(TypeId, Value), Fault>
-    ensures meant { IfOk result (λ r. IsMeant modules.now ty.now value.now r.0.index (abstract r.1)) }
-    ensures refused { IfErr result (IsNotMeant modules.now ty.now value.now) }
+) -> Result<Value, Fault>
+    requires there { id.index < length modules.now.types }
+    requires typed { TypeNamed modules.now ty.now id.index }
+    ensures meant { IfOk result (λ v. IsMeant modules.now ty.now (named value.now) id.index (abstract v)) }
+    ensures refused { IfErr result (IsNotMeant modules.now ty.now (named value.now)) }
 {
-    let Some(id) = type_number(modules, ty) else {
-        return Err(Fault::NoType(String::from_str(alloc, ty)?));
-    };
     let Some(number) = value_number(modules, value) else {
         return Err(Fault::NoValue(String::from_str(alloc, value)?));
     };
     match typed(alloc, modules, ty, id, value, number) {
+        Ok(value) => Ok(value),
+        Err(fault) => Err(fault),
+    }
+}
+
+/// A fault of a text that is no notation.
+fn unread(fault: WrittenFault) -> Fault
+    ensures { (p : Program) (first x : List ℕ) →
+        NamesType p first →
+        IsNoNotation x fault →
+        IsNotMeant p first (written x) result }
+{
+    match fault {
+        WrittenFault::Memory => Fault::Memory,
+        WrittenFault::Octets(fault) => Fault::Notation(NotationFault::Octets(fault)),
+        WrittenFault::Tokens(fault) => Fault::Notation(NotationFault::Tokens(fault)),
+    }
+}
+
+/// The place of the fault of a notation that stands for no value, if a space is put before its text. There is none if
+/// that text is too long.
+fn moved(
+    alloc: Global,
+    modules: &Modules,
+    id: TypeId,
+    within: &str,
+    text: &[u8],
+) -> Result<Option<usize>, AllocError>
+    requires { id.index < length modules.now.types }
+{
+    let mut spaced = Vec::new(alloc);
+    spaced.push(b' ')?;
+    spaced.extend_from_slice(text)?;
+    let notation = match notation_of(alloc, spaced.as_slice()) {
+        Ok(notation) => notation,
+        Err(WrittenFault::Memory) => return Err(AllocError),
+        Err(_) => return Ok(None),
+    };
+    match modules.typed(alloc, id, within, &notation) {
+        Ok(_) => Ok(None),
+        Err(Untyped::Memory) => Err(AllocError),
+        Err(Untyped::Told(told)) => Ok(Some(told.spot.at)),
+    }
+}
+
+/// Whether a fault of a notation is in the notation's own text, and not in that of a module with a value that the
+/// notation names. It is exactly if a space before the text moves it.
+fn is_in_text(
+    alloc: Global,
+    modules: &Modules,
+    id: TypeId,
+    within: &str,
+    text: &[u8],
+    told: &ValueTold,
+) -> Result<bool, AllocError>
+    requires { id.index < length modules.now.types }
+    ensures within { IfOk result (λ b. b ≡ true → module_told told.now.spot ≡ within.now) }
+    ensures at { IfOk result (λ b. b ≡ true → told.now.spot.at < length text.now) }
+{
+    if told.spot.module.as_str() != within || told.spot.at >= text.len() {
+        return Ok(false);
+    }
+    match moved(alloc, modules, id, within, text)? {
+        Some(at) => Ok(at != told.spot.at),
+        None => Ok(true),
+    }
+}
+
+/// A fault of a notation that is given as a text, with its place in that text or in that of a module.
+fn placed(
+    alloc: Global,
+    modules: &Modules,
+    id: TypeId,
+    within: &str,
+    text: &[u8],
+    told: ValueTold,
+) -> Fault
+    requires { id.index < length modules.now.types }
+    ensures { (first : List ℕ) →
+        IsWithin first within.now →
+        StandsForNone modules.now first (written text.now) told →
+        IsNotMeant modules.now first (written text.now) result }
+{
+    match is_in_text(alloc, modules, id, within, text, &told) {
+        Ok(true) => Fault::Notation(NotationFault::Value(told)),
+        Ok(false) => Fault::Value(told),
+        Err(_) => Fault::Memory,
+    }
+}
+
+/// The value of a text under a type.
+fn of_text(
+    alloc: Global,
+    modules: &Modules,
+    ty: &str,
+    id: TypeId,
+    text: &[u8],
+) -> Result<Value, Fault>
+    requires there { id.index < length modules.now.types }
+    requires typed { TypeNamed modules.now ty.now id.index }
+    ensures meant { IfOk result (λ v. IsMeant modules.now ty.now (written text.now) id.index (abstract v)) }
+    ensures refused { IfErr result (IsNotMeant modules.now ty.now (written text.now)) }
+{
+    let within = module_in(modules, ty, id);
+    let notation = match notation_of(alloc, text) {
+        Ok(notation) => notation,
+        Err(fault) => return Err(unread(fault)),
+    };
+    match modules.typed(alloc, id, within, &notation) {
+        Ok(value) => Ok(value),
+        Err(Untyped::Memory) => Err(Fault::Memory),
+        Err(Untyped::Told(told)) => Err(placed(alloc, modules, id, within, text, told)),
+    }
+}
+
+/// The type that `ty` names, and the value that the notation of the value that is given stands for under it.
+///
+/// A named value has the notation of its assignment, which is read in the module of the assignment. A text is a
+/// notation itself. It is read in the module that the name of the type begins with.
+///
+/// The error is the first fault in this order. `NoType`: `ty` is no type's name. For a name, `NoValue`: it is no
+/// value's
+/// name. For a text, `Notation`: its octets are not those of tokens, or its tokens are not those of one value. `Value`,
+/// or for a text also `Notation`: the notation stands for no value of the type. The place in `Notation` is always one
+/// in
+/// the text that was given, and that in `Value` is in the text of the module that it names. `Memory`: there is not
+/// enough memory.
+pub fn meant(
+    alloc: Global,
+    modules: &Modules,
+    ty: &str,
+    value: ValueGiven<'_>,
+) -> Result<(TypeId, Value), Fault>
+    ensures meant { IfOk result (λ r. IsMeant modules.now ty.now (as_given value) r.0.index (abstract r.1)) }
+    ensures refused { IfErr result (IsNotMeant modules.now ty.now (as_given value)) }
+{
+    let Some(id) = type_number(modules, ty) else {
+        return Err(Fault::NoType(String::from_str(alloc, ty)?));
+    };
+    let found = match value {
+        ValueGiven::Named(name) => of_name(alloc, modules, ty, id, name),
+        ValueGiven::Written(text) => of_text(alloc, modules, ty, id, text),
+    };
+    match found {
         Ok(value) => Ok((id, value)),
         Err(fault) => Err(fault),
     }

@@ -6,7 +6,7 @@ ghost use Rattle.names.specs.declared.scope.Assigned.{Assigned as Assigned'};
 ghost use Rattle.names.specs.Sources.{value_of};
 ghost use Rattle.range_ends.specs.Ends.{IsValueAt};
 ghost use Rattle.resolve.specs.Program.{IsThere};
-ghost use Rattle.named_values.specs.Named.{IsNamed, IsQualified, Names, TypeNamed, ValueNamed};
+ghost use Rattle.named_values.specs.Named.{IsNamed, IsQualified, IsWithin, Names, TypeNamed, ValueNamed};
 
 use asn_base::schema::TypeId;
 use front_end::Modules;
@@ -48,6 +48,17 @@ pub fn type_number(modules: &Modules, name: &str) -> Option<TypeId>
         Some(Assigned::Type(index)) => Some(TypeId { index }),
         Some(Assigned::Value(_)) => None,
         None => None,
+    }
+}
+
+/// The name of the module in the name of a type.
+pub(crate) fn module_in<'a>(modules: &Modules, ty: &'a str, id: TypeId) -> &'a str
+    requires { TypeNamed modules.now ty.now id.index }
+    ensures { IsWithin ty.now result.now }
+{
+    match qualified(ty) {
+        Some((within, _)) => within,
+        None => unreachable!(),
     }
 }
 

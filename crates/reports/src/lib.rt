@@ -5,6 +5,7 @@ mod asked;
 mod finding;
 mod heading;
 mod of_names;
+mod of_notations;
 mod of_readings;
 mod of_texts;
 mod of_types;

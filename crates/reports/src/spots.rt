@@ -137,7 +137,8 @@ pub(crate) fn text_told(fault: &Fault) -> Option<usize>
     }
 }
 
-fn of_octets(fault: &LexFault) -> Option<usize>
+/// The octet at which a fault of the octets of a text is.
+pub(crate) fn octet_of_lexing(fault: &LexFault) -> Option<usize>
     ensures { result ≡ lex_octet fault.now }
 {
     match fault {
@@ -149,7 +150,8 @@ fn of_octets(fault: &LexFault) -> Option<usize>
     }
 }
 
-fn of_tokens(fault: &SyntaxFault) -> Option<usize>
+/// The token at which a fault of the tokens of a text is.
+pub(crate) fn token_of_parsing(fault: &SyntaxFault) -> Option<usize>
     ensures { result ≡ tree_token fault.now }
 {
     match fault {
@@ -163,7 +165,7 @@ fn octet_at(fault: &FrontFault) -> Option<usize>
     ensures { result ≡ front_octet fault.now }
 {
     match fault {
-        FrontFault::Text(_, inner) => of_octets(inner),
+        FrontFault::Text(_, inner) => octet_of_lexing(inner),
         other => match of_front(other) {
             Some(spot) => Some(spot.at),
             None => None,
@@ -186,7 +188,7 @@ fn token_at(fault: &FrontFault) -> Option<usize>
     ensures { result ≡ front_token fault.now }
 {
     match fault {
-        FrontFault::Tree(_, inner) => of_tokens(inner),
+        FrontFault::Tree(_, inner) => token_of_parsing(inner),
         _ => None,
     }
 }

@@ -7,6 +7,7 @@ use crate::asked::{of_account, of_file, of_no_name};
 use crate::finding::{octet_in, text_number};
 use crate::heading::heading;
 use crate::of_names::of_names;
+use crate::of_notations::of_notation;
 use crate::of_readings::{of_unread, of_unread_bits};
 use crate::of_texts::{left_out, of_octets, of_tokens};
 use crate::of_types::{of_additions, of_bounds, of_tags};
@@ -76,6 +77,7 @@ fn sentence(
             let under = ", under the type that was asked for";
             of_value(alloc, texts, text, told, under)
         }
+        Fault::Notation(inner) => inner.to_string(alloc),
         Fault::NoType(name) => of_no_name(alloc, texts, name.as_str(), false),
         Fault::NoNewerType(name) => of_no_newer_type(alloc, texts, name.as_str()),
         Fault::NoValue(name) => of_no_name(alloc, texts, name.as_str(), true),
@@ -108,6 +110,9 @@ fn after_heading(
     texts: &[Vec<u8>],
     fault: &Fault,
 ) -> Result<String, AllocError> {
+    if let Fault::Notation(inner) = fault {
+        return of_notation(alloc, job, texts, inner);
+    }
     if let Fault::NotAccount(stop) = fault {
         return of_account(alloc, job.account.as_str(), stop);
     }
@@ -144,7 +149,8 @@ fn after_heading(
 /// are counted from 1, the column in characters. For octets that can't be read the line has the place of the octet,
 /// from 0, and the part of the value that was being read: `error 80 Truncated: at octet 17, in a.b[2].c: found ..`. For
 /// bits that can't be read it has the place of the bit: `error 90 Truncated: at bit 17, in rows[3].id: found ..`. An
-/// account's line has the file, and the octet and the row at which the text stops being an account, both from 0.
+/// account's line has the file, and the octet and the row at which the text stops being an account, both from 0. A fault
+/// in the text of a notation has `--notation` in place of the file: `error 20 Unexpected: --notation:1:7: found ..`.
 ///
 /// If the job asks for the context and the fault is at an octet of a text, that line of the text and a line with a
 /// caret follow. At most 60 characters of a text or a name are shown at once.

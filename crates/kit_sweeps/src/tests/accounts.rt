@@ -2,7 +2,7 @@
 
 use super::growths::{answer, refusal, report};
 use super::modules::{OCTETS, kit, reading_kit, texts};
-use asnc::Kit;
+use asnc::{Kit, ValueGiven};
 use judging::{Verdict, judge};
 use starving::{Starved, Swept, Turn, sweep};
 use std::alloc::Global;
@@ -10,7 +10,7 @@ use std::test::Fail;
 
 /// The account of A.v under B.T, as a text.
 fn account(alloc: Global, kit: &Kit) -> Result<String, Fail> {
-    match kit.account(alloc, "B.T", "A.v") {
+    match kit.account(alloc, "B.T", ValueGiven::Named("A.v")) {
         Ok(text) => Ok(text),
         Err(_) => Err("no account".into()),
     }
@@ -25,7 +25,7 @@ struct Accounting {
 
 impl Starved for Accounting {
     fn call(&mut self, alloc: Global) -> Turn {
-        match self.kit.account(alloc, "B.T", "A.v") {
+        match self.kit.account(alloc, "B.T", ValueGiven::Named("A.v")) {
             Ok(text) => answer(text.as_str() == self.text.as_str()),
             Err(fault) => refusal(&fault),
         }
@@ -42,7 +42,7 @@ struct Judging {
 impl Starved for Judging {
     fn call(&mut self, alloc: Global) -> Turn {
         let account = self.account.as_bytes();
-        match judge(alloc, &self.texts, "B.T", "A.v", &OCTETS, account) {
+        match judge(alloc, &self.texts, "B.T", ValueGiven::Named("A.v"), &OCTETS, account) {
             Ok(Verdict::Yes) => Turn::Right,
             Ok(Verdict::No(_)) => Turn::Wrong,
             Err(fault) => refusal(&fault),

@@ -1,7 +1,7 @@
 //! Allocations that fail one after another. Each call answers `Memory` and writes nothing, or it gives the answer.
 
 use super::modules::{OCTETS, PACKED, kit, texts};
-use asnc::{Fault, Kit, Sink};
+use asnc::{Fault, Kit, Sink, ValueGiven};
 use starving::{Starved, Swept, Turn, sweep};
 use std::alloc::Global;
 use std::io;
@@ -43,7 +43,7 @@ struct Encoding {
 
 impl Starved for Encoding {
     fn call(&mut self, alloc: Global) -> Turn {
-        match self.kit.der(alloc, "B.T", "A.v") {
+        match self.kit.der(alloc, "B.T", ValueGiven::Named("A.v")) {
             Ok((octets, _account)) => answer(octets.as_slice() == OCTETS.as_slice()),
             Err(fault) => refusal(&fault),
         }
@@ -58,7 +58,7 @@ struct Packing {
 
 impl Starved for Packing {
     fn call(&mut self, alloc: Global) -> Turn {
-        match self.kit.uper(alloc, "B.T", "A.v") {
+        match self.kit.uper(alloc, "B.T", ValueGiven::Named("A.v")) {
             Ok(octets) => answer(octets.as_slice() == PACKED.as_slice()),
             Err(fault) => refusal(&fault),
         }
@@ -107,7 +107,7 @@ impl Starved for Sending {
         if self.sink.failures > 0 {
             return Turn::Wrong;
         }
-        let answered = self.kit.der_to(alloc, "B.T", "A.v", &mut self.sink);
+        let answered = self.kit.der_to(alloc, "B.T", ValueGiven::Named("A.v"), &mut self.sink);
         if self.sink.wrong {
             return Turn::Wrong;
         }

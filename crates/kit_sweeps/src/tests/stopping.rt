@@ -1,14 +1,14 @@
 //! A sink that fails at each octet in turn.
 
 use super::modules::{OCTETS, kit};
-use asnc::{Fault, Kit, Sink, Stops};
+use asnc::{Fault, Kit, Sink, Stops, ValueGiven};
 use std::alloc::Global;
 use std::test::Fail;
 
 /// Whether a value is encoded as it should be to a sink that takes `limit` octets, at most three in one call.
 fn goes_out(alloc: Global, kit: &Kit, limit: usize) -> bool {
     let mut sink = Stops::at(Vec::new(alloc), limit, 3, false);
-    let answered = kit.der_to(alloc, "B.T", "A.v", &mut sink);
+    let answered = kit.der_to(alloc, "B.T", ValueGiven::Named("A.v"), &mut sink);
     if limit < OCTETS.len() {
         let told = match answered {
             Err(Fault::Device(count)) => count == limit as u64,

@@ -2,6 +2,7 @@
 
 use super::growths::{Compared, answer, refusal, report};
 use super::modules::{OCTETS, PACKED, kit, texts};
+use asnc::ValueGiven;
 use command_line::{Given, Job, Verb};
 use jobs::{Inputs, work};
 use messages::Fault;
@@ -109,7 +110,7 @@ fn each_put_of_raw_octets_fails_in_turn(rt: HostRuntime) -> Result<(), Fail> {
 
 /// The account of A.v under B.T.
 fn account(alloc: Global) -> Result<Vec<u8>, Fail> {
-    match kit(alloc)?.account(alloc, "B.T", "A.v") {
+    match kit(alloc)?.account(alloc, "B.T", ValueGiven::Named("A.v")) {
         Ok(text) => Ok(text.into_bytes()),
         Err(_) => Err("no account".into()),
     }

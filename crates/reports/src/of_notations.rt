@@ -1,0 +1,96 @@
+//! The words for a fault in the text of a notation, which the command line has in place of the name of a value.
+
+use crate::of_texts::{found, left_out, of_octets, of_tokens};
+use crate::of_values::of_value;
+use crate::spots::{octet_of_lexing, token_of_parsing};
+use command_line::Job;
+use hints::wanted_in_value;
+use messages::NotationFault;
+use notation::SyntaxFault;
+use shown_texts::{context, line_and_column, on_one_line, spelled_at, start, tokens_in};
+use std::alloc::{AllocError, Global};
+
+/// The octets of the notation that a job gives; none if it gives the name of a value.
+fn notation_in(_job: &Job) -> &[u8] {
+    &[]
+}
+
+/// The words for tokens that are not those of one value.
+fn of_value_tokens(
+    alloc: Global,
+    text: &[u8],
+    fault: &SyntaxFault,
+) -> Result<String, AllocError> {
+    let SyntaxFault::Unexpected(place) = fault else {
+        return of_tokens(alloc, text, fault);
+    };
+    let tokens = tokens_in(alloc, text)?;
+    let mut words = found(alloc, text, tokens.as_slice(), *place)?;
+    let spelled = spelled_at(text, tokens.as_slice(), *place);
+    let wanted = wanted_in_value(alloc, tokens.as_slice(), *place, spelled)?;
+    words.push_str(wanted.as_str())?;
+    Ok(words)
+}
+
+/// The words of a fault in the text of a notation.
+fn sentence(
+    alloc: Global,
+    texts: &[Vec<u8>],
+    text: &[u8],
+    fault: &NotationFault,
+) -> Result<String, AllocError> {
+    match fault {
+        NotationFault::Octets(inner) => of_octets(alloc, text, inner),
+        NotationFault::Tokens(inner) => of_value_tokens(alloc, text, inner),
+        NotationFault::Value(told) => {
+            let under = ", under the type that was asked for";
+            of_value(alloc, texts, text, told, under)
+        }
+    }
+}
+
+/// What comes after the name of a fault: the construct that this compiler leaves out. It is empty for another fault.
+fn construct(alloc: Global, text: &[u8], fault: &NotationFault) -> Result<String, AllocError> {
+    let NotationFault::Tokens(inner) = fault else {
+        return Ok(String::new(alloc));
+    };
+    let spelled = left_out(alloc, text, inner)?;
+    if spelled.is_empty() {
+        return Ok(spelled);
+    }
+    format!(in alloc; " {spelled}")
+}
+
+/// The octet of the text at which a fault is.
+fn octet_in(alloc: Global, text: &[u8], fault: &NotationFault) -> Result<usize, AllocError> {
+    match fault {
+        NotationFault::Octets(inner) => Ok(octet_of_lexing(inner).unwrap_or(0)),
+        NotationFault::Tokens(inner) => {
+            let tokens = tokens_in(alloc, text)?;
+            let place = token_of_parsing(inner).unwrap_or(0);
+            Ok(start(text, tokens.as_slice(), place))
+        }
+        NotationFault::Value(told) => Ok(told.spot.at),
+    }
+}
+
+/// What comes after the number and the name of a fault in the text of a notation: the line and the column in that text,
+/// and what was found and expected there. `--notation` is in place of the name of a file.
+pub(crate) fn of_notation(
+    alloc: Global,
+    job: &Job,
+    texts: &[Vec<u8>],
+    fault: &NotationFault,
+) -> Result<String, AllocError> {
+    let text = notation_in(job);
+    let words = sentence(alloc, texts, text, fault)?;
+    let what = construct(alloc, text, fault)?;
+    let octet = octet_in(alloc, text, fault)?;
+    let (line, column) = line_and_column(text, octet);
+    let shown = format!(in alloc; "{what}: --notation:{line}:{column}: {words}")?;
+    let mut shown = on_one_line(alloc, shown.as_str())?;
+    if job.context {
+        shown.push_str(context(alloc, text, octet)?.as_str())?;
+    }
+    Ok(shown)
+}
