@@ -11,15 +11,15 @@ _asnc() {
   fi
   local words
   case ${COMP_WORDS[1]} in
-    der) words='--type --value --raw --context --help -h' ;;
-    uper | account) words='--type --value --context --help -h' ;;
+    der) words='--type --value --notation --raw --context --help -h' ;;
+    uper | account) words='--type --value --notation --context --help -h' ;;
     ber) words='--type --hex --strict --context --help -h' ;;
     unper) words='--type --hex --context --help -h' ;;
     list) words='--context --help -h' ;;
     later) words='--type --newer --context --help -h' ;;
     *) return ;;
   esac
-  if [[ $before == --type || $before == --value || $before == --hex ]]; then
+  if [[ $before == --type || $before == --value || $before == --notation || $before == --hex ]]; then
     return
   fi
   if [[ $current == -* ]]; then

@@ -5,11 +5,11 @@ _octcheck() {
   local current=${COMP_WORDS[COMP_CWORD]}
   local before=${COMP_WORDS[COMP_CWORD - 1]}
   COMPREPLY=()
-  if [[ $before == --type || $before == --value || $before == --hex ]]; then
+  if [[ $before == --type || $before == --value || $before == --notation || $before == --hex ]]; then
     return
   fi
   if [[ $current == -* ]]; then
-    mapfile -t COMPREPLY < <(compgen -W '--type --value --hex --account --context --help -h --version -V' -- "$current")
+    mapfile -t COMPREPLY < <(compgen -W '--type --value --notation --hex --account --context --help -h --version -V' -- "$current")
     return
   fi
   compopt -o filenames 2>/dev/null

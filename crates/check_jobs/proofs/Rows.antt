@@ -8,11 +8,10 @@ use Rattle.command_line.specs.declared.request.Given.TheVariants as given
 use Rattle.command_line.specs.declared.request.Job.{Job}
 use Rattle.front_end.specs.Accepted.{octets_of}
 use Rattle.judging.specs.Judged.{IsJudged, answer_of}
-use Rattle.named_values.specs.Given.{named}
 use Rattle.sinks.specs.Sent.{SinkState, SentAll, SentFront}
 use Rattle.check_jobs.specs.declared.inputs.Inputs.{Inputs}
 use Rattle.check_jobs.specs.Checks.{IsChecked, IsCheckedInPart, IsVerdictLine, is_yes}
-use Rattle.check_jobs.specs.Inputs.{contents, line_of, octets_given}
+use Rattle.check_jobs.specs.Inputs.{contents, given_in, line_of, octets_given}
 
 -- ---- lines
 
@@ -42,7 +41,7 @@ octets_of_a_file v job = refl
 -- ---- conclusions
 
 module _ (job : Job) (inputs : Inputs) (yes : Bool) (o : List ℕ) (r : IsVerdictLine job inputs yes o) where
-  line_verdict : IsJudged (map octets_of inputs.files.items) (string_bytes job.ty) (named (string_bytes job.value))
+  line_verdict : IsJudged (map octets_of inputs.files.items) (string_bytes job.ty) (given_in job.value)
       (octets_given job.octets inputs.octets) (contents inputs.account) r.verdict
   line_verdict = r.judged
 

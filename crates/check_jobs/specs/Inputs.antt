@@ -1,15 +1,18 @@
--- The octets that a job has: those of the texts of its modules, those that it gives, and those of its account. And the
--- fault of words that ask for no job.
-use Rattle.std.specs.Prelude.{◌≡◌, ⊤, ℕ, List, [], ◌∷◌, ◌++◌, Option, Some, None, Vec, length}
+-- The octets that a job has: those of the texts of its modules, those that it gives, and those of its account. Also the
+-- value that it gives, and the fault of words that ask for no job.
+use Rattle.std.specs.Prelude.{◌≡◌, ⊤, ℕ, List, [], ◌∷◌, ◌++◌, Option, Some, None, Vec, length, string_bytes}
 use Rattle.std.specs.declared.alloc.Global.{Global}
 use Rattle.command_line.specs.declared.fault.WordsFault.{WordsFault}
 use Rattle.command_line.specs.declared.fault.WordsFault.TheVariants as words
 use Rattle.command_line.specs.declared.request.Given.{Given}
 use Rattle.command_line.specs.declared.request.Given.TheVariants as given
 use Rattle.command_line.specs.declared.request.Job.{Job}
+use Rattle.command_line.specs.declared.request.ValueWords.{ValueWords}
+use Rattle.command_line.specs.declared.request.ValueWords.TheVariants as values
 use Rattle.command_line.specs.declared.request.Verb.TheVariants as verbs
 use Rattle.messages.specs.declared.fault.Fault.{Fault}
 use Rattle.messages.specs.declared.fault.Fault.TheVariants as faults
+use Rattle.named_values.specs.Given.{Given as GivenValue, named, written}
 use Rattle.check_jobs.specs.declared.inputs.Inputs.{Inputs}
 
 -- the octets of a file; none if there is no file
@@ -22,6 +25,12 @@ abbrev pub octets_given : Given → Option (Vec ℕ Global) → List ℕ
 octets_given given.Nothing file = []
 octets_given (given.Octets v) file = v.items
 octets_given (given.Path name) file = contents file
+
+-- the value that a job gives: by its name, or by the text of a notation; without either it has the empty name
+abbrev pub given_in : ValueWords → GivenValue
+given_in values.Nothing = named []
+given_in (values.Named s) = named (string_bytes s)
+given_in (values.Written s) = written (string_bytes s)
 
 -- a line of output: a text and a line end
 abbrev pub line_of : List ℕ → List ℕ

@@ -7,9 +7,9 @@ ghost use Rattle.judging.specs.Judged.{answer_of};
 ghost use Rattle.messages.specs.declared.fault.Fault.TheVariants.{Device, Memory};
 ghost use Rattle.sinks.specs.Sent.{state};
 
-use crate::inputs::{Inputs, Output, ended};
+use crate::inputs::{Inputs, Output, ended, value_of};
 use command_line::Job;
-use judging::{ValueGiven, Verdict, answer, judge};
+use judging::{Verdict, answer, judge};
 use messages::Fault;
 use sinks::{Sink, send_all};
 use std::alloc::Global;
@@ -32,7 +32,7 @@ fn line(alloc: Global, verdict: Verdict) -> Result<Output, Fault>
     Ok(Output { octets, yes })
 }
 
-/// Judges the claim of a job: that its octets encode the named value, as its account describes. The output is `yes`,
+/// Judges the claim of a job: that its octets encode the value that it gives, as its account describes. The output is `yes`,
 /// or `no` and the first reason, and a line end.
 ///
 /// The faults are those of [`judge`]. `Memory` comes too if an allocation fails.
@@ -44,7 +44,7 @@ pub fn check_output(alloc: Global, job: &Job, inputs: &Inputs) -> Result<Output,
         alloc,
         inputs.files.as_slice(),
         job.ty.as_str(),
-        ValueGiven::Named(job.value.as_str()),
+        value_of(job),
         inputs.octets_of(job),
         inputs.account(),
     ) {

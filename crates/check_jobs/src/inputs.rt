@@ -1,10 +1,12 @@
 //! What a job has of its files, and what it prints.
 
 ghost use Rattle.std.specs.Prelude.{◌≡◌, IfOk, IfErr, string_bytes};
-ghost use Rattle.check_jobs.specs.Inputs.{contents, line_of, octets_given};
+ghost use Rattle.check_jobs.specs.Inputs.{contents, given_in, line_of, octets_given};
 ghost use Rattle.messages.specs.declared.fault.Fault.TheVariants.{Memory};
+ghost use Rattle.named_values.specs.Given.{as_given};
 
-use command_line::{Given, Job};
+use command_line::{Given, Job, ValueWords};
+use judging::ValueGiven;
 use messages::Fault;
 
 /// The contents of the files that a job names.
@@ -48,6 +50,17 @@ impl Inputs {
         ensures { result.now ≡ contents self.now.account }
     {
         contents_of(&self.account)
+    }
+}
+
+/// The value that a job gives: by its name, or by the text of a notation. Without either it has the empty name.
+pub fn value_of(job: &Job) -> ValueGiven<'_>
+    ensures { as_given result ≡ given_in job.now.value }
+{
+    match &job.value {
+        ValueWords::Nothing => ValueGiven::Named(""),
+        ValueWords::Named(name) => ValueGiven::Named(name.as_str()),
+        ValueWords::Written(text) => ValueGiven::Written(text.as_bytes()),
     }
 }
 

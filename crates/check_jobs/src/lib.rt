@@ -7,5 +7,5 @@ mod inputs;
 mod words;
 
 pub use checks::{check, check_output};
-pub use inputs::{Inputs, Output, ended};
+pub use inputs::{Inputs, Output, ended, value_of};
 pub use words::refusal;

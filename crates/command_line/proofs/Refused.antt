@@ -5,7 +5,9 @@ use Rattle.clap.specs.declared.error.kind.ErrorKind.{ErrorKind}
 use Rattle.clap.specs.declared.error.kind.ErrorKind.TheVariants as kinds
 use Rattle.command_line.specs.declared.fault.WordsFault.{WordsFault}
 use Rattle.command_line.specs.declared.fault.WordsFault.TheVariants as faults
-use Rattle.command_line.specs.CommandLine.{asnc_app, octcheck_app, ChecksNoOctets, HasNoOctets, IsFaultOf, IsNoJobOf, IsNotGiven, IsRefusedBy, TakesOctets, TellsNone, text_in}
+use Rattle.command_line.specs.CommandLine.{asnc_app, octcheck_app, text_in, ChecksNothing, HasNoCheck, HasNoJob, IsFaultOf}
+use Rattle.command_line.specs.CommandLine.{IsNoCheckOf, IsNoJobOf, IsNotGiven, IsNoValueIn, IsRefusedBy, TakesOctets}
+use Rattle.command_line.specs.CommandLine.{TakesValue}
 
 pub refused_by : (a : App) (N : Type 0) (words : List Text) (k : ErrorKind) (fault : WordsFault)
     → (k ≡ kinds.OutOfMemory) ⊎ IsAmong k (fault_of a words)
@@ -28,8 +30,28 @@ pub no_job : (command : Text) (rows : List Row) (fault : WordsFault) → TakesOc
     → IsNotGiven (text_in rows (codes "hex")) fault
     → IsNoJobOf command rows fault
 no_job command rows faults.Memory t n = tt
-no_job command rows (faults.BadWords b) t n = (t, n)
+no_job command rows (faults.BadWords b) t n = inl (t, n)
 no_job command rows (faults.Help b) t n = absurd n
+
+-- a command that takes a value has no job where no value is given
+pub no_value : (command : Text) (rows : List Row) (fault : WordsFault) → TakesValue command
+    → IsNoValueIn rows fault
+    → IsNoJobOf command rows fault
+no_value command rows faults.Memory t n = tt
+no_value command rows (faults.BadWords b) t n = inr (t, n)
+no_value command rows (faults.Help b) t n = absurd n
+
+-- words of octcheck that give no value ask for nothing, and so do words that give no octets
+pub no_check_value : (rows : List Row) (fault : WordsFault) → IsNoValueIn rows fault → IsNoCheckOf rows fault
+no_check_value rows faults.Memory n = tt
+no_check_value rows (faults.BadWords b) n = inl n
+no_check_value rows (faults.Help b) n = absurd n
+
+pub no_check_octets : (rows : List Row) (fault : WordsFault) → IsNotGiven (text_in rows (codes "hex")) fault
+    → IsNoCheckOf rows fault
+no_check_octets rows faults.Memory n = tt
+no_check_octets rows (faults.BadWords b) n = inr n
+no_check_octets rows (faults.Help b) n = absurd n
 
 -- if a command has no job, the words are refused
 refused_without : (words : List Text) (command : Text) (rows : List Row) (fault : WordsFault)
@@ -37,10 +59,10 @@ refused_without : (words : List Text) (command : Text) (rows : List Row) (fault 
     → option_map (λ p. p.0) (subcommand_of asnc_app words) ≡ Some command
     → option_map (λ p. p.1) (subcommand_of asnc_app words) ≡ Some rows
     → IsNoJobOf command rows fault
-    → IsRefusedBy asnc_app (HasNoOctets words) words fault
+    → IsRefusedBy asnc_app (HasNoJob words) words fault
 refused_without words command rows faults.Memory t c r n = tt
 refused_without words command rows (faults.BadWords b) t c r n =
-    inr (record { taken = t; command = command; takes = n.0; called = c; rows = rows; found = r; none = n.1 })
+    inr (record { taken = t; command = command; called = c; rows = rows; found = r; lacks = n })
 refused_without words command rows (faults.Help b) t c r n = absurd n
 
 pub refused_where : (words : List Text) (command : Text) (rows : List Row) (fault : WordsFault)
@@ -48,14 +70,14 @@ pub refused_where : (words : List Text) (command : Text) (rows : List Row) (faul
     → fault_of asnc_app words ≡ []
     → option_map (λ p. p.0) (subcommand_of asnc_app words) ≡ Some command
     → option_map (λ p. p.1) (subcommand_of asnc_app words) ≡ Some rows
-    → IsRefusedBy asnc_app (HasNoOctets words) words fault
+    → IsRefusedBy asnc_app (HasNoJob words) words fault
 refused_where words command rows fault n t c r = refused_without words command rows fault t c r n
 
--- words of octcheck that give no octets are refused
+-- words of octcheck that lack a part are refused
 pub not_given : (words : List Text) (rows : List Row) (fault : WordsFault) → fault_of octcheck_app words ≡ [] →
-    rows ≡ matches_of octcheck_app words → IsNotGiven (text_in rows (codes "hex")) fault →
-    IsRefusedBy octcheck_app (ChecksNoOctets words) words fault
+    rows ≡ matches_of octcheck_app words → IsNoCheckOf rows fault →
+    IsRefusedBy octcheck_app (HasNoCheck words) words fault
 not_given words rows faults.Memory t r n = tt
 not_given words rows (faults.BadWords b) t r n =
-    inr (record { taken = t; none = subst (λ (q : List Row). TellsNone (text_in q (codes "hex"))) r n })
+    inr (record { taken = t; lacks = subst (λ (q : List Row). ChecksNothing q) r n })
 not_given words rows (faults.Help b) t r n = absurd n

@@ -1,6 +1,6 @@
 -- The command lines that the programs asnc and octcheck accept, and what a job has of one.
 use Rattle.std.specs.Prelude.{◌≡◌, ◌⊎◌, ⊤, ℕ, List, [], ◌∷◌, codes, map, option_map, string_bytes, unwrap_or}
-use Rattle.std.specs.Prelude.{true, false, Some, Ok}
+use Rattle.std.specs.Prelude.{true, false, Option, None, Some, Ok}
 use Rattle.clap.specs.Words.{App, Rule, new_app, new_rule, with_rule, with_subcommand}
 use Rattle.clap.specs.Words.{Row, Text, IsAmong, all_of, fault_of, first_of, one_of, matches_of, subcommand_of}
 use Rattle.clap.specs.declared.builder.ArgAction.TheVariants.{Append, Set, SetTrue}
@@ -10,6 +10,8 @@ use Rattle.hex.specs.Hex.{decode_of}
 use Rattle.command_line.specs.declared.fault.WordsFault.{WordsFault}
 use Rattle.command_line.specs.declared.fault.WordsFault.TheVariants as faults
 use Rattle.command_line.specs.declared.request.Job.{Job}
+use Rattle.command_line.specs.declared.request.ValueWords.{ValueWords}
+use Rattle.command_line.specs.declared.request.ValueWords.TheVariants as value_words
 use Rattle.command_line.specs.declared.request.Verb.{Verb}
 use Rattle.command_line.specs.declared.request.Verb.TheVariants as verbs
 use Rattle.command_line.specs.declared.request.Given.{Given}
@@ -23,6 +25,10 @@ text_rule id = record (new_rule id) {
   required = true;
   action = Some Set;
 }
+
+-- `--ID TEXT`, which is optional
+abbrev pub choice_rule : Text → Rule
+choice_rule id = record (new_rule id) { long = Some id; value_names = 1; action = Some Set }
 
 -- `--ID`, which is optional
 abbrev pub flag_rule : Text → Rule
@@ -41,20 +47,22 @@ newer_rule = record (new_rule (codes "newer")) {
   action = Some Append;
 }
 
--- `NAME --type TEXT --value TEXT`
+-- `NAME --type TEXT [--value TEXT] [--notation TEXT]`
 abbrev pub value_names_app : Text → App
-value_names_app name = with_rule (with_rule (new_app name) (text_rule (codes "type"))) (text_rule (codes "value"))
+value_names_app name =
+    with_rule (with_rule (with_rule (new_app name) (text_rule (codes "type"))) (choice_rule (codes "value")))
+    (choice_rule (codes "notation"))
 
--- `NAME --type TEXT --value TEXT [--context] FILE..`
+-- `NAME --type TEXT [--value TEXT] [--notation TEXT] [--context] FILE..`
 abbrev pub value_app : Text → App
 value_app name = with_rule (with_rule (value_names_app name) (flag_rule (codes "context"))) files_rule
 
--- `der --type TEXT --value TEXT [--raw] [--context]`
+-- `der --type TEXT [--value TEXT] [--notation TEXT] [--raw] [--context]`
 abbrev pub der_flags_app : App
 der_flags_app =
     with_rule (with_rule (value_names_app (codes "der")) (flag_rule (codes "raw"))) (flag_rule (codes "context"))
 
--- `der --type TEXT --value TEXT [--raw] [--context] FILE..`
+-- `der --type TEXT [--value TEXT] [--notation TEXT] [--raw] [--context] FILE..`
 abbrev pub der_app : App
 der_app = with_rule der_flags_app files_rule
 
@@ -125,15 +133,17 @@ bare_check_app = record (new_app (codes "octcheck")) {
   top = record (new_app (codes "octcheck")).top { has_version = true };
 }
 
--- `octcheck --type TEXT --value TEXT`
+-- `octcheck --type TEXT [--value TEXT] [--notation TEXT]`
 abbrev pub check_names_app : App
-check_names_app = with_rule (with_rule bare_check_app (text_rule (codes "type"))) (text_rule (codes "value"))
+check_names_app =
+    with_rule (with_rule (with_rule bare_check_app (text_rule (codes "type"))) (choice_rule (codes "value")))
+    (choice_rule (codes "notation"))
 
--- `octcheck --type TEXT --value TEXT --hex TEXT --account TEXT`
+-- `octcheck --type TEXT [--value TEXT] [--notation TEXT] --hex TEXT --account TEXT`
 abbrev pub check_texts_app : App
 check_texts_app = with_rule (with_rule check_names_app (text_rule (codes "hex"))) (text_rule (codes "account"))
 
--- `octcheck --type TEXT --value TEXT --hex TEXT --account TEXT [--context] FILE..`
+-- `octcheck --type TEXT [--value TEXT] [--notation TEXT] --hex TEXT --account TEXT [--context] FILE..`
 abbrev pub octcheck_app : App
 octcheck_app = with_rule (with_rule check_texts_app (flag_rule (codes "context"))) files_rule
 
@@ -154,11 +164,37 @@ text_in rows id = unwrap_or (first_of id rows) []
 abbrev pub texts_in : List Row → Text → List Text
 texts_in rows id = unwrap_or (all_of id rows) []
 
+-- the value that is given by the text of `--value` or by that of `--notation`, if there is one of them alone
+abbrev pub IsValueOf : (name notation : Option Text) → ValueWords → Type 0
+IsValueOf (Some n) None (value_words.Named s) = string_bytes s ≡ n
+IsValueOf None (Some t) (value_words.Written s) = string_bytes s ≡ t
+IsValueOf name notation value = ⊥
+
+-- there is neither a text of `--value` nor one of `--notation`, or there are both
+abbrev pub AreNoValue : (name notation : Option Text) → Type 0
+AreNoValue (Some n) (Some t) = ⊤
+AreNoValue None None = ⊤
+AreNoValue name notation = ⊥
+
+-- the fault of words that give no value, or give it twice; `Memory` says nothing of them
+abbrev pub IsNoValueOf : (name notation : Option Text) → WordsFault → Type 0
+IsNoValueOf name notation faults.Memory = ⊤
+IsNoValueOf name notation (faults.BadWords t) = AreNoValue name notation
+IsNoValueOf name notation (faults.Help t) = ⊥
+
+-- the same of what was found in the words
+abbrev pub IsNoValueIn : List Row → WordsFault → Type 0
+IsNoValueIn rows fault = IsNoValueOf (first_of (codes "value") rows) (first_of (codes "notation") rows) fault
+
+-- the words give no value, or give it twice
+abbrev pub GivesNoValue : List Row → Type 0
+GivesNoValue rows = AreNoValue (first_of (codes "value") rows) (first_of (codes "notation") rows)
+
 -- The job has what was found for the arguments of `der`. Fields that `der` doesn't take are empty.
 pub record IsDerOf (rows : List Row) (job : Job) : Type 0 where
   pub verb : job.verb ≡ verbs.Der
   pub type : string_bytes job.ty ≡ text_in rows (codes "type")
-  pub value : string_bytes job.value ≡ text_in rows (codes "value")
+  pub value : IsValueOf (first_of (codes "value") rows) (first_of (codes "notation") rows) job.value
   pub raw : (one_of (codes "raw") rows ≡ Some (codes "true")) → job.raw ≡ true
   pub not_raw : (one_of (codes "raw") rows ≡ Some (codes "false")) → job.raw ≡ false
   pub context : (one_of (codes "context") rows ≡ Some (codes "true")) → job.context ≡ true
@@ -169,12 +205,12 @@ pub record IsDerOf (rows : List Row) (job : Job) : Type 0 where
   pub no_octets : job.octets ≡ given.Nothing
   pub not_strict : job.strict ≡ false
 
--- The job has this verb, and what was found for the names of a type and of a value. Fields that the verb doesn't take
--- are empty.
+-- The job has this verb, and what was found for the name of a type and for a value. Fields that the verb doesn't take are
+-- empty.
 pub record IsValueJobOf (verb : Verb) (rows : List Row) (job : Job) : Type 0 where
   pub verb_is : job.verb ≡ verb
   pub type : string_bytes job.ty ≡ text_in rows (codes "type")
-  pub value : string_bytes job.value ≡ text_in rows (codes "value")
+  pub value : IsValueOf (first_of (codes "value") rows) (first_of (codes "notation") rows) job.value
   pub context : (one_of (codes "context") rows ≡ Some (codes "true")) → job.context ≡ true
   pub no_context : (one_of (codes "context") rows ≡ Some (codes "false")) → job.context ≡ false
   pub files : map string_bytes job.files.items ≡ texts_in rows (codes "FILE")
@@ -208,7 +244,7 @@ pub record IsBerOf (rows : List Row) (job : Job) : Type 0 where
   pub no_context : (one_of (codes "context") rows ≡ Some (codes "false")) → job.context ≡ false
   pub files : map string_bytes job.files.items ≡ texts_in rows (codes "FILE")
   pub no_newer : job.newer.items ≡ []
-  pub no_value : string_bytes job.value ≡ []
+  pub no_value : job.value ≡ value_words.Nothing
   pub no_account : string_bytes job.account ≡ []
   pub not_raw : job.raw ≡ false
 
@@ -222,7 +258,7 @@ pub record IsUnperOf (rows : List Row) (job : Job) : Type 0 where
   pub no_context : (one_of (codes "context") rows ≡ Some (codes "false")) → job.context ≡ false
   pub files : map string_bytes job.files.items ≡ texts_in rows (codes "FILE")
   pub no_newer : job.newer.items ≡ []
-  pub no_value : string_bytes job.value ≡ []
+  pub no_value : job.value ≡ value_words.Nothing
   pub no_account : string_bytes job.account ≡ []
   pub not_raw : job.raw ≡ false
   pub not_strict : job.strict ≡ false
@@ -231,7 +267,7 @@ pub record IsUnperOf (rows : List Row) (job : Job) : Type 0 where
 pub record IsListOf (rows : List Row) (job : Job) : Type 0 where
   pub verb : job.verb ≡ verbs.List
   pub no_type : string_bytes job.ty ≡ []
-  pub no_value : string_bytes job.value ≡ []
+  pub no_value : job.value ≡ value_words.Nothing
   pub not_raw : job.raw ≡ false
   pub context : (one_of (codes "context") rows ≡ Some (codes "true")) → job.context ≡ true
   pub no_context : (one_of (codes "context") rows ≡ Some (codes "false")) → job.context ≡ false
@@ -249,7 +285,7 @@ pub record IsLaterOf (rows : List Row) (job : Job) : Type 0 where
   pub no_context : (one_of (codes "context") rows ≡ Some (codes "false")) → job.context ≡ false
   pub files : map string_bytes job.files.items ≡ texts_in rows (codes "FILE")
   pub newer : map string_bytes job.newer.items ≡ texts_in rows (codes "newer")
-  pub no_value : string_bytes job.value ≡ []
+  pub no_value : job.value ≡ value_words.Nothing
   pub no_account : string_bytes job.account ≡ []
   pub no_octets : job.octets ≡ given.Nothing
   pub not_raw : job.raw ≡ false
@@ -260,7 +296,7 @@ pub record IsLaterOf (rows : List Row) (job : Job) : Type 0 where
 pub record IsCheckOf (rows : List Row) (job : Job) : Type 0 where
   pub verb : job.verb ≡ verbs.Check
   pub type : string_bytes job.ty ≡ text_in rows (codes "type")
-  pub value : string_bytes job.value ≡ text_in rows (codes "value")
+  pub value : IsValueOf (first_of (codes "value") rows) (first_of (codes "notation") rows) job.value
   pub octets : IsGiven (text_in rows (codes "hex")) job.octets
   pub account : string_bytes job.account ≡ text_in rows (codes "account")
   pub context : (one_of (codes "context") rows ≡ Some (codes "true")) → job.context ≡ true
@@ -297,11 +333,33 @@ IsNotGiven text (faults.Help t) = ⊥
 abbrev pub TakesOctets : Text → Type 0
 TakesOctets command = (command ≡ codes "ber") ⊎ (command ≡ codes "unper")
 
--- the fault of a command without a job: the command takes octets, and the text of `--hex` gives none
+-- the command takes a value: it isn't one of the others
+abbrev pub TakesValue : Text → Type 0
+TakesValue command = (command ≡ codes "list" → ⊥)
+    × (command ≡ codes "ber" → ⊥)
+    × (command ≡ codes "unper" → ⊥)
+    × (command ≡ codes "later" → ⊥)
+
+-- the command takes octets, and the text of `--hex` gives none; or it takes a value, and the words give none or two
+abbrev pub LacksPart : Text → List Row → Type 0
+LacksPart command rows =
+    (TakesOctets command × TellsNone (text_in rows (codes "hex"))) ⊎ (TakesValue command × GivesNoValue rows)
+
+-- the fault of a command without a job; `Memory` says nothing of the words
 abbrev pub IsNoJobOf : Text → List Row → WordsFault → Type 0
 IsNoJobOf command rows faults.Memory = ⊤
-IsNoJobOf command rows (faults.BadWords t) = TakesOctets command × TellsNone (text_in rows (codes "hex"))
+IsNoJobOf command rows (faults.BadWords t) = LacksPart command rows
 IsNoJobOf command rows (faults.Help t) = ⊥
+
+-- the words of octcheck give no value or give it twice, or the text of `--hex` gives no octets
+abbrev pub ChecksNothing : List Row → Type 0
+ChecksNothing rows = GivesNoValue rows ⊎ TellsNone (text_in rows (codes "hex"))
+
+-- the fault of words of octcheck without a job; `Memory` says nothing of them
+abbrev pub IsNoCheckOf : List Row → WordsFault → Type 0
+IsNoCheckOf rows faults.Memory = ⊤
+IsNoCheckOf rows (faults.BadWords t) = ChecksNothing rows
+IsNoCheckOf rows (faults.Help t) = ⊥
 
 -- the words of asnc have no fault, and the job has what they give for their command
 pub record IsCommand (words : List Text) (job : Job) : Type 0 where
@@ -329,20 +387,19 @@ IsFaultOf k (faults.Help t) = (k ≡ kinds.DisplayHelp) ⊎ (k ≡ kinds.Display
 IsFaultOf k (faults.BadWords t) =
     (k ≡ kinds.OutOfMemory → ⊥) × (k ≡ kinds.DisplayHelp → ⊥) × (k ≡ kinds.DisplayVersion → ⊥)
 
--- the words have no other fault than this: their command takes octets, and the text of `--hex` gives none
-pub record HasNoOctets (words : List Text) : Type 0 where
+-- the words have no other fault than this: they lack the octets or the value that their command takes
+pub record HasNoJob (words : List Text) : Type 0 where
   pub taken : fault_of asnc_app words ≡ []
   pub command : Text
-  pub takes : TakesOctets command
   pub called : option_map (λ p. p.0) (subcommand_of asnc_app words) ≡ Some command
   pub rows : List Row
   pub found : option_map (λ p. p.1) (subcommand_of asnc_app words) ≡ Some rows
-  pub none : TellsNone (text_in rows (codes "hex"))
+  pub lacks : LacksPart command rows
 
--- the words of octcheck have no other fault than this: the text of `--hex` gives no octets
-pub record ChecksNoOctets (words : List Text) : Type 0 where
+-- the words of octcheck have no other fault than this: they lack the value or the octets
+pub record HasNoCheck (words : List Text) : Type 0 where
   pub taken : fault_of octcheck_app words ≡ []
-  pub none : TellsNone (text_in (matches_of octcheck_app words) (codes "hex"))
+  pub lacks : ChecksNothing (matches_of octcheck_app words)
 
 -- the words of a program have a fault that isn't a request for help or for the version
 pub record AreWrong (a : App) (words : List Text) : Type 0 where
@@ -351,15 +408,15 @@ pub record AreWrong (a : App) (words : List Text) : Type 0 where
   pub no_help : kind ≡ kinds.DisplayHelp → ⊥
   pub no_version : kind ≡ kinds.DisplayVersion → ⊥
 
--- The words of a program are refused. They ask for help or for the version, they have another fault, or they give no
--- octets where octets are required. `Memory` says nothing of the words.
-abbrev pub IsRefusedBy : App → (NoOctets : Type 0) → List Text → WordsFault → Type 0
-IsRefusedBy a NoOctets words faults.Memory = ⊤
-IsRefusedBy a NoOctets words (faults.Help t) =
+-- The words of a program are refused. They ask for help or for the version, they have another fault, or they lack
+-- octets or a value where these are required. `Memory` says nothing of the words.
+abbrev pub IsRefusedBy : App → (Lacks : Type 0) → List Text → WordsFault → Type 0
+IsRefusedBy a Lacks words faults.Memory = ⊤
+IsRefusedBy a Lacks words (faults.Help t) =
     IsAmong kinds.DisplayHelp (fault_of a words) ⊎ IsAmong kinds.DisplayVersion (fault_of a words)
-IsRefusedBy a NoOctets words (faults.BadWords t) = AreWrong a words ⊎ NoOctets
+IsRefusedBy a Lacks words (faults.BadWords t) = AreWrong a words ⊎ Lacks
 
 -- the words of asnc or of octcheck are refused
 pub record IsRefused (words : List Text) (fault : WordsFault) : Type 0 where
-  pub check : AreOfChecker words → IsRefusedBy octcheck_app (ChecksNoOctets words) words fault
-  pub command : (AreOfChecker words → ⊥) → IsRefusedBy asnc_app (HasNoOctets words) words fault
+  pub check : AreOfChecker words → IsRefusedBy octcheck_app (HasNoCheck words) words fault
+  pub command : (AreOfChecker words → ⊥) → IsRefusedBy asnc_app (HasNoJob words) words fault

@@ -4,7 +4,7 @@ ghost use Rattle.std.specs.Prelude.{◌≡◌, IfOk, codes, false, true};
 ghost use Rattle.clap.specs.Words.{app_of, rule_of};
 ghost use Rattle.clap.specs.declared.builder.command.Command.TheViews.{out-Command};
 ghost use Rattle.command_line.specs.CommandLine.{asnc_app, ber_app, ber_flags_app, check_names_app, check_texts_app};
-ghost use Rattle.command_line.specs.CommandLine.{der_app, der_flags_app, files_rule, flag_rule, later_app};
+ghost use Rattle.command_line.specs.CommandLine.{choice_rule, der_app, der_flags_app, files_rule, flag_rule, later_app};
 ghost use Rattle.command_line.specs.CommandLine.{later_names_app, list_app, listing_app, newer_rule, octcheck_app};
 ghost use Rattle.command_line.specs.CommandLine.{octets_app, octets_names_app, packed_app, text_rule, unper_app};
 ghost use Rattle.command_line.specs.CommandLine.{unper_flags_app, value_app, value_names_app};
@@ -17,7 +17,7 @@ const AFTER_HELP: &str = "\
 Examples:
   asnc der --type M.T --value M.v m.asn
   asnc ber --type M.T --hex 020105 m.asn
-  asnc uper --type M.T --value M.v m.asn
+  asnc uper --type M.T --notation 5 m.asn
   asnc unper --type M.T --hex 0105 m.asn
   asnc account --type M.T --value M.v m.asn
   asnc list m.asn
@@ -31,6 +31,7 @@ its name; man asnc lists them.";
 const DER_EXAMPLES: &str = "\
 Examples:
   asnc der --type M.T --value M.v m.asn
+  asnc der --type M.T --notation '{a 5, b TRUE}' m.asn
   asnc der --raw --type M.T --value M.v m.asn > v.der
   cat m.asn | asnc der --context --type M.T --value M.v -";
 
@@ -44,6 +45,7 @@ Examples:
 const UPER_EXAMPLES: &str = "\
 Examples:
   asnc uper --type M.T --value M.v m.asn
+  asnc uper --type M.T --notation=-5 m.asn
   cat m.asn | asnc uper --context --type M.T --value M.v -";
 
 /// The text at the end of the help of `unper`.
@@ -96,6 +98,44 @@ fn text_arg<'a>(alloc: Global, id: &'a str, shown: &'a str, help: &'a str) -> Ar
         .required(true)
         .action(ArgAction::Set)
         .help(help)
+}
+
+/// `--ID <SHOWN>`, which is optional.
+fn choice_arg<'a>(alloc: Global, id: &'a str, shown: &'a str, help: &'a str) -> Arg<'a>
+    ensures rule { rule_of result ≡ choice_rule id.entry.now }
+    ensures local { result.global ≡ false }
+{
+    Arg::new(alloc, id)
+        .long(id)
+        .value_name(shown)
+        .action(ArgAction::Set)
+        .help(help)
+}
+
+/// `--value`, which has to be given if `--notation` isn't.
+fn name_arg<'a>(alloc: Global) -> Arg<'a>
+    ensures rule { rule_of result ≡ choice_rule (codes "value") }
+    ensures local { result.global ≡ false }
+{
+    choice_arg(
+        alloc,
+        "value",
+        "MODULE.VALUE",
+        "The value, by its name; or else --notation",
+    )
+}
+
+/// `--notation`, which has to be given if `--value` isn't.
+fn notation_arg<'a>(alloc: Global) -> Arg<'a>
+    ensures rule { rule_of result ≡ choice_rule (codes "notation") }
+    ensures local { result.global ≡ false }
+{
+    choice_arg(
+        alloc,
+        "notation",
+        "TEXT",
+        "The value as modules write it, with the names of the type's module",
+    )
 }
 
 /// `--ID`, which is optional.
@@ -154,7 +194,7 @@ fn hex_arg<'a>(alloc: Global) -> Arg<'a>
     )
 }
 
-/// A command with the names of a type and of a value.
+/// A command with the name of a type, and a value.
 fn value_names<'a>(
     alloc: Global,
     name: &'a str,
@@ -168,10 +208,11 @@ fn value_names<'a>(
         .about(about)
         .after_help(examples)
         .arg(text_arg(alloc, "type", "MODULE.TYPE", "The type"))?
-        .arg(text_arg(alloc, "value", "MODULE.VALUE", "The value"))
+        .arg(name_arg(alloc))?
+        .arg(notation_arg(alloc))
 }
 
-/// A command that takes the names of a type and of a value, `--context` and files.
+/// A command that takes the name of a type, a value, `--context` and files.
 fn value_command<'a>(
     alloc: Global,
     name: &'a str,
@@ -209,7 +250,7 @@ fn der_flags<'a>(alloc: Global) -> Result<Command<'a>, AllocError>
     ensures local { IfOk result (λ c. (out-Command c).has_globals ≡ false) }
 {
     let raw = flag_arg(alloc, "raw", "Write the octets themselves, not hexadecimal");
-    let about = "Write the DER encoding of a value that a module names";
+    let about = "Write the DER encoding of a value that a module names, or that is given";
     value_names(alloc, "der", about, DER_EXAMPLES)?
         .arg(raw)?
         .arg(context_arg(alloc))
@@ -245,7 +286,7 @@ fn uper_command<'a>(alloc: Global) -> Result<Command<'a>, AllocError>
     ensures shape { IfOk result (λ c. app_of c ≡ value_app (codes "uper")) }
     ensures local { IfOk result (λ c. (out-Command c).has_globals ≡ false) }
 {
-    let about = "Write a value that a module names in canonical PER, unaligned";
+    let about = "Write such a value in canonical PER, unaligned";
     value_command(alloc, "uper", about, UPER_EXAMPLES)
 }
 
@@ -351,7 +392,7 @@ pub(crate) fn asnc_command<'a>(alloc: Global) -> Result<Command<'a>, AllocError>
     listing_command(alloc)?.subcommand(later_command(alloc)?)
 }
 
-/// The program octcheck with the names of a type and of a value.
+/// The program octcheck with the name of a type, and a value.
 fn check_names<'a>(alloc: Global) -> Result<Command<'a>, AllocError>
     ensures shape { IfOk result (λ c. app_of c ≡ check_names_app) }
     ensures local { IfOk result (λ c. (out-Command c).has_globals ≡ false) }
@@ -361,7 +402,8 @@ fn check_names<'a>(alloc: Global) -> Result<Command<'a>, AllocError>
         .version("0.1.0")
         .after_help(CHECK_HELP)
         .arg(text_arg(alloc, "type", "MODULE.TYPE", "The type"))?
-        .arg(text_arg(alloc, "value", "MODULE.VALUE", "The value"))
+        .arg(name_arg(alloc))?
+        .arg(notation_arg(alloc))
 }
 
 /// The program octcheck with these names, the octets and the account's file.

@@ -5,8 +5,9 @@ mod commands;
 mod fault;
 mod octets;
 mod request;
+mod values;
 mod words;
 
 pub use fault::WordsFault;
-pub use request::{Given, Job, Verb};
+pub use request::{Given, Job, ValueWords, Verb};
 pub use words::job;

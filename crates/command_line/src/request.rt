@@ -11,6 +11,17 @@ pub enum Given {
     Path(String),
 }
 
+/// The value that a command line gives.
+#[derive(Debug, Drop)]
+pub enum ValueWords {
+    /// No value.
+    Nothing,
+    /// The value of this name, as `Module.value`.
+    Named(String),
+    /// The value of this notation, whose names are read in the module of the type.
+    Written(String),
+}
+
 /// What a program should do.
 #[derive(Clone, Copy, Debug, PartialEq, Eq)]
 pub enum Verb {
@@ -38,8 +49,7 @@ pub struct Job {
     pub verb: Verb,
     /// The name of a type, as `Module.Type`.
     pub ty: String,
-    /// The name of a value, as `Module.value`.
-    pub value: String,
+    pub value: ValueWords,
     /// The name of the file with an account of an encoding.
     pub account: String,
     pub octets: Given,

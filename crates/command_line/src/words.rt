@@ -3,15 +3,16 @@
 ghost use Rattle.std.specs.Prelude.{◌≡◌, ◌↔◌, ℕ, List, IfOk, IfErr, IsTrue, Some, codes, map, string_bytes};
 ghost use Rattle.clap.specs.Words.{found_of, kind_of, rows_of};
 ghost use Rattle.command_line.specs.CommandLine.{asnc_app, octcheck_app, text_in, texts_in, AreOfChecker};
-ghost use Rattle.command_line.specs.CommandLine.{ChecksNoOctets, HasNoOctets, IsAsked, IsBerOf, IsCheck, IsCheckOf};
+ghost use Rattle.command_line.specs.CommandLine.{HasNoCheck, HasNoJob, IsAsked, IsBerOf, IsCheck, IsCheckOf};
 ghost use Rattle.command_line.specs.CommandLine.{IsCommand, IsDerOf, IsFaultOf, IsJobOf, IsLaterOf, IsListOf};
-ghost use Rattle.command_line.specs.CommandLine.{IsNoJobOf, IsNotGiven, IsRefused, IsRefusedBy, IsUnperOf};
-ghost use Rattle.command_line.specs.CommandLine.{IsValueJobOf};
+ghost use Rattle.command_line.specs.CommandLine.{IsNoCheckOf, IsNoJobOf, IsNoValueIn, IsNotGiven, IsRefused};
+ghost use Rattle.command_line.specs.CommandLine.{IsRefusedBy, IsUnperOf, IsValueJobOf};
 
 use crate::commands::{asnc_command, octcheck_command};
 use crate::fault::WordsFault;
 use crate::octets::given_in;
-use crate::request::{Given, Job, Verb};
+use crate::request::{Given, Job, ValueWords, Verb};
+use crate::values::value_in;
 use clap::ArgMatches;
 use clap::error::ErrorKind;
 use shown_texts::on_one_line;
@@ -83,15 +84,18 @@ fn texts_of(alloc: Global, texts: &[&str]) -> Result<Vec<String>, AllocError>
     Ok(all)
 }
 
-fn der_job(alloc: Global, found: &ArgMatches<'_>) -> Result<Job, AllocError>
-    ensures { IfOk result (IsDerOf (rows_of (found_of found.now))) }
+/// The job of `der`. `BadWords`: the words give no value, or give it twice.
+fn der_job(alloc: Global, found: &ArgMatches<'_>) -> Result<Job, WordsFault>
+    ensures job { IfOk result (IsDerOf (rows_of (found_of found.now))) }
+    ensures none { IfErr result (IsNoValueIn (rows_of (found_of found.now))) }
 {
     let raw = found.get_flag("raw");
     let context = found.get_flag("context");
+    let value = value_in(alloc, "asnc", found)?;
     Ok(Job {
         verb: Verb::Der,
         ty: text_of(alloc, found, "type")?,
-        value: text_of(alloc, found, "value")?,
+        value,
         account: String::new(alloc),
         octets: Given::Nothing,
         raw,
@@ -114,7 +118,7 @@ fn ber_job(alloc: Global, found: &ArgMatches<'_>) -> Result<Job, WordsFault>
     Ok(Job {
         verb: Verb::Ber,
         ty: text_of(alloc, found, "type")?,
-        value: String::new(alloc),
+        value: ValueWords::Nothing,
         account: String::new(alloc),
         octets,
         raw: false,
@@ -136,7 +140,7 @@ fn unper_job(alloc: Global, found: &ArgMatches<'_>) -> Result<Job, WordsFault>
     Ok(Job {
         verb: Verb::Unper,
         ty: text_of(alloc, found, "type")?,
-        value: String::new(alloc),
+        value: ValueWords::Nothing,
         account: String::new(alloc),
         octets,
         raw: false,
@@ -154,7 +158,7 @@ fn list_job(alloc: Global, found: &ArgMatches<'_>) -> Result<Job, AllocError>
     Ok(Job {
         verb: Verb::List,
         ty: String::new(alloc),
-        value: String::new(alloc),
+        value: ValueWords::Nothing,
         account: String::new(alloc),
         octets: Given::Nothing,
         raw: false,
@@ -172,7 +176,7 @@ fn later_job(alloc: Global, found: &ArgMatches<'_>) -> Result<Job, AllocError>
     Ok(Job {
         verb: Verb::Later,
         ty: text_of(alloc, found, "type")?,
-        value: String::new(alloc),
+        value: ValueWords::Nothing,
         account: String::new(alloc),
         octets: Given::Nothing,
         raw: false,
@@ -183,15 +187,18 @@ fn later_job(alloc: Global, found: &ArgMatches<'_>) -> Result<Job, AllocError>
     })
 }
 
-/// The job of a command that takes the names of a type and of a value, and files.
-fn value_job(alloc: Global, found: &ArgMatches<'_>, verb: Verb) -> Result<Job, AllocError>
-    ensures { IfOk result (IsValueJobOf verb (rows_of (found_of found.now))) }
+/// The job of a command that takes the name of a type, a value, and files. `BadWords`: the words give no value, or give
+/// it twice.
+fn value_job(alloc: Global, found: &ArgMatches<'_>, verb: Verb) -> Result<Job, WordsFault>
+    ensures job { IfOk result (IsValueJobOf verb (rows_of (found_of found.now))) }
+    ensures none { IfErr result (IsNoValueIn (rows_of (found_of found.now))) }
 {
     let context = found.get_flag("context");
+    let value = value_in(alloc, "asnc", found)?;
     Ok(Job {
         verb,
         ty: text_of(alloc, found, "type")?,
-        value: text_of(alloc, found, "value")?,
+        value,
         account: String::new(alloc),
         octets: Given::Nothing,
         raw: false,
@@ -202,18 +209,19 @@ fn value_job(alloc: Global, found: &ArgMatches<'_>, verb: Verb) -> Result<Job, A
     })
 }
 
-/// The job of `octcheck`. `BadWords`: the text of `--hex` gives no octets.
+/// The job of `octcheck`. `BadWords`: the words give no value, or give it twice, or the text of `--hex` gives no octets.
 fn check_job(alloc: Global, found: &ArgMatches<'_>) -> Result<Job, WordsFault>
     ensures job { IfOk result (IsCheckOf (rows_of (found_of found.now))) }
-    ensures none { IfErr result (IsNotGiven (text_in (rows_of (found_of found.now)) (codes "hex"))) }
+    ensures none { IfErr result (IsNoCheckOf (rows_of (found_of found.now))) }
 {
     let context = found.get_flag("context");
+    let value = value_in(alloc, "octcheck", found)?;
     let hex = text_of(alloc, found, "hex")?;
     let octets = given_in(alloc, "octcheck", hex.as_str())?;
     Ok(Job {
         verb: Verb::Check,
         ty: text_of(alloc, found, "type")?,
-        value: text_of(alloc, found, "value")?,
+        value,
         account: text_of(alloc, found, "account")?,
         octets,
         raw: false,
@@ -234,15 +242,15 @@ fn job_of(alloc: Global, command: &str, found: &ArgMatches<'_>) -> Result<Job, W
     } else if command == "ber" {
         ber_job(alloc, found)
     } else if command == "uper" {
-        Ok(value_job(alloc, found, Verb::Uper)?)
+        value_job(alloc, found, Verb::Uper)
     } else if command == "unper" {
         unper_job(alloc, found)
     } else if command == "account" {
-        Ok(value_job(alloc, found, Verb::Account)?)
+        value_job(alloc, found, Verb::Account)
     } else if command == "later" {
         Ok(later_job(alloc, found)?)
     } else {
-        Ok(der_job(alloc, found)?)
+        der_job(alloc, found)
     }
 }
 
@@ -250,7 +258,7 @@ fn job_of(alloc: Global, command: &str, found: &ArgMatches<'_>) -> Result<Job, W
 fn command_job(alloc: Global, words: &[String]) -> Result<Job, WordsFault>
     ensures asked { IfOk result (IsCommand (map string_bytes words.now)) }
     ensures refused { IfErr result
-        (IsRefusedBy asnc_app (HasNoOctets (map string_bytes words.now)) (map string_bytes words.now)) }
+        (IsRefusedBy asnc_app (HasNoJob (map string_bytes words.now)) (map string_bytes words.now)) }
 {
     let program = asnc_command(alloc)?;
     match program.try_get_matches_from(words) {
@@ -266,7 +274,7 @@ fn command_job(alloc: Global, words: &[String]) -> Result<Job, WordsFault>
 fn checker_job(alloc: Global, words: &[String]) -> Result<Job, WordsFault>
     ensures asked { IfOk result (IsCheck (map string_bytes words.now)) }
     ensures refused { IfErr result
-        (IsRefusedBy octcheck_app (ChecksNoOctets (map string_bytes words.now)) (map string_bytes words.now)) }
+        (IsRefusedBy octcheck_app (HasNoCheck (map string_bytes words.now)) (map string_bytes words.now)) }
 {
     let program = octcheck_command(alloc)?;
     match program.try_get_matches_from(words) {
@@ -294,8 +302,8 @@ fn are_of_checker(words: &[String]) -> bool
 
 /// Returns the job that the words ask for. The first word is the program's name: `octcheck`, or otherwise `asnc`.
 ///
-/// `BadWords`: the words ask for nothing that the program does, or give octets that can't be read. `Help`: the words
-/// ask for help or for the version. `Memory`: an allocation failed.
+/// `BadWords`: the words ask for nothing that the program does, give no value or give it twice, or give octets that can't
+/// be read. `Help`: the words ask for help or for the version. `Memory`: an allocation failed.
 pub fn job(alloc: Global, words: &[String]) -> Result<Job, WordsFault>
     ensures asked { IfOk result (IsAsked (map string_bytes words.now)) }
     ensures refused { IfErr result (IsRefused (map string_bytes words.now)) }

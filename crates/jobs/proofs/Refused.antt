@@ -19,9 +19,9 @@ use Rattle.messages.specs.declared.fault.Fault.TheVariants as faults
 use Rattle.messages.specs.declared.fault.Fault.TheVariants.{Device, Memory}
 use Rattle.named_values.specs.Named.{TypeNamed}
 use Rattle.check_jobs.specs.declared.inputs.Inputs.{Inputs}
-use Rattle.check_jobs.specs.Inputs.{octets_given}
+use Rattle.check_jobs.specs.Inputs.{given_in, octets_given}
 use Rattle.jobs.specs.Refusals.{IsNewerFault, IsNoAnswer, IsNoOutput, LacksType, Refuses}
-use Rattle.named_values.specs.Given.{Given, named}
+use Rattle.named_values.specs.Given.{Given}
 
 -- ---- memory is a reason for any command
 
@@ -55,11 +55,11 @@ not_put p s first second n (inr h) = let is = h.0 in cc
 
 refuses_no_device : (v : Verb) (p : Program) (s : List Resolved) (job : Job) (o : List ℕ) (n : ℕ) →
     Refuses v p s job o (Device n) → ⊥
-refuses_no_device verbs.Der p s job o n h = not_written p s (string_bytes job.ty) (named (string_bytes job.value)) n h
+refuses_no_device verbs.Der p s job o n h = not_written p s (string_bytes job.ty) (given_in job.value) n h
 refuses_no_device verbs.Ber p s job o n h = h
-refuses_no_device verbs.Uper p s job o n h = not_put p s (string_bytes job.ty) (named (string_bytes job.value)) n h
+refuses_no_device verbs.Uper p s job o n h = not_put p s (string_bytes job.ty) (given_in job.value) n h
 refuses_no_device verbs.Unper p s job o n h = h
-refuses_no_device verbs.Account p s job o n h = not_written p s (string_bytes job.ty) (named (string_bytes job.value)) n h
+refuses_no_device verbs.Account p s job o n h = not_written p s (string_bytes job.ty) (given_in job.value) n h
 refuses_no_device verbs.List p s job o n h = cc
 refuses_no_device verbs.Later p s job o n h = h
 refuses_no_device verbs.Check p s job o n h = h

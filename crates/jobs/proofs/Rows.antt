@@ -16,12 +16,11 @@ use Rattle.asnc.specs.Versions.{IsCompared}
 use Rattle.asnc.specs.Writing.{IsAccountOf, IsEncoded}
 use Rattle.messages.specs.declared.fault.Fault.{Fault}
 use Rattle.messages.specs.declared.fault.Fault.TheVariants as faults
-use Rattle.named_values.specs.Given.{named}
 use Rattle.sinks.specs.Sent.{SinkState, SentAll, SentFront}
 use Rattle.command_line.specs.declared.request.Job.{Job}
 use Rattle.command_line.specs.declared.request.Verb.TheVariants as verbs
 use Rattle.check_jobs.specs.Checks.{IsNotChecked, IsVerdictLine}
-use Rattle.check_jobs.specs.Inputs.{line_of, octets_given}
+use Rattle.check_jobs.specs.Inputs.{given_in, line_of, octets_given}
 use Rattle.check_jobs.specs.declared.inputs.Inputs.{Inputs}
 use Rattle.jobs.specs.Done.{IsDone, IsDoneInPart}
 use Rattle.jobs.specs.Outputs.{IsAnswerLine, IsCommandOutput, IsOutput, Prints, PrintsAccount, PrintsBer, PrintsDer}
@@ -62,7 +61,7 @@ other_version = refl
 -- ---- what commands print
 
 module _ (p : Program) (s : List Resolved) (job : Job) (out : List ℕ) (r : PrintsDer p s job out) where
-  der_octets : IsEncoded p s (string_bytes job.ty) (named (string_bytes job.value)) r.octets r.account
+  der_octets : IsEncoded p s (string_bytes job.ty) (given_in job.value) r.octets r.account
   der_octets = r.encoded
 
   der_raw : job.raw ≡ true → out ≡ r.octets
@@ -79,7 +78,7 @@ module _ (p : Program) (s : List Resolved) (job : Job) (o out : List ℕ) (r : P
   ber_lines = r.output_is
 
 module _ (p : Program) (s : List Resolved) (job : Job) (out : List ℕ) (r : PrintsUper p s job out) where
-  uper_octets : IsPacked p s (string_bytes job.ty) (named (string_bytes job.value)) r.octets
+  uper_octets : IsPacked p s (string_bytes job.ty) (given_in job.value) r.octets
   uper_octets = r.packed
 
   uper_line : out ≡ hex_line r.octets
@@ -93,7 +92,7 @@ module _ (p : Program) (s : List Resolved) (job : Job) (o out : List ℕ) (r : P
   unper_lines = r.output_is
 
 module _ (p : Program) (s : List Resolved) (job : Job) (out : List ℕ) (r : PrintsAccount p s job out) where
-  account_text : IsAccountOf p s (string_bytes job.ty) (named (string_bytes job.value)) r.text
+  account_text : IsAccountOf p s (string_bytes job.ty) (given_in job.value) r.text
   account_text = r.account
 
   account_line : out ≡ line_of r.text

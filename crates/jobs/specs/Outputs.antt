@@ -6,7 +6,6 @@ use Rattle.encodings.specs.Account.{Account}
 use Rattle.encodings.specs.Rules.{Rules, Basic, Distinguished}
 use Rattle.resolve.specs.Program.{Program}
 use Rattle.front_end.specs.Accepted.{Accepted, octets_of}
-use Rattle.named_values.specs.Given.{named}
 use Rattle.asnc.specs.Packing.{IsPacked}
 use Rattle.asnc.specs.Reading.{IsReadAs}
 use Rattle.asnc.specs.Unpacking.{IsUnpackedAs}
@@ -16,7 +15,7 @@ use Rattle.command_line.specs.declared.request.Job.{Job}
 use Rattle.command_line.specs.declared.request.Verb.{Verb}
 use Rattle.command_line.specs.declared.request.Verb.TheVariants as verbs
 use Rattle.check_jobs.specs.Checks.{IsVerdictLine}
-use Rattle.check_jobs.specs.Inputs.{line_of, octets_given}
+use Rattle.check_jobs.specs.Inputs.{given_in, line_of, octets_given}
 use Rattle.check_jobs.specs.declared.inputs.Inputs.{Inputs}
 
 -- a line of octets in hexadecimal digits of upper case, two for each octet
@@ -37,12 +36,12 @@ abbrev pub rules_if : Bool → Rules
 rules_if true = Distinguished
 rules_if false = Basic
 
--- `der` prints the one DER encoding of the named value under the named type: with `--raw` its octets, otherwise a line
+-- `der` prints the one DER encoding of the given value under the named type: with `--raw` its octets, otherwise a line
 -- of hexadecimal digits.
 pub record PrintsDer (p : Program) (s : List Resolved) (job : Job) (output : List ℕ) : Type 0 where
   pub octets : List ℕ
   pub account : Account
-  pub encoded : IsEncoded p s (string_bytes job.ty) (named (string_bytes job.value)) octets account
+  pub encoded : IsEncoded p s (string_bytes job.ty) (given_in job.value) octets account
   pub raw : job.raw ≡ true → output ≡ octets
   pub hex : job.raw ≡ false → output ≡ hex_line octets
 
@@ -54,10 +53,10 @@ pub record PrintsBer (p : Program) (s : List Resolved) (job : Job) (octets outpu
   pub read : IsReadAs p s (rules_if job.strict) (string_bytes job.ty) octets printed skipped
   pub output_is : output ≡ value_lines printed skipped
 
--- `uper` prints the one message of canonical PER of the named value under the named type.
+-- `uper` prints the one message of canonical PER of the given value under the named type.
 pub record PrintsUper (p : Program) (s : List Resolved) (job : Job) (output : List ℕ) : Type 0 where
   pub octets : List ℕ
-  pub packed : IsPacked p s (string_bytes job.ty) (named (string_bytes job.value)) octets
+  pub packed : IsPacked p s (string_bytes job.ty) (given_in job.value) octets
   pub output_is : output ≡ hex_line octets
 
 -- `unper` prints the one value of the named type that the octets are a message of in canonical PER, and how many
@@ -71,7 +70,7 @@ pub record PrintsUnper (p : Program) (s : List Resolved) (job : Job) (octets out
 -- `account` prints the text of the account of the one DER encoding.
 pub record PrintsAccount (p : Program) (s : List Resolved) (job : Job) (output : List ℕ) : Type 0 where
   pub text : List ℕ
-  pub account : IsAccountOf p s (string_bytes job.ty) (named (string_bytes job.value)) text
+  pub account : IsAccountOf p s (string_bytes job.ty) (given_in job.value) text
   pub output_is : output ≡ line_of text
 
 -- What a command of asnc prints in a program with its types. `octets` are those that the job gives. Nothing is said of

@@ -7,7 +7,6 @@ use Rattle.front_end.specs.declared.fault.FrontFault.{FrontFault}
 use Rattle.messages.specs.declared.fault.Fault.{Fault}
 use Rattle.messages.specs.declared.fault.Fault.TheVariants as faults
 use Rattle.asnc.specs.Kits.{IsNotOpened}
-use Rattle.named_values.specs.Given.{named}
 use Rattle.asnc.specs.Packing.{IsNotPacked}
 use Rattle.asnc.specs.Reading.{IsNotReadAs}
 use Rattle.asnc.specs.Unpacking.{IsNotUnpackedAs}
@@ -16,7 +15,7 @@ use Rattle.command_line.specs.declared.request.Job.{Job}
 use Rattle.command_line.specs.declared.request.Verb.{Verb}
 use Rattle.command_line.specs.declared.request.Verb.TheVariants as verbs
 use Rattle.check_jobs.specs.Checks.{IsNotChecked}
-use Rattle.check_jobs.specs.Inputs.{octets_given}
+use Rattle.check_jobs.specs.Inputs.{given_in, octets_given}
 use Rattle.check_jobs.specs.declared.inputs.Inputs.{Inputs}
 use Rattle.named_values.specs.Named.{TypeNamed}
 use Rattle.jobs.specs.Outputs.{rules_if}
@@ -24,11 +23,11 @@ use Rattle.jobs.specs.Outputs.{rules_if}
 -- Why a command of asnc prints nothing in a program with its types. `octets` are those that the job gives. `list` is
 -- refused for memory alone.
 abbrev pub Refuses : Verb → Program → List Resolved → Job → (octets : List ℕ) → Fault → Type 0
-Refuses verbs.Der p s job octets e = IsNotEncoded p s (string_bytes job.ty) (named (string_bytes job.value)) e
+Refuses verbs.Der p s job octets e = IsNotEncoded p s (string_bytes job.ty) (given_in job.value) e
 Refuses verbs.Ber p s job octets e = IsNotReadAs p s (rules_if job.strict) (string_bytes job.ty) octets e
-Refuses verbs.Uper p s job octets e = IsNotPacked p s (string_bytes job.ty) (named (string_bytes job.value)) e
+Refuses verbs.Uper p s job octets e = IsNotPacked p s (string_bytes job.ty) (given_in job.value) e
 Refuses verbs.Unper p s job octets e = IsNotUnpackedAs p s (string_bytes job.ty) octets e
-Refuses verbs.Account p s job octets e = IsNotEncoded p s (string_bytes job.ty) (named (string_bytes job.value)) e
+Refuses verbs.Account p s job octets e = IsNotEncoded p s (string_bytes job.ty) (given_in job.value) e
 Refuses verbs.List p s job octets e = e ≡ faults.Memory
 Refuses verbs.Later p s job octets e = ⊥
 Refuses verbs.Check p s job octets e = ⊥

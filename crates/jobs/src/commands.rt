@@ -5,15 +5,15 @@ ghost use Rattle.asnc.specs.Packing.{IsNotPacked};
 ghost use Rattle.asnc.specs.Reading.{IsNotReadAs, rules_of};
 ghost use Rattle.asnc.specs.Unpacking.{IsNotUnpackedAs};
 ghost use Rattle.asnc.specs.Writing.{IsNotEncoded};
+ghost use Rattle.check_jobs.specs.Inputs.{given_in};
 ghost use Rattle.command_line.specs.declared.request.Verb.TheVariants.{Check, Later};
 ghost use Rattle.jobs.specs.Outputs.{hex_line, rules_if, value_lines, Prints};
 ghost use Rattle.jobs.specs.Outputs.{PrintsAccount, PrintsBer, PrintsDer, PrintsUnper, PrintsUper};
 ghost use Rattle.jobs.specs.Refusals.{Refuses};
 ghost use Rattle.messages.specs.declared.fault.Fault.TheVariants.{Memory};
-ghost use Rattle.named_values.specs.Given.{named};
 
-use asnc::{Kit, Rules, ValueGiven};
-use check_jobs::ended;
+use asnc::{Kit, Rules};
+use check_jobs::{ended, value_of};
 use command_line::{Job, Verb};
 use messages::Fault;
 use std::alloc::Global;
@@ -41,9 +41,9 @@ fn value_text(alloc: Global, mut text: String, skipped: u64) -> Result<Vec<u8>, 
 fn der(alloc: Global, kit: &Kit, job: &Job) -> Result<Vec<u8>, Fault>
     ensures printed { IfOk result (λ v. PrintsDer kit.now.program kit.now.types job.now v.items) }
     ensures refused { IfErr result
-        (IsNotEncoded kit.now.program kit.now.types (string_bytes job.now.ty) (named (string_bytes job.now.value))) }
+        (IsNotEncoded kit.now.program kit.now.types (string_bytes job.now.ty) (given_in job.now.value)) }
 {
-    let (octets, _account) = match kit.der(alloc, job.ty.as_str(), ValueGiven::Named(job.value.as_str())) {
+    let (octets, _account) = match kit.der(alloc, job.ty.as_str(), value_of(job)) {
         Ok(written) => written,
         Err(fault) => return Err(fault),
     };
@@ -60,9 +60,9 @@ fn der(alloc: Global, kit: &Kit, job: &Job) -> Result<Vec<u8>, Fault>
 fn uper(alloc: Global, kit: &Kit, job: &Job) -> Result<Vec<u8>, Fault>
     ensures printed { IfOk result (λ v. PrintsUper kit.now.program kit.now.types job.now v.items) }
     ensures refused { IfErr result
-        (IsNotPacked kit.now.program kit.now.types (string_bytes job.now.ty) (named (string_bytes job.now.value))) }
+        (IsNotPacked kit.now.program kit.now.types (string_bytes job.now.ty) (given_in job.now.value)) }
 {
-    let octets = match kit.uper(alloc, job.ty.as_str(), ValueGiven::Named(job.value.as_str())) {
+    let octets = match kit.uper(alloc, job.ty.as_str(), value_of(job)) {
         Ok(octets) => octets,
         Err(fault) => return Err(fault),
     };
@@ -76,9 +76,9 @@ fn uper(alloc: Global, kit: &Kit, job: &Job) -> Result<Vec<u8>, Fault>
 fn account(alloc: Global, kit: &Kit, job: &Job) -> Result<Vec<u8>, Fault>
     ensures printed { IfOk result (λ v. PrintsAccount kit.now.program kit.now.types job.now v.items) }
     ensures refused { IfErr result
-        (IsNotEncoded kit.now.program kit.now.types (string_bytes job.now.ty) (named (string_bytes job.now.value))) }
+        (IsNotEncoded kit.now.program kit.now.types (string_bytes job.now.ty) (given_in job.now.value)) }
 {
-    let text = match kit.account(alloc, job.ty.as_str(), ValueGiven::Named(job.value.as_str())) {
+    let text = match kit.account(alloc, job.ty.as_str(), value_of(job)) {
         Ok(text) => text,
         Err(fault) => return Err(fault),
     };

@@ -2,7 +2,7 @@
 
 use account_text::Stop;
 use additions::ExtFault;
-use command_line::{Given, Job, Verb};
+use command_line::{Given, Job, ValueWords, Verb};
 use constraints::BoundFault;
 use decode_faults::{ReadFault, Refusal};
 use front_end::FrontFault;
@@ -516,7 +516,7 @@ fn job(alloc: Global) -> Result<Job, AllocError> {
     Ok(Job {
         verb: Verb::Der,
         ty: String::from_str(alloc, "M.T")?,
-        value: String::from_str(alloc, "M.w")?,
+        value: ValueWords::Named(String::from_str(alloc, "M.w")?),
         account: String::from_str(alloc, "a\n.json")?,
         octets: Given::Nothing,
         raw: false,

@@ -3,16 +3,19 @@
 use crate::of_texts::{found, left_out, of_octets, of_tokens};
 use crate::of_values::of_value;
 use crate::spots::{octet_of_lexing, token_of_parsing};
-use command_line::Job;
+use command_line::{Job, ValueWords};
 use hints::wanted_in_value;
 use messages::NotationFault;
 use notation::SyntaxFault;
 use shown_texts::{context, line_and_column, on_one_line, spelled_at, start, tokens_in};
 use std::alloc::{AllocError, Global};
 
-/// The octets of the notation that a job gives; none if it gives the name of a value.
-fn notation_in(_job: &Job) -> &[u8] {
-    &[]
+/// The octets of the notation that a job gives; none if it gives no notation.
+fn notation_in(job: &Job) -> &[u8] {
+    match &job.value {
+        ValueWords::Written(text) => text.as_bytes(),
+        ValueWords::Nothing | ValueWords::Named(_) => &[],
+    }
 }
 
 /// The words for tokens that are not those of one value.

@@ -5,8 +5,8 @@
 //! `module_answers` those of `modules`, and `codec_answers` those of `codec`. This crate answers all others by the
 //! calls that the program `asnc` makes. It also prints the wanted answer of each row that has another one.
 //!
-//! The first word of such a row is a command, and the second is the name of the row. The commands are `line`, `asnc`,
-//! `job`, `octcheck`, `octjob`, `sweep` and `packed-sweep`. Each is described at its function and at the head of the
+//! The first word of such a row is a command, and the second is the name of the row. The commands are `line`, `notation`,
+//! `asnc`, `job`, `octcheck`, `octjob`, `sweep` and `packed-sweep`. Each is described at its function and at the head of the
 //! files that use it. If a row has a text named `wanted`, its answer must be that text, as the module `wanted` says.
 //! This program doesn't know these answers.
 //!
@@ -38,6 +38,7 @@ use std::{env, fs, io};
 fn answer_of(alloc: Global, row: &Row) -> Result<String, Refusal> {
     match row.command() {
         "line" => programs::line(alloc, row),
+        "notation" => programs::notation(alloc, row),
         "asnc" => programs::run(alloc, row, "asnc"),
         "octcheck" => programs::run(alloc, row, "octcheck"),
         "job" => programs::job_of(alloc, row, "asnc"),

@@ -1,11 +1,10 @@
 //! The answers of the programs asnc and octcheck to their words and to texts.
 
-use crate::refusal::Refusal;
-use crate::requests::{asked, texts_of, word};
-use crate::wanted::is_wanted;
+use crate::refusal::{Refusal, told};
+use crate::requests::{asked, is_file, is_notation, texts_of, word};
 use asnc::{Fault, status};
 use check_jobs::refusal;
-use command_line::{Given, Job, Verb, job};
+use command_line::{Given, Job, ValueWords, Verb, job};
 use jobs::{Inputs, output};
 use reports::report;
 use row_files::{Row, RowText};
@@ -89,21 +88,20 @@ fn word_or<'a>(words: &[&'a str], place: usize, other: &'a str) -> &'a str {
 fn names_of(alloc: Global, texts: &[RowText]) -> Result<Vec<String>, AllocError> {
     let mut names = Vec::new(alloc);
     for text in texts {
-        if !is_wanted(text) {
+        if is_file(text) {
             names.push(text.name.clone()?)?;
         }
     }
     Ok(names)
 }
 
-/// `line NAME [TYPE [VALUE]]`: the answer for a value in the texts of the row. Without other names that is `M.v` under
-/// `M.T`.
-pub fn line(alloc: Global, row: &Row) -> Result<String, Refusal> {
+/// The answer of `der` for a value in the texts of a row under the type that its first word names, `M.T` without one.
+fn of_value(alloc: Global, row: &Row, value: ValueWords) -> Result<String, Refusal> {
     let words = asked(alloc, row)?;
     let job = Job {
         verb: Verb::Der,
         ty: String::from_str(alloc, word_or(words.as_slice(), 0, "M.T"))?,
-        value: String::from_str(alloc, word_or(words.as_slice(), 1, "M.v"))?,
+        value,
         account: String::new(alloc),
         octets: Given::Nothing,
         raw: false,
@@ -119,6 +117,28 @@ pub fn line(alloc: Global, row: &Row) -> Result<String, Refusal> {
         account: None,
     };
     Ok(outcome(alloc, &Asked { job, inputs })?)
+}
+
+/// `line NAME [TYPE [VALUE]]`: the answer for a value in the texts of the row. Without other names that is `M.v` under
+/// `M.T`.
+pub fn line(alloc: Global, row: &Row) -> Result<String, Refusal> {
+    let words = asked(alloc, row)?;
+    let name = String::from_str(alloc, word_or(words.as_slice(), 1, "M.v"))?;
+    of_value(alloc, row, ValueWords::Named(name))
+}
+
+/// `notation NAME [TYPE]`: the answer for the value that the row's text `notation` is the notation of, under `M.T` if
+/// there is no other name. The line end of that text is left out.
+pub fn notation(alloc: Global, row: &Row) -> Result<String, Refusal> {
+    let octets = match row.texts.iter().find(|text| is_notation(text)) {
+        Some(text) => text.octets.as_slice(),
+        None => &[],
+    };
+    let text = match str::from_utf8(octets) {
+        Ok(text) => text.strip_suffix('\n').unwrap_or(text),
+        Err(_) => return Err(told(alloc, &"a notation that is not text")),
+    };
+    of_value(alloc, row, ValueWords::Written(String::from_str(alloc, text)?))
 }
 
 /// The words of a program's command line, which are those after the name of the row. `\n` means a line end.
@@ -227,10 +247,15 @@ pub fn job_of(alloc: Global, row: &Row, program: &str) -> Result<String, Refusal
         Given::Octets(_) => "octets",
         Given::Path(_) => "a file",
     };
-    let (ty, value, raw) = (job.ty.as_str(), job.value.as_str(), job.raw);
+    let (ty, raw) = (job.ty.as_str(), job.raw);
+    let (kind, value) = match &job.value {
+        ValueWords::Nothing => ("value", ""),
+        ValueWords::Named(name) => ("value", name.as_str()),
+        ValueWords::Written(text) => ("notation", text.as_str()),
+    };
     let (account, strict, context) = (job.account.as_str(), job.strict, job.context);
     let mut text = format!(in alloc;
-        "{verb} of value {value} under type {ty}\nraw {raw}, context {context}\naccount '{account}', octets: {octets}, strict {strict}"
+        "{verb} of {kind} {value} under type {ty}\nraw {raw}, context {context}\naccount '{account}', octets: {octets}, strict {strict}"
     )?;
     for file in &job.files {
         let line = format!(in alloc; "\nfile {file}")?;

@@ -1,12 +1,22 @@
 //! The words and texts of a row.
 
 use crate::wanted::is_wanted;
-use row_files::Row;
+use row_files::{Row, RowText};
 use std::alloc::{AllocError, Global};
 
 /// Whether a word changes how texts are read or how a fault is printed, and isn't part of what the row asks.
 fn is_form(word: &str) -> bool {
     matches!(word, "lines" | "repeat" | "hex" | "numbered" | "caret")
+}
+
+/// Whether a text of a row is the notation of a value.
+pub fn is_notation(text: &RowText) -> bool {
+    text.name.as_str() == "notation"
+}
+
+/// Whether a text of a row is a file: neither the notation of a value nor the wanted answer.
+pub fn is_file(text: &RowText) -> bool {
+    !is_notation(text) && !is_wanted(text)
 }
 
 /// The words of a row after its command and its name, without those that change how texts are read.
@@ -48,7 +58,7 @@ fn numbered(alloc: Global, text: &[u8]) -> Result<Vec<u8>, AllocError> {
 pub fn texts_of(alloc: Global, row: &Row) -> Result<Vec<Vec<u8>>, AllocError> {
     let mut all = Vec::new(alloc);
     for text in &row.texts {
-        if is_wanted(text) {
+        if !is_file(text) {
             continue;
         }
         if row.has("numbered") {

@@ -3,7 +3,8 @@
 use crate::programs::{Asked, asked_in};
 use crate::refusal::{Refusal, told};
 use asnc::Fault;
-use judging::{ValueGiven, Verdict, answer, judge};
+use check_jobs::value_of;
+use judging::{Verdict, answer, judge};
 use row_files::Row;
 use std::alloc::{AllocError, Global};
 
@@ -37,15 +38,8 @@ fn tried(
     tally: &mut Tally,
 ) -> Result<(), AllocError> {
     let texts = asked.texts();
-    let (ty, value) = (asked.job.ty.as_str(), asked.job.value.as_str());
-    match judge(
-        alloc,
-        texts,
-        ty,
-        ValueGiven::Named(value),
-        octets,
-        account,
-    ) {
+    let (ty, value) = (asked.job.ty.as_str(), value_of(&asked.job));
+    match judge(alloc, texts, ty, value, octets, account) {
         Ok(Verdict::Yes) => tally.yes = tally.yes.saturating_add(1),
         Ok(Verdict::No(_)) => tally.no = tally.no.saturating_add(1),
         Err(Fault::Memory) => return Err(AllocError),
@@ -276,16 +270,9 @@ fn lines(alloc: Global, asked: &Asked, text: &str) -> Result<String, AllocError>
 pub fn sweep(alloc: Global, row: &Row) -> Result<String, Refusal> {
     let asked = asked_in(alloc, row, "octcheck")?;
     let text = str::from_utf8(asked.account()).unwrap_or("").trim();
-    let (ty, value) = (asked.job.ty.as_str(), asked.job.value.as_str());
+    let (ty, value) = (asked.job.ty.as_str(), value_of(&asked.job));
     let (texts, octets) = (asked.texts(), asked.octets());
-    match judge(
-        alloc,
-        texts,
-        ty,
-        ValueGiven::Named(value),
-        octets,
-        text.as_bytes(),
-    ) {
+    match judge(alloc, texts, ty, value, octets, text.as_bytes()) {
         Ok(verdict) => {
             let mut out = String::from_str(alloc, answer(verdict))?;
             out.push_str(lines(alloc, &asked, text)?.as_str())?;

@@ -3,7 +3,7 @@
 use super::growths::{Compared, answer, refusal, report};
 use super::modules::{OCTETS, PACKED, kit, texts};
 use asnc::ValueGiven;
-use command_line::{Given, Job, Verb};
+use command_line::{Given, Job, ValueWords, Verb};
 use jobs::{Inputs, work};
 use messages::Fault;
 use sinks::{Sink, Stops};
@@ -34,7 +34,7 @@ fn task_of(alloc: Global, verb: Verb, octets: &[u8]) -> Result<Task, Fail> {
     let job = Job {
         verb,
         ty: String::from_str(alloc, "B.T")?,
-        value: String::from_str(alloc, "A.v")?,
+        value: ValueWords::Named(String::from_str(alloc, "A.v")?),
         account: String::new(alloc),
         octets: Given::Octets(given),
         raw: false,

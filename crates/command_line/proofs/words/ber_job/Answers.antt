@@ -14,7 +14,7 @@ returns-clause-job c = record {
   no_context = grind (arith, c.get_flag-context.ensures.other, one_text-rows);
   files = search rules;
   no_newer = search rules;
-  no_value = search rules;
+  no_value = refl;
   no_account = search rules;
   not_raw = refl;
 }

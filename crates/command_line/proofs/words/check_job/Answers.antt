@@ -7,7 +7,7 @@ pub returns-clause-job : goal.returns-clause-job
 returns-clause-job c = record {
   verb = refl;
   type = search rules;
-  value = search rules;
+  value = c.in_ok-value.ensures.value;
   octets = subst (λ t. IsGiven t c.in_ok-octets.octets) (c.as_str.ensures.value ∙ c.in_ok-hex.ensures) c.in_ok-octets.ensures.given;
   account = search rules;
   context = grind (arith, c.get_flag-context.ensures.value, one_text-rows);

@@ -3,7 +3,7 @@ use Rattle.std.proofs.lemmas.Result.{err_from_is_err_and}
 use Rattle.clap.specs.Words.{Row, is_simple, fault_of, found_of, matches_of, rows_of}
 use Rattle.clap.specs.Faults.{is_simple_and_free}
 use Rattle.clap.proofs.OnLiterals.{clap_on_literals}
-use Rattle.command_line.specs.CommandLine.{octcheck_app, ChecksNoOctets, IsCheckOf}
+use Rattle.command_line.specs.CommandLine.{octcheck_app, HasNoCheck, IsCheckOf}
 use Rattle.command_line.proofs.Refused.{not_given, refused_as}
 use Rattle.command_line.proofs.words.checker_job.Goals as goal
 
@@ -30,7 +30,7 @@ pub returns-in_ok-fault_of_clap-in-Err-clause-refused : goal.returns-in_ok-fault
 returns-in_ok-fault_of_clap-in-Err-clause-refused c =
     let words = map string_bytes c.args.words.now in
     let free = ap is_simple_and_free c.in_ok-program.ensures.shape ∙ is_free_octcheck in
-    refused_as _ _ (ChecksNoOctets words) words _ _ c.in_ok-program.ensures.shape (c.in-Err.ensures.kinds free) c.in_ok-fault_of_clap-in-Err.ensures
+    refused_as _ _ (HasNoCheck words) words _ _ c.in_ok-program.ensures.shape (c.in-Err.ensures.kinds free) c.in_ok-fault_of_clap-in-Err.ensures
 
 pub returns-in_err-check_job-in-Ok-clause-refused : goal.returns-in_err-check_job-in-Ok-clause-refused
 returns-in_err-check_job-in-Ok-clause-refused c =

@@ -3,7 +3,7 @@ use Rattle.std.proofs.lemmas.Result.{err_from_is_err_and}
 use Rattle.clap.specs.Words.{is_simple, fault_of, found_of, rows_of, subcommand_of}
 use Rattle.clap.specs.Faults.{is_simple_and_free}
 use Rattle.clap.proofs.OnLiterals.{clap_on_literals}
-use Rattle.command_line.specs.CommandLine.{asnc_app, HasNoOctets}
+use Rattle.command_line.specs.CommandLine.{asnc_app, HasNoJob}
 use Rattle.command_line.proofs.Found.{named_by}
 use Rattle.command_line.proofs.Refused.{refused_as, refused_where}
 use Rattle.command_line.proofs.words.command_job.Goals as goal
@@ -36,7 +36,7 @@ pub returns-in_ok-fault_of_clap-in-Err-clause-refused : goal.returns-in_ok-fault
 returns-in_ok-fault_of_clap-in-Err-clause-refused c =
     let words = map string_bytes c.args.words.now in
     let free = ap is_simple_and_free c.in_ok-program.ensures.shape ∙ is_free_asnc in
-    refused_as _ _ (HasNoOctets words) words _ _ c.in_ok-program.ensures.shape (c.in-Err.ensures.kinds free) c.in_ok-fault_of_clap-in-Err.ensures
+    refused_as _ _ (HasNoJob words) words _ _ c.in_ok-program.ensures.shape (c.in-Err.ensures.kinds free) c.in_ok-fault_of_clap-in-Err.ensures
 
 pub returns-in_err-job_of-in-Some-clause-refused : goal.returns-in_err-job_of-in-Some-clause-refused
 returns-in_err-job_of-in-Some-clause-refused c =

@@ -6,7 +6,7 @@ pub returns : goal.returns
 returns c = record {
   verb = refl;
   no_type = search rules;
-  no_value = search rules;
+  no_value = refl;
   not_raw = refl;
   context = grind (arith, c.get_flag-context.ensures.value, one_text-rows);
   no_context = grind (arith, c.get_flag-context.ensures.other, one_text-rows);
