@@ -68,7 +68,7 @@ unread_by s l t o r e q n read basic not_der limit long more trailing less why =
   trailing = λ m. trailing (q ∙ ap Err m);
   less = λ b. (let g = sym q ∙ less b in cc);
   why = subst
-    (λ x. IfErr x (λ f. (f ≡ reading.Memory → ⊥) → (f ≡ reading.NotDer → ⊥) → IsRefused s (id_of t) o f)) q why n;
+      (λ x. IfErr x (λ f. (f ≡ reading.Memory → ⊥) → (f ≡ reading.NotDer → ⊥) → IsRefused s (id_of t) o f)) q why n;
 }
 
 -- what holds of any refusal

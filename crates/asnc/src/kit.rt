@@ -217,12 +217,7 @@ impl Kit {
     /// Returns the text of the account that [`Kit::der`] returns, in JSON without white space.
     ///
     /// The faults come as for [`Kit::der`].
-    pub fn account(
-        &self,
-        alloc: Global,
-        ty: &str,
-        value: ValueGiven<'_>,
-    ) -> Result<String, Fault>
+    pub fn account(&self, alloc: Global, ty: &str, value: ValueGiven<'_>) -> Result<String, Fault>
         // The text is that of the account of the only DER encoding.
         ensures told { IfOk result (λ s.
             IsAccountOf self.now.program self.now.types ty.now (as_given value) (string_bytes s)) }
@@ -285,12 +280,7 @@ impl Kit {
     ///
     /// `NoType`, `NoValue`, `Notation` and `Value` come as for [`Kit::value_of`]. `TooLong`: there are more than
     /// 16,777,216 octets. `Memory`: an allocation failed.
-    pub fn uper(
-        &self,
-        alloc: Global,
-        ty: &str,
-        value: ValueGiven<'_>,
-    ) -> Result<Vec<u8>, Fault>
+    pub fn uper(&self, alloc: Global, ty: &str, value: ValueGiven<'_>) -> Result<Vec<u8>, Fault>
         // The octets are the bits of the value that the notation stands for under the type, and no others are.
         ensures packed { IfOk result (λ o.
             IsPacked self.now.program self.now.types ty.now (as_given value) o.items) }

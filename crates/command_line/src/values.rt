@@ -60,5 +60,10 @@ pub(crate) fn value_in(
     ensures none { IfErr result (IsNoValueOf (first_of (codes "value") (rows_of (found_of found.now)))
         (first_of (codes "notation") (rows_of (found_of found.now)))) }
 {
-    one_of(alloc, program, choice_of(found, "value"), choice_of(found, "notation"))
+    one_of(
+        alloc,
+        program,
+        choice_of(found, "value"),
+        choice_of(found, "notation"),
+    )
 }

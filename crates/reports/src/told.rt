@@ -55,11 +55,7 @@ fn of_front(
 }
 
 /// The words for the name of a type that the newer texts lack.
-fn of_no_newer_type(
-    alloc: Global,
-    texts: &[Vec<u8>],
-    name: &str,
-) -> Result<String, AllocError> {
+fn of_no_newer_type(alloc: Global, texts: &[Vec<u8>], name: &str) -> Result<String, AllocError> {
     let words = of_no_name(alloc, texts, name, false)?;
     format!(in alloc; "in the newer texts, {words}")
 }

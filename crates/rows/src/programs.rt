@@ -138,7 +138,11 @@ pub fn notation(alloc: Global, row: &Row) -> Result<String, Refusal> {
         Ok(text) => text.strip_suffix('\n').unwrap_or(text),
         Err(_) => return Err(told(alloc, &"a notation that is not text")),
     };
-    of_value(alloc, row, ValueWords::Written(String::from_str(alloc, text)?))
+    of_value(
+        alloc,
+        row,
+        ValueWords::Written(String::from_str(alloc, text)?),
+    )
 }
 
 /// The words of a program's command line, which are those after the name of the row. `\n` means a line end.
