@@ -15,8 +15,8 @@ abbrev pub is_yes : Verdict → Bool
 is_yes Yes = true
 is_yes (No r) = false
 
--- The job claims that its octets encode the value that it gives, as its account describes. The output is the verdict on that
--- claim, as one line.
+-- The job claims that its octets encode the value that it gives, as its account describes. The output is the verdict on
+-- that claim, as one line.
 pub record IsVerdictLine (job : Job) (inputs : Inputs) (yes : Bool) (output : List ℕ) : Type 0 where
   pub verdict : Verdict
   -- the verdict is the one on the texts, the name of a type, the value that is given, the octets and the account

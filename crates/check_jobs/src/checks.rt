@@ -32,8 +32,8 @@ fn line(alloc: Global, verdict: Verdict) -> Result<Output, Fault>
     Ok(Output { octets, yes })
 }
 
-/// Judges the claim of a job: that its octets encode the value that it gives, as its account describes. The output is `yes`,
-/// or `no` and the first reason, and a line end.
+/// Judges the claim of a job: that its octets encode the value that it gives, as its account describes. The output is
+/// `yes`, or `no` and the first reason, and a line end.
 ///
 /// The faults are those of [`judge`]. `Memory` comes too if an allocation fails.
 pub fn check_output(alloc: Global, job: &Job, inputs: &Inputs) -> Result<Output, Fault>

@@ -68,8 +68,8 @@ pub record AreWithoutType (older newer : List (List ℕ)) (name : List ℕ) (e :
   pub lacks : LacksType program newer_program name e
 
 -- Why older and newer texts give no answer about the type of a name. The first fault is that of the older texts, then
--- that of the newer ones, then the name without a type in the older ones, then in the newer ones. `Memory` says nothing of
--- the texts.
+-- that of the newer ones, then the name without a type in the older ones, then in the newer ones. `Memory` says nothing
+-- of the texts.
 abbrev pub IsNoAnswer : (older newer : List (List ℕ)) (name : List ℕ) → Fault → Type 0
 IsNoAnswer older newer name faults.Memory = ⊤
 IsNoAnswer older newer name (faults.Front f) = IsNotOpened older (faults.Front f)

@@ -42,9 +42,9 @@ fn asnc_output(alloc: Global, job: &Job, inputs: &Inputs) -> Result<Output, Faul
 /// - `later`: `yes` or `no`, and a line end. `octcheck`: `yes`, or `no` and the first reason, and a line end.
 ///
 /// The faults are those of [`Kit::open`] for the texts, and then those of the command's call of [`Kit`]; for octcheck
-/// they are those of [`judging::judge`]. Of `later` they are those of the older texts, then `Newer` for those of the newer
-/// texts, then `NoType` or `NoNewerType` if the name finds no type in the older or in the newer ones. `Memory` comes too
-/// if an allocation fails.
+/// they are those of [`judging::judge`]. Of `later` they are those of the older texts, then `Newer` for those of the
+/// newer texts, then `NoType` or `NoNewerType` if the name finds no type in the older or in the newer ones. `Memory`
+/// comes too if an allocation fails.
 pub fn output(alloc: Global, job: &Job, inputs: &Inputs) -> Result<Output, Fault>
     // The output is exactly what the job asks for.
     ensures printed { IfOk result (λ o. IsOutput job.now inputs.now o.yes o.octets.items) }

@@ -1,5 +1,5 @@
--- Where a fault is: in the older or the newer texts, at an octet of a text, at a token of one, or at an octet of the text
--- of a module that it names.
+-- Where a fault is: in the older or the newer texts, at an octet of a text, at a token of one, or at an octet of the
+-- text of a module that it names.
 use Rattle.std.specs.Prelude.{ℕ, Bool, true, false, Option, None, Some, option_map}
 use Rattle.trees.specs.declared.place.Spot.{Spot}
 use Rattle.text.specs.declared.fault.LexFault.{LexFault}

@@ -5,10 +5,10 @@
 //! `module_answers` those of `modules`, and `codec_answers` those of `codec`. This crate answers all others by the
 //! calls that the program `asnc` makes. It also prints the wanted answer of each row that has another one.
 //!
-//! The first word of such a row is a command, and the second is the name of the row. The commands are `line`, `notation`,
-//! `asnc`, `job`, `octcheck`, `octjob`, `sweep` and `packed-sweep`. Each is described at its function and at the head of the
-//! files that use it. If a row has a text named `wanted`, its answer must be that text, as the module `wanted` says.
-//! This program doesn't know these answers.
+//! The first word of such a row is a command, and the second is the name of the row. The commands are `line`,
+//! `notation`, `asnc`, `job`, `octcheck`, `octjob`, `sweep` and `packed-sweep`. Each is described at its function and at
+//! the head of the files that use it. If a row has a text named `wanted`, its answer must be that text, as the module
+//! `wanted` says. This program doesn't know these answers.
 //!
 //! The answers of the stored run and of the rows were written by hand or made by other tools, not taken from this
 //! program. The exceptions are those of `hints.rows` and lists of expected tokens, which were compared by hand with the
