@@ -1,6 +1,7 @@
 -- Why a job prints nothing.
 use Rattle.std.proofs.Common.{◌≡◌, ◌⊎◌, inl, inr, ℕ, List, map, refl, subst, sym}
-use Rattle.std.specs.Prelude.{string_bytes}
+use Rattle.std.specs.Prelude.{String, string_bytes}
+use Rattle.std.specs.declared.alloc.Global.{Global}
 use Rattle.asn_base.specs.Types.{Resolved}
 use Rattle.encodings.specs.Rules.{Rules}
 use Rattle.resolve.specs.Program.{Program}
@@ -174,7 +175,16 @@ without_type older newer name p q (faults.Device n) a b h = absurd h
 without_type older newer name p q (faults.NotAccount s) a b h = absurd h
 
 -- if an older type has the name, the newer ones lack it
-pub newer_lacks : (p q : Program) (name : List ℕ) (t : ℕ) → TypeNamed p name t →
+newer_lacks : (p q : Program) (name : List ℕ) (t : ℕ) → TypeNamed p name t →
     ((u : ℕ) → TypeNamed p name u → ⊥) ⊎ ((u : ℕ) → TypeNamed q name u → ⊥) → (u : ℕ) → TypeNamed q name u → ⊥
 newer_lacks p q name t named (inl h) = absurd (h t named)
 newer_lacks p q name t named (inr h) = h
+
+pub no_newer_type : (p q : Program) (name : List ℕ) (x : String Global) (t : ℕ) → TypeNamed p name t →
+    IsNotCompared p q name (faults.NoType x) → LacksType p q name (faults.NoNewerType x)
+no_newer_type p q name x t named h = (h.0, ((t, named), newer_lacks p q name t named h.1))
+
+-- the name of no older type is one that the older ones lack
+pub no_older_type : (p q : Program) (name : List ℕ) (x : String Global) → ((t : ℕ) → TypeNamed p name t → ⊥) →
+    IsNotCompared p q name (faults.NoType x) → LacksType p q name (faults.NoType x)
+no_older_type p q name x none h = (h.0, none)
