@@ -172,3 +172,9 @@ fn work_of_unper_with_ever_more_memory(rt: HostRuntime) -> Result<(), Fail> {
     let task = task_of(rt.alloc(), Verb::Unper, &PACKED)?;
     sweep_work(&rt, "work of unper", task, VALUE)
 }
+
+#[test]
+fn work_of_later_with_ever_more_memory(rt: HostRuntime) -> Result<(), Fail> {
+    let task = task_of(rt.alloc(), Verb::Later, &[])?;
+    sweep_work(&rt, "work of later", task, "yes\n")
+}
