@@ -205,8 +205,8 @@ pub record IsDerOf (rows : List Row) (job : Job) : Type 0 where
   pub no_octets : job.octets ≡ given.Nothing
   pub not_strict : job.strict ≡ false
 
--- The job has this verb, and what was found for the name of a type and for a value. Fields that the verb doesn't take are
--- empty.
+-- The job has this verb, and what was found for the name of a type and for a value. Fields that the verb doesn't take
+-- are empty.
 pub record IsValueJobOf (verb : Verb) (rows : List Row) (job : Job) : Type 0 where
   pub verb_is : job.verb ≡ verb
   pub type : string_bytes job.ty ≡ text_in rows (codes "type")

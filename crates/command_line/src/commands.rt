@@ -250,7 +250,7 @@ fn der_flags<'a>(alloc: Global) -> Result<Command<'a>, AllocError>
     ensures local { IfOk result (λ c. (out-Command c).has_globals ≡ false) }
 {
     let raw = flag_arg(alloc, "raw", "Write the octets themselves, not hexadecimal");
-    let about = "Write the DER encoding of a value that a module names, or that is given";
+    let about = "Write the DER encoding of a value";
     value_names(alloc, "der", about, DER_EXAMPLES)?
         .arg(raw)?
         .arg(context_arg(alloc))
@@ -286,7 +286,7 @@ fn uper_command<'a>(alloc: Global) -> Result<Command<'a>, AllocError>
     ensures shape { IfOk result (λ c. app_of c ≡ value_app (codes "uper")) }
     ensures local { IfOk result (λ c. (out-Command c).has_globals ≡ false) }
 {
-    let about = "Write such a value in canonical PER, unaligned";
+    let about = "Write a value in canonical PER, unaligned";
     value_command(alloc, "uper", about, UPER_EXAMPLES)
 }
 

@@ -32,8 +32,10 @@ fn one_of(
     name: Option<&str>,
     notation: Option<&str>,
 ) -> Result<ValueWords, WordsFault>
-    ensures value { IfOk result (IsValueOf (option_map (λ s. s.now) name) (option_map (λ s. s.now) notation)) }
-    ensures none { IfErr result (IsNoValueOf (option_map (λ s. s.now) name) (option_map (λ s. s.now) notation)) }
+    ensures value { IfOk result (IsValueOf (option_map (λ s. s.now) name.entry)
+        (option_map (λ s. s.now) notation.entry)) }
+    ensures none { IfErr result (IsNoValueOf (option_map (λ s. s.now) name.entry)
+        (option_map (λ s. s.now) notation.entry)) }
 {
     match name {
         Some(name) => match notation {

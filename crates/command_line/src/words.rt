@@ -209,7 +209,8 @@ fn value_job(alloc: Global, found: &ArgMatches<'_>, verb: Verb) -> Result<Job, W
     })
 }
 
-/// The job of `octcheck`. `BadWords`: the words give no value, or give it twice, or the text of `--hex` gives no octets.
+/// The job of `octcheck`. `BadWords`: the words give no value, or give it twice, or the text of `--hex` gives no
+/// octets.
 fn check_job(alloc: Global, found: &ArgMatches<'_>) -> Result<Job, WordsFault>
     ensures job { IfOk result (IsCheckOf (rows_of (found_of found.now))) }
     ensures none { IfErr result (IsNoCheckOf (rows_of (found_of found.now))) }
@@ -302,8 +303,8 @@ fn are_of_checker(words: &[String]) -> bool
 
 /// Returns the job that the words ask for. The first word is the program's name: `octcheck`, or otherwise `asnc`.
 ///
-/// `BadWords`: the words ask for nothing that the program does, give no value or give it twice, or give octets that can't
-/// be read. `Help`: the words ask for help or for the version. `Memory`: an allocation failed.
+/// `BadWords`: the words ask for nothing that the program does, give no value or give it twice, or give octets that
+/// can't be read. `Help`: the words ask for help or for the version. `Memory`: an allocation failed.
 pub fn job(alloc: Global, words: &[String]) -> Result<Job, WordsFault>
     ensures asked { IfOk result (IsAsked (map string_bytes words.now)) }
     ensures refused { IfErr result (IsRefused (map string_bytes words.now)) }
