@@ -4,4 +4,4 @@
 mod classes;
 mod fault;
 
-pub use fault::{Fault, Unread, UnreadBits, name, number, status};
+pub use fault::{Fault, Finding, Unread, UnreadBits, name, number, status};
