@@ -103,21 +103,45 @@ fn path_to(alloc: Global, schema: &Schema, values: &[Open]) -> Result<String, Al
     Ok(path)
 }
 
-/// Where reading the octets as a value of the type stops: the offset of the octet, and the path of the parts that were
-/// being read.
+/// The type of the innermost part that was being read, or the type of the whole value if no value is open.
+fn innermost_type(schema: &Schema, id: TypeId, values: &[Open]) -> TypeId {
+    match values.last() {
+        Some(value) => match value.part {
+            Some(part) => part_type(schema, value.ty, part),
+            None => value.ty,
+        },
+        None => id,
+    }
+}
+
+/// Where reading stops: the offset of the octet, the path of the parts that were being read, and the type of the
+/// innermost of them.
+#[derive(Drop)]
+pub(crate) struct PartAt {
+    pub octet: usize,
+    pub path: String,
+    pub ty: TypeId,
+}
+
+/// Where reading the octets as a value of the type stops.
 pub(crate) fn stopped(
     alloc: Global,
     schema: &Schema,
     code: &Code,
     id: TypeId,
     octets: &[u8],
-) -> Result<(usize, String), AllocError>
+) -> Result<PartAt, AllocError>
     requires same { schema.now ≡ code.now }
-    ensures { IfOk result (λ r. IsStopped code.now id.index octets.now r.0 (string_bytes r.1)) }
+    ensures { IfOk result (λ r. IsStopped code.now id.index octets.now r.octet (string_bytes r.path)) }
 {
     let found = whereabouts(alloc, code, id, octets)?;
     let path = path_to(alloc, schema, found.values.as_slice())?;
-    Ok((found.place, path))
+    let ty = innermost_type(schema, id, found.values.as_slice());
+    Ok(PartAt {
+        octet: found.place,
+        path,
+        ty,
+    })
 }
 
 /// The type of a component of a type by its place; the type itself if it has no such component.
@@ -199,4 +223,13 @@ pub(crate) fn path_to_part(
         ty = part_type(schema, ty, part);
     }
     Ok(path)
+}
+
+/// The type of a part of a value of a type, by the parts that lead to it.
+pub(crate) fn type_at(schema: &Schema, id: TypeId, parts: &[packed_reader::Part]) -> TypeId {
+    let mut ty = id;
+    for i in 0..parts.len() {
+        ty = part_type(schema, ty, part_of(parts[i]));
+    }
+    ty
 }

@@ -10,6 +10,7 @@ ghost use Rattle.encodings.specs.Reading.{Encodes};
 ghost use Rattle.encodings.specs.Rules.{Rules as Rules', Basic, Distinguished};
 ghost use Rattle.views.specs.Seen.{IsView};
 ghost use Rattle.views.specs.Tree.{Tree, value_of};
+ghost use Rattle.asnc.specs.Places.{IsStopped};
 ghost use Rattle.asnc.specs.Reading.{IsNotRead, IsNotReadAs, IsRead, IsReadAs, IsReadBy, IsUnread, rules_of};
 
 use crate::places::stopped;
@@ -20,7 +21,8 @@ use decode_faults::ReadFault;
 use front_end::Modules;
 use messages::{Fault, Unread};
 use named_values::type_number;
-use std::alloc::Global;
+use octet_findings::finding;
+use std::alloc::{AllocError, Global};
 use view_text::print_shown;
 
 /// The rules by which octets are read.
@@ -30,6 +32,29 @@ pub enum Rules {
     Ber,
     /// The distinguished rules.
     Der,
+}
+
+/// A fault of octets with the octet and the path at which it is, and what was found there.
+fn unread_at(
+    alloc: Global,
+    schema: &Schema,
+    code: &Code,
+    id: TypeId,
+    octets: &[u8],
+    fault: ReadFault,
+) -> Result<Unread, AllocError>
+    requires same { schema.now ≡ code.now }
+    ensures fault { IfOk result (λ u. u.fault ≡ fault) }
+    ensures place { IfOk result (λ u. IsStopped code.now id.index octets.now u.octet (string_bytes u.path)) }
+{
+    let part = stopped(alloc, schema, code, id, octets)?;
+    let finding = finding(alloc, schema, part.ty, octets, part.octet, fault)?;
+    Ok(Unread {
+        fault,
+        octet: part.octet,
+        path: part.path,
+        finding,
+    })
 }
 
 /// A fault of octets, as a user sees it, with the octet and the path at which it is.
@@ -49,8 +74,8 @@ fn refusal(
     if fault == ReadFault::Memory {
         return Fault::Memory;
     }
-    match stopped(alloc, schema, code, id, octets) {
-        Ok((octet, path)) => Fault::Unread(Unread { fault, octet, path }),
+    match unread_at(alloc, schema, code, id, octets, fault) {
+        Ok(unread) => Fault::Unread(unread),
         Err(_) => Fault::Memory,
     }
 }

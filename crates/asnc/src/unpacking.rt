@@ -1,20 +1,22 @@
 //! The value that octets are a message of in canonical PER, printed.
 
-ghost use Rattle.std.specs.Prelude.{◌≡◌, ◌<◌, ℕ, Err, List, IfOk, IfErr, length, string_bytes};
+ghost use Rattle.std.specs.Prelude.{◌≡◌, ◌<◌, ℕ, Err, List, [], IfOk, IfErr, length, string_bytes};
 ghost use Rattle.asn_base.specs.Abstract.{abstract};
 ghost use Rattle.packed_reader.specs.declared.fault.PerFault.TheVariants.{MessageLimit};
-ghost use Rattle.asnc.specs.Unpacking.{IsNotUnpacked, IsNotUnpackedAs, IsNotUnpackedBy, IsUnpacked, IsUnpackedAs};
+ghost use Rattle.asnc.specs.Unpacking.{IsNotUnpacked, IsNotUnpackedAs, IsNotUnpackedBy, IsUnpacked, IsUnpackedAs, with_parts};
 ghost use Rattle.asnc.specs.Unpacking.{IsUnpackedBy};
 
-use crate::places::path_to_part;
+use crate::places::{path_to_part, type_at};
 use asn_base::schema::{Schema, TypeId};
 use asn_base::value::Value;
+use decode_faults::Refusal;
 use front_end::Modules;
 use messages::{Fault, UnreadBits};
 use named_values::type_number;
+use octet_findings::allowed_by;
 use packed_code::PackedCode;
-use packed_reader::{PerFault, read_uper};
-use std::alloc::Global;
+use packed_reader::{PerFault, RefusedBits, read_uper};
+use std::alloc::{AllocError, Global};
 use value_text::print;
 
 /// The value of a type that octets are a message of, and the number of skipped additions.
@@ -34,6 +36,44 @@ pub(crate) fn unpacked(
     }
 }
 
+/// What the constraints of the type at the place of a fault allow, in words, if they are why bits are refused.
+fn allowed_at(
+    alloc: Global,
+    schema: &Schema,
+    id: TypeId,
+    refused: &RefusedBits,
+) -> Result<Option<String>, AllocError> {
+    if refused.refusal != Refusal::Outside {
+        return Ok(None);
+    }
+    let ty = type_at(schema, id, refused.path.as_slice());
+    match schema.types().get(ty.index) {
+        Some(resolved) => allowed_by(alloc, &*resolved.core),
+        None => Ok(None),
+    }
+}
+
+/// A fault of bits with the path at which it is, and what is allowed there.
+fn unread_bits(
+    alloc: Global,
+    schema: &Schema,
+    id: TypeId,
+    refused: RefusedBits,
+) -> Result<UnreadBits, AllocError>
+    ensures refusal { IfOk result (λ u. u.refusal ≡ refused.refusal) }
+    ensures bit { IfOk result (λ u. u.bit ≡ refused.bit) }
+    ensures path { IfOk result (λ u. string_bytes u.path ≡ with_parts schema.now id.index [] refused.path.items) }
+{
+    let path = path_to_part(alloc, schema, id, refused.path.as_slice())?;
+    let allowed = allowed_at(alloc, schema, id, &refused)?;
+    Ok(UnreadBits {
+        refusal: refused.refusal,
+        bit: refused.bit,
+        path,
+        allowed,
+    })
+}
+
 /// A fault of bits, as a user sees it, with the path at which it is.
 fn refusal(alloc: Global, schema: &Schema, id: TypeId, fault: PerFault) -> Fault
     ensures stands { (o : List ℕ)
@@ -45,12 +85,8 @@ fn refusal(alloc: Global, schema: &Schema, id: TypeId, fault: PerFault) -> Fault
         PerFault::MessageLimit => return Fault::MessageLimit,
         PerFault::Refused(refused) => refused,
     };
-    match path_to_part(alloc, schema, id, refused.path.as_slice()) {
-        Ok(path) => Fault::UnreadBits(UnreadBits {
-            refusal: refused.refusal,
-            bit: refused.bit,
-            path,
-        }),
+    match unread_bits(alloc, schema, id, refused) {
+        Ok(unread) => Fault::UnreadBits(unread),
         Err(_) => Fault::Memory,
     }
 }

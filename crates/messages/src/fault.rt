@@ -15,24 +15,35 @@ use text::LexFault;
 use thiserror::Error;
 use told_values::ValueTold;
 
+/// What was found in octets that are refused, and what was expected in its place, in words.
+#[derive(Debug, Drop)]
+pub struct Finding {
+    pub found: String,
+    pub expected: String,
+}
+
 /// Why octets can't be read as a value, and where: the place of the octet, from 0, and the part of the value that was
 /// being read there. The part is given from the outermost one in, as `a.b[2].c`; it is empty if it was the whole value.
+/// There is a finding if more can be said than the fault alone says.
 #[derive(Debug, Drop, Error)]
 #[error("{fault} at octet {octet}")]
 pub struct Unread {
     pub fault: ReadFault,
     pub octet: usize,
     pub path: String,
+    pub finding: Option<Finding>,
 }
 
 /// Why bits can't be read as a value, and where: the place of the bit, from 0, and the part of the value that was being
-/// read there. The part is given as that of [`Unread`].
+/// read there. The part is given as that of [`Unread`]; `allowed` says in words what the constraints of its type allow,
+/// if that is why.
 #[derive(Debug, Drop, Error)]
 #[error("{refusal} at bit {bit}")]
 pub struct UnreadBits {
     pub refusal: Refusal,
     pub bit: usize,
     pub path: String,
+    pub allowed: Option<String>,
 }
 
 /// Why the text of a notation, which is given in place of the name of a value, stands for no value of the type. Each

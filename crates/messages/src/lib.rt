@@ -4,4 +4,4 @@
 mod classes;
 mod fault;
 
-pub use fault::{Fault, NotationFault, Unread, UnreadBits, name, number, status};
+pub use fault::{Fault, Finding, NotationFault, Unread, UnreadBits, name, number, status};

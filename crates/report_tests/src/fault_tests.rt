@@ -483,12 +483,22 @@ fn fault_of(alloc: Global, number: usize) -> Result<Fault, Fail> {
     if let Some(fault) = read_fault(number) {
         let path = String::from_str(alloc, path_told(number))?;
         let octet = 17;
-        return Ok(Fault::Unread(Unread { fault, octet, path }));
+        return Ok(Fault::Unread(Unread {
+            fault,
+            octet,
+            path,
+            finding: None,
+        }));
     }
     if let Some(refusal) = bit_fault(number) {
         let path = String::from_str(alloc, path_told(number))?;
         let bit = 17;
-        return Ok(Fault::UnreadBits(UnreadBits { refusal, bit, path }));
+        return Ok(Fault::UnreadBits(UnreadBits {
+            refusal,
+            bit,
+            path,
+            allowed: None,
+        }));
     }
     if number == 108 {
         return Ok(Fault::MessageLimit);

@@ -1,17 +1,20 @@
 //! The words for octets that can't be read.
 
 use decode_faults::{ReadFault, Refusal};
-use messages::{Unread, UnreadBits};
+use messages::{Finding, Unread, UnreadBits};
 use shown_texts::shown;
 use std::alloc::{AllocError, Global};
 
 /// The words for octets that can't be read: the place of the octet from 0, the part of the value, and why. `NotDer` has
 /// no octet: the octets are a BER encoding that is not DER.
 pub(crate) fn of_unread(alloc: Global, unread: &Unread) -> Result<String, AllocError> {
-    let words = of_reading(unread.fault);
     if unread.fault == ReadFault::NotDer {
-        return String::from_str(alloc, words);
+        return String::from_str(alloc, of_reading(unread.fault));
     }
+    let words = match &unread.finding {
+        Some(finding) => of_finding(alloc, finding)?,
+        None => String::from_str(alloc, of_reading(unread.fault))?,
+    };
     let octet = unread.octet;
     if unread.path.is_empty() {
         return format!(in alloc; "at octet {octet}: {words}");
@@ -20,9 +23,19 @@ pub(crate) fn of_unread(alloc: Global, unread: &Unread) -> Result<String, AllocE
     format!(in alloc; "at octet {octet}, in {path}: {words}")
 }
 
+/// What was found and what was expected in its place.
+fn of_finding(alloc: Global, finding: &Finding) -> Result<String, AllocError> {
+    let found = finding.found.as_str();
+    let expected = finding.expected.as_str();
+    format!(in alloc; "found {found}, expected {expected}")
+}
+
 /// The words for bits that can't be read: the place of the bit from 0, the part of the value, and why.
 pub(crate) fn of_unread_bits(alloc: Global, unread: &UnreadBits) -> Result<String, AllocError> {
-    let words = of_bits(unread.refusal);
+    let words = match &unread.allowed {
+        Some(allowed) => format!(in alloc; "found what the constraints do not allow, expected {allowed}")?,
+        None => String::from_str(alloc, of_bits(unread.refusal))?,
+    };
     let bit = unread.bit;
     if unread.path.is_empty() {
         return format!(in alloc; "at bit {bit}: {words}");

@@ -7,4 +7,5 @@ pub mod law;
 mod naming;
 mod telling;
 
+pub use expected::of_ranges;
 pub use telling::{Reason, ValueTold, number, told};

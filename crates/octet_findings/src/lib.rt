@@ -1,0 +1,13 @@
+//! What a user reads about octets that are refused: what was found in them, and what was expected in its place.
+#![tactic(auto)]
+
+mod allowed;
+mod arcs;
+mod contents;
+mod headers;
+mod items;
+mod refused;
+mod words;
+
+pub use allowed::allowed_by;
+pub use refused::finding;

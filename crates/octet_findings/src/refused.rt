@@ -1,0 +1,116 @@
+//! What was found in octets that are refused.
+
+use crate::allowed::of_value;
+use crate::contents::of_contents;
+use crate::headers::{header_at, leaf_at, part_at};
+use crate::items::of_item;
+use crate::words::{counted, found};
+use asn_base::schema::{Core, Items, Resolved, Schema, TypeId};
+use asn_base::tag::{Class, Tag};
+use decode_faults::ReadFault;
+use messages::Finding;
+use octets::Form;
+use std::alloc::{AllocError, Global};
+
+/// A tag in notation, as `[3]` or `[UNIVERSAL 16]` (X.680, 31).
+fn tag_text(alloc: Global, tag: Tag) -> Result<String, AllocError> {
+    let number = tag.number;
+    match tag.class {
+        Class::Universal => format!(in alloc; "[UNIVERSAL {number}]"),
+        Class::Application => format!(in alloc; "[APPLICATION {number}]"),
+        Class::Context => format!(in alloc; "[{number}]"),
+        Class::Private => format!(in alloc; "[PRIVATE {number}]"),
+    }
+}
+
+/// The tag and the form at an offset, where they are not expected.
+fn of_tag(alloc: Global, octets: &[u8], at: usize) -> Result<Option<Finding>, AllocError> {
+    let Some(header) = header_at(octets, at) else {
+        return Ok(None);
+    };
+    let tag = tag_text(alloc, header.tag)?;
+    let form = match header.form {
+        Form::Primitive => "primitive",
+        Form::Constructed => "constructed",
+    };
+    let words = format!(in alloc; "the tag {tag} in {form} form")?;
+    found(alloc, words, "one that is allowed here")
+}
+
+/// How many octets are left after a value.
+fn of_rest(alloc: Global, octets: &[u8], at: usize) -> Result<Option<Finding>, AllocError> {
+    let rest = counted(alloc, octets.len().saturating_sub(at), "octet")?;
+    let words = format!(in alloc; "{rest} after the whole value")?;
+    found(alloc, words, "the end of the message")
+}
+
+/// What is wrong with the contents octets of an ENUMERATED. They start at the offset if they are no number; otherwise its
+/// header is there.
+fn of_enumerated(
+    alloc: Global,
+    items: &Items,
+    octets: &[u8],
+    at: usize,
+    tags: &[Tag],
+) -> Result<Option<Finding>, AllocError> {
+    let leaf = match leaf_at(octets, at) {
+        Some(leaf) if tags.last() == Some(&leaf.tag) => Some(leaf),
+        _ => part_at(octets, at, tags),
+    };
+    match leaf {
+        Some(leaf) => of_item(alloc, items, leaf),
+        None => Ok(None),
+    }
+}
+
+/// What is wrong with contents octets that are those of no value of the type.
+fn of_bad_contents(
+    alloc: Global,
+    resolved: &Resolved,
+    octets: &[u8],
+    at: usize,
+) -> Result<Option<Finding>, AllocError> {
+    if let Core::Enumerated(items) = &*resolved.core {
+        return of_enumerated(alloc, items, octets, at, resolved.tags.as_slice());
+    }
+    match leaf_at(octets, at) {
+        Some(contents) => of_contents(alloc, &*resolved.core, contents),
+        None => Ok(None),
+    }
+}
+
+/// Why the constraints of the type don't allow a value whose header is at the offset.
+fn of_outside(
+    alloc: Global,
+    resolved: &Resolved,
+    octets: &[u8],
+    at: usize,
+) -> Result<Option<Finding>, AllocError> {
+    match part_at(octets, at, resolved.tags.as_slice()) {
+        Some(contents) => of_value(alloc, &*resolved.core, contents),
+        None => Ok(None),
+    }
+}
+
+/// Returns what was found in a message and what was expected in its place, in words. The type `ty` is that of the part
+/// that was being read; the offset `at`, from 0, is where the fault is: at the part's header or at its contents octets.
+/// The result is None if the fault says it all. `AllocError`: an allocation failed.
+pub fn finding(
+    alloc: Global,
+    schema: &Schema,
+    ty: TypeId,
+    octets: &[u8],
+    at: usize,
+    fault: ReadFault,
+) -> Result<Option<Finding>, AllocError> {
+    let Some(resolved) = schema.types().get(ty.index) else {
+        return Ok(None);
+    };
+    match fault {
+        ReadFault::UnexpectedTag => of_tag(alloc, octets, at),
+        ReadFault::Trailing => of_rest(alloc, octets, at),
+        ReadFault::BadContents => of_bad_contents(alloc, resolved, octets, at),
+        ReadFault::OutsideConstraint => of_outside(alloc, resolved, octets, at),
+        _ => Ok(None),
+    }
+}
