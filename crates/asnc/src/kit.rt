@@ -172,11 +172,11 @@ impl Kit {
         value: ValueGiven<'_>,
     ) -> Result<(TypeId, Value), Fault>
         // The type has this name, and this is the value that is meant.
-        ensures meant { IfOk result (λ r. IsMeant self.now.program ty.now (as_given value) r.0.index (abstract r.1)) }
+        ensures meant { IfOk result (λ r. IsMeant self.now.program ty.now (as_given value.entry) r.0.index (abstract r.1)) }
         // It is a value of the type, as the other calls require.
         ensures is { IfOk result (λ r. IsValue self.now.types r.0.index (abstract r.1)) }
         // A fault is true.
-        ensures refused { IfErr result (IsNotMeant self.now.program ty.now (as_given value)) }
+        ensures refused { IfErr result (IsNotMeant self.now.program ty.now (as_given value.entry)) }
     {
         values_of_schema();
         self.modules.kept();
@@ -198,9 +198,9 @@ impl Kit {
         // The octets are the only DER encoding of what the value's notation means under the type. The account is that
         // of the octets.
         ensures encoded { IfOk result (λ r.
-            IsEncoded self.now.program self.now.types ty.now (as_given value) r.0.items r.1) }
+            IsEncoded self.now.program self.now.types ty.now (as_given value.entry) r.0.items r.1) }
         // A fault is true.
-        ensures refused { IfErr result (IsNotEncoded self.now.program self.now.types ty.now (as_given value)) }
+        ensures refused { IfErr result (IsNotEncoded self.now.program self.now.types ty.now (as_given value.entry)) }
     {
         let (id, typed) = match self.value_of(alloc, ty, value) {
             Ok(found) => found,
@@ -220,9 +220,9 @@ impl Kit {
     pub fn account(&self, alloc: Global, ty: &str, value: ValueGiven<'_>) -> Result<String, Fault>
         // The text is that of the account of the only DER encoding.
         ensures told { IfOk result (λ s.
-            IsAccountOf self.now.program self.now.types ty.now (as_given value) (string_bytes s)) }
+            IsAccountOf self.now.program self.now.types ty.now (as_given value.entry) (string_bytes s)) }
         // A fault is true.
-        ensures refused { IfErr result (IsNotEncoded self.now.program self.now.types ty.now (as_given value)) }
+        ensures refused { IfErr result (IsNotEncoded self.now.program self.now.types ty.now (as_given value.entry)) }
     {
         let (_octets, account) = match self.der(alloc, ty, value) {
             Ok(written) => written,
@@ -247,20 +247,20 @@ impl Kit {
     ) -> Result<Account, Fault>
         requires room { S.failed sink.old < u64.MAX }
         // The sink took exactly the only DER encoding, and no call failed. The account is that of the encoding.
-        ensures sent { IfOk result (IsSent self.now.program self.now.types ty.now (as_given value)
+        ensures sent { IfOk result (IsSent self.now.program self.now.types ty.now (as_given value.entry)
             (state (S.taken sink.old) (S.failed sink.old))
             (state (S.taken sink.new) (S.failed sink.new))) }
         // The sink took exactly the first n octets of the encoding, fewer than there are, and one call failed.
         ensures device { IfErr result (λ e. (n : ℕ) →
             e ≡ Device n →
-            IsSentInPart self.now.program self.now.types ty.now (as_given value)
+            IsSentInPart self.now.program self.now.types ty.now (as_given value.entry)
             (state (S.taken sink.old) (S.failed sink.old))
             (state (S.taken sink.new) (S.failed sink.new))
             n) }
         // Any other fault is true, as one of `der`, and no octet went out.
         ensures refused { IfErr result (λ e.
             ((n : ℕ) → e ≡ Device n → ⊥) →
-            IsNotEncoded self.now.program self.now.types ty.now (as_given value) e × (sink.new ≡ sink.old)) }
+            IsNotEncoded self.now.program self.now.types ty.now (as_given value.entry) e × (sink.new ≡ sink.old)) }
     {
         let (id, typed) = match self.value_of(alloc, ty, value) {
             Ok(found) => found,
@@ -283,9 +283,9 @@ impl Kit {
     pub fn uper(&self, alloc: Global, ty: &str, value: ValueGiven<'_>) -> Result<Vec<u8>, Fault>
         // The octets are the bits of the value that the notation stands for under the type, and no others are.
         ensures packed { IfOk result (λ o.
-            IsPacked self.now.program self.now.types ty.now (as_given value) o.items) }
+            IsPacked self.now.program self.now.types ty.now (as_given value.entry) o.items) }
         // The reason of a refusal applies.
-        ensures refused { IfErr result (IsNotPacked self.now.program self.now.types ty.now (as_given value)) }
+        ensures refused { IfErr result (IsNotPacked self.now.program self.now.types ty.now (as_given value.entry)) }
     {
         let (id, typed) = match self.value_of(alloc, ty, value) {
             Ok(found) => found,

@@ -31,7 +31,8 @@ ghost use Rattle.version_laws.specs.Versions.{IsKnown};
 ghost use Rattle.account_checker.specs.declared.reason.Verdict.TheVariants.{Yes};
 ghost use Rattle.judging.specs.Judged.{IsAccountIn, IsJudged};
 ghost use Rattle.asnc.specs.declared.reading.Rules.{Rules as Rules'};
-ghost use Rattle.named_values.specs.Given.{Given};
+ghost use Rattle.named_values.specs.Given.{Given, written};
+ghost use Rattle.named_values.specs.Meant.{IsMeant};
 
 use asn_base::law::sameness;
 use encodings::{der_laws, level_laws, message_laws};
@@ -42,6 +43,7 @@ use packed_writer::law::written_is_read;
 use printed_values::law::printed_is_read_back;
 use version_laws::law::{earlier_reads, later_reads};
 use version_laws::packed_law::{earlier_reads_packed, later_reads_packed};
+use written_values::law::read_is_notation;
 
 /// What [`crate::Kit::der`] returns for texts that [`crate::Kit::open`] took is right, from the texts to the octets.
 pub fn headline()
@@ -185,7 +187,30 @@ pub fn printed()
     printed_is_read_back();
 }
 
-/// The whole promise for a named value: what [`crate::Kit::der`] and [`crate::Kit::uper`] return for texts that
+/// What [`crate::Kit::ber`] and [`crate::Kit::unper`] print can be given as a text in place of the name of a value. Under
+/// the same name of a type it means the value that the octets encode. The exceptions are those of [`printed`].
+pub fn given_back()
+    ensures read { (xs : List (List ℕ)) (p : Program) (s : List Resolved) (r : Rules) (name o printed : List ℕ)
+        (k : ℕ) →
+        Accepted xs p s →
+        (w : IsReadAs p s r name o printed k) →
+        HasNoLineEnd w.read.value →
+        IsUtf8 printed →
+        length printed ≤ 16777216 →
+        IsMeant p name (written printed) w.type w.read.value }
+    ensures unpacked { (xs : List (List ℕ)) (p : Program) (s : List Resolved) (name o printed : List ℕ) (k : ℕ) →
+        Accepted xs p s →
+        (w : IsUnpackedAs p s name o printed k) →
+        HasNoLineEnd w.read.value →
+        IsUtf8 printed →
+        length printed ≤ 16777216 →
+        IsMeant p name (written printed) w.type w.read.value }
+{
+    printed();
+    read_is_notation();
+}
+
+/// The whole promise for a value that is given: what [`crate::Kit::der`] and [`crate::Kit::uper`] return for texts that
 /// [`crate::Kit::open`] took is right, [`judging::judge`] accepts it, and [`crate::Kit::ber`] and [`crate::Kit::unper`]
 /// give the value back.
 pub fn whole()

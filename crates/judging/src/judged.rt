@@ -121,9 +121,9 @@ pub fn judge(
 ) -> Result<Verdict, Fault>
     // The verdict is right for the value that is meant in the texts.
     ensures judged { IfOk result
-        (IsJudged (map octets_of texts.now) ty.now (as_given value) octets.now account.now) }
+        (IsJudged (map octets_of texts.now) ty.now (as_given value.entry) octets.now account.now) }
     // A fault is true, and is the first one in the order above.
-    ensures refused { IfErr result (IsNotJudged (map octets_of texts.now) ty.now (as_given value) account.now) }
+    ensures refused { IfErr result (IsNotJudged (map octets_of texts.now) ty.now (as_given value.entry) account.now) }
 {
     accepted_keep();
     let front = match front_end::open(alloc, texts) {

@@ -2,6 +2,7 @@
 //! modules.
 
 mod accounts;
+mod giving;
 mod growths;
 mod modules;
 mod reading;

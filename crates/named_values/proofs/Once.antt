@@ -6,6 +6,7 @@ use Rattle.asn_base.specs.Abstract.{AbstractValue}
 use Rattle.trees.specs.Values.{Name, Tree}
 use Rattle.names.specs.declared.scope.Assigned.{Assigned}
 use Rattle.names.specs.declared.scope.Assigned.TheVariants as assigned
+use Rattle.names.specs.Faults.{module_told}
 use Rattle.names.specs.Names.{Module, Meaning, own, imported, IsApart, under}
 use Rattle.range_ends.specs.Ends.{IsValueAt}
 use Rattle.resolve.specs.Program.{Program}
@@ -22,8 +23,8 @@ use Rattle.written_values.specs.Written.{IsNotation, IsNoNotation}
 use Rattle.written_values.specs.declared.written.WrittenFault.{WrittenFault}
 use Rattle.written_values.specs.declared.written.WrittenFault.TheVariants as wrong
 use Rattle.named_values.specs.Given.{Given, named, written}
-use Rattle.named_values.specs.Meant.{IsMeant, IsNotMeant, IsWrongText, NamesNoValue, NamesType, StandsForNone}
-use Rattle.named_values.specs.Named.{AreGiven, IsGivenAs, IsNamed, IsQualified}
+use Rattle.named_values.specs.Meant.{IsMeant, IsNotMeant, IsWrongText, IsWrongWithin, NamesNoValue, NamesType, StandsForNone}
+use Rattle.named_values.specs.Named.{AreGiven, IsGivenAs, IsNamed, IsQualified, IsWithin}
 
 -- ---- the parts of a text
 
@@ -275,3 +276,18 @@ octets_or_tokens one p first (named text) f g a b = a
 octets_or_tokens one p first (written x) f g a b =
     let e = one x (wrong.Octets f) (wrong.Tokens g) (λ e. absurd cc) (λ e. absurd cc) a.1 b.1 in
     absurd cc
+
+-- ---- the place of a fault
+
+-- a place in the text, if the fault has the module in which the text is read
+pub place_in_text : (p : Program) (first x : List ℕ) (W : Name) (t : ValueTold)
+    → module_told t.spot ≡ W
+    → t.spot.at < length x
+    → IsWithin first W
+    → StandsForNone p first (written x) t
+    → IsWrongWithin p first x t
+place_in_text p first x W t e l w n = record {
+  none = n;
+  within = e ∙ (one_spelling first W n.within w.name n.named.given.within.name w.is n.named.given.within.is).0;
+  at = l;
+}

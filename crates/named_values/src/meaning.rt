@@ -193,8 +193,8 @@ pub fn meant(
     ty: &str,
     value: ValueGiven<'_>,
 ) -> Result<(TypeId, Value), Fault>
-    ensures meant { IfOk result (λ r. IsMeant modules.now ty.now (as_given value) r.0.index (abstract r.1)) }
-    ensures refused { IfErr result (IsNotMeant modules.now ty.now (as_given value)) }
+    ensures meant { IfOk result (λ r. IsMeant modules.now ty.now (as_given value.entry) r.0.index (abstract r.1)) }
+    ensures refused { IfErr result (IsNotMeant modules.now ty.now (as_given value.entry)) }
 {
     let Some(id) = type_number(modules, ty) else {
         return Err(Fault::NoType(String::from_str(alloc, ty)?));

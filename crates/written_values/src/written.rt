@@ -1,6 +1,7 @@
 //! The notation of a value that a text is.
 
-ghost use Rattle.std.specs.Prelude.{◌≡◌, IfOk, IfErr, MatchResult};
+ghost use Rattle.std.specs.Prelude.{◌≡◌, ℕ, List, IfOk, IfErr, MatchResult};
+ghost use Rattle.text.specs.declared.token.Token.{Token as Token'};
 ghost use Rattle.grammar.specs.Lexeme.{lexemes};
 ghost use Rattle.grammar.specs.Places.{bounded};
 ghost use Rattle.kernel.specs.Given.{IsLexed};
@@ -69,6 +70,19 @@ fn whole(alloc: Global, text: &[u8], tokens: &[Token]) -> Result<ValueSyntax, Sy
     }
 }
 
+/// A fault of the tokens of a text, as one of the text.
+fn unread(fault: SyntaxFault) -> WrittenFault
+    ensures { (x : List ℕ) (ts : List Token') →
+        IsLexed x ts →
+        Stands values (lexemes x ts) 0 (bounded 128) fault →
+        IsNoNotation x result }
+{
+    match fault {
+        SyntaxFault::Memory => WrittenFault::Memory,
+        fault => WrittenFault::Tokens(fault),
+    }
+}
+
 /// Reads a text as the notation of one value (X.680, clause 17.1). White space and comments may be around it.
 ///
 /// # Errors
@@ -97,7 +111,6 @@ pub fn notation_of(alloc: Global, text: &[u8]) -> Result<ValueSyntax, WrittenFau
     };
     match whole(alloc, text, tokens.as_slice()) {
         Ok(value) => Ok(value),
-        Err(SyntaxFault::Memory) => Err(WrittenFault::Memory),
-        Err(fault) => Err(WrittenFault::Tokens(fault)),
+        Err(fault) => Err(unread(fault)),
     }
 }

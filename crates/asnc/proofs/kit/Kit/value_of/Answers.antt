@@ -1,9 +1,10 @@
 use Rattle.std.proofs.Common.{subst}
 use Rattle.std.specs.Prelude.{IfErr}
 use Rattle.asnc.specs.Kits.{Opened}
+use Rattle.named_values.specs.Given.{as_given}
 use Rattle.named_values.specs.Meant.{IsNotMeant}
 use Rattle.asnc.proofs.kit.Kit.value_of.Goals as goal
 
 pub returns-clause-refused : goal.returns-clause-refused
 returns-clause-refused c =
-    subst (λ (k : Opened). IfErr c.meant.result (IsNotMeant k.program c.args.ty.now c.args.value.now)) c.self.view_is c.meant.ensures.refused
+    subst (λ (k : Opened). IfErr c.meant.result (IsNotMeant k.program c.args.ty.now (as_given c.args.value))) c.self.view_is c.meant.ensures.refused
