@@ -6,7 +6,9 @@ returns-in-Err-clause-refused c =
     c.unread.ensures c.args.modules.now c.args.ty.now c.args.text.now (c.args.id.index, c.requires.typed) c.in-Err.ensures.fault
 
 pub returns-clause-refused : goal.returns-clause-refused
-returns-clause-refused c = c.placed.ensures c.args.ty.now c.module_in-within.ensures (record {
+returns-clause-refused c =
+    let same = rw c.in-Err-Told.field-0-is at c.in-Err-Told.ensures.fault in
+    c.placed.ensures c.args.ty.now c.module_in-within.ensures (record {
   type = c.args.id.index;
   within = c.module_in-within.result.now;
   notation = tree_of c.in-Ok.notation;
@@ -14,5 +16,5 @@ returns-clause-refused c = c.placed.ensures c.args.ty.now c.module_in-within.ens
     typed = c.requires.typed;
     given = record { within = c.module_in-within.ensures; is = c.in-Ok.ensures.found };
   };
-  none = c.in-Err-Told.ensures.fault;
+  none = same;
 })
