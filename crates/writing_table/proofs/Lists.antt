@@ -1,5 +1,8 @@
 -- Parts of lists, and the last of a list.
 use Rattle.std.proofs.Common.{◌≡◌, ℕ, zero, suc, ◌+◌, ◌<◌, ◌⊎◌, inl, inr, List, [], ◌∷◌, ◌++◌, length, set, take, drop, refl, sym, ap, subst, ◌∙◌, arith, append_assoc, append-nil, length-append}
+use Rattle.std.specs.Prelude.{if◌then◌else◌}
+use Rattle.std.specs.Int.Digits.{digits_of}
+use Rattle.std.proofs.lemmas.Bool.{lt-ltb}
 use Rattle.encodings.specs.Fewest.{shortest_size}
 use Rattle.writing_table.specs.declared.table.Member.{Member}
 use Rattle.writing_table.specs.Tables.{after, with_size, span}
@@ -62,6 +65,25 @@ sized f x =
     ap (with_size (length f)) (held_open f x)
     ∙ ap (λ q. take (length f) (f ++ 0 ∷ x) ++ (shortest_size (length q) ++ q)) (after_front f x 0)
     ∙ ap (λ q. q ++ (shortest_size (length x) ++ x)) (take_front f (0 ∷ x))
+
+put_at : (xs : List ℕ) (i x : ℕ) → i < length xs → set xs i x ≡ take i xs ++ (x ∷ after i xs)
+put_at [] i x h = absurd (omega (arith, h))
+put_at (y ∷ xs) zero x h = refl
+put_at (y ∷ xs) (suc i) x h = ap (λ q. y ∷ q) (put_at xs i x (omega (arith, h)))
+
+left_after : (xs : List ℕ) (i x : ℕ) → x + i + 1 ≡ length xs → length (after i xs) ≡ x
+left_after [] i x h = absurd (omega (arith, h))
+left_after (y ∷ xs) zero x h = omega (arith, h)
+left_after (y ∷ xs) (suc i) x h = left_after xs i x (omega (arith, h))
+
+one_octet : (x : ℕ) → x < 128 → x ∷ [] ≡ shortest_size x
+one_octet x h = sym (ap (λ b. if b then x ∷ [] else (128 + length (digits_of 256 x)) ∷ digits_of 256 x) (lt-ltb x 128 h))
+
+-- a length below 128 takes the place of the octet
+pub short_size : (all new : List ℕ) (place n : ℕ) → new ≡ set all place n → n + place + 1 ≡ length all → n < 128 → new ≡ with_size place all
+short_size all new place n e l h =
+    e ∙ put_at all place n (omega (arith, l))
+    ∙ ap (λ q. take place all ++ (q ++ after place all)) (one_octet n h ∙ ap shortest_size (sym (left_after all place n l)))
 
 pub held_within : (f x : List ℕ) → length f < length ((f ++ 0 ∷ []) ++ x)
 held_within f x =

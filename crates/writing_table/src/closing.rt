@@ -1,6 +1,6 @@
 //! The length of a header in place of the octet that was held open for it.
 
-ghost use Rattle.std.specs.Prelude.{◌≡◌, ◌+◌, ◌<◌, ◌++◌, OnOk, drop, length, take};
+ghost use Rattle.std.specs.Prelude.{◌≡◌, ◌+◌, ◌<◌, ◌++◌, OnOk, drop, length, set, take};
 ghost use Rattle.writing_table.specs.Tables.{with_size};
 
 use crate::header::size_octets;
@@ -14,12 +14,21 @@ pub(crate) fn close_length(out: &mut Vec<u8>, place: usize) -> Result<(), AllocE
 {
     let contents = out.len() - place - 1;
     if contents < 128 {
-        out[place] = contents as u8;
+        put_short(out, place, contents);
         Ok(())
     } else {
         let size = size_octets(contents as u64);
         put_octets(out, place, size.as_slice())
     }
+}
+
+/// Puts a length below 128 in place of the octet.
+fn put_short(out: &mut Vec<u8>, place: usize, contents: usize)
+    requires place { place < length out.old.items }
+    requires few { contents < 128 }
+    ensures { out.new.items ≡ set out.old.items place contents }
+{
+    out[place] = contents as u8;
 }
 
 /// Puts octets in place of one octet. What follows moves once. `AllocError` only if an allocation fails.

@@ -36,7 +36,7 @@ fn add_open(list: &mut Vec<Open>, one: Open) -> Result<(), AllocError>
 }
 
 fn add_group(list: &mut Vec<Group>, one: Group) -> Result<(), AllocError>
-    ensures { OnOk result (list.new.items ≡ list.old.items ++ one.entry ∷ []) }
+    ensures { OnOk result (list.new.items ≡ list.old.items ++ one ∷ []) }
 {
     list.push(one)?;
     Ok(())
@@ -270,14 +270,14 @@ fn end_set(table: &mut Table) -> Result<Arrangement, AllocError>
         Some(group) => {
             let mut members = group.members;
             sort_by_rank(&mut members)?;
-            let arrangement = arrangement_of(table.alloc, members.as_slice())?;
-            let (start, next) = (group.start, group.next);
+            let sorted = members.as_slice();
+            let arrangement = arrangement_of(table.alloc, sorted)?;
             put_members(
                 table.alloc,
                 &mut table.octets,
-                start,
-                next,
-                members.as_slice(),
+                group.start,
+                group.next,
+                sorted,
             )?;
             Ok(arrangement)
         }
@@ -292,15 +292,16 @@ fn end_set_of(table: &mut Table) -> Result<Arrangement, AllocError>
     match table.groups.pop() {
         Some(group) => {
             let mut members = group.members;
-            sort_by_octets(table.octets.as_slice(), &mut members)?;
-            let arrangement = arrangement_of(table.alloc, members.as_slice())?;
-            let (start, next) = (group.start, group.next);
+            let octets = table.octets.as_slice();
+            sort_by_octets(octets, &mut members)?;
+            let sorted = members.as_slice();
+            let arrangement = arrangement_of(table.alloc, sorted)?;
             put_members(
                 table.alloc,
                 &mut table.octets,
-                start,
-                next,
-                members.as_slice(),
+                group.start,
+                group.next,
+                sorted,
             )?;
             Ok(arrangement)
         }

@@ -12,7 +12,7 @@ returns-in_ok-add_row-in-Some-clause-adds c =
     let g = c.args.head.tag in
     let b = c.args.head.constructed in
     let x = joined_pieces c.in-Some.octets in
-    let n = c.octet_count.ensures in (
+    let n = c.octet_count-contents.ensures in (
       x,
       c.in-Some.ensures,
       record {

@@ -1,8 +1,8 @@
 use Rattle.std.proofs.Common.{refl}
 use Rattle.writing_table.proofs.steps.add_contents.Goals as goal
 
-pub push_leaf-requires-in-Some : goal.push_leaf-requires-in-Some
-push_leaf-requires-in-Some c = (c.in-Some.ensures.0, c.in-Some.ensures.1)
+pub push_leaf-requires : goal.push_leaf-requires
+push_leaf-requires c = (c.in-Some.ensures.0, c.in-Some.ensures.1)
 
 pub returns-in_ok-push_leaf-in-Some-clause-adds : goal.returns-in_ok-push_leaf-in-Some-clause-adds
 returns-in_ok-push_leaf-in-Some-clause-adds c =
