@@ -5,7 +5,7 @@ ghost use Rattle.std.specs.Prelude.{◌≡◌};
 
 use std::alloc::AllocError;
 use thiserror::Error;
-use writing_table::MeasureFault;
+use writing_table::EncodeFault;
 
 /// Why a value was not written. `Memory`: an allocation failed. `NotOfType`: the value isn't one of the type.
 /// `TooLong`: its encoding has more than 16,777,216 octets. `Device`: the sink failed after it took this number of
@@ -22,16 +22,16 @@ pub enum WriteFault {
     Device(u64),
 }
 
-impl From<MeasureFault> for WriteFault {
+impl From<EncodeFault> for WriteFault {
     ghost use Rattle.der_writer.specs.Faults.{fault_of};
 
     ghost from_gives = { λ f e. e ≡ fault_of f };
 
-    fn from(fault: MeasureFault) -> WriteFault {
+    fn from(fault: EncodeFault) -> WriteFault {
         match fault {
-            MeasureFault::Memory => WriteFault::Memory,
-            MeasureFault::NotOfType => WriteFault::NotOfType,
-            MeasureFault::TooLong => WriteFault::TooLong,
+            EncodeFault::Memory => WriteFault::Memory,
+            EncodeFault::NotOfType => WriteFault::NotOfType,
+            EncodeFault::TooLong => WriteFault::TooLong,
         }
     }
 }

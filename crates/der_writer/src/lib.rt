@@ -1,5 +1,5 @@
-//! Encodes values by the distinguished rules (X.690, 8, 10 and 11), in one forward pass into a list or to any sink.
-//! Before the first octet is written, all lengths are known and all memory is allocated.
+//! Encodes values by the distinguished rules (X.690, 8, 10 and 11), into a list or to any sink. Before the first octet
+//! goes to a sink, the whole encoding is in memory.
 #![tactic(auto)]
 
 mod fault;

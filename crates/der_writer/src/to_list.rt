@@ -4,7 +4,6 @@ ghost use Rattle.asn_base.specs.Abstract.{abstract};
 ghost use Rattle.asn_base.specs.Typed.{IsValue};
 ghost use Rattle.der_writer.specs.Encoded.{IsEncoding};
 ghost use Rattle.der_writer.specs.declared.fault.WriteFault.TheVariants.{Device, NotOfType, TooLong};
-ghost use Rattle.der_parts.specs.Parts.{Spell};
 ghost use Rattle.encodings.specs.Account.{Tells};
 ghost use Rattle.encodings.specs.Encoding.{Der};
 ghost use Rattle.std.specs.Prelude.{◌≡◌, ◌<◌, Err, IfErr, IfOk, List, length, ℕ};
@@ -14,11 +13,10 @@ use crate::law::encodings_of_values;
 use asn_base::schema::TypeId;
 use asn_base::value::Value;
 use codec_code::Code;
-use der_parts::push_parts;
 use octet_account::account::Account;
 use octet_account::law::one_account;
-use std::alloc::{AllocError, Global};
-use writing_table::{Part, measure};
+use std::alloc::Global;
+use writing_table::encode;
 
 /// Encodes a value of the type by the distinguished rules (X.690, 8, 10 and 11). The results are the octets and their
 /// account.
@@ -49,21 +47,8 @@ pub fn write_der(
     code.accepted();
     encodings_of_values();
     one_account();
-    match measure(alloc, code, id, value) {
-        Ok(measured) => {
-            let octets = joined(alloc, measured.parts.as_slice(), measured.octets)?;
-            Ok((octets, Account::of(measured.rows)))
-        }
+    match encode(alloc, code, id, value) {
+        Ok(encoded) => Ok((encoded.octets, Account::of(encoded.rows))),
         Err(fault) => Err(WriteFault::from(fault)),
     }
-}
-
-/// The octets of the parts, in a list with room for this number of them from the start. `AllocError` only if an
-/// allocation fails.
-fn joined(alloc: Global, parts: &[Part], octets: usize) -> Result<Vec<u8>, AllocError>
-    ensures { (o : List ℕ) → Spell parts.now o → IfOk result (λ v. v.items ≡ o) }
-{
-    let mut out = Vec::with_capacity(alloc, octets)?;
-    push_parts(parts, &mut out)?;
-    Ok(out)
 }

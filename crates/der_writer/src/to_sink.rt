@@ -13,13 +13,11 @@ use crate::law::encodings_of_values;
 use asn_base::schema::TypeId;
 use asn_base::value::Value;
 use codec_code::Code;
-use der_parts::write_parts;
-use leaf_contents::law::one_contents;
 use octet_account::account::Account;
 use octet_account::law::one_account;
-use sinks::Sink;
+use sinks::{Sink, send_all};
 use std::alloc::Global;
-use writing_table::measure;
+use writing_table::encode;
 
 /// Encodes a value of the type by the distinguished rules (X.690, 8, 10 and 11), and writes the octets to the sink in
 /// order. The result is their account, whose first row gives their number. All allocations, and the faults `Memory`,
@@ -62,13 +60,12 @@ pub fn write_der_to<S: Sink>(
     code.accepted();
     encodings_of_values();
     one_account();
-    one_contents();
-    let measured = match measure(alloc, code, id, value) {
-        Ok(measured) => measured,
+    let encoded = match encode(alloc, code, id, value) {
+        Ok(encoded) => encoded,
         Err(fault) => return Err(WriteFault::from(fault)),
     };
-    match write_parts(sink, measured.parts.as_slice()) {
-        Ok(()) => Ok(Account::of(measured.rows)),
+    match send_all(sink, encoded.octets.as_slice()) {
+        Ok(()) => Ok(Account::of(encoded.rows)),
         Err(count) => Err(WriteFault::Device(count)),
     }
 }

@@ -11,11 +11,8 @@ use Rattle.std.specs.List.Sorted.{IsSortedBy, IsNonDecreasingBy}
 use Rattle.encodings.specs.Orders.{Ascending, ascending_none, ascending_one, ascending_more, AtMost}
 use Rattle.codec_code.specs.Events.{encodings_of, RanksAscend}
 use Rattle.writing_table.specs.declared.table.Member.{Member}
-use Rattle.writing_table.specs.Tables.{octets_kept, placed_of}
+use Rattle.writing_table.specs.Tables.{span, placed_of}
 use Rattle.writing_table.specs.Octets.{first_differs, order}
-
-abbrev octets_in : Member → List ℕ
-octets_in m = octets_kept m.kept
 
 drop_none : (i : ℕ) → drop {A = ℕ} i [] ≡ []
 drop_none zero = refl
@@ -96,33 +93,37 @@ at_most_or [] ys = inl tt
 at_most_or (x ∷ xs) [] = inr tt
 at_most_or (x ∷ xs) (y ∷ ys) = either x y xs ys (nat_lt x y) (nat_lt y x) refl refl (at_most_or xs ys)
 
-abbrev pub before : Member → Member → Bool
-before m n = is_lt (order (octets_in m) (octets_in n))
+abbrev pub before : List ℕ → Member → Member → Bool
+before o m n = is_lt (order (span o m) (span o n))
 
 true_not_false : {b : Bool} → b ≡ true → b ≡ false → ⊥
 true_not_false e f = let g : true ≡ false = sym e ∙ f in cc
 
-pub weak_order : IsStrictWeakOrder before
-weak_order = record {
-  one_way = λ x y h. elim (at_most_or (octets_in x) (octets_in y)) [ inl l ↦ from_at_most (octets_in x) (octets_in y) l | inr r ↦ absurd (true_not_false h (from_at_most (octets_in y) (octets_in x) r)) ];
-  chain = λ x y z h k. from_at_most (octets_in z) (octets_in x) (at_most_both (octets_in z) (octets_in y) (octets_in x) (at_most (octets_in z) (octets_in y) k) (at_most (octets_in y) (octets_in x) h));
+pub weak_order : (o : List ℕ) → IsStrictWeakOrder (before o)
+weak_order o = record {
+  one_way = λ x y h. elim (at_most_or (span o x) (span o y)) [
+    | inl l ↦ from_at_most (span o x) (span o y) l
+    | inr r ↦ absurd (true_not_false h (from_at_most (span o y) (span o x) r))
+  ];
+  chain = λ x y z h k. from_at_most (span o z) (span o x)
+      (at_most_both (span o z) (span o y) (span o x) (at_most (span o z) (span o y) k) (at_most (span o y) (span o x) h));
 }
 
-pub ascending_from : (ms : List Member) → IsSortedBy before ms → Ascending AtMost (encodings_of (map placed_of ms))
-ascending_from [] h = ascending_none
-ascending_from (m ∷ []) h = ascending_one
-ascending_from (m ∷ n ∷ ms) h = ascending_more (at_most (octets_in m) (octets_in n) (h 0 m (omega arith) (omega arith)))
-    (ascending_from (n ∷ ms) (λ k d l g.
+pub ascending_from : (o : List ℕ) (ms : List Member) → IsSortedBy (before o) ms → Ascending AtMost (encodings_of (map (placed_of o) ms))
+ascending_from o [] h = ascending_none
+ascending_from o (m ∷ []) h = ascending_one
+ascending_from o (m ∷ n ∷ ms) h = ascending_more (at_most (span o m) (span o n) (h 0 m (omega arith) (omega arith)))
+    (ascending_from o (n ∷ ms) (λ k d l g.
     let e : suc k + 1 ≡ suc (k + 1) = omega arith in
-    subst (λ q. before (slice_index_or (m ∷ n ∷ ms) q d) (slice_index_or (n ∷ ms) k d) ≡ false) e (h (suc k) d (omega arith) (omega arith))))
+    subst (λ q. before o (slice_index_or (m ∷ n ∷ ms) q d) (slice_index_or (n ∷ ms) k d) ≡ false) e (h (suc k) d (omega arith) (omega arith))))
 
-above : (m : Member) (ms : List Member) → ((k : ℕ) (d : Member) → k < length ms → m.rank ≤ (slice_index_or ms k d).rank) → AllByRecursion (λ q. m.rank ≤ q.rank) (map placed_of ms)
-above m [] h = tt
-above m (n ∷ ms) h = (h 0 n (omega arith), above m ms (λ k d l. h (suc k) d (omega arith)))
+above : (o : List ℕ) (m : Member) (ms : List Member) → ((k : ℕ) (d : Member) → k < length ms → m.rank ≤ (slice_index_or ms k d).rank) → AllByRecursion (λ q. m.rank ≤ q.rank) (map (placed_of o) ms)
+above o m [] h = tt
+above o m (n ∷ ms) h = (h 0 n (omega arith), above o m ms (λ k d l. h (suc k) d (omega arith)))
 
-pub ranks_from : (ms : List Member) → IsNonDecreasingBy (λ m. m.rank) ms → RanksAscend (map placed_of ms)
-ranks_from [] h = tt
-ranks_from (m ∷ ms) h = (
-  above m ms (λ k d l. h 0 (suc k) d (omega arith) (omega arith)),
-  ranks_from ms (λ i j d l r. h (suc i) (suc j) d (omega arith) (omega arith)),
+pub ranks_from : (o : List ℕ) (ms : List Member) → IsNonDecreasingBy (λ m. m.rank) ms → RanksAscend (map (placed_of o) ms)
+ranks_from o [] h = tt
+ranks_from o (m ∷ ms) h = (
+  above o m ms (λ k d l. h 0 (suc k) d (omega arith) (omega arith)),
+  ranks_from o ms (λ i j d l r. h (suc i) (suc j) d (omega arith) (omega arith)),
 )

@@ -6,10 +6,10 @@ use Rattle.writing_table.specs.declared.table.Member.{Member}
 use Rattle.writing_table.specs.Rows.{told, numbers_in, placed_from, places_by}
 
 -- the numbers of the members that are left
-pub next_numbers : (ms : List Member) (i : ℕ) (m : Member) → i < length ms → m ≡ get_or ms i m → numbers_in (drop i ms) ≡ m.number ∷ numbers_in (drop (i + 1) ms)
-next_numbers [] i m l e = absurd (omega (arith, l))
-next_numbers (x ∷ ms) zero m l e = ap (λ q. q.number ∷ numbers_in ms) (sym e) ∙ ap (λ q. m.number ∷ numbers_in (drop q (x ∷ ms))) (let z : 1 ≡ zero + 1 = omega arith in z)
-next_numbers (x ∷ ms) (suc i) m l e = next_numbers ms i m (omega (arith, l)) e ∙ ap (λ q. m.number ∷ numbers_in (drop q (x ∷ ms))) (let z : suc (i + 1) ≡ suc i + 1 = omega arith in z)
+pub next_numbers : (ms : List Member) (i : ℕ) (m d : Member) → i < length ms → m ≡ get_or ms i d → numbers_in (drop i ms) ≡ m.number ∷ numbers_in (drop (i + 1) ms)
+next_numbers [] i m d l e = absurd (omega (arith, l))
+next_numbers (x ∷ ms) zero m d l e = ap (λ q. q.number ∷ numbers_in ms) (sym e) ∙ ap (λ q. m.number ∷ numbers_in (drop q (x ∷ ms))) (let z : 1 ≡ zero + 1 = omega arith in z)
+next_numbers (x ∷ ms) (suc i) m d l e = next_numbers ms i m d (omega (arith, l)) e ∙ ap (λ q. m.number ∷ numbers_in (drop q (x ∷ ms))) (let z : suc (i + 1) ≡ suc i + 1 = omega arith in z)
 
 pub none_left : (ms : List Member) (i : ℕ) → length ms ≤ i → numbers_in (drop i ms) ≡ []
 none_left [] zero l = refl
@@ -21,7 +21,7 @@ pub next_inverse : (ms : List Member) (i : ℕ) (m : Member) (old news all : Lis
     → old ++ map told (numbers_in (drop i ms)) ≡ all → news ++ map told (numbers_in (drop (i + 1) ms)) ≡ all
 next_inverse ms i m old news all l e f h =
     ap (λ q. q ++ map told (numbers_in (drop (i + 1) ms))) f ∙ append_assoc old (told m.number ∷ []) (map told (numbers_in (drop (i + 1) ms)))
-    ∙ ap (λ q. old ++ map told q) (sym (next_numbers ms i m l e)) ∙ h
+    ∙ ap (λ q. old ++ map told q) (sym (next_numbers ms i m m l e)) ∙ h
 
 pub whole_inverse : (ms : List Member) (i : ℕ) (old all : List ℕ) → length ms ≤ i → old ++ map told (numbers_in (drop i ms)) ≡ all → old ≡ all
 whole_inverse ms i old all l h = sym (append-nil old) ∙ ap (λ q. old ++ map told q) (sym (none_left ms i l)) ∙ h
@@ -43,13 +43,13 @@ first_places ms n places e f = record {
   rest = refl;
 }
 
-pub next_places : (ms : List Member) (i : ℕ) (m : Member) (old news : List ℕ) → i < length ms → m ≡ get_or ms i m → news ≡ set old m.number (told i) → Filled ms i old → Filled ms (i + 1) news
-next_places ms i m old news l e f h =
+pub next_places : (ms : List Member) (i : ℕ) (m d : Member) (old news : List ℕ) → i < length ms → m ≡ get_or ms i d → news ≡ set old m.number (told i) → Filled ms i old → Filled ms (i + 1) news
+next_places ms i m d old news l e f h =
     let z : suc i ≡ i + 1 = omega arith in
     record {
       exact = set h.exact m.number i;
       are = f ∙ ap (λ q. set q m.number (told i)) h.are ∙ sym (map-set told h.exact m.number i);
-      rest = ap (λ q. placed_from (numbers_in (drop (i + 1) ms)) q (set h.exact m.number i)) (sym z) ∙ ap (λ q. placed_from q i h.exact) (sym (next_numbers ms i m l e)) ∙ h.rest;
+      rest = ap (λ q. placed_from (numbers_in (drop (i + 1) ms)) q (set h.exact m.number i)) (sym z) ∙ ap (λ q. placed_from q i h.exact) (sym (next_numbers ms i m d l e)) ∙ h.rest;
     }
 
 pub whole_places : (ms : List Member) (i : ℕ) (places : List ℕ) → length ms ≤ i → Filled ms i places → places ≡ map told (places_by (numbers_in ms))

@@ -45,7 +45,3 @@ numbers_told g n h k i s m first whole e f w c =
     let b : k - (h - 1) ≡ length (shortest_size n) = (let z = header_length g c n in let y = whole c in omega (arith, a, z, y)) in
     ap (λ q. numbers q s m) (e ∙ ap told a) ∙ ap (λ q. numbers (told (length (identifier g.class g.number c))) q m) (f ∙ ap told b)
     ∙ ap (λ q. numbers (told (length (identifier g.class g.number c))) (told (length (shortest_size n))) q) w
-
--- octets and members are counted to one past the most
-pub counted_more : (b h n s t l : ℕ) → t ≡ told (b + s) → s ≡ told (h + n) → l ≡ h → t ≡ told (b + (l + n))
-counted_more b h n s t l e f g = omega (arith, e, f, g)

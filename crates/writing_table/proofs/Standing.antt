@@ -128,8 +128,8 @@ apart_of is h i j x l e f =
     let b = slice_get_within is j x f in
     eqb-false _ _ (apart_from_distinct eqb is i j x h l b) (get_or_from_slice_get is i x x e ∙ sym (get_or_from_slice_get is j x x f))
 
-pub standing : (ms sorted : List Member) → Numbered 0 ms → IsPermutation ms sorted → StandAt (places_by (numbers_in sorted)) (numbers_in sorted) (encodings_of (map placed_of ms)) (encodings_of (map placed_of sorted))
-standing ms sorted n same =
+pub standing : (o : List ℕ) (ms sorted : List Member) → Numbered 0 ms → IsPermutation ms sorted → StandAt (places_by (numbers_in sorted)) (numbers_in sorted) (encodings_of (map (placed_of o) ms)) (encodings_of (map (placed_of o) sorted))
+standing o ms sorted n same =
     let q = numbers_in sorted in
     let p = places_by q in
     let home : (j : ℕ) (m : Member) → slice_get sorted j ≡ Some m → slice_get ms m.number ≡ Some m =
@@ -142,8 +142,8 @@ standing ms sorted n same =
     (All-from_recursion (λ m. (j : ℕ) × (slice_get sorted j ≡ Some m)) sorted (all_at (λ m. (j : ℕ) × (slice_get sorted j ≡ Some m)) sorted (λ i m e. (i, e)))))) in
     let many : length sorted ≡ length ms = length_permutation ms sorted same in
     let sizes : length q ≡ length sorted = length-map sorted (λ m. m.number) in
-    let xs_many : length (encodings_of (map placed_of ms)) ≡ length ms = length-map (map placed_of ms) (λ p. p.octets) ∙ length-map ms placed_of in
-    let zs_many : length (encodings_of (map placed_of sorted)) ≡ length sorted = length-map (map placed_of sorted) (λ p. p.octets) ∙ length-map sorted placed_of in
+    let xs_many : length (encodings_of (map (placed_of o) ms)) ≡ length ms = length-map (map (placed_of o) ms) (λ p. p.octets) ∙ length-map ms (placed_of o) in
+    let zs_many : length (encodings_of (map (placed_of o) sorted)) ≡ length sorted = length-map (map (placed_of o) sorted) (λ p. p.octets) ∙ length-map sorted (placed_of o) in
     let p_many : length p ≡ length q = length_placed q 0 (replicate (length q) 0) ∙ length-replicate (length q) 0 in
     let apart = apart_of q (IsDistinct-IsPermutation eqb eqb_turned (numbers_in ms) q (IsPermutation-map (λ m. m.number) ms sorted same) (distinct ms n)) in
     let back : (i j : ℕ) → slice_get q j ≡ Some i → slice_get p i ≡ Some j = λ i j e.
@@ -165,6 +165,6 @@ standing ms sorted n same =
       each = λ i j e.
           let m = map_from (λ m. m.number) sorted j i (there i j e) in
           let h = ap (slice_get ms) (sym m.2) ∙ home j m.0 m.1 in
-          map_to (λ p. p.octets) (map placed_of sorted) j (placed_of m.0) (map_to placed_of sorted j m.0 m.1)
-          ∙ sym (map_to (λ p. p.octets) (map placed_of ms) i (placed_of m.0) (map_to placed_of ms i m.0 h));
+          map_to (λ p. p.octets) (map (placed_of o) sorted) j (placed_of o m.0) (map_to (placed_of o) sorted j m.0 m.1)
+          ∙ sym (map_to (λ p. p.octets) (map (placed_of o) ms) i (placed_of o m.0) (map_to (placed_of o) ms i m.0 h));
     }

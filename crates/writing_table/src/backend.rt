@@ -9,10 +9,9 @@ use asn_base::value::Value;
 use codec_code::Head;
 use codec_machine::{Backend, RunFault};
 use encodings::LeafKind;
-use leaf_contents::law::one_contents;
 use std::alloc::AllocError;
 
-impl<'a> Backend<'a> for Table<'a> {
+impl<'a> Backend<'a> for Table {
     ghost use Rattle.writing_table.specs.Tables.{Runs, state_of};
 
     ghost adds = { λ a es b. Runs es (state_of a) (state_of b) };
@@ -28,7 +27,6 @@ impl<'a> Backend<'a> for Table<'a> {
     }
 
     fn whole(&mut self, head: Head, kind: LeafKind, value: &'a Value) -> Result<(), RunFault> {
-        one_contents();
         match add_whole(self, head, kind, value) {
             Ok(()) => Ok(()),
             Err(fault) => Err(fault),

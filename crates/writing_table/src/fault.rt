@@ -1,11 +1,11 @@
-//! Why a value was not measured.
+//! Why a value was not encoded.
 
 use thiserror::Error;
 
-/// Why a value was not measured. `Memory`: an allocation failed. `NotOfType`: the value isn't one of the type.
+/// Why a value was not encoded. `Memory`: an allocation failed. `NotOfType`: the value isn't one of the type.
 /// `TooLong`: its encoding has more than 16,777,216 octets.
 #[derive(Clone, Copy, Debug, PartialEq, Eq, Error)]
-pub enum MeasureFault {
+pub enum EncodeFault {
     #[error("1 Memory")]
     Memory,
     #[error("70 NotOfType")]

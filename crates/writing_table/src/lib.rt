@@ -1,17 +1,19 @@
-//! The parts of a value's encoding by the distinguished rules (X.690, 10 and 11), as a table in the order of encoding.
+//! The encoding of a value by the distinguished rules (X.690, 10 and 11), written once into one list of octets, and the
+//! rows of its account.
 #![tactic(auto)]
 
 mod backend;
+mod closing;
+mod encoding;
 mod fault;
+mod header;
 pub mod law;
-mod measurement;
 mod places;
 mod rows;
-mod scratch;
 mod sort;
+mod spans;
 mod steps;
 mod table;
 
-pub use der_parts::Part;
-pub use fault::MeasureFault;
-pub use measurement::{Measured, measure};
+pub use encoding::{Encoded, encode};
+pub use fault::EncodeFault;

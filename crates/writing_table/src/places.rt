@@ -29,7 +29,7 @@ impl Arrangement {
 }
 
 /// The numbers of the members, in the order of their places.
-fn inverse_of<'a>(alloc: Global, members: &[Member<'a>]) -> Result<Vec<u32>, AllocError>
+fn inverse_of(alloc: Global, members: &[Member]) -> Result<Vec<u32>, AllocError>
     ensures { IfOk result (λ q. q.items ≡ map told (numbers_in members.now)) }
 {
     let mut inverse = Vec::new(alloc);
@@ -49,7 +49,7 @@ fn put_place(places: &mut Vec<u32>, number: usize, place: u32)
 }
 
 /// The place of each member, by its number.
-fn places_of<'a>(alloc: Global, members: &[Member<'a>]) -> Result<Vec<u32>, AllocError>
+fn places_of(alloc: Global, members: &[Member]) -> Result<Vec<u32>, AllocError>
     ensures { IfOk result (λ p. p.items ≡ map told (places_by (numbers_in members.now))) }
 {
     let mut places = Vec::from_elem(alloc, 0, members.len())?;
@@ -60,10 +60,7 @@ fn places_of<'a>(alloc: Global, members: &[Member<'a>]) -> Result<Vec<u32>, Allo
 }
 
 /// The arrangement of members that are in the order of their places.
-pub(crate) fn arrangement_of<'a>(
-    alloc: Global,
-    members: &[Member<'a>],
-) -> Result<Arrangement, AllocError>
+pub(crate) fn arrangement_of(alloc: Global, members: &[Member]) -> Result<Arrangement, AllocError>
     ensures places { IfOk result (λ r. r.places.items ≡ map told (places_by (numbers_in members.now))) }
     ensures inverse { IfOk result (λ r. r.inverse.items ≡ map told (numbers_in members.now)) }
 {

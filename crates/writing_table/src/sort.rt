@@ -1,27 +1,27 @@
 //! The order of the members of a SET OF (X.690, 11.6) and of the components of a SET (10.3).
 
-ghost use Rattle.std.specs.Prelude.{◌≡◌, OnOk, slice_index};
+ghost use Rattle.std.specs.Prelude.{◌≡◌, List, OnOk, slice_index, ℕ};
 ghost use Rattle.codec_code.specs.Events.{by_octets, by_rank};
 ghost use Rattle.writing_table.specs.Octets.{order};
 ghost use Rattle.writing_table.specs.Tables.{Sorted};
 
-use crate::scratch::octets_in;
+use crate::spans::octets_of;
 use crate::table::Member;
 use std::alloc::AllocError;
 use std::cmp::Ordering;
 
-/// Sorts members of a SET OF by their octets, where the shorter encoding is filled with zeros (X.690, 11.6). Members
-/// with equal octets stay in their order. `AllocError` only if an allocation fails.
-pub(crate) fn sort_by_octets<'a>(members: &mut Vec<Member<'a>>) -> Result<(), AllocError>
-    ensures { OnOk result (Sorted by_octets members.old.items members.new.items) }
+/// Sorts members of a SET OF by their octets in the list, where the shorter encoding is filled with zeros (X.690,
+/// 11.6). Members with equal octets stay in their order. `AllocError` only if an allocation fails.
+pub(crate) fn sort_by_octets(octets: &[u8], members: &mut Vec<Member>) -> Result<(), AllocError>
+    ensures { OnOk result (Sorted by_octets octets.now members.old.items members.new.items) }
 {
-    members.sort_by(|a, b| compare(octets_in(&a.kept), octets_in(&b.kept)))?;
+    members.sort_by(|a, b| compare(octets_of(octets, a), octets_of(octets, b)))?;
     Ok(())
 }
 
 /// Sorts the components of a SET by their ranks (X.690, 10.3). `AllocError` only if an allocation fails.
-pub(crate) fn sort_by_rank<'a>(members: &mut Vec<Member<'a>>) -> Result<(), AllocError>
-    ensures { OnOk result (Sorted by_rank members.old.items members.new.items) }
+pub(crate) fn sort_by_rank(members: &mut Vec<Member>) -> Result<(), AllocError>
+    ensures { (o : List ℕ) → OnOk result (Sorted by_rank o members.old.items members.new.items) }
 {
     members.sort_by_key(|a| a.rank)?;
     Ok(())

@@ -3,74 +3,66 @@
 ghost use Rattle.std.specs.Prelude.{◌≡◌, []};
 
 use codec_code::Head;
-use der_parts::{Part, Small};
 use octet_account::row::Row;
 use std::alloc::Global;
 
-/// An open header: its place in the table and that of its row, and how many octets and members are before it within the
-/// header around it.
+/// An open header: the place of the octet that is held open for its length, the place of its row, and how many members
+/// are before it within the header around it.
 #[derive(Clone, Copy)]
 pub(crate) struct Open {
     pub place: usize,
     pub row: usize,
     pub head: Head,
-    pub before: usize,
     pub members_before: usize,
 }
 
-/// The octets and parts of a member: one small part, or octets and any parts.
-#[derive(Drop)]
-pub(crate) enum Kept<'a> {
-    Few(Small),
-    Many(Vec<u8>, Vec<Part<'a>>),
-}
-
-/// A member of a SET OF, or a component of a SET with its rank. It has its number among the encoded ones, its parts,
-/// and its octets, by which members are compared.
-#[derive(Drop)]
-pub(crate) struct Member<'a> {
+/// A member of a SET OF, or a component of a SET with its rank. It has its number among the encoded ones, and the
+/// places in the list of octets at which it starts and ends.
+#[derive(Clone, Copy)]
+pub(crate) struct Member {
     pub rank: usize,
     pub number: usize,
-    pub kept: Kept<'a>,
+    pub start: usize,
+    pub end: usize,
 }
 
-/// An open SET or SET OF: its members so far, and the parts before them.
+/// An open SET or SET OF: its members so far, where the first one starts, and where the next one starts.
 #[derive(Drop)]
-pub(crate) struct Group<'a> {
-    pub before: Vec<Part<'a>>,
-    pub members: Vec<Member<'a>>,
+pub(crate) struct Group {
+    pub start: usize,
+    pub next: usize,
+    pub members: Vec<Member>,
 }
 
-/// The parts and rows so far, and the open headers, SETs and SET OFs. `count` is how many octets the parts within the
-/// innermost open header have, and `members` how many members that header has. For both, 16,777,217 means that number
-/// or any greater one.
+/// The octets and rows so far, and the open headers, SETs and SET OFs. `members` is how many members the innermost open
+/// header has, where 16,777,217 means that number or any greater one.
 #[derive(Drop)]
-pub struct Table<'a> {
+pub struct Table {
     pub(crate) alloc: Global,
-    pub(crate) parts: Vec<Part<'a>>,
+    pub(crate) octets: Vec<u8>,
     pub(crate) opened: Vec<Open>,
-    pub(crate) groups: Vec<Group<'a>>,
-    pub(crate) count: usize,
+    pub(crate) groups: Vec<Group>,
     pub(crate) rows: Vec<Row>,
     pub(crate) members: usize,
 }
 
-impl<'a> Table<'a> {
-    /// An empty table, with room for this number of rows and of parts if there is memory for them.
+/// How many octets there is room for at first, for each row.
+const OCTETS_A_ROW: usize = 4;
+
+impl Table {
+    /// An empty table, with room for this number of rows and for a few octets each if there is memory for them.
     pub(crate) fn new(alloc: Global, rows: usize) -> Self
-        ensures parts { result.parts.items ≡ [] }
+        ensures octets { result.octets.items ≡ [] }
         ensures opened { result.opened.items ≡ [] }
         ensures groups { result.groups.items ≡ [] }
-        ensures count { result.count ≡ 0 }
         ensures rows { result.rows.items ≡ [] }
         ensures members { result.members ≡ 0 }
     {
         Table {
             alloc,
-            parts: with_room(alloc, rows),
+            octets: with_room(alloc, rows.saturating_mul(OCTETS_A_ROW)),
             opened: Vec::new(alloc),
             groups: Vec::new(alloc),
-            count: 0,
             rows: with_room(alloc, rows),
             members: 0,
         }
@@ -78,7 +70,7 @@ impl<'a> Table<'a> {
 }
 
 /// An empty list, with room for this number of elements if there is memory for them.
-fn with_room<T: Drop>(alloc: Global, room: usize) -> Vec<T>
+pub(crate) fn with_room<T: Drop>(alloc: Global, room: usize) -> Vec<T>
     ensures { result.items ≡ [] }
 {
     match Vec::with_capacity(alloc, room) {

@@ -1,9 +1,14 @@
-use Rattle.std.proofs.Common.{rules, ◌<◌, length, set, sym, ap, ◌∙◌}
+use Rattle.std.proofs.Common.{rules, ◌<◌, length, set, refl, ap, ◌∙◌, slice_index_or}
+use Rattle.writing_table.specs.declared.table.Member.{Member}
 use Rattle.writing_table.proofs.Placing.{next_places}
 use Rattle.writing_table.proofs.places.places_of.Goals as goal
 
 pub loop-place-preserved : goal.loop-place-preserved
 loop-place-preserved c =
-    let l : c.loop-place.place < length c.args.members.now = (let n = c.loop-place-test.true in search rules) in
-    next_places c.args.members.now c.loop-place.place c.index-members-place.result c.loop-place.places.items c.put_place.new.places.items
-    l c.index-members-place.is (c.put_place.ensures ∙ ap (λ q. set c.loop-place.places.items q.number c.small.result) (sym c.index-members-place.is) ∙ ap (λ q. set c.loop-place.places.items c.index-members-place.result.number q) c.small.ensures) c.loop-place.invariant
+    let ms = c.args.members.now in
+    let i = c.loop-place.place in
+    let old = c.loop-place.places.items in
+    let none : Member = record { rank = 0; number = 0; start = 0; end = 0 } in
+    let m = slice_index_or ms i none in
+    let l : i < length ms = (let n = c.loop-place-test.true in search rules) in
+    next_places ms i m none old c.put_place.new.places.items l refl (c.put_place.ensures ∙ ap (λ q. set old m.number q) c.small.ensures) c.loop-place.invariant

@@ -4,7 +4,7 @@ use Rattle.writing_table.proofs.Ordered.{ranks_from}
 use Rattle.writing_table.proofs.sort.sort_by_rank.Goals as goal
 
 pub returns : goal.returns
-returns c = record {
+returns c = λ o. record {
   same = c.sort_by_key.ensures.permutation;
-  in_order = ranks_from c.sort_by_key.new.self.items (IsNonDecreasingBy-from_sort_by_key (λ m. m.rank) c.sort_by_key.new.self.items c.in_ok-sort_by_key.ensures.sorted (λ a r f k. search rules));
+  in_order = ranks_from o c.sort_by_key.new.self.items (IsNonDecreasingBy-from_sort_by_key (λ m. m.rank) c.sort_by_key.new.self.items c.in_ok-sort_by_key.ensures.sorted (λ a r f k. search rules));
 }

@@ -1,18 +1,23 @@
-use Rattle.std.proofs.Common.{inr, map, refl, ap, ◌∙◌}
+use Rattle.std.proofs.Common.{inr, map, ◌≡◌, ◌++◌, take, drop, refl, ap, ◌∙◌}
 use Rattle.writing_table.specs.Rows.{told, numbers_in, places_by}
+use Rattle.writing_table.specs.Tables.{spans}
 use Rattle.writing_table.proofs.steps.end_set.Goals as goal
 
 pub returns-in_ok-put_members-in-Some : goal.returns-in_ok-put_members-in-Some
-returns-in_ok-put_members-in-Some c = inr (record {
-  group = c.in-Some.group;
-  sorted = c.sort_by_rank.new.members.items;
-  from = c.in-Some.ensures.items;
-  in_order = c.in_ok-sort_by_rank-in-Some.ensures;
-  parts_are = c.in_ok-put_members-in-Some.ensures;
-  opened_are = refl;
-  count_is = refl;
-  rows_are = refl;
-  members_are = refl;
-  places_are = c.in_ok-arrangement-in-Some.ensures.places ∙ ap (λ q. map told (places_by (numbers_in q))) c.as_slice.ensures.value;
-  inverse_are = c.in_ok-arrangement-in-Some.ensures.inverse ∙ ap (λ q. map told (numbers_in q)) c.as_slice.ensures.value;
-})
+returns-in_ok-put_members-in-Some c =
+    let o = c.args.table.now.octets.items in
+    let group = c.in-Some.group in
+    let same = c.as_slice-sorted.ensures.value in
+    let put : c.put_members.new.octets.items ≡ take group.start o ++ (spans o c.as_slice-sorted.result.now ++ drop group.next o) = c.in_ok-put_members-in-Some.ensures in
+    inr (record {
+      group = group;
+      sorted = c.sort_by_rank.new.members.items;
+      from = c.in-Some.ensures.items;
+      in_order = c.in_ok-sort_by_rank-in-Some.ensures o;
+      octets_are = put ∙ ap (λ q. take group.start o ++ (spans o q ++ drop group.next o)) same;
+      opened_are = refl;
+      rows_are = refl;
+      members_are = refl;
+      places_are = c.in_ok-arrangement-in-Some.ensures.places ∙ ap (λ q. map told (places_by (numbers_in q))) same;
+      inverse_are = c.in_ok-arrangement-in-Some.ensures.inverse ∙ ap (λ q. map told (numbers_in q)) same;
+    })

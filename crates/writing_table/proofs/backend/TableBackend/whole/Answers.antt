@@ -7,6 +7,5 @@ returns-in-Ok-clause-ok c =
     let h = c.in-Ok.ensures.adds in (
       h.0,
       h.1,
-      whole_runs c.args.head c.args.kind c.args.value h.0 (state_of c.args.self.now) (state_of c.add_whole.new.table) c.requires
-          c.one_contents.ensures h.1 h.2,
+      whole_runs c.args.head h.0 (state_of c.args.self.now) (state_of c.add_whole.new.table) c.requires h.2,
     )

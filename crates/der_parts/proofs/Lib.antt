@@ -1,4 +1,0 @@
-pub mod Room
-pub mod Sending
-pub mod Spelled
-pub mod Writing

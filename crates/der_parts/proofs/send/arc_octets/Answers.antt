@@ -1,6 +1,0 @@
-use Rattle.std.proofs.Common.{arith, length, ap}
-use Rattle.der_parts.proofs.Room.{most_septets}
-use Rattle.der_parts.proofs.send.arc_octets.Goals as goal
-
-pub push_septets-requires : goal.push_septets-requires
-push_septets-requires c = omega (arith, ap length c.new-out.ensures, most_septets c.args.number c.ranges.number.fits)
