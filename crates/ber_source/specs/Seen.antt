@@ -1,5 +1,5 @@
 -- A cursor in memory, as the state that it represents.
-use Rattle.std.specs.Prelude.{◌+◌, ◌≤◌, ◌++◌, ◌∷◌, [], map, length, List, Option, Some, None, Vec}
+use Rattle.std.specs.Prelude.{◌+◌, ◌≤◌, ◌++◌, ◌∷◌, [], map, length, Bool, true, false, List, Vec}
 use Rattle.std.specs.declared.alloc.Global.{Global}
 use Rattle.std.specs.List.{AllByRecursion}
 use Rattle.asn_base.specs.Types.{Resolved}
@@ -18,13 +18,13 @@ abbrev pub window_of : Window' → Window
 window_of w = record { constructed = is_constructed w.form; octets = w.octets.now; at = w.at; from = w.from }
 
 -- the contents after the innermost open header, if they are kept apart
-abbrev pub kept_apart : Option Window' → List Window'
-kept_apart None = []
-kept_apart (Some w) = w ∷ []
+abbrev pub kept_apart : Bool → Window' → List Window'
+kept_apart true w = w ∷ []
+kept_apart false w = []
 
 -- the contents after each open header, the outermost first
 abbrev pub windows : Outer → List Window'
-windows o = o.list.items ++ kept_apart o.last
+windows o = o.list.items ++ kept_apart o.is_apart o.last
 
 abbrev pub token_of : Token' → Token
 token_of (tokens.Component i) = component i

@@ -6,14 +6,16 @@ ghost use Rattle.std.specs.Prelude.{◌≡◌, ◌++◌, ◌∷◌, [], IfErr, M
 
 use crate::window::Window;
 use decode_faults::ReadFault;
+use octets::Form;
 use std::alloc::Global;
 
-/// The contents after each open header, the outermost first. The last of them is kept apart, since most headers are
-/// closed before another one opens.
+/// The contents after each open header, the outermost first. If `is_apart`, the last of them is kept in `last`, apart
+/// from the list: most headers are closed before another one opens.
 #[derive(Drop)]
 pub struct Outer<'a> {
     pub(crate) list: Vec<Window<'a>>,
-    pub(crate) last: Option<Window<'a>>,
+    pub(crate) last: Window<'a>,
+    pub(crate) is_apart: bool,
 }
 
 #[inline(always)]
@@ -33,7 +35,13 @@ impl<'a> Outer<'a> {
     {
         Outer {
             list: Vec::new(alloc),
-            last: None,
+            last: Window {
+                form: Form::Constructed,
+                octets: &[],
+                at: 0,
+                from: 0,
+            },
+            is_apart: false,
         }
     }
 
@@ -42,9 +50,10 @@ impl<'a> Outer<'a> {
     pub(crate) fn len(&self) -> usize
         ensures { result ≡ length (windows self.now) }
     {
-        match self.last {
-            Some(_) => self.list.len() + 1,
-            None => self.list.len(),
+        if self.is_apart {
+            self.list.len() + 1
+        } else {
+            self.list.len()
         }
     }
 
@@ -55,11 +64,11 @@ impl<'a> Outer<'a> {
         ensures err { IfErr result (λ e. e ≡ Memory) }
         ensures same { OnErr result (windows self.new ≡ windows self.old) }
     {
-        match self.last {
-            Some(last) => push_window(&mut self.list, last)?,
-            None => {}
+        if self.is_apart {
+            push_window(&mut self.list, self.last)?;
         }
-        self.last = Some(one);
+        self.last = one;
+        self.is_apart = true;
         Ok(())
     }
 
@@ -70,12 +79,10 @@ impl<'a> Outer<'a> {
             ((windows self.old ≡ []) × (windows self.new ≡ []))
             (λ w. windows self.old ≡ windows self.new ++ w ∷ []) }
     {
-        match self.last {
-            Some(last) => {
-                self.last = None;
-                Some(last)
-            }
-            None => self.list.pop(),
+        if self.is_apart {
+            self.is_apart = false;
+            return Some(self.last);
         }
+        self.list.pop()
     }
 }
