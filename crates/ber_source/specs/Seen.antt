@@ -1,5 +1,5 @@
 -- A cursor in memory, as the state that it represents.
-use Rattle.std.specs.Prelude.{◌+◌, ◌≤◌, map, length, List, Vec}
+use Rattle.std.specs.Prelude.{◌+◌, ◌≤◌, ◌++◌, ◌∷◌, [], map, length, Bool, true, false, List, Vec}
 use Rattle.std.specs.declared.alloc.Global.{Global}
 use Rattle.std.specs.List.{AllByRecursion}
 use Rattle.asn_base.specs.Types.{Resolved}
@@ -10,11 +10,21 @@ use Rattle.ber_source.specs.declared.token.Token.TheVariants as tokens
 use Rattle.ber_source.specs.declared.token.Mark.{Mark}
 use Rattle.ber_source.specs.declared.token.Mark.TheVariants as marks
 use Rattle.ber_source.specs.declared.token.Held.{Held}
+use Rattle.ber_source.specs.declared.outer.Outer.{Outer}
 use Rattle.ber_source.specs.declared.place.Place.{Place}
 use Rattle.octet_answers.specs.States.{Window, Token, component, chosen, begun, ended, held, passed, State}
 
 abbrev pub window_of : Window' → Window
 window_of w = record { constructed = is_constructed w.form; octets = w.octets.now; at = w.at; from = w.from }
+
+-- the contents after the innermost open header, if they are kept apart
+abbrev pub kept_apart : Bool → Window' → List Window'
+kept_apart true w = w ∷ []
+kept_apart false w = []
+
+-- the contents after each open header, the outermost first
+abbrev pub windows : Outer → List Window'
+windows o = o.list.items ++ kept_apart o.is_apart o.last
 
 abbrev pub token_of : Token' → Token
 token_of (tokens.Component i) = component i
@@ -43,7 +53,7 @@ abbrev pub state_of : {T : Type 0} → (T → List Token) → Place T → State
 state_of told p = record {
   schema = p.code.now;
   here = window_of p.here;
-  outer = map window_of p.outer.items;
+  outer = map window_of (windows p.outer);
   values = p.values.items;
   marks = p.marks.items;
   told = told p.told;
@@ -57,5 +67,5 @@ Fits w = w.at + length w.octets ≤ 16777216
 -- all open contents are within a message, and the receiver takes values of the schema
 pub record IsWithin {T : Type 0} (suits : T → List Resolved → Type 0) (p : Place T) : Type 0 where
   pub here : Fits (window_of p.here)
-  pub outer : AllByRecursion Fits (map window_of p.outer.items)
+  pub outer : AllByRecursion Fits (map window_of (windows p.outer))
   pub suited : suits p.told p.code.now

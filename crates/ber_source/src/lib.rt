@@ -6,6 +6,7 @@
 pub mod asking;
 mod cursor;
 pub mod moves;
+mod outer;
 mod passing;
 pub mod place;
 mod teller;
@@ -13,6 +14,7 @@ mod token;
 mod window;
 
 pub use cursor::Cursor;
+pub use outer::Outer;
 pub use teller::Teller;
 pub use token::{Held, Holding, Mark, Token};
 pub use window::Window;

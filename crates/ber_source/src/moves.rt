@@ -13,7 +13,7 @@ ghost use Rattle.octet_answers.specs.Units.{UnitAt};
 ghost use Rattle.octets.specs.Forms.{is_constructed};
 ghost use Rattle.segmented_strings.specs.declared.fault.SegmentsFault.TheVariants.{At, Memory as NoMemory};
 ghost use Rattle.segmented_strings.specs.declared.fault.Why.{Why as Why'};
-ghost use Rattle.std.specs.Prelude.{◌≡◌, ◌++◌, ◌∷◌, ◌<◌, ◌≤◌, [], IfErr, IfOk, OnErr, OnOk, drop, length, ℕ};
+ghost use Rattle.std.specs.Prelude.{◌≡◌, ◌++◌, ◌∷◌, ◌<◌, ◌≤◌, [], IfErr, IfOk, OnOk, drop, length, ℕ};
 
 use crate::place::Place;
 use crate::teller::Teller;
@@ -95,16 +95,6 @@ fn told_segments(fault: SegmentsFault) -> Bad
 fn push_value(list: &mut Vec<TypeId>, one: TypeId) -> Result<(), ReadFault>
     ensures ok { OnOk result (list.new.items ≡ list.old.items ++ one ∷ []) }
     ensures err { IfErr result (λ e. e ≡ Memory) }
-{
-    list.push(one)?;
-    Ok(())
-}
-
-#[inline(always)]
-fn push_window<'a>(list: &mut Vec<Window<'a>>, one: Window<'a>) -> Result<(), ReadFault>
-    ensures ok { OnOk result (list.new.items ≡ list.old.items ++ one.entry ∷ []) }
-    ensures err { IfErr result (λ e. e ≡ Memory) }
-    ensures same { OnErr result (list.new.items ≡ list.old.items) }
 {
     list.push(one)?;
     Ok(())
@@ -201,15 +191,12 @@ fn enter<'c, 'a, T: Teller<'a>>(
     ensures err { IfErr result (λ e. e ≡ Memory) }
 {
     let at = place.here.at + unit.count;
-    push_window(
-        &mut place.outer,
-        Window {
-            form: place.here.form,
-            octets: unit.rest,
-            at: at + unit.contents.len(),
-            from: place.here.from,
-        },
-    )?;
+    place.outer.push(Window {
+        form: place.here.form,
+        octets: unit.rest,
+        at: at + unit.contents.len(),
+        from: place.here.from,
+    })?;
     place.here = Window {
         form: unit.form,
         octets: unit.contents,

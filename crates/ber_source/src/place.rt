@@ -4,6 +4,7 @@ ghost use Rattle.ber_source.specs.Seen.{IsWithin, state_of};
 ghost use Rattle.octet_answers.specs.States.{front};
 ghost use Rattle.std.specs.Prelude.{◌≡◌, ◌≤◌, ◌↔◌, [], IsTrue, length};
 
+use crate::outer::Outer;
 use crate::teller::Teller;
 use crate::window::Window;
 use asn_base::schema::TypeId;
@@ -19,7 +20,7 @@ pub struct Place<'c, 'a, T> {
     pub alloc: Global,
     pub code: &'c Code,
     pub here: Window<'a>,
-    pub outer: Vec<Window<'a>>,
+    pub outer: Outer<'a>,
     pub values: Vec<TypeId>,
     pub marks: Vec<usize>,
     pub told: T,
@@ -50,7 +51,7 @@ pub fn at_front<'c, 'a, T: Teller<'a>>(
             at: 0,
             from: 0,
         },
-        outer: Vec::new(alloc),
+        outer: Outer::new(alloc),
         values: Vec::new(alloc),
         marks: Vec::new(alloc),
         told,

@@ -4,10 +4,10 @@ ghost use Rattle.asn_base.specs.Typed.{IsObjectIdentifier, IsRelativeOid};
 ghost use Rattle.encodings.specs.Contents.{joined};
 ghost use Rattle.encodings.specs.Header.{septets};
 ghost use Rattle.std.specs.List.{AllByRecursion};
-ghost use Rattle.std.specs.Prelude.{◌≡◌, ◌+◌, ◌*◌, ◌++◌, ◌^◌, ◌<◌, ◌≤◌, IfOk, List, OnOk, flat_map, ℕ};
+ghost use Rattle.std.specs.Prelude.{◌≡◌, ◌+◌, ◌*◌, ◌++◌, ◌^◌, ◌<◌, ◌≤◌, [], List, OnOk, flat_map, ℕ};
 
 use leaf_readings::read_arc;
-use std::alloc::{AllocError, Global};
+use std::alloc::AllocError;
 
 /// Appends numbers, each below 2^64.
 fn push_arcs(arcs: &mut Vec<u64>, octets: &[u8]) -> Result<(), AllocError>
@@ -31,38 +31,48 @@ fn push_arcs(arcs: &mut Vec<u64>, octets: &[u8]) -> Result<(), AllocError>
     Ok(())
 }
 
-/// The numbers of a RELATIVE-OID with these contents octets.
-pub(crate) fn relative_arcs(alloc: Global, octets: &[u8]) -> Result<Vec<u64>, AllocError>
+/// Empties a list, which then has room for so many numbers.
+fn empty(arcs: &mut Vec<u64>, room: usize) -> Result<(), AllocError>
+    ensures { OnOk result (arcs.new.items ≡ []) }
+{
+    arcs.clear();
+    arcs.reserve(room)?;
+    Ok(())
+}
+
+/// Makes the list that of the numbers of a RELATIVE-OID with these contents octets.
+pub(crate) fn relative_arcs(arcs: &mut Vec<u64>, octets: &[u8]) -> Result<(), AllocError>
     requires { (ns : List ℕ) × IsRelativeOid ns × (octets.now ≡ flat_map septets ns) }
     ensures { (ns : List ℕ)
         → IsRelativeOid ns
         → octets.now ≡ flat_map septets ns
-        → IfOk result (λ v. v.items ≡ ns) }
+        → OnOk result (arcs.new.items ≡ ns) }
 {
-    let mut arcs = Vec::with_capacity(alloc, octets.len())?;
-    push_arcs(&mut arcs, octets)?;
-    Ok(arcs)
+    empty(arcs, octets.len())?;
+    push_arcs(arcs, octets)?;
+    Ok(())
 }
 
-/// The numbers of an OBJECT IDENTIFIER with these contents octets, whose first two are one number there.
-pub(crate) fn object_arcs(alloc: Global, octets: &[u8]) -> Result<Vec<u64>, AllocError>
+/// Makes the list that of the numbers of an OBJECT IDENTIFIER with these contents octets, whose first two are one number
+/// there.
+pub(crate) fn object_arcs(arcs: &mut Vec<u64>, octets: &[u8]) -> Result<(), AllocError>
     requires { (ns : List ℕ) × IsObjectIdentifier ns × (octets.now ≡ flat_map septets (joined ns)) }
     ensures { (ns : List ℕ)
         → IsObjectIdentifier ns
         → octets.now ≡ flat_map septets (joined ns)
-        → IfOk result (λ v. v.items ≡ ns) }
+        → OnOk result (arcs.new.items ≡ ns) }
 {
-    let mut arcs = Vec::with_capacity(alloc, octets.len().saturating_add(1))?;
+    empty(arcs, octets.len().saturating_add(1))?;
     match read_arc(octets) {
         Some((Some(number), behind)) => {
             let (first, second) = parted(number);
             arcs.push(first)?;
             arcs.push(second)?;
-            push_arcs(&mut arcs, behind)?;
-            Ok(arcs)
+            push_arcs(arcs, behind)?;
+            Ok(())
         }
-        Some((None, _)) => Ok(arcs),
-        None => Ok(arcs),
+        Some((None, _)) => Ok(()),
+        None => Ok(()),
     }
 }
 

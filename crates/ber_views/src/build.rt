@@ -18,12 +18,13 @@ use std::alloc::{AllocError, Global};
 use views::Builder;
 
 /// A view so far. It has the number of the component that the next value is, and the flag whether the last token had
-/// contents octets.
+/// contents octets. `arcs` is room for the numbers of an object identifier.
 #[derive(Drop)]
 pub struct Build<'a> {
     pub builder: Builder<'a>,
     pub number: u32,
     pub held: bool,
+    pub arcs: Vec<u64>,
 }
 
 /// Begins a value of the type.
@@ -102,7 +103,6 @@ fn number_of(place: usize) -> u32
 /// Adds a value that holds no others.
 #[inline(always)]
 pub(crate) fn hold<'a>(
-    alloc: Global,
     code: &Code,
     build: &mut Build<'a>,
     held: Held<'a>,
@@ -113,7 +113,13 @@ pub(crate) fn hold<'a>(
         → IsBefore code.now m w (held_of held.entry ∷ ts) build.old
         → OnOk result (IsBefore code.now m w ts build.new) }
 {
-    push_held(alloc, &mut build.builder, build.number, held, holding)?;
+    push_held(
+        &mut build.arcs,
+        &mut build.builder,
+        build.number,
+        held,
+        holding,
+    )?;
     build.number = 0;
     build.held = true;
     Ok(())
@@ -151,5 +157,6 @@ pub(crate) fn nothing<'a>(alloc: Global) -> Build<'a>
         builder: Builder::new(alloc),
         number: 0,
         held: false,
+        arcs: Vec::new(alloc),
     }
 }

@@ -19,13 +19,14 @@ use leaf_readings::Leaf;
 use leaf_readings::law::one_reading;
 use segmented_strings::Joined;
 use segmented_strings::law::one_joining;
-use std::alloc::{AllocError, Global};
+use std::alloc::AllocError;
 use views::Builder;
 
-/// Adds the value of contents octets, as the component with this number.
+/// Adds the value of contents octets, as the component with this number. `arcs` is room for the numbers of an object
+/// identifier.
 #[inline(always)]
 pub(crate) fn push_held<'a>(
-    alloc: Global,
+    arcs: &mut Vec<u64>,
     builder: &mut Builder<'a>,
     number: u32,
     held: Held<'a>,
@@ -42,7 +43,7 @@ pub(crate) fn push_held<'a>(
 {
     one_joining();
     match holding {
-        Holding::Whole(leaf) => push_whole(alloc, builder, number, held, leaf),
+        Holding::Whole(leaf) => push_whole(arcs, builder, number, held, leaf),
         Holding::Joined(joined) => push_joined(builder, number, joined),
     }
 }
@@ -50,7 +51,7 @@ pub(crate) fn push_held<'a>(
 /// Adds the value of primitive contents octets, which were read already.
 #[inline(always)]
 fn push_whole<'a>(
-    alloc: Global,
+    arcs: &mut Vec<u64>,
     builder: &mut Builder<'a>,
     number: u32,
     held: Held<'a>,
@@ -76,11 +77,11 @@ fn push_whole<'a>(
         Leaf::Enum(item) => builder.push_enum(number, item),
         Leaf::Null => builder.push_null(number),
         Leaf::Oid(octets) => {
-            let arcs = object_arcs(alloc, octets)?;
+            object_arcs(arcs, octets)?;
             builder.push_oid(number, arcs.as_slice())
         }
         Leaf::RelativeOid(octets) => {
-            let arcs = relative_arcs(alloc, octets)?;
+            relative_arcs(arcs, octets)?;
             builder.push_relative_oid(number, arcs.as_slice())
         }
     }

@@ -19,7 +19,6 @@ use views::View;
 /// failed, it is of no more use.
 #[derive(Drop)]
 pub struct Telling<'c, 'a> {
-    pub(crate) alloc: Global,
     pub(crate) code: &'c Code,
     pub(crate) build: Build<'a>,
     pub(crate) skipped: Vec<u8>,
@@ -41,7 +40,6 @@ impl<'c, 'a> Telling<'c, 'a> {
         ensures nothing { logged result.log ≡ [] }
     {
         Telling {
-            alloc,
             code,
             build: nothing(alloc),
             skipped: Vec::new(alloc),
@@ -130,13 +128,7 @@ fn add_held<'c, 'a>(
     ensures suits { OnOk result ((s : List Resolved) → IsTelling telling.old s → IsTelling telling.new s) }
     ensures code { telling.new.code.now ≡ telling.old.code.now }
 {
-    hold(
-        telling.alloc,
-        telling.code,
-        &mut telling.build,
-        held,
-        holding,
-    )?;
+    hold(telling.code, &mut telling.build, held, holding)?;
     add(
         &mut telling.log,
         Token::Held {

@@ -1,5 +1,5 @@
 -- Components and alternatives that are found among steps.
-use Rattle.std.proofs.Common.{◌≡◌, ℕ, suc, List, [], ◌∷◌, refl, sym, ap, subst, ◌∙◌}
+use Rattle.std.proofs.Common.{arith, ◌≡◌, ℕ, suc, ◌+◌, List, [], ◌∷◌, refl, sym, ap, subst, ◌∙◌}
 use Rattle.std.specs.Prelude.{Option, Some, None, IfSome}
 use Rattle.asn_base.specs.declared.tag.Tag.{Tag}
 use Rattle.asn_base.specs.declared.schema.TypeId.{TypeId}
@@ -73,6 +73,18 @@ other_call s g p t e n u f h = n (subst (λ q. First s q.index g) (call_same u t
 
 pub chosen_later : (s : List Resolved) (g : Tag) (ss : List Step) (p : Step) (rest : List Step) (i : ℕ) (t : TypeId) → ss ≡ p ∷ rest → NoCall s g p → IsChosen s g rest i t → IsChosen s g ss (suc i) t
 chosen_later s g ss p rest i t e n h = subst (λ q. IsChosen s g q (suc i) t) (sym e) (later n h)
+
+-- the same, counted from a number on
+pub chosen_behind : (s : List Resolved) (g : Tag) (ss : List Step) (p : Step) (rest : List Step) (n : ℕ) (r : Option (ℕ × TypeId))
+    → ss ≡ p ∷ rest
+    → NoCall s g p
+    → IfSome r (λ q. (i : ℕ) × (q.0 ≡ (n + 1) + i) × IsChosen s g rest i q.1)
+    → IfSome r (λ q. (i : ℕ) × (q.0 ≡ n + i) × IsChosen s g ss i q.1)
+chosen_behind s g ss p rest n None e m h = tt
+chosen_behind s g ss p rest n (Some q) e m h =
+    let i = h.0 in
+    let k : (n + 1) + i ≡ n + suc i = omega arith in
+    (suc i, h.1 ∙ k, chosen_later s g ss p rest i q.1 e m h.2)
 
 not_called : (s : List Resolved) (g : Tag) (p : Step) (rest : List Step) → NoCall s g p → ((i : ℕ) (t : TypeId) → IsChosen s g rest i t → ⊥) → (i : ℕ) (t : TypeId) → IsChosen s g (p ∷ rest) i t → ⊥
 not_called s g p rest n m i t (chosen h) = n t refl h

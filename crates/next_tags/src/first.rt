@@ -46,12 +46,28 @@ fn head_of(steps: &[Step]) -> Option<Tag>
     }
 }
 
+/// The tag of the header that the routine of the type begins with, if the type's `Brief` has it.
+#[inline(always)]
+fn first_tag(code: &Code, id: TypeId) -> Option<Tag>
+    ensures { IfSome result (λ g. head_tag (routine_at code.now id.index) ≡ Some g) }
+{
+    match code.brief(id) {
+        Brief::Leaf(head, _) => Some(head.tag),
+        Brief::Components(head, _) => Some(head.tag),
+        Brief::Elements(head) => Some(head.tag),
+        Brief::Any => None,
+    }
+}
+
 /// The outermost tag of the type.
 #[tactic(auto, using(crate::proofs::Firsts::head_outermost))]
 fn outermost(code: &Code, id: TypeId) -> Option<Tag>
     ensures { result ≡ tags_at code.now id.index }
 {
-    head_of(code.steps(id, Coding::Tagged))
+    match first_tag(code, id) {
+        Some(tag) => Some(tag),
+        None => head_of(code.steps(id, Coding::Tagged)),
+    }
 }
 
 /// Whether the tag is the outermost tag of the type.
@@ -122,19 +138,6 @@ fn begins_with(code: &Code, steps: &[Step], tag: Tag) -> bool
     match steps.split_first() {
         Some((step, behind)) => begins_step(code, *step, behind, tag),
         None => false,
-    }
-}
-
-/// The tag of the header that the routine of the type begins with, if the type's `Brief` has it.
-#[inline(always)]
-fn first_tag(code: &Code, id: TypeId) -> Option<Tag>
-    ensures { IfSome result (λ g. head_tag (routine_at code.now id.index) ≡ Some g) }
-{
-    match code.brief(id) {
-        Brief::Leaf(head, _) => Some(head.tag),
-        Brief::Components(head, _) => Some(head.tag),
-        Brief::Elements(head) => Some(head.tag),
-        Brief::Any => None,
     }
 }
 

@@ -5,7 +5,7 @@ ghost use Rattle.octet_answers.specs.Found.{AreRead, IsChosen, IsFound, field_in
 ghost use Rattle.codec_code.specs.declared.step.Field.{Field as Field'};
 ghost use Rattle.asn_base.specs.declared.schema.TypeId.{TypeId as TypeId'};
 ghost use Rattle.codec_code.specs.Steps.{may_be_absent as may_be_absent'};
-ghost use Rattle.std.specs.Prelude.{◌≡◌, ◌<◌, ◌↔◌, IfNone, IfSome, IsTrue, Some as Some', false as false', length, ℕ};
+ghost use Rattle.std.specs.Prelude.{◌≡◌, ◌+◌, ◌^◌, ◌<◌, ◌↔◌, IfNone, IfSome, IsTrue, Some as Some', false as false', length, ℕ};
 
 use crate::first::can_begin;
 use asn_base::schema::TypeId;
@@ -137,18 +137,25 @@ pub fn choose(code: &Code, calls: &[Step], tag: Tag) -> Option<(usize, TypeId)>
     ensures below { IfSome result (λ r. r.0 < length calls.now) }
     ensures none { IfNone result ((i : ℕ) (t : TypeId') → IsChosen code.now tag calls.now i t → ⊥) }
 {
+    choose_from(code, calls, tag, 0)
+}
+
+/// The same as `choose`, with a number that counts `before` alternatives before these steps too.
+fn choose_from(code: &Code, calls: &[Step], tag: Tag, before: usize) -> Option<(usize, TypeId)>
+    requires { before + length calls.now < 2 ^ 64 }
+    ensures some { IfSome result (λ r. (i : ℕ) × (r.0 ≡ before + i) × IsChosen code.now tag calls.now i r.1) }
+    ensures below { IfSome result (λ r. r.0 < before + length calls.now) }
+    ensures none { IfNone result ((i : ℕ) (t : TypeId') → IsChosen code.now tag calls.now i t → ⊥) }
+{
     let Some((step, behind)) = calls.split_first() else {
         return None;
     };
     if let Step::Call(id) = *step {
         if can_begin(code, id, tag) {
-            return Some((0, id));
+            return Some((before, id));
         }
     }
-    match choose(code, behind, tag) {
-        Some((index, id)) => Some((index + 1, id)),
-        None => None,
-    }
+    choose_from(code, behind, tag, before + 1)
 }
 
 /// Whether the place is in the list.

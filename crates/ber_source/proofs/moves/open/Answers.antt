@@ -3,7 +3,7 @@ use Rattle.octets.specs.declared.form.Form.TheVariants.{Primitive}
 use Rattle.octet_answers.specs.Left.{Leaves, no_header, too_many_headers, other_header}
 use Rattle.octets.specs.Forms.{is_constructed}
 use Rattle.codec_source.specs.Events.{to_open}
-use Rattle.ber_source.specs.Seen.{state_of}
+use Rattle.ber_source.specs.Seen.{state_of, windows}
 use Rattle.ber_source.proofs.Windows.{as_many, fails, false_true}
 use Rattle.ber_source.proofs.moves.open.Goals as goal
 
@@ -28,18 +28,18 @@ returns-in-Err-clause-left g c = λ other.
 
 pub returns-then-len-ge-MAX_HEADERS-clause-left : goal.returns-then-len-ge-MAX_HEADERS-clause-left
 returns-then-len-ge-MAX_HEADERS-clause-left g c = λ other.
-    let m = as_many c.args.place.now.outer.items in
-    too_many_headers c.in-Ok.ensures.ok (omega (arith, m, c.len.ensures, c.args.place.now.outer.ok.0, c.if-len-ge-MAX_HEADERS.true))
+    let m = as_many (windows c.args.place.now.outer) in
+    too_many_headers c.in-Ok.ensures.ok (omega (arith, m, c.len.ensures, c.if-len-ge-MAX_HEADERS.true))
 
 pub returns-then-not-same_tag-clause-left : goal.returns-then-not-same_tag-clause-left
 returns-then-not-same_tag-clause-left g c = λ other.
-    let m = as_many c.args.place.now.outer.items in
-    other_header c.in-Ok.ensures.ok (omega (arith, m, c.len.ensures, c.args.place.now.outer.ok.0, c.if-len-ge-MAX_HEADERS.false))
+    let m = as_many (windows c.args.place.now.outer) in
+    other_header c.in-Ok.ensures.ok (omega (arith, m, c.len.ensures, c.if-len-ge-MAX_HEADERS.false))
     (inl (λ e. fails c.same_tag.result c.if-not-same_tag.true c.same_tag.ensures e))
 
 pub returns-then-eq-clause-left : goal.returns-then-eq-clause-left
 returns-then-eq-clause-left g c = λ other.
-    let m = as_many c.args.place.now.outer.items in
+    let m = as_many (windows c.args.place.now.outer) in
     let p : c.in-Ok.unit.form ≡ Primitive = search rules in
-    other_header c.in-Ok.ensures.ok (omega (arith, m, c.len.ensures, c.args.place.now.outer.ok.0, c.if-len-ge-MAX_HEADERS.false))
+    other_header c.in-Ok.ensures.ok (omega (arith, m, c.len.ensures, c.if-len-ge-MAX_HEADERS.false))
     (inr (c.if-head.true, ap is_constructed p))

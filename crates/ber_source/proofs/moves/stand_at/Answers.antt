@@ -1,13 +1,13 @@
 use Rattle.std.proofs.Common.{arith, ◌+◌, List, ℕ, ap, map}
 use Rattle.octet_answers.specs.States.{State}
 use Rattle.octets.specs.Forms.{is_constructed}
-use Rattle.ber_source.specs.Seen.{window_of}
+use Rattle.ber_source.specs.Seen.{window_of, windows}
 use Rattle.ber_source.proofs.moves.stand_at.Goals as goal
 
 pub returns-then-count-here-clause-at : goal.returns-then-count-here-clause-at
 returns-then-count-here-clause-at g c = λ l.
     let p = c.args.place.now in
-    let state : List ℕ → State = λ q. record { schema = p.code.now; here = record { constructed = is_constructed p.here.form; octets = q; at = p.here.at + c.args.count; from = p.here.from }; outer = map window_of p.outer.items; values = p.values.items; marks = p.marks.items; told = g.T.Teller.tokens p.told; room = p.room } in
+    let state : List ℕ → State = λ q. record { schema = p.code.now; here = record { constructed = is_constructed p.here.form; octets = q; at = p.here.at + c.args.count; from = p.here.from }; outer = map window_of (windows p.outer); values = p.values.items; marks = p.marks.items; told = g.T.Teller.tokens p.told; room = p.room } in
     ap state c.behind.ensures
 
 pub returns-else-count-here-clause-at : goal.returns-else-count-here-clause-at

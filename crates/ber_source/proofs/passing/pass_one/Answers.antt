@@ -1,7 +1,7 @@
 use Rattle.std.proofs.Common.{arith, refl, sym, subst, ◌∙◌}
 use Rattle.octet_answers.specs.Left.{Blocks, no_encoding, addition_too_deep, no_addition, behind_addition}
 use Rattle.octet_answers.specs.Found.{Passes, at_end_of_contents, at_component, passes}
-use Rattle.ber_source.specs.Seen.{state_of}
+use Rattle.ber_source.specs.Seen.{state_of, windows}
 use Rattle.ber_source.proofs.Windows.{as_many, false_true, no_octets, some_octets}
 use Rattle.ber_source.proofs.Passed.{at_end_alone, component_alone, no_unit_none, must_pass}
 use Rattle.ber_source.proofs.passing.pass_one.Goals as goal
@@ -29,8 +29,8 @@ pub returns-then-len-ge-MAX_HEADERS-clause-err : goal.returns-then-len-ge-MAX_HE
 returns-then-len-ge-MAX_HEADERS-clause-err g c other f b p =
     let z = must_pass c.one_unit.ensures.some c.one_unit.ensures.once c.in-Ok.ensures.ok c.in-None.ensures.none p in
     let l = z.few_levels in
-    let m = as_many c.args.place.now.outer.items in
-    omega (arith, l, m, c.len.ensures, c.args.place.now.outer.ok.0, c.if-len-ge-MAX_HEADERS.true)
+    let m = as_many (windows c.args.place.now.outer) in
+    omega (arith, l, m, c.len.ensures, c.if-len-ge-MAX_HEADERS.true)
 
 pub returns-then-not-extensible-clause-err : goal.returns-then-not-extensible-clause-err
 returns-then-not-extensible-clause-err g c other f b p =
@@ -40,9 +40,9 @@ returns-then-not-extensible-clause-err g c other f b p =
 pub returns-clause-passed : goal.returns-clause-passed
 returns-clause-passed g c f b p =
     let s = c.args.place.now.code.now in
-    let m = as_many c.args.place.now.outer.items in
+    let m = as_many (windows c.args.place.now.outer) in
     passes c.if-not-extensible.false c.in-Ok.ensures.ok c.in-None.ensures.none
-    (omega (arith, m, c.len.ensures, c.args.place.now.outer.ok.0, c.if-len-ge-MAX_HEADERS.false))
+    (omega (arith, m, c.len.ensures, c.if-len-ge-MAX_HEADERS.false))
     (subst (λ q. Passes s c.args.steps.now c.args.extensible q f b) c.in_ok-step_over.ensures.ok p)
 
 pub returns-clause-back : goal.returns-clause-back
@@ -58,17 +58,17 @@ returns-in-Err-clause-left g c = λ other.
 
 pub returns-then-len-ge-MAX_HEADERS-clause-left : goal.returns-then-len-ge-MAX_HEADERS-clause-left
 returns-then-len-ge-MAX_HEADERS-clause-left g c = λ other.
-    let m = as_many c.args.place.now.outer.items in
-    addition_too_deep c.in-Ok.ensures.ok c.in-None.ensures.none (omega (arith, m, c.len.ensures, c.args.place.now.outer.ok.0, c.if-len-ge-MAX_HEADERS.true))
+    let m = as_many (windows c.args.place.now.outer) in
+    addition_too_deep c.in-Ok.ensures.ok c.in-None.ensures.none (omega (arith, m, c.len.ensures, c.if-len-ge-MAX_HEADERS.true))
 
 pub returns-then-not-extensible-clause-left : goal.returns-then-not-extensible-clause-left
 returns-then-not-extensible-clause-left g c = λ other.
-    let m = as_many c.args.place.now.outer.items in
-    no_addition c.in-Ok.ensures.ok c.in-None.ensures.none (omega (arith, m, c.len.ensures, c.args.place.now.outer.ok.0, c.if-len-ge-MAX_HEADERS.false)) c.if-not-extensible.true
+    let m = as_many (windows c.args.place.now.outer) in
+    no_addition c.in-Ok.ensures.ok c.in-None.ensures.none (omega (arith, m, c.len.ensures, c.if-len-ge-MAX_HEADERS.false)) c.if-not-extensible.true
 
 pub returns-clause-onward : goal.returns-clause-onward
 returns-clause-onward g c = λ b e h.
-    let m = as_many c.args.place.now.outer.items in
+    let m = as_many (windows c.args.place.now.outer) in
     behind_addition c.if-not-extensible.false c.in-Ok.ensures.ok c.in-None.ensures.none
-    (omega (arith, m, c.len.ensures, c.args.place.now.outer.ok.0, c.if-len-ge-MAX_HEADERS.false))
+    (omega (arith, m, c.len.ensures, c.if-len-ge-MAX_HEADERS.false))
     (subst (λ q. Blocks c.args.place.now.code.now c.args.steps.now c.args.extensible q b e) c.in_ok-step_over.ensures.ok h)

@@ -20,7 +20,7 @@ pub returns-in_ok-push_arcs-in-Some-Some-default : goal.returns-in_ok-push_arcs-
 returns-in_ok-push_arcs-in-Some-Some-default c ns i e =
     let p = parts_of c.in-Some-Some-default.number i e (subst (λ q. Front q c.in-Some-Some-default.behind.now c.args.octets.now) c.in-Some-Some-default.field-0-0-is c.in-Some-Some-default.ensures.some) in
     let two = c.parted-first.ensures p.first p.second p.at_most p.below_40 p.small_second p.is in
-    let one = c.in_ok-push-in-Some-Some-default.ensures.items ∙ ap (λ q. q ++ c.parted-first.result.0 ∷ []) c.in_ok-arcs.ensures.items in
+    let one = c.in_ok-push-in-Some-Some-default.ensures.items ∙ ap (λ q. q ++ c.parted-first.result.0 ∷ []) c.in_ok-empty.ensures in
     let both = c.in_ok-push-in-Some-Some-default-2.ensures.items ∙ ap (λ q. q ++ c.parted-first.result.1 ∷ []) one in
     c.in_ok-push_arcs-in-Some-Some-default.ensures p.others p.small p.spelled
     ∙ ap (λ q. q ++ p.others) both
