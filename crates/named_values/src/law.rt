@@ -3,12 +3,14 @@
 ghost use Rattle.std.specs.Prelude.{◌≡◌, ℕ, List, String};
 ghost use Rattle.std.specs.Global.{Global};
 ghost use Rattle.asn_base.specs.Abstract.{AbstractValue};
+ghost use Rattle.names.specs.declared.scope.Assigned.{Assigned};
 ghost use Rattle.resolve.specs.Program.{Program};
 ghost use Rattle.front_end.specs.Accepted.{Keeps};
 ghost use Rattle.messages.specs.declared.fault.Fault.{Fault};
 ghost use Rattle.messages.specs.declared.fault.Fault.TheVariants.{Memory, NoType, NoValue, Value};
 ghost use Rattle.told_values.specs.declared.telling.ValueTold.{ValueTold};
 ghost use Rattle.named_values.specs.Meant.{IsMeant, IsNotMeant};
+ghost use Rattle.named_values.specs.Named.{IsNamed};
 
 use front_end::law::one_value;
 
@@ -27,6 +29,11 @@ pub fn one_meaning()
 {
     one_value();
 }
+
+/// A text names at most one type or value.
+pub fn one_name()
+    ensures { (p : Program) (text : List ℕ) (a b : Assigned) → Keeps p → IsNamed p text a → IsNamed p text b → a ≡ b }
+{}
 
 /// Refusals of names come in one order: that of the type, then that of the value, then what is wrong with the notation.
 /// At most one of the three kinds can be returned for the same texts.
