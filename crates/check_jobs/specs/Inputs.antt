@@ -1,6 +1,6 @@
 -- The octets that a job has: those of the texts of its modules, those that it gives, and those of its account. Also the
 -- value that it gives, and the fault of words that ask for no job.
-use Rattle.std.specs.Prelude.{◌≡◌, ⊤, ℕ, List, [], ◌∷◌, ◌++◌, Option, Some, None, Vec, length, string_bytes}
+use Rattle.std.specs.Prelude.{◌≡◌, ℕ, List, [], ◌∷◌, ◌++◌, Option, Some, None, IsSome, Vec, length, string_bytes}
 use Rattle.std.specs.declared.alloc.Global.{Global}
 use Rattle.command_line.specs.declared.fault.WordsFault.{WordsFault}
 use Rattle.command_line.specs.declared.fault.WordsFault.TheVariants as words
@@ -36,14 +36,9 @@ given_in (values.Written s) = written (string_bytes s)
 abbrev pub line_of : List ℕ → List ℕ
 line_of text = text ++ (10 ∷ [])
 
--- there is a file
-abbrev pub IsFile : Option (Vec ℕ Global) → Type 0
-IsFile None = ⊥
-IsFile (Some v) = ⊤
-
 -- the words of a job name a file of octets exactly if there is one
 abbrev pub HasFile : Given → Option (Vec ℕ Global) → Type 0
-HasFile (given.Path name) file = IsFile file
+HasFile (given.Path name) file = IsSome file
 HasFile given.Nothing file = file ≡ None
 HasFile (given.Octets v) file = file ≡ None
 
@@ -53,7 +48,7 @@ pub record AreInputsOf (job : Job) (inputs : Inputs) : Type 0 where
   pub files : length inputs.files.items ≡ length job.files.items
   pub newer : length inputs.newer.items ≡ length job.newer.items
   pub octets : HasFile job.octets inputs.octets
-  pub account : job.verb ≡ verbs.Check → IsFile inputs.account
+  pub account : job.verb ≡ verbs.Check → IsSome inputs.account
   pub no_account : (job.verb ≡ verbs.Check → ⊥) → inputs.account ≡ None
 
 -- the same fault of words among those of all requests

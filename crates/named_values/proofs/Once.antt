@@ -71,7 +71,7 @@ one_meaning ms M x a b apart (imported m o N e f g h) (imported n q L i j k l) =
     let there = one_some (under N ms) q o (subst (λ (y : Name). under y ms ≡ Some q) from k) g in
     one_some (under x o.assigned) a b h (subst (λ (y : Module). under x y.assigned ≡ Some b) there l)
 
-one_name : (p : Program) (text : List ℕ) (a b : Assigned) → IsApart p.modules → IsNamed p text a → IsNamed p text b → a ≡ b
+pub one_name : (p : Program) (text : List ℕ) (a b : Assigned) → IsApart p.modules → IsNamed p text a → IsNamed p text b → a ≡ b
 one_name p text a b apart m n =
     let s = one_spelling text n.within m.within n.name m.name n.is m.is in
     let w = subst (λ x. Meaning p.modules m.within x b) s.1 (subst (λ M. Meaning p.modules M n.name b) s.0 n.means) in

@@ -4,6 +4,7 @@
 ghost use Rattle.std.specs.Prelude.{◌≡◌, ℕ, List, String};
 ghost use Rattle.std.specs.Global.{Global};
 ghost use Rattle.asn_base.specs.Abstract.{AbstractValue};
+ghost use Rattle.names.specs.declared.scope.Assigned.{Assigned};
 ghost use Rattle.resolve.specs.Program.{Program};
 ghost use Rattle.front_end.specs.Accepted.{Keeps};
 ghost use Rattle.text.specs.declared.fault.LexFault.{LexFault};
@@ -15,6 +16,7 @@ ghost use Rattle.messages.specs.declared.fault.NotationFault.TheVariants.{Octets
 ghost use Rattle.told_values.specs.declared.telling.ValueTold.{ValueTold};
 ghost use Rattle.named_values.specs.Given.{Given};
 ghost use Rattle.named_values.specs.Meant.{IsMeant, IsNotMeant, StandsForNone};
+ghost use Rattle.named_values.specs.Named.{IsNamed};
 
 use front_end::law::one_value;
 use written_values::law::{one_fault, one_notation, wrong_texts_are_none};
@@ -37,6 +39,11 @@ pub fn one_meaning()
     one_notation();
     wrong_texts_are_none();
 }
+
+/// A text names at most one type or value.
+pub fn one_name()
+    ensures { (p : Program) (text : List ℕ) (a b : Assigned) → Keeps p → IsNamed p text a → IsNamed p text b → a ≡ b }
+{}
 
 /// Refusals come in one order: that of the type's name, then that of the value's name or of the text's octets and
 /// tokens, then what is wrong with the notation. At most one of these kinds can be returned for the same texts.

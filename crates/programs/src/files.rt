@@ -1,7 +1,7 @@
 //! The files that a job names.
 
-ghost use Rattle.std.specs.Prelude.{◌≡◌, IfOk, None, length};
-ghost use Rattle.check_jobs.specs.Inputs.{AreInputsOf, HasFile, IsFile};
+ghost use Rattle.std.specs.Prelude.{◌≡◌, IfOk, IsSome, None, length};
+ghost use Rattle.check_jobs.specs.Inputs.{AreInputsOf, HasFile};
 ghost use Rattle.command_line.specs.declared.request.Verb.TheVariants.{Check};
 
 use check_jobs::Inputs;
@@ -86,7 +86,7 @@ fn octets_of(rt: &HostRuntime, job: &Job) -> Result<Option<Vec<u8>>, Fault>
 
 /// The contents of the file of a job's account, if it names one.
 fn account_of(rt: &HostRuntime, job: &Job) -> Result<Option<Vec<u8>>, Fault>
-    ensures account { job.now.verb ≡ Check → IfOk result IsFile }
+    ensures account { job.now.verb ≡ Check → IfOk result IsSome }
     ensures no_account { (job.now.verb ≡ Check → ⊥) → IfOk result (λ a. a ≡ None) }
 {
     match job.verb {

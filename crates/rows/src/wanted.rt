@@ -3,7 +3,7 @@
 //! Blanks and line ends don't count. If the text ends with `..`, only the beginning of the answer is compared, with
 //! what is before the `..`.
 
-ghost use Rattle.std.specs.Prelude.{◌≡◌, ◌<◌, ◌≤◌, IfOk, IsSome};
+ghost use Rattle.std.specs.Prelude.{◌≡◌, ◌≤◌, ◌+◌, ◌-◌, ◌^◌, min, IfOk, IsSome, None};
 ghost use Rattle.rows.specs.Wanted.{dense as dense', is_as_wanted as is_as_wanted'};
 
 use row_files::{Row, RowText};
@@ -75,7 +75,14 @@ pub fn differs<'a>(
     answer: &str,
     count: &mut Count,
 ) -> Result<Option<&'a str>, AllocError>
-    ensures counted { IfOk result (λ wanted. IsSome wanted → 0 < count.new.different) }
+    // A different answer counts as one more, up to the greatest number that the count can have.
+    ensures counted { IfOk result (λ wanted.
+        IsSome wanted → count.new.different ≡ min (count.old.different + 1) (2 ^ 64 - 1)) }
+    // It is one of those that are compared.
+    ensures compared { IfOk result (λ wanted.
+        IsSome wanted → count.new.compared ≡ min (count.old.compared + 1) (2 ^ 64 - 1)) }
+    // No other row counts as different.
+    ensures same { IfOk result (λ wanted. wanted ≡ None → count.new.different ≡ count.old.different) }
     ensures kept { count.old.different ≤ count.new.different }
 {
     let Some(wanted) = row.texts.iter().find(|text| is_wanted(text)) else {

@@ -1,0 +1,8 @@
+mod Cores
+mod Lists
+mod OneKind
+mod OneSchema
+mod Layers
+mod Meanings
+mod Together
+mod Rows
