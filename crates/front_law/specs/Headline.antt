@@ -163,8 +163,9 @@ pub record HasMeanings (p : Program) (s : List Resolved) : Type 0 where
   pub typed_value : (M : Name) (i : TypeNumber) (n : Tree) (v : AbstractValue)
       → IsTypedResult p M i n (Ok v)
       → IsOneValue p s M i n
-  -- `meant` returns the type and the value that two names mean, unless an allocation fails
-  pub meant : (first : List ℕ) (second : Given) (x : Result (TypeNumber × AbstractValue) Fault) (t : ℕ) (v : AbstractValue)
+  -- `meant` returns the type and the value that a type's name and a given value mean, unless an allocation fails
+  pub meant : (first : List ℕ) (second : Given) (x : Result (TypeNumber × AbstractValue) Fault)
+      (t : ℕ) (v : AbstractValue)
       → IsMeantResult p first second x
       → IsMeant p first second t v
       → MatchResult x (λ r. (r.0 ≡ t) × (r.1 ≡ v)) (λ e. e ≡ messages.Memory)
