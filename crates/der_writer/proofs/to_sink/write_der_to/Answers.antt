@@ -1,4 +1,4 @@
-use Rattle.std.proofs.Common.{subst, sym}
+use Rattle.std.proofs.Common.{subst}
 use Rattle.asn_base.specs.Abstract.{abstract}
 use Rattle.encodings.specs.Account.{Tells}
 use Rattle.sinks.specs.Sent.{SentAll, state}
