@@ -1,5 +1,5 @@
 -- Parts of lists, and the last of a list.
-use Rattle.std.proofs.Common.{◌≡◌, ℕ, zero, suc, ◌+◌, ◌<◌, ◌⊎◌, inl, inr, List, [], ◌∷◌, ◌++◌, length, set, take, drop, refl, sym, ap, subst, ◌∙◌, arith, append_assoc, append-nil, length-append}
+use Rattle.std.proofs.Common.{◌≡◌, ℕ, zero, suc, ◌+◌, ◌<◌, ◌⊎◌, inl, inr, List, [], ◌∷◌, ◌++◌, length, set, take, drop, refl, sym, ap, ◌∙◌, arith, append_assoc, length-append}
 use Rattle.std.specs.Prelude.{if◌then◌else◌}
 use Rattle.std.specs.Int.Digits.{digits_of}
 use Rattle.std.proofs.lemmas.Bool.{lt-ltb}
@@ -43,10 +43,6 @@ take_front (z ∷ f) x = ap (λ k. z ∷ k) (take_front f x)
 pub drop_front : {A : Type 0} (f x : List A) → drop (length f) (f ++ x) ≡ x
 drop_front [] x = refl
 drop_front (z ∷ f) x = drop_front f x
-
-pub drop_whole : {A : Type 0} (f : List A) → drop (length f) f ≡ []
-drop_whole [] = refl
-drop_whole (z ∷ f) = drop_whole f
 
 -- ---- the octet that is held open
 

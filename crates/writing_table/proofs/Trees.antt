@@ -20,7 +20,7 @@ use Rattle.octet_account.specs.Flat.{FlatRow, an_absent}
 use Rattle.account_rows.specs.Told.{header_numbers, header_row, left_row, rows_in, rows_among, Told, PartsTold}
 use Rattle.writing_table.specs.Rows.{told, all_told, told_numbers, told_row, numbers_in, places_by}
 use Rattle.writing_table.specs.Tables.{State, an_open, after, with_size, span, spans, placed_of, Sorted, HeaderOpens, MembersBegin, GroupBegins, ContentsAdded, LeftOut, MemberEnds, MembersEnd, NoneEnds, GroupEnds, taken, HeaderCloses, Closes, Stepped, Runs}
-use Rattle.writing_table.proofs.Lists.{last_same, no_last, set_last, only_second, take_front, drop_front, drop_whole, after_held, sized, held_within, span_between}
+use Rattle.writing_table.proofs.Lists.{last_same, no_last, set_last, only_second, take_front, drop_front, after_held, sized, held_within, span_between}
 use Rattle.writing_table.proofs.Standing.{Numbered, standing}
 
 -- some octets and rows more

@@ -13,7 +13,7 @@ use Rattle.writing_table.specs.Rows.{told, told_row}
 use Rattle.writing_table.specs.Tables.{State, Runs}
 use Rattle.writing_table.proofs.Lengths.{length_of}
 use Rattle.writing_table.proofs.Small.{small_rows}
-use Rattle.writing_table.proofs.Trees.{Counted, counted}
+use Rattle.writing_table.proofs.Trees.{counted}
 
 -- nothing was added yet
 pub record Empty (a : State) : Type 0 where

@@ -21,7 +21,7 @@ pub(crate) fn push_header(
     ensures { OnOk result (out.new.items ≡ out.old.items ++ shortest_header tag constructed contents) }
 {
     match short_header(tag, constructed, contents) {
-        Some((first, size)) => out.extend_from_slice(&[first, size]),
+        Some((first, size)) => push_two(out, first, size),
         None => {
             let few = header_octets(tag, constructed, contents);
             out.extend_from_slice(few.as_slice())
@@ -42,6 +42,16 @@ pub(crate) fn short_header(tag: Tag, constructed: bool, contents: u64) -> Option
     } else {
         None
     }
+}
+
+/// Adds two octets. `AllocError` only if an allocation fails.
+#[inline(always)]
+pub(crate) fn push_two(out: &mut Vec<u8>, first: u8, second: u8) -> Result<(), AllocError>
+    ensures { OnOk result (out.new.items ≡ out.old.items ++ first ∷ second ∷ []) }
+{
+    out.push(first)?;
+    out.push(second)?;
+    Ok(())
 }
 
 /// Adds the identifier octets of a tag, and one octet that is held open for the length. The result is the place of that

@@ -39,11 +39,7 @@ pub(crate) fn octets_of<'o>(octets: &'o [u8], member: &Member) -> &'o [u8]
 
 /// Adds the octets of the members, one member after another. `AllocError` only if an allocation fails.
 #[tactic(auto, using(crate::proofs::SpansOf::next_span, crate::proofs::SpansOf::no_span))]
-fn push_members(
-    octets: &[u8],
-    members: &[Member],
-    out: &mut Vec<u8>,
-) -> Result<(), AllocError>
+fn push_members(octets: &[u8], members: &[Member], out: &mut Vec<u8>) -> Result<(), AllocError>
     ensures { OnOk result (out.new.items ≡ out.old.items ++ spans octets.now members.now) }
 {
     for i in 0..members.len() {

@@ -13,7 +13,7 @@ ghost use Rattle.encodings.specs.Fewest.{shortest_header};
 ghost use Rattle.leaf_contents.specs.Pieces.{joined_pieces};
 
 use crate::closing::close_length;
-use crate::header::{push_header, push_opening, short_header};
+use crate::header::{push_header, push_opening, push_two, short_header};
 use crate::places::{Arrangement, arrangement_of};
 use crate::rows::{header_row, leaf_row, sum};
 use crate::sort::{sort_by_octets, sort_by_rank};
@@ -168,7 +168,8 @@ fn add_octet(
     requires { shortest_header head.tag head.constructed 1 ≡ first ∷ size ∷ [] }
     ensures { OnOk result (WholeAdded head (octet ∷ []) (state_of table.old) (state_of table.new)) }
 {
-    table.octets.extend_from_slice(&[first, size, octet])?;
+    push_two(&mut table.octets, first, size)?;
+    table.octets.push(octet)?;
     add_row(&mut table.rows, leaf_row(head.tag, 1))?;
     table.members = sum(table.members, 1);
     Ok(())
