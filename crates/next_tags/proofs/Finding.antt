@@ -1,5 +1,5 @@
 -- Components and alternatives that are found among steps.
-use Rattle.std.proofs.Common.{arith, ◌≡◌, ℕ, suc, ◌+◌, List, [], ◌∷◌, refl, sym, ap, subst, ◌∙◌}
+use Rattle.std.proofs.Common.{arith, ◌≡◌, ℕ, suc, ◌+◌, List, [], ◌∷◌, length, refl, sym, ap, subst, ◌∙◌}
 use Rattle.std.specs.Prelude.{Option, Some, None, IfSome}
 use Rattle.asn_base.specs.declared.tag.Tag.{Tag}
 use Rattle.asn_base.specs.declared.schema.TypeId.{TypeId}
@@ -74,21 +74,42 @@ other_call s g p t e n u f h = n (subst (λ q. First s q.index g) (call_same u t
 pub chosen_later : (s : List Resolved) (g : Tag) (ss : List Step) (p : Step) (rest : List Step) (i : ℕ) (t : TypeId) → ss ≡ p ∷ rest → NoCall s g p → IsChosen s g rest i t → IsChosen s g ss (suc i) t
 chosen_later s g ss p rest i t e n h = subst (λ q. IsChosen s g q (suc i) t) (sym e) (later n h)
 
--- the same, counted from a number on
-pub chosen_behind : (s : List Resolved) (g : Tag) (ss : List Step) (p : Step) (rest : List Step) (n : ℕ) (r : Option (ℕ × TypeId))
-    → ss ≡ p ∷ rest
-    → NoCall s g p
-    → IfSome r (λ q. (i : ℕ) × (q.0 ≡ (n + 1) + i) × IsChosen s g rest i q.1)
-    → IfSome r (λ q. (i : ℕ) × (q.0 ≡ n + i) × IsChosen s g ss i q.1)
-chosen_behind s g ss p rest n None e m h = tt
-chosen_behind s g ss p rest n (Some q) e m h =
-    let i = h.0 in
-    let k : (n + 1) + i ≡ n + suc i = omega arith in
-    (suc i, h.1 ∙ k, chosen_later s g ss p rest i q.1 e m h.2)
-
 not_called : (s : List Resolved) (g : Tag) (p : Step) (rest : List Step) → NoCall s g p → ((i : ℕ) (t : TypeId) → IsChosen s g rest i t → ⊥) → (i : ℕ) (t : TypeId) → IsChosen s g (p ∷ rest) i t → ⊥
 not_called s g p rest n m i t (chosen h) = n t refl h
 not_called s g p rest n m i t (later {i = j} k h) = m j t h
 
 pub not_chosen : (s : List Resolved) (g : Tag) (ss : List Step) (p : Step) (rest : List Step) → ss ≡ p ∷ rest → NoCall s g p → ((i : ℕ) (t : TypeId) → IsChosen s g rest i t → ⊥) → (i : ℕ) (t : TypeId) → IsChosen s g ss i t → ⊥
 not_chosen s g ss p rest e n m i t h = not_called s g p rest n m i t (subst (λ q. IsChosen s g q i t) e h)
+
+-- what is chosen of all calls is chosen of the rest, which begins at place n
+pub record Searched (s : List Resolved) (g : Tag) (all : List Step) (n : ℕ) (rest : List Step) : Type 0 where
+  pub long : n + length rest ≡ length all
+  pub some : (i : ℕ) (t : TypeId) → IsChosen s g rest i t → IsChosen s g all (n + i) t
+  pub none : ((i : ℕ) (t : TypeId) → IsChosen s g rest i t → ⊥) → (i : ℕ) (t : TypeId) → IsChosen s g all i t → ⊥
+
+pub from_start : (s : List Resolved) (g : Tag) (all : List Step) → Searched s g all 0 all
+from_start s g all = record {
+  long = (let k : 0 + length all ≡ length all = omega arith in k);
+  some = λ i t h. (let k : i ≡ 0 + i = omega arith in subst (λ q. IsChosen s g all q t) k h);
+  none = λ n. n;
+}
+
+pub step_over : (s : List Resolved) (g : Tag) (all rest behind : List Step) (n : ℕ) (p : Step)
+    → Searched s g all n rest
+    → rest ≡ p ∷ behind
+    → NoCall s g p
+    → Searched s g all (n + 1) behind
+step_over s g all rest behind n p h e m = record {
+  long = (let l = h.long in let k : length rest ≡ suc (length behind) = ap length e in omega (arith, l, k));
+  some = λ i t c. (let k : n + suc i ≡ (n + 1) + i = omega arith in subst (λ q. IsChosen s g all q t) k (h.some (suc i) t (chosen_later s g rest p behind i t e m c)));
+  none = λ c. h.none (not_chosen s g rest p behind e m c);
+}
+
+pub called_here : (s : List Resolved) (g : Tag) (all rest behind : List Step) (n : ℕ) (p : Step) (t : TypeId)
+    → Searched s g all n rest
+    → rest ≡ p ∷ behind
+    → (p ≡ Call t) × First s t.index g
+    → IsChosen s g all n t
+called_here s g all rest behind n p t h e c =
+    let k : n + 0 ≡ n = omega arith in
+    subst (λ q. IsChosen s g all q t) k (h.some 0 t (chosen_here s g rest p behind t e c.0 c.1))

@@ -1,11 +1,13 @@
 //! Components and alternatives by the next tag.
 
 ghost use Rattle.asn_base.specs.Names.{IsMember};
+ghost use Rattle.asn_base.specs.Tags.{First};
+ghost use Rattle.codec_code.specs.declared.step.Step.TheVariants.{Call};
 ghost use Rattle.octet_answers.specs.Found.{AreRead, IsChosen, IsFound, field_in as field_in', is_extensible as is_extensible', is_rest as is_rest', last_from as last_from', last_steps as last_steps', must_stand as must_stand'};
 ghost use Rattle.codec_code.specs.declared.step.Field.{Field as Field'};
 ghost use Rattle.asn_base.specs.declared.schema.TypeId.{TypeId as TypeId'};
 ghost use Rattle.codec_code.specs.Steps.{may_be_absent as may_be_absent'};
-ghost use Rattle.std.specs.Prelude.{◌≡◌, ◌+◌, ◌^◌, ◌<◌, ◌↔◌, IfNone, IfSome, IsTrue, Some as Some', false as false', length, ℕ};
+ghost use Rattle.std.specs.Prelude.{◌≡◌, ◌<◌, ◌↔◌, IfNone, IfSome, IsTrue, Some as Some', false as false', length, ℕ};
 
 use crate::first::can_begin;
 use asn_base::schema::TypeId;
@@ -131,31 +133,41 @@ pub fn find(code: &Code, steps: &[Step], tag: Tag) -> Option<Field>
     }
 }
 
+/// The type that the step calls, if the tag can be the first one of a value of it.
+#[inline(always)]
+fn called(code: &Code, step: Step, tag: Tag) -> Option<TypeId>
+    ensures some { IfSome result (λ t. (step ≡ Call t) × First code.now t.index tag) }
+    ensures none { IfNone result ((t : TypeId') → step ≡ Call t → First code.now t.index tag → ⊥) }
+{
+    match step {
+        Step::Call(id) => {
+            if can_begin(code, id, tag) {
+                Some(id)
+            } else {
+                None
+            }
+        }
+        _ => None,
+    }
+}
+
 /// The first alternative that these steps call and whose first tag can be this one, and its number.
 pub fn choose(code: &Code, calls: &[Step], tag: Tag) -> Option<(usize, TypeId)>
     ensures some { IfSome result (λ r. IsChosen code.now tag calls.now r.0 r.1) }
     ensures below { IfSome result (λ r. r.0 < length calls.now) }
     ensures none { IfNone result ((i : ℕ) (t : TypeId') → IsChosen code.now tag calls.now i t → ⊥) }
 {
-    choose_from(code, calls, tag, 0)
-}
-
-/// The same as `choose`, with a number that counts `before` alternatives before these steps too.
-fn choose_from(code: &Code, calls: &[Step], tag: Tag, before: usize) -> Option<(usize, TypeId)>
-    requires { before + length calls.now < 2 ^ 64 }
-    ensures some { IfSome result (λ r. (i : ℕ) × (r.0 ≡ before + i) × IsChosen code.now tag calls.now i r.1) }
-    ensures below { IfSome result (λ r. r.0 < before + length calls.now) }
-    ensures none { IfNone result ((i : ℕ) (t : TypeId') → IsChosen code.now tag calls.now i t → ⊥) }
-{
-    let Some((step, behind)) = calls.split_first() else {
-        return None;
-    };
-    if let Step::Call(id) = *step {
-        if can_begin(code, id, tag) {
-            return Some((before, id));
+    let mut rest = calls;
+    let mut index = 0;
+    while let Some((step, behind)) = rest.split_first() {
+        match called(code, *step, tag) {
+            Some(id) => return Some((index, id)),
+            None => {}
         }
+        rest = behind;
+        index += 1;
     }
-    choose_from(code, behind, tag, before + 1)
+    None
 }
 
 /// Whether the place is in the list.
