@@ -13,7 +13,7 @@ use decode_faults::Refusal;
 use front_end::Modules;
 use messages::{Fault, UnreadBits};
 use named_values::type_number;
-use octet_findings::allowed_by;
+use octet_findings::allowed_in_bits;
 use packed_code::PackedCode;
 use packed_reader::{PerFault, RefusedBits, read_uper};
 use std::alloc::{AllocError, Global};
@@ -48,7 +48,7 @@ fn allowed_at(
     }
     let ty = type_at(schema, id, refused.path.as_slice());
     match schema.types().get(ty.index) {
-        Some(resolved) => allowed_by(alloc, &*resolved.core),
+        Some(resolved) => allowed_in_bits(alloc, &*resolved.core),
         None => Ok(None),
     }
 }

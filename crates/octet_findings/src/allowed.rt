@@ -18,16 +18,36 @@ enum Amount {
     Size(usize, &'static str),
 }
 
+/// Whether a range has every number in it.
+fn is_whole(range: Range) -> bool {
+    range.least.is_none() && range.greatest.is_none()
+}
+
 /// The numbers or sizes that a constraint allows, in the notation of constraints. None if it allows all.
 fn ranges_of(alloc: Global, constraint: &Constraint) -> Result<Option<String>, AllocError> {
-    match &constraint.allowed {
-        Some(ranges) => Ok(Some(of_ranges(alloc, ranges.as_slice())?)),
-        None => Ok(None),
+    let Some(ranges) = &constraint.allowed else {
+        return Ok(None);
+    };
+    for range in ranges {
+        if is_whole(*range) {
+            return Ok(None);
+        }
+    }
+    Ok(Some(of_ranges(alloc, ranges.as_slice())?))
+}
+
+/// Returns what the constraints of a type allow where bits are outside of them, as `a number of (0..7)`. The result is
+/// None if they allow all, and for strings of characters, whose contents can be wrong as well. `AllocError`: an
+/// allocation failed.
+pub fn allowed_in_bits(alloc: Global, core: &Core) -> Result<Option<String>, AllocError> {
+    match core {
+        Core::Utf8String(_) | Core::RestrictedString(_, _, _) => Ok(None),
+        _ => allowed_by(alloc, core),
     }
 }
 
-/// What the constraints of a type allow, in words. None if they allow all of its values, or characters are excluded.
-pub fn allowed_by(alloc: Global, core: &Core) -> Result<Option<String>, AllocError> {
+/// What the numbers or sizes are that the constraints of a type allow, in words. None if they allow all.
+fn allowed_by(alloc: Global, core: &Core) -> Result<Option<String>, AllocError> {
     let (constraint, word) = match core {
         Core::Integer(constraint) => (constraint, "a number"),
         Core::BitString(constraint) => (constraint, "a size"),

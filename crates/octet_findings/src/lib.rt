@@ -9,5 +9,5 @@ mod items;
 mod refused;
 mod words;
 
-pub use allowed::allowed_by;
+pub use allowed::allowed_in_bits;
 pub use refused::finding;
