@@ -18,31 +18,32 @@ enum Amount {
     Size(usize, &'static str),
 }
 
-/// Whether a range has every number in it.
-fn is_whole(range: Range) -> bool {
-    range.least.is_none() && range.greatest.is_none()
-}
-
 /// The numbers or sizes that a constraint allows, in the notation of constraints. None if it allows all.
 fn ranges_of(alloc: Global, constraint: &Constraint) -> Result<Option<String>, AllocError> {
-    let Some(ranges) = &constraint.allowed else {
-        return Ok(None);
-    };
-    for range in ranges {
-        if is_whole(*range) {
-            return Ok(None);
-        }
+    match &constraint.allowed {
+        Some(ranges) => Ok(Some(of_ranges(alloc, ranges.as_slice())?)),
+        None => Ok(None),
     }
-    Ok(Some(of_ranges(alloc, ranges.as_slice())?))
+}
+
+/// Whether a constraint has a least and a greatest number or size, so that bits can say another one.
+fn has_ends(constraint: &Constraint) -> bool {
+    constraint.visible.least.is_some() && constraint.visible.greatest.is_some()
 }
 
 /// Returns what the constraints of a type allow where bits are outside of them, as `a number of (0..7)`. The result is
-/// None if they allow all, and for strings of characters, whose contents can be wrong as well. `AllocError`: an
-/// allocation failed.
+/// None if the bits of the type have no such bounds, and for strings of characters, whose contents can be wrong as well.
+/// `AllocError`: an allocation failed.
 pub fn allowed_in_bits(alloc: Global, core: &Core) -> Result<Option<String>, AllocError> {
     match core {
-        Core::Utf8String(_) | Core::RestrictedString(_, _, _) => Ok(None),
-        _ => allowed_by(alloc, core),
+        Core::Integer(constraint) | Core::BitString(constraint) if has_ends(constraint) => {
+            allowed_by(alloc, core)
+        }
+        Core::OctetString(constraint) if has_ends(constraint) => allowed_by(alloc, core),
+        Core::SequenceOf(constraint, _) | Core::SetOf(constraint, _) if has_ends(constraint) => {
+            allowed_by(alloc, core)
+        }
+        _ => Ok(None),
     }
 }
 
