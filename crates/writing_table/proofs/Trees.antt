@@ -110,16 +110,16 @@ abbrev placed_as : ℕ → List ℕ → Placed
 placed_as r x = record { rank = r; octets = x }
 
 -- the octets of members that follow one another
-pub placed_same : (front behind all : List ℕ) (k : ℕ) (ms : List Member) (ps : List Placed) → k ≡ length front → all ≡ front ++ (concat (encodings_of ps) ++ behind) → AreMembers k ms ps → map (placed_of all) ms ≡ ps
-placed_same front behind all k [] [] i e h = refl
-placed_same front behind all k [] (p ∷ ps) i e h = absurd h
-placed_same front behind all k (m ∷ ms) [] i e h = absurd h
-placed_same front behind all k (m ∷ ms) (p ∷ ps) i e h =
-    let rest = concat (encodings_of ps) ++ behind in
-    let whole : all ≡ front ++ (p.octets ++ rest) = e ∙ ap (λ q. front ++ q) (append_assoc p.octets (concat (encodings_of ps)) behind) in
+pub placed_same : (front further all : List ℕ) (k : ℕ) (ms : List Member) (ps : List Placed) → k ≡ length front → all ≡ front ++ (concat (encodings_of ps) ++ further) → AreMembers k ms ps → map (placed_of all) ms ≡ ps
+placed_same front further all k [] [] i e h = refl
+placed_same front further all k [] (p ∷ ps) i e h = absurd h
+placed_same front further all k (m ∷ ms) [] i e h = absurd h
+placed_same front further all k (m ∷ ms) (p ∷ ps) i e h =
+    let rest = concat (encodings_of ps) ++ further in
+    let whole : all ≡ front ++ (p.octets ++ rest) = e ∙ ap (λ q. front ++ q) (append_assoc p.octets (concat (encodings_of ps)) further) in
     let one : span all m ≡ p.octets = ap (λ q. span q m) whole ∙ span_between m front p.octets rest (h.1 ∙ i) (h.2 ∙ ap (λ q. q + length p.octets) i) in
     let same : placed_of all m ≡ p = ap (λ n. placed_as n (span all m)) h.0 ∙ ap (λ x. placed_as p.rank x) one in
-    let others = placed_same (front ++ p.octets) behind all (k + length p.octets) ms ps
+    let others = placed_same (front ++ p.octets) further all (k + length p.octets) ms ps
     (ap (λ q. q + length p.octets) i ∙ sym (length-append front p.octets))
     (whole ∙ sym (append_assoc front p.octets rest)) h.3 in
     ap (λ q. q ∷ map (placed_of all) ms) same ∙ ap (λ q. p ∷ q) others
@@ -251,7 +251,7 @@ plain : (g : Tag) (b : Bool) (k : RowKind) (i t : Tree)
     → ((d e : State) → GroupBegins k d e → d ≡ e)
     → ((p q : List ℕ) (d e : State) → GroupEnds k p q d e → NoneEnds p q d e)
     → Counts i → Counts t → Counts (within g b k i t)
-plain g b k i t begins ends inner behind es a c s h =
+plain g b k i t begins ends inner further es a c s h =
     let d = h.0 in
     let o = h.1 in
     let e : d ≡ inside a g b k = sym (begins o.0 d o.2) ∙ opened_is a o.0 g b k o.1 in
@@ -263,7 +263,7 @@ plain g b k i t begins ends inner behind es a c s h =
     let w : z.within_it ≡ state ((front_of a g b ++ 0 ∷ []) ++ p.octets) a.opened a.groups ((a.rows ++ an_absent ∷ []) ++ rs) (told (0 + rows_in i)) = sym n.2 in
     let v = closed a z.within_it p.more.0 g b k p.octets z.places z.inverse rs (rows_in i) w z.header_closes in
     let r = row_at k g b (length p.octets) (rows_in i) z.places z.inverse in
-    let q = behind es (added a (shortest_header g b (length p.octets) ++ p.octets) (r ∷ rs) 1) c (told_most (a.members + 1)) (subst (λ y. Runs (flat t ++ es) y c) v p.more.2) in
+    let q = further es (added a (shortest_header g b (length p.octets) ++ p.octets) (r ∷ rs) 1) c (told_most (a.members + 1)) (subst (λ y. Runs (flat t ++ es) y c) v p.more.2) in
     framed (within g b k i t) t es a c g b k p.octets z.places z.inverse rs (rows_in i) (one_more_row (rows_in t))
     (record {
       exact = p.exact;
@@ -335,7 +335,7 @@ grouped : (g : Tag) (b : Bool) (k : RowKind) (o : Order) (i t : Tree)
     → ((d e : State) → GroupBegins k d e → MembersBegin d e)
     → ((p q : List ℕ) (d e : State) → GroupEnds k p q d e → ((d.groups ≡ []) × (d ≡ e)) ⊎ MembersEnd o p q d e)
     → Counts i → Counts t → Counts (within g b k i t)
-grouped g b k o i t begins ends inner behind es a c s h =
+grouped g b k o i t begins ends inner further es a c s h =
     let d = h.0 in
     let m = begun a h.1.0 d g b k h.1.1 (begins h.1.0 d h.1.2) in
     let front = front_of a g b ++ 0 ∷ [] in
@@ -351,7 +351,7 @@ grouped g b k o i t begins ends inner behind es a c s h =
     y.is ∙ ap (λ q. state (front ++ (spans (front ++ p.octets) q ++ p.octets)) a.opened a.groups rs u) none in
     let v = closed a z.within_it p.more.0 g b k p.octets z.places z.inverse (map told_row p.exact) (rows_in i) w z.header_closes in
     let r = row_at k g b (length p.octets) (rows_in i) z.places z.inverse in
-    let q = behind es (added a (shortest_header g b (length p.octets) ++ p.octets) (r ∷ map told_row p.exact) 1) c (told_most (a.members + 1)) (subst (λ y. Runs (flat t ++ es) y c) v p.more.2) in
+    let q = further es (added a (shortest_header g b (length p.octets) ++ p.octets) (r ∷ map told_row p.exact) 1) c (told_most (a.members + 1)) (subst (λ y. Runs (flat t ++ es) y c) v p.more.2) in
     framed (within g b k i t) t es a c g b k p.octets z.places z.inverse (map told_row p.exact) (rows_in i) (one_more_row (rows_in t))
     (record {
       exact = p.exact;
@@ -389,7 +389,7 @@ in_their_order : (g : Tag) (o : Order) (ms : Members) (t : Tree)
     → ((d e : State) → GroupBegins (row_of_order o) d e → MembersBegin d e)
     → ((p q : List ℕ) (d e : State) → GroupEnds (row_of_order o) p q d e → ((d.groups ≡ []) × (d ≡ e)) ⊎ MembersEnd o p q d e)
     → Gathers ms → Counts t → Counts (ordered g o ms t)
-in_their_order g o ms t begins ends inner behind es a c s h =
+in_their_order g o ms t begins ends inner further es a c s h =
     let k = row_of_order o in
     let d = h.0 in
     let m = begun a h.1.0 d g true k h.1.1 (begins h.1.0 d h.1.2) in
@@ -414,7 +414,7 @@ in_their_order g o ms t begins ends inner behind es a c s h =
     y.is ∙ ap (λ q. state (front ++ q) a.opened a.groups rs u) (append-nil x) in
     let v = closed a z.within_it p.more.0 g true k x z.places z.inverse (map told_row p.exact) (rows_among ms) w z.header_closes in
     let r = row_at k g true (length x) (rows_among ms) z.places z.inverse in
-    let q = behind es (added a (shortest_header g true (length x) ++ x) (r ∷ map told_row p.exact) 1) c (told_most (a.members + 1)) (subst (λ y. Runs (flat t ++ es) y c) v p.more.2) in
+    let q = further es (added a (shortest_header g true (length x) ++ x) (r ∷ map told_row p.exact) 1) c (told_most (a.members + 1)) (subst (λ y. Runs (flat t ++ es) y c) v p.more.2) in
     framed (ordered g o ms t) t es a c g true k x z.places z.inverse (map told_row p.exact) (rows_among ms) (one_more_row (rows_in t))
     (record {
       exact = p.exact;
@@ -513,11 +513,11 @@ done_counted : Counts done
 done_counted es a c s h = record { octets = []; exact = []; stands = (refl, refl); more = subst (λ q. Runs es q c) (added_none a s) h }
 
 piece_counted : (x : List ℕ) (t : Tree) → Counts t → Counts (piece x t)
-piece_counted x t behind es a c s h =
+piece_counted x t further es a c s h =
     let b = h.0 in
     let k : ContentsAdded x a b = h.1 in
     let e : b ≡ added a x [] 0 = is_state b (a.octets ++ x) a.opened a.groups (a.rows ++ []) (told (a.members + 0)) k.octets_are k.opened_are k.groups_are (k.rows_are ∙ sym (append-nil a.rows)) (k.members_are ∙ told_same a.members s) in
-    let q = behind es (added a x [] 0) c (told_most (a.members + 0)) (subst (λ w. Runs (flat t ++ es) w c) e h.2) in
+    let q = further es (added a x [] 0) c (told_most (a.members + 0)) (subst (λ w. Runs (flat t ++ es) w c) e h.2) in
     record {
       octets = x ++ q.octets;
       exact = q.exact;
@@ -526,11 +526,11 @@ piece_counted x t behind es a c s h =
     }
 
 lacking_counted : (d : Bool) (t : Tree) → Counts t → Counts (lacking d t)
-lacking_counted d t behind es a c s h =
+lacking_counted d t further es a c s h =
     let b = h.0 in
     let o : LeftOut d a b = h.1 in
     let e : b ≡ added a [] (left_row d ∷ []) 1 = is_state b (a.octets ++ []) a.opened a.groups (a.rows ++ left_row d ∷ []) (told (a.members + 1)) (o.octets_are ∙ sym (append-nil a.octets)) o.opened_are o.groups_are o.rows_are o.members_are in
-    let q = behind es (added a [] (left_row d ∷ []) 1) c (told_most (a.members + 1)) (subst (λ w. Runs (flat t ++ es) w c) e h.2) in
+    let q = further es (added a [] (left_row d ∷ []) 1) c (told_most (a.members + 1)) (subst (λ w. Runs (flat t ++ es) w c) e h.2) in
     record {
       octets = q.octets;
       exact = left_row d ∷ q.exact;
