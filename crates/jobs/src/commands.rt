@@ -43,7 +43,11 @@ fn der(alloc: Global, kit: &Kit, job: &Job) -> Result<Vec<u8>, Fault>
     ensures refused { IfErr result
         (IsNotEncoded kit.now.program kit.now.types (string_bytes job.now.ty) (named (string_bytes job.now.value))) }
 {
-    let (octets, _account) = match kit.der(alloc, job.ty.as_str(), ValueGiven::Named(job.value.as_str())) {
+    let (octets, _account) = match kit.der(
+        alloc,
+        job.ty.as_str(),
+        ValueGiven::Named(job.value.as_str()),
+    ) {
         Ok(written) => written,
         Err(fault) => return Err(fault),
     };
@@ -62,7 +66,11 @@ fn uper(alloc: Global, kit: &Kit, job: &Job) -> Result<Vec<u8>, Fault>
     ensures refused { IfErr result
         (IsNotPacked kit.now.program kit.now.types (string_bytes job.now.ty) (named (string_bytes job.now.value))) }
 {
-    let octets = match kit.uper(alloc, job.ty.as_str(), ValueGiven::Named(job.value.as_str())) {
+    let octets = match kit.uper(
+        alloc,
+        job.ty.as_str(),
+        ValueGiven::Named(job.value.as_str()),
+    ) {
         Ok(octets) => octets,
         Err(fault) => return Err(fault),
     };
@@ -78,7 +86,11 @@ fn account(alloc: Global, kit: &Kit, job: &Job) -> Result<Vec<u8>, Fault>
     ensures refused { IfErr result
         (IsNotEncoded kit.now.program kit.now.types (string_bytes job.now.ty) (named (string_bytes job.now.value))) }
 {
-    let text = match kit.account(alloc, job.ty.as_str(), ValueGiven::Named(job.value.as_str())) {
+    let text = match kit.account(
+        alloc,
+        job.ty.as_str(),
+        ValueGiven::Named(job.value.as_str()),
+    ) {
         Ok(text) => text,
         Err(fault) => return Err(fault),
     };

@@ -16,11 +16,7 @@ fn notation_in(_job: &Job) -> &[u8] {
 }
 
 /// The words for tokens that are not those of one value.
-fn of_value_tokens(
-    alloc: Global,
-    text: &[u8],
-    fault: &SyntaxFault,
-) -> Result<String, AllocError> {
+fn of_value_tokens(alloc: Global, text: &[u8], fault: &SyntaxFault) -> Result<String, AllocError> {
     let SyntaxFault::Unexpected(place) = fault else {
         return of_tokens(alloc, text, fault);
     };

@@ -38,14 +38,7 @@ fn tried(
 ) -> Result<(), AllocError> {
     let texts = asked.texts();
     let (ty, value) = (asked.job.ty.as_str(), asked.job.value.as_str());
-    match judge(
-        alloc,
-        texts,
-        ty,
-        ValueGiven::Named(value),
-        octets,
-        account,
-    ) {
+    match judge(alloc, texts, ty, ValueGiven::Named(value), octets, account) {
         Ok(Verdict::Yes) => tally.yes = tally.yes.saturating_add(1),
         Ok(Verdict::No(_)) => tally.no = tally.no.saturating_add(1),
         Err(Fault::Memory) => return Err(AllocError),

@@ -42,7 +42,14 @@ struct Judging {
 impl Starved for Judging {
     fn call(&mut self, alloc: Global) -> Turn {
         let account = self.account.as_bytes();
-        match judge(alloc, &self.texts, "B.T", ValueGiven::Named("A.v"), &OCTETS, account) {
+        match judge(
+            alloc,
+            &self.texts,
+            "B.T",
+            ValueGiven::Named("A.v"),
+            &OCTETS,
+            account,
+        ) {
             Ok(Verdict::Yes) => Turn::Right,
             Ok(Verdict::No(_)) => Turn::Wrong,
             Err(fault) => refusal(&fault),

@@ -107,7 +107,9 @@ impl Starved for Sending {
         if self.sink.failures > 0 {
             return Turn::Wrong;
         }
-        let answered = self.kit.der_to(alloc, "B.T", ValueGiven::Named("A.v"), &mut self.sink);
+        let answered = self
+            .kit
+            .der_to(alloc, "B.T", ValueGiven::Named("A.v"), &mut self.sink);
         if self.sink.wrong {
             return Turn::Wrong;
         }
