@@ -206,7 +206,8 @@ fn in_module(alloc: Global, tokens: &[Token]) -> Result<Vec<Token>, AllocError> 
     Ok(all)
 }
 
-/// Whether a token of this kind comes after a value in a module: with it the next assignment begins, or the module ends.
+/// Whether a token of this kind comes after a value in a module: the next assignment begins with it, or the module
+/// ends.
 fn comes_after_value(kind: TokenKind) -> bool {
     matches!(
         kind,
@@ -236,7 +237,10 @@ pub fn wanted_in_value(
 ) -> Result<String, AllocError> {
     let front = in_module(alloc, tokens.get(..place).unwrap_or(tokens))?;
     let kinds = expected(alloc, front.as_slice())?;
-    if kinds.iter().any(|kind| *kind == TokenKind::Reserved(Word::End)) {
+    if kinds
+        .iter()
+        .any(|kind| *kind == TokenKind::Reserved(Word::End))
+    {
         return list_after_value(alloc, kinds.as_slice());
     }
     let mut words = list(alloc, kinds.as_slice())?;

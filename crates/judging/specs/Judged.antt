@@ -35,7 +35,7 @@ abbrev pub IsVerdict : List Resolved → ℕ → AbstractValue → List ℕ → 
 IsVerdict s t v o a Yes = IsRight s t v o a
 IsVerdict s t v o a (No r) = Fails s t v o a r
 
--- The name of a type and what is given mean a value of a type of program p, and the text `account` is that of an account.
+-- The name of a type and what is given mean a value of program p, and the text `account` is that of an account.
 -- Verdict r is the one on these and octets o.
 pub record IsVerdictOn (p : Program) (s : List Resolved) (first : List ℕ) (second : Given) (o account : List ℕ)
     (r : Verdict) : Type 0 where

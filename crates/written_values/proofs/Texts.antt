@@ -146,7 +146,7 @@ one_wrong list none lex value x (faults.Tokens f) (faults.Tokens g) m k a b =
 
 -- a text that is a notation has no fault but `Memory`
 pub of_memory : ((x : List ℕ) (n : Tree) (f : WrittenFault) → (f ≡ faults.Memory → ⊥) → IsNoNotation x f → IsNotation x n
-        → ⊥)
+    → ⊥)
     → (x : List ℕ) (n : Tree) (f : WrittenFault)
     → IsNoNotation x f
     → IsNotation x n

@@ -9,12 +9,12 @@ pub returns-clause-refused : goal.returns-clause-refused
 returns-clause-refused c =
     let same = rw c.in-Err-Told.field-0-is at c.in-Err-Told.ensures.fault in
     c.placed.ensures c.args.ty.now c.module_in-within.ensures (record {
-  type = c.args.id.index;
-  within = c.module_in-within.result.now;
-  notation = tree_of c.in-Ok.notation;
-  named = record {
-    typed = c.requires.typed;
-    given = record { within = c.module_in-within.ensures; is = c.in-Ok.ensures.found };
-  };
-  none = same;
-})
+      type = c.args.id.index;
+      within = c.module_in-within.result.now;
+      notation = tree_of c.in-Ok.notation;
+      named = record {
+        typed = c.requires.typed;
+        given = record { within = c.module_in-within.ensures; is = c.in-Ok.ensures.found };
+      };
+      none = same;
+    })
