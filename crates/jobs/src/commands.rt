@@ -43,15 +43,7 @@ fn der(alloc: Global, kit: &Kit, job: &Job) -> Result<Vec<u8>, Fault>
     ensures refused { IfErr result
         (IsNotEncoded kit.now.program kit.now.types (string_bytes job.now.ty) (given_in job.now.value)) }
 {
-<<<<<<< HEAD
     let (octets, _account) = match kit.der(alloc, job.ty.as_str(), value_of(job)) {
-=======
-    let (octets, _account) = match kit.der(
-        alloc,
-        job.ty.as_str(),
-        ValueGiven::Named(job.value.as_str()),
-    ) {
->>>>>>> n/n-contracts
         Ok(written) => written,
         Err(fault) => return Err(fault),
     };
@@ -70,15 +62,7 @@ fn uper(alloc: Global, kit: &Kit, job: &Job) -> Result<Vec<u8>, Fault>
     ensures refused { IfErr result
         (IsNotPacked kit.now.program kit.now.types (string_bytes job.now.ty) (given_in job.now.value)) }
 {
-<<<<<<< HEAD
     let octets = match kit.uper(alloc, job.ty.as_str(), value_of(job)) {
-=======
-    let octets = match kit.uper(
-        alloc,
-        job.ty.as_str(),
-        ValueGiven::Named(job.value.as_str()),
-    ) {
->>>>>>> n/n-contracts
         Ok(octets) => octets,
         Err(fault) => return Err(fault),
     };
@@ -94,15 +78,7 @@ fn account(alloc: Global, kit: &Kit, job: &Job) -> Result<Vec<u8>, Fault>
     ensures refused { IfErr result
         (IsNotEncoded kit.now.program kit.now.types (string_bytes job.now.ty) (given_in job.now.value)) }
 {
-<<<<<<< HEAD
     let text = match kit.account(alloc, job.ty.as_str(), value_of(job)) {
-=======
-    let text = match kit.account(
-        alloc,
-        job.ty.as_str(),
-        ValueGiven::Named(job.value.as_str()),
-    ) {
->>>>>>> n/n-contracts
         Ok(text) => text,
         Err(fault) => return Err(fault),
     };

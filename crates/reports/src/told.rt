@@ -145,14 +145,8 @@ fn after_heading(
 /// are counted from 1, the column in characters. For octets that can't be read the line has the place of the octet,
 /// from 0, and the part of the value that was being read: `error 80 Truncated: at octet 17, in a.b[2].c: found ..`. For
 /// bits that can't be read it has the place of the bit: `error 90 Truncated: at bit 17, in rows[3].id: found ..`. An
-<<<<<<< HEAD
 /// account's line has the file, and the octet and the row at which the text stops being an account, both from 0. A
 /// fault in the text of a notation has `--notation` for the file: `error 20 Unexpected: --notation:1:7: found ..`.
-=======
-/// account's line has the file, and the octet and the row at which the text stops being an account, both from 0.
-///
-/// A fault in the text of a notation has `--notation` in place of the file: `error 20 Unexpected: --notation:1:7: ..`.
->>>>>>> n/n-contracts
 ///
 /// If the job asks for the context and the fault is at an octet of a text, that line of the text and a line with a
 /// caret follow. At most 60 characters of a text or a name are shown at once.

@@ -38,13 +38,8 @@ fn tried(
     tally: &mut Tally,
 ) -> Result<(), AllocError> {
     let texts = asked.texts();
-<<<<<<< HEAD
     let (ty, value) = (asked.job.ty.as_str(), value_of(&asked.job));
     match judge(alloc, texts, ty, value, octets, account) {
-=======
-    let (ty, value) = (asked.job.ty.as_str(), asked.job.value.as_str());
-    match judge(alloc, texts, ty, ValueGiven::Named(value), octets, account) {
->>>>>>> n/n-contracts
         Ok(Verdict::Yes) => tally.yes = tally.yes.saturating_add(1),
         Ok(Verdict::No(_)) => tally.no = tally.no.saturating_add(1),
         Err(Fault::Memory) => return Err(AllocError),
