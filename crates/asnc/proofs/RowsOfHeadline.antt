@@ -25,6 +25,7 @@ use Rattle.front_end.specs.Accepted.{Accepted}
 use Rattle.front_end.specs.Untyped.{StandsFor}
 use Rattle.judging.specs.Judged.{IsAccountIn, IsJudged}
 use Rattle.named_values.specs.Named.{AreGiven, TypeNamed}
+use Rattle.named_values.specs.Given.{Given}
 use Rattle.asnc.specs.Headline.{IsAnswer, IsMessageOf, IsRight, IsRightlyPacked, IsRightlyRead, IsRightlyUnpacked}
 use Rattle.asnc.specs.Reading.{IsNotReadAs, IsRead, IsReadAs, rules_of}
 use Rattle.asnc.specs.Unpacking.{IsNotUnpackedAs, IsUnpackedAs, IsUnpackedBy}
@@ -34,7 +35,7 @@ use Rattle.asnc.specs.declared.reading.Rules.{Rules as Rules'}
 
 -- ---- what is written
 
-module _ (xs : List (List ℕ)) (n m o : List ℕ) (a : Account) (r : IsRight xs n m o a) where
+module _ (xs : List (List ℕ)) (n : List ℕ) (m : Given) (o : List ℕ) (a : Account) (r : IsRight xs n m o a) where
   der_texts : Accepted xs r.program r.types
   der_texts = r.accepted
 
@@ -62,7 +63,7 @@ module _ (xs : List (List ℕ)) (n m o : List ℕ) (a : Account) (r : IsRight xs
   der_checked : IsRightBesideIt r.types r.type r.value o a
   der_checked = r.checked
 
-module _ (xs : List (List ℕ)) (n m o : List ℕ) (r : IsRightlyPacked xs n m o) where
+module _ (xs : List (List ℕ)) (n : List ℕ) (m : Given) (o : List ℕ) (r : IsRightlyPacked xs n m o) where
   per_texts : Accepted xs r.program r.types
   per_texts = r.accepted
 
@@ -214,8 +215,8 @@ module _ (p : Program) (s r : List Resolved) (t : ℕ) (n x : List ℕ) (k : ℕ
 
 -- ---- the whole promise
 
-module _ (xs : List (List ℕ)) (p : Program) (s : List Resolved) (n m o b : List ℕ) (a : Account) (v u : AbstractValue)
-    (w : IsWhole xs p s n m o b a v u) where
+module _ (xs : List (List ℕ)) (p : Program) (s : List Resolved) (n : List ℕ) (m : Given) (o b : List ℕ) (a : Account)
+    (v u : AbstractValue) (w : IsWhole xs p s n m o b a v u) where
   whole_encoded : IsRight xs n m o a
   whole_encoded = w.encoded
 
