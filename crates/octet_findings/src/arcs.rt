@@ -15,7 +15,9 @@ pub(crate) fn of_arcs(
         let octet = contents.octets[place];
         if is_start && octet == 128 {
             let at = offset(contents.at, place);
-            let words = format!(in alloc; "a number that begins with the needless octet 80 at offset {at}")?;
+            let words = format!(in alloc;
+                "a number that begins with the needless octet 80 at offset {at}"
+            )?;
             return found(alloc, words, "its shortest form");
         }
         is_start = octet < 128;

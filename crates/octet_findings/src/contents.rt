@@ -48,11 +48,7 @@ pub(crate) fn of_number(
 /// What is wrong with the contents octets of a BIT STRING (8.6.2). None if they are those of one.
 fn of_bits(alloc: Global, contents: Contents<'_>) -> Result<Option<Finding>, AllocError> {
     let Some((unused, rest)) = contents.octets.split_first() else {
-        return of_count(
-            alloc,
-            contents,
-            "an octet for the number of unused bits",
-        );
+        return of_count(alloc, contents, "an octet for the number of unused bits");
     };
     let words = counted(alloc, usize::from(*unused), "unused bit")?;
     if *unused > 7 {

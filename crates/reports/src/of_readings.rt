@@ -33,7 +33,9 @@ fn of_finding(alloc: Global, finding: &Finding) -> Result<String, AllocError> {
 /// The words for bits that can't be read: the place of the bit from 0, the part of the value, and why.
 pub(crate) fn of_unread_bits(alloc: Global, unread: &UnreadBits) -> Result<String, AllocError> {
     let words = match &unread.allowed {
-        Some(allowed) => format!(in alloc; "found what the constraints do not allow, expected {allowed}")?,
+        Some(allowed) => format!(in alloc;
+            "found what the constraints do not allow, expected {allowed}"
+        )?,
         None => String::from_str(alloc, of_bits(unread.refusal))?,
     };
     let bit = unread.bit;
