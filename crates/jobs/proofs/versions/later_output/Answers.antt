@@ -12,11 +12,11 @@ returns-in-Err-is_later-clause-refused c =
     let q = c.in-Ok-newer_kit.kit.program in
     let e = c.in-Err-is_later.fault in
     let older : AreAccepted (map octets_of c.args.inputs.now.files.items) p =
-        subst (λ xs. AreAccepted (map octets_of xs) p) c.as_slice.ensures.value c.in-Ok.ensures.opened.accepted in
+    subst (λ xs. AreAccepted (map octets_of xs) p) c.as_slice.ensures.value c.in-Ok.ensures.opened.accepted in
     let newer : AreAccepted (map octets_of c.args.inputs.now.newer.items) q =
-        subst (λ xs. AreAccepted (map octets_of xs) q) c.as_slice-2.ensures.value
-        c.in-Ok-newer_kit.ensures.opened.accepted in
+    subst (λ xs. AreAccepted (map octets_of xs) q) c.as_slice-2.ensures.value
+    c.in-Ok-newer_kit.ensures.opened.accepted in
     let lacks : LacksType p q (string_bytes c.args.job.now.ty) e =
-        subst (λ n. LacksType p q n e) c.as_str.ensures.value c.in-Err-is_later.ensures.lacks in
+    subst (λ n. LacksType p q n e) c.as_str.ensures.value c.in-Err-is_later.ensures.lacks in
     without_type (map octets_of c.args.inputs.now.files.items) (map octets_of c.args.inputs.now.newer.items)
     (string_bytes c.args.job.now.ty) p q e older newer lacks
