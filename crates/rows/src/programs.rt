@@ -233,6 +233,15 @@ fn push_newer(alloc: Global, text: &mut String, newer: &[String]) -> Result<(), 
     Ok(())
 }
 
+/// Whether the words of a job give a value by its name or by a notation, and the text that they give.
+fn value_shown(value: &ValueWords) -> (&'static str, &str) {
+    match value {
+        ValueWords::Nothing => ("value", ""),
+        ValueWords::Named(name) => ("value", name.as_str()),
+        ValueWords::Written(text) => ("notation", text.as_str()),
+    }
+}
+
 /// `job NAME WORD..` and `octjob NAME WORD..`: the job of asnc or octcheck for these words, a line for each part.
 pub fn job_of(alloc: Global, row: &Row, program: &str) -> Result<String, Refusal> {
     let job = job_in(alloc, row, program)?;
@@ -252,11 +261,7 @@ pub fn job_of(alloc: Global, row: &Row, program: &str) -> Result<String, Refusal
         Given::Path(_) => "a file",
     };
     let (ty, raw) = (job.ty.as_str(), job.raw);
-    let (kind, value) = match &job.value {
-        ValueWords::Nothing => ("value", ""),
-        ValueWords::Named(name) => ("value", name.as_str()),
-        ValueWords::Written(text) => ("notation", text.as_str()),
-    };
+    let (kind, value) = value_shown(&job.value);
     let (account, strict, context) = (job.account.as_str(), job.strict, job.context);
     let mut text = format!(in alloc;
         "{verb} of {kind} {value} under type {ty}\nraw {raw}, context {context}\naccount '{account}', octets: {octets}, strict {strict}"
