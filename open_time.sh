@@ -216,6 +216,7 @@ measure referred_items 1000 2000 4000
 measure referred_union 5000 10000 20000
 measure long_default 5000 10000 20000
 measure doubled_values 16 17 18
+measure doubled_values 24
 measure doubled_defaults 5 10 20
 measure record_values 10000 20000 40000
 measure endless 180 360 720

@@ -11,10 +11,11 @@ _asnc() {
   fi
   local words
   case ${COMP_WORDS[1]} in
-    der) words='--type --value --notation --raw --context --help -h' ;;
-    uper | account) words='--type --value --notation --context --help -h' ;;
-    ber) words='--type --hex --strict --context --help -h' ;;
-    unper) words='--type --hex --context --help -h' ;;
+    der) words='--type --value --notation --lines --raw --context --help -h' ;;
+    uper) words='--type --value --notation --lines --context --help -h' ;;
+    account) words='--type --value --notation --context --help -h' ;;
+    ber) words='--type --hex --lines --strict --context --help -h' ;;
+    unper) words='--type --hex --lines --context --help -h' ;;
     list) words='--context --help -h' ;;
     later) words='--type --newer --context --help -h' ;;
     *) return ;;

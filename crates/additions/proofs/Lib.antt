@@ -2,3 +2,4 @@ pub mod Rising
 pub mod Placing
 pub mod Breaking
 mod Naming
+pub mod OneFault

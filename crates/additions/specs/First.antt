@@ -10,6 +10,8 @@ use Rattle.resolve.specs.Program.{Program}
 use Rattle.tagging.specs.Faults.{IsWrittenIn}
 use Rattle.additions.specs.Additions.{IsFirstBreak}
 use Rattle.additions.specs.declared.check.Rule.{Rule}
+use Rattle.additions.specs.declared.fault.ExtFault.{ExtFault}
+use Rattle.additions.specs.declared.fault.ExtFault.TheVariants as faults
 use Rattle.additions.specs.proving.Checks.{IsNamedAt}
 
 -- type i is the first that breaks a rule, at the member or item whose name is at this place of its text
@@ -24,3 +26,16 @@ pub record IsFirstAt (p : Program) (r : Rule) (s : Spot) : Type 0 where
   pub ty : ℕ
   pub first : IsFirstNamed p.types r ty s.at
   pub stands : IsWrittenIn p ty (module_told s) (name_told s)
+
+-- two reports have the same module and the same name
+abbrev pub IsAlike : Spot → Spot → Type 0
+IsAlike s t = (module_told s ≡ module_told t) × (name_told s ≡ name_told t)
+
+-- two faults are of the same rule, module and assignment; `Memory` says nothing
+abbrev pub SaysAlike : ExtFault → ExtFault → Type 0
+SaysAlike faults.Memory f = Unit {0}
+SaysAlike e faults.Memory = Unit {0}
+SaysAlike (faults.MarkerPlace s) (faults.MarkerPlace t) = IsAlike s t
+SaysAlike (faults.AdditionOrder s) (faults.AdditionOrder t) = IsAlike s t
+SaysAlike (faults.DefaultAddition s) (faults.DefaultAddition t) = IsAlike s t
+SaysAlike e f = ⊥

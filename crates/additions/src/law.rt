@@ -5,6 +5,7 @@ ghost use Rattle.std.specs.Prelude.{◌≡◌};
 ghost use Rattle.resolve.specs.Program.{Program};
 ghost use Rattle.additions.specs.Additions.{KeepAdditions};
 ghost use Rattle.additions.specs.Faults.{Stands};
+ghost use Rattle.additions.specs.First.{SaysAlike};
 ghost use Rattle.additions.specs.declared.fault.ExtFault.{ExtFault};
 ghost use Rattle.additions.specs.declared.fault.ExtFault.TheVariants.{Memory};
 
@@ -12,4 +13,10 @@ ghost use Rattle.additions.specs.declared.fault.ExtFault.TheVariants.{Memory};
 /// if and only if they are, unless an allocation fails.
 pub fn no_other()
     ensures { (p : Program) (e : ExtFault) → (e ≡ Memory → ⊥) → Stands p e → KeepAdditions p.types → ⊥ }
+{}
+
+/// At most one fault is the first: two faults that are true of a program are of one rule, module and assignment, unless
+/// one is `Memory`.
+pub fn one_fault()
+    ensures { (p : Program) (e f : ExtFault) → Stands p e → Stands p f → SaysAlike e f }
 {}

@@ -14,7 +14,7 @@ use crate::schema::Core;
 use crate::value::Value;
 
 /// Whether two values that hold no others are equal. A value that holds others is equal to none here.
-fn are_equal(first: &Value, second: &Value) -> bool
+pub(crate) fn are_equal(first: &Value, second: &Value) -> bool
     ensures { IsFlat (abstract first.now) → (IsTrue result ↔ (abstract first.now ≡ abstract second.now)) }
 {
     abstract_values();

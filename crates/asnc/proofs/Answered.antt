@@ -1,11 +1,12 @@
 -- A question with an answer has no fault other than `Memory`.
-use Rattle.std.proofs.Common.{◌≡◌, inl, inr, ℕ, List, refl, arith, subst}
+use Rattle.std.proofs.Common.{◌≡◌, inl, inr, ℕ, List, refl, arith, ap, subst}
 use Rattle.asn_base.specs.Abstract.{AbstractValue}
 use Rattle.asn_base.specs.Types.{Resolved}
 use Rattle.encodings.specs.Account.{Account}
 use Rattle.encodings.specs.Encoding.{Der}
 use Rattle.encodings.specs.Rules.{Rules}
 use Rattle.packed_encodings.specs.Packing.{Packed}
+use Rattle.packed_encodings.specs.Weights.{weight}
 use Rattle.resolve.specs.Program.{Program}
 use Rattle.front_end.specs.Accepted.{AreAccepted, Keeps}
 use Rattle.front_end.specs.Faults.{Stands}
@@ -80,9 +81,13 @@ not_long_bits {p} {s} {first} {second} {o} one kept m n =
     let e = one p first second m.type n.type m.value n.value kept m.meant n.meant in
     let b = m.message.bits in
     let d = subst (λ w. Packed s n.type w b) e.1 (subst (λ t. Packed s t m.value b) e.0 m.message.packed) in
-    let g = n.longer b o d m.message.filled in
     let z = m.message.not_too_long in
-    absurd (omega (arith, g, z))
+    let l = m.message.light in
+    let v = ap weight e.1 in
+    elim n.longer [
+      | inl g ↦ absurd (omega (arith, g, v, l))
+      | inr f ↦ absurd (let g = f b o d m.message.filled in omega (arith, g, z))
+    ]
 
 pub packed : OneMeaning → Refuses → (p : Program) (s : List Resolved) (first : List ℕ) (second : Given) (o : List ℕ)
     (e : Fault) → Keeps p →

@@ -9,3 +9,4 @@ mod Rows
 mod RowsOfHeadline
 mod Versions
 mod PackedVersions
+mod ShownAsRead

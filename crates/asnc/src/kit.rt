@@ -9,25 +9,24 @@ ghost use Rattle.der_writer.specs.Encoded.{IsEncoding};
 ghost use Rattle.der_writer.specs.declared.fault.WriteFault.TheVariants.{NotOfType, TooLong};
 ghost use Rattle.encodings.specs.Account.{Tells};
 ghost use Rattle.encodings.specs.Encoding.{Der};
-ghost use Rattle.packed_encodings.specs.Lengths.{Bits};
-ghost use Rattle.packed_encodings.specs.Packing.{Packed};
-ghost use Rattle.packed_encodings.specs.Padding.{Padded};
 ghost use Rattle.packed_reader.specs.declared.fault.PerFault.TheVariants.{MessageLimit};
-ghost use Rattle.packed_writer.specs.Message.{IsMessage};
+ghost use Rattle.packed_writer.specs.Message.{IsMessage, IsTooLong};
 ghost use Rattle.packed_writer.specs.declared.fault.WriteFault.TheVariants.{NotOfType as not_packed};
 ghost use Rattle.packed_writer.specs.declared.fault.WriteFault.TheVariants.{TooLong as too_many_bits};
 ghost use Rattle.value_text.specs.Print.{print};
 ghost use Rattle.views.specs.Seen.{IsView};
 ghost use Rattle.views.specs.Tree.{Tree, value_of};
 ghost use Rattle.resolve.specs.Program.{Program};
-ghost use Rattle.front_end.specs.Accepted.{Accepted, AreAccepted, HasTypes, Keeps, octets_of};
+ghost use Rattle.front_end.specs.Accepted.{Accepted, AreAccepted, HasTypes, octets_of};
 ghost use Rattle.front_end.specs.Faults.{Stands};
 ghost use Rattle.front_end.specs.declared.fault.FrontFault.TheVariants.{Memory as no_memory};
 ghost use Rattle.sinks.specs.Sent.{state};
 ghost use Rattle.messages.specs.declared.fault.Fault.TheVariants.{Device, Front, Memory};
+ghost use Rattle.asnc.specs.Differences.{AreCompared};
 ghost use Rattle.asnc.specs.Kits.{IsNotOpened};
 ghost use Rattle.asnc.specs.Packing.{IsNotPacked, IsPacked};
 ghost use Rattle.asnc.specs.Reading.{IsNotReadAs, IsReadAs, IsReadBy, IsUnread, rules_of};
+ghost use Rattle.asnc.specs.Showing.{IsNotShownAs, IsShownAs};
 ghost use Rattle.asnc.specs.Unpacking.{IsNotUnpackedAs, IsNotUnpackedBy, IsUnpackedAs, IsUnpackedBy};
 ghost use Rattle.asnc.specs.Versions.{IsCompared, IsNotCompared};
 ghost use Rattle.asnc.specs.Writing.{IsAccountOf, IsEncoded, IsNotEncoded, IsSent, IsSentInPart};
@@ -36,6 +35,7 @@ ghost use Rattle.named_values.specs.Meant.{IsMeant, IsNotMeant};
 ghost use Rattle.named_values.specs.Named.{Names, TypeNamed};
 
 use crate::reading::{Rules, read_as, read_by};
+use crate::showing::{Listing, shown_as};
 use crate::unpacking::{unpacked, unpacked_as};
 use account_text::to_json;
 use asn_base::schema::{Schema, TypeId};
@@ -44,16 +44,15 @@ use ber_reader::Read;
 use codec_code::{Code, compile};
 use decode_faults::ReadFault;
 use der_writer::{WriteFault, write_der, write_der_to};
-use front_end::law::{accepted_keep, values_of_schema};
+use front_end::law::values_of_schema;
 use front_end::{FrontFault, Modules};
-use later_versions::later;
+use later_versions::{Explained, explain, later};
 use messages::Fault;
 use named_values::{ValueGiven, meant, type_number};
 use octet_account::account::Account;
 use packed_code::{PackedCode, compile_packed};
 use packed_reader::PerFault;
 use packed_writer::write_uper;
-use resolve::Linked;
 use sinks::Sink;
 use std::alloc::Global;
 use std::marker::Model;
@@ -101,10 +100,9 @@ fn refusal(fault: FrontFault) -> Fault
 }
 
 /// The kit of modules that were accepted, with these types.
-fn kit_of(alloc: Global, linked: Linked, schema: Schema) -> Result<Kit, Fault>
-    requires kept { Keeps linked }
-    requires types { HasTypes linked schema }
-    ensures program { IfOk result (λ k. k.program ≡ linked) }
+fn kit_of(alloc: Global, modules: Modules, schema: Schema) -> Result<Kit, Fault>
+    requires { HasTypes modules schema }
+    ensures program { IfOk result (λ k. k.program ≡ modules) }
     ensures types { IfOk result (λ k. k.types ≡ schema) }
     ensures memory { IfErr result (λ e. e ≡ Memory) }
 {
@@ -117,7 +115,7 @@ fn kit_of(alloc: Global, linked: Linked, schema: Schema) -> Result<Kit, Fault>
         Err(packed_code::Fault::Memory) => return Err(Fault::Memory),
     };
     Ok(Kit {
-        modules: Modules::of(linked),
+        modules,
         schema,
         code,
         packed,
@@ -141,9 +139,8 @@ impl Kit {
         // A fault is true, and is the first one in reading order.
         ensures fault { IfErr result (IsNotOpened (map octets_of texts.now)) }
     {
-        accepted_keep();
         match front_end::open(alloc, texts) {
-            Ok(front) => kit_of(alloc, front.linked, front.schema),
+            Ok(front) => kit_of(alloc, front.modules, front.schema),
             Err(fault) => Err(refusal(fault)),
         }
     }
@@ -279,7 +276,8 @@ impl Kit {
     /// named and the value is given as for [`Kit::value_of`], and the value's notation is read under this type.
     ///
     /// `NoType`, `NoValue`, `Notation` and `Value` come as for [`Kit::value_of`]. `TooLong`: there are more than
-    /// 16,777,216 octets. `Memory`: an allocation failed.
+    /// 16,777,216 octets, or the value's nodes and the octets of its character strings are together more than that.
+    /// `Memory`: an allocation failed.
     pub fn uper(&self, alloc: Global, ty: &str, value: ValueGiven<'_>) -> Result<Vec<u8>, Fault>
         // The octets are the bits of the value that the notation stands for under the type, and no others are.
         ensures packed { IfOk result (λ o.
@@ -331,6 +329,26 @@ impl Kit {
         )
     }
 
+    /// Lists the headers of a message, with what each is in the terms of the type, and says whether [`Kit::ber`]
+    /// accepts the message by the basic rules. The type is named as for [`Kit::ber`]. If the octets are refused, those
+    /// headers are listed that are before the octet of the refusal.
+    ///
+    /// A line has the offset of a header, from 0, and its identifier octets and its length octets in hexadecimal
+    /// (X.690, 8.1.2 and 8.1.3). Its margin has two spaces for each encoding that the header is within. After that come
+    /// the name of the component or alternative or the index of the element, the name and the kind of the type, and the
+    /// value of what is primitive. A value is cut off after 60 characters, and a name after 28. The lines have at most
+    /// 64 octets for each octet of the message.
+    ///
+    /// `NoType`: the name is not that of a type. `Memory`: an allocation failed.
+    pub fn show(&self, alloc: Global, ty: &str, octets: &[u8]) -> Result<Listing, Fault>
+        // The lines are those of the headers, and the refusal is that of the octets.
+        ensures shown { IfOk result (IsShownAs self.now.program self.now.types ty.now octets.now) }
+        // A fault is true.
+        ensures refused { IfErr result (IsNotShownAs self.now.program ty.now) }
+    {
+        shown_as(alloc, &self.modules, &self.schema, &self.code, ty, octets)
+    }
+
     /// Decodes the value of a type that octets are a message of in canonical PER, unaligned (X.691, 11.1). Returns its
     /// printed text, and the number of skipped additions that the type lacks. The type is named as for [`Kit::ber`].
     ///
@@ -360,6 +378,14 @@ impl Kit {
         ensures only { IfSome result (λ id. Names self.now.program name.now id.index) }
     {
         type_number(&self.modules, name)
+    }
+
+    /// The types of the kit's modules. Values are made and looked into by names with them. The numbers of types are those
+    /// that [`Kit::type_named`] finds.
+    pub fn schema(&self) -> &Schema
+        ensures { result.now ≡ self.now.types }
+    {
+        &self.schema
     }
 
     /// Encodes a value that a program has made, by the distinguished rules (X.690, clauses 8, 10 and 11), and returns
@@ -393,7 +419,8 @@ impl Kit {
     /// Encodes a value that a program has made, in canonical PER, unaligned: its bits, filled to octets (X.691, 11.1).
     ///
     /// `NotOfType`: the value is not one of the type, or the kit has no such type. `TooLong`: there are more than
-    /// 16,777,216 octets. `Memory`: an allocation failed.
+    /// 16,777,216 octets, or the value's nodes and the octets of its character strings are together more than that.
+    /// `Memory`: an allocation failed.
     pub fn pack(
         &self,
         alloc: Global,
@@ -407,11 +434,9 @@ impl Kit {
             → IsValue self.now.types id.index (abstract value.now)
             → ⊥) }
         ensures no_value { (IsValue self.now.types id.index (abstract value.now) → ⊥) → result ≡ Err not_packed }
-        // `TooLong` only if the value's message is too long.
-        ensures longer { IfErr result (λ e. e ≡ too_many_bits → (b : Bits) (o : List ℕ)
-            → Packed self.now.types id.index (abstract value.now) b
-            → Padded b o
-            → 16777216 < length o) }
+        // `TooLong` only if the value is too heavy, or its message too long.
+        ensures longer { IfErr result (λ e. e ≡ too_many_bits
+            → IsTooLong self.now.types id.index (abstract value.now)) }
     {
         write_uper(alloc, &self.packed, id, value)
     }
@@ -491,6 +516,30 @@ impl Kit {
         };
         newer.settled();
         match later(alloc, &older.schema, first, &newer.schema, second) {
+            Ok(answer) => Ok(answer),
+            Err(_) => Err(Fault::Memory),
+        }
+    }
+
+    /// Compares the type of this name in the older kit with that in the newer kit. The answer is that the newer one is a
+    /// later version, as [`Kit::later`] says, or where it is none first, and why, with a text that says so.
+    ///
+    /// `NoType`: at least one kit has no type of this name. `Memory`: an allocation failed.
+    pub fn compare(alloc: Global, older: &Kit, newer: &Kit, ty: &str) -> Result<Explained, Fault>
+        // The name finds one type in each kit, and the answer is that of their comparison.
+        ensures compared { IfOk result (AreCompared older.now.program older.now.types
+            newer.now.program newer.now.types ty.now) }
+        // The reason of a refusal applies.
+        ensures refused { IfErr result (IsNotCompared older.now.program newer.now.program ty.now) }
+    {
+        let Some(first) = type_number(&older.modules, ty) else {
+            return Err(Fault::NoType(String::from_str(alloc, ty)?));
+        };
+        let Some(second) = type_number(&newer.modules, ty) else {
+            return Err(Fault::NoType(String::from_str(alloc, ty)?));
+        };
+        newer.settled();
+        match explain(alloc, &older.schema, first, &newer.schema, second) {
             Ok(answer) => Ok(answer),
             Err(_) => Err(Fault::Memory),
         }

@@ -1,6 +1,6 @@
 //! What follows from the results of a kit. A caller calls a law to know it; a law takes no memory and no time.
 
-ghost use Rattle.std.specs.Prelude.{◌≡◌, ◌≤◌, ℕ, List, String, IsUtf8, length, true};
+ghost use Rattle.std.specs.Prelude.{◌≡◌, ◌≤◌, ℕ, List, String, IsSome, IsUtf8, None, length, true};
 ghost use Rattle.std.specs.Global.{Global};
 ghost use Rattle.asn_base.specs.Types.{Resolved};
 ghost use Rattle.encodings.specs.Account.{Account};
@@ -22,6 +22,7 @@ ghost use Rattle.asnc.specs.Headline.{IsRightlyUnpacked};
 ghost use Rattle.asnc.specs.Kits.{IsNotOpened};
 ghost use Rattle.asnc.specs.Packing.{IsNotPacked, IsPacked};
 ghost use Rattle.asnc.specs.Reading.{IsNotReadAs, IsReadAs, rules_of};
+ghost use Rattle.asnc.specs.Showing.{IsShownAs};
 ghost use Rattle.asnc.specs.Unpacking.{IsNotUnpackedAs, IsUnpackedAs};
 ghost use Rattle.asnc.specs.Versions.{IsCompared, IsKeptAnswer, IsPackedKeptAnswer, IsWidenedAnswer};
 ghost use Rattle.asnc.specs.Whole.{IsWhole};
@@ -31,6 +32,7 @@ ghost use Rattle.version_laws.specs.Versions.{IsKnown};
 ghost use Rattle.account_checker.specs.declared.reason.Verdict.TheVariants.{Yes};
 ghost use Rattle.judging.specs.Judged.{IsAccountIn, IsJudged};
 ghost use Rattle.asnc.specs.declared.reading.Rules.{Rules as Rules'};
+ghost use Rattle.asnc.specs.declared.showing.Listing.{Listing};
 ghost use Rattle.named_values.specs.Given.{Given, written};
 ghost use Rattle.named_values.specs.Meant.{IsMeant};
 
@@ -391,4 +393,16 @@ pub fn one_refusal()
         IsNotUnpackedAs p s name o MessageLimit →
         IsNotUnpackedAs p s name o (UnreadBits u) →
         ⊥ }
+{}
+
+/// Octets are shown as accepted by [`crate::Kit::show`] exactly if [`crate::Kit::ber`] reads them by the basic rules.
+pub fn shown_as_read()
+    ensures accepted { (p : Program) (s : List Resolved) (name o printed : List ℕ) (k : ℕ) (l : Listing) →
+        IsReadAs p s Basic name o printed k →
+        IsShownAs p s name o l →
+        l.refusal ≡ None }
+    ensures refused { (p : Program) (s : List Resolved) (name o : List ℕ) (u : Unread') (l : Listing) →
+        IsNotReadAs p s Basic name o (Unread u) →
+        IsShownAs p s name o l →
+        IsSome l.refusal }
 {}

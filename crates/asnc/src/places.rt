@@ -9,6 +9,7 @@ ghost use Rattle.asnc.specs.Unpacking.{part_of, type_in, with_parts};
 use asn_base::schema::{Core, Schema, TypeId};
 use ber_reader::{Open, Part, whereabouts};
 use codec_code::Code;
+use octet_findings::Gap;
 use std::alloc::{AllocError, Global};
 use value_text::names::{alternative_at, components};
 
@@ -114,13 +115,36 @@ fn innermost_type(schema: &Schema, id: TypeId, values: &[Open]) -> TypeId {
     }
 }
 
-/// Where reading stops: the offset of the octet, the path of the parts that were being read, and the type of the
-/// innermost of them.
+/// The number of headers that open values are within.
+fn header_count(schema: &Schema, values: &[Open]) -> usize {
+    let mut count = 0usize;
+    for i in 0..values.len() {
+        if let Some(resolved) = schema.types().get(values[i].ty.index) {
+            count = count.saturating_add(resolved.tags.len());
+        }
+    }
+    count
+}
+
+/// Where the innermost open value lacks a component, if that is why reading stops.
+fn gap_at(schema: &Schema, values: &[Open], octet: usize) -> Gap {
+    match values.last() {
+        Some(value) if value.part.is_none() => Gap::End {
+            at: octet,
+            levels: header_count(schema, values),
+        },
+        _ => Gap::Group { at: octet },
+    }
+}
+
+/// Where reading stops: the offset of the octet, the path of the parts that were being read, the type of the innermost
+/// of them, and where that lacks a component.
 #[derive(Drop)]
 pub(crate) struct PartAt {
     pub octet: usize,
     pub path: String,
     pub ty: TypeId,
+    pub gap: Gap,
 }
 
 /// Where reading the octets as a value of the type stops.
@@ -137,10 +161,12 @@ pub(crate) fn stopped(
     let found = whereabouts(alloc, code, id, octets)?;
     let path = path_to(alloc, schema, found.values.as_slice())?;
     let ty = innermost_type(schema, id, found.values.as_slice());
+    let gap = gap_at(schema, found.values.as_slice(), found.place);
     Ok(PartAt {
         octet: found.place,
         path,
         ty,
+        gap,
     })
 }
 

@@ -21,7 +21,7 @@ use decode_faults::ReadFault;
 use front_end::Modules;
 use messages::{Fault, Unread};
 use named_values::type_number;
-use octet_findings::finding;
+use octet_findings::{finding, missing};
 use std::alloc::{AllocError, Global};
 use view_text::print_shown;
 
@@ -35,7 +35,7 @@ pub enum Rules {
 }
 
 /// A fault of octets with the octet and the path at which it is, and what was found there.
-fn unread_at(
+pub(crate) fn unread_at(
     alloc: Global,
     schema: &Schema,
     code: &Code,
@@ -48,7 +48,10 @@ fn unread_at(
     ensures place { IfOk result (λ u. IsStopped code.now id.index octets.now u.octet (string_bytes u.path)) }
 {
     let part = stopped(alloc, schema, code, id, octets)?;
-    let finding = finding(alloc, schema, part.ty, octets, part.octet, fault)?;
+    let finding = match fault {
+        ReadFault::Missing => missing(alloc, schema, part.ty, octets, part.gap)?,
+        _ => finding(alloc, schema, part.ty, octets, part.octet, fault)?,
+    };
     Ok(Unread {
         fault,
         octet: part.octet,

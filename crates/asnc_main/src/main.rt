@@ -2,7 +2,8 @@
 #![tactic(auto)]
 
 use command_line::Job;
-use jobs::work;
+use input_lines::InputLines;
+use jobs::{LineJob, line_command, work, work_lines};
 use programs::{end, end_in, inputs_of, job_of};
 use sinks::Counted;
 use std::io;
@@ -15,7 +16,19 @@ fn run(rt: &HostRuntime, job: &Job) -> ExitCode {
         Err(fault) => return end_in(rt, job, &[], &[], &fault),
     };
     let mut out = Counted::of(io::writer(rt));
-    match work(rt.alloc(), job, &inputs, &mut out) {
+    let done = match line_command(job) {
+        Some(command) => {
+            let asked = LineJob {
+                job,
+                inputs: &inputs,
+                command,
+            };
+            let mut input = InputLines::of(rt.alloc(), rt.stdin());
+            work_lines(rt.alloc(), asked, &mut input, &mut out)
+        }
+        None => work(rt.alloc(), job, &inputs, &mut out),
+    };
+    match done {
         Ok(true) => ExitCode::SUCCESS,
         Ok(false) => ExitCode::from(1),
         Err(fault) => end_in(rt, job, &inputs.files, &inputs.newer, &fault),

@@ -1,12 +1,10 @@
 //! Values that modules name.
 
-ghost use Rattle.front_end.specs.Accepted.{Keeps};
 ghost use Rattle.std.specs.Prelude.{◌<◌, IfSome, length};
 
 use crate::codes::Codes;
 use crate::timing::{Subject, measure};
 use asn_base::schema::TypeId;
-use front_end::law::accepted_keep;
 use front_end::{Modules, open};
 use resolve::Referent;
 use std::{env, fs, io};
@@ -88,7 +86,6 @@ fn measure_one(
 /// Measures each value that the command line names.
 pub fn measure_named(rt: &HostRuntime) -> io::Result<()> {
     let asked = asked(rt)?;
-    accepted_keep();
     let front = match open(rt.alloc(), asked.texts.as_slice()) {
         Ok(front) => front,
         Err(fault) => return println!(rt; "{fault}"),
@@ -96,9 +93,14 @@ pub fn measure_named(rt: &HostRuntime) -> io::Result<()> {
     let Some(codes) = Codes::of(rt.alloc(), &front.schema) else {
         return println!(rt; "want of memory");
     };
-    let modules = Modules::of(front.linked);
     for pair in asked.names.as_slice().chunks_exact(2) {
-        measure_one(rt, &modules, &codes, pair[0].as_str(), pair[1].as_str())?;
+        measure_one(
+            rt,
+            &front.modules,
+            &codes,
+            pair[0].as_str(),
+            pair[1].as_str(),
+        )?;
     }
     Ok(())
 }

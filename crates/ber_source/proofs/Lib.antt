@@ -5,3 +5,4 @@ pub mod Going
 pub mod Taken
 pub mod Bad
 pub mod Skipping
+pub mod Shorts

@@ -2,4 +2,5 @@
 -- cursor guarantees as a source (`Laws`).
 pub mod Holding
 pub mod Seen
+pub mod Short
 pub mod Laws

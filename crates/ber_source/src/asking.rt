@@ -25,7 +25,10 @@ use octet_answers::law::one_unit;
 
 /// Gives one more token to the receiver.
 #[inline(always)]
-fn tell<'c, 'a, T: Teller<'a>>(place: &mut Place<'c, 'a, T>, mark: Mark) -> Result<(), ReadFault>
+pub(crate) fn tell<'c, 'a, T: Teller<'a>>(
+    place: &mut Place<'c, 'a, T>,
+    mark: Mark,
+) -> Result<(), ReadFault>
     requires { IsWithin T.suits place.old }
     ensures within { IsWithin T.suits place.new }
     ensures ok { OnOk result (state_of T.tokens place.new ≡ telling (state_of T.tokens place.old) (mark_of mark)) }

@@ -151,6 +151,19 @@ impl<'c, 'a> Source for Cursor<'c, 'a> {
         choose_next(&mut self.place, calls)
     }
 
+    fn small_value(&mut self, id: TypeId, head: Head, kind: LeafKind) -> Result<bool, ReadFault> {
+        Ok(false)
+    }
+
+    fn small_component(
+        &mut self,
+        field: Field,
+        head: Head,
+        kind: LeafKind,
+    ) -> Result<bool, ReadFault> {
+        Ok(false)
+    }
+
     ghost use Rattle.ber_source.specs.Laws.{begins_less, never_more, one_answer as one_answer'};
 
     ghost one_answer = { one_answer' };

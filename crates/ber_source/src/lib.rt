@@ -9,6 +9,7 @@ pub mod moves;
 mod outer;
 mod passing;
 pub mod place;
+pub mod small;
 mod teller;
 mod token;
 mod window;

@@ -1,10 +1,15 @@
 -- What octets answer, as what a cursor takes.
-use Rattle.std.proofs.Common.{◌≡◌, sym, subst}
+use Rattle.std.proofs.Common.{◌≡◌, Bool, true, false, sym, subst}
 use Rattle.std.specs.Prelude.{Result, Ok, Err, OnOk, IfOk}
 use Rattle.decode_faults.specs.declared.read_fault.ReadFault.{ReadFault}
 use Rattle.codec_source.specs.proving.Frames.{IfRefused, IfRefusedWith}
 use Rattle.octet_answers.specs.Left.{Leaves}
 use Rattle.codec_source.specs.Events.{Event, Question}
+use Rattle.codec_source.specs.Small.{TakesValue, TakesComponent}
+use Rattle.asn_base.specs.declared.schema.TypeId.{TypeId}
+use Rattle.codec_code.specs.declared.step.Field.{Field}
+use Rattle.codec_code.specs.declared.step.Head.{Head}
+use Rattle.encodings.specs.declared.leaf_kind.LeafKind.{LeafKind}
 use Rattle.octet_answers.specs.States.{State}
 use Rattle.octet_answers.specs.Answers.{Answers, Takes}
 
@@ -48,3 +53,23 @@ pub left_as : {A : Type 0} (r : Result A ReadFault) (s a b : State) (q : Questio
     → IfRefusedWith r (Leaves a q b)
 left_as (Ok x) s a b q e h = h
 left_as (Err f) s a b q e h = λ other. subst (λ z. Leaves z q b f) e (h other)
+
+-- ---- values that are read at once
+
+pub value_as : (r : Result Bool ReadFault) (s a b : State) (t : TypeId) (h : Head) (k : LeafKind)
+    → s ≡ a
+    → IfOk r (λ yes. yes ≡ true → TakesValue Takes t h k s b)
+    → IfOk r (λ yes. yes ≡ true → TakesValue Takes t h k a b)
+value_as r s a b t h k e i = subst (λ q. IfOk r (λ yes. yes ≡ true → TakesValue Takes t h k q b)) e i
+
+pub component_as : (r : Result Bool ReadFault) (s a b : State) (f : Field) (h : Head) (k : LeafKind)
+    → s ≡ a
+    → IfOk r (λ yes. yes ≡ true → TakesComponent Takes f h k s b)
+    → IfOk r (λ yes. yes ≡ true → TakesComponent Takes f h k a b)
+component_as r s a b f h k e i = subst (λ q. IfOk r (λ yes. yes ≡ true → TakesComponent Takes f h k q b)) e i
+
+pub nothing_as : (r : Result Bool ReadFault) (s a b : State)
+    → s ≡ a
+    → IfOk r (λ yes. yes ≡ false → b ≡ s)
+    → IfOk r (λ yes. yes ≡ false → b ≡ a)
+nothing_as r s a b e i = subst (λ q. IfOk r (λ yes. yes ≡ false → b ≡ q)) e i

@@ -10,6 +10,7 @@ use leaf_readings::read_arc;
 use std::alloc::AllocError;
 
 /// Appends numbers, each below 2^64.
+#[inline(always)]
 fn push_arcs(arcs: &mut Vec<u64>, octets: &[u8]) -> Result<(), AllocError>
     requires { (ns : List ℕ) × AllByRecursion (λ n. n < 2 ^ 64) ns × (octets.now ≡ flat_map septets ns) }
     ensures { (ns : List ℕ)
@@ -32,6 +33,7 @@ fn push_arcs(arcs: &mut Vec<u64>, octets: &[u8]) -> Result<(), AllocError>
 }
 
 /// Empties a list, which then has room for so many numbers.
+#[inline(always)]
 fn empty(arcs: &mut Vec<u64>, room: usize) -> Result<(), AllocError>
     ensures { OnOk result (arcs.new.items ≡ []) }
 {
@@ -77,6 +79,7 @@ pub(crate) fn object_arcs(arcs: &mut Vec<u64>, octets: &[u8]) -> Result<(), Allo
 }
 
 /// The two numbers that were joined into one (8.19.4).
+#[inline(always)]
 fn parted(number: u128) -> (u64, u64)
     requires { number < 2 ^ 64 + 80 }
     ensures { (x y : ℕ)

@@ -11,6 +11,7 @@ use asn_base::schema::TypeId;
 use ber_source::asking::{among_next, choose_next, has_more, skip, stands_next};
 use ber_source::moves::{begin, close, end, hold, open};
 use ber_source::place::{Place, at_front};
+use ber_source::small::{small_component, small_value};
 use codec_code::{Code, Field, Head, Step};
 use codec_source::Source;
 use decode_faults::ReadFault;
@@ -145,6 +146,21 @@ impl<'c, 'a> Source for Viewer<'c, 'a> {
     fn alternative(&mut self, calls: &[Step]) -> Result<TypeId, ReadFault> {
         one_answer();
         choose_next(&mut self.place, calls)
+    }
+
+    #[inline(always)]
+    fn small_value(&mut self, id: TypeId, head: Head, kind: LeafKind) -> Result<bool, ReadFault> {
+        small_value(&mut self.place, id, head, kind)
+    }
+
+    #[inline(always)]
+    fn small_component(
+        &mut self,
+        field: Field,
+        head: Head,
+        kind: LeafKind,
+    ) -> Result<bool, ReadFault> {
+        small_component(&mut self.place, field, head, kind)
     }
 
     ghost use Rattle.ber_source.specs.Laws.{begins_less, never_more, one_answer as one_answer'};

@@ -20,15 +20,17 @@ abbrev pub contents : Option (Vec ℕ Global) → List ℕ
 contents None = []
 contents (Some v) = v.items
 
--- the octets that a job gives: those of its words, or those of the file that its words name
+-- the octets that a job gives: those of its words, or those of the file that its words name; lines are not among them
 abbrev pub octets_given : Given → Option (Vec ℕ Global) → List ℕ
 octets_given given.Nothing file = []
+octets_given given.Lines file = []
 octets_given (given.Octets v) file = v.items
 octets_given (given.Path name) file = contents file
 
 -- the value that a job gives: by its name, or by the text of a notation; without either it has the empty name
 abbrev pub given_in : ValueWords → GivenValue
 given_in values.Nothing = named []
+given_in values.Lines = named []
 given_in (values.Named s) = named (string_bytes s)
 given_in (values.Written s) = written (string_bytes s)
 
@@ -40,6 +42,7 @@ line_of text = text ++ (10 ∷ [])
 abbrev pub HasFile : Given → Option (Vec ℕ Global) → Type 0
 HasFile (given.Path name) file = IsSome file
 HasFile given.Nothing file = file ≡ None
+HasFile given.Lines file = file ≡ None
 HasFile (given.Octets v) file = file ≡ None
 
 -- What the files that a job names contain: a text for each of its modules and of its newer modules, and the other files

@@ -34,12 +34,12 @@ fn contents_of(file: &Option<Vec<u8>>) -> &[u8]
 
 impl Inputs {
     /// The octets that a job gives: those of its words, or those of the file that its words name. Without either there
-    /// are none.
+    /// are none; those of lines are not among a job's inputs.
     pub fn octets_of<'a>(&'a self, job: &'a Job) -> &'a [u8]
         ensures { result.now ≡ octets_given job.now.octets self.now.octets }
     {
         match &job.octets {
-            Given::Nothing => &[],
+            Given::Nothing | Given::Lines => &[],
             Given::Octets(octets) => octets.as_slice(),
             Given::Path(_) => contents_of(&self.octets),
         }
@@ -58,7 +58,7 @@ pub fn value_of(job: &Job) -> ValueGiven<'_>
     ensures { as_given result ≡ given_in job.now.value }
 {
     match &job.value {
-        ValueWords::Nothing => ValueGiven::Named(""),
+        ValueWords::Nothing | ValueWords::Lines => ValueGiven::Named(""),
         ValueWords::Named(name) => ValueGiven::Named(name.as_str()),
         ValueWords::Written(text) => ValueGiven::Written(text.as_bytes()),
     }

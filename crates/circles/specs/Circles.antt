@@ -1,6 +1,6 @@
 -- Components with a DEFAULT whose types lead back to the lists that hold them (own rule, narrower than X.680, clause
 -- 25).
-use Rattle.std.specs.Prelude.{◌≡◌, ℕ, Bool, List, Some, slice_get}
+use Rattle.std.specs.Prelude.{◌≡◌, ◌<◌, ℕ, Bool, List, Some, slice_get}
 use Rattle.asn_base.specs.declared.tag.Tag.{Tag}
 use Rattle.trees.specs.Values.{Tree}
 use Rattle.trees.specs.declared.types.ListKind.{ListKind}
@@ -43,6 +43,10 @@ pub record IsDefaultCircle (ts : List Type') (i : ℕ) : Type 0 where
   pub notation : Tree
   pub defaulted : component.presence ≡ default notation
   pub back : Reaches ts component.ty i
+
+-- type i is the first list in a circle, by the numbers of types
+abbrev pub IsFirstDefaultCircle : List Type' → ℕ → Type 0
+IsFirstDefaultCircle ts i = IsDefaultCircle ts i × ((k : ℕ) → k < i → IsDefaultCircle ts k → ⊥)
 
 -- no list of the table has a component with a DEFAULT whose type leads back to that list (own rule)
 abbrev pub NoDefaultCircles : List Type' → Type 0

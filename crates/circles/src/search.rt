@@ -3,7 +3,7 @@
 ghost use Rattle.std.specs.Prelude.{ℕ, ◌≡◌, ◌<◌, ◌+◌, ◌↔◌, length, slice_get, slice_index, map, IfOk, OnOk, IsTrue, MatchOption};
 ghost use Rattle.type_table.specs.Seen.{types_of, part_of};
 ghost use Rattle.type_table.specs.Table.{IsClosed, HasMembers, HasElements};
-ghost use Rattle.circles.specs.Circles.{IsDefaultCircle, NoDefaultCircles};
+ghost use Rattle.circles.specs.Circles.{IsDefaultCircle, IsFirstDefaultCircle, NoDefaultCircles};
 ghost use Rattle.circles.specs.proving.Ranks.{Rise, DefaultsAbove};
 ghost use Rattle.circles.specs.proving.Reach.{HasParts, AreUpTo};
 
@@ -65,7 +65,7 @@ fn first_circle(
     requires earlier { AreUpTo 0 marks.old }
     ensures { IfOk result
         (λ o. MatchOption o (NoDefaultCircles (types_of types.now))
-        (λ i. (i < length types.now) × IsDefaultCircle (types_of types.now) i)) }
+        (λ i. (i < length types.now) × IsFirstDefaultCircle (types_of types.now) i)) }
 {
     for list in 0..types.len() {
         if is_in_circle(alloc, types, ranks, rise, list, marks)? {
@@ -84,7 +84,7 @@ pub fn circle_of(alloc: Global, types: &[Written]) -> Result<Option<usize>, Allo
     requires inner { HasElements (types_of types.now) }
     ensures { IfOk result
         (λ o. MatchOption o (NoDefaultCircles (types_of types.now))
-        (λ i. (i < length types.now) × IsDefaultCircle (types_of types.now) i)) }
+        (λ i. (i < length types.now) × IsFirstDefaultCircle (types_of types.now) i)) }
 {
     let numbers = ranks_of(alloc, types)?;
     let ranks = numbers.as_slice();

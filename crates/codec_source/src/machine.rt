@@ -12,7 +12,7 @@ ghost use Rattle.std.specs.Prelude.{◌≡◌, ◌<◌, ◌+◌, ◌∷◌, ◌+
 use crate::ask::ask;
 use crate::frame::Frame;
 use crate::source::Source;
-use crate::whole::{leaf_routine, read_whole};
+use crate::whole::{leaf_routine, read_component, read_value, read_whole};
 use asn_base::schema::TypeId;
 use codec_code::{Code, Coding, Step};
 use decode_faults::ReadFault;
@@ -62,6 +62,7 @@ fn next_of<'a>(frames: &mut Vec<Frame<'a>>, next: Option<Frame<'a>>) -> Option<F
 }
 
 /// Appends one frame.
+#[inline(always)]
 fn add<'a>(frames: &mut Vec<Frame<'a>>, frame: Frame<'a>) -> Result<(), ReadFault>
     ensures ok { OnOk result (frames.new.items ≡ frames.old.items ++ frame.entry ∷ []) }
     ensures err { IfErr result (λ e. e ≡ Memory) }
@@ -73,6 +74,36 @@ fn add<'a>(frames: &mut Vec<Frame<'a>>, frame: Frame<'a>) -> Result<(), ReadFaul
 /// Does one step of a frame above those that wait. Returns the frame that goes on, unless it is the last waiting one.
 #[inline(always)]
 fn turn<'a, S: Source>(
+    code: &'a Code,
+    frame: Frame<'a>,
+    frames: &mut Vec<Frame<'a>>,
+    source: &mut S,
+) -> Result<Option<Frame<'a>>, ReadFault>
+    ensures ok { IfOk result (λ o. Same
+        (Before (routine_at code.now) S.takes frame.entry.steps.now frames.old.items source.old)
+        (Goes (routine_at code.now) S.takes (and_next frames.new.items o) source.new)) }
+    ensures less { IfOk result (λ o.
+        weighs (length (table_of code.now)) (S.room source.new) (and_next frames.new.items o)
+        < weighs (length (table_of code.now)) (S.room source.old) (frames.old.items ++ frame.entry ∷ [])) }
+    ensures err { IfRefused result
+        (Never (Before (routine_at code.now) S.takes frame.entry.steps.now frames.old.items source.old)) }
+    ensures on { IfOk result (λ o. (e : ReadFault') (z : S)
+        → GoesStop (routine_at code.now) S.takes (λ a q b. S.leaves a q b e) (and_next frames.new.items o) source.new z
+        → BeforeStops (routine_at code.now) S.takes (λ a q b. S.leaves a q b e) frame.entry.steps.now frames.old.items
+        source.old z) }
+    ensures stopped { IfRefusedWith result (λ e. BeforeStops (routine_at code.now) S.takes (λ a q b. S.leaves a q b e)
+        frame.entry.steps.now frames.old.items source.old source.new) }
+{
+    match read_component(code, frame, source) {
+        Ok(Some(next)) => Ok(Some(next)),
+        Ok(None) => turn_by_questions(code, frame, frames, source),
+        Err(fault) => Err(fault),
+    }
+}
+
+/// The same as `turn`, question by question.
+#[inline(always)]
+fn turn_by_questions<'a, S: Source>(
     code: &'a Code,
     frame: Frame<'a>,
     frames: &mut Vec<Frame<'a>>,
@@ -135,9 +166,42 @@ fn call<'a, S: Source>(
         (Never (ThenBefore (routine_at code.now) S.takes (Some id) behind.now frames.old.items source.old)) }
     ensures on { IfOk result (λ f. (e : ReadFault') (z : S)
         → GoesStop (routine_at code.now) S.takes (λ a q b. S.leaves a q b e) (frames.new.items ++ f ∷ []) source.new z
-        → ThenBeforeStops (routine_at code.now) S.takes (λ a q b. S.leaves a q b e) (Some id) behind.now frames.old.items
-        source.old z) }
-    ensures stopped { IfRefusedWith result (λ e. ThenBeforeStops (routine_at code.now) S.takes (λ a q b. S.leaves a q b e)
+        → ThenBeforeStops (routine_at code.now) S.takes (λ a q b. S.leaves a q b e)
+        (Some id) behind.now frames.old.items source.old z) }
+    ensures stopped { IfRefusedWith result (λ e.
+        ThenBeforeStops (routine_at code.now) S.takes (λ a q b. S.leaves a q b e)
+        (Some id) behind.now frames.old.items source.old source.new) }
+{
+    match read_value(code, id, source) {
+        Ok(true) => Ok(Frame { steps: behind }),
+        Ok(false) => call_by_questions(code, id, behind, frames, source),
+        Err(fault) => Err(fault),
+    }
+}
+
+/// The same as `call`, question by question.
+#[inline(always)]
+fn call_by_questions<'a, S: Source>(
+    code: &'a Code,
+    id: TypeId,
+    behind: &'a [Step],
+    frames: &mut Vec<Frame<'a>>,
+    source: &mut S,
+) -> Result<Frame<'a>, ReadFault>
+    ensures ok { IfOk result (λ f. Same
+        (ThenBefore (routine_at code.now) S.takes (Some id) behind.now frames.old.items source.old)
+        (Goes (routine_at code.now) S.takes (frames.new.items ++ f ∷ []) source.new)) }
+    ensures less { IfOk result (λ f.
+        weighs (length (table_of code.now)) (S.room source.new) (frames.new.items ++ f ∷ [])
+        < weighs (length (table_of code.now)) (S.room source.old) frames.old.items + (1 + length behind.now)) }
+    ensures err { IfRefused result
+        (Never (ThenBefore (routine_at code.now) S.takes (Some id) behind.now frames.old.items source.old)) }
+    ensures on { IfOk result (λ f. (e : ReadFault') (z : S)
+        → GoesStop (routine_at code.now) S.takes (λ a q b. S.leaves a q b e) (frames.new.items ++ f ∷ []) source.new z
+        → ThenBeforeStops (routine_at code.now) S.takes (λ a q b. S.leaves a q b e)
+        (Some id) behind.now frames.old.items source.old z) }
+    ensures stopped { IfRefusedWith result (λ e.
+        ThenBeforeStops (routine_at code.now) S.takes (λ a q b. S.leaves a q b e)
         (Some id) behind.now frames.old.items source.old source.new) }
 {
     match source.begin(id) {

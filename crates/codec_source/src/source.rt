@@ -4,8 +4,10 @@ ghost use Rattle.asn_base.specs.declared.schema.TypeId.{TypeId as TypeId'};
 ghost use Rattle.codec_source.specs.Events.{Alike, Event, among, begins, closes, ends, holds, more, opens, picks, skips, stands};
 ghost use Rattle.codec_source.specs.Events.{Question, to_begin, to_close, to_end, to_hold, to_open, to_skip, whether_more, whether_stands, which_picked, which_stands};
 ghost use Rattle.decode_faults.specs.declared.read_fault.ReadFault.{ReadFault as ReadFault'};
+ghost use Rattle.codec_source.specs.Small.{TakesComponent, TakesValue};
 ghost use Rattle.codec_source.specs.proving.Frames.{IfRefused, IfRefusedWith};
-ghost use Rattle.std.specs.Prelude.{◌≡◌, ◌<◌, ◌≤◌, Bool, IfOk, OnOk, Option as Option', ℕ};
+ghost use Rattle.decode_faults.specs.declared.read_fault.ReadFault.TheVariants.{Memory};
+ghost use Rattle.std.specs.Prelude.{◌≡◌, ◌<◌, ◌≤◌, Bool, false, IfErr, IfOk, OnOk, Option as Option', true, ℕ};
 
 use asn_base::schema::TypeId;
 use codec_code::{Field, Head, Step};
@@ -86,6 +88,25 @@ pub trait Source {
         ensures ok { IfOk result (λ id. takes self.old (picks calls.now id) self.new) }
         ensures err { IfRefused result ((id : TypeId') (b : Self) → takes self.old (picks calls.now id) b → ⊥) }
         ensures left { IfRefusedWith result (leaves self.old (which_picked calls.now) self.new) };
+
+    /// Reads at once a value of the type, which holds no others: with this header, and contents of this kind. True: the
+    /// five questions of such a value were answered. False: nothing was done, and they may be asked one by one.
+    fn small_value(&mut self, id: TypeId, head: Head, kind: LeafKind) -> Result<bool, ReadFault>
+        ensures taken { IfOk result (λ yes. yes ≡ true → TakesValue takes id head kind self.old self.new) }
+        ensures same { IfOk result (λ yes. yes ≡ false → self.new ≡ self.old) }
+        ensures err { IfErr result (λ e. e ≡ Memory) };
+
+    /// The same of a component of a SEQUENCE, which must come next. True: the question whether it comes next was
+    /// answered too.
+    fn small_component(
+        &mut self,
+        field: Field,
+        head: Head,
+        kind: LeafKind,
+    ) -> Result<bool, ReadFault>
+        ensures taken { IfOk result (λ yes. yes ≡ true → TakesComponent takes field head kind self.old self.new) }
+        ensures same { IfOk result (λ yes. yes ≡ false → self.new ≡ self.old) }
+        ensures err { IfErr result (λ e. e ≡ Memory) };
 
     ghost one_answer: { (a b c : Self) (e f : Event) → Alike e f → takes a e b → takes a f c → (e ≡ f) × (b ≡ c) };
 

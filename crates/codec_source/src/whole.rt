@@ -5,12 +5,15 @@ ghost use Rattle.codec_code.specs.declared.step.Step.{Step as Step'};
 ghost use Rattle.codec_code.specs.declared.step.Step.TheVariants.{End, Head as Head', Leaf};
 ghost use Rattle.decode_faults.specs.declared.read_fault.ReadFault.{ReadFault as ReadFault'};
 ghost use Rattle.codec_source.specs.declared.frame.Frame.{Frame as Frame'};
+ghost use Rattle.codec_source.specs.proving.Wholes.{ReadsComponent, ReadsValue};
+ghost use Rattle.decode_faults.specs.declared.read_fault.ReadFault.TheVariants.{Memory};
 ghost use Rattle.codec_source.specs.proving.Frames.{Before, BeforeStops, Goes, GoesStop, IfRefused, IfRefusedWith, Never, Same};
-ghost use Rattle.std.specs.Prelude.{◌≡◌, ◌≤◌, ◌∷◌, [], IfSome, List, OnOk, ℕ};
+ghost use Rattle.std.specs.Prelude.{◌≡◌, ◌≤◌, ◌∷◌, [], false, IfErr, IfOk, IfSome, List, MatchOption, OnOk, true, ℕ};
 
+use crate::frame::Frame;
 use crate::source::Source;
 use asn_base::schema::TypeId;
-use codec_code::{Brief, Code, Head};
+use codec_code::{Brief, Code, Head, Step};
 use decode_faults::ReadFault;
 use encodings::LeafKind;
 
@@ -61,5 +64,48 @@ pub(crate) fn read_whole<S: Source>(
     match source.end() {
         Ok(()) => Ok(()),
         Err(fault) => Err(fault),
+    }
+}
+
+/// Reads at once a value of the type, if it holds no others and the source does so. False: nothing was done.
+#[inline(always)]
+pub(crate) fn read_value<S: Source>(
+    code: &Code,
+    id: TypeId,
+    source: &mut S,
+) -> Result<bool, ReadFault>
+    ensures taken { IfOk result (λ yes. yes ≡ true
+        → ReadsValue (routine_at code.now) S.takes id source.old source.new) }
+    ensures same { IfOk result (λ yes. yes ≡ false → source.new ≡ source.old) }
+    ensures err { IfErr result (λ e. e ≡ Memory) }
+{
+    match leaf_routine(code, id) {
+        Some((head, kind)) => source.small_value(id, head, kind),
+        None => Ok(false),
+    }
+}
+
+/// Reads at once the component that the first step is, if it holds no others and the source does so. Returns the steps
+/// after it. None: nothing was done.
+#[inline(always)]
+pub(crate) fn read_component<'a, S: Source>(
+    code: &Code,
+    frame: Frame<'a>,
+    source: &mut S,
+) -> Result<Option<Frame<'a>>, ReadFault>
+    ensures taken { IfOk result (λ o. MatchOption o (source.new ≡ source.old)
+        (λ f. ReadsComponent (routine_at code.now) S.takes frame.entry.steps.now f.steps.now source.old source.new)) }
+    ensures err { IfErr result (λ e. e ≡ Memory) }
+{
+    match frame.steps.split_first() {
+        Some((Step::Field(field), behind)) => match leaf_routine(code, field.ty) {
+            Some((head, kind)) => match source.small_component(*field, head, kind) {
+                Ok(true) => Ok(Some(Frame { steps: behind })),
+                Ok(false) => Ok(None),
+                Err(fault) => Err(fault),
+            },
+            None => Ok(None),
+        },
+        _ => Ok(None),
     }
 }

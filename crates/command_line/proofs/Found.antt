@@ -1,12 +1,14 @@
 -- What is found for the arguments of a command line.
-use Rattle.std.proofs.Common.{◌≡◌, refl, ap, ℕ, List, [], ◌∷◌, Option, Some, None, Box, map, option_map, unwrap_or}
+use Rattle.std.proofs.Common.{◌≡◌, refl, ap, ℕ, List, [], ◌∷◌, Option, Some, None, Box, ◌||◌, codes, map, option_map, unwrap_or}
 use Rattle.std.specs.Prelude.{slice_get}
 use Rattle.std.specs.Borrow.{Bor}
 use Rattle.std.specs.Box.{box_value}
 use Rattle.clap.specs.Simple.{subcommand_rows}
 use Rattle.clap.specs.declared.parser.matches.ArgMatches.TheViews.{out-SubCommand}
 use Rattle.clap.specs.declared.parser.matches.SubCommand.{SubCommand}
-use Rattle.command_line.specs.CommandLine.{first_word}
+use Rattle.std.specs.List.{list_any}
+use Rattle.std.specs.Str.{bytes_eq}
+use Rattle.command_line.specs.CommandLine.{first_word, has_input}
 
 -- the text of a reference that may be absent
 pub text_or : (o : Option (Bor (List ℕ))) (d : Bor (List ℕ)) → (unwrap_or o d).now ≡ unwrap_or (option_map (λ s. s.now) o) d.now
@@ -23,3 +25,9 @@ named_by (Some b) = refl
 pub first_is : {A : Type 0} (f : A → List ℕ) (ws : List A) (w : A) → Some w ≡ slice_get ws 0 → first_word (map f ws) ≡ f w
 first_is f [] w e = absurd cc
 first_is f (x ∷ ws) w e = let g : x ≡ w = cc in ap f g
+
+-- the name of standard input is among names exactly if it is among their texts
+pub input_among : (ns : List (Bor (List ℕ)))
+    → has_input (map (λ n. n.now) ns) ≡ list_any (λ n. bytes_eq n.now (codes "-")) ns
+input_among [] = refl
+input_among (n ∷ ns) = ap (λ b. bytes_eq n.now (codes "-") || b) (input_among ns)

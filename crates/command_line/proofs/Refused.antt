@@ -1,13 +1,14 @@
 -- A fault for a kind of failure refuses the words that show it.
-use Rattle.std.proofs.Common.{◌≡◌, ◌⊎◌, inl, inr, sym, ap, ◌∙◌, List, [], Some, subst, option_map, codes}
-use Rattle.clap.specs.Words.{App, Row, Text, IsAmong, fault_of, matches_of, subcommand_of}
+use Rattle.std.proofs.Common.{◌≡◌, ◌⊎◌, inl, inr, sym, ap, ◌∙◌, List, [], Some, false, subst, option_map, codes}
+use Rattle.clap.specs.Words.{App, Row, Text, IsAmong, fault_of, first_of, matches_of, subcommand_of}
 use Rattle.clap.specs.declared.error.kind.ErrorKind.{ErrorKind}
 use Rattle.clap.specs.declared.error.kind.ErrorKind.TheVariants as kinds
 use Rattle.command_line.specs.declared.fault.WordsFault.{WordsFault}
 use Rattle.command_line.specs.declared.fault.WordsFault.TheVariants as faults
-use Rattle.command_line.specs.CommandLine.{asnc_app, octcheck_app, text_in, ChecksNothing, HasNoCheck, HasNoJob, IsFaultOf}
-use Rattle.command_line.specs.CommandLine.{IsNoCheckOf, IsNoJobOf, IsNotGiven, IsNoValueIn, IsRefusedBy, TakesOctets}
-use Rattle.command_line.specs.CommandLine.{TakesValue}
+use Rattle.command_line.specs.CommandLine.{asnc_app, octcheck_app, text_in, AsksLines, ChecksNothing, GivesNoOctets}
+use Rattle.command_line.specs.CommandLine.{HasNoCheck, HasNoJob, IsFaultOf, IsMixed, IsNoCheckOf, IsNoJobOf}
+use Rattle.command_line.specs.CommandLine.{IsNoOctetsOrLines, IsNotGiven, IsNoValueIn, IsNoValueOrLines, IsRefusedBy}
+use Rattle.command_line.specs.CommandLine.{TakesOctets, TakesValue}
 
 pub refused_by : (a : App) (N : Type 0) (words : List Text) (k : ErrorKind) (fault : WordsFault)
     → (k ≡ kinds.OutOfMemory) ⊎ IsAmong k (fault_of a words)
@@ -25,21 +26,60 @@ pub refused_as : (a b : App) (N : Type 0) (words : List Text) (k : ErrorKind) (f
     → IsFaultOf k fault → IsRefusedBy b N words fault
 refused_as a b N words k fault e h f = refused_by b N words k fault (subst (λ x. (k ≡ kinds.OutOfMemory) ⊎ IsAmong k (fault_of x words)) e h) f
 
--- a command that takes octets has no job where no octets are given
+-- a command that takes octets has no job if it lacks them
 pub no_job : (command : Text) (rows : List Row) (fault : WordsFault) → TakesOctets command
-    → IsNotGiven (text_in rows (codes "hex")) fault
+    → IsNoOctetsOrLines rows fault
     → IsNoJobOf command rows fault
 no_job command rows faults.Memory t n = tt
 no_job command rows (faults.BadWords b) t n = inl (t, n)
 no_job command rows (faults.Help b) t n = absurd n
 
--- a command that takes a value has no job where no value is given
+-- a command that takes a value or lines has no job if it lacks both
 pub no_value : (command : Text) (rows : List Row) (fault : WordsFault) → TakesValue command
-    → IsNoValueIn rows fault
+    → IsNoValueOrLines rows fault
     → IsNoJobOf command rows fault
 no_value command rows faults.Memory t n = tt
-no_value command rows (faults.BadWords b) t n = inr (t, n)
+no_value command rows (faults.BadWords b) t n = inr (inl (t, n))
 no_value command rows (faults.Help b) t n = absurd n
+
+-- `account` has no job without a value
+pub no_account : (command : Text) (rows : List Row) (fault : WordsFault) → command ≡ codes "account"
+    → IsNoValueIn rows fault
+    → IsNoJobOf command rows fault
+no_account command rows faults.Memory t n = tt
+no_account command rows (faults.BadWords b) t n = inr (inr (t, n))
+no_account command rows (faults.Help b) t n = absurd n
+
+-- words that mix lines with others give no value, and words without lines may give none
+pub mixed_value : (rows : List Row) (fault : WordsFault) → IsMixed rows fault → IsNoValueOrLines rows fault
+mixed_value rows faults.Memory n = tt
+mixed_value rows (faults.BadWords b) n = inl n
+mixed_value rows (faults.Help b) n = absurd n
+
+pub lacks_value : (rows : List Row) (fault : WordsFault) → AsksLines rows false → IsNoValueIn rows fault
+    → IsNoValueOrLines rows fault
+lacks_value rows faults.Memory a n = tt
+lacks_value rows (faults.BadWords b) a n = inr (a, n)
+lacks_value rows (faults.Help b) a n = absurd n
+
+-- the same of octets
+pub mixed_octets : (rows : List Row) (fault : WordsFault) → IsMixed rows fault → IsNoOctetsOrLines rows fault
+mixed_octets rows faults.Memory n = tt
+mixed_octets rows (faults.BadWords b) n = inl n
+mixed_octets rows (faults.Help b) n = absurd n
+
+pub lacks_octets : (rows : List Row) (fault : WordsFault) → AsksLines rows false
+    → GivesNoOctets (first_of (codes "hex") rows) fault
+    → IsNoOctetsOrLines rows fault
+lacks_octets rows faults.Memory a n = tt
+lacks_octets rows (faults.BadWords b) a n = inr (a, n)
+lacks_octets rows (faults.Help b) a n = absurd n
+
+-- a text that gives no octets gives none
+pub no_octets : (text : Text) (fault : WordsFault) → IsNotGiven text fault → GivesNoOctets (Some text) fault
+no_octets text faults.Memory n = tt
+no_octets text (faults.BadWords b) n = n
+no_octets text (faults.Help b) n = absurd n
 
 -- words of octcheck that give no value ask for nothing, and so do words that give no octets
 pub no_check_value : (rows : List Row) (fault : WordsFault) → IsNoValueIn rows fault → IsNoCheckOf rows fault

@@ -1,6 +1,8 @@
 -- The command lines that the programs asnc and octcheck accept, and what a job has of one.
 use Rattle.std.specs.Prelude.{◌≡◌, ◌⊎◌, ⊤, ℕ, List, [], ◌∷◌, codes, map, option_map, string_bytes, unwrap_or}
-use Rattle.std.specs.Prelude.{true, false, Option, None, Some, Ok}
+use Rattle.std.specs.Prelude.{true, false, Bool, Option, None, Some, IsSome, Ok}
+use Rattle.std.specs.List.{list_any}
+use Rattle.std.specs.Str.{bytes_eq}
 use Rattle.clap.specs.Words.{App, Rule, new_app, new_rule, with_rule, with_subcommand}
 use Rattle.clap.specs.Words.{Row, Text, IsAmong, all_of, fault_of, first_of, one_of, matches_of, subcommand_of}
 use Rattle.clap.specs.declared.builder.ArgAction.TheVariants.{Append, Set, SetTrue}
@@ -57,33 +59,43 @@ value_names_app name =
 abbrev pub value_app : Text → App
 value_app name = with_rule (with_rule (value_names_app name) (flag_rule (codes "context"))) files_rule
 
--- `der --type TEXT [--value TEXT] [--notation TEXT] [--raw] [--context]`
+-- `NAME --type TEXT [--value TEXT] [--notation TEXT] [--lines]`
+abbrev pub value_lines_app : Text → App
+value_lines_app name = with_rule (value_names_app name) (flag_rule (codes "lines"))
+
+-- `der --type TEXT [--value TEXT] [--notation TEXT] [--lines] [--raw] [--context]`
 abbrev pub der_flags_app : App
 der_flags_app =
-    with_rule (with_rule (value_names_app (codes "der")) (flag_rule (codes "raw"))) (flag_rule (codes "context"))
+    with_rule (with_rule (value_lines_app (codes "der")) (flag_rule (codes "raw"))) (flag_rule (codes "context"))
 
--- `der --type TEXT [--value TEXT] [--notation TEXT] [--raw] [--context] FILE..`
+-- `der --type TEXT [--value TEXT] [--notation TEXT] [--lines] [--raw] [--context] FILE..`
 abbrev pub der_app : App
 der_app = with_rule der_flags_app files_rule
 
--- `NAME --type TEXT --hex TEXT`
-abbrev pub octets_names_app : Text → App
-octets_names_app name = with_rule (with_rule (new_app name) (text_rule (codes "type"))) (text_rule (codes "hex"))
+-- `uper --type TEXT [--value TEXT] [--notation TEXT] [--lines] [--context] FILE..`
+abbrev pub uper_app : App
+uper_app = with_rule (with_rule (value_lines_app (codes "uper")) (flag_rule (codes "context"))) files_rule
 
--- `ber --type TEXT --hex TEXT [--strict] [--context]`
+-- `NAME --type TEXT [--hex TEXT] [--lines]`
+abbrev pub octets_lines_app : Text → App
+octets_lines_app name =
+    with_rule (with_rule (with_rule (new_app name) (text_rule (codes "type"))) (choice_rule (codes "hex")))
+    (flag_rule (codes "lines"))
+
+-- `ber --type TEXT [--hex TEXT] [--lines] [--strict] [--context]`
 abbrev pub ber_flags_app : App
 ber_flags_app =
-    with_rule (with_rule (octets_names_app (codes "ber")) (flag_rule (codes "strict"))) (flag_rule (codes "context"))
+    with_rule (with_rule (octets_lines_app (codes "ber")) (flag_rule (codes "strict"))) (flag_rule (codes "context"))
 
--- `ber --type TEXT --hex TEXT [--strict] [--context] FILE..`
+-- `ber --type TEXT [--hex TEXT] [--lines] [--strict] [--context] FILE..`
 abbrev pub ber_app : App
 ber_app = with_rule ber_flags_app files_rule
 
--- `unper --type TEXT --hex TEXT [--context]`
+-- `unper --type TEXT [--hex TEXT] [--lines] [--context]`
 abbrev pub unper_flags_app : App
-unper_flags_app = with_rule (octets_names_app (codes "unper")) (flag_rule (codes "context"))
+unper_flags_app = with_rule (octets_lines_app (codes "unper")) (flag_rule (codes "context"))
 
--- `unper --type TEXT --hex TEXT [--context] FILE..`
+-- `unper --type TEXT [--hex TEXT] [--lines] [--context] FILE..`
 abbrev pub unper_app : App
 unper_app = with_rule unper_flags_app files_rule
 
@@ -117,7 +129,7 @@ octets_app = with_subcommand (with_subcommand bare_app der_app.top) ber_app.top
 
 -- the commands `der`, `ber`, `uper` and `unper`
 abbrev pub packed_app : App
-packed_app = with_subcommand (with_subcommand octets_app (value_app (codes "uper")).top) unper_app.top
+packed_app = with_subcommand (with_subcommand octets_app uper_app.top) unper_app.top
 
 -- the commands `der`, `ber`, `uper`, `unper`, `account` and `list`
 abbrev pub listing_app : App
@@ -170,6 +182,45 @@ IsValueOf (Some n) None (value_words.Named s) = string_bytes s ≡ n
 IsValueOf None (Some t) (value_words.Written s) = string_bytes s ≡ t
 IsValueOf name notation value = ⊥
 
+-- the flag is given
+abbrev pub IsSet : List Row → Text → Type 0
+IsSet rows id = first_of id rows ≡ Some (codes "true")
+
+-- a text is given for the argument
+abbrev pub IsGivenFor : List Row → Text → Type 0
+IsGivenFor rows id = IsSome (first_of id rows)
+
+-- whether the name of standard input, `-`, is among names
+abbrev pub has_input : List Text → Bool
+has_input = list_any (λ name. bytes_eq name (codes "-"))
+
+-- standard input is one of the files
+abbrev pub NamesInput : List Row → Type 0
+NamesInput rows = has_input (texts_in rows (codes "FILE")) ≡ true
+
+-- there are words that exclude `--lines`: a value, octets, `--raw`, or standard input as a file, which would be read
+-- twice
+abbrev pub ExcludesLines : List Row → Type 0
+ExcludesLines rows = IsGivenFor rows (codes "value")
+    ⊎ (IsGivenFor rows (codes "notation")
+    ⊎ (IsGivenFor rows (codes "hex")
+    ⊎ (IsSet rows (codes "raw") ⊎ NamesInput rows)))
+
+-- whether the words ask for lines of standard input; nothing excludes them if they do
+abbrev pub AsksLines : List Row → Bool → Type 0
+AsksLines rows true = IsSet rows (codes "lines") × (ExcludesLines rows → ⊥)
+AsksLines rows false = IsSet rows (codes "lines") → ⊥
+
+-- the words ask for lines of standard input beside words that exclude them
+abbrev pub MixesLines : List Row → Type 0
+MixesLines rows = IsSet rows (codes "lines") × ExcludesLines rows
+
+-- the same as a fault; `Memory` says nothing of the words
+abbrev pub IsMixed : List Row → WordsFault → Type 0
+IsMixed rows faults.Memory = ⊤
+IsMixed rows (faults.BadWords t) = MixesLines rows
+IsMixed rows (faults.Help t) = ⊥
+
 -- there is neither a text of `--value` nor one of `--notation`, or there are both
 abbrev pub AreNoValue : (name notation : Option Text) → Type 0
 AreNoValue (Some n) (Some t) = ⊤
@@ -190,11 +241,30 @@ IsNoValueIn rows fault = IsNoValueOf (first_of (codes "value") rows) (first_of (
 abbrev pub GivesNoValue : List Row → Type 0
 GivesNoValue rows = AreNoValue (first_of (codes "value") rows) (first_of (codes "notation") rows)
 
+-- The value of a command that takes lines. With `--lines` it is that of each line of standard input, and no words
+-- exclude this; without it the text of `--value` or of `--notation` gives it.
+pub record IsValueOrLines (rows : List Row) (value : ValueWords) : Type 0 where
+  pub lines : IsSet rows (codes "lines") → value ≡ value_words.Lines
+  pub not_mixed : IsSet rows (codes "lines") → ExcludesLines rows → ⊥
+  pub one : (IsSet rows (codes "lines") → ⊥)
+      → IsValueOf (first_of (codes "value") rows) (first_of (codes "notation") rows) value
+
+-- the words of a command that takes lines give no value: `--lines` is mixed with words that exclude it, or it isn't
+-- given and the words give no value, or give it twice
+abbrev pub LacksValueOrLines : List Row → Type 0
+LacksValueOrLines rows = MixesLines rows ⊎ ((IsSet rows (codes "lines") → ⊥) × GivesNoValue rows)
+
+-- the same as a fault; `Memory` says nothing of the words
+abbrev pub IsNoValueOrLines : List Row → WordsFault → Type 0
+IsNoValueOrLines rows faults.Memory = ⊤
+IsNoValueOrLines rows (faults.BadWords t) = LacksValueOrLines rows
+IsNoValueOrLines rows (faults.Help t) = ⊥
+
 -- The job has what was found for the arguments of `der`. Fields that `der` doesn't take are empty.
 pub record IsDerOf (rows : List Row) (job : Job) : Type 0 where
   pub verb : job.verb ≡ verbs.Der
   pub type : string_bytes job.ty ≡ text_in rows (codes "type")
-  pub value : IsValueOf (first_of (codes "value") rows) (first_of (codes "notation") rows) job.value
+  pub value : IsValueOrLines rows job.value
   pub raw : (one_of (codes "raw") rows ≡ Some (codes "true")) → job.raw ≡ true
   pub not_raw : (one_of (codes "raw") rows ≡ Some (codes "false")) → job.raw ≡ false
   pub context : (one_of (codes "context") rows ≡ Some (codes "true")) → job.context ≡ true
@@ -205,12 +275,12 @@ pub record IsDerOf (rows : List Row) (job : Job) : Type 0 where
   pub no_octets : job.octets ≡ given.Nothing
   pub not_strict : job.strict ≡ false
 
--- The job has this verb, and what was found for the name of a type and for a value. Fields that the verb doesn't take
--- are empty.
-pub record IsValueJobOf (verb : Verb) (rows : List Row) (job : Job) : Type 0 where
+-- The job has this verb, this value, and what was found for the name of a type. Fields that the verb doesn't take are
+-- empty.
+pub record IsValueJobOf (verb : Verb) (value : ValueWords) (rows : List Row) (job : Job) : Type 0 where
   pub verb_is : job.verb ≡ verb
+  pub value_is : job.value ≡ value
   pub type : string_bytes job.ty ≡ text_in rows (codes "type")
-  pub value : IsValueOf (first_of (codes "value") rows) (first_of (codes "notation") rows) job.value
   pub context : (one_of (codes "context") rows ≡ Some (codes "true")) → job.context ≡ true
   pub no_context : (one_of (codes "context") rows ≡ Some (codes "false")) → job.context ≡ false
   pub files : map string_bytes job.files.items ≡ texts_in rows (codes "FILE")
@@ -220,24 +290,70 @@ pub record IsValueJobOf (verb : Verb) (rows : List Row) (job : Job) : Type 0 whe
   pub not_raw : job.raw ≡ false
   pub not_strict : job.strict ≡ false
 
+-- the job has what was found for the arguments of `uper`
+pub record IsUperOf (rows : List Row) (job : Job) : Type 0 where
+  pub plain : IsValueJobOf verbs.Uper job.value rows job
+  pub value : IsValueOrLines rows job.value
+
+-- the job has what was found for the arguments of `account`
+pub record IsAccountOf (rows : List Row) (job : Job) : Type 0 where
+  pub plain : IsValueJobOf verbs.Account job.value rows job
+  pub value : IsValueOf (first_of (codes "value") rows) (first_of (codes "notation") rows) job.value
+
 -- The octets that a text gives. After an `@` the text is the name of the file that has the octets; otherwise its digits
 -- are the octets, two for each.
 abbrev pub IsGiven : Text → Given → Type 0
 IsGiven text (given.Path name) = text ≡ 64 ∷ string_bytes name
 IsGiven text (given.Octets o) = decode_of text ≡ Ok o.items
 IsGiven text given.Nothing = ⊥
+IsGiven text given.Lines = ⊥
 
 -- the text gives no octets
 pub record TellsNone (text : Text) : Type 0 where
   pub no_file : (name : List ℕ) → text ≡ 64 ∷ name → ⊥
   pub no_digits : (o : List ℕ) → decode_of text ≡ Ok o → ⊥
 
--- The job has what was found for the arguments of `ber`, and the octets that the text of `--hex` gives. Fields that
+-- the octets that a text gives, if there is a text
+abbrev pub IsGivenBy : Option Text → Given → Type 0
+IsGivenBy (Some text) octets = IsGiven text octets
+IsGivenBy None octets = ⊥
+
+-- there is no text, or it gives no octets
+abbrev pub TellsNoOctets : Option Text → Type 0
+TellsNoOctets (Some text) = TellsNone text
+TellsNoOctets None = ⊤
+
+-- the same as a fault; `Memory` says nothing of the text
+abbrev pub GivesNoOctets : Option Text → WordsFault → Type 0
+GivesNoOctets text faults.Memory = ⊤
+GivesNoOctets text (faults.BadWords t) = TellsNoOctets text
+GivesNoOctets text (faults.Help t) = ⊥
+
+-- The octets of a command that takes lines. With `--lines` they are those of each line of standard input, and no words
+-- exclude this; without it the text of `--hex` gives them.
+pub record IsOctetsOrLines (rows : List Row) (octets : Given) : Type 0 where
+  pub lines : IsSet rows (codes "lines") → octets ≡ given.Lines
+  pub not_mixed : IsSet rows (codes "lines") → ExcludesLines rows → ⊥
+  pub one : (IsSet rows (codes "lines") → ⊥) → IsGivenBy (first_of (codes "hex") rows) octets
+
+-- the words of a command that takes lines give no octets: `--lines` is mixed with words that exclude it, or it isn't
+-- given and there is no text of `--hex` that gives octets
+abbrev pub LacksOctetsOrLines : List Row → Type 0
+LacksOctetsOrLines rows =
+    MixesLines rows ⊎ ((IsSet rows (codes "lines") → ⊥) × TellsNoOctets (first_of (codes "hex") rows))
+
+-- the same as a fault; `Memory` says nothing of the words
+abbrev pub IsNoOctetsOrLines : List Row → WordsFault → Type 0
+IsNoOctetsOrLines rows faults.Memory = ⊤
+IsNoOctetsOrLines rows (faults.BadWords t) = LacksOctetsOrLines rows
+IsNoOctetsOrLines rows (faults.Help t) = ⊥
+
+-- The job has what was found for the arguments of `ber`, and the octets of its words or of lines. Fields that
 -- `ber` doesn't take are empty.
 pub record IsBerOf (rows : List Row) (job : Job) : Type 0 where
   pub verb : job.verb ≡ verbs.Ber
   pub type : string_bytes job.ty ≡ text_in rows (codes "type")
-  pub octets : IsGiven (text_in rows (codes "hex")) job.octets
+  pub octets : IsOctetsOrLines rows job.octets
   pub strict : (one_of (codes "strict") rows ≡ Some (codes "true")) → job.strict ≡ true
   pub not_strict : (one_of (codes "strict") rows ≡ Some (codes "false")) → job.strict ≡ false
   pub context : (one_of (codes "context") rows ≡ Some (codes "true")) → job.context ≡ true
@@ -248,12 +364,12 @@ pub record IsBerOf (rows : List Row) (job : Job) : Type 0 where
   pub no_account : string_bytes job.account ≡ []
   pub not_raw : job.raw ≡ false
 
--- The job has what was found for the arguments of `unper`, and the octets that the text of `--hex` gives. Fields that
+-- The job has what was found for the arguments of `unper`, and the octets of its words or of lines. Fields that
 -- `unper` doesn't take are empty.
 pub record IsUnperOf (rows : List Row) (job : Job) : Type 0 where
   pub verb : job.verb ≡ verbs.Unper
   pub type : string_bytes job.ty ≡ text_in rows (codes "type")
-  pub octets : IsGiven (text_in rows (codes "hex")) job.octets
+  pub octets : IsOctetsOrLines rows job.octets
   pub context : (one_of (codes "context") rows ≡ Some (codes "true")) → job.context ≡ true
   pub no_context : (one_of (codes "context") rows ≡ Some (codes "false")) → job.context ≡ false
   pub files : map string_bytes job.files.items ≡ texts_in rows (codes "FILE")
@@ -311,9 +427,9 @@ pub record IsCheckOf (rows : List Row) (job : Job) : Type 0 where
 pub record IsJobOf (command : Text) (rows : List Row) (job : Job) : Type 0 where
   pub list : command ≡ codes "list" → IsListOf rows job
   pub ber : command ≡ codes "ber" → IsBerOf rows job
-  pub uper : command ≡ codes "uper" → IsValueJobOf verbs.Uper rows job
+  pub uper : command ≡ codes "uper" → IsUperOf rows job
   pub unper : command ≡ codes "unper" → IsUnperOf rows job
-  pub account : command ≡ codes "account" → IsValueJobOf verbs.Account rows job
+  pub account : command ≡ codes "account" → IsAccountOf rows job
   pub later : command ≡ codes "later" → IsLaterOf rows job
   pub der : (command ≡ codes "list" → ⊥)
       → (command ≡ codes "ber" → ⊥)
@@ -333,17 +449,21 @@ IsNotGiven text (faults.Help t) = ⊥
 abbrev pub TakesOctets : Text → Type 0
 TakesOctets command = (command ≡ codes "ber") ⊎ (command ≡ codes "unper")
 
--- the command takes a value: it isn't one of the others
+-- the command takes a value or lines of values: it isn't one of the others
 abbrev pub TakesValue : Text → Type 0
 TakesValue command = (command ≡ codes "list" → ⊥)
     × (command ≡ codes "ber" → ⊥)
     × (command ≡ codes "unper" → ⊥)
+    × (command ≡ codes "account" → ⊥)
     × (command ≡ codes "later" → ⊥)
 
--- the command takes octets, and the text of `--hex` gives none; or it takes a value, and the words give none or two
+-- The command takes octets or lines of them, and the words give neither or mix them. Or it takes a value or lines of
+-- values, and the words give none, or two, or mix them. Or it is `account`, and the words give no value or give it
+-- twice.
 abbrev pub LacksPart : Text → List Row → Type 0
-LacksPart command rows =
-    (TakesOctets command × TellsNone (text_in rows (codes "hex"))) ⊎ (TakesValue command × GivesNoValue rows)
+LacksPart command rows = (TakesOctets command × LacksOctetsOrLines rows)
+    ⊎ ((TakesValue command × LacksValueOrLines rows)
+    ⊎ ((command ≡ codes "account") × GivesNoValue rows))
 
 -- the fault of a command without a job; `Memory` says nothing of the words
 abbrev pub IsNoJobOf : Text → List Row → WordsFault → Type 0

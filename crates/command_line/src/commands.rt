@@ -6,8 +6,9 @@ ghost use Rattle.clap.specs.declared.builder.command.Command.TheViews.{out-Comma
 ghost use Rattle.command_line.specs.CommandLine.{asnc_app, ber_app, ber_flags_app, check_names_app, check_texts_app};
 ghost use Rattle.command_line.specs.CommandLine.{choice_rule, der_app, der_flags_app, files_rule, flag_rule, later_app};
 ghost use Rattle.command_line.specs.CommandLine.{later_names_app, list_app, listing_app, newer_rule, octcheck_app};
-ghost use Rattle.command_line.specs.CommandLine.{octets_app, octets_names_app, packed_app, text_rule, unper_app};
-ghost use Rattle.command_line.specs.CommandLine.{unper_flags_app, value_app, value_names_app};
+ghost use Rattle.command_line.specs.CommandLine.{octets_app, octets_lines_app, packed_app, text_rule, unper_app};
+ghost use Rattle.command_line.specs.CommandLine.{unper_flags_app, uper_app, value_app, value_lines_app};
+ghost use Rattle.command_line.specs.CommandLine.{value_names_app};
 
 use clap::{Arg, ArgAction, Command};
 use std::alloc::{AllocError, Global};
@@ -33,26 +34,41 @@ Examples:
   asnc der --type M.T --value M.v m.asn
   asnc der --type M.T --notation '{a 5, b TRUE}' m.asn
   asnc der --raw --type M.T --value M.v m.asn > v.der
-  cat m.asn | asnc der --context --type M.T --value M.v -";
+  cat m.asn | asnc der --context --type M.T --value M.v -
+  asnc der --lines --type M.T m.asn < values.txt
+
+With --lines each line of standard input is a notation. Each is answered by one line, in order;
+a line that is refused by ! and the fault, and the exit status is 1 then.";
 
 /// The text at the end of the help of `ber`.
 const BER_EXAMPLES: &str = "\
 Examples:
   asnc ber --type M.T --hex 020105 m.asn
-  asnc ber --strict --type M.T --hex @v.der m.asn";
+  asnc ber --strict --type M.T --hex @v.der m.asn
+  asnc ber --lines --type M.T m.asn < messages.txt
+
+With --lines each line of standard input is octets in hexadecimal. Each is answered by one line, in order:
+the value, and -- skipped and a number if additions were skipped. A line that is refused is answered by ! and
+the fault, and the exit status is 1 then.";
 
 /// The text at the end of the help of `uper`.
 const UPER_EXAMPLES: &str = "\
 Examples:
   asnc uper --type M.T --value M.v m.asn
   asnc uper --type M.T --notation=-5 m.asn
-  cat m.asn | asnc uper --context --type M.T --value M.v -";
+  cat m.asn | asnc uper --context --type M.T --value M.v -
+  asnc uper --lines --type M.T m.asn < values.txt
+
+With --lines each line of standard input is a notation, as asnc der --help says.";
 
 /// The text at the end of the help of `unper`.
 const UNPER_EXAMPLES: &str = "\
 Examples:
   asnc unper --type M.T --hex 0105 m.asn
-  asnc unper --type M.T --hex @v.per m.asn";
+  asnc unper --type M.T --hex @v.per m.asn
+  asnc unper --lines --type M.T m.asn < messages.txt
+
+With --lines each line of standard input is octets in hexadecimal, as asnc ber --help says.";
 
 /// The text at the end of the help of `account`.
 const ACCOUNT_EXAMPLES: &str = "\
@@ -194,6 +210,19 @@ fn hex_arg<'a>(alloc: Global) -> Arg<'a>
     )
 }
 
+/// `--hex`, which has to be given if `--lines` isn't.
+fn hex_choice_arg<'a>(alloc: Global) -> Arg<'a>
+    ensures rule { rule_of result ≡ choice_rule (codes "hex") }
+    ensures local { result.global ≡ false }
+{
+    choice_arg(
+        alloc,
+        "hex",
+        "HEX",
+        "The octets in hexadecimal, or @ and the name of a file that holds them",
+    )
+}
+
 /// A command with the name of a type, and a value.
 fn value_names<'a>(
     alloc: Global,
@@ -227,21 +256,37 @@ fn value_command<'a>(
         .arg(files_arg(alloc))
 }
 
-/// A command with the name of a type, and octets.
-fn octets_names<'a>(
+/// A command with the name of a type, and a value or lines of values.
+fn value_lines<'a>(
     alloc: Global,
     name: &'a str,
     about: &'a str,
     examples: &'a str,
 ) -> Result<Command<'a>, AllocError>
-    ensures shape { IfOk result (λ c. app_of c ≡ octets_names_app name.entry.now) }
+    ensures shape { IfOk result (λ c. app_of c ≡ value_lines_app name.entry.now) }
     ensures local { IfOk result (λ c. (out-Command c).has_globals ≡ false) }
 {
+    let help = "Write each line of standard input, a notation";
+    value_names(alloc, name, about, examples)?.arg(flag_arg(alloc, "lines", help))
+}
+
+/// A command with the name of a type, and octets or lines of octets.
+fn octets_lines<'a>(
+    alloc: Global,
+    name: &'a str,
+    about: &'a str,
+    examples: &'a str,
+) -> Result<Command<'a>, AllocError>
+    ensures shape { IfOk result (λ c. app_of c ≡ octets_lines_app name.entry.now) }
+    ensures local { IfOk result (λ c. (out-Command c).has_globals ≡ false) }
+{
+    let help = "Read each line of standard input, in hexadecimal";
     Command::new(alloc, name)
         .about(about)
         .after_help(examples)
         .arg(text_arg(alloc, "type", "MODULE.TYPE", "The type"))?
-        .arg(hex_arg(alloc))
+        .arg(hex_choice_arg(alloc))?
+        .arg(flag_arg(alloc, "lines", help))
 }
 
 /// `der` with its flags.
@@ -251,7 +296,7 @@ fn der_flags<'a>(alloc: Global) -> Result<Command<'a>, AllocError>
 {
     let raw = flag_arg(alloc, "raw", "Write the octets themselves, not hexadecimal");
     let about = "Write the DER encoding of a value";
-    value_names(alloc, "der", about, DER_EXAMPLES)?
+    value_lines(alloc, "der", about, DER_EXAMPLES)?
         .arg(raw)?
         .arg(context_arg(alloc))
 }
@@ -270,7 +315,7 @@ fn ber_flags<'a>(alloc: Global) -> Result<Command<'a>, AllocError>
 {
     let strict = flag_arg(alloc, "strict", "Read DER alone");
     let about = "Read octets by BER, or by DER, as a value, and print it";
-    octets_names(alloc, "ber", about, BER_EXAMPLES)?
+    octets_lines(alloc, "ber", about, BER_EXAMPLES)?
         .arg(strict)?
         .arg(context_arg(alloc))
 }
@@ -283,11 +328,13 @@ fn ber_command<'a>(alloc: Global) -> Result<Command<'a>, AllocError>
 }
 
 fn uper_command<'a>(alloc: Global) -> Result<Command<'a>, AllocError>
-    ensures shape { IfOk result (λ c. app_of c ≡ value_app (codes "uper")) }
+    ensures shape { IfOk result (λ c. app_of c ≡ uper_app) }
     ensures local { IfOk result (λ c. (out-Command c).has_globals ≡ false) }
 {
     let about = "Write a value in canonical PER, unaligned";
-    value_command(alloc, "uper", about, UPER_EXAMPLES)
+    value_lines(alloc, "uper", about, UPER_EXAMPLES)?
+        .arg(context_arg(alloc))?
+        .arg(files_arg(alloc))
 }
 
 /// `unper` with its flag.
@@ -296,7 +343,7 @@ fn unper_flags<'a>(alloc: Global) -> Result<Command<'a>, AllocError>
     ensures local { IfOk result (λ c. (out-Command c).has_globals ≡ false) }
 {
     let about = "Read octets of canonical PER, unaligned, as a value, and print it";
-    octets_names(alloc, "unper", about, UNPER_EXAMPLES)?.arg(context_arg(alloc))
+    octets_lines(alloc, "unper", about, UNPER_EXAMPLES)?.arg(context_arg(alloc))
 }
 
 fn unper_command<'a>(alloc: Global) -> Result<Command<'a>, AllocError>

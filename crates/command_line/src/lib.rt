@@ -3,6 +3,7 @@
 
 mod commands;
 mod fault;
+mod lines;
 mod octets;
 mod request;
 mod values;

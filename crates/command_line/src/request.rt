@@ -9,6 +9,8 @@ pub enum Given {
     Octets(Vec<u8>),
     /// The octets of the file with this name.
     Path(String),
+    /// Those of each line of standard input, one line after the other, written in hexadecimal.
+    Lines,
 }
 
 /// The value that a command line gives.
@@ -20,6 +22,8 @@ pub enum ValueWords {
     Named(String),
     /// The value of this notation, whose names are read in the module of the type.
     Written(String),
+    /// The value of each line of standard input, one line after the other, each line a notation.
+    Lines,
 }
 
 /// What a program should do.

@@ -17,7 +17,7 @@ fn complaint(alloc: Global, program: &str, found: &str) -> Result<String, AllocE
 }
 
 /// The text that was given for an argument, if one was.
-fn choice_of<'a>(found: &ArgMatches<'a>, id: &str) -> Option<&'a str>
+pub(crate) fn choice_of<'a>(found: &ArgMatches<'a>, id: &str) -> Option<&'a str>
     ensures { option_map (λ s. s.now) result ≡ first_of id.now (rows_of (found_of found.now)) }
 {
     found.get_str(id)

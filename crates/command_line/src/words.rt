@@ -3,13 +3,16 @@
 ghost use Rattle.std.specs.Prelude.{◌≡◌, ◌↔◌, ℕ, List, IfOk, IfErr, IsTrue, Some, codes, map, string_bytes};
 ghost use Rattle.clap.specs.Words.{found_of, kind_of, rows_of};
 ghost use Rattle.command_line.specs.CommandLine.{asnc_app, octcheck_app, text_in, texts_in, AreOfChecker};
-ghost use Rattle.command_line.specs.CommandLine.{HasNoCheck, HasNoJob, IsAsked, IsBerOf, IsCheck, IsCheckOf};
-ghost use Rattle.command_line.specs.CommandLine.{IsCommand, IsDerOf, IsFaultOf, IsJobOf, IsLaterOf, IsListOf};
-ghost use Rattle.command_line.specs.CommandLine.{IsNoCheckOf, IsNoJobOf, IsNoValueIn, IsNotGiven, IsRefused};
-ghost use Rattle.command_line.specs.CommandLine.{IsRefusedBy, IsUnperOf, IsValueJobOf};
+ghost use Rattle.command_line.specs.CommandLine.{HasNoCheck, HasNoJob, IsAccountOf, IsAsked, IsBerOf, IsCheck};
+ghost use Rattle.command_line.specs.CommandLine.{IsCheckOf, IsCommand, IsDerOf, IsFaultOf, IsJobOf, IsLaterOf};
+ghost use Rattle.command_line.specs.CommandLine.{IsListOf};
+ghost use Rattle.command_line.specs.CommandLine.{IsNoCheckOf, IsNoJobOf, IsNoOctetsOrLines, IsNoValueIn};
+ghost use Rattle.command_line.specs.CommandLine.{IsNoValueOrLines, IsRefused, IsRefusedBy, IsUnperOf, IsUperOf};
+ghost use Rattle.command_line.specs.CommandLine.{IsValueJobOf};
 
 use crate::commands::{asnc_command, octcheck_command};
 use crate::fault::WordsFault;
+use crate::lines::{octets_or_lines, value_or_lines};
 use crate::octets::given_in;
 use crate::request::{Given, Job, ValueWords, Verb};
 use crate::values::value_in;
@@ -84,14 +87,14 @@ fn texts_of(alloc: Global, texts: &[&str]) -> Result<Vec<String>, AllocError>
     Ok(all)
 }
 
-/// The job of `der`. `BadWords`: the words give no value, or give it twice.
+/// The job of `der`. `BadWords`: the words give neither a value nor lines, or more than one of them.
 fn der_job(alloc: Global, found: &ArgMatches<'_>) -> Result<Job, WordsFault>
     ensures job { IfOk result (IsDerOf (rows_of (found_of found.now))) }
-    ensures none { IfErr result (IsNoValueIn (rows_of (found_of found.now))) }
+    ensures none { IfErr result (IsNoValueOrLines (rows_of (found_of found.now))) }
 {
     let raw = found.get_flag("raw");
     let context = found.get_flag("context");
-    let value = value_in(alloc, "asnc", found)?;
+    let value = value_or_lines(alloc, found)?;
     Ok(Job {
         verb: Verb::Der,
         ty: text_of(alloc, found, "type")?,
@@ -106,15 +109,14 @@ fn der_job(alloc: Global, found: &ArgMatches<'_>) -> Result<Job, WordsFault>
     })
 }
 
-/// The job of `ber`. `BadWords`: the text of `--hex` gives no octets.
+/// The job of `ber`. `BadWords`: the words give neither octets nor lines, or both.
 fn ber_job(alloc: Global, found: &ArgMatches<'_>) -> Result<Job, WordsFault>
     ensures job { IfOk result (IsBerOf (rows_of (found_of found.now))) }
-    ensures none { IfErr result (IsNotGiven (text_in (rows_of (found_of found.now)) (codes "hex"))) }
+    ensures none { IfErr result (IsNoOctetsOrLines (rows_of (found_of found.now))) }
 {
     let strict = found.get_flag("strict");
     let context = found.get_flag("context");
-    let hex = text_of(alloc, found, "hex")?;
-    let octets = given_in(alloc, "asnc", hex.as_str())?;
+    let octets = octets_or_lines(alloc, found)?;
     Ok(Job {
         verb: Verb::Ber,
         ty: text_of(alloc, found, "type")?,
@@ -129,14 +131,13 @@ fn ber_job(alloc: Global, found: &ArgMatches<'_>) -> Result<Job, WordsFault>
     })
 }
 
-/// The job of `unper`. `BadWords`: the text of `--hex` gives no octets.
+/// The job of `unper`. `BadWords`: the words give neither octets nor lines, or both.
 fn unper_job(alloc: Global, found: &ArgMatches<'_>) -> Result<Job, WordsFault>
     ensures job { IfOk result (IsUnperOf (rows_of (found_of found.now))) }
-    ensures none { IfErr result (IsNotGiven (text_in (rows_of (found_of found.now)) (codes "hex"))) }
+    ensures none { IfErr result (IsNoOctetsOrLines (rows_of (found_of found.now))) }
 {
     let context = found.get_flag("context");
-    let hex = text_of(alloc, found, "hex")?;
-    let octets = given_in(alloc, "asnc", hex.as_str())?;
+    let octets = octets_or_lines(alloc, found)?;
     Ok(Job {
         verb: Verb::Unper,
         ty: text_of(alloc, found, "type")?,
@@ -187,14 +188,16 @@ fn later_job(alloc: Global, found: &ArgMatches<'_>) -> Result<Job, AllocError>
     })
 }
 
-/// The job of a command that takes the name of a type, a value, and files. `BadWords`: the words give no value, or give
-/// it twice.
-fn value_job(alloc: Global, found: &ArgMatches<'_>, verb: Verb) -> Result<Job, WordsFault>
-    ensures job { IfOk result (IsValueJobOf verb (rows_of (found_of found.now))) }
-    ensures none { IfErr result (IsNoValueIn (rows_of (found_of found.now))) }
+/// The job of a command that takes the name of a type, a value, and files.
+fn value_job(
+    alloc: Global,
+    found: &ArgMatches<'_>,
+    verb: Verb,
+    value: ValueWords,
+) -> Result<Job, AllocError>
+    ensures { IfOk result (IsValueJobOf verb value (rows_of (found_of found.now))) }
 {
     let context = found.get_flag("context");
-    let value = value_in(alloc, "asnc", found)?;
     Ok(Job {
         verb,
         ty: text_of(alloc, found, "type")?,
@@ -207,6 +210,24 @@ fn value_job(alloc: Global, found: &ArgMatches<'_>, verb: Verb) -> Result<Job, W
         files: files_of(alloc, found, "FILE")?,
         newer: Vec::new(alloc),
     })
+}
+
+/// The job of `uper`. `BadWords`: the words give neither a value nor lines, or more than one of them.
+fn uper_job(alloc: Global, found: &ArgMatches<'_>) -> Result<Job, WordsFault>
+    ensures job { IfOk result (IsUperOf (rows_of (found_of found.now))) }
+    ensures none { IfErr result (IsNoValueOrLines (rows_of (found_of found.now))) }
+{
+    let value = value_or_lines(alloc, found)?;
+    Ok(value_job(alloc, found, Verb::Uper, value)?)
+}
+
+/// The job of `account`. `BadWords`: the words give no value, or give it twice.
+fn account_job(alloc: Global, found: &ArgMatches<'_>) -> Result<Job, WordsFault>
+    ensures job { IfOk result (IsAccountOf (rows_of (found_of found.now))) }
+    ensures none { IfErr result (IsNoValueIn (rows_of (found_of found.now))) }
+{
+    let value = value_in(alloc, "asnc", found)?;
+    Ok(value_job(alloc, found, Verb::Account, value)?)
 }
 
 /// The job of `octcheck`. `BadWords`: the words give no value, or give it twice, or the text of `--hex` gives no
@@ -243,11 +264,11 @@ fn job_of(alloc: Global, command: &str, found: &ArgMatches<'_>) -> Result<Job, W
     } else if command == "ber" {
         ber_job(alloc, found)
     } else if command == "uper" {
-        value_job(alloc, found, Verb::Uper)
+        uper_job(alloc, found)
     } else if command == "unper" {
         unper_job(alloc, found)
     } else if command == "account" {
-        value_job(alloc, found, Verb::Account)
+        account_job(alloc, found)
     } else if command == "later" {
         Ok(later_job(alloc, found)?)
     } else {
@@ -303,8 +324,9 @@ fn are_of_checker(words: &[String]) -> bool
 
 /// Returns the job that the words ask for. The first word is the program's name: `octcheck`, or otherwise `asnc`.
 ///
-/// `BadWords`: the words ask for nothing that the program does, give no value or give it twice, or give octets that
-/// can't be read. `Help`: the words ask for help or for the version. `Memory`: an allocation failed.
+/// `BadWords`: the words ask for nothing that the program does, give no value or give it twice, give octets that can't
+/// be read, or ask for lines beside words that exclude them. `Help`: the words ask for help or for the version. `Memory`:
+/// an allocation failed.
 pub fn job(alloc: Global, words: &[String]) -> Result<Job, WordsFault>
     ensures asked { IfOk result (IsAsked (map string_bytes words.now)) }
     ensures refused { IfErr result (IsRefused (map string_bytes words.now)) }

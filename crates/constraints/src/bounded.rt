@@ -12,11 +12,12 @@ ghost use Rattle.range_ends.specs.Ends.{IsOfKind};
 ghost use Rattle.constraints.specs.Constraints.{is_integer as is_integer', has_alphabet as has_alphabet', has_visible_size as has_visible_size'};
 ghost use Rattle.constraints.specs.Allowed.{IsAllowed, IsCounted, IsInAlphabet, AreVisible, AreCharacters, LeaveTheSame};
 ghost use Rattle.constraints.specs.Bounded.{AreBounded};
+ghost use Rattle.constraints.specs.Tables.{AreBoundsOf};
 ghost use Rattle.constraints.specs.Faults.{Stands};
 ghost use Rattle.constraints.specs.First.{TellsFirst};
-ghost use Rattle.constraints.specs.proving.Columns.{AreAllNoted, IsLeft};
+ghost use Rattle.constraints.specs.proving.Columns.{IsLeft};
 
-use crate::column::{Column, column_of, core_at};
+use crate::column::{BoundTable, Held, column_of, core_at};
 use crate::fault::{BoundFault, told};
 use crate::limit::Limit;
 use crate::meaning::{has_alphabet, has_size, is_integer};
@@ -35,7 +36,7 @@ use type_table::Shape;
 /// numbers of types are theirs.
 pub struct Bounded<'a> {
     tagged: &'a Tagged<'a>,
-    column: Column,
+    table: Held<'a>,
 }
 
 impl<'a> Model for Bounded<'a> {
@@ -49,12 +50,24 @@ impl<'a> Model for Bounded<'a> {
 
     ghost view = { λ b. b.tagged.now };
 
-    ghost use Rattle.constraints.specs.proving.Columns.{AreAllNoted};
+    ghost use Rattle.constraints.specs.proving.Columns.{HoldsOf, held};
 
-    ghost invariant = { λ b. AreAllNoted b.tagged.now b.column.at.items b.column.limits.items };
+    ghost invariant = { λ b. HoldsOf b.tagged.now (held b.table) };
 }
 
 impl<'a> Bounded<'a> {
+    /// Tagged modules and their table, as [`bound`] returns them. The call takes no memory, and a time that is the same
+    /// for all modules.
+    pub fn with_table(tagged: &'a Tagged<'a>, table: &'a BoundTable) -> Bounded<'a>
+        requires { AreBoundsOf tagged.now table.now }
+        ensures { result ≡ tagged.now }
+    {
+        Bounded {
+            tagged,
+            table: Held::Lent(table),
+        }
+    }
+
     /// The tagged modules.
     pub fn tagged(&self) -> &'a Tagged<'a>
         ensures { result.now ≡ self.now }
@@ -88,13 +101,13 @@ impl<'a> Bounded<'a> {
         requires { ty < length self.now.types }
         ensures { IsSomeAnd result (λ l. (k : Kind) → IsOfKind self.now.types ty k → IsLeft self.now k ty l.now) }
     {
-        self.column.limit(ty)
+        self.table.get().limit(ty)
     }
 
     /// A number that types share if [`Bounded::leave_the_same`] is true of them: types that are references to one type,
     /// or tags before it, without constraints of their own. The number is below the number of types.
     pub fn limit_number(&self, ty: TypeId) -> Option<usize> {
-        self.column.number(ty.index)
+        self.table.get().number(ty.index)
     }
 
     /// Whether the constraints of two types are known to allow the same, if references and tags lead from both to one
@@ -103,9 +116,10 @@ impl<'a> Bounded<'a> {
         ensures { result ≡ true → (k : Kind) → IsOfKind self.now.types one.index k → IsOfKind self.now.types other.index k
             → LeaveTheSame self.now k one.index other.index }
     {
-        match self.column.number(one.index) {
+        let column = self.table.get();
+        match column.number(one.index) {
             None => false,
-            Some(number) => match self.column.number(other.index) {
+            Some(number) => match column.number(other.index) {
                 None => false,
                 Some(same) => number == same,
             },
@@ -121,6 +135,23 @@ impl<'a> Bounded<'a> {
     }
 }
 
+/// Returns what is found once for the constraints of tagged modules (X.680, clauses 49 to 51), or the first fault, as
+/// [`bound`] returns it.
+pub fn bound_table(alloc: Global, tagged: &Tagged<'_>) -> Result<BoundTable, BoundFault>
+    ensures found { MatchResult result (AreBoundsOf tagged.now) (Stands tagged.now) }
+    ensures first { IfErr result (TellsFirst tagged.now) }
+{
+    let linked = tagged.linked();
+    let scope = match ReferenceTable::of(alloc, linked) {
+        Ok(scope) => scope,
+        Err(_) => return Err(BoundFault::Memory),
+    };
+    match column_of(alloc, &scope) {
+        Ok(column) => Ok(column),
+        Err(fault) => Err(told(alloc, linked, fault)),
+    }
+}
+
 /// Returns tagged modules with what their constraints allow (X.680, clauses 49 to 51), or the first fault, with its
 /// module, the name of the assignment and the place. `Reconstrained`, `WrongKind`, `MarkerPlace`, `LowerAboveUpper` and
 /// `Circular` are faults of one constraint, and `Empty` is one of a type. `Memory`: an allocation failed. Types are
@@ -131,14 +162,12 @@ pub fn bound<'a>(alloc: Global, tagged: &'a Tagged<'a>) -> Result<Bounded<'a>, B
         (Stands tagged.now) }
     ensures first { IfErr result (TellsFirst tagged.now) }
 {
-    let linked = tagged.linked();
-    let scope = match ReferenceTable::of(alloc, linked) {
-        Ok(scope) => scope,
-        Err(_) => return Err(BoundFault::Memory),
-    };
-    match column_of(alloc, &scope) {
-        Ok(column) => Ok(Bounded { tagged, column }),
-        Err(fault) => Err(told(alloc, linked, fault)),
+    match bound_table(alloc, tagged) {
+        Ok(table) => Ok(Bounded {
+            tagged,
+            table: Held::Owned(table),
+        }),
+        Err(fault) => Err(fault),
     }
 }
 
@@ -285,7 +314,7 @@ impl<'a> Drop for Bounded<'a> {
     fn drop(self) {
         let Bounded {
             tagged: _,
-            column: _,
+            table: _,
         } = self;
     }
 }

@@ -5,7 +5,7 @@ ghost use Rattle.type_table.specs.Seen.{kind_of, type_of, types_of};
 ghost use Rattle.type_table.specs.Table.{IsLinked, behind as behind', next};
 ghost use Rattle.range_ends.specs.Ends.{IsOfKind};
 ghost use Rattle.constraints.specs.proving.Told.{TellsOfType, TellsOfOne, TellsFirstOf, AreBehind};
-ghost use Rattle.constraints.specs.proving.Columns.{AreNoted, AreAllNoted, IsNoted, IsTrail, IsFault, IsStartOf, IsLimitOf, IsShared, fault_of, limit_noted, number_noted};
+ghost use Rattle.constraints.specs.proving.Columns.{AreNoted, AreAllNoted, IsNoted, IsTrail, IsFault, IsStartOf, IsLimitOf, IsShared, fault_of, held, limit_noted, number_noted};
 
 use crate::limit::{Limit, first_limit, limit_of};
 use crate::meaning::{Rule, Wrong};
@@ -65,10 +65,31 @@ fn trail(
     Ok(all)
 }
 
-/// The limits of types: for each type the number of its limit, if one is noted.
-pub(crate) struct Column {
-    pub at: Vec<Option<usize>>,
-    pub limits: Vec<Limit>,
+/// What [`crate::bound`] finds once for the constraints of tagged modules: for each type the number of its limit. The
+/// table owns its memory and borrows no modules, so an owner of modules can keep it beside them.
+/// [`crate::Bounded::with_table`] puts both together again.
+pub struct BoundTable {
+    pub(crate) at: Vec<Option<usize>>,
+    pub(crate) limits: Vec<Limit>,
+}
+
+/// A table that is owned, or one that someone else owns.
+#[derive(Drop)]
+pub(crate) enum Held<'a> {
+    Owned(BoundTable),
+    Lent(&'a BoundTable),
+}
+
+impl<'a> Held<'a> {
+    /// The table.
+    pub(crate) fn get(&self) -> &BoundTable
+        ensures { result.now ≡ held self.now }
+    {
+        match self {
+            Held::Owned(table) => table,
+            Held::Lent(table) => table,
+        }
+    }
 }
 
 /// The fault of a type whose constraints have this fault.
@@ -82,7 +103,7 @@ fn fault_at(wrong: Wrong, ty: usize) -> Fault
     }
 }
 
-impl Column {
+impl BoundTable {
     /// The number of the limit of a type, or None if none is noted.
     pub(crate) fn number(&self, ty: usize) -> Option<usize>
         ensures { result ≡ number_noted self.now.at.items ty }
@@ -124,7 +145,12 @@ pub(crate) fn core_at(linked: &Linked, ty: usize) -> &Shape
 }
 
 /// What is allowed before the constraints that are written on a type.
-fn start_of(alloc: Global, linked: &Linked, column: &Column, ty: usize) -> Result<Limit, AllocError>
+fn start_of(
+    alloc: Global,
+    linked: &Linked,
+    column: &BoundTable,
+    ty: usize,
+) -> Result<Limit, AllocError>
     requires there { ty < length linked.now.types }
     requires noted { AreNoted linked.now column.now.at.items column.now.limits.items }
     requires behind { (j : ℕ) → next linked.now.types ty ≡ Some j → IsNoted column.now.at.items j }
@@ -152,7 +178,7 @@ fn limit_in(
     alloc: Global,
     linked: &Linked,
     scope: &ReferenceTable<'_>,
-    column: &Column,
+    column: &BoundTable,
     ty: usize,
 ) -> Result<Limit, Fault>
     requires same { linked.now ≡ scope.now }
@@ -189,7 +215,7 @@ fn limit_in(
 fn limit_at(
     alloc: Global,
     scope: &ReferenceTable<'_>,
-    column: &Column,
+    column: &BoundTable,
     ty: usize,
 ) -> Result<Limit, Fault>
     requires there { ty < length scope.now.types }
@@ -219,7 +245,7 @@ fn shared(linked: &Linked, ty: usize) -> Option<usize>
 fn note(
     alloc: Global,
     scope: &ReferenceTable<'_>,
-    column: &mut Column,
+    column: &mut BoundTable,
     ty: usize,
 ) -> Result<(), Fault>
     requires there { ty < length scope.now.types }
@@ -259,7 +285,7 @@ fn note(
 fn note_trail(
     alloc: Global,
     scope: &ReferenceTable<'_>,
-    column: &mut Column,
+    column: &mut BoundTable,
     start: usize,
     trail: &[usize],
 ) -> Result<(), Fault>
@@ -293,7 +319,7 @@ fn nothing_noted(alloc: Global, count: usize) -> Result<Vec<Option<usize>>, Allo
 }
 
 /// The limits of all types, or the first fault of their constraints.
-pub(crate) fn column_of(alloc: Global, scope: &ReferenceTable<'_>) -> Result<Column, Fault>
+pub(crate) fn column_of(alloc: Global, scope: &ReferenceTable<'_>) -> Result<BoundTable, Fault>
     ensures found { MatchResult result
         (λ c. AreAllNoted scope.now c.at.items c.limits.items)
         (IsFault scope.now) }
@@ -304,7 +330,7 @@ pub(crate) fn column_of(alloc: Global, scope: &ReferenceTable<'_>) -> Result<Col
         Ok(at) => at,
         Err(_) => return Err(Fault::Memory),
     };
-    let mut column = Column {
+    let mut column = BoundTable {
         at,
         limits: Vec::new(alloc),
     };
@@ -321,8 +347,8 @@ pub(crate) fn column_of(alloc: Global, scope: &ReferenceTable<'_>) -> Result<Col
     Ok(column)
 }
 
-impl Drop for Column {
+impl Drop for BoundTable {
     fn drop(self) {
-        let Column { at: _, limits: _ } = self;
+        let BoundTable { at: _, limits: _ } = self;
     }
 }

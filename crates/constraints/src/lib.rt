@@ -12,7 +12,9 @@ mod limit;
 mod meaning;
 
 pub use bounded::{
-    Bounded, allows_character, allows_number, allows_size, alphabet, bound, range, size,
+    Bounded, allows_character, allows_number, allows_size, alphabet, bound, bound_table, range,
+    size,
 };
+pub use column::BoundTable;
 pub use fault::BoundFault;
 pub use kept::{codes, constraint};

@@ -8,7 +8,7 @@ ghost use Rattle.extensions.specs.Faults.{IsFirstValue, IsTypedValue};
 ghost use Rattle.extensions.specs.Settles.{AreTypedValues};
 ghost use Rattle.extensions.specs.proving.Tables.{IsWrongValue, Tells};
 
-use crate::wrong::{Wrong, value_of};
+use crate::wrong::{Wrong, judged};
 use asn_base::schema::TypeId;
 use constraints::Bounded;
 use names::ValueAt;
@@ -34,8 +34,8 @@ fn is_typed<'a>(
     linked.whole();
     let home = linked.assigned(value.assignment);
     let ty = TypeId { index: value.ty };
-    match value_of(alloc, bounded, defaults, ty, home.module, &value.syntax) {
-        Ok(_) => Ok(()),
+    match judged(alloc, bounded, defaults, ty, home.module, &value.syntax) {
+        Ok(()) => Ok(()),
         Err(wrong) => Err(wrong),
     }
 }

@@ -1,14 +1,17 @@
 //! The result of reading a notation that isn't one of a value.
 
-ghost use Rattle.std.specs.Prelude.{◌≡◌, ◌<◌, ℕ, false, true, IfOk, IfErr, length};
+ghost use Rattle.std.specs.Prelude.{◌≡◌, ◌<◌, ℕ, [], false, true, IfOk, IfErr, OnOk, length};
 ghost use Rattle.asn_base.specs.Abstract.{abstract};
-ghost use Rattle.trees.specs.Values.{tree_of};
+ghost use Rattle.trees.specs.Values.{Name, Tree, tree_of};
 ghost use Rattle.type_table.specs.Lists.{AreSound};
+ghost use Rattle.resolve.specs.Program.{Program};
 ghost use Rattle.typed_values.specs.declared.fault.Cause.TheVariants as causes;
+ghost use Rattle.typed_values.specs.Faults.{Stands};
 ghost use Rattle.typed_values.specs.Known.{AreKnown};
 ghost use Rattle.value_notations.specs.Values.{IsTyped};
 ghost use Rattle.values.specs.Allowing.{Allows, AllowsCode};
 ghost use Rattle.extensions.specs.Faults.{IsWrong};
+ghost use Rattle.extensions.specs.Settles.{HasValue};
 ghost use Rattle.extensions.specs.proving.Tables.{Tells};
 
 use asn_base::schema::TypeId;
@@ -16,7 +19,7 @@ use asn_base::value::Value;
 use constraints::Bounded;
 use std::alloc::Global;
 use trees::ValueSyntax;
-use typed_values::{Cause, Defaults, ValueFault, typed_with};
+use typed_values::{Cause, Defaults, ValueFault, judged_with, typed_with};
 
 /// Why there is no value: an allocation failed, or a notation has this fault.
 #[derive(Clone, Copy)]
@@ -36,7 +39,44 @@ fn ran_out(cause: Cause<'_>) -> bool
     }
 }
 
-/// The value of a notation in this module, under a type. The error is the fault of the notation, or `Memory`.
+/// Why a notation with this fault has no value.
+fn wrong_of<'a>(fault: ValueFault<'a>) -> Wrong<'a>
+    ensures { (p : Program) (M : Name) (i : ℕ) (n : Tree)
+        → Stands p 64 16777216 [] M i n fault.entry
+        → Tells (IsWrong p M i n) result }
+{
+    if ran_out(fault.cause) {
+        Wrong::Memory
+    } else {
+        Wrong::At(fault)
+    }
+}
+
+/// Whether a notation in this module stands for a value of a type, which isn't built. The error is the fault of the
+/// notation, or `Memory`.
+pub(crate) fn judged<'a>(
+    alloc: Global,
+    bounded: &Bounded<'a>,
+    defaults: &mut Defaults,
+    ty: TypeId,
+    within: &'a str,
+    notation: &'a ValueSyntax,
+) -> Result<(), Wrong<'a>>
+    requires there { ty.index < length bounded.now.types }
+    requires sound { AreSound bounded.now.types }
+    requires known { AreKnown bounded.now defaults.old }
+    ensures value { OnOk result (HasValue bounded.now within.now ty.index (tree_of notation.now)) }
+    ensures fault { IfErr result (Tells (IsWrong bounded.now within.now ty.index (tree_of notation.now))) }
+    ensures known { AreKnown bounded.now defaults.new }
+{
+    match judged_with(alloc, bounded, defaults, ty, within, notation) {
+        Ok(()) => Ok(()),
+        Err(fault) => Err(wrong_of(fault)),
+    }
+}
+
+/// The value of a notation in this module, under a type. The notation is judged first, so that one with too many nodes
+/// is refused before its value takes memory. The error is the fault of the notation, or `Memory`.
 pub(crate) fn value_of<'a>(
     alloc: Global,
     bounded: &Bounded<'a>,
@@ -53,14 +93,12 @@ pub(crate) fn value_of<'a>(
     ensures fault { IfErr result (Tells (IsWrong bounded.now within.now ty.index (tree_of notation.now))) }
     ensures known { AreKnown bounded.now defaults.new }
 {
+    match judged(alloc, bounded, defaults, ty, within, notation) {
+        Ok(()) => {}
+        Err(wrong) => return Err(wrong),
+    }
     match typed_with(alloc, bounded, defaults, ty, within, notation) {
         Ok(value) => Ok(value),
-        Err(fault) => {
-            if ran_out(fault.cause) {
-                Err(Wrong::Memory)
-            } else {
-                Err(Wrong::At(fault))
-            }
-        }
+        Err(fault) => Err(wrong_of(fault)),
     }
 }

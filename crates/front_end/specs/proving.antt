@@ -1,2 +1,3 @@
 -- Definitions for contracts inside the crate and for proofs.
 pub mod Steps
+pub mod Holding

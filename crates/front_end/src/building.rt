@@ -3,22 +3,27 @@
 ghost use Rattle.std.specs.Prelude.{◌≡◌, IfOk, IfErr, MatchResult, map};
 ghost use Rattle.trees.specs.Modules.{module_tree_of};
 ghost use Rattle.resolve.specs.Links.{Links};
+ghost use Rattle.tagging.specs.Tables.{AreTagsOf};
 ghost use Rattle.tagging.specs.Tagged.{IsTagged};
 ghost use Rattle.constraints.specs.Bounded.{AreBounded};
+ghost use Rattle.constraints.specs.Tables.{AreBoundsOf};
 ghost use Rattle.extensions.specs.Faults.{Stands};
 ghost use Rattle.extensions.specs.Settles.{IsRead, Settles};
+ghost use Rattle.front_end.specs.Accepted.{Keeps};
 ghost use Rattle.front_end.specs.Faults.{IsLinkedFault};
 ghost use Rattle.front_end.specs.proving.Steps.{IsNamesFault};
 
 use crate::fault::FrontFault;
+use crate::front::Front;
+use crate::modules::Modules;
 use asn_base::schema::Schema;
-use constraints::{BoundFault, Bounded, bound};
+use constraints::{BoundFault, BoundTable, Bounded, bound_table};
 use extensions::{ExtFault, settle};
 use names::NameFault;
 use resolve::{Linked, link};
 use std::alloc::Global;
 use syntax::Module;
-use tagging::{TagFault, Tagged, tag};
+use tagging::{TagFault, TagTable, Tagged, tag_table};
 use told_values::told;
 
 /// The linked modules, in which each name has one meaning.
@@ -33,24 +38,24 @@ pub(crate) fn linked(alloc: Global, modules: Vec<Module>) -> Result<Linked, Fron
     }
 }
 
-/// Linked modules whose types have their tags.
-fn tagged(alloc: Global, linked: &Linked) -> Result<Tagged<'_>, FrontFault>
-    ensures { MatchResult result (λ t. (t ≡ linked.now) × IsTagged linked.now.types) (IsLinkedFault linked.now) }
+/// What is found once for the tags of linked modules.
+fn tags_of(alloc: Global, linked: &Linked) -> Result<TagTable, FrontFault>
+    ensures { MatchResult result (AreTagsOf linked.now) (IsLinkedFault linked.now) }
 {
-    match tag(alloc, linked) {
-        Ok(tagged) => Ok(tagged),
+    match tag_table(alloc, linked) {
+        Ok(tags) => Ok(tags),
         Err(TagFault::Memory) => Err(FrontFault::Memory),
         Err(fault) => Err(FrontFault::Tag(fault)),
     }
 }
 
-/// Tagged modules whose constraints have their meanings.
-fn bounded<'a>(alloc: Global, tagged: &'a Tagged<'a>) -> Result<Bounded<'a>, FrontFault>
-    requires { IsTagged tagged.now.types }
-    ensures { MatchResult result (λ b. (b ≡ tagged.now) × AreBounded tagged.now) (IsLinkedFault tagged.now) }
+/// What is found once for the constraints of tagged modules.
+fn bounds_of(alloc: Global, tagged: &Tagged<'_>) -> Result<BoundTable, FrontFault>
+    ensures { MatchResult result (AreBoundsOf tagged.now) (IsLinkedFault tagged.now) }
 {
-    match bound(alloc, tagged) {
-        Ok(bounded) => Ok(bounded),
+    tagged.linked();
+    match bound_table(alloc, tagged) {
+        Ok(bounds) => Ok(bounds),
         Err(BoundFault::Memory) => Err(FrontFault::Memory),
         Err(fault) => Err(FrontFault::Bound(fault)),
     }
@@ -93,21 +98,59 @@ fn settled(alloc: Global, bounded: &Bounded<'_>) -> Result<Schema, FrontFault>
     }
 }
 
-/// The types of linked modules, after they are tagged, bounded and settled.
-pub(crate) fn schema_of(alloc: Global, linked: &Linked) -> Result<Schema, FrontFault>
-    requires { IsRead linked.now }
-    ensures tagged { IfOk result (λ _. IsTagged linked.now.types) }
-    ensures bounded { IfOk result (λ _. AreBounded linked.now) }
-    ensures settled { IfOk result (Settles linked.now) }
-    ensures fault { IfErr result (IsLinkedFault linked.now) }
+/// What is found once for the constraints of linked modules, which have these tags.
+fn bounds_by(alloc: Global, linked: &Linked, tags: &TagTable) -> Result<BoundTable, FrontFault>
+    requires { AreTagsOf linked.now tags.now }
+    ensures { MatchResult result (AreBoundsOf linked.now) (IsLinkedFault linked.now) }
 {
-    let tagged = match tagged(alloc, linked) {
-        Ok(tagged) => tagged,
+    match bounds_of(alloc, &Tagged::with_table(linked, tags)) {
+        Ok(bounds) => Ok(bounds),
+        Err(fault) => Err(fault),
+    }
+}
+
+/// The types of linked modules, which have these tags and bounds, settled.
+fn schema_by(
+    alloc: Global,
+    linked: &Linked,
+    tags: &TagTable,
+    bounds: &BoundTable,
+) -> Result<Schema, FrontFault>
+    requires read { IsRead linked.now }
+    requires tags { AreTagsOf linked.now tags.now }
+    requires bounds { AreBoundsOf linked.now bounds.now }
+    ensures { MatchResult result (Settles linked.now) (IsLinkedFault linked.now) }
+{
+    let tagged = Tagged::with_table(linked, tags);
+    tagged.linked();
+    let bounded = Bounded::with_table(&tagged, bounds);
+    bounded.whole();
+    match settled(alloc, &bounded) {
+        Ok(schema) => Ok(schema),
+        Err(fault) => Err(fault),
+    }
+}
+
+/// Linked modules and their types, after they are tagged, bounded and settled.
+pub(crate) fn front_of(alloc: Global, linked: Linked) -> Result<Front, FrontFault>
+    requires { IsRead linked }
+    ensures same { IfOk result (λ f. f.modules ≡ linked) }
+    ensures kept { IfOk result (λ _. Keeps linked) }
+    ensures settled { IfOk result (λ f. Settles linked f.schema) }
+    ensures fault { IfErr result (IsLinkedFault linked) }
+{
+    let tags = match tags_of(alloc, &linked) {
+        Ok(tags) => tags,
         Err(fault) => return Err(fault),
     };
-    let bounded = match bounded(alloc, &tagged) {
-        Ok(bounded) => bounded,
+    let bounds = match bounds_by(alloc, &linked, &tags) {
+        Ok(bounds) => bounds,
         Err(fault) => return Err(fault),
     };
-    settled(alloc, &bounded)
+    let schema = match schema_by(alloc, &linked, &tags, &bounds) {
+        Ok(schema) => schema,
+        Err(fault) => return Err(fault),
+    };
+    let modules = Modules::of(linked, tags, bounds);
+    Ok(Front { modules, schema })
 }

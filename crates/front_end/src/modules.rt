@@ -3,19 +3,19 @@
 ghost use Rattle.std.specs.Prelude.{◌≡◌, ◌<◌, IfOk, IfErr, length};
 ghost use Rattle.asn_base.specs.Abstract.{abstract};
 ghost use Rattle.trees.specs.Values.{tree_of};
-ghost use Rattle.tagging.specs.Tagged.{IsTagged};
-ghost use Rattle.constraints.specs.Bounded.{AreBounded};
+ghost use Rattle.tagging.specs.Tables.{AreTagsOf};
+ghost use Rattle.constraints.specs.Tables.{AreBoundsOf};
 ghost use Rattle.extensions.specs.Faults.{IsWrong};
 ghost use Rattle.front_end.specs.Accepted.{Keeps};
 ghost use Rattle.front_end.specs.Untyped.{IsUntyped, StandsFor};
 
 use asn_base::schema::TypeId;
 use asn_base::value::Value;
-use constraints::{BoundFault, Bounded, bound};
+use constraints::{BoundTable, Bounded};
 use resolve::Linked;
-use std::alloc::{AllocError, Global};
+use std::alloc::Global;
 use std::marker::Model;
-use tagging::{TagFault, Tagged, tag};
+use tagging::{TagTable, Tagged};
 use told_values::{ValueTold, told};
 use trees::ValueSyntax;
 use typed_values::{Cause, ValueFault, typed};
@@ -30,8 +30,11 @@ pub enum Untyped {
 }
 
 /// The modules of accepted texts, in which each name has a meaning. Their types, DEFAULTs and values are as required.
+/// What tags and constraints need is found once, when the modules are made.
 pub struct Modules {
     linked: Linked,
+    tags: TagTable,
+    bounds: BoundTable,
 }
 
 impl Model for Modules {
@@ -45,35 +48,9 @@ impl Model for Modules {
 
     ghost view = { λ m. m.linked };
 
-    ghost use Rattle.front_end.specs.Accepted.{Keeps};
+    ghost use Rattle.front_end.specs.proving.Holding.{Holds};
 
-    ghost invariant = { λ m. Keeps m.linked };
-}
-
-/// The types of modules with their tags; the modules are known to have them.
-fn with_tags(alloc: Global, linked: &Linked) -> Result<Tagged<'_>, AllocError>
-    requires { IsTagged linked.now.types }
-    ensures { IfOk result (λ t. t ≡ linked.now) }
-{
-    tagging::law::no_other();
-    match tag(alloc, linked) {
-        Ok(tagged) => Ok(tagged),
-        Err(TagFault::Memory) => Err(AllocError),
-        Err(_) => unreachable!(),
-    }
-}
-
-/// The constraints of modules with their meanings; the modules are known to have them.
-fn with_bounds<'a>(alloc: Global, tagged: &'a Tagged<'a>) -> Result<Bounded<'a>, AllocError>
-    requires { AreBounded tagged.now }
-    ensures { IfOk result (λ b. b ≡ tagged.now) }
-{
-    constraints::law::no_other();
-    match bound(alloc, tagged) {
-        Ok(bounded) => Ok(bounded),
-        Err(BoundFault::Memory) => Err(AllocError),
-        Err(_) => unreachable!(),
-    }
+    ghost invariant = { λ m. Holds m.linked m.tags m.bounds };
 }
 
 /// What is reported for a notation that means no value of a type.
@@ -124,12 +101,18 @@ fn value_in<'a>(
 }
 
 impl Modules {
-    /// The modules of accepted texts.
-    pub fn of(linked: Linked) -> Modules
-        requires { Keeps linked }
+    /// The modules of accepted texts, with their tables.
+    pub(crate) fn of(linked: Linked, tags: TagTable, bounds: BoundTable) -> Modules
+        requires kept { Keeps linked }
+        requires tags { AreTagsOf linked tags }
+        requires bounds { AreBoundsOf linked bounds }
         ensures { result ≡ linked }
     {
-        Modules { linked }
+        Modules {
+            linked,
+            tags,
+            bounds,
+        }
     }
 
     /// The linked modules.
@@ -161,18 +144,18 @@ impl Modules {
         ensures fault { IfErr result (IsUntyped self.now within.now ty.index (tree_of notation.now)) }
     {
         self.kept();
-        let Ok(tagged) = with_tags(alloc, &self.linked) else {
-            return Err(Untyped::Memory);
-        };
-        let Ok(bounded) = with_bounds(alloc, &tagged) else {
-            return Err(Untyped::Memory);
-        };
+        let tagged = Tagged::with_table(&self.linked, &self.tags);
+        let bounded = Bounded::with_table(&tagged, &self.bounds);
         value_in(alloc, &bounded, ty, within, notation)
     }
 }
 
 impl Drop for Modules {
     fn drop(self) {
-        let Modules { linked: _ } = self;
+        let Modules {
+            linked: _,
+            tags: _,
+            bounds: _,
+        } = self;
     }
 }

@@ -1,2 +1,5 @@
+mod Answering
 mod Refused
 mod Rows
+mod RowsOfLines
+mod Streaming

@@ -1,6 +1,7 @@
 -- Worked rows: lines of octets and of values, and what each part of a conclusion says, in full.
-use Rattle.std.proofs.Common.{◌≡◌, ◌⊎◌, ℕ, List, [], ◌∷◌, Bool, true, false, map, refl}
-use Rattle.std.specs.Prelude.{codes, string_bytes}
+use Rattle.std.proofs.Common.{◌≡◌, ◌⊎◌, ℕ, List, [], ◌∷◌, ◌++◌, Bool, true, false, ap, map, refl}
+use Rattle.std.specs.Prelude.{codes, string_bytes, String}
+use Rattle.std.specs.declared.alloc.Global.{Global}
 use Rattle.std.specs.Fmt.{digits}
 use Rattle.hex.proofs.OnLiterals.{hex_on_literals}
 use Rattle.asn_base.specs.Types.{Resolved}
@@ -12,10 +13,13 @@ use Rattle.asnc.specs.Kits.{IsNotOpened}
 use Rattle.asnc.specs.Packing.{IsPacked}
 use Rattle.asnc.specs.Reading.{IsReadAs}
 use Rattle.asnc.specs.Unpacking.{IsUnpackedAs}
-use Rattle.asnc.specs.Versions.{IsCompared}
+use Rattle.asnc.specs.Differences.{AreCompared}
+use Rattle.later_versions.specs.Told.{says_later}
+use Rattle.later_versions.specs.declared.reason.Explained.TheVariants as explained
 use Rattle.asnc.specs.Writing.{IsAccountOf, IsEncoded}
 use Rattle.messages.specs.declared.fault.Fault.{Fault}
 use Rattle.messages.specs.declared.fault.Fault.TheVariants as faults
+use Rattle.later_versions.specs.declared.reason.Difference.{Difference}
 use Rattle.sinks.specs.Sent.{SinkState, SentAll, SentFront}
 use Rattle.command_line.specs.declared.request.Job.{Job}
 use Rattle.command_line.specs.declared.request.Verb.TheVariants as verbs
@@ -24,7 +28,7 @@ use Rattle.check_jobs.specs.Inputs.{given_in, line_of, octets_given}
 use Rattle.check_jobs.specs.declared.inputs.Inputs.{Inputs}
 use Rattle.jobs.specs.Done.{IsDone, IsDoneInPart}
 use Rattle.jobs.specs.Outputs.{IsAnswerLine, IsCommandOutput, IsOutput, Prints, PrintsAccount, PrintsBer, PrintsDer}
-use Rattle.jobs.specs.Outputs.{PrintsUnper, PrintsUper, hex_line, rules_if, value_lines, word_of}
+use Rattle.jobs.specs.Outputs.{PrintsUnper, PrintsUper, answer_text, hex_line, rules_if, value_lines}
 use Rattle.jobs.specs.Refusals.{AreNewerRefused, AreWithoutType, IsCommandRefused, IsNoAnswer, IsNoOutput, LacksType}
 use Rattle.jobs.specs.Refusals.{Refuses}
 
@@ -52,11 +56,19 @@ strict = refl
 basic : rules_if false ≡ Basic
 basic = refl
 
-later_version : line_of (word_of true) ≡ codes "yes\n"
+later_version : line_of (answer_text explained.Later) ≡ codes "yes\n"
 later_version = refl
 
-other_version : line_of (word_of false) ≡ codes "no\n"
-other_version = refl
+other_version : (d : Difference) (t : String Global)
+    → string_bytes t ≡ codes "at a.b: other numbers are allowed"
+    → line_of (answer_text (explained.Differs d t)) ≡ codes "no: at a.b: other numbers are allowed\n"
+other_version d t e = ap (λ x. line_of (codes "no: " ++ x)) e
+
+yes_of_later : says_later explained.Later ≡ true
+yes_of_later = refl
+
+no_of_others : (d : Difference) (t : String Global) → says_later (explained.Differs d t) ≡ false
+no_of_others d t = refl
 
 -- ---- what commands print
 
@@ -105,10 +117,13 @@ module _ (job : Job) (inputs : Inputs) (yes : Bool) (out : List ℕ) (r : IsAnsw
   newer_texts : Accepted (map octets_of inputs.newer.items) r.newer r.newer_types
   newer_texts = r.newer_accepted
 
-  later_answer : IsCompared r.older r.older_types r.newer r.newer_types (string_bytes job.ty) yes
+  later_answer : AreCompared r.older r.older_types r.newer r.newer_types (string_bytes job.ty) r.answer
   later_answer = r.compared
 
-  later_line : out ≡ line_of (word_of yes)
+  later_yes : yes ≡ says_later r.answer
+  later_yes = r.yes_is
+
+  later_line : out ≡ line_of (answer_text r.answer)
   later_line = r.output_is
 
 -- ---- jobs

@@ -1,5 +1,7 @@
 -- What asnc and octcheck print for a job (`Outputs`), why they print nothing (`Refusals`), and what a sink then has
--- (`Done`).
+-- (`Done`). The answer to a line of standard input (`Answers`), and what a sink has of the answers to all (`Streams`).
+pub mod Answers
 pub mod Done
 pub mod Outputs
 pub mod Refusals
+pub mod Streams

@@ -9,7 +9,10 @@ use Rattle.front_end.specs.Accepted.{Accepted, octets_of}
 use Rattle.asnc.specs.Packing.{IsPacked}
 use Rattle.asnc.specs.Reading.{IsReadAs}
 use Rattle.asnc.specs.Unpacking.{IsUnpackedAs}
-use Rattle.asnc.specs.Versions.{IsCompared}
+use Rattle.asnc.specs.Differences.{AreCompared}
+use Rattle.later_versions.specs.Told.{says_later}
+use Rattle.later_versions.specs.declared.reason.Explained.{Explained}
+use Rattle.later_versions.specs.declared.reason.Explained.TheVariants as explained
 use Rattle.asnc.specs.Writing.{IsAccountOf, IsEncoded}
 use Rattle.command_line.specs.declared.request.Job.{Job}
 use Rattle.command_line.specs.declared.request.Verb.{Verb}
@@ -26,10 +29,10 @@ hex_line octets = line_of (encode_upper octets)
 abbrev pub value_lines : List ℕ → ℕ → List ℕ
 value_lines printed k = line_of (printed ++ (codes "\nskipped " ++ decimal k))
 
--- the word of an answer
-abbrev pub word_of : Bool → List ℕ
-word_of true = codes "yes"
-word_of false = codes "no"
+-- the text of an answer of `later`: `yes`, or `no`, a colon and the text of the difference
+abbrev pub answer_text : Explained → List ℕ
+answer_text explained.Later = codes "yes"
+answer_text (explained.Differs d text) = codes "no: " ++ string_bytes text
 
 -- the rules by which octets are read: with `--strict` the distinguished ones
 abbrev pub rules_if : Bool → Rules
@@ -94,7 +97,7 @@ pub record IsCommandOutput (job : Job) (inputs : Inputs) (output : List ℕ) : T
   pub prints : Prints job.verb program types job (octets_given job.octets inputs.octets) output
 
 -- `later` prints whether the newer texts' type of the job's name is a later version of the older texts' one (X.680,
--- clauses 7, 20, 25 and 29): a line of `yes`, or of `no` if `yes` is false.
+-- clauses 7, 20, 25 and 29): a line of `yes`, or of `no`, where it is none and why, if `yes` is false.
 pub record IsAnswerLine (job : Job) (inputs : Inputs) (yes : Bool) (output : List ℕ) : Type 0 where
   pub older : Program
   pub older_types : List Resolved
@@ -104,9 +107,12 @@ pub record IsAnswerLine (job : Job) (inputs : Inputs) (yes : Bool) (output : Lis
   pub newer_types : List Resolved
   -- the texts of its newer files are accepted, as the newer program
   pub newer_accepted : Accepted (map octets_of inputs.newer.items) newer newer_types
-  -- the name finds a type in each; the answer is yes exactly if the newer one is a later version of the older one
-  pub compared : IsCompared older older_types newer newer_types (string_bytes job.ty) yes
-  pub output_is : output ≡ line_of (word_of yes)
+  -- The name finds a type in each. The answer is yes exactly if the newer one is a later version of the older one, and
+  -- otherwise where both differ, and why.
+  pub answer : Explained
+  pub compared : AreCompared older older_types newer newer_types (string_bytes job.ty) answer
+  pub yes_is : yes ≡ says_later answer
+  pub output_is : output ≡ line_of (answer_text answer)
 
 -- The output is what the job asks for. `yes` is false if and only if that is a `no` of octcheck or of `later`.
 pub record IsOutput (job : Job) (inputs : Inputs) (yes : Bool) (output : List ℕ) : Type 0 where

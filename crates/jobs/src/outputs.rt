@@ -39,7 +39,8 @@ fn asnc_output(alloc: Global, job: &Job, inputs: &Inputs) -> Result<Output, Faul
 /// - `der`, `uper`: octets in hexadecimal digits of upper case and a line end; with `--raw` the octets alone.
 /// - `ber`, `unper`: the printed value, a line end, `skipped`, the number of skipped additions, and a line end.
 /// - `account`: the text of the account and a line end. `list`: the listing.
-/// - `later`: `yes` or `no`, and a line end. `octcheck`: `yes`, or `no` and the first reason, and a line end.
+/// - `later`: `yes`, or `no`, a colon, where the newer type is no later version and why, and a line end. `octcheck`:
+///   `yes`, or `no` and the first reason, and a line end.
 ///
 /// The faults are those of [`Kit::open`] for the texts, and then those of the command's call of [`Kit`]; for octcheck
 /// they are those of [`judging::judge`]. Of `later` they are those of the older texts, then `Newer` for those of the

@@ -1,32 +1,44 @@
 //! What `later` prints of older and newer texts.
 
 ghost use Rattle.std.specs.Prelude.{◌≡◌, ℕ, List, IfOk, IfErr, map, string_bytes};
-ghost use Rattle.asnc.specs.Versions.{IsCompared, IsNotCompared};
+ghost use Rattle.asnc.specs.Differences.{AreCompared};
+ghost use Rattle.later_versions.specs.Told.{says_later as says_later'};
+ghost use Rattle.asnc.specs.Versions.{IsNotCompared};
 ghost use Rattle.check_jobs.specs.Inputs.{line_of};
 ghost use Rattle.front_end.specs.Accepted.{Accepted, octets_of};
-ghost use Rattle.jobs.specs.Outputs.{word_of, IsAnswerLine};
+ghost use Rattle.jobs.specs.Outputs.{answer_text, IsAnswerLine};
 ghost use Rattle.jobs.specs.Refusals.{IsNewerFault, IsNoAnswer, LacksType};
 ghost use Rattle.messages.specs.declared.fault.Fault.TheVariants.{Memory};
 
-use asnc::Kit;
+use asnc::{Explained, Kit};
 use check_jobs::{Inputs, Output, ended};
 use command_line::Job;
 use messages::Fault;
 use std::alloc::Global;
 
-/// The word of an answer.
-fn word(yes: bool) -> &'static str
-    ensures { result.now ≡ word_of yes }
+/// Whether the answer is that the newer type is a later version.
+fn says_later(answer: &Explained) -> bool
+    ensures { result ≡ says_later' answer.now }
 {
-    if yes { "yes" } else { "no" }
+    match answer {
+        Explained::Later => true,
+        Explained::Differs(_, _) => false,
+    }
 }
 
 /// The line of an answer.
-fn line(alloc: Global, yes: bool) -> Result<Vec<u8>, Fault>
-    ensures line { IfOk result (λ v. v.items ≡ line_of (word_of yes)) }
+fn line(alloc: Global, answer: &Explained) -> Result<Vec<u8>, Fault>
+    ensures line { IfOk result (λ v. v.items ≡ line_of (answer_text answer.now)) }
     ensures memory { IfErr result (λ e. e ≡ Memory) }
 {
-    ended(String::from_str(alloc, word(yes))?)
+    match answer {
+        Explained::Later => ended(String::from_str(alloc, "yes")?),
+        Explained::Differs(_, text) => {
+            let mut line = String::from_str(alloc, "no: ")?;
+            line.push_str(text.as_str())?;
+            ended(line)
+        }
+    }
 }
 
 /// The kit of the newer texts. Its faults are those of [`Kit::open`], as faults of the newer texts.
@@ -41,17 +53,17 @@ fn newer_kit(alloc: Global, texts: &[Vec<u8>]) -> Result<Kit, Fault>
     }
 }
 
-/// Whether the type of a name in the newer kit is a later version of that in the older one.
+/// Whether the type of a name in the newer kit is a later version of that in the older one, or where it is none.
 ///
 /// `NoType`: the older kit has no type of this name. `NoNewerType`: the older kit has one, and the newer kit has none.
 /// `Memory`: an allocation failed.
-fn is_later(alloc: Global, older: &Kit, newer: &Kit, ty: &str) -> Result<bool, Fault>
-    ensures compared { IfOk result (IsCompared older.now.program older.now.types
+fn compared(alloc: Global, older: &Kit, newer: &Kit, ty: &str) -> Result<Explained, Fault>
+    ensures compared { IfOk result (AreCompared older.now.program older.now.types
         newer.now.program newer.now.types ty.now) }
     ensures lacks { IfErr result (LacksType older.now.program newer.now.program ty.now) }
 {
-    match Kit::later(alloc, older, newer, ty) {
-        Ok(yes) => Ok(yes),
+    match Kit::compare(alloc, older, newer, ty) {
+        Ok(answer) => Ok(answer),
         Err(Fault::NoType(name)) => match older.type_named(ty) {
             Some(_) => Err(Fault::NoNewerType(name)),
             None => Err(Fault::NoType(name)),
@@ -74,11 +86,12 @@ pub(crate) fn later_output(alloc: Global, job: &Job, inputs: &Inputs) -> Result<
         Ok(kit) => kit,
         Err(fault) => return Err(fault),
     };
-    let yes = match is_later(alloc, &older, &newer, job.ty.as_str()) {
-        Ok(yes) => yes,
+    let answer = match compared(alloc, &older, &newer, job.ty.as_str()) {
+        Ok(answer) => answer,
         Err(fault) => return Err(fault),
     };
-    match line(alloc, yes) {
+    let yes = says_later(&answer);
+    match line(alloc, &answer) {
         Ok(octets) => Ok(Output { octets, yes }),
         Err(fault) => Err(fault),
     }

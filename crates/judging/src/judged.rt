@@ -14,7 +14,6 @@ use account_checker::reason::Verdict;
 use account_text::{AccountFault, from_json, stop_of};
 use asn_base::schema::{Schema, TypeId};
 use asn_base::value::Value;
-use front_end::law::accepted_keep;
 use front_end::{FrontFault, Modules};
 use messages::Fault;
 use named_values::{ValueGiven, meant};
@@ -125,19 +124,17 @@ pub fn judge(
     // A fault is true, and is the first one in the order above.
     ensures refused { IfErr result (IsNotJudged (map octets_of texts.now) ty.now (as_given value.entry) account.now) }
 {
-    accepted_keep();
     let front = match front_end::open(alloc, texts) {
         Ok(front) => front,
         Err(fault) => return Err(refusal(fault)),
     };
-    let modules = Modules::of(front.linked);
     let claim = Claim {
         ty,
         value,
         octets,
         account,
     };
-    match judge_in(alloc, &modules, &front.schema, &claim) {
+    match judge_in(alloc, &front.modules, &front.schema, &claim) {
         Ok(verdict) => Ok(verdict),
         Err(fault) => Err(fault),
     }

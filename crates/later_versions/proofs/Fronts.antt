@@ -1,10 +1,11 @@
 -- Lists that begin with the elements of others, one for one.
-use Rattle.std.proofs.Common.{arith, ◌≡◌, ℕ, suc, ◌+◌, ◌<◌, ◌≤◌, List, [], ◌∷◌, length, map, drop, get_or, refl, sym, ap, subst, ◌∙◌, inl, inr, true, false}
+use Rattle.std.proofs.Common.{arith, ◌≡◌, ℕ, zero, suc, ◌+◌, ◌<◌, ◌≤◌, List, [], ◌∷◌, length, map, drop, get_or, refl, sym, ap, subst, ◌∙◌, inl, inr, true, false}
 use Rattle.std.specs.Prelude.{slice_get, ◌⊎◌, ◌↔◌, IsTrue, Some, option_map, Bool}
 use mathlib.Core.Bool.{beq, not}
 use Rattle.std.proofs.lemmas.Bool.{cases_lt}
 use Rattle.std.proofs.lemmas.List.{drop_more, get_or-map, length-map}
 use Rattle.std.proofs.lemmas.Option.{slice_get_read, slice_get_within, slice_get-get_or, slice_get-map, same_Some}
+use Rattle.later_versions.specs.Differences.{AreSameTo}
 use Rattle.later_versions.specs.Later.{IsFront}
 
 pub yes : {P : Type 0} → P → IsTrue Bool.true ↔ P
@@ -15,6 +16,12 @@ no n = (λ t. absurd (cc), λ p. absurd (n p))
 
 pub onward : {P Q R : Type 0} → P ↔ Q → (Q → R) → (R → Q) → P ↔ R
 onward a f g = (λ p. f (a.0 p), λ r. a.1 (g r))
+
+-- a list has an element at each place before its end
+pub slice_get_some : {A : Type 0} (xs : List A) (i : ℕ) → i < length xs → (x : A) × (slice_get xs i ≡ Some x)
+slice_get_some [] i l = absurd (omega (arith, l))
+slice_get_some (x ∷ xs) zero l = (x, refl)
+slice_get_some (x ∷ xs) (suc i) l = slice_get_some xs i (omega (arith, l))
 
 -- the element at a place of a mapped list
 pub mapped_at : {A B : Type 0} (f : A → B) (xs : List A) (i : ℕ) (x : A)
@@ -55,24 +62,64 @@ front_all f R xs ys i l m so = record {
   kept = λ j u v a b. so j u v (let w = slice_get_within (map f xs) j u a in let n = length-map xs f in omega (arith, w, n, l)) a b;
 }
 
--- not if one element doesn't
-pub front_not : {A B : Type 0} (f : A → B) (R : B → B → Type 0) (xs ys : List A) (i : ℕ) (x y : A)
+-- the lists are the same up to a place where one of them ends
+pub same_to_end : {A B : Type 0} (f : A → B) (R : B → B → Type 0) (xs ys : List A) (i : ℕ)
+    → i ≤ length xs
+    → i ≤ length ys
+    → (length xs ≤ i) ⊎ (length ys ≤ i)
+    → FrontTo R (map f xs) (map f ys) i
+    → AreSameTo R (map f xs) (map f ys) i
+same_to_end f R xs ys i l m n so = record {
+  in_first = (let a = length-map xs f in omega (arith, a, l));
+  in_second = (let b = length-map ys f in omega (arith, b, m));
+  before = so;
+  other = λ u v a b r. elim n [
+    | inl k ↦ absurd (let w = slice_get_within (map f xs) i u a in let c = length-map xs f in omega (arith, w, c, k))
+    | inr k ↦ absurd (let w = slice_get_within (map f ys) i v b in let c = length-map ys f in omega (arith, w, c, k))
+  ];
+}
+
+-- or where their elements differ
+pub same_to_other : {A B : Type 0} (f : A → B) (R : B → B → Type 0) (xs ys : List A) (i : ℕ) (x y : A)
     → i < length xs
     → i < length ys
     → x ≡ get_or xs i x
     → y ≡ get_or ys i y
     → (R (f x) (f y) → ⊥)
-    → IsFront R (map f xs) (map f ys)
-    → ⊥
-front_not f R xs ys i x y l m e g n h = n (h.kept i (f x) (f y) (mapped_at f xs i x l e) (mapped_at f ys i y m g))
+    → FrontTo R (map f xs) (map f ys) i
+    → AreSameTo R (map f xs) (map f ys) i
+same_to_other f R xs ys i x y l m e g n so = record {
+  in_first = (let a = length-map xs f in omega (arith, a, l));
+  in_second = (let b = length-map ys f in omega (arith, b, m));
+  before = so;
+  other = λ u v a b r. (
+      let t = same_Some u (f x) (sym a ∙ mapped_at f xs i x l e) in
+      let w = same_Some v (f y) (sym b ∙ mapped_at f ys i y m g) in
+      n (subst (λ q. R q (f y)) t (subst (R u) w r))
+      );
+}
 
--- nor if one is dropped
-pub front_short : {A B : Type 0} (f : A → B) (R : B → B → Type 0) (xs ys : List A)
-    → length ys < length xs
-    → IsFront R (map f xs) (map f ys)
+-- lists that are the same to the end of the first one
+pub front_whole : {A : Type 0} {R : A → A → Type 0} {xs ys : List A} {i : ℕ}
+    → AreSameTo R xs ys i
+    → length xs ≤ i
+    → IsFront R xs ys
+front_whole {xs = xs} h l = record {
+  none_dropped = (let b = h.in_second in omega (arith, b, l));
+  kept = λ j x y a b. h.before j x y (let w = slice_get_within xs j x a in omega (arith, w, l)) a b;
+}
+
+-- and those that are not
+pub front_other : {A : Type 0} {R : A → A → Type 0} {xs ys : List A} {i : ℕ}
+    → AreSameTo R xs ys i
+    → i < length xs
+    → IsFront R xs ys
     → ⊥
-front_short f R xs ys l h =
-    let a = length-map xs f in let b = length-map ys f in let c = h.none_dropped in absurd (omega (arith, a, b, c, l))
+front_other {xs = xs} {ys = ys} {i = i} h l f =
+    let m : i < length ys = (let d = f.none_dropped in omega (arith, d, l)) in
+    let a = slice_get_some xs i l in
+    let b = slice_get_some ys i m in
+    h.other a.0 b.0 a.1 b.1 (f.kept i a.0 b.0 a.1 b.1)
 
 front_tail : {A : Type 0} {R : A → A → Type 0} {x y : A} {xs ys : List A}
     → IsFront R (x ∷ xs) (y ∷ ys)
@@ -156,7 +203,7 @@ same_truth false false f g h = refl
 both_true : {P Q : Type 0} (a b : Bool) → a ≡ b → IsTrue a ↔ P → IsTrue b ↔ Q → P ↔ Q
 both_true a b e f g = (λ p. g.0 (sym e ∙ f.1 p), λ q. f.0 (e ∙ g.1 q))
 
-same_beq : (a b : Bool) → not (beq a b) ≡ false → a ≡ b
+pub same_beq : (a b : Bool) → not (beq a b) ≡ false → a ≡ b
 same_beq true true e = refl
 same_beq true false e = absurd cc
 same_beq false true e = absurd cc
@@ -165,14 +212,14 @@ same_beq false false e = refl
 pub beq_true : {P Q : Type 0} (a b : Bool) → not (beq a b) ≡ false → IsTrue a ↔ P → IsTrue b ↔ Q → P ↔ Q
 beq_true a b e f g = both_true a b (same_beq a b e) f g
 
+pub other_beq : (a b : Bool) → not (beq a b) ≡ true → a ≡ b → ⊥
+other_beq true true e s = absurd cc
+other_beq true false e s = absurd cc
+other_beq false true e s = absurd cc
+other_beq false false e s = absurd cc
+
 pub beq_false : {P Q : Type 0} (a b : Bool) → not (beq a b) ≡ true → IsTrue a ↔ P → IsTrue b ↔ Q → P ↔ Q → ⊥
-beq_false a b e f g h = differ a b e (same_truth a b f g h)
-  where
-    differ : (a b : Bool) → not (beq a b) ≡ true → a ≡ b → ⊥
-    differ true true e s = absurd cc
-    differ true false e s = absurd cc
-    differ false true e s = absurd cc
-    differ false false e s = absurd cc
+beq_false a b e f g h = other_beq a b e (same_truth a b f g h)
 
 -- the element at a place as code reads it
 pub mapped_got : {A B : Type 0} (f : A → B) (xs : List A) (i : ℕ) (x : A)

@@ -3,12 +3,12 @@ use Rattle.std.proofs.Common.{arith, inl, inr, ◌≡◌, ℕ, zero, suc, ◌+�
 use Rattle.std.specs.Prelude.{slice_get, ◌↔◌, Some}
 use Rattle.std.specs.List.{AllByRecursion}
 use Rattle.std.proofs.lemmas.Bool.{cases_lt}
-use Rattle.std.proofs.lemmas.Option.{same_Some}
-use Rattle.asn_base.specs.Types.{Component, Presence, mandatory, optional, default, addition}
+use Rattle.std.proofs.lemmas.Option.{same_Some, slice_get_within}
+use Rattle.asn_base.specs.Types.{Component, Presence, Resolved, mandatory, optional, default, addition}
 use Rattle.asn_base.specs.Typed.{IsOfGroup, group_of}
 use Rattle.asn_base.specs.Schemas.{GroupsTogether, is_addition}
-use Rattle.later_versions.specs.Later.{AreInOneGroup}
-use Rattle.later_versions.specs.proving.Groups.{AreJoined, HaveSameGroups}
+use Rattle.later_versions.specs.Later.{AreInOneGroup, AreLater}
+use Rattle.later_versions.specs.proving.Groups.{AreJoined, HaveOtherGroups, HaveSameGroups}
 
 -- the component at a place is of group g
 abbrev IsAt : ℕ → List Component → ℕ → Type 0
@@ -154,20 +154,6 @@ groups_whole cs ds u h i j l m o =
     let a = before_last o.group ds i (n - 1) u (left_of o) (subst (IsAt o.group ds) (sym p) b) (omega (arith, l)) in
     h.behind (record { before = n - 1; next = omega (arith, l); one = one_of ds (n - 1) n o.group a b })
 
--- and the other way round
-pub same_groups : (cs ds : List Component)
-    → ((i j : ℕ) → i < length cs → j < length cs → AreInOneGroup cs i j ↔ AreInOneGroup ds i j)
-    → ((i j : ℕ) → i < length cs → length cs ≤ j → AreInOneGroup ds i j → ⊥)
-    → HaveSameGroups cs ds
-same_groups cs ds f g = record {
-  grouped = λ i l. f i i l l;
-  joined = λ i l. (
-    λ j. record { before = j.before; next = j.next; one = (f j.before i (let e = j.next in omega (arith, e, l)) l).0 j.one },
-    λ j. record { before = j.before; next = j.next; one = (f j.before i (let e = j.next in omega (arith, e, l)) l).1 j.one },
-  );
-  behind = λ j. g j.before (length cs) (let e = j.next in omega (arith, e)) (omega arith) j.one;
-}
-
 -- ---- components of a schema
 
 not_of : (g : ℕ) (c : Component) → is_addition c ≡ false → IsOfGroup g c → ⊥
@@ -218,3 +204,35 @@ same_all cs ds n l b so = record {
   joined = λ i h. so.joined i (omega (arith, h, l));
   behind = b;
 }
+
+-- groups that differ
+pub other_grouped : (cs ds : List Component) (i : ℕ)
+    → i < length cs
+    → (AreInOneGroup cs i i ↔ AreInOneGroup ds i i → ⊥)
+    → HaveOtherGroups cs ds i
+other_grouped cs ds i l n = record { within = omega (arith, l); other = λ f. n (f i l) }
+
+joined_both : (cs ds : List Component) (i : ℕ)
+    → i ≤ length cs
+    → ((j : ℕ) → j < length cs → (AreInOneGroup cs j i ↔ AreInOneGroup ds j i))
+    → AreJoined cs i ↔ AreJoined ds i
+joined_both cs ds i l f = (
+  λ j. record { before = j.before; next = j.next; one = (f j.before (let e = j.next in omega (arith, e, l))).0 j.one },
+  λ j. record { before = j.before; next = j.next; one = (f j.before (let e = j.next in omega (arith, e, l))).1 j.one },
+)
+
+pub other_joined : (cs ds : List Component) (i : ℕ)
+    → i ≤ length cs
+    → (AreJoined cs i ↔ AreJoined ds i → ⊥)
+    → HaveOtherGroups cs ds i
+other_joined cs ds i l n = record { within = l; other = λ f. n (joined_both cs ds i l f) }
+
+-- a later version has the same groups
+pub groups_not : (s : List Resolved) (cs ds : List Component) (i : ℕ) → HaveOtherGroups cs ds i → AreLater s cs ds → ⊥
+groups_not s cs ds i h l = h.other (λ j m. elim (cases_lt i (length cs)) [
+  | inl k ↦ l.groups j i m k
+  | inr k ↦ (
+    λ o. absurd (let w = slice_get_within cs i o.second o.at_second in omega (arith, w, k)),
+    λ o. absurd (l.whole j i m k o),
+  )
+])

@@ -4,7 +4,11 @@ mod Agree
 mod Placing
 mod Joined
 mod Pairing
+mod Order
+mod Tracking
 mod Places
 mod Marks
 mod Kindred
+mod Differing
 mod Few
+mod Paths

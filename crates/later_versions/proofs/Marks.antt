@@ -12,10 +12,11 @@ use Rattle.asn_base.specs.Typed.{IsAllowed, IsInRange, IsInSome, IsOfGroup}
 use Rattle.asn_base.specs.Same.{Same}
 use Rattle.asn_base.specs.Schemas.{AreListed, AreNamedBits, GroupsTogether, HasTag, IsNumber, IsSize, IsSound, is_addition}
 use Rattle.later_versions.specs.Kept.{kept, left_out}
-use Rattle.later_versions.specs.Later.{AreInOneGroup, AreLater, IsFront, IsMarkedAlike, IsSameComponent, LeaveSame, both_mandatory, both_optional, both_default, both_additions}
+use Rattle.later_versions.specs.Differences.{AllowSame}
+use Rattle.later_versions.specs.Later.{AreInOneGroup, AreLater, IsFront, IsMarkedAlike, IsSameComponent, both_mandatory, both_optional, both_default, both_additions}
 use Rattle.later_versions.specs.proving.Groups.{AreJoined, AreOfOne, HaveSameGroups}
 use Rattle.later_versions.proofs.Fronts.{yes}
-use Rattle.later_versions.proofs.Joined.{groups_same, groups_whole, same_groups, together_append}
+use Rattle.later_versions.proofs.Joined.{groups_same, groups_whole, together_append}
 
 -- ---- marks
 
@@ -67,22 +68,19 @@ alike_additions {B} s t p q o k g h e f b =
 
 -- ---- lists of components
 
-pub all_later : {B : Type 0} (s : List Resolved) (cs ds : List Component)
+pub all_later : (s : List Resolved) (cs ds : List Component)
     → GroupsTogether cs
     → GroupsTogether ds
     → IsFront (IsSameComponent s) cs ds
     → ((i : ℕ) (d : Component) → length cs ≤ i → slice_get ds i ≡ Some d → is_addition d ≡ true)
-    → B ↔ HaveSameGroups cs ds
-    → B ↔ AreLater s cs ds
-all_later s cs ds t u f a h = (
-  λ b. record {
-    front = f;
-    appended = a;
-    groups = groups_same cs ds t u (h.0 b);
-    whole = groups_whole cs ds u (h.0 b);
-  },
-  λ l. h.1 (same_groups cs ds l.groups l.whole),
-)
+    → HaveSameGroups cs ds
+    → AreLater s cs ds
+all_later s cs ds t u f a h = record {
+  front = f;
+  appended = a;
+  groups = groups_same cs ds t u h;
+  whole = groups_whole cs ds u h;
+}
 
 pub joined_two : {B : Type 0} (cs : List Component) (i j : ℕ) (c d : Component)
     → slice_get cs i ≡ Some c
@@ -118,20 +116,16 @@ not_joined_past cs i l o = let w = slice_get_within cs i o.one.second o.one.at_s
 
 -- ---- constraints
 
-pub same_numbers : {B : Type 0} (c d : Constraint) (P : ℤ → Type 0) (f g : ℤ → Type 0)
-    → c.visible ≡ d.visible
+pub same_allowed : {B : Type 0} (c d : Constraint) (P : ℤ → Type 0) (f g : ℤ → Type 0)
     → ((z : ℤ) → f z ↔ (IsAllowed c z × P z))
     → ((z : ℤ) → g z ↔ (IsAllowed d z × P z))
     → B ↔ ((z : ℤ) → f z ↔ g z)
-    → B ↔ LeaveSame P c d
-same_numbers c d P f g v a b h = (
-  λ w. record {
-    visible = v;
-    allowed = λ z p. (λ q. ((b z).0 ((h.0 w z).0 ((a z).1 (q, p)))).0, λ q. ((a z).0 ((h.0 w z).1 ((b z).1 (q, p)))).0);
-  },
+    → B ↔ AllowSame P c d
+same_allowed c d P f g a b h = (
+  λ w z p. (λ q. ((b z).0 ((h.0 w z).0 ((a z).1 (q, p)))).0, λ q. ((a z).0 ((h.0 w z).1 ((b z).1 (q, p)))).0),
   λ l. h.1 (λ z. (
-    λ q. (let e = (a z).0 q in (b z).1 ((l.allowed z e.1).0 e.0, e.1)),
-    λ q. (let e = (b z).0 q in (a z).1 ((l.allowed z e.1).1 e.0, e.1)),
+    λ q. (let e = (a z).0 q in (b z).1 ((l z e.1).0 e.0, e.1)),
+    λ q. (let e = (b z).0 q in (a z).1 ((l z e.1).1 e.0, e.1)),
   )),
 )
 

@@ -1,24 +1,29 @@
 -- Pairs of types, one after the other.
-use Rattle.std.proofs.Common.{arith, inl, inr, ◌≡◌, ℕ, zero, suc, ◌+◌, ◌<◌, ◌≤◌, List, [], ◌∷◌, ◌++◌, length, refl, sym, ap, subst, ◌∙◌, Bool, true, false, cond, append_assoc}
-use Rattle.std.specs.Prelude.{slice_get, ◌⊎◌, ◌↔◌, Some, None, Option}
+use Rattle.std.proofs.Common.{arith, inl, inr, ◌≡◌, ℕ, zero, suc, ◌+◌, ◌<◌, ◌≤◌, List, [], ◌∷◌, ◌++◌, length, map, refl, sym, ap, subst, ◌∙◌, Bool, true, false, cond, append_assoc}
+use Rattle.std.specs.Prelude.{slice_get, ◌⊎◌, ◌↔◌, Some, None, MatchOption, Option, option_map}
 use Rattle.std.specs.List.{AllByRecursion, list_any}
 use Rattle.std.specs.Ordering.{is_eq, nat_cmp, ordering_then, MatchOrdering}
 use Rattle.std.specs.declared.cmp.Ordering.{Ordering}
 use Rattle.std.specs.declared.cmp.Ordering.TheVariants.{Less, Equal, Greater}
 use Rattle.std.proofs.lemmas.Bool.{cases_lt}
 use Rattle.std.proofs.lemmas.Cmp.{ranked}
-use Rattle.std.proofs.lemmas.Option.{slice_get_within, same_Some}
+use Rattle.std.proofs.lemmas.List.{length-map, map-append}
+use Rattle.std.proofs.lemmas.Option.{slice_get_within, slice_get-map, same_Some}
 use Rattle.asn_base.specs.Names.{IsMember, is_first, is_later}
 use Rattle.asn_base.specs.Types.{Resolved}
 use Rattle.later_versions.specs.Kept.{members_of}
 use Rattle.later_versions.specs.Later.{IsLaterKind, IsLaterType, Later, leads}
+use Rattle.later_versions.proofs.Fronts.{slice_get_some}
 use Rattle.later_versions.proofs.Placing.{at_place}
-use Rattle.later_versions.specs.proving.Pairs.{AreKnown, AreNoted, IsFine, IsIn, IsMemberPair, IsSoFar, HasMet, met, pair_cmp}
+use Rattle.later_versions.specs.Differences.{KindDiffers, with_tags}
+use Rattle.later_versions.specs.proving.Pairs.{AreKnown, AreMembersNoted, IsFine, IsIn, IsMemberPair, IsMemberPairAt, IsMetAt, IsNotedOnce, IsSoFar, HasMet, PairDiffers, met, met_pair, pair_cmp}
+use Rattle.later_versions.specs.declared.reason.Reason.{Reason}
+use Rattle.later_versions.specs.declared.pairs.Met.{Met}
 use Rattle.later_versions.specs.declared.pairs.Pairs.{Pairs}
 
 -- ---- members of lists
 
-member_place : {A : Type 0} {x : A} {xs : List A} → IsMember x xs → (i : ℕ) × (slice_get xs i ≡ Some x)
+pub member_place : {A : Type 0} {x : A} {xs : List A} → IsMember x xs → (i : ℕ) × (slice_get xs i ≡ Some x)
 member_place is_first = (0, refl)
 member_place (is_later h) = let m = member_place h in (suc m.0, m.1)
 
@@ -39,7 +44,7 @@ all_member : {A : Type 0} (P : A → Type 0) {x : A} {xs : List A} → AllByRecu
 all_member P a is_first = a.0
 all_member P a (is_later h) = all_member P a.1 h
 
-get_left : {A : Type 0} (xs ys : List A) (i : ℕ) → i < length xs → slice_get (xs ++ ys) i ≡ slice_get xs i
+pub get_left : {A : Type 0} (xs ys : List A) (i : ℕ) → i < length xs → slice_get (xs ++ ys) i ≡ slice_get xs i
 get_left [] ys i l = absurd (omega (arith, l))
 get_left (x ∷ xs) ys zero l = refl
 get_left (x ∷ xs) ys (suc i) l = get_left xs ys i (omega (arith, l))
@@ -48,37 +53,19 @@ all_append : {A : Type 0} (P : A → Type 0) (xs ys : List A) → AllByRecursion
 all_append P [] ys a b = b
 all_append P (x ∷ xs) ys a b = (a.0, all_append P xs ys a.1 b)
 
-all_more : {A : Type 0} (P Q : A → Type 0) (xs : List A) → ((x : A) → P x → Q x) → AllByRecursion P xs → AllByRecursion Q xs
-all_more P Q [] f a = tt
-all_more P Q (x ∷ xs) f a = (f x a.0, all_more P Q xs f a.1)
-
--- what is added to the second list is added to the first
-noted_twice : {A : Type 0} (P : A → Type 0) (xs ys zs : List A)
-    → (more : List A) × (ys ≡ xs ++ more) × AllByRecursion P more
-    → (more : List A) × (zs ≡ ys ++ more) × AllByRecursion P more
-    → (more : List A) × (zs ≡ xs ++ more) × AllByRecursion P more
-noted_twice P xs ys zs a b = (
-  a.0 ++ b.0,
-  b.1 ∙ ap (λ q. q ++ b.0) a.1 ∙ append_assoc xs a.0 b.0,
-  all_append P a.0 b.0 a.2 b.2,
-)
-
-pub noted_none : {A : Type 0} (P : A → Type 0) (xs : List A) → (more : List A) × (xs ≡ xs ++ more) × AllByRecursion P more
-noted_none P xs = ([], append-none xs, tt)
-  where
-    append-none : {A : Type 0} (xs : List A) → xs ≡ xs ++ []
-    append-none [] = refl
-    append-none (x ∷ xs) = ap (λ q. x ∷ q) (append-none xs)
+pub append-none : {A : Type 0} (xs : List A) → xs ≡ xs ++ []
+append-none [] = refl
+append-none (x ∷ xs) = ap (λ q. x ∷ q) (append-none xs)
 
 -- ---- places
 
-leads_on : (s : List Resolved) (places : List ℕ) (o : Option ℕ) (w : ℕ)
+pub leads_on : (s : List Resolved) (places : List ℕ) (o : Option ℕ) (w : ℕ)
     → (elim o [ None ↦ None | Some u ↦ leads s u places ]) ≡ Some w
     → (u : ℕ) × (o ≡ Some u) × (leads s u places ≡ Some w)
 leads_on s places None w e = absurd cc
 leads_on s places (Some u) w e = (u, refl, e)
 
-leads_further : (s : List Resolved) (t u v i : ℕ) (places : List ℕ)
+pub leads_further : (s : List Resolved) (t u v i : ℕ) (places : List ℕ)
     → leads s t places ≡ Some u
     → slice_get (members_of s u) i ≡ Some v
     → leads s t (places ++ i ∷ []) ≡ Some v
@@ -92,20 +79,22 @@ leads_further s t u v i (j ∷ places) e m =
 
 -- ---- pairs
 
-pub reached_first : (s : List Resolved) (t : ℕ) (s' : List Resolved) (t' : ℕ) (ps more : List (ℕ × ℕ))
-    → ps ≡ [] ++ more
-    → AllByRecursion (λ p. p ≡ (t, t')) more
-    → IsMember (t, t') ps
+pub reached_first : (s : List Resolved) (t : ℕ) (s' : List Resolved) (t' : ℕ) (ps : List (ℕ × ℕ))
+    → ps ≡ (t, t') ∷ []
     → IsSoFar s t s' t' ps 0
-reached_first s t s' t' ps more e a m = record {
-  start = m;
+reached_first s t s' t' ps e = record {
+  start = subst (IsMember (t, t')) (sym e) is_first;
   reached = λ p h. (
-      let q = all_member (λ p. p ≡ (t, t')) a (subst (IsMember p) e h) in
+      let q = only p (subst (IsMember p) e h) in
       ([], ap (λ r. Some r.0) (sym q), ap (λ r. Some r.1) (sym q))
       );
   fine = λ i p l. absurd (omega (arith, l));
   members = λ i p q l. absurd (omega (arith, l));
 }
+  where
+    only : (p : ℕ × ℕ) → IsMember p ((t, t') ∷ []) → p ≡ (t, t')
+    only p is_first = refl
+    only p (is_later h) = elim h [ ]
 
 pub reached_next : (s : List Resolved) (t : ℕ) (s' : List Resolved) (t' : ℕ) (ps new : List (ℕ × ℕ)) (at : ℕ) (p : ℕ × ℕ)
     → slice_get ps at ≡ Some p
@@ -144,17 +133,6 @@ reached_next s t s' t' ps new at p e f n m so =
     same_here i l b q g =
         let h : at ≡ i = omega (arith, l, b) in
         same_Some p q (sym e ∙ ap (slice_get ps) h ∙ g)
-
--- a pair that is reached and isn't fine
-pub not_later : (s : List Resolved) (t : ℕ) (s' : List Resolved) (t' : ℕ) (ps : List (ℕ × ℕ)) (at : ℕ) (p : ℕ × ℕ)
-    → IsMember p ps
-    → (IsFine s s' p → ⊥)
-    → IsSoFar s t s' t' ps at
-    → Later s t s' t'
-    → ⊥
-not_later s t s' t' ps at p m n so l =
-    let r = so.reached p m in
-    n (λ q u a b. l r.0 p.0 p.1 q u r.1 r.2 a b)
 
 follow : (s : List Resolved) (t : ℕ) (s' : List Resolved) (t' : ℕ) (ps : List (ℕ × ℕ)) (at : ℕ)
     → length ps ≤ at
@@ -221,55 +199,181 @@ put_pair : (old new : List (ℕ × ℕ)) (k : ℕ × ℕ)
     → IsIn old x ⊎ (k ≡ x)
 put_pair old new k f x h = split_cond k x (list_any (λ y. is_eq (pair_cmp x y)) old) (is_eq (pair_cmp k x)) refl (sym (f x) ∙ h)
 
+-- ---- what is noted
+
+pub met_more : (old new : Pairs) (more : List Met) → new.list.items ≡ old.list.items ++ more → met new ≡ met old ++ map met_pair more
+met_more old new more e = ap (map met_pair) e ∙ map-append met_pair old.list.items more
+
+-- the first pair that is noted is the only one
+pub first_noted : (old : List Met) (new : Pairs) (x : Met)
+    → old ≡ []
+    → (new.list.items ≡ old) ⊎ (new.list.items ≡ old ++ x ∷ [])
+    → HasMet new (met_pair x)
+    → new.list.items ≡ x ∷ []
+first_noted old new x e once h = elim once [
+  | inl f ↦ elim (subst (IsMember (met_pair x)) (ap (map met_pair) (f ∙ e)) h) [ ]
+  | inr f ↦ f ∙ ap (λ q. q ++ x ∷ []) e
+]
+
+-- the pairs that were met last are those of members
+pub members_met : (s s' : List Resolved) (at : ℕ) (p : ℕ × ℕ) (more : List Met)
+    → AllByRecursion (IsMetAt s s' at p) more
+    → AllByRecursion (IsMemberPair s s' p) (map met_pair more)
+members_met s s' at p [] a = tt
+members_met s s' at p (x ∷ more) a = ((x.place, a.0.1.0, a.0.1.1), members_met s s' at p more a.1)
+
 -- ---- the pairs of members at one place after the other
 
-pub record NotedTo (s s' : List Resolved) (p : ℕ × ℕ) (old new : Pairs) (n : ℕ) : Type 0 where
+pub record NotedTo (s s' : List Resolved) (at : ℕ) (p : ℕ × ℕ) (old new : Pairs) (n : ℕ) : Type 0 where
   pub known : AreKnown new
-  pub members : (q : ℕ × ℕ) → (m : IsMemberPair s s' p q) → m.0 < n → HasMet new q
-  pub noted : AreNoted old new (IsMemberPair s s' p)
+  pub more : List Met
+  pub items : new.list.items ≡ old.list.items ++ more
+  pub are : AllByRecursion (IsMetAt s s' at p) more
+  pub low : (i : ℕ) (x : Met) → slice_get more i ≡ Some x → x.place < n
+  pub ascend : (i j : ℕ) (x y : Met) → i < j → slice_get more i ≡ Some x → slice_get more j ≡ Some y → x.place < y.place
+  pub each : (m : ℕ) (q : ℕ × ℕ)
+      → m < n
+      → IsMemberPairAt s s' p m q
+      → HasMet old q ⊎ ((k : ℕ) × (x : Met) × (slice_get more k ≡ Some x) × (met_pair x ≡ q) × (x.place ≤ m))
 
-pub noted_next : (s s' : List Resolved) (p q : ℕ × ℕ) (old mid new : Pairs) (n : ℕ)
-    → IsMemberPair s s' p q
-    → slice_get (members_of s p.0) n ≡ Some q.0
-    → slice_get (members_of s' p.1) n ≡ Some q.1
-    → AreKnown new
-    → HasMet new q
-    → AreNoted mid new (λ r. r ≡ q)
-    → NotedTo s s' p old mid n
-    → NotedTo s s' p old new (n + 1)
-noted_next s s' p q old mid new n m a b k h more so = record {
+pub noted_first : (s s' : List Resolved) (at : ℕ) (p : ℕ × ℕ) (old : Pairs) → AreKnown old → NotedTo s s' at p old old 0
+noted_first s s' at p old k = record {
   known = k;
-  members = λ r c l. elim (cases_lt c.0 n) [
-    | inl d ↦ subst (IsMember r) (sym more.1) (member_left more.0 (so.members r c d))
-    | inr d ↦ (
-        let e : n ≡ c.0 = omega (arith, d, l) in
-        let f = same_Some q.0 r.0 (sym a ∙ ap (slice_get (members_of s p.0)) e ∙ c.1) in
-        let g = same_Some q.1 r.1 (sym b ∙ ap (slice_get (members_of s' p.1)) e ∙ c.2) in
-        let j : q ≡ r = ap (λ z. (z, q.1)) f ∙ ap (λ z. (r.0, z)) g in
-        subst (λ z. IsMember z (met new)) j h
-        )
-  ];
-  noted = noted_twice (IsMemberPair s s' p) (met old) (met mid) (met new) so.noted
-      (more.0, more.1, all_more (λ r. r ≡ q) (IsMemberPair s s' p) more.0 (λ r e. subst (IsMemberPair s s' p) (sym e) m) more.2);
+  more = [];
+  items = append-none old.list.items;
+  are = tt;
+  low = λ i x e. absurd cc;
+  ascend = λ i j x y l e. absurd cc;
+  each = λ m q l. absurd (omega (arith, l));
 }
 
+-- a pair that was met is one of the earlier ones or one of the others
+met_or_more : (old : Pairs) (items more : List Met) (q : ℕ × ℕ)
+    → items ≡ old.list.items ++ more
+    → IsMember q (map met_pair items)
+    → HasMet old q ⊎ ((k : ℕ) × (x : Met) × (slice_get more k ≡ Some x) × (met_pair x ≡ q))
+met_or_more old items more q e h =
+    elim (member_of_two (met old) (map met_pair more) (subst (IsMember q) (ap (map met_pair) e ∙ map-append met_pair old.list.items more) h)) [
+      | inl a ↦ inl a
+      | inr b ↦ (
+          let m = member_place b in
+          let z = slice_get_some more m.0 (let w = slice_get_within (map met_pair more) m.0 q m.1 in let c = length-map more met_pair in omega (arith, w, c)) in
+          inr (m.0, z.0, z.1, same_Some (met_pair z.0) q (sym (slice_get-map met_pair more m.0 ∙ ap (option_map met_pair) z.1) ∙ m.1))
+          )
+    ]
+
+-- an element of a list with one more at its end
+last_or_before : (xs : List Met) (x y : Met) (i : ℕ)
+    → slice_get (xs ++ x ∷ []) i ≡ Some y
+    → (slice_get xs i ≡ Some y) ⊎ ((i ≡ length xs) × (y ≡ x))
+last_or_before [] x y zero e = inr (refl, sym (same_Some x y e))
+last_or_before [] x y (suc i) e = absurd cc
+last_or_before (z ∷ xs) x y zero e = inl e
+last_or_before (z ∷ xs) x y (suc i) e = elim (last_or_before xs x y i e) [
+  | inl h ↦ inl h
+  | inr h ↦ inr (ap suc h.0, h.1)
+]
+
+at_last : (xs : List Met) (x : Met) → slice_get (xs ++ x ∷ []) (length xs) ≡ Some x
+at_last [] x = refl
+at_last (y ∷ xs) x = at_last xs x
+
+pub noted_next : (s s' : List Resolved) (at : ℕ) (p : ℕ × ℕ) (x : Met) (old mid new : Pairs) (n : ℕ)
+    → IsMetAt s s' at p x
+    → x.place ≡ n
+    → AreKnown new
+    → HasMet new (met_pair x)
+    → IsNotedOnce mid new x
+    → NotedTo s s' at p old mid n
+    → NotedTo s s' at p old new (n + 1)
+noted_next s s' at p x old mid new n m w k h once so = elim once [
+  | inl e ↦ record {
+    known = k;
+    more = so.more;
+    items = e ∙ so.items;
+    are = so.are;
+    low = λ i y f. let l = so.low i y f in omega (arith, l);
+    ascend = so.ascend;
+    each = λ j q l c. elim (cases_lt j n) [
+      | inl d ↦ so.each j q d c
+      | inr d ↦ elim (met_or_more old new.list.items so.more q (e ∙ so.items) (subst (λ z. IsMember z (met new)) (here j q l d c) h)) [
+        | inl a ↦ inl a
+        | inr b ↦ inr (b.0, b.1, b.2, b.3, (let g = so.low b.0 b.1 b.2 in omega (arith, g, d)))
+      ]
+    ];
+  }
+  | inr e ↦ record {
+    known = k;
+    more = so.more ++ x ∷ [];
+    items = e ∙ ap (λ q. q ++ x ∷ []) so.items ∙ append_assoc old.list.items so.more (x ∷ []);
+    are = all_append (IsMetAt s s' at p) so.more (x ∷ []) so.are (m, tt);
+    low = λ i y f. elim (last_or_before so.more x y i f) [
+      | inl a ↦ (let l = so.low i y a in omega (arith, l))
+      | inr b ↦ (let g = ap (λ (z : Met). z.place) b.1 in omega (arith, g, w))
+    ];
+    ascend = λ i j y z l f g. elim (last_or_before so.more x y i f) [
+      | inl a ↦ elim (last_or_before so.more x z j g) [
+        | inl c ↦ so.ascend i j y z l a c
+        | inr d ↦ (let t = so.low i y a in let v = ap (λ (z : Met). z.place) d.1 in omega (arith, t, v, w))
+      ]
+      | inr b ↦ elim (last_or_before so.more x z j g) [
+        | inl c ↦ absurd (let t = slice_get_within so.more j z c in let v = b.0 in omega (arith, t, v, l))
+        | inr d ↦ absurd (let u = b.0 in let v = d.0 in omega (arith, u, v, l))
+      ]
+    ];
+    each = λ j q l c. elim (cases_lt j n) [
+      | inl d ↦ elim (so.each j q d c) [
+        | inl a ↦ inl a
+        | inr b ↦ inr (b.0, b.1, get_left so.more (x ∷ []) b.0 (slice_get_within so.more b.0 b.1 b.2) ∙ b.2, b.3, b.4)
+      ]
+      | inr d ↦ inr (length so.more, x, at_last so.more x, here j q l d c, omega (arith, w, d))
+    ];
+  }
+]
+  where
+    here : (j : ℕ) (q : ℕ × ℕ) → j < n + 1 → n ≤ j → IsMemberPairAt s s' p j q → met_pair x ≡ q
+    here j q l d c =
+        let e : x.place ≡ j = omega (arith, d, l, w) in
+        let f = same_Some x.pair.first.index q.0 (sym m.1.0 ∙ ap (slice_get (members_of s p.0)) e ∙ c.0) in
+        let g = same_Some x.pair.second.index q.1 (sym m.1.1 ∙ ap (slice_get (members_of s' p.1)) e ∙ c.1) in
+        ap (λ z. (z, x.pair.second.index)) f ∙ ap (λ z. (q.0, z)) g
+
 -- after the last member of one of the two
-pub noted_all : (s s' : List Resolved) (p : ℕ × ℕ) (old new : Pairs) (n : ℕ)
+pub noted_all : (s s' : List Resolved) (at : ℕ) (p : ℕ × ℕ) (old new : Pairs) (n : ℕ)
     → (slice_get (members_of s p.0) n ≡ None) ⊎ (slice_get (members_of s' p.1) n ≡ None)
-    → NotedTo s s' p old new n
-    → (q : ℕ × ℕ)
-    → IsMemberPair s s' p q
-    → HasMet new q
-noted_all s s' p old new n e so q m = so.members q m (elim e [
-  | inl a ↦ before_none (members_of s p.0) m.0 n q.0 m.1 a
-  | inr a ↦ before_none (members_of s' p.1) m.0 n q.1 m.2 a
-])
+    → NotedTo s s' at p old new n
+    → AreMembersNoted s s' at p old new
+noted_all s s' at p old new n e so = record {
+  more = so.more;
+  items = so.items;
+  are = so.are;
+  ascend = so.ascend;
+  each = λ j q c. so.each j q (elim e [
+    | inl a ↦ before_none (members_of s p.0) j n q.0 c.0 a
+    | inr a ↦ before_none (members_of s' p.1) j n q.1 c.1 a
+  ]) c;
+}
   where
     before_none : {A : Type 0} (xs : List A) (i n : ℕ) (x : A) → slice_get xs i ≡ Some x → slice_get xs n ≡ None → i < n
     before_none [] i n x e f = absurd cc
     before_none (y ∷ xs) i zero x e f = absurd cc
     before_none (y ∷ xs) zero (suc n) x e f = omega arith
     before_none (y ∷ xs) (suc i) (suc n) x e f = let h = before_none xs i n x e f in omega (arith, h)
+
+-- all pairs of members were met
+pub members_noted : (s s' : List Resolved) (at : ℕ) (p : ℕ × ℕ) (old new : Pairs)
+    → AreMembersNoted s s' at p old new
+    → (q : ℕ × ℕ)
+    → IsMemberPair s s' p q
+    → HasMet new q
+members_noted s s' at p old new h q m = subst (IsMember q) (sym (met_more old new h.more h.items)) (elim (h.each m.0 q (m.1, m.2)) [
+  | inl a ↦ member_left (map met_pair h.more) a
+  | inr b ↦ member_right (met old) (subst (λ z. IsMember z (map met_pair h.more)) b.3 (at_place (map met_pair h.more) b.0 (met_pair b.1) (slice_get-map met_pair h.more b.0 ∙ ap (option_map met_pair) b.2)))
+])
+  where
+    member_right : {A : Type 0} {x : A} (xs : List A) {ys : List A} → IsMember x ys → IsMember x (xs ++ ys)
+    member_right [] h = h
+    member_right (y ∷ xs) h = is_later (member_right xs h)
 
 pub put_known : (old new : List (ℕ × ℕ)) (ps qs : List (ℕ × ℕ)) (k : ℕ × ℕ)
     → ((q : ℕ × ℕ) → list_any (λ y. is_eq (pair_cmp q y)) new
@@ -287,22 +391,13 @@ put_known old new ps qs k f known e p h =
 
 -- ---- one pair
 
-pub fine_tags : (s s' : List Resolved) (p : ℕ × ℕ) (q r : Resolved)
-    → slice_get s p.0 ≡ Some q
-    → slice_get s' p.1 ≡ Some r
-    → IsFine s s' p
-    → q.tags ≡ r.tags
-fine_tags s s' p q r a b f = (f q r a b).tags
-
-pub fine_pair : {B : Type 0} (s s' : List Resolved) (p : ℕ × ℕ) (q r : Resolved)
+pub pair_judged : (s s' : List Resolved) (p : ℕ × ℕ) (q r : Resolved) (o : Option Reason)
     → slice_get s p.0 ≡ Some q
     → slice_get s' p.1 ≡ Some r
     → q.tags ≡ r.tags
-    → B ↔ IsLaterKind s q.kind r.kind
-    → B ↔ IsFine s s' p
-fine_pair s s' p q r a b t h = (
-  λ w x y d e.
-      subst (λ z. IsLaterType s z y) (same_Some q x (sym a ∙ d))
-      (subst (IsLaterType s q) (same_Some r y (sym b ∙ e)) (record { tags = t; kind = h.0 w })),
-  λ f. h.1 (f q r a b).kind,
-)
+    → MatchOption o (IsLaterKind s q.kind r.kind) (KindDiffers s q.kind r.kind)
+    → MatchOption o (IsFine s s' p) (PairDiffers s s' p)
+pair_judged s s' p q r None a b t h = λ x y d e.
+    subst (λ z. IsLaterType s z y) (same_Some q x (sym a ∙ d))
+    (subst (IsLaterType s q) (same_Some r y (sym b ∙ e)) (record { tags = t; kind = h }))
+pair_judged s s' p q r (Some e) a b t h = record { one = q; other = r; at_first = a; at_second = b; differs = with_tags t h }

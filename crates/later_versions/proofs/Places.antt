@@ -2,7 +2,7 @@
 use Rattle.std.proofs.Common.{arith, ◌≡◌, ℕ, zero, suc, ◌+◌, ◌-◌, ◌<◌, ◌≤◌, List, [], ◌∷◌, ◌++◌, length, map, get_or, refl, ap, ◌∙◌, Some, None}
 use Rattle.std.specs.Prelude.{slice_get, option_map}
 use Rattle.std.proofs.lemmas.List.{length-map}
-use Rattle.std.proofs.lemmas.Option.{slice_get-map}
+use Rattle.std.proofs.lemmas.Option.{same_Some, slice_get-map}
 use Rattle.later_versions.proofs.Fronts.{mapped_at}
 
 pub past_end : {A : Type 0} (xs : List A) (i : ℕ) → length xs ≤ i → slice_get xs i ≡ None
@@ -10,7 +10,7 @@ past_end [] i l = refl
 past_end (x ∷ xs) zero l = absurd (omega (arith, l))
 past_end (x ∷ xs) (suc i) l = past_end xs i (omega (arith, l))
 
-pub there : {A B : Type 0} (f : A → B) (g : B → ℕ) (xs : List A) (i : ℕ) (x : A)
+pub there : {A B C : Type 0} (f : A → B) (g : B → C) (xs : List A) (i : ℕ) (x : A)
     → i < length xs
     → x ≡ get_or xs i x
     → slice_get (map g (map f xs)) i ≡ Some (g (f (get_or xs i x)))
@@ -34,7 +34,7 @@ back_get (x ∷ xs) ys k =
     ap (slice_get (x ∷ (xs ++ ys))) (let e : k + suc (length xs) ≡ suc (k + length xs) = omega arith in e)
     ∙ back_get xs ys k
 
-pub in_first : {A B : Type 0} (f : A → B) (g : B → ℕ) (xs ys : List A) (i : ℕ) (x : A)
+pub in_first : {A B C : Type 0} (f : A → B) (g : B → C) (xs ys : List A) (i : ℕ) (x : A)
     → i < length xs
     → x ≡ get_or xs i x
     → slice_get (map g (map f xs ++ map f ys)) i ≡ Some (g (f (get_or xs i x)))
@@ -43,7 +43,7 @@ in_first f g xs ys i x l e =
     ∙ ap (option_map g) (front_get (map f xs) (map f ys) i (f x) (mapped_at f xs i x l e))
     ∙ ap (λ q. Some (g (f q))) e
 
-pub in_second : {A B : Type 0} (f : A → B) (g : B → ℕ) (xs ys : List A) (i : ℕ) (y : A)
+pub in_second : {A B C : Type 0} (f : A → B) (g : B → C) (xs ys : List A) (i : ℕ) (y : A)
     → length xs ≤ i
     → i - length xs < length ys
     → y ≡ get_or ys (i - length xs) y
@@ -78,3 +78,8 @@ pub none_got : {A : Type 0} (xs : List A) (i : ℕ) (d : A) → slice_get xs i �
 none_got [] i d e = refl
 none_got (x ∷ xs) zero d e = absurd cc
 none_got (x ∷ xs) (suc i) d e = none_got xs i d e
+
+pub or_some : {A : Type 0} (xs : List A) (i : ℕ) (d x : A) → slice_get xs i ≡ Some x → get_or xs i d ≡ x
+or_some [] i d x e = absurd cc
+or_some (y ∷ xs) zero d x e = same_Some y x e
+or_some (y ∷ xs) (suc i) d x e = or_some xs i d x e

@@ -1,17 +1,20 @@
 //! Compares components (X.680, 25 and 27).
 
-ghost use Rattle.std.specs.Prelude.{◌≡◌, ◌↔◌, ◌≤◌, ◌<◌, ℕ, true, IsTrue, IfOk, Some, length, map, slice_get};
+ghost use Rattle.std.specs.Prelude.{◌≡◌, ◌↔◌, ◌≤◌, ◌<◌, ℕ, false, IsTrue, IfOk, MatchOption, Some, length, map};
+ghost use Rattle.std.specs.Prelude.{slice_get};
 ghost use Rattle.asn_base.specs.Abstract.{abstract};
 ghost use Rattle.asn_base.specs.Same.{Same};
 ghost use Rattle.asn_base.specs.Schemas.{is_addition as is_addition', GroupsTogether};
 ghost use Rattle.asn_base.specs.Seen.{component_of, presence_of};
 ghost use Rattle.asn_base.specs.Typed.{group_of};
 ghost use Rattle.asn_base.specs.Types.{Component as Component'};
+ghost use Rattle.later_versions.specs.Differences.{AreAdditions, ComponentDiffers, ComponentsDiffer, PresenceDiffers};
 ghost use Rattle.later_versions.specs.Kept.{kept, left_out};
 ghost use Rattle.later_versions.specs.Later.{AreInOneGroup, AreLater, IsFront, IsMarkedAlike, IsSameComponent};
-ghost use Rattle.later_versions.specs.proving.Groups.{AreOfOne, AreJoined, HaveSameGroups};
+ghost use Rattle.later_versions.specs.proving.Groups.{AreOfOne, AreJoined, HaveOtherGroups, HaveSameGroups};
 
 use crate::keeping::keep;
+use crate::reason::Reason;
 use asn_base::same::same;
 use asn_base::schema::{Component, Presence, Schema, TypeId};
 use asn_base::value::Value;
@@ -36,79 +39,100 @@ fn has_same_default(
     }
 }
 
-/// Whether a component of the type has the same kind of presence in both versions.
-fn is_marked_alike(
+/// What differs in the presence of two components at a place, or None if both have the same kind of presence.
+fn other_presence(
     alloc: Global,
     schema: &Schema,
-    id: TypeId,
-    one: &Presence,
-    other: &Presence,
-) -> Result<bool, AllocError>
-    ensures { IfOk result (λ b. IsTrue b
-        ↔ IsMarkedAlike schema.now id.index (presence_of one.now) (presence_of other.now)) }
+    place: usize,
+    one: &Component,
+    other: &Component,
+) -> Result<Option<Reason>, AllocError>
+    ensures { IfOk result (λ o. MatchOption o
+        (IsMarkedAlike schema.now one.now.ty.index (presence_of one.now.presence) (presence_of other.now.presence))
+        (PresenceDiffers schema.now one.now.ty.index place
+        (presence_of one.now.presence) (presence_of other.now.presence))) }
 {
-    match one {
-        Presence::Mandatory => match other {
-            Presence::Mandatory => Ok(true),
-            _ => Ok(false),
+    match &one.presence {
+        Presence::Mandatory => match &other.presence {
+            Presence::Mandatory => Ok(None),
+            _ => Ok(Some(Reason::Presence(place))),
         },
-        Presence::Optional => match other {
-            Presence::Optional => Ok(true),
-            _ => Ok(false),
+        Presence::Optional => match &other.presence {
+            Presence::Optional => Ok(None),
+            _ => Ok(Some(Reason::Presence(place))),
         },
-        Presence::Default(value) => match other {
-            Presence::Default(later) => match has_same_default(alloc, schema, id, value, later) {
-                Ok(same) => Ok(same),
+        Presence::Default(value) => match &other.presence {
+            Presence::Default(later) => match has_same_default(
+                alloc, schema, one.ty, value, later,
+            ) {
+                Ok(true) => Ok(None),
+                Ok(false) => Ok(Some(Reason::Default(place))),
                 Err(fault) => Err(fault),
             },
-            _ => Ok(false),
+            _ => Ok(Some(Reason::Presence(place))),
         },
-        Presence::Addition(one) => match other {
-            Presence::Addition(other) => Ok(one.optional == other.optional),
-            _ => Ok(false),
+        Presence::Addition(addition) => match &other.presence {
+            Presence::Addition(later) => {
+                if addition.optional == later.optional {
+                    return Ok(None);
+                }
+                Ok(Some(Reason::Presence(place)))
+            }
+            _ => Ok(Some(Reason::Presence(place))),
         },
     }
 }
 
-/// Whether two components are the same in their name and their presence.
-fn is_same_component(
+/// Whether two components have the same name.
+fn have_same_name(one: &Component, other: &Component) -> bool
+    ensures { IsTrue result ↔ ((component_of one.now).name ≡ (component_of other.now).name) }
+{
+    one.name.as_bytes() == other.name.as_bytes()
+}
+
+/// What differs in two components at a place, or None if they are the same in their name and their presence.
+fn other_component(
     alloc: Global,
     schema: &Schema,
+    place: usize,
     one: &Component,
     other: &Component,
-) -> Result<bool, AllocError>
-    ensures { IfOk result (λ b. IsTrue b ↔ IsSameComponent schema.now (component_of one.now) (component_of other.now)) }
+) -> Result<Option<Reason>, AllocError>
+    ensures { IfOk result (λ o. MatchOption o
+        (IsSameComponent schema.now (component_of one.now) (component_of other.now))
+        (ComponentDiffers schema.now place (component_of one.now) (component_of other.now))) }
 {
-    if one.name.as_bytes() != other.name.as_bytes() {
-        return Ok(false);
+    if !have_same_name(one, other) {
+        return Ok(Some(Reason::Name(place)));
     }
-    match is_marked_alike(alloc, schema, one.ty, &one.presence, &other.presence) {
-        Ok(alike) => Ok(alike),
+    match other_presence(alloc, schema, place, one, other) {
+        Ok(reason) => Ok(reason),
         Err(fault) => Err(fault),
     }
 }
 
-/// Whether the others begin with these components.
-fn begin_with_components(
+/// What differs at the first component that the others lack or have as another one, or None if they begin with these.
+fn first_other(
     alloc: Global,
     schema: &Schema,
     components: &[Component],
     others: &[Component],
-) -> Result<bool, AllocError>
-    ensures { IfOk result (λ b. IsTrue b
-        ↔ IsFront (IsSameComponent schema.now) (map component_of components.now) (map component_of others.now)) }
+) -> Result<Option<Reason>, AllocError>
+    ensures { IfOk result (λ o. MatchOption o
+        (IsFront (IsSameComponent schema.now) (map component_of components.now) (map component_of others.now))
+        (ComponentsDiffer schema.now (map component_of components.now) (map component_of others.now))) }
 {
-    if others.len() < components.len() {
-        return Ok(false);
-    }
     for i in 0..components.len() {
-        match is_same_component(alloc, schema, &components[i], &others[i]) {
-            Ok(true) => {}
-            Ok(false) => return Ok(false),
+        if i >= others.len() {
+            return Ok(Some(Reason::Removed(i)));
+        }
+        match other_component(alloc, schema, i, &components[i], &others[i]) {
+            Ok(None) => {}
+            Ok(Some(reason)) => return Ok(Some(reason)),
             Err(fault) => return Err(fault),
         }
     }
-    Ok(true)
+    Ok(None)
 }
 
 /// Whether the component comes after the extension marker.
@@ -121,17 +145,19 @@ fn is_addition(component: &Component) -> bool
     }
 }
 
-/// Whether all components from a place on come after the extension marker.
-fn are_additions_from(components: &[Component], from: usize) -> bool
-    ensures { IsTrue result ↔ ((i : ℕ) (d : Component') →
-        from ≤ i → slice_get (map component_of components.now) i ≡ Some d → is_addition' d ≡ true) }
+/// The place of the first component from a place on that doesn't come after the extension marker, if there is one.
+fn first_of_root(components: &[Component], from: usize) -> Option<usize>
+    ensures { MatchOption result
+        (AreAdditions (map component_of components.now) from (length components.now))
+        (λ i. (from ≤ i) × AreAdditions (map component_of components.now) from i × (d : Component')
+        × (slice_get (map component_of components.now) i ≡ Some d) × (is_addition' d ≡ false)) }
 {
     for i in from..components.len() {
         if !is_addition(&components[i]) {
-            return false;
+            return Some(i);
         }
     }
-    true
+    None
 }
 
 /// The group of a component, or None if it isn't in version brackets.
@@ -175,40 +201,51 @@ fn is_grouped(components: &[Component], place: usize) -> bool
     are_of_one(&components[place], &components[place])
 }
 
-/// Whether groups are the same among the first components, and none goes on after them.
-fn have_same_groups(components: &[Component], others: &[Component]) -> bool
+/// The first place where groups differ among the first components, or the place after them if a group goes on there.
+fn other_groups(components: &[Component], others: &[Component]) -> Option<usize>
     requires { length components.now ≤ length others.now }
-    ensures { IsTrue result
-        ↔ HaveSameGroups (map component_of components.now) (map component_of others.now) }
+    ensures { MatchOption result
+        (HaveSameGroups (map component_of components.now) (map component_of others.now))
+        (λ i. HaveOtherGroups (map component_of components.now) (map component_of others.now) i) }
 {
     for i in 0..components.len() {
         if is_grouped(components, i) != is_grouped(others, i) {
-            return false;
+            return Some(i);
         }
         if is_joined(components, i) != is_joined(others, i) {
-            return false;
+            return Some(i);
         }
     }
-    !is_joined(others, components.len())
+    if is_joined(others, components.len()) {
+        return Some(components.len());
+    }
+    None
 }
 
-/// Whether the others are these components, followed by appended ones. `AllocError` comes only if an allocation fails.
-pub(crate) fn are_later(
+/// What differs in lists of components, or None if the others are these components, followed by appended ones.
+/// `AllocError` comes only if an allocation fails.
+pub(crate) fn other_components(
     alloc: Global,
     schema: &Schema,
     components: &[Component],
     others: &[Component],
-) -> Result<bool, AllocError>
+) -> Result<Option<Reason>, AllocError>
     requires first { GroupsTogether (map component_of components.now) }
     requires second { GroupsTogether (map component_of others.now) }
-    ensures { IfOk result (λ b. IsTrue b
-        ↔ AreLater schema.now (map component_of components.now) (map component_of others.now)) }
+    ensures { IfOk result (λ o. MatchOption o
+        (AreLater schema.now (map component_of components.now) (map component_of others.now))
+        (ComponentsDiffer schema.now (map component_of components.now) (map component_of others.now))) }
 {
-    match begin_with_components(alloc, schema, components, others) {
-        Ok(true) => Ok(
-            are_additions_from(others, components.len()) && have_same_groups(components, others),
-        ),
-        Ok(false) => Ok(false),
-        Err(fault) => Err(fault),
+    match first_other(alloc, schema, components, others) {
+        Ok(None) => {}
+        Ok(Some(reason)) => return Ok(Some(reason)),
+        Err(fault) => return Err(fault),
+    }
+    if let Some(place) = first_of_root(others, components.len()) {
+        return Ok(Some(Reason::Appended(place)));
+    }
+    match other_groups(components, others) {
+        Some(place) => Ok(Some(Reason::Brackets(place))),
+        None => Ok(None),
     }
 }

@@ -1,11 +1,14 @@
 //! Compares what constraints allow (X.680, 51; X.691, 10.3).
 
-ghost use Rattle.std.specs.Prelude.{◌≡◌, ◌↔◌, ℤ, IsTrue, IfOk, IfSome, ◌≤ℤ◌, map};
+ghost use Rattle.std.specs.Prelude.{◌≡◌, ◌↔◌, ℤ, IsTrue, IfOk, IfSome, MatchOption, ◌≤ℤ◌, map};
 ghost use Rattle.asn_base.specs.Seen.{bounds_of, constraint_of, range_of};
 ghost use Rattle.asn_base.specs.Schemas.{IsNumber, IsSize};
 ghost use Rattle.asn_base.specs.Typed.{IsAllowed, IsInSome};
+ghost use Rattle.later_versions.specs.Differences.{AllowSame, ConstraintDiffers};
 ghost use Rattle.later_versions.specs.Later.{LeaveSame};
+ghost use Rattle.later_versions.specs.declared.reason.Reason.TheVariants.{Numbers, Sizes};
 
+use crate::reason::Reason;
 use crate::sets::have_same;
 use asn_base::constraint::{Bounds, Constraint, Range};
 use ranges::Ranges;
@@ -86,35 +89,63 @@ fn allowed_sizes(alloc: Global, constraint: &Constraint) -> Result<Ranges, Alloc
     }
 }
 
-/// Whether two constraints of INTEGER allow the same numbers and give the same bounds. For n ranges the time grows as n
-/// log n. `AllocError` comes only if an allocation fails.
-pub(crate) fn leave_same_numbers(
+/// Whether two constraints of INTEGER allow the same numbers. For n ranges the time grows as n log n.
+fn allow_same_numbers(
     alloc: Global,
     one: &Constraint,
     other: &Constraint,
 ) -> Result<bool, AllocError>
-    ensures { IfOk result (λ b. IsTrue b ↔ LeaveSame IsNumber (constraint_of one.now) (constraint_of other.now)) }
+    ensures { IfOk result (λ b. IsTrue b ↔ AllowSame IsNumber (constraint_of one.now) (constraint_of other.now)) }
 {
-    if !are_same_bounds(&one.visible, &other.visible) {
-        return Ok(false);
-    }
     let numbers = allowed_numbers(alloc, one)?;
     let others = allowed_numbers(alloc, other)?;
     Ok(have_same(&numbers, &others))
 }
 
-/// Whether two constraints on sizes allow the same sizes and give the same bounds.
-pub(crate) fn leave_same_sizes(
-    alloc: Global,
-    one: &Constraint,
-    other: &Constraint,
-) -> Result<bool, AllocError>
-    ensures { IfOk result (λ b. IsTrue b ↔ LeaveSame IsSize (constraint_of one.now) (constraint_of other.now)) }
+/// Whether two constraints on sizes allow the same sizes.
+fn allow_same_sizes(alloc: Global, one: &Constraint, other: &Constraint) -> Result<bool, AllocError>
+    ensures { IfOk result (λ b. IsTrue b ↔ AllowSame IsSize (constraint_of one.now) (constraint_of other.now)) }
 {
-    if !are_same_bounds(&one.visible, &other.visible) {
-        return Ok(false);
-    }
     let sizes = allowed_sizes(alloc, one)?;
     let others = allowed_sizes(alloc, other)?;
     Ok(have_same(&sizes, &others))
+}
+
+/// What differs in two constraints of INTEGER, or None if both allow the same numbers and give the same bounds. For n
+/// ranges the time grows as n log n. `AllocError` comes only if an allocation fails.
+pub(crate) fn other_numbers(
+    alloc: Global,
+    one: &Constraint,
+    other: &Constraint,
+) -> Result<Option<Reason>, AllocError>
+    ensures { IfOk result (λ o. MatchOption o
+        (LeaveSame IsNumber (constraint_of one.now) (constraint_of other.now))
+        (ConstraintDiffers IsNumber Numbers (constraint_of one.now) (constraint_of other.now))) }
+{
+    if !allow_same_numbers(alloc, one, other)? {
+        return Ok(Some(Reason::Numbers));
+    }
+    if !are_same_bounds(&one.visible, &other.visible) {
+        return Ok(Some(Reason::Bounds));
+    }
+    Ok(None)
+}
+
+/// What differs in two constraints on sizes, or None if both allow the same sizes and give the same bounds.
+pub(crate) fn other_sizes(
+    alloc: Global,
+    one: &Constraint,
+    other: &Constraint,
+) -> Result<Option<Reason>, AllocError>
+    ensures { IfOk result (λ o. MatchOption o
+        (LeaveSame IsSize (constraint_of one.now) (constraint_of other.now))
+        (ConstraintDiffers IsSize Sizes (constraint_of one.now) (constraint_of other.now))) }
+{
+    if !allow_same_sizes(alloc, one, other)? {
+        return Ok(Some(Reason::Sizes));
+    }
+    if !are_same_bounds(&one.visible, &other.visible) {
+        return Ok(Some(Reason::Bounds));
+    }
+    Ok(None)
 }

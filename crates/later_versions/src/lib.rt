@@ -9,8 +9,11 @@ mod kinds;
 mod lists;
 mod members;
 mod pairs;
+mod reason;
 mod sets;
 mod tags;
+mod told;
 mod versions;
 
-pub use versions::later;
+pub use reason::{Comparison, Difference, Explained, Reason};
+pub use versions::{compare, explain, later};

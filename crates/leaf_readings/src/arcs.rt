@@ -15,6 +15,7 @@ use limits::MAX_ARCS;
 
 /// Whether some numbers and one more are all below 2^64; `small` says so of the first ones.
 #[tactic(auto, using(crate::proofs::Spelling::judged_small, crate::proofs::Spelling::judged_great, crate::proofs::Spelling::judged_before))]
+#[inline(always)]
 fn stays_small(small: bool, number: Option<u128>) -> bool
     ensures { (ns : List ℕ) (n : ℕ) → IsJudged small ns → IsTold number n → IsJudged result (ns ++ n ∷ []) }
 {
@@ -27,6 +28,7 @@ fn stays_small(small: bool, number: Option<u128>) -> bool
 /// How many numbers in septets the octets are, and whether each is below 2^64. The result is None if the octets aren't
 /// such numbers.
 #[tactic(auto, using(crate::proofs::Spelling::none_counted, crate::proofs::Spelling::one_counted, crate::proofs::Spelling::no_numbers))]
+#[inline(always)]
 fn count_arcs(octets: &[u8]) -> Option<(usize, bool)>
     ensures some { IfSome result (λ r. Counted r.0 r.1 [] octets.now) }
     ensures none { IfNone result ((ns : List ℕ) → octets.now ≡ flat_map septets ns → ⊥) }
@@ -70,6 +72,7 @@ pub(crate) fn judge_object_identifier(octets: &[u8]) -> Result<(), LeafFault>
 }
 
 /// Whether the number may be the first one, which encodes the first two numbers of the value.
+#[inline(always)]
 fn is_first(number: Option<u128>) -> bool
     ensures { (n : ℕ) → IsTold number n → IsTrue result ↔ (n < 18446744073709551696) }
 {

@@ -12,6 +12,7 @@ const GREAT: u128 = 18_446_744_073_709_551_616;
 /// The number in septets at the start of octets, without leading zeros, and what follows it. The inner None is a number
 /// of 2^64 + 80 or greater; the outer None is octets that don't start with such a number.
 #[tactic(auto, using(crate::proofs::OneOctet::one_front))]
+#[inline(always)]
 pub fn read_arc(octets: &[u8]) -> Option<(Option<u128>, &[u8])>
     ensures some { IfSome result (λ r. Front r.0 r.1.now octets.now) }
     ensures shorter { IfSome result (λ r. length r.1.now < length octets.now) }

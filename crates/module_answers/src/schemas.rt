@@ -15,7 +15,7 @@ const LEVELS: u8 = 3;
 
 /// The line for `M.T` or `M.T.member`.
 fn line(alloc: Global, front: &Front, word: &str) -> Result<String, AllocError> {
-    let Some(ty) = type_at(&front.linked, word) else {
+    let Some(ty) = type_at(front.modules.linked(), word) else {
         return format!(in alloc; "{word} no type");
     };
     let mut text = format!(in alloc; "{word} ")?;

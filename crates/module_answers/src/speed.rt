@@ -49,7 +49,6 @@ fn measure_settling(
     name: &str,
     text: &RowText,
 ) -> io::Result<()> {
-    front_end::law::accepted_keep();
     let count = text.name.as_str();
     let octets = text.octets.len();
     let start = Instant::now(rt)?;
@@ -60,7 +59,8 @@ fn measure_settling(
     let opening = start.elapsed(rt)?.as_micros();
     let types = front.schema.types().len();
     write!(out, "{count}: {types} types\n")?;
-    let Some(settling) = settling_linked(rt, &front.linked)? else {
+    front.modules.kept();
+    let Some(settling) = settling_linked(rt, front.modules.linked())? else {
         return Ok(());
     };
     let settling = settling.as_micros();
@@ -88,7 +88,7 @@ fn circle(alloc: Global, count: usize, more: &str) -> Result<Vec<u8>, AllocError
 fn opened(alloc: Global, count: usize, more: &str) -> Option<(Front, TypeId)> {
     let text = circle(alloc, count, more).ok()?;
     let front = open(alloc, slice::from_ref(&text)).ok()?;
-    let first = type_at(&front.linked, "M.T0")?;
+    let first = type_at(front.modules.linked(), "M.T0")?;
     Some((front, first))
 }
 

@@ -21,8 +21,8 @@ fn both_ways(
     second: &Front,
     later_name: &str,
 ) -> Result<&'static str, AllocError> {
-    let one = type_at(&first.linked, name);
-    let other = type_at(&second.linked, later_name);
+    let one = type_at(first.modules.linked(), name);
+    let other = type_at(second.modules.linked(), later_name);
     let (Some(one), Some(other)) = (one, other) else {
         return Ok("no type");
     };

@@ -9,7 +9,8 @@ use Rattle.names.specs.declared.fault.NameFault.{NameFault}
 use Rattle.names.specs.declared.fault.NameFault.TheVariants as faults
 use Rattle.names.specs.declared.fault.Limit.TheVariants as limits
 use Rattle.names.specs.proving.Limiting.{IsPastCount}
-use Rattle.names.specs.proving.Gathering.{IsNamingFault}
+use Rattle.names.specs.First.{IsLimitAt}
+use Rattle.names.specs.proving.Gathering.{IsNamingFault, IsSomeLimit}
 use Rattle.names.specs.Modules.{name_of, type_count, value_count, all_assignments}
 use Rattle.names.specs.Faults.{IsPastHere, IsPast, module_told, name_told}
 use Rattle.names.specs.proving.Distinct.{drop_at}
@@ -94,3 +95,13 @@ past_more count add n ms M x p =
     let c : count p.tree.assignments ≡ count h.before + count (h.given ∷ h.behind) = ap count (sym h.splits) ∙ add h.before (h.given ∷ h.behind) in
     let d : count (h.given ∷ h.behind) ≡ count (h.given ∷ []) + count h.behind = add (h.given ∷ []) h.behind in
     omega (arith, a, b, c, d, h.full, h.counted)
+
+-- a fault with the offset of an assignment's name is a passed limit
+pub some_limit : (gs : List Assignment) (e : NameFault) → IsLimitAt gs e → IsSomeLimit e
+some_limit gs faults.Memory a = tt
+some_limit gs (faults.Limit l s) a = tt
+some_limit gs (faults.Twice s) a = absurd a
+some_limit gs (faults.UnknownName s) a = absurd a
+some_limit gs (faults.NotExported s) a = absurd a
+some_limit gs (faults.Circular s) a = absurd a
+some_limit gs (faults.UnknownModule s) a = absurd a

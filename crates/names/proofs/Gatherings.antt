@@ -1,6 +1,9 @@
 -- Assignments, imports and modules that are gathered, one after another.
-use Rattle.std.proofs.Common.{◌≡◌, inl, inr, ℕ, ◌+◌, ◌++◌, List, [], ◌∷◌, Some, None, length, map, refl, sym, subst, ap, ◌∙◌, append_assoc, length-append, arith}
-use Rattle.std.proofs.lemmas.List.{append-nil, length-map, map-append}
+use Rattle.std.proofs.Common.{◌≡◌, ◌<◌, inl, inr, ℕ, ◌+◌, ◌++◌, List, [], ◌∷◌, Some, None, length, map, take, refl, sym, subst, ap, ◌∙◌, append_assoc, length-append, arith}
+use Rattle.std.specs.Prelude.{slice_get}
+use Rattle.std.proofs.Math.Seq.{take-append_seam}
+use Rattle.std.proofs.lemmas.List.{append-nil, length-map, map-append, take-append-le}
+use Rattle.std.proofs.lemmas.Option.{slice_get_within}
 use Rattle.trees.specs.declared.place.Spot.{Spot}
 use Rattle.trees.specs.Values.{Name}
 use Rattle.trees.specs.Modules.{AssignmentTree, ModuleTree}
@@ -9,15 +12,15 @@ use Rattle.names.specs.declared.fault.NameFault.TheVariants as faults
 use Rattle.names.specs.declared.gather.ModuleTables.{ModuleTables}
 use Rattle.names.specs.declared.gather.Tables.{Tables}
 use Rattle.names.specs.declared.scope.Assigned.{Assigned}
-use Rattle.names.specs.proving.Gathering.{TellsTwice, IsTwice, IsTaken, IsRepeated, Adds, HasGathered, IsNamingFault}
-use Rattle.names.specs.Faults.{module_told, name_told}
+use Rattle.names.specs.proving.Gathering.{TellsTwice, IsTwice, IsTaken, IsRepeated, IsTwiceFirst, Adds, HasGathered, IsNamingFault}
+use Rattle.names.specs.Faults.{IsFirstAgain, IsFirstTwice, module_told, name_told}
 use Rattle.names.specs.Names.{names_of, Module, under}
 use Rattle.names.specs.Modules.{name_of, StandsIn, StandsTwice, AreDistinct, names_in, value_count, all_assignments}
 use Rattle.names.specs.ByNumber.{named_from, roots_from, values_from, owned_by, scope_of, scopes_from, owned_from}
 use Rattle.names.specs.Scopes.{scopes}
 use Rattle.names.specs.Sources.{assignment_of, header_of, sources_of, value_of}
 use Rattle.names.proofs.Behind.{named_behind, roots_behind, values_behind, names_named, length_values, length_owned, length_all_owned, all_behind, scopes_behind, owned_behind, names_scopes}
-use Rattle.names.specs.proving.Distinct.{right, stands_either, stands_one, twice_left, twice_across, distinct_none, distinct_more, under_none, name_under}
+use Rattle.names.specs.proving.Distinct.{again_twice, either, left, right, stands_either, stands_one, twice_across, distinct_none, distinct_more, under_none, name_under}
 
 -- ---- assignments
 
@@ -95,11 +98,23 @@ tells Q P m t (faults.NotExported s) q = absurd q
 tells Q P m t (faults.Circular s) q = absurd q
 tells Q P m t (faults.UnknownModule s) q = absurd q
 
--- a name that is taken is twice among all
-taken_twice : (M x : Name) (xs ys all : List Name) (e : NameFault) → xs ++ x ∷ ys ≡ all → IsTaken M x xs e →
-    IsRepeated M all e
-taken_twice M x xs ys all e q t =
-    tells (λ m y. (m ≡ M) × (y ≡ x) × StandsIn xs x) (IsRepeated M all) tt (λ s u. (u.0, subst (λ z. StandsTwice all z) (sym u.1) (subst (λ l. StandsTwice l x) q (twice_across xs (x ∷ ys) x u.2 (0, refl))))) e t
+-- a name after distinct ones that is one of them is the first of all that is also before its place
+first_again : (x : Name) (xs ys : List Name) → AreDistinct xs → StandsIn xs x → IsFirstAgain (xs ++ x ∷ ys) x
+first_again x xs ys d s =
+    let z : length xs ≡ length xs + 0 = omega arith in
+    let f : take (length xs) (xs ++ x ∷ ys) ≡ xs = take-append_seam xs (x ∷ ys) in
+    record {
+      number = length xs;
+      there = ap (λ k. slice_get (xs ++ x ∷ ys) k) z ∙ right xs (x ∷ ys) 0;
+      again = subst (λ l. StandsIn l x) (sym f) s;
+      before = subst AreDistinct (sym f) d;
+    }
+
+-- a name that is taken is the first of all that is given twice
+taken_twice : (M x : Name) (xs ys all : List Name) (e : NameFault) → xs ++ x ∷ ys ≡ all → AreDistinct xs →
+    IsTaken M x xs e → IsRepeated M all e
+taken_twice M x xs ys all e q d t =
+    tells (λ m y. (m ≡ M) × (y ≡ x) × StandsIn xs x) (IsRepeated M all) tt (λ s u. (u.0, subst (λ z. IsFirstAgain all z) (sym u.1) (subst (λ l. IsFirstAgain l x) q (first_again x xs ys d u.2)))) e t
 
 twice_taken : {X : Type 0} (M x : Name) (es : List (Name × X)) (e : NameFault) → IsTwice M x es e →
     IsTaken M x (names_of es) e
@@ -111,7 +126,7 @@ pub placed_fault : (k : ℕ) (all rest : List AssignmentTree) (g : AssignmentTre
     IsTwice M (name_of g) names e → IsRepeated M (map name_of all) e
 placed_fault k all rest g old now names M e p t =
     let same : names_of names ≡ map name_of p.done = ap names_of p.named ∙ names_named (length old.assignments.items) (length old.values.items) p.done in
-    taken_twice M (name_of g) (map name_of p.done) (map name_of rest) (map name_of all) e (sym (map-append name_of p.done (g ∷ rest)) ∙ ap (map name_of) p.splits) (subst (λ l. IsTaken M (name_of g) l e) same (twice_taken M (name_of g) names e t))
+    taken_twice M (name_of g) (map name_of p.done) (map name_of rest) (map name_of all) e (sym (map-append name_of p.done (g ∷ rest)) ∙ ap (map name_of) p.splits) p.distinct (subst (λ l. IsTaken M (name_of g) l e) same (twice_taken M (name_of g) names e t))
 
 -- ---- imports
 
@@ -130,18 +145,30 @@ pub import_sum : {X : Type 0} (is is' rest all : List X) (i : X) → is ++ i ∷
 import_sum is is' rest all i q e = ap (λ l. l ++ rest) e ∙ append_assoc is (i ∷ []) rest ∙ q
 
 pub import_fault : (M x N : Name) (xs : List Name) (is rest all : List (Name × Name)) (e : NameFault) →
-    is ++ (x, N) ∷ rest ≡ all → IsTaken M x (xs ++ names_of is) e → IsRepeated M (xs ++ names_of all) e
-import_fault M x N xs is rest all e q t =
-    taken_twice M x (xs ++ names_of is) (names_of rest) (xs ++ names_of all) e (append_assoc xs (names_of is) (x ∷ names_of rest) ∙ ap (λ l. xs ++ l) (sym (map-append (λ (p : Name × Name). p.0) is ((x, N) ∷ rest)) ∙ ap names_of q)) t
+    is ++ (x, N) ∷ rest ≡ all → AreDistinct (xs ++ names_of is) → IsTaken M x (xs ++ names_of is) e → IsRepeated M (xs ++ names_of all) e
+import_fault M x N xs is rest all e q d t =
+    taken_twice M x (xs ++ names_of is) (names_of rest) (xs ++ names_of all) e (append_assoc xs (names_of is) (x ∷ names_of rest) ∙ ap (λ l. xs ++ l) (sym (map-append (λ (p : Name × Name). p.0) is ((x, N) ∷ rest)) ∙ ap names_of q)) d t
 
 pub imports_sum : {X : Type 0} (is is' one rest all : List X) → is ++ (one ++ rest) ≡ all → is' ≡ is ++ one →
     is' ++ rest ≡ all
 imports_sum is is' one rest all q e = ap (λ l. l ++ rest) e ∙ append_assoc is one rest ∙ q
 
+-- the same in a longer list
+again_left : (xs ys : List Name) (x : Name) → IsFirstAgain xs x → IsFirstAgain (xs ++ ys) x
+again_left xs ys x a =
+    let w = slice_get_within xs a.number x a.there in
+    let f : take a.number (xs ++ ys) ≡ take a.number xs = take-append-le a.number xs ys (omega (arith, w)) in
+    record {
+      number = a.number;
+      there = left xs ys a.number x a.there;
+      again = subst (λ l. StandsIn l x) (sym f) a.again;
+      before = subst AreDistinct (sym f) a.before;
+    }
+
 pub repeated_more : (M : Name) (xs ys all : List Name) (e : NameFault) → xs ++ ys ≡ all → IsRepeated M xs e →
     IsRepeated M all e
 repeated_more M xs ys all e q t =
-    tells (λ m y. (m ≡ M) × StandsTwice xs y) (IsRepeated M all) tt (λ s u. (u.0, subst (λ l. StandsTwice l (name_told s)) q (twice_left xs ys (name_told s) u.1))) e t
+    tells (λ m y. (m ≡ M) × IsFirstAgain xs y) (IsRepeated M all) tt (λ s u. (u.0, subst (λ l. IsFirstAgain l (name_told s)) q (again_left xs ys (name_told s) u.1))) e t
 
 pub imports_fault : (M : Name) (xs : List Name) (is one rest all : List (Name × Name)) (e : NameFault) →
     is ++ (one ++ rest) ≡ all → IsRepeated M (xs ++ names_of (is ++ one)) e → IsRepeated M (xs ++ names_of all) e
@@ -194,7 +221,63 @@ module_twice ms rest t g m h u =
 pub scope_fault : (ms rest : List ModuleTree) (t : ModuleTree) (M : Name) (e : NameFault) → M ≡ t.name →
     IsRepeated M (names_in t) e → IsNamingFault (ms ++ t ∷ rest) e
 scope_fault ms rest t M e q r =
-    tells (λ m y. (m ≡ M) × StandsTwice (names_in t) y) (IsNamingFault (ms ++ t ∷ rest)) tt (λ s u. inr (record { number = length ms + 0; tree = t; there = right ms (t ∷ rest) 0; named = sym q ∙ sym u.0; twice = u.1 })) e r
+    tells (λ m y. (m ≡ M) × IsFirstAgain (names_in t) y) (IsNamingFault (ms ++ t ∷ rest)) tt (λ s u. inr (record { number = length ms + 0; tree = t; there = right ms (t ∷ rest) 0; named = sym q ∙ sym u.0; twice = again_twice (names_in t) (name_told s) u.1 })) e r
+
+-- ---- the first name that is given twice
+
+module _ (ms rest : List ModuleTree) (t : ModuleTree) (g : ModuleTables) (h : HasGathered ms g) where
+  taken_modules : take (length ms) (ms ++ t ∷ rest) ≡ ms
+  taken_modules = take-append_seam ms (t ∷ rest)
+
+  earlier : (k : ℕ) (m : ModuleTree) → k < length ms → slice_get (ms ++ t ∷ rest) k ≡ Some m → AreDistinct (names_in m)
+  earlier k m l e =
+      elim (either ms (t ∷ rest) k m e) [
+        | inl f ↦ h.apart m (k, f)
+        | inr r ↦ (let q = r.1 in absurd (omega (arith, l, q)))
+      ]
+
+  here : slice_get (ms ++ t ∷ rest) (length ms) ≡ Some t
+  here =
+      let z : length ms ≡ length ms + 0 = omega arith in
+      ap (λ k. slice_get (ms ++ t ∷ rest) k) z ∙ right ms (t ∷ rest) 0
+
+  same_names : names_of (scopes g.modules.entries) ≡ map (λ m. m.name) ms
+  same_names = ap names_of h.scopes ∙ names_scopes 0 0 ms
+
+  modules_first : (s : Spot) (m : Module) → under t.name (scopes g.modules.entries) ≡ Some m → module_told s ≡ t.name →
+      name_told s ≡ t.name → IsFirstTwice (ms ++ t ∷ rest) (module_told s) (name_told s)
+  modules_first s m u a b =
+      let there = subst (λ l. StandsIn l t.name) same_names (name_under t.name (scopes g.modules.entries) m u) in
+      let known = subst (λ l. StandsIn (map (λ m. m.name) l) t.name) (sym taken_modules) there in
+      record {
+        number = length ms;
+        tree = t;
+        there = here;
+        named = a;
+        modules = subst (λ l. AreDistinct (map (λ m. m.name) l)) (sym taken_modules) h.distinct;
+        names = earlier;
+        first = inl (b ∙ sym a, subst (λ z. StandsIn (map (λ m. m.name) (take (length ms) (ms ++ t ∷ rest))) z) (sym a) known);
+      }
+
+  pub module_first : (e : NameFault) (m : Module) → under t.name (scopes g.modules.entries) ≡ Some m →
+      TellsTwice (λ M x. (M ≡ t.name) × (x ≡ t.name)) e → IsTwiceFirst (ms ++ t ∷ rest) e
+  module_first e m u r =
+      tells (λ M x. (M ≡ t.name) × (x ≡ t.name)) (IsTwiceFirst (ms ++ t ∷ rest)) tt (λ s v. modules_first s m u v.0 v.1) e r
+
+  pub scope_first : (M : Name) (e : NameFault) → M ≡ t.name → under t.name (scopes g.modules.entries) ≡ None →
+      IsRepeated M (names_in t) e → IsTwiceFirst (ms ++ t ∷ rest) e
+  scope_first M e q u r =
+      let fresh : StandsIn (map (λ m. m.name) (take (length ms) (ms ++ t ∷ rest))) t.name → ⊥ = λ z. under_none t.name (scopes g.modules.entries) u (subst (λ l. StandsIn l t.name) (sym same_names) (subst (λ l. StandsIn (map (λ m. m.name) l) t.name) taken_modules z)) in
+      tells (λ m y. (m ≡ M) × IsFirstAgain (names_in t) y) (IsTwiceFirst (ms ++ t ∷ rest)) tt
+      (λ s v. record {
+        number = length ms;
+        tree = t;
+        there = here;
+        named = v.0 ∙ q;
+        modules = subst (λ l. AreDistinct (map (λ m. m.name) l)) (sym taken_modules) h.distinct;
+        names = earlier;
+        first = inr (subst (λ z. StandsIn (map (λ m. m.name) (take (length ms) (ms ++ t ∷ rest))) z → ⊥) (sym (v.0 ∙ q)) fresh, v.1);
+      }) e r
 
 -- modules that are gathered so far, and those that wait
 pub record ArePartly (all rest : List ModuleTree) (g : ModuleTables) : Type 0 where
@@ -213,3 +296,8 @@ pub partly_fault : (all rest : List ModuleTree) (t : ModuleTree) (g : ModuleTabl
     ArePartly all (t ∷ rest) g → ((ms rest : List ModuleTree) → HasGathered ms g → IsNamingFault (ms ++ t ∷ rest) e) →
     IsNamingFault all e
 partly_fault all rest t g e p f = subst (λ l. IsNamingFault l e) p.splits (f p.done rest p.gathered)
+
+pub partly_first : (all rest : List ModuleTree) (t : ModuleTree) (g : ModuleTables) (e : NameFault) →
+    ArePartly all (t ∷ rest) g → ((ms rest : List ModuleTree) → HasGathered ms g → IsTwiceFirst (ms ++ t ∷ rest) e) →
+    IsTwiceFirst all e
+partly_first all rest t g e p f = subst (λ l. IsTwiceFirst l e) p.splits (f p.done rest p.gathered)

@@ -1,12 +1,12 @@
 -- What faults of names say: the module and the name in them. `First` says where in the text they are.
-use Rattle.std.specs.Prelude.{◌≡◌, ◌+◌, ℕ, List, Some, string_bytes, slice_get, ◌⊎◌, ◌++◌, [], ◌∷◌, map}
+use Rattle.std.specs.Prelude.{◌≡◌, ◌<◌, ◌+◌, ℕ, List, Some, string_bytes, slice_get, take, ◌⊎◌, ◌++◌, [], ◌∷◌, map}
 use Rattle.trees.specs.declared.place.Spot.{Spot}
 use Rattle.trees.specs.Values.{Name}
 use Rattle.trees.specs.Modules.{AssignmentTree, ModuleTree}
 use Rattle.names.specs.declared.fault.NameFault.{NameFault}
 use Rattle.names.specs.declared.fault.NameFault.TheVariants as faults
 use Rattle.names.specs.declared.fault.Limit.TheVariants as limits
-use Rattle.names.specs.Modules.{StandsIn, StandsTwice, name_of, assigned_names, names_in, IsExported, Imports, type_count, value_count, all_assignments}
+use Rattle.names.specs.Modules.{AreDistinct, StandsIn, StandsTwice, name_of, assigned_names, names_in, IsExported, Imports, type_count, value_count, all_assignments}
 
 -- the module and the name in a fault
 abbrev pub module_told : Spot → Name
@@ -14,6 +14,26 @@ module_told s = string_bytes s.module
 
 abbrev pub name_told : Spot → Name
 name_told s = string_bytes s.name
+
+-- name x is the first of these that is also before its place
+pub record IsFirstAgain (xs : List Name) (x : Name) : Type 0 where
+  pub number : ℕ
+  pub there : slice_get xs number ≡ Some x
+  pub again : StandsIn (take number xs) x
+  pub before : AreDistinct (take number xs)
+
+-- Name x of module M is the first one that is given twice. The modules before this one have distinct names, and so have
+-- their assignments and imports. The name of the module goes before its assignments, and these before its imports.
+pub record IsFirstTwice (ms : List ModuleTree) (M x : Name) : Type 0 where
+  pub number : ℕ
+  pub tree : ModuleTree
+  pub there : slice_get ms number ≡ Some tree
+  pub named : M ≡ tree.name
+  pub modules : AreDistinct (map (λ m. m.name) (take number ms))
+  pub names : (k : ℕ) (m : ModuleTree) → k < number → slice_get ms k ≡ Some m → AreDistinct (names_in m)
+  pub first :
+      ((x ≡ M) × StandsIn (map (λ m. m.name) (take number ms)) M)
+      ⊎ ((StandsIn (map (λ m. m.name) (take number ms)) M → ⊥) × IsFirstAgain (names_in tree) x)
 
 -- name x has two meanings in module M
 pub record IsNamedTwice (ms : List ModuleTree) (M x : Name) : Type 0 where

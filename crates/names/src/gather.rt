@@ -11,7 +11,7 @@ ghost use Rattle.names.specs.Modules.{AreDistinct, name_of, imports_of};
 ghost use Rattle.names.specs.Names.{under, names_of};
 ghost use Rattle.names.specs.Scopes.{module_of, origin_of, meanings, origins};
 ghost use Rattle.names.specs.Sources.{assignment_of, value_of, sources_of};
-ghost use Rattle.names.specs.proving.Gathering.{named_by, named_next, IsTwice, IsTaken, IsRepeated, Adds, HasGathered, IsNamingFault};
+ghost use Rattle.names.specs.proving.Gathering.{named_by, named_next, IsTwice, IsTaken, IsRepeated, Adds, HasGathered, IsNamingFault, IsTwiceFirst};
 
 use crate::exports::Exports;
 use crate::fault::{NameFault, spot};
@@ -394,6 +394,10 @@ fn add_module(alloc: Global, given: Module, gathered: &mut ModuleTables) -> Resu
         (ms rest : List ModuleTree) →
         HasGathered ms gathered.old →
         IsNamingFault (ms ++ module_tree_of given ∷ rest) e) }
+    ensures first { IfErr result (λ e.
+        (ms rest : List ModuleTree) →
+        HasGathered ms gathered.old →
+        IsTwiceFirst (ms ++ module_tree_of given ∷ rest) e) }
 {
     let Module {
         name,
@@ -441,6 +445,7 @@ fn add_modules(
     requires { HasGathered [] gathered.old }
     ensures ok { OnOk result (HasGathered (map module_tree_of modules.items) gathered.new) }
     ensures fault { IfErr result (IsNamingFault (map module_tree_of modules.items)) }
+    ensures first { IfErr result (IsTwiceFirst (map module_tree_of modules.items)) }
 {
     for given in modules {
         match add_module(alloc, given, gathered) {
@@ -451,10 +456,13 @@ fn add_modules(
     Ok(())
 }
 
-/// Gathers the names, headers, assignments, types and values of these modules.
+/// Gathers the names, headers, assignments, types and values of these modules. `Twice`: the first name that is given
+/// twice, module by module: the name of the module, then its assignments, then its imports. `Memory`: an allocation
+/// failed.
 pub fn gather(alloc: Global, modules: Vec<Module>) -> Result<ModuleTables, NameFault>
     ensures ok { IfOk result (HasGathered (map module_tree_of modules.items)) }
     ensures fault { IfErr result (IsNamingFault (map module_tree_of modules.items)) }
+    ensures first { IfErr result (IsTwiceFirst (map module_tree_of modules.items)) }
 {
     let mut gathered = ModuleTables {
         modules: IndexMap::new(alloc),

@@ -4,3 +4,4 @@ pub mod Tags
 pub mod Firsts
 pub mod Finding
 pub mod Tests
+pub mod Shorts

@@ -1,12 +1,13 @@
 //! An encoding at the start of octets.
 
 ghost use Rattle.asn_base.specs.declared.tag.Tag.{Tag as Tag'};
+ghost use Rattle.encodings.specs.Header.{class_bits, identifier};
 ghost use Rattle.octet_answers.specs.Units.{UnitAt};
 ghost use Rattle.octets.specs.Forms.{is_constructed};
 ghost use Rattle.octets.specs.Fronts.{HeaderAt, Stands};
-ghost use Rattle.std.specs.Prelude.{◌≡◌, Bool, IfErr, IfOk, List, ℕ};
+ghost use Rattle.std.specs.Prelude.{◌≡◌, ◌≤◌, ◌∷◌, [], Bool, false, IfErr, IfOk, IfSome, List, true, ℕ};
 
-use asn_base::tag::Tag;
+use asn_base::tag::{Class, Tag};
 use octets::law::one_front;
 use octets::{Form, Header, HeaderFault, read_header};
 
@@ -50,4 +51,56 @@ fn parted(octets: &[u8], header: Header) -> Unit<'_>
         contents,
         rest,
     }
+}
+
+/// The bits of a class in the first identifier octet (X.690, 8.1.2.2).
+#[inline(always)]
+fn bits_of(class: Class) -> u32
+    ensures is { result ≡ class_bits class }
+    ensures few { result ≤ 192 }
+{
+    match class {
+        Class::Universal => 0,
+        Class::Application => 64,
+        Class::Context => 128,
+        Class::Private => 192,
+    }
+}
+
+/// Whether the octet is all identifier octets of a primitive encoding with this tag. False decides nothing.
+#[tactic(auto, using(crate::proofs::Shorts::one_octet))]
+#[inline(always)]
+fn is_identifier(octet: u8, tag: Tag) -> bool
+    ensures { result ≡ true → identifier tag.class tag.number false ≡ octet ∷ [] }
+{
+    if tag.number >= 31 {
+        return false;
+    }
+    if octet as u32 != bits_of(tag.class) + tag.number {
+        return false;
+    }
+    true
+}
+
+/// The contents of the primitive encoding with this tag at the start of octets, and what follows it, if its header has
+/// two octets. None decides nothing. The call takes no memory.
+#[inline(always)]
+pub fn short_unit(octets: &[u8], tag: Tag) -> Option<(&[u8], &[u8])>
+    ensures { IfSome result (λ r. UnitAt tag false 2 r.0.now r.1.now octets.now) }
+{
+    let Some((first, behind)) = octets.split_first() else {
+        return None;
+    };
+    let Some((size, inner)) = behind.split_first() else {
+        return None;
+    };
+    if !is_identifier(*first, tag) {
+        return None;
+    }
+    let count = *size as usize;
+    if count >= 128 || count > inner.len() {
+        return None;
+    }
+    let (contents, rest) = inner.split_at(count);
+    Some((contents, rest))
 }

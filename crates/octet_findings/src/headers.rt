@@ -24,12 +24,12 @@ pub(crate) fn header_at(octets: &[u8], at: usize) -> Option<Header> {
 }
 
 /// The offset after the header of an encoding.
-fn after_header(start: usize, header: Header) -> usize {
+pub(crate) fn after_header(start: usize, header: Header) -> usize {
     start.saturating_add(header.octets)
 }
 
 /// The offset after an encoding.
-fn after_contents(start: usize, header: Header) -> usize {
+pub(crate) fn after_contents(start: usize, header: Header) -> usize {
     after_header(start, header).saturating_add(header.contents)
 }
 

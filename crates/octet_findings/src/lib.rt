@@ -6,8 +6,10 @@ mod arcs;
 mod contents;
 mod headers;
 mod items;
+mod lacking;
 mod refused;
 mod words;
 
 pub use allowed::allowed_in_bits;
+pub use lacking::{Gap, missing};
 pub use refused::finding;

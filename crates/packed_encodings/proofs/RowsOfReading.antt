@@ -8,15 +8,16 @@ use Rattle.std.specs.Prelude.{Some, pos, negsuc, ◌+ℤ◌, ◌≤ℤ◌, ◌-�
 use Rattle.std.specs.Int.Digits.{AllBelowBase, digits_of}
 use Rattle.std.proofs.lemmas.Int.Digits.{length-digits_of-le, digits_of_step}
 use Rattle.bits.specs.Words.{word, octet_bits}
-use Rattle.asn_base.specs.Abstract.{AbstractValue, boolean, integer, octets, relative_oid, fields, list, end, absent, present}
+use Rattle.asn_base.specs.Abstract.{AbstractValue, boolean, integer, octets, text, relative_oid, fields, list, alternative, end, absent, present}
 use Rattle.asn_base.specs.Types.{Constraint, Bounds, any_size, a_boolean, an_integer, an_octet_string, a_sequence, a_sequence_of, a_relative_oid, mandatory, default, Resolved, Is}
 use Rattle.encodings.specs.Header.{septets}
 use Rattle.packed_encodings.specs.Lengths.{Bits, Items, all_bits, fewest_bits, Counted, CountedOctets, short, fragment, sized, wide, narrow, sized_in_root, sized_outside, long}
 use Rattle.packed_encodings.specs.Numbers.{IntegerInRoot, between, Integer, integer_bounded}
 use Rattle.packed_encodings.specs.Leaves.{Leaf, of_boolean, of_integer, of_octets, of_relative_oid}
 use Rattle.packed_encodings.specs.Orders.{beside_none, beside_absent, beside_present}
-use Rattle.packed_encodings.specs.Padding.{Padded, padded, open_type, no_bit, set_bit}
+use Rattle.packed_encodings.specs.Padding.{Padded, padded, open_type, Unknown, no_bit, set_bit}
 use Rattle.packed_encodings.specs.Packing.{exact, lenient, no_marker, some_stand, Says, says, leaf, sequence, sequence_of, no_member, must_stand, may_stand, no_addition, added, not_added, Elements, no_element, element, Reads, Form, Holds}
+use Rattle.packed_encodings.specs.Weights.{weight}
 use Rattle.packed_encodings.proofs.Rows.{of_kind, is_component, from_to, new, truths}
 use Rattle.asn_base.specs.declared.tag.Tag.{Tag}
 use Rattle.asn_base.specs.Schemas.{IsSchema}
@@ -25,6 +26,7 @@ use Rattle.packed_encodings.proofs.Single.{padded_only}
 use Rattle.packed_encodings.proofs.Theorems.{only_filled}
 use Rattle.asn_base.specs.Typed.{IsAllowed, IsValue, ValueIn, value_in, ValueOf, of_leaf, fits_integer}
 use Rattle.packed_encodings.proofs.Fronts.{padded_bits, same_kind, holds_at}
+use Rattle.packed_encodings.proofs.Free.{octets_front}
 
 -- octets, which are filled up, say a value
 record IsRead (s : List Resolved) (w : AbstractValue) (k : ℕ) (o : List ℕ) : Type 0 where
@@ -44,7 +46,7 @@ one_unknown = record {
   says_it = says (record { found = refl })
       (sequence (beside_present beside_none) (must_stand refl (says (record { found = refl }) (leaf of_boolean)) no_member) no_addition
       (some_stand {u = true ∷ []} (true ∷ []) (inl refl) refl (lit≤ tt)
-      (set_bit {o = 160 ∷ []} (record { octets = (lit< tt, tt); counted = short (lit< tt) }) no_bit)));
+      (set_bit {o = 160 ∷ []} (omega arith) (record { octets = (lit< tt, tt); counted = short (lit< tt) }) no_bit)));
   filled = padded 6 (lit≤ tt) (lit< tt) (lit< tt, (lit< tt, (lit< tt, (lit< tt, tt)))) refl;
 }
 
@@ -55,10 +57,17 @@ two_unknown = record {
   says_it = says (record { found = refl })
       (sequence (beside_present beside_none) (must_stand refl (says (record { found = refl }) (leaf of_boolean)) no_member) no_addition
       (some_stand {u = true ∷ true ∷ []} (true ∷ true ∷ []) (inl refl) refl (lit≤ tt)
-      (set_bit {o = 160 ∷ []} (record { octets = (lit< tt, tt); counted = short (lit< tt) })
-      (set_bit {o = 0 ∷ []} (record { octets = (lit< tt, tt); counted = short (lit< tt) }) no_bit))));
+      (set_bit {o = 160 ∷ []} (omega arith) (record { octets = (lit< tt, tt); counted = short (lit< tt) })
+      (set_bit {o = 0 ∷ []} (omega arith) (record { octets = (lit< tt, tt); counted = short (lit< tt) }) no_bit))));
   filled = padded 5 (lit≤ tt) (lit< tt) (lit< tt, (lit< tt, (lit< tt, (lit< tt, (lit< tt, (lit< tt, tt)))))) refl;
 }
+
+-- an open type of no octets, 00, is that of no addition
+no_octets : {k : ℕ} {y : Bits} → Unknown (true ∷ []) k y → y ≡ replicate 8 false → ⊥
+no_octets (set_bit {x = x} {b = b} some c a) e =
+    let o = octets_front {r = []} b [] c (record { octets = tt; counted = short (lit< tt) }) e in
+    let l = ap length o.0 in
+    omega (arith, some, l)
 
 -- SEQUENCE {a BOOLEAN, ..., b INTEGER (0..7), c INTEGER (0..7)} reads C0406800, which has one addition, as {a TRUE, b
 -- 5}
@@ -91,12 +100,25 @@ default_beside_addition = record {
       (says (record { found = refl })
       (sequence (beside_present beside_none) (must_stand refl (says (record { found = refl }) (leaf of_boolean)) no_member) no_addition
       (some_stand {u = true ∷ []} (true ∷ []) (inl refl) refl (lit≤ tt)
-      (set_bit {o = 160 ∷ []} (record { octets = (lit< tt, tt); counted = short (lit< tt) }) no_bit))))
+      (set_bit {o = 160 ∷ []} (omega arith) (record { octets = (lit< tt, tt); counted = short (lit< tt) }) no_bit))))
       (λ z. absurd (omega arith))
       no_member)
       no_addition no_marker);
   filled = padded 5 (lit≤ tt) (lit< tt) (lit< tt, (lit< tt, (lit< tt, (lit< tt, tt)))) refl;
 }
+
+-- ---- weights
+
+-- {a "ab", b 5} without c, and a list of an alternative of an empty text
+a_weight : weight (fields (present (text (97 ∷ 98 ∷ [])) (present (integer (pos 5)) (absent end)))) ≡ 5
+a_weight = refl
+
+a_weight_of_a_list : weight (list (present (alternative 0 (text [])) end)) ≡ 3
+a_weight_of_a_list = refl
+
+-- no octets are a message of a value that is too heavy
+too_heavy : {s : List Resolved} {t k : ℕ} {w : AbstractValue} {o : List ℕ} → Reads s t w k o → 16777216 < weight w → ⊥
+too_heavy r h = let l = r.light in omega (arith, l, h)
 
 -- ---- long values
 

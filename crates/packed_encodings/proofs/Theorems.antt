@@ -1,5 +1,5 @@
 -- Theorems on whole packed encodings.
-use Rattle.std.proofs.Common.{arith, ◌≡◌, ℕ, List, [], ◌∷◌, ◌++◌, length, refl, sym, ap, subst, ◌∙◌, append_assoc, length-append}
+use Rattle.std.proofs.Common.{arith, ◌≡◌, ℕ, ◌≤◌, List, [], ◌∷◌, ◌++◌, length, refl, sym, ap, subst, ◌∙◌, append_assoc, length-append}
 use Rattle.bits.specs.Words.{word, octet_bits}
 use Rattle.asn_base.specs.Abstract.{AbstractValue}
 use Rattle.asn_base.specs.Types.{Resolved}
@@ -15,7 +15,8 @@ use Rattle.packed_encodings.proofs.Fronts.{front, padded_bits}
 use Rattle.packed_encodings.proofs.Weaker.{says_lenient}
 use Rattle.packed_encodings.proofs.Single.{padded_only}
 use Rattle.packed_encodings.proofs.Only.{only}
-use Rattle.packed_encodings.proofs.FewestNodes.{few}
+use Rattle.packed_encodings.specs.Weights.{weight}
+use Rattle.packed_encodings.proofs.Weighing.{few, few_nodes}
 
 pub none_begins_another : (s : List Resolved) (f : Form) (t j k : ℕ) (v w : AbstractValue) (x y p q : Bits) → IsSchema s → Says s f t v j x → Says s f t w k y → x ++ p ≡ y ++ q → (v ≡ w) × (j ≡ k) × (x ≡ y) × (p ≡ q)
 none_begins_another s f t j k v w x y p q i a b e =
@@ -64,8 +65,8 @@ module _ (turn : (s : List Resolved) (t : ℕ) (v w : AbstractValue) → Same s 
       follow s t v a.0 w a.1 (turn s t w a.0 (subst (Same s t w) (sym r.0) b.1))
 
 -- what is written of a value of a type is read as one
-pub a_message : (s : List Resolved) → ((t : ℕ) (v w : AbstractValue) → Alike s t v w → Alike s t w v) → (t : ℕ) (v : AbstractValue) (x : Bits) (o : Octets) → IsValue s t v → Packed s t v x → Padded x o → (w : AbstractValue) × Same s t v w × Reads s t w 0 o
-a_message s turn t v x o i a p =
+pub a_message : (s : List Resolved) → ((t : ℕ) (v w : AbstractValue) → Alike s t v w → Alike s t w v) → (t : ℕ) (v : AbstractValue) (x : Bits) (o : Octets) → IsValue s t v → weight v ≤ 16777216 → Packed s t v x → Padded x o → (w : AbstractValue) × Same s t v w × Reads s t w 0 o
+a_message s turn t v x o i l a p =
     let n = few s turn a.1.are_alike a.2 in
-    let m = i.few_nodes in
-    (a.0, a.1, record { value = record { shaped = a.1.second; few_nodes = omega arith }; bits = x; says_it = says_lenient s a.2; filled = p })
+    let m = few_nodes a.0 in
+    (a.0, a.1, record { value = record { shaped = a.1.second; few_nodes = omega (arith, n, m, l) }; light = omega (arith, n, l); bits = x; says_it = says_lenient s a.2; filled = p })

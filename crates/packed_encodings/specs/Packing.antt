@@ -15,6 +15,7 @@ use Rattle.packed_encodings.specs.Leaves.{place_bits, root_bit, Leaf}
 use Rattle.packed_encodings.specs.Orders.{rank, Member, missing, standing, any_stands, Beside, root_of, behind_marker}
 use Rattle.packed_encodings.specs.Orders.{canonical, has_bit, Addition, alone, bracketed, additions, Ascending}
 use Rattle.packed_encodings.specs.Padding.{Padded, Open, Unknown}
+use Rattle.packed_encodings.specs.Weights.{weight}
 
 -- The form that is written, or the form that is read (X.691, clause 19). A reader also takes what another version of
 -- the type writes, with fewer additions or with more of them.
@@ -168,9 +169,11 @@ abbrev pub IsEncoding : List Resolved → TypeNumber → Bits → Type 0
 IsEncoding s t b = (w : AbstractValue) × Says s exact t w 0 b
 
 -- Octets o are a message of w, a value of type t of schema s, with k additions that the type lacks (X.691, clause
--- 11.1). They are bits of w in the form that is read, filled to octets.
+-- 11.1). They are bits of w in the form that is read, filled to octets. The nodes of w and the octets of its character
+-- strings are together at most 2^24 (own rule).
 pub record Reads (s : List Resolved) (t : TypeNumber) (w : AbstractValue) (k : ℕ) (o : Octets) : Type 0 where
   pub value : IsValue s t w
+  pub light : weight w ≤ 16777216
   pub bits : Bits
   pub says_it : Says s lenient t w k bits
   pub filled : Padded bits o

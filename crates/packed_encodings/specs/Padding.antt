@@ -24,14 +24,15 @@ pub data Open : Bits → Bits → Type 0 where
       → CountedOctets o y  -- 11.2.2
       → Open x y
 
--- The last bits are the open types of k additions that the type lacks, with any octets in each: one for each of the
--- first bits that is set.
+-- The last bits are the open types of k additions that the type lacks: one for each of the first bits that is set. An
+-- open type has any octets, but at least one of them (X.691, clause 11.2.1).
 pub data Unknown : Bits → ℕ → Bits → Type 0 where
   no_bit : Unknown [] 0 []
   clear_bit : {u : Bits} {k : ℕ} {b : Bits}
       → Unknown u k b
       → Unknown (false ∷ u) k b
   set_bit : {u : Bits} {k : ℕ} {o : Octets} {x b : Bits}
+      → 1 ≤ length o  -- 11.2.1
       → CountedOctets o x
       → Unknown u k b
       → Unknown (true ∷ u) (suc k) (x ++ b)

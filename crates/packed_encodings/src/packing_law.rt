@@ -3,7 +3,7 @@
 ghost use Rattle.asn_base.specs.Abstract.{AbstractValue};
 ghost use Rattle.asn_base.specs.Same.{AlikeBy, Same};
 ghost use Rattle.asn_base.specs.Schemas.{IsSchema, IsSound};
-ghost use Rattle.asn_base.specs.Typed.{IsValue, IsValueWithoutNodes};
+ghost use Rattle.asn_base.specs.Typed.{IsValue, IsValueWithoutNodes, nodes};
 ghost use Rattle.asn_base.specs.Types.{Alternative, Bounds, Is, Kind, Resolved, a_choice};
 ghost use Rattle.asn_base.specs.declared.tag.Tag.{Tag};
 ghost use Rattle.bits.specs.Words.{octet_bits};
@@ -14,10 +14,11 @@ ghost use Rattle.packed_encodings.specs.Numbers.{FewestUnsigned};
 ghost use Rattle.packed_encodings.specs.Orders.{Ascending, AtMost, rank};
 ghost use Rattle.packed_encodings.specs.Packing.{Form, IsEncoding, Packed, Reads, Says, exact, lenient};
 ghost use Rattle.packed_encodings.specs.Padding.{Open, Padded};
+ghost use Rattle.packed_encodings.specs.Weights.{weight};
 ghost use Rattle.std.specs.Int.Digits.{digits_of};
 ghost use Rattle.std.specs.List.{AllByRecursion};
 ghost use Rattle.std.specs.List.Sorted.{IsPermutation};
-ghost use Rattle.std.specs.Prelude.{◌≡◌, ◌⊎◌, ◌<◌, ◌^◌, ℕ, Bool, List, [], ◌++◌, Some, length, slice_get};
+ghost use Rattle.std.specs.Prelude.{◌≡◌, ◌⊎◌, ◌<◌, ◌≤◌, ◌^◌, ℕ, Bool, List, [], ◌++◌, Some, length, slice_get};
 
 use asn_base::law::{alike_values, sameness};
 use encodings::leaf_laws;
@@ -127,6 +128,11 @@ pub fn message_laws()
     ensures one_filling { (x : List Bool) (o r : List ℕ) → Padded x o → Padded x r → r ≡ o }
 {}
 
+/// A value weighs at least as much as it has nodes.
+pub fn weight_laws()
+    ensures { (v : AbstractValue) → nodes v ≤ weight v }
+{}
+
 /// Values that are the same have one list of bits, and other values have other bits.
 pub fn writing_laws()
     // The bits that are written of a value are bits that encode it.
@@ -145,9 +151,11 @@ pub fn writing_laws()
         → Packed s t v x
         → Packed s t w x
         → Same s t v w }
-    // A message of a value is read as a value that is the same, with no additions that the type lacks.
+    // A message of a value, if the value isn't too heavy, is read as a value that is the same, with no additions that
+    // the type lacks.
     ensures message { (s : List Resolved) (t : ℕ) (v : AbstractValue) (x : List Bool) (o : List ℕ)
         → IsValue s t v
+        → weight v ≤ 16777216
         → Packed s t v x
         → Padded x o
         → (w : AbstractValue) × Same s t v w × Reads s t w 0 o }
@@ -155,7 +163,7 @@ pub fn writing_laws()
     sameness();
 }
 
-/// Each value of a type of a schema has bits, and a message.
+/// Each value of a type of a schema has bits, and a message if it isn't too heavy.
 pub fn existence_laws()
     ensures bits { (s : List Resolved) (t : ℕ) (v : AbstractValue)
         → IsSchema s
@@ -164,6 +172,7 @@ pub fn existence_laws()
     ensures message { (s : List Resolved) (t : ℕ) (v : AbstractValue)
         → IsSchema s
         → IsValue s t v
+        → weight v ≤ 16777216
         → (o : List ℕ) × (w : AbstractValue) × Same s t v w × Reads s t w 0 o }
 {
     sameness();

@@ -16,8 +16,8 @@ use Rattle.packed_reader.specs.Readings.{Taken, taken, IsExact}
 use Rattle.packed_reader.specs.Structures.{ReadsValue, part_of, joined, members_from, group_from, by_itself, in_brackets, addition_from, lacking, without, additions_from, unknown_from}
 use Rattle.packed_reader.specs.Values.{IsValueRead}
 use Rattle.packed_reader.proofs.Exact.{done_exact, convert, next_exact, Made, made_exact, part_exact, plain_exact, tested_exact}
-use Rattle.packed_reader.proofs.Opening.{not_true, Opened, open_exact}
-use Rattle.packed_reader.proofs.Members.{Tells, tells_none, tells_bit, tells_without, moved, presences_exact, IsValid, member_nodes, all_nodes, AllRead, none_read, one_read, AreMembersRead, AreTold, AllTold, members_exact}
+use Rattle.packed_reader.proofs.Opening.{not_true, Opened, AreContents, contents_read, open_exact}
+use Rattle.packed_reader.proofs.Members.{Tells, tells_none, tells_bit, tells_without, moved, presences_exact, IsValid, member_weight, all_weight, AllRead, none_read, one_read, AreMembersRead, AreTold, AllTold, members_exact}
 
 -- ---- presence once more
 
@@ -66,15 +66,15 @@ pub data AdditionsRead {X : Type 0} (s : List Resolved) (l : ℕ) : List (Additi
       → AdditionsRead s l ds rs
       → AdditionsRead s l (bracketed ms ∷ ds) (bracketed ns ∷ rs)
 
-abbrev pub addition_nodes : List (Addition AbstractValue) → ℕ
-addition_nodes [] = 0
-addition_nodes (alone m ∷ ds) = member_nodes m + addition_nodes ds
-addition_nodes (bracketed ms ∷ ds) = all_nodes ms + addition_nodes ds
+abbrev pub addition_weight : List (Addition AbstractValue) → ℕ
+addition_weight [] = 0
+addition_weight (alone m ∷ ds) = member_weight m + addition_weight ds
+addition_weight (bracketed ms ∷ ds) = all_weight ms + addition_weight ds
 
 pub record AreAdditionsRead (s : List Resolved) (l : ℕ) (ds : List (Addition ℕ)) (q : Bits) (n : ℕ) (t : Taken (List (Addition AbstractValue))) (x : Bits) : Type 0 where
   pub say_them : Additions s lenient t.it t.skipped q x
   pub are : AdditionsRead s l ds t.it
-  pub counted : n ≡ addition_nodes t.it + t.left
+  pub counted : n ≡ addition_weight t.it + t.left
 
 absent_addition : {s : List Resolved} {l : ℕ} (t : ℕ) (p : Presence) → elim p [ mandatory ↦ false | optional ↦ false | default d ↦ false | addition o g ↦ true ] ≡ true → MayBeAbsent s l t p
 absent_addition t mandatory e = absurd (not_true e)
@@ -95,9 +95,9 @@ none_lacking_stands : (ms : List (Member ℕ)) → any_stands (map lacking ms) �
 none_lacking_stands [] = refl
 none_lacking_stands (m ∷ ms) = none_lacking_stands ms
 
-no_nodes : (ms : List (Member ℕ)) → all_nodes (map lacking ms) ≡ 0
-no_nodes [] = refl
-no_nodes (m ∷ ms) = let e = no_nodes ms in omega arith
+no_weight : (ms : List (Member ℕ)) → all_weight (map lacking ms) ≡ 0
+no_weight [] = refl
+no_weight (m ∷ ms) = let e = no_weight ms in omega arith
 
 both_same : {X : Type 0} {x y : X} {xs ys : List X} → x ≡ y → xs ≡ ys → x ∷ xs ≡ y ∷ ys
 both_same e f = cc
@@ -174,7 +174,7 @@ module _ (bit : IsReading (λ v x. x ≡ v ∷ []) bit_from)
   abbrev FirstAddition : List (Addition ℕ) → Bits → ℕ → Addition ℕ → Taken (List (Addition AbstractValue)) → Bits → Type 0
   FirstAddition ds q n d = Then (OneAddition s l d n) (λ t. Made (AreAdditionsRead s l ds q t.left) (joined t))
 
-  no_additions : (it : List (Addition AbstractValue)) (k left n : ℕ) (x : Bits) → Additions s lenient it k [] x → AdditionsRead {X = ℕ} s l [] it → n ≡ addition_nodes it + left → (taken it k left ≡ taken [] 0 n) × (x ≡ [])
+  no_additions : (it : List (Addition AbstractValue)) (k left n : ℕ) (x : Bits) → Additions s lenient it k [] x → AdditionsRead {X = ℕ} s l [] it → n ≡ addition_weight it + left → (taken it k left ≡ taken [] 0 n) × (x ≡ [])
   no_additions [] _ left n _ no_addition nothing_read e = (ap (taken [] 0) (let f : left ≡ n = omega arith in f), refl)
   no_additions (r ∷ rs) k left n x m a e = elim a [ ]
 
@@ -188,13 +188,13 @@ module _ (bit : IsReading (λ v x. x ≡ v ∷ []) bit_from)
   lacked_to (bracketed ms) ds q n ts x (group_told h e hs) a = record {
     say_them = no_group (none_lacking_stands ms) a.say_them;
     are = group_read (lacking_read e) a.are;
-    counted = (let c = a.counted in let z = no_nodes ms in omega arith);
+    counted = (let c = a.counted in let z = no_weight ms in omega arith);
   }
 
   same_taken : {r r' : Addition AbstractValue} {rs : List (Addition AbstractValue)} {k left : ℕ} → r ≡ r' → taken (r ∷ rs) k left ≡ taken (r' ∷ rs) k left
   same_taken {rs = rs} {k = k} {left = left} e = ap (λ q. taken (q ∷ rs) k left) e
 
-  lacked_from : (d : Addition ℕ) (ds : List (Addition ℕ)) (q : Bits) (n : ℕ) (it : List (Addition AbstractValue)) (k left : ℕ) (x : Bits) → Additions s lenient it k (false ∷ q) x → AdditionsRead s l (d ∷ ds) it → n ≡ addition_nodes it + left → Made (AreAdditionsRead s l ds q n) (without d) (taken it k left) x
+  lacked_from : (d : Addition ℕ) (ds : List (Addition ℕ)) (q : Bits) (n : ℕ) (it : List (Addition AbstractValue)) (k left : ℕ) (x : Bits) → Additions s lenient it k (false ∷ q) x → AdditionsRead s l (d ∷ ds) it → n ≡ addition_weight it + left → Made (AreAdditionsRead s l ds q n) (without d) (taken it k left) x
   lacked_from d ds q n _ k left x (not_added {c = c} {as' = as'} a) (alone_read {m = m} e v r) h = record {
     of = taken as' k left;
     is = record { say_them = a; are = r; counted = omega arith };
@@ -202,7 +202,7 @@ module _ (bit : IsReading (λ v x. x ≡ v ∷ []) bit_from)
   }
   lacked_from d ds q n _ k left x (no_group {as' = as'} f a) (group_read {ms = ms} {ns = ns} g r) h = record {
     of = taken as' k left;
-    is = record { say_them = a; are = r; counted = (let z : all_nodes ns ≡ 0 = ap all_nodes (all_lacking g f) ∙ no_nodes ms in omega arith) };
+    is = record { say_them = a; are = r; counted = (let z : all_weight ns ≡ 0 = ap all_weight (all_lacking g f) ∙ no_weight ms in omega arith) };
     made = same_taken (ap bracketed (all_lacking g f));
   }
 
@@ -228,23 +228,23 @@ module _ (bit : IsReading (λ v x. x ≡ v ∷ []) bit_from)
         counted = (let b = r.counted in let c = a.counted in let e : t.left ≡ o.of.left = ap (λ z. z.left) o.made in omega arith);
       })
 
-  present_from : (d : Addition ℕ) (ds : List (Addition ℕ)) (q : Bits) (n : ℕ) (it : List (Addition AbstractValue)) (k left : ℕ) (x : Bits) → Additions s lenient it k (true ∷ q) x → AdditionsRead s l (d ∷ ds) it → n ≡ addition_nodes it + left → FirstAddition ds q n d (taken it k left) x
+  present_from : (d : Addition ℕ) (ds : List (Addition ℕ)) (q : Bits) (n : ℕ) (it : List (Addition AbstractValue)) (k left : ℕ) (x : Bits) → Additions s lenient it k (true ∷ q) x → AdditionsRead s l (d ∷ ds) it → n ≡ addition_weight it + left → FirstAddition ds q n d (taken it k left) x
   present_from d ds q n _ _ left _ (added {c = c} {w = w} {as' = as'} {j = j} {n = k} {x = x} {y = y} {d = b} sa op a) (alone_read {m = m} e v r) h =
       subst (λ z. Then (Made (Opened (IsValueRead s l z.type n)) (by_itself z)) (λ t. Made (AreAdditionsRead s l ds q t.left) (joined t)) (taken (alone (standing c w) ∷ as') (j + k) left) (y ++ b)) (sym e)
       (record {
-        first = by_itself c (taken w j (addition_nodes as' + left));
+        first = by_itself c (taken w j (addition_weight as' + left));
         front = y;
         back = b;
-        is_first = record { of = taken w j (addition_nodes as' + left); is = record { inside = x; is = record { says_it = sa; value = v; counted = omega arith }; is_open = op }; made = refl };
+        is_first = record { of = taken w j (addition_weight as' + left); is = record { inside = x; is = record { says_it = sa; value = v; counted = omega arith }; is_open = op }; made = refl };
         is_next = record { of = taken as' k left; is = record { say_them = a; are = r; counted = refl }; made = refl };
         whole = refl;
       })
   present_from d ds q n _ _ left _ (group {ms = ns} {as' = as'} {j = j} {n = k} {p = p} {b = b} {y = y} {d = z} f m op a) (group_read {ms = ms} g r) h = record {
-    first = in_brackets (taken ns j (addition_nodes as' + left));
+    first = in_brackets (taken ns j (addition_weight as' + left));
     front = y;
     back = z;
     is_first = record {
-      of = taken ns j (addition_nodes as' + left);
+      of = taken ns j (addition_weight as' + left);
       is = record {
         inside = p ++ b;
         is = record {
@@ -300,17 +300,17 @@ module _ (bit : IsReading (λ v x. x ≡ v ∷ []) bit_from)
       from : (k : ℕ) (x : Bits) → Unknown (false ∷ u) k x → Unknown u k x
       from k x (clear_bit a) = a
   unknown_exact (true ∷ u) =
-      convert (next_exact {Q = λ o. Made (Unknown u) suc} (plain_exact octets) (λ o x p. made_exact suc (unknown_exact u))) to from
+      convert (next_exact {Q = λ o. Made (Unknown u) suc} (plain_exact (contents_read octets)) (λ o x p. made_exact suc (unknown_exact u))) to from
     where
-      to : (k : ℕ) (x : Bits) → Then CountedOctets (λ o. Made (Unknown u) suc) k x → Unknown (true ∷ u) k x
-      to k x t = moved (Unknown (true ∷ u)) t.is_next.made t.whole (set_bit t.is_first t.is_next.is)
+      to : (k : ℕ) (x : Bits) → Then AreContents (λ o. Made (Unknown u) suc) k x → Unknown (true ∷ u) k x
+      to k x t = moved (Unknown (true ∷ u)) t.is_next.made t.whole (set_bit t.is_first.some t.is_first.counted t.is_next.is)
 
-      from : (k : ℕ) (x : Bits) → Unknown (true ∷ u) k x → Then CountedOctets (λ o. Made (Unknown u) suc) k x
-      from k x (set_bit {k = j} {o = o} {x = a} {b = b} c r) = record {
+      from : (k : ℕ) (x : Bits) → Unknown (true ∷ u) k x → Then AreContents (λ o. Made (Unknown u) suc) k x
+      from k x (set_bit {k = j} {o = o} {x = a} {b = b} n c r) = record {
         first = o;
         front = a;
         back = b;
-        is_first = c;
+        is_first = record { counted = c; some = n };
         is_next = record { of = j; is = r; made = refl };
         whole = refl;
       }

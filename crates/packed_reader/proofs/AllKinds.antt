@@ -1,5 +1,5 @@
 -- Values of all types are read as what bits say.
-use Rattle.std.proofs.Common.{arith, ◌≡◌, ℕ, zero, suc, ◌+◌, ◌^◌, ◌<◌, ◌≤◌, Bool, true, false, List, [], ◌∷◌, ◌++◌, length, take, drop, Option, Some, None, slice_get, refl, sym, ap, subst, ◌∙◌, append_assoc, length-append}
+use Rattle.std.proofs.Common.{arith, ◌≡◌, ℕ, ◌-◌, zero, suc, ◌+◌, ◌^◌, ◌<◌, ◌≤◌, Bool, true, false, List, [], ◌∷◌, ◌++◌, length, take, drop, Option, Some, None, slice_get, refl, sym, ap, subst, ◌∙◌, append_assoc, length-append}
 use Rattle.std.specs.Prelude.{if◌then◌else◌, nat_lt}
 use Rattle.std.proofs.lemmas.Bool.{ltb-false, le-ltb}
 use Rattle.std.proofs.lemmas.List.{take-append-drop, length-take-le}
@@ -9,7 +9,7 @@ use Rattle.asn_base.specs.declared.tag.Tag.{Tag}
 use Rattle.asn_base.specs.Abstract.{AbstractValue, boolean, integer, enumerated, bits, octets, text, null, oid, relative_oid, fields, list, alternative, Row}
 use Rattle.asn_base.specs.Same.{IsLeaf}
 use Rattle.asn_base.specs.Types.{Alternative, Constraint, Kind, a_boolean, an_integer, an_enumerated, a_bit_string, a_named_bit_string, an_octet_string, a_null, an_object_identifier, a_relative_oid, a_utf8_string, a_restricted_string, a_sequence, a_set, a_sequence_of, a_set_of, a_choice, TypeNumber, Resolved, Is}
-use Rattle.asn_base.specs.Typed.{Fits, fits_boolean, fits_integer, fits_enumerated, fits_bits, fits_named_bits, fits_octets, fits_null, fits_oid, fits_relative_oid, fits_utf8, fits_restricted, IsAllowedSize, members, nodes, row_nodes, ValueIn, value_in, ValueOf, of_leaf, of_sequence, of_set, of_sequence_of, of_set_of, of_choice}
+use Rattle.asn_base.specs.Typed.{Fits, fits_boolean, fits_integer, fits_enumerated, fits_bits, fits_named_bits, fits_octets, fits_null, fits_oid, fits_relative_oid, fits_utf8, fits_restricted, IsAllowedSize, members, ValueIn, value_in, ValueOf, of_leaf, of_sequence, of_set, of_sequence_of, of_set_of, of_choice}
 use Rattle.asn_base.specs.Schemas.{AreBounds, IsSize, IsSound, IsSchema}
 use Rattle.encodings.specs.Header.{Octets}
 use Rattle.packed_encodings.specs.Lengths.{Bits, Items, CountedOctets, Sized}
@@ -24,12 +24,13 @@ use Rattle.decode_faults.specs.declared.refusal.Refusal.TheVariants as why
 use Rattle.packed_readings.specs.Outcome.{found, stops, IsReading, Then, IsBit, IsField, IsSmall, bit_from, field_from, small_from}
 use Rattle.packed_readings.specs.Composing as c
 use Rattle.packed_readings.specs.Counts.{IsCount, count_from, IsSizing, size_from, InSize, several_bits, octets_from}
-use Rattle.packed_readings.specs.Leaves.{IsLeafOf, leaf_from}
+use Rattle.packed_encodings.specs.Weights.{characters, weight, row_weight}
+use Rattle.packed_readings.specs.Leaves.{IsLeafWithin, leaf_within}
 use Rattle.packed_reader.specs.declared.part.Part.TheVariants.{Alternative as Alternative'}
 use Rattle.packed_reader.specs.Readings.{read, stop, next, plain, Taken, taken, IsExact}
 use Rattle.packed_reader.specs.Structures.{ReadsValue}
 use Rattle.packed_reader.specs.Lists.{Element', row_of_elements, items_of, list_from}
-use Rattle.packed_reader.specs.Values.{IsValueRead, Chosen, in_root, added, chosen_from, alternative_of, chosen_value, elements_value, kind_from, value_from}
+use Rattle.packed_reader.specs.Values.{IsValueRead, Chosen, in_root, added, chosen_from, alternative_of, chosen_value, elements_value, leaf_taken, kind_from, value_from}
 use Rattle.packed_reader.proofs.Exact.{stop_exact, convert, next_exact, Made, made_exact, part_exact, plain_exact}
 use Rattle.packed_reader.proofs.Opening.{not_true, Opened, open_exact}
 use Rattle.packed_reader.proofs.Members.{moved}
@@ -75,25 +76,31 @@ module _ (n : ℕ) where
 
 -- ---- leaves
 
-leaf_nodes : {k : Kind} {v : AbstractValue} → Fits k v → nodes v ≡ 1
-leaf_nodes fits_boolean = refl
-leaf_nodes (fits_integer a b) = refl
-leaf_nodes (fits_enumerated a b) = refl
-leaf_nodes (fits_bits a) = refl
-leaf_nodes fits_named_bits = refl
-leaf_nodes (fits_octets a b) = refl
-leaf_nodes fits_null = refl
-leaf_nodes (fits_oid a) = refl
-leaf_nodes (fits_relative_oid a) = refl
-leaf_nodes (fits_utf8 a b) = refl
-leaf_nodes (fits_restricted a b) = refl
+leaf_weight : {k : Kind} {v : AbstractValue} → Fits k v → weight v ≡ suc (characters v)
+leaf_weight fits_boolean = refl
+leaf_weight (fits_integer a b) = refl
+leaf_weight (fits_enumerated a b) = refl
+leaf_weight (fits_bits a) = refl
+leaf_weight fits_named_bits = refl
+leaf_weight (fits_octets a b) = refl
+leaf_weight fits_null = refl
+leaf_weight (fits_oid a) = refl
+leaf_weight (fits_relative_oid a) = refl
+leaf_weight (fits_utf8 a b) = refl
+leaf_weight (fits_restricted a b) = refl
 
 module _ (s : List Resolved) (l n : ℕ) where
   abbrev LeafMade : Kind → Taken AbstractValue → Bits → Type 0
-  LeafMade k = Made (IsLeafOf k) (λ v. taken v 0 n)
+  LeafMade k = Made (IsLeafWithin n k) (leaf_taken n)
 
-  leaf_split : (k : Kind) → IsLeaf k → (v : AbstractValue) (j left : ℕ) (x : Bits) → Holds s lenient k v j x → ValueOf s l k v → suc n ≡ nodes v + left → LeafMade k (taken v j left) x
-  leaf_split k h v _ left x (leaf f) (of_leaf g) e = record { of = v; is = record { leaf = f; fits = g }; made = ap (taken v 0) (let z = leaf_nodes g in let y : left ≡ n = omega arith in y) }
+  leaf_split : (k : Kind) → IsLeaf k → (v : AbstractValue) (j left : ℕ) (x : Bits) → Holds s lenient k v j x → ValueOf s l k v → suc n ≡ weight v + left → LeafMade k (taken v j left) x
+  leaf_split k h v _ left x (leaf f) (of_leaf g) e =
+      let z = leaf_weight g in
+      record {
+        of = v;
+        is = record { is_leaf = record { leaf = f; fits = g }; few = (let k : characters v ≤ n = omega (arith, z, e) in k) };
+        made = ap (taken v 0) (let y : left ≡ n - characters v = omega (arith, z, e) in y);
+      }
   leaf_split _ h v j left x a (of_sequence b g) e = absurd h
   leaf_split _ h v j left x a (of_set b g) e = absurd h
   leaf_split _ h v j left x a (of_sequence_of b g) e = absurd h
@@ -106,11 +113,15 @@ module _ (s : List Resolved) (l n : ℕ) where
   leaf_split _ h _ _ left _ (choice a b) v e = absurd h
   leaf_split _ h _ _ left _ (added_choice i a b d f g) v e = absurd h
 
-  leaf_exact : (k : Kind) → IsLeaf k → IsReading (IsLeafOf k) (leaf_from k) → IsExact (IsKindRead s l n k) (λ b. next (plain (leaf_from k b)) (λ v r. read (taken v 0 n) r))
-  leaf_exact k h R = convert (made_exact (λ v. taken v 0 n) (plain_exact R)) to (λ w x a. leaf_split k h w.it w.skipped w.left x a.holds_it a.value a.counted)
+  leaf_exact : (k : Kind) → IsLeaf k → IsReading (IsLeafWithin n k) (leaf_within n k) → IsExact (IsKindRead s l n k) (λ b. next (plain (leaf_within n k b)) (λ v r. read (leaf_taken n v) r))
+  leaf_exact k h R = convert (made_exact (leaf_taken n) (plain_exact R)) to (λ w x a. leaf_split k h w.it w.skipped w.left x a.holds_it a.value a.counted)
     where
       to : (w : Taken AbstractValue) (x : Bits) → LeafMade k w x → IsKindRead s l n k w x
-      to w x m = moved (IsKindRead s l n k) m.made refl (record { holds_it = leaf m.is.leaf; value = of_leaf m.is.fits; counted = (let z = leaf_nodes m.is.fits in omega arith) })
+      to w x m = moved (IsKindRead s l n k) m.made refl (record {
+        holds_it = leaf m.is.is_leaf.leaf;
+        value = of_leaf m.is.is_leaf.fits;
+        counted = (let z = leaf_weight m.is.is_leaf.fits in let f = m.is.few in let e : suc n ≡ weight m.of + (n - characters m.of) = omega (arith, z, f) in e);
+      })
 
 -- ---- lists
 
@@ -188,13 +199,13 @@ module _ (s : List Resolved) (l n : ℕ) (sorted : Bool) (c : Constraint) (u : T
         counted = (let k = a.counted' in omega arith);
       })
 
-  list_from_said : (v : AbstractValue) (k left : ℕ) (x : Bits) → ListSaid s l sorted c u v k x → suc n ≡ nodes v + left → ListMade (taken v k left) x
+  list_from_said : (v : AbstractValue) (k left : ℕ) (x : Bits) → ListSaid s l sorted c u v k x → suc n ≡ weight v + left → ListMade (taken v k left) x
   list_from_said v k left x a e =
       let it = elements_of a.ws a.xs in
       let r = rows_same a.say_them in
       let say : Elements s lenient u (row_of_elements it) k (items_of it) = subst (λ q. Elements s lenient u q k (items_of it)) (sym r.0) (subst (λ q. Elements s lenient u a.ws k q) (sym r.1) a.say_them) in
-      let e1 : suc n ≡ suc (row_nodes a.ws) + left = e ∙ ap (λ q. nodes q + left) a.is in
-      let e2 : row_nodes (row_of_elements it) ≡ row_nodes a.ws = ap row_nodes r.0 in
+      let e1 : suc n ≡ suc (row_weight a.ws) + left = e ∙ ap (λ q. weight q + left) a.is in
+      let e2 : row_weight (row_of_elements it) ≡ row_weight a.ws = ap row_weight r.0 in
       record {
         of = taken it k left;
         is = record {
@@ -251,7 +262,7 @@ module _ (front : (o r : Octets) (a b p q : Bits) → CountedOctets o a → Coun
         counted = (let k = m.is.is.counted in omega arith);
       })
 
-  choice_split : (b : Bool) → e ≡ b → (v : AbstractValue) (k left : ℕ) (x : Bits) → Holds s lenient (a_choice root b more) v k x → ValueOf s l (a_choice root e more) v → suc n ≡ nodes v + left → Then (IsChosen s root e more) ChosenThen (taken v k left) x
+  choice_split : (b : Bool) → e ≡ b → (v : AbstractValue) (k left : ℕ) (x : Bits) → Holds s lenient (a_choice root b more) v k x → ValueOf s l (a_choice root e more) v → suc n ≡ weight v + left → Then (IsChosen s root e more) ChosenThen (taken v k left) x
   choice_split b h v k left x (leaf f) a c = elim f [ ]
   choice_split b h _ k left _ (choice {i = i} {a = a} {w = w} {x = x} g sa) (of_leaf f) c = elim f [ ]
   choice_split b h _ _ left _ (choice {i = i} {n = k} {a = a} {w = w} {x = x} g sa) (of_choice {a = a'} g' v) c = record {
@@ -282,19 +293,19 @@ module _ (front : (o r : Octets) (a b p q : Bits) → CountedOctets o a → Coun
 
 -- ---- all kinds
 
-some_nodes : (v : AbstractValue) → 1 ≤ nodes v
-some_nodes (boolean b) = omega arith
-some_nodes (integer z) = omega arith
-some_nodes (enumerated z) = omega arith
-some_nodes (bits b) = omega arith
-some_nodes (octets o) = omega arith
-some_nodes (text o) = omega arith
-some_nodes null = omega arith
-some_nodes (oid ns) = omega arith
-some_nodes (relative_oid ns) = omega arith
-some_nodes (fields ws) = omega arith
-some_nodes (list ws) = omega arith
-some_nodes (alternative i w) = omega arith
+some_weight : (v : AbstractValue) → 1 ≤ weight v
+some_weight (boolean b) = omega arith
+some_weight (integer z) = omega arith
+some_weight (enumerated z) = omega arith
+some_weight (bits b) = omega arith
+some_weight (octets o) = omega arith
+some_weight (text o) = omega arith
+some_weight null = omega arith
+some_weight (oid ns) = omega arith
+some_weight (relative_oid ns) = omega arith
+some_weight (fields ws) = omega arith
+some_weight (list ws) = omega arith
+some_weight (alternative i w) = omega arith
 
 -- what is known of the parts and of encodings
 pub record Laws (s : List Resolved) : Type 0 where
@@ -308,7 +319,7 @@ pub record Laws (s : List Resolved) : Type 0 where
   pub sized : (c : Constraint) (xs : Items) (b : Bits) → InSize c xs b → Sized c.visible xs b × IsAllowedSize c (length xs)
   pub octets : IsReading CountedOctets octets_from
   pub front : (o r : Octets) (a b p q : Bits) → CountedOctets o a → CountedOctets r b → a ++ p ≡ b ++ q → (o ≡ r) × (p ≡ q)
-  pub leaf : (k : Kind) → IsSound s k → IsReading (IsLeafOf k) (leaf_from k)
+  pub leaf : (n : ℕ) (k : Kind) → IsSound s k → IsReading (IsLeafWithin n k) (leaf_within n k)
   pub tells : TellsDefaults s (is_default s)
   pub only : (t j k : ℕ) (v w : AbstractValue) (x : Bits) → Says s lenient t v j x → Says s lenient t w k x → v ≡ w
   pub one_place : (t i j : ℕ) (tags : List Tag) (root more : List Alternative) (e : Bool) (a b : Alternative) → Is s t tags (a_choice root e more) → slice_get root i ≡ Some a → slice_get root j ≡ Some b → rank s root a.type ≡ rank s root b.type → i ≡ j
@@ -323,17 +334,17 @@ module _ (s : List Resolved) (laws : Laws s) where
     only' k is v w i j x a b = laws.only t i j v w x (says is a) (says is b)
 
     kind_exact : (k : Kind) → Is s t tags k → IsSound s k → IsExact (IsKindRead s l n k) (kind_from s l value k n)
-    kind_exact a_boolean is ok = leaf_exact s l n a_boolean tt (laws.leaf a_boolean ok)
-    kind_exact (an_integer c) is ok = leaf_exact s l n (an_integer c) tt (laws.leaf (an_integer c) ok)
-    kind_exact (an_enumerated root e more) is ok = leaf_exact s l n (an_enumerated root e more) tt (laws.leaf (an_enumerated root e more) ok)
-    kind_exact (a_bit_string c) is ok = leaf_exact s l n (a_bit_string c) tt (laws.leaf (a_bit_string c) ok)
-    kind_exact (a_named_bit_string ns) is ok = leaf_exact s l n (a_named_bit_string ns) tt (laws.leaf (a_named_bit_string ns) ok)
-    kind_exact (an_octet_string c) is ok = leaf_exact s l n (an_octet_string c) tt (laws.leaf (an_octet_string c) ok)
-    kind_exact a_null is ok = leaf_exact s l n a_null tt (laws.leaf a_null ok)
-    kind_exact an_object_identifier is ok = leaf_exact s l n an_object_identifier tt (laws.leaf an_object_identifier ok)
-    kind_exact a_relative_oid is ok = leaf_exact s l n a_relative_oid tt (laws.leaf a_relative_oid ok)
-    kind_exact (a_utf8_string c) is ok = leaf_exact s l n (a_utf8_string c) tt (laws.leaf (a_utf8_string c) ok)
-    kind_exact (a_restricted_string k a c) is ok = leaf_exact s l n (a_restricted_string k a c) tt (laws.leaf (a_restricted_string k a c) ok)
+    kind_exact a_boolean is ok = leaf_exact s l n a_boolean tt (laws.leaf n a_boolean ok)
+    kind_exact (an_integer c) is ok = leaf_exact s l n (an_integer c) tt (laws.leaf n (an_integer c) ok)
+    kind_exact (an_enumerated root e more) is ok = leaf_exact s l n (an_enumerated root e more) tt (laws.leaf n (an_enumerated root e more) ok)
+    kind_exact (a_bit_string c) is ok = leaf_exact s l n (a_bit_string c) tt (laws.leaf n (a_bit_string c) ok)
+    kind_exact (a_named_bit_string ns) is ok = leaf_exact s l n (a_named_bit_string ns) tt (laws.leaf n (a_named_bit_string ns) ok)
+    kind_exact (an_octet_string c) is ok = leaf_exact s l n (an_octet_string c) tt (laws.leaf n (an_octet_string c) ok)
+    kind_exact a_null is ok = leaf_exact s l n a_null tt (laws.leaf n a_null ok)
+    kind_exact an_object_identifier is ok = leaf_exact s l n an_object_identifier tt (laws.leaf n an_object_identifier ok)
+    kind_exact a_relative_oid is ok = leaf_exact s l n a_relative_oid tt (laws.leaf n a_relative_oid ok)
+    kind_exact (a_utf8_string c) is ok = leaf_exact s l n (a_utf8_string c) tt (laws.leaf n (a_utf8_string c) ok)
+    kind_exact (a_restricted_string k a c) is ok = leaf_exact s l n (a_restricted_string k a c) tt (laws.leaf n (a_restricted_string k a c) ok)
     kind_exact (a_sequence e cs) is ok = structure_exact s l false e cs ok laws.tells (only' (a_sequence e cs) is) laws.bit field' several_reading laws.front laws.octets value V n
     kind_exact (a_set e cs) is ok = structure_exact s l true e cs ok.0 laws.tells (only' (a_set e cs) is) laws.bit field' several_reading laws.front laws.octets value V n
     kind_exact (a_sequence_of c u) is ok = lists_exact s l n false c u (laws.in_size c) (laws.sized c) value V laws.numbers (laws.size c ok.bounds)
@@ -377,5 +388,5 @@ module _ (s : List Resolved) (laws : Laws s) where
 
   pub value_exact : (l t n : ℕ) → IsExact (IsValueRead s l t n) (value_from s l t n)
   value_exact zero t n = convert (stop_exact (record { why = why.TooDeep; path = [] })) (λ w x p. absurd p) (λ w x p. no_level p.value)
-  value_exact (suc l) t zero = convert (stop_exact (record { why = why.NodesLimit; path = [] })) (λ w x p. absurd p) (λ w x p. (let a = some_nodes w.it in let b = p.counted in absurd (omega arith)))
+  value_exact (suc l) t zero = convert (stop_exact (record { why = why.NodesLimit; path = [] })) (λ w x p. absurd p) (λ w x p. (let a = some_weight w.it in let b = p.counted in absurd (omega arith)))
   value_exact (suc l) t (suc n) = one_level l t n (value_exact l) (slice_get s t) refl

@@ -118,6 +118,31 @@ fewer_left k m x p e h =
     let b : length x ≡ length (word k m) + length p = ap length e ∙ length-append (word k m) p in
     omega (arith, a, b, h)
 
+-- ---- zero bits
+
+clear_front : (x p : Bits) → worth x ≡ 0 → all_clear (x ++ p) ≡ all_clear p
+clear_front [] p e = refl
+clear_front (true ∷ x) p e = let l = pow_pos (length x) in absurd (omega (arith, e, l))
+clear_front (false ∷ x) p e = clear_front x p (let h : worth x ≡ 0 = omega (arith, e) in h)
+
+set_front : (x p : Bits) → 0 < worth x → all_clear (x ++ p) ≡ false
+set_front [] p l = absurd (omega (arith, l))
+set_front (true ∷ x) p l = refl
+set_front (false ∷ x) p l = set_front x p (let h : 0 < worth x = omega (arith, l) in h)
+
+-- a number was taken of the front: 0, or another one
+pub zeros_taken : (k m : ℕ) (x p : Bits) → x ≡ word k m ++ p → m < 2 ^ k → m ≡ 0 → all_clear p ≡ all_clear x
+zeros_taken k m x p e l z = sym (ap all_clear e ∙ clear_front (word k m) p (worth_word k m l ∙ z))
+
+pub ones_taken : (k m : ℕ) (x p : Bits) → x ≡ word k m ++ p → m < 2 ^ k → (m ≡ 0 → ⊥) → false ≡ all_clear x
+ones_taken k m x p e l z =
+    let w = worth_word k m l in
+    sym (ap all_clear e ∙ set_front (word k m) p (let h : 0 < worth (word k m) = omega (arith, w, z) in h))
+
+-- some bits were taken, if there are some
+pub some_taken : (a k m : ℕ) (x p : Bits) → x ≡ word k m ++ p → 0 < a → k ≡ min a 64 → length p < length x
+some_taken a k m x p e l h = fewer_left k m x p e (λ z. (let n : k ≡ 0 = z in absurd (omega (arith, n, h, l))))
+
 -- no bits can be taken of both, since nothing is left of the second
 none_of : (a b m n : ℕ) → m ≡ min a b → n ≡ min m 64 → 0 < a → n ≡ 0 → b ≡ 0
 none_of a b m n e f l g = omega (arith, e, f, l, g)

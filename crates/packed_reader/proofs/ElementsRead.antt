@@ -3,7 +3,8 @@ use Rattle.std.proofs.Common.{arith, ◌≡◌, ℕ, zero, suc, ◌+◌, ◌*◌
 use Rattle.std.specs.Prelude.{not}
 use Rattle.asn_base.specs.Abstract.{AbstractValue, boolean, integer, enumerated, bits, octets, text, null, oid, relative_oid, fields, list, alternative}
 use Rattle.asn_base.specs.Types.{TypeNumber, Constraint, Resolved}
-use Rattle.asn_base.specs.Typed.{nodes, row_nodes, AreElements, no_element, one_element}
+use Rattle.asn_base.specs.Typed.{AreElements, no_element, one_element}
+use Rattle.packed_encodings.specs.Weights.{weight, row_weight}
 use Rattle.packed_encodings.specs.Lengths.{Bits, Items, all_bits}
 use Rattle.packed_encodings.specs.Orders.{AtMost, Ascending, ascending_one, ascending_more}
 use Rattle.packed_encodings.specs.Packing as said
@@ -70,7 +71,7 @@ pub record AreElementsRead (s : List Resolved) (l : ℕ) (u : TypeNumber) (sorte
   pub say_them : Elements s lenient u (row_of_elements t.it) t.skipped (items_of t.it)
   pub values : AreElements s l u (row_of_elements t.it)
   pub follow : Follow sorted before (items_of t.it)
-  pub counted : n ≡ row_nodes (row_of_elements t.it) + t.left
+  pub counted : n ≡ row_weight (row_of_elements t.it) + t.left
   pub many : length t.it ≡ count
   pub whole : x ≡ all_bits (items_of t.it)
 
@@ -103,13 +104,13 @@ module _ (s : List Resolved) (l : ℕ) (u : TypeNumber) (value : ReadsElement) (
   abbrev ElementsThen : ℕ → Taken Element' → Taken (List Element') → Bits → Type 0
   ElementsThen k t = Made (AreElementsRead s l u sorted t.it.1 k t.left) (joined t)
 
-  split : (k n : ℕ) (before : Bits) (it : List Element') (j left : ℕ) (x : Bits) → Elements s lenient u (row_of_elements it) j (items_of it) → AreElements s l u (row_of_elements it) → Follow sorted before (items_of it) → n ≡ row_nodes (row_of_elements it) + left → length it ≡ suc k → x ≡ all_bits (items_of it) → Then (IsElementRead s l u sorted before n) (ElementsThen k) (taken it j left) x
+  split : (k n : ℕ) (before : Bits) (it : List Element') (j left : ℕ) (x : Bits) → Elements s lenient u (row_of_elements it) j (items_of it) → AreElements s l u (row_of_elements it) → Follow sorted before (items_of it) → n ≡ row_weight (row_of_elements it) + left → length it ≡ suc k → x ≡ all_bits (items_of it) → Then (IsElementRead s l u sorted before n) (ElementsThen k) (taken it j left) x
   split k n before [] j left x a v f c m w = absurd (omega arith)
   split k n before (e ∷ es) _ left x (said.element {j = i} {n = j} sa r) (one_element y v) f c m w = record {
-    first = taken e i (row_nodes (row_of_elements es) + left);
+    first = taken e i (row_weight (row_of_elements es) + left);
     front = e.1;
     back = all_bits (items_of es);
-    is_first = record { value = taken e.0 i (row_nodes (row_of_elements es) + left); is = record { says_it = sa; value = y; counted = omega arith }; follows = λ h. first_follows (f h); made = refl };
+    is_first = record { value = taken e.0 i (row_weight (row_of_elements es) + left); is = record { says_it = sa; value = y; counted = omega arith }; follows = λ h. first_follows (f h); made = refl };
     is_next = record {
       of = taken es j left;
       is = record { say_them = r; values = v; follow = λ h. others_follow (f h); counted = refl; many = omega arith; whole = refl };
@@ -124,7 +125,7 @@ module _ (s : List Resolved) (l : ℕ) (u : TypeNumber) (value : ReadsElement) (
       to : (t : Taken (List Element')) (x : Bits) → (t ≡ taken [] 0 n) × (x ≡ []) → AreElementsRead s l u sorted before zero n t x
       to t x q = moved (AreElementsRead s l u sorted before zero n) q.0 q.1 (record { say_them = said.no_element; values = no_element; follow = λ h. ascending_one; counted = omega arith; many = refl; whole = refl })
 
-      none : (it : List Element') (j left : ℕ) (x : Bits) → Elements s lenient u (row_of_elements it) j (items_of it) → n ≡ row_nodes (row_of_elements it) + left → length it ≡ 0 → x ≡ all_bits (items_of it) → (taken it j left ≡ taken [] 0 n) × (x ≡ [])
+      none : (it : List Element') (j left : ℕ) (x : Bits) → Elements s lenient u (row_of_elements it) j (items_of it) → n ≡ row_weight (row_of_elements it) + left → length it ≡ 0 → x ≡ all_bits (items_of it) → (taken it j left ≡ taken [] 0 n) × (x ≡ [])
       none [] _ left x said.no_element c m w = (ap (taken [] 0) (let f : left ≡ n = omega arith in f), w)
       none (e ∷ es) j left x a c m w = absurd (omega arith)
   elements_exact (suc k) i before n =
@@ -149,31 +150,31 @@ module _ (s : List Resolved) (l : ℕ) (u : TypeNumber) (value : ReadsElement) (
 
 -- ---- elements in front of others
 
-some_nodes : (v : AbstractValue) → 1 ≤ nodes v
-some_nodes (boolean b) = omega arith
-some_nodes (integer z) = omega arith
-some_nodes (enumerated z) = omega arith
-some_nodes (bits b) = omega arith
-some_nodes (octets o) = omega arith
-some_nodes (text o) = omega arith
-some_nodes null = omega arith
-some_nodes (oid ns) = omega arith
-some_nodes (relative_oid ns) = omega arith
-some_nodes (fields ws) = omega arith
-some_nodes (list ws) = omega arith
-some_nodes (alternative i w) = omega arith
+some_weight : (v : AbstractValue) → 1 ≤ weight v
+some_weight (boolean b) = omega arith
+some_weight (integer z) = omega arith
+some_weight (enumerated z) = omega arith
+some_weight (bits b) = omega arith
+some_weight (octets o) = omega arith
+some_weight (text o) = omega arith
+some_weight null = omega arith
+some_weight (oid ns) = omega arith
+some_weight (relative_oid ns) = omega arith
+some_weight (fields ws) = omega arith
+some_weight (list ws) = omega arith
+some_weight (alternative i w) = omega arith
 
-as_many_nodes : (it : List Element') → length it ≤ row_nodes (row_of_elements it)
-as_many_nodes [] = omega arith
-as_many_nodes (e ∷ es) = let a = some_nodes e.0 in let b = as_many_nodes es in omega arith
+as_many_weight : (it : List Element') → length it ≤ row_weight (row_of_elements it)
+as_many_weight [] = omega arith
+as_many_weight (e ∷ es) = let a = some_weight e.0 in let b = as_many_weight es in omega arith
 
 items_both : (it es : List Element') → items_of (it ++ es) ≡ items_of it ++ items_of es
 items_both [] es = refl
 items_both (e ∷ it) es = ap (λ q. e.1 ∷ q) (items_both it es)
 
-nodes_both : (it es : List Element') → row_nodes (row_of_elements (it ++ es)) ≡ row_nodes (row_of_elements it) + row_nodes (row_of_elements es)
-nodes_both [] es = let z : row_nodes (row_of_elements es) ≡ 0 + row_nodes (row_of_elements es) = omega arith in z
-nodes_both (e ∷ it) es = let h = nodes_both it es in omega arith
+weight_both : (it es : List Element') → row_weight (row_of_elements (it ++ es)) ≡ row_weight (row_of_elements it) + row_weight (row_of_elements es)
+weight_both [] es = let z : row_weight (row_of_elements es) ≡ 0 + row_weight (row_of_elements es) = omega arith in z
+weight_both (e ∷ it) es = let h = weight_both it es in omega arith
 
 length_both : (it es : List Element') → length (it ++ es) ≡ length it + length es
 length_both [] es = let z : length es ≡ 0 + length es = omega arith in z
@@ -284,7 +285,7 @@ pub record ArePartsRead (s : List Resolved) (l : ℕ) (u : TypeNumber) (sorted :
   pub say_them : Elements s lenient u (row_of_elements t.it) t.skipped (items_of t.it)
   pub values : AreElements s l u (row_of_elements t.it)
   pub follow : Follow sorted before (items_of t.it)
-  pub counted : n ≡ row_nodes (row_of_elements t.it) + t.left
+  pub counted : n ≡ row_weight (row_of_elements t.it) + t.left
   pub passed : test (i + length t.it) ≡ None
   pub parts : InParts full (items_of t.it) x
 
@@ -323,7 +324,7 @@ module _ (numbers : (full : Bool) → IsReading (IsCount full) (count_from full)
         say_them = say_both s l u t.it ts.it t.skipped ts.skipped a.say_them b.say_them;
         values = values_both s l u t.it ts.it a.values b.values;
         follow = λ h. ascend_both before t.it ts.it (a.follow h) (b.follow h);
-        counted = (let c1 = a.counted in let c2 = b.counted in let c3 = nodes_both t.it ts.it in omega arith);
+        counted = (let c1 = a.counted in let c2 = b.counted in let c3 = weight_both t.it ts.it in omega arith);
         passed = ap test place ∙ b.passed;
         parts = subst (λ q. InParts true q (x ++ (y ++ z))) (sym (items_both t.it ts.it))
             (subst (λ q. InParts true (items_of t.it ++ items_of ts.it) (x ++ (q ++ z))) (sym a.whole)
@@ -340,7 +341,7 @@ module _ (numbers : (full : Bool) → IsReading (IsCount full) (count_from full)
       (subst (λ f. ArePartsRead s l u sorted test f i before n (both q.first q.is_next.of) (x ++ (q.front ++ q.back))) (sym (part_full c.0))
       (to_part i before n m q.first q.is_next.of x q.front q.back (subst (λ f. IsCount f (part m) x) (part_full c.0) c.0) q.is_first q.is_next.is))
 
-  from_parts : (full : Bool) (i : ℕ) (before : Bits) (n : ℕ) (it : List Element') (k left : ℕ) (x : Bits) (xs : Items) → InParts full xs x → items_of it ≡ xs → Elements s lenient u (row_of_elements it) k (items_of it) → AreElements s l u (row_of_elements it) → Follow sorted before (items_of it) → n ≡ row_nodes (row_of_elements it) + left → test (i + length it) ≡ None → NumberThen full i before n (taken it k left) x
+  from_parts : (full : Bool) (i : ℕ) (before : Bits) (n : ℕ) (it : List Element') (k left : ℕ) (x : Bits) (xs : Items) → InParts full xs x → items_of it ≡ xs → Elements s lenient u (row_of_elements it) k (items_of it) → AreElements s l u (row_of_elements it) → Follow sorted before (items_of it) → n ≡ row_weight (row_of_elements it) + left → test (i + length it) ≡ None → NumberThen full i before n (taken it k left) x
   from_parts full i before n it k left _ _ (last_items {h = h} xs c) e a v f ct p =
       let len : length it ≡ length xs = sym (items_length it) ∙ ap length e in
       record {
@@ -360,8 +361,8 @@ module _ (numbers : (full : Bool) → IsReading (IsCount full) (count_from full)
       let len1 : length q.first ≡ 16384 * m = sym (items_length q.first) ∙ ap length q.first_items ∙ lx in
       let len : length it ≡ length q.first + length q.second = ap length q.is ∙ length_both q.first q.second in
       let place : (i + 16384 * m) + length q.second ≡ i + length it = omega arith in
-      let nd : row_nodes (row_of_elements it) ≡ row_nodes (row_of_elements q.first) + row_nodes (row_of_elements q.second) = ap (λ z. row_nodes (row_of_elements z)) q.is ∙ nodes_both q.first q.second in
-      let left1 = row_nodes (row_of_elements q.second) + left in
+      let nd : row_weight (row_of_elements it) ≡ row_weight (row_of_elements q.first) + row_weight (row_of_elements q.second) = ap (λ z. row_weight (row_of_elements z)) q.is ∙ weight_both q.first q.second in
+      let left1 = row_weight (row_of_elements q.second) + left in
       record {
         first = part m;
         front = h;
@@ -386,7 +387,7 @@ module _ (numbers : (full : Bool) → IsReading (IsCount full) (count_from full)
   after_number fuel i before n (last k) f rec some = elements_exact s l u value V sorted k i before n
   after_number fuel i before n (part m) f rec some =
       next_exact {Q = OthersThen i before m} (elements_exact s l u value V sorted (16384 * m) i before n)
-      (λ t x a. made_exact (both t) (rec (m == 4) (i + 16384 * m) (last_bits before t.it) t.left (let one = some m refl in let c1 = a.counted in let c2 = a.many in let c3 = as_many_nodes t.it in omega arith)))
+      (λ t x a. made_exact (both t) (rec (m == 4) (i + 16384 * m) (last_bits before t.it) t.left (let one = some m refl in let c1 = a.counted in let c2 = a.many in let c3 = as_many_weight t.it in omega arith)))
 
   pub parts_exact : (fuel : ℕ) (full : Bool) (i : ℕ) (before : Bits) (n : ℕ) → n < fuel → IsExact (ArePartsRead s l u sorted test full i before n) (parts_from value sorted test fuel full i before n)
   parts_exact zero full i before n f = absurd (omega arith)
@@ -401,7 +402,7 @@ pub record IsListRead (s : List Resolved) (l : ℕ) (u : TypeNumber) (sorted : B
   pub say_them : Elements s lenient u (row_of_elements t.it) t.skipped (items_of t.it)
   pub values : AreElements s l u (row_of_elements t.it)
   pub follow : Follow sorted [] (items_of t.it)
-  pub counted' : n ≡ row_nodes (row_of_elements t.it) + t.left
+  pub counted' : n ≡ row_weight (row_of_elements t.it) + t.left
   pub sized : InSize c (items_of t.it) x
 
 module _ (numbers : (full : Bool) → IsReading (IsCount full) (count_from full)) (s : List Resolved) (l : ℕ) (u : TypeNumber) (value : ReadsElement) (V : (n : ℕ) → IsExact (IsValueRead s l u n) (value n)) (sorted : Bool) (c : Constraint) (size : IsReading (IsSizing c) (size_from c)) where
@@ -433,7 +434,7 @@ module _ (numbers : (full : Bool) → IsReading (IsCount full) (count_from full)
         sized = items_in_parts (items_of t.it) h (ap (size_fault c outside) e ∙ a.passed) a.parts;
       }
 
-  from_list : (n : ℕ) (it : List Element') (k left : ℕ) (x : Bits) (xs : Items) → InSize c xs x → items_of it ≡ xs → Elements s lenient u (row_of_elements it) k (items_of it) → AreElements s l u (row_of_elements it) → Follow sorted [] (items_of it) → n ≡ row_nodes (row_of_elements it) + left → Then (IsSizing c) (SizeThen n) (taken it k left) x
+  from_list : (n : ℕ) (it : List Element') (k left : ℕ) (x : Bits) (xs : Items) → InSize c xs x → items_of it ≡ xs → Elements s lenient u (row_of_elements it) k (items_of it) → AreElements s l u (row_of_elements it) → Follow sorted [] (items_of it) → n ≡ row_weight (row_of_elements it) + left → Then (IsSizing c) (SizeThen n) (taken it k left) x
   from_list n it k left _ _ (items_at_once {h = h} xs z) e a v f ct = record {
     first = at_once (length xs);
     front = h;

@@ -5,7 +5,8 @@ use Rattle.std.specs.List.{AllByRecursion}
 use Rattle.bits.specs.Words.{word}
 use Rattle.asn_base.specs.Abstract.{AbstractValue, fields, Row}
 use Rattle.asn_base.specs.Types.{Kind, a_sequence, a_set, Component, Resolved}
-use Rattle.asn_base.specs.Typed.{members, group_of, nodes, ValueOf, of_leaf, of_sequence, of_set, AreComponents, no_component, component_absent, component_present, GroupsAreWhole}
+use Rattle.packed_encodings.specs.Weights.{weight}
+use Rattle.asn_base.specs.Typed.{members, group_of, ValueOf, of_leaf, of_sequence, of_set, AreComponents, no_component, component_absent, component_present, GroupsAreWhole}
 use Rattle.asn_base.specs.Schemas.{is_addition, HasValue, AreListed}
 use Rattle.encodings.specs.Header.{Octets}
 use Rattle.packed_encodings.specs.Lengths.{Bits, CountedOctets}
@@ -21,12 +22,12 @@ use Rattle.packed_reader.specs.Structures.{ReadsValue, lacking, lacking_addition
 use Rattle.packed_reader.specs.Values.{IsValueRead, structure_from}
 use Rattle.packed_reader.proofs.Exact.{convert, Made, made_exact}
 use Rattle.packed_reader.proofs.Opening.{not_true}
-use Rattle.packed_reader.proofs.Members.{IsValid, all_nodes, AllRead, none_read, one_read, AreTold, AllTold, none_told, one_told}
-use Rattle.packed_reader.proofs.AdditionsRead.{telling, AllMore, none_more, one_more, AdditionsTold, nothing_told, alone_told, group_told, AdditionsRead, nothing_read, alone_read, group_read, addition_nodes, may_lack_addition}
+use Rattle.packed_reader.proofs.Members.{IsValid, all_weight, AllRead, none_read, one_read, AreTold, AllTold, none_told, one_told}
+use Rattle.packed_reader.proofs.AdditionsRead.{telling, AllMore, none_more, one_more, AdditionsTold, nothing_told, alone_told, group_told, AdditionsRead, nothing_read, alone_read, group_read, addition_weight, may_lack_addition}
 use Rattle.packed_reader.proofs.Pieces.{own_told, own_only, IsRest, IsMark, ArePieces, pieces_exact}
 use Rattle.packed_reader.proofs.Within.{told_component}
 use Rattle.packed_reader.proofs.Natural.{root_same, behind_same, additions_same, on_additions}
-use Rattle.packed_reader.proofs.Places.{ordered, ordered_same, of_parts, root_part, more_part, part_nodes, Distinct, parts_distinct, Below, parts_below, seen, seen_component, beside_seen, beside_is, beside_nodes, all_many, Parallel, parallel_none, parallel_more, seen_members, no_row_blank, no_row_many, flat_additions, ParallelAdditions, parallel_nothing, parallel_alone, parallel_group, parallel_length, flat_parallel, with_both, map_parts, same_additions}
+use Rattle.packed_reader.proofs.Places.{ordered, ordered_same, of_parts, root_part, more_part, part_weight, Distinct, parts_distinct, Below, parts_below, seen, seen_component, beside_seen, beside_is, beside_weight, all_many, Parallel, parallel_none, parallel_more, seen_members, no_row_blank, no_row_many, flat_additions, ParallelAdditions, parallel_nothing, parallel_alone, parallel_group, parallel_length, flat_parallel, with_both, map_parts, same_additions}
 use Rattle.packed_reader.proofs.Groups.{groups_whole, none_behind}
 
 -- ---- what is told of components
@@ -93,14 +94,14 @@ additions_valid nothing_read = tt
 additions_valid (alone_read e v r) = (v, additions_valid r)
 additions_valid {s} {l} (group_read {ns = ns} {rs = rs} g r) = both_valid s l ns (members_in rs) (read_valid g) (additions_valid r)
 
-nodes_both : (xs ys : List (Member AbstractValue)) → all_nodes (xs ++ ys) ≡ all_nodes xs + all_nodes ys
-nodes_both [] ys = let z : all_nodes ys ≡ 0 + all_nodes ys = omega arith in z
-nodes_both (x ∷ xs) ys = let e = nodes_both xs ys in omega arith
+weight_both : (xs ys : List (Member AbstractValue)) → all_weight (xs ++ ys) ≡ all_weight xs + all_weight ys
+weight_both [] ys = let z : all_weight ys ≡ 0 + all_weight ys = omega arith in z
+weight_both (x ∷ xs) ys = let e = weight_both xs ys in omega arith
 
-flat_nodes : (us : List (Addition AbstractValue)) → all_nodes (members_in us) ≡ addition_nodes us
-flat_nodes [] = refl
-flat_nodes (alone m ∷ us) = let e = flat_nodes us in omega arith
-flat_nodes (bracketed ms ∷ us) = let e = flat_nodes us in let f = nodes_both ms (members_in us) in omega arith
+flat_weight : (us : List (Addition AbstractValue)) → all_weight (members_in us) ≡ addition_weight us
+flat_weight [] = refl
+flat_weight (alone m ∷ us) = let e = flat_weight us in omega arith
+flat_weight (bracketed ms ∷ us) = let e = flat_weight us in let f = weight_both ms (members_in us) in omega arith
 
 -- members of a row are read where they are valid
 read_seen : {s : List Resolved} {l : ℕ} (ws : Row) (ms : List (Member ℕ)) → AllByRecursion (IsValid s l) (map (seen ws) ms) → AllRead s l ms (map (seen ws) ms)
@@ -147,14 +148,14 @@ lacking_read nothing_told = nothing_read
 lacking_read (alone_told {m = m} h e r) = alone_read refl (may_lack_addition (component m) e) (lacking_read r)
 lacking_read (group_told h e r) = group_read (more_lack e) (lacking_read r)
 
-lacking_no_nodes : (ms : List (Member ℕ)) → all_nodes (map lacking ms) ≡ 0
-lacking_no_nodes [] = refl
-lacking_no_nodes (m ∷ ms) = let e = lacking_no_nodes ms in omega arith
+lacking_no_weight : (ms : List (Member ℕ)) → all_weight (map lacking ms) ≡ 0
+lacking_no_weight [] = refl
+lacking_no_weight (m ∷ ms) = let e = lacking_no_weight ms in omega arith
 
-none_nodes : (ds : List (Addition ℕ)) → addition_nodes (map lacking_addition ds) ≡ 0
-none_nodes [] = refl
-none_nodes (alone m ∷ ds) = let e = none_nodes ds in omega arith
-none_nodes (bracketed ms ∷ ds) = let e = none_nodes ds in let f = lacking_no_nodes ms in omega arith
+none_weight : (ds : List (Addition ℕ)) → addition_weight (map lacking_addition ds) ≡ 0
+none_weight [] = refl
+none_weight (alone m ∷ ds) = let e = none_weight ds in omega arith
+none_weight (bracketed ms ∷ ds) = let e = none_weight ds in let f = lacking_no_weight ms in omega arith
 
 two_same : {X : Type 0} {x y : X} {xs ys : List X} → x ≡ y → xs ≡ ys → x ∷ xs ≡ y ∷ ys
 two_same e f = cc
@@ -190,7 +191,7 @@ record RestSaid (s : List Resolved) (l : ℕ) (e : Bool) (ds : List (Addition �
   extended : Extended lenient e r told types others x
   sum : rest.skipped ≡ own + others
   are : AdditionsRead s l ds rest.it
-  counted : n ≡ addition_nodes rest.it + rest.left
+  counted : n ≡ addition_weight rest.it + rest.left
 
 none_said : {s : List Resolved} {l : ℕ} (e : Bool) (ds : List (Addition ℕ)) (n : ℕ) (r x : Bits) (rest : Taken (List (Addition AbstractValue))) → AdditionsTold s l ds → rest ≡ taken (map lacking_addition ds) 0 n → Extended lenient e r (replicate (length ds) false) [] 0 x → RestSaid s l e ds n r rest x
 none_said {s} {l} e ds n r x rest h is ex = subst (λ t. RestSaid s l e ds n r t x) (sym is) (record {
@@ -202,7 +203,7 @@ none_said {s} {l} e ds n r x rest h is ex = subst (λ t. RestSaid s l e ds n r t
   extended = ex;
   sum = refl;
   are = lacking_read h;
-  counted = (let z = none_nodes ds in omega arith);
+  counted = (let z = none_weight ds in omega arith);
 })
 
 rest_said : {s : List Resolved} {l : ℕ} (e mark : Bool) (front : Bits) (ds : List (Addition ℕ)) (n : ℕ) (rest : Taken (List (Addition AbstractValue))) (back r x : Bits) → (e ≡ false → ds ≡ []) → AdditionsTold s l ds → IsMark e mark front → IsRest s l mark ds n rest back → x ≡ front ++ (r ++ back) → RestSaid s l e ds n r rest x
@@ -242,14 +243,14 @@ record RestParts (s : List Resolved) (l : ℕ) (e : Bool) (ds : List (Addition �
   same : rest ≡ taken us k left
   whole : x ≡ front ++ (r ++ back)
 
-no_parts : (ds : List (Addition ℕ)) {us : List (Addition AbstractValue)} (n left j : ℕ) → n ≡ addition_nodes us + left → (us ≡ map lacking_addition ds) × (j ≡ 0) → taken (map lacking_addition ds) 0 n ≡ taken us (j + 0) left
+no_parts : (ds : List (Addition ℕ)) {us : List (Addition AbstractValue)} (n left j : ℕ) → n ≡ addition_weight us + left → (us ≡ map lacking_addition ds) × (j ≡ 0) → taken (map lacking_addition ds) 0 n ≡ taken us (j + 0) left
 no_parts ds {us = us} n left j c p =
-    let z : addition_nodes us ≡ 0 = ap addition_nodes p.0 ∙ none_nodes ds in
+    let z : addition_weight us ≡ 0 = ap addition_weight p.0 ∙ none_weight ds in
     let f : left ≡ n = omega arith in
     let g : j + 0 ≡ 0 = (let h = p.1 in omega arith) in
     sym (ap (λ q. taken q (j + 0) left) p.0 ∙ ap (λ q. taken (map lacking_addition ds) q left) g ∙ ap (taken (map lacking_addition ds) 0) f)
 
-rest_parts : {s : List Resolved} {l : ℕ} {e : Bool} {ds : List (Addition ℕ)} (n left : ℕ) {us : List (Addition AbstractValue)} {j k : ℕ} {r q d x : Bits} → Additions s lenient us j q d → AdditionsRead s l ds us → n ≡ addition_nodes us + left → Extended lenient e r q d k x → RestParts s l e ds n left us (j + k) r x
+rest_parts : {s : List Resolved} {l : ℕ} {e : Bool} {ds : List (Addition ℕ)} (n left : ℕ) {us : List (Addition AbstractValue)} {j k : ℕ} {r q d x : Bits} → Additions s lenient us j q d → AdditionsRead s l ds us → n ≡ addition_weight us + left → Extended lenient e r q d k x → RestParts s l e ds n left us (j + k) r x
 rest_parts {s} {l} {ds = ds} n left {us} {j} {r = r} a v c no_marker = record {
   mark = false;
   front = [];
@@ -307,7 +308,7 @@ the_kind true e cs = a_set e cs
 pub record IsKindRead (s : List Resolved) (l n : ℕ) (k : Kind) (w : Taken AbstractValue) (x : Bits) : Type 0 where
   pub holds_it : Holds s lenient k w.it w.skipped x
   pub value : ValueOf s l k w.it
-  pub counted : suc n ≡ nodes w.it + w.left
+  pub counted : suc n ≡ weight w.it + w.left
 
 -- what bits say of components, for both kinds
 record StructureSaid (s : List Resolved) (set e : Bool) (cs : List Component) (ws : Row) (k : ℕ) (x : Bits) : Type 0 where
@@ -462,12 +463,12 @@ module _ (s : List Resolved) (l : ℕ) (set e : Bool) (cs : List Component) (li 
           counted = count ws q.rest.it q.members.it q.members.left q.rest.left r.ms r.beside r.root_is r.behind_is q.are_members.counted said.counted;
         }
       where
-        count : (ws : Row) (us : List (Addition AbstractValue)) (rs : List (Member AbstractValue)) (left1 left : ℕ) (ms : List (Member AbstractValue)) → Beside cs ws ms → ordered set s (root_of ms) ≡ rs → behind_marker ms ≡ members_in us → n ≡ all_nodes rs + left1 → left1 ≡ addition_nodes us + left → suc n ≡ nodes (fields ws) + left
+        count : (ws : Row) (us : List (Addition AbstractValue)) (rs : List (Member AbstractValue)) (left1 left : ℕ) (ms : List (Member AbstractValue)) → Beside cs ws ms → ordered set s (root_of ms) ≡ rs → behind_marker ms ≡ members_in us → n ≡ all_weight rs + left1 → left1 ≡ addition_weight us + left → suc n ≡ weight (fields ws) + left
         count ws us rs left1 left ms b ri bi c1 c2 =
-            let a1 = beside_nodes b in
-            let a2 = part_nodes set s ms in
-            let a3 = ap all_nodes ri in
-            let a4 = ap all_nodes bi ∙ flat_nodes us in
+            let a1 = beside_weight b in
+            let a2 = part_weight set s ms in
+            let a3 = ap all_weight ri in
+            let a4 = ap all_weight bi ∙ flat_weight us in
             omega arith
 
     to : (n : ℕ) (w : Taken AbstractValue) (x : Bits) → FieldsOf n w x → IsKindRead s l n (the_kind set e cs) w x
@@ -494,7 +495,7 @@ module _ (s : List Resolved) (l : ℕ) (set e : Bool) (cs : List Component) (li 
               let addr : AdditionsRead s l more us = additions_seen ws more (subst (AllByRecursion (IsValid s l)) (behind_is ∙ ap (map (seen ws)) (sym flat)) (more_part (IsValid s l) st.ms valid)) in
               let mem = subst (λ z. Members s lenient z st.in_root st.p st.b) root_is st.members in
               let add = subst (λ z. Additions s lenient z st.in_more st.q st.d) more_is st.additions' in
-              let left1 = addition_nodes us + w.left in
+              let left1 = addition_weight us + w.left in
               let parts = rest_parts left1 w.left add addr refl st.extended in
               let mt = taken rs st.in_root left1 in
               let pieces : ArePieces s l e root more n (in_pieces mt parts.rest) x = record {
@@ -506,7 +507,7 @@ module _ (s : List Resolved) (l : ℕ) (set e : Bool) (cs : List Component) (li 
                 tells = telling mem allr;
                 members = mt;
                 contents = st.b;
-                are_members = record { say_them = mem; are = allr; they_stand = refl; counted = count ws us rs st.ms st.beside root_is (behind_is ∙ ap (map (seen ws)) (sym flat) ∙ sym (flat_map_same (seen ws) more)) (a.counted ∙ ap (λ z. nodes z + w.left) sp.is) };
+                are_members = record { say_them = mem; are = allr; they_stand = refl; counted = count ws us rs st.ms st.beside root_is (behind_is ∙ ap (map (seen ws)) (sym flat) ∙ sym (flat_map_same (seen ws) more)) (a.counted ∙ ap (λ z. weight z + w.left) sp.is) };
                 rest = parts.rest;
                 back = parts.back;
                 is_rest = parts.is_rest;
@@ -523,12 +524,12 @@ module _ (s : List Resolved) (l : ℕ) (set e : Bool) (cs : List Component) (li 
                 made = ap (λ z. taken z w.skipped w.left) same ∙ ap (λ z. taken (fields (row_of cs root more (in_pieces mt parts.rest).it)) z w.left) skips ∙ ap (taken (fields (row_of cs root more (in_pieces mt parts.rest).it)) (in_pieces mt parts.rest).skipped) lefts;
               }
             where
-              count : (ws : Row) (us : List (Addition AbstractValue)) (rs ms : List (Member AbstractValue)) → Beside cs ws ms → ordered set s (root_of ms) ≡ rs → behind_marker ms ≡ members_in us → suc n ≡ nodes (fields ws) + w.left → n ≡ all_nodes rs + (addition_nodes us + w.left)
+              count : (ws : Row) (us : List (Addition AbstractValue)) (rs ms : List (Member AbstractValue)) → Beside cs ws ms → ordered set s (root_of ms) ≡ rs → behind_marker ms ≡ members_in us → suc n ≡ weight (fields ws) + w.left → n ≡ all_weight rs + (addition_weight us + w.left)
               count ws us rs ms b ri bi c =
-                  let a1 = beside_nodes b in
-                  let a2 = part_nodes set s ms in
-                  let a3 = ap all_nodes ri in
-                  let a4 = ap all_nodes bi ∙ flat_nodes us in
+                  let a1 = beside_weight b in
+                  let a2 = part_weight set s ms in
+                  let a3 = ap all_weight ri in
+                  let a4 = ap all_weight bi ∙ flat_weight us in
                   omega arith
 
       module _ (bit : IsReading (λ v x. x ≡ v ∷ []) bit_from)

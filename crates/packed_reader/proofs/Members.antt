@@ -4,7 +4,8 @@ use Rattle.std.specs.Prelude.{if◌then◌else◌, not}
 use Rattle.std.proofs.lemmas.Bool.{eqb-true, eq-eqb}
 use Rattle.asn_base.specs.Abstract.{AbstractValue}
 use Rattle.asn_base.specs.Types.{Component, Resolved}
-use Rattle.asn_base.specs.Typed.{ValueIn, MayBeAbsent, nodes}
+use Rattle.asn_base.specs.Typed.{ValueIn, MayBeAbsent}
+use Rattle.packed_encodings.specs.Weights.{weight}
 use Rattle.encodings.specs.Encoding.{IsDefault}
 use Rattle.packed_encodings.specs.Lengths.{Bits}
 use Rattle.packed_encodings.specs.Orders.{Member, missing, standing, component, stands, has_bit}
@@ -86,13 +87,13 @@ abbrev pub IsValid : List Resolved → ℕ → Member AbstractValue → Type 0
 IsValid s l (missing c) = MayBeAbsent s l c.type c.presence
 IsValid s l (standing c w) = ValueIn s l c.type w
 
-abbrev pub member_nodes : Member AbstractValue → ℕ
-member_nodes (missing c) = 0
-member_nodes (standing c w) = nodes w
+abbrev pub member_weight : Member AbstractValue → ℕ
+member_weight (missing c) = 0
+member_weight (standing c w) = weight w
 
-abbrev pub all_nodes : List (Member AbstractValue) → ℕ
-all_nodes [] = 0
-all_nodes (m ∷ ms) = member_nodes m + all_nodes ms
+abbrev pub all_weight : List (Member AbstractValue) → ℕ
+all_weight [] = 0
+all_weight (m ∷ ms) = member_weight m + all_weight ms
 
 -- it is present
 pub record StoodSo (s : List Resolved) (l n : ℕ) (c : Component) (t : Taken (Member AbstractValue)) (x : Bits) : Type 0 where
@@ -125,7 +126,7 @@ pub record AreMembersRead (s : List Resolved) (l : ℕ) (ms : List (Member ℕ))
   pub say_them : Members s lenient t.it t.skipped p x
   pub are : AllRead s l ms t.it
   pub they_stand : map stands t.it ≡ cs
-  pub counted : n ≡ all_nodes t.it + t.left
+  pub counted : n ≡ all_weight t.it + t.left
 
 -- what a test of defaults and one of their levels tell
 pub record AreTold (s : List Resolved) (l : ℕ) (c : Component) : Type 0 where
@@ -193,7 +194,7 @@ module _ (s : List Resolved) (l : ℕ) (value : ReadsValue) (V : (t n : ℕ) →
     counted = (let b = r.counted in omega arith);
   }
 
-  no_members : (it : List (Member AbstractValue)) (k left n : ℕ) (x : Bits) → Members s lenient it k [] x → AllRead {X = ℕ} s l [] it → n ≡ all_nodes it + left → (taken it k left ≡ taken [] 0 n) × (x ≡ [])
+  no_members : (it : List (Member AbstractValue)) (k left n : ℕ) (x : Bits) → Members s lenient it k [] x → AllRead {X = ℕ} s l [] it → n ≡ all_weight it + left → (taken it k left ≡ taken [] 0 n) × (x ≡ [])
   no_members [] _ left n _ no_member none_read e = (ap (taken [] 0) (let f : left ≡ n = omega arith in f), refl)
   no_members (r ∷ rs) k left n x m a e = elim a [ ]
 
@@ -203,20 +204,20 @@ module _ (s : List Resolved) (l : ℕ) (value : ReadsValue) (V : (t n : ℕ) →
   -- the first of members that were read, and the others
   stood_first : {ms : List (Member ℕ)} {rs : List (Member AbstractValue)} {cs : List Bool} {p : Bits} (d : Component) (w : AbstractValue) (n j k left : ℕ) (x b : Bits)
       → Says s lenient d.type w j x → ValueIn s l d.type w → (j ≡ 0 → IsDefault s d w → ⊥)
-      → Members s lenient rs k p b → AllRead s l ms rs → map stands rs ≡ cs → n ≡ (nodes w + all_nodes rs) + left
+      → Members s lenient rs k p b → AllRead s l ms rs → map stands rs ≡ cs → n ≡ (weight w + all_weight rs) + left
       → First ms cs p n d true (taken (standing d w ∷ rs) (j + k) left) (x ++ b)
   stood_first {rs = rs} d w n j k left x b a v r m q e c = record {
-    first = taken (standing d w) j (all_nodes rs + left);
+    first = taken (standing d w) j (all_weight rs + left);
     front = x;
     back = b;
-    is_first = record { value = taken w j (all_nodes rs + left); is = record { says_it = a; value = v; counted = omega arith }; right = r; made = refl };
+    is_first = record { value = taken w j (all_weight rs + left); is = record { says_it = a; value = v; counted = omega arith }; right = r; made = refl };
     is_next = record { of = taken rs k left; is = record { say_them = m; are = q; they_stand = e; counted = refl }; made = refl };
     whole = refl;
   }
 
   lacked_first : {ms : List (Member ℕ)} {rs : List (Member AbstractValue)} {cs : List Bool} {p : Bits} (d : Component) (n k left : ℕ) (b : Bits)
       → MayBeAbsent s l d.type d.presence
-      → Members s lenient rs k p b → AllRead s l ms rs → map stands rs ≡ cs → n ≡ (0 + all_nodes rs) + left
+      → Members s lenient rs k p b → AllRead s l ms rs → map stands rs ≡ cs → n ≡ (0 + all_weight rs) + left
       → First ms cs p n d false (taken (missing d ∷ rs) k left) b
   lacked_first {rs = rs} d n k left b a m q e c = record {
     first = taken (missing d) 0 n;
@@ -233,14 +234,14 @@ module _ (s : List Resolved) (l : ℕ) (value : ReadsValue) (V : (t n : ℕ) →
   heads : {x y : Bool} {xs ys : List Bool} → x ∷ xs ≡ y ∷ ys → xs ≡ ys
   heads e = cc
 
-  split_bit : (m : Member ℕ) (ms : List (Member ℕ)) (c : Bool) (cs : List Bool) (p : Bits) (n : ℕ) → has_bit (component m).presence ≡ true → (it : List (Member AbstractValue)) (k left : ℕ) (x : Bits) → Members s lenient it k (c ∷ p) x → AllRead s l (m ∷ ms) it → map stands it ≡ c ∷ cs → n ≡ all_nodes it + left → First ms cs p n (component m) c (taken it k left) x
+  split_bit : (m : Member ℕ) (ms : List (Member ℕ)) (c : Bool) (cs : List Bool) (p : Bits) (n : ℕ) → has_bit (component m).presence ≡ true → (it : List (Member AbstractValue)) (k left : ℕ) (x : Bits) → Members s lenient it k (c ∷ p) x → AllRead s l (m ∷ ms) it → map stands it ≡ c ∷ cs → n ≡ all_weight it + left → First ms cs p n (component m) c (taken it k left) x
   split_bit m ms c cs p n hb _ _ left _ (must_stand h a r) (one_read e v q) st ct = absurd (not_true (sym h ∙ same_bit e ∙ hb))
   split_bit m ms _ cs p n hb _ _ left _ (may_stand {c = d} {w = w} {ms = rs} {j = j} {n = k} {x = x} {b = b} h a r ms') (one_read e v q) st ct =
       subst (λ y. First ms cs p n y true (taken (standing d w ∷ rs) (j + k) left) (x ++ b)) (sym e) (stood_first d w n j k left x b a v r ms' q (heads st) ct)
   split_bit m ms _ cs p n hb _ _ left _ (is_missing {c = d} {ms = rs} {n = k} {b = b} h ms') (one_read e v q) st ct =
       subst (λ y. First ms cs p n y false (taken (missing d ∷ rs) k left) b) (sym e) (lacked_first d n k left b v ms' q (heads st) ct)
 
-  split_must : (m : Member ℕ) (ms : List (Member ℕ)) (cs : List Bool) (p : Bits) (n : ℕ) → has_bit (component m).presence ≡ false → (it : List (Member AbstractValue)) (k left : ℕ) (x : Bits) → Members s lenient it k p x → AllRead s l (m ∷ ms) it → map stands it ≡ true ∷ cs → n ≡ all_nodes it + left → First ms cs p n (component m) true (taken it k left) x
+  split_must : (m : Member ℕ) (ms : List (Member ℕ)) (cs : List Bool) (p : Bits) (n : ℕ) → has_bit (component m).presence ≡ false → (it : List (Member AbstractValue)) (k left : ℕ) (x : Bits) → Members s lenient it k p x → AllRead s l (m ∷ ms) it → map stands it ≡ true ∷ cs → n ≡ all_weight it + left → First ms cs p n (component m) true (taken it k left) x
   split_must m ms cs p n hb _ _ left _ (must_stand {c = d} {w = w} {ms = rs} {j = j} {n = k} {x = x} {b = b} h a ms') (one_read e v q) st ct =
       subst (λ y. First ms cs p n y true (taken (standing d w ∷ rs) (j + k) left) (x ++ b)) (sym e) (stood_first d w n j k left x b a v (λ z i. not_default d h i) ms' q (heads st) ct)
   split_must m ms cs _ n hb _ _ left _ (may_stand h a r ms') (one_read e v q) st ct = absurd (not_true (sym hb ∙ sym (same_bit e) ∙ h))

@@ -7,7 +7,8 @@ use Rattle.encodings.specs.Header.{Octets}
 use Rattle.packed_encodings.specs.Lengths.{Bits, Items, all_bits, Counted, short, long, fragment, CountedOctets}
 use Rattle.packed_readings.specs.Outcome.{IsReading, found}
 use Rattle.packed_readings.specs.Counts.{octets_from}
-use Rattle.packed_reader.proofs.Opening.{all_octets, octets_length, together, used_length}
+use Rattle.packed_reader.specs.Structures.{contents_from}
+use Rattle.packed_reader.proofs.Opening.{all_octets, contents_read, octets_length, together, used_length}
 
 all_joined : (xs ys : Items) → length (all_bits (xs ++ ys)) ≡ length (all_bits xs) + length (all_bits ys)
 all_joined [] ys = (let k : length (all_bits ys) ≡ 0 + length (all_bits ys) = omega arith in k)
@@ -45,10 +46,10 @@ module _ (octets : IsReading CountedOctets octets_from) where
       past [] = refl
       past (c ∷ y) = past y
 
-  pub place_before : (b r y z p : Bits) (o : Octets) (n : ℕ) → n < 16384 → octets_from b ≡ found o r → length o ≡ n → octet_bits o ≡ y ++ z → p ≡ drop (length b - (length z + length r)) b → p ≡ (if nat_lt n 16384 then z ++ r else r)
+  pub place_before : (b r y z p : Bits) (o : Octets) (n : ℕ) → n < 16384 → contents_from b ≡ found o r → length o ≡ n → octet_bits o ≡ y ++ z → p ≡ drop (length b - (length z + length r)) b → p ≡ (if nat_lt n 16384 then z ++ r else r)
   place_before b r y z p o n l e m h d =
-      let s = octets.sound b r o e in
-      let t = together o (let k : length o < 16384 = omega (arith, l, m) in k) s.1 in
+      let s = (contents_read octets).sound b r o e in
+      let t = together o (let k : length o < 16384 = omega (arith, l, m) in k) s.1.counted in
       let w : b ≡ (t.0 ++ y) ++ (z ++ r) = s.2 ∙ ap (λ q. q ++ r) (t.1 ∙ ap (λ q. t.0 ++ q) h) ∙ append_assoc t.0 (y ++ z) r ∙ ap (λ q. t.0 ++ q) (append_assoc y z r) ∙ sym (append_assoc t.0 y (z ++ r)) in
       let a = length-append z r in
       d ∙ ap (λ q. drop (length q - (length z + length r)) q) w

@@ -15,7 +15,6 @@ use Rattle.packed_code.specs.declared.step.PackedStep.TheVariants as steps
 use Rattle.packed_encodings.specs.Computed.{kind_at}
 use Rattle.packed_encodings.specs.Lengths.{Bits}
 use Rattle.decode_faults.specs.declared.refusal.Refusal.TheVariants as why
-use Rattle.packed_readings.specs.Counts.{octets_from}
 use Rattle.packed_readings.specs.Outcome.{Outcome, found, stops}
 use Rattle.packed_reader.specs.declared.part.Part.TheVariants.{Component as Component'}
 use Rattle.packed_reader.specs.declared.reader.Progress.{Progress}
@@ -23,7 +22,7 @@ use Rattle.packed_reader.specs.declared.sent.Sent.{Sent}
 use Rattle.packed_reader.specs.declared.stop.Stop.{Stop}
 use Rattle.packed_reader.specs.declared.stop.Stop.TheVariants.{Memory, Refused}
 use Rattle.packed_reader.specs.Readings.{Fault, Reading, read, refused, stop, next, in_part, plain, tested, Taken, taken}
-use Rattle.packed_reader.specs.Structures.{is_filling, open_from, unknown_from, with_value}
+use Rattle.packed_reader.specs.Structures.{is_filling, contents_from, open_from, unknown_from, with_value}
 use Rattle.packed_reader.specs.proving.Code.{AreSent, HasRoom, IsStop, IsStopAt, IsWithin, Went, row_of_values}
 use Rattle.packed_reader.specs.proving.Running.{RunsValue, any_sent, first_bit, is_addition, other_bits, put, run_added, run_additions, run_first, run_presences, run_unknown}
 use Rattle.packed_writer.specs.proving.Values.{FieldFits, FieldsFit, fields_in}
@@ -94,9 +93,9 @@ place_room b r i o sl m a n h e f = (let x = h.shorter in let y = inner_long b r
 
 -- where a fault within them is
 abbrev pub IsPlace : (b r p : Bits) (n left : ℕ) → Type 0
-IsPlace b r p n left = (o : List ℕ) (y z : Bits) → octets_from b ≡ found o r → length o ≡ n → octet_bits o ≡ y ++ z → length z ≡ left → p ≡ (if nat_lt n 16384 then z ++ r else r)
+IsPlace b r p n left = (o : List ℕ) (y z : Bits) → contents_from b ≡ found o r → length o ≡ n → octet_bits o ≡ y ++ z → length z ≡ left → p ≡ (if nat_lt n 16384 then z ++ r else r)
 
-module _ {X : Type 0} (f : Bits → Reading X) (b r i : Bits) (o sl : List ℕ) (h : Octets b r i o sl) (e : octets_from b ≡ found o r) where
+module _ {X : Type 0} (f : Bits → Reading X) (b r i : Bits) (o sl : List ℕ) (h : Octets b r i o sl) (e : contents_from b ≡ found o r) where
   fill_is : (z : Bits) (m a : ℕ) (t c : Bool) → m ≡ length i → a ≡ length z → t ≡ is_filling (m - a) z → t ≡ c → is_filling (length (octet_bits o) - length z) z ≡ c
   fill_is z m a t c x y u w = ap (λ q. is_filling (length q - length z) z) (sym (inner_is b r i o sl h)) ∙ ap (λ q. is_filling (q - length z) z) (sym x) ∙ ap (λ q. is_filling (m - q) z) (sym y) ∙ sym u ∙ w
 
@@ -190,7 +189,7 @@ one_since k (refused e z) = refl
 unknown_since : (k : ℕ) (q b : Bits) → run_unknown k q b ≡ next (unknown_from q b) (λ j r. read (k + j) r)
 unknown_since k [] b = ap (λ q. read q b) (plus_none k)
 unknown_since k (false ∷ q) b = unknown_since k q b
-unknown_since k (true ∷ q) b = by (λ r. unknown_since (suc k) q r ∙ one_since k (unknown_from q r)) (octets_from b)
+unknown_since k (true ∷ q) b = by (λ r. unknown_since (suc k) q r ∙ one_since k (unknown_from q r)) (contents_from b)
   where
     by : ((r : Bits) → run_unknown (suc k) q r ≡ next (next (unknown_from q r) (λ j z. read (suc j) z)) (λ j z. read (k + j) z)) → (o : Outcome (List ℕ)) → next (plain o) (λ o r. run_unknown (suc k) q r) ≡ next (next (plain o) (λ o r. next (unknown_from q r) (λ j z. read (suc j) z))) (λ j r. read (k + j) r)
     by since (found o r) = since r

@@ -1,5 +1,5 @@
 -- Open types, and bits that hold an encoding alone.
-use Rattle.std.proofs.Common.{arith, ◌≡◌, ℕ, zero, suc, ◌*◌, ◌-◌, ◌<◌, ◌==◌, ◌&&◌, Bool, true, false, [], ◌∷◌, ◌++◌, length, map, replicate, refl, sym, ap, subst, ◌∙◌, append_assoc, length-append, append-nil}
+use Rattle.std.proofs.Common.{arith, ◌≡◌, ℕ, zero, suc, ◌*◌, ◌-◌, ◌<◌, ◌≤◌, ◌==◌, ◌&&◌, Bool, true, false, [], ◌∷◌, ◌++◌, length, map, replicate, refl, sym, ap, subst, ◌∙◌, append_assoc, length-append, append-nil}
 use Rattle.std.specs.Prelude.{if◌then◌else◌, nat_lt}
 use Rattle.std.proofs.lemmas.List.{length-replicate}
 use Rattle.std.proofs.lemmas.Bool.{lt-ltb, ltb-true, eqb-true, ne_eqb}
@@ -9,10 +9,11 @@ use Rattle.encodings.specs.Header.{Octets}
 use Rattle.packed_encodings.specs.Lengths.{Bits, Items, all_bits, Counted, short, long, fragment, CountedOctets}
 use Rattle.packed_encodings.specs.Padding.{Padded, padded_none, padded, Open, open_type}
 use Rattle.decode_faults.specs.declared.refusal.Refusal.TheVariants as why
-use Rattle.packed_readings.specs.Outcome.{IsReading}
+use Rattle.packed_readings.specs.Outcome.{found, IsReading, Then}
 use Rattle.packed_readings.specs.Counts.{octets_from}
 use Rattle.packed_reader.specs.Readings.{Fault, Reading, read, refused, stop, next, plain, IsExact}
-use Rattle.packed_reader.specs.Structures.{all_clear, is_filling, filled_from, before_rest, open_from}
+use Rattle.packed_readings.specs.Composing as composing
+use Rattle.packed_reader.specs.Structures.{all_clear, is_filling, filled_from, before_rest, at_least_one, contents_from, open_from}
 use Rattle.packed_reader.proofs.Exact.{not_both, one_value, one_fault, same_fault, same_value, further, in_three, plain_exact}
 
 pub not_true : false ≡ true → ⊥
@@ -149,6 +150,60 @@ module _ (front : (o r : Octets) (a b p q : Bits) → CountedOctets o a → Coun
 
 -- ---- open types
 
+-- octets after their number, of which there is at least one
+pub record AreContents (o : Octets) (b : Bits) : Type 0 where
+  pub counted : CountedOctets o b
+  pub some : 1 ≤ length o
+
+-- the same octets, and no bits
+record AreThese (o r : Octets) (z : Bits) : Type 0 where
+  same : r ≡ o
+  none : z ≡ []
+  some : 1 ≤ length o
+
+some_octets : (o : Octets) → IsReading (AreThese o) (at_least_one o)
+some_octets [] = record {
+  sound = λ b r v e. absurd (composing.not_both e);
+  whole = λ v x r p. absurd (let s = p.some in omega (arith, s));
+  firm = λ b r m e h n. absurd (n (sym (composing.stops_why refl h)));
+  inside = λ b r e h. ([], composing.stops_where refl h);
+}
+some_octets (x ∷ o) = record {
+  sound = λ b r v e. ([], record { same = sym (composing.found_value e); none = refl; some = omega arith }, composing.found_rest e);
+  whole = λ v y r p. ap (λ q. found (x ∷ o) (q ++ r)) p.none ∙ ap (λ q. found q r) (sym p.same);
+  firm = λ b r m e h n. absurd (composing.not_either h);
+  inside = λ b r e h. absurd (composing.not_either h);
+}
+
+-- the octets of an open type are read
+pub contents_read : IsReading CountedOctets octets_from → IsReading AreContents contents_from
+contents_read octets = composing.same to from (composing.next octets some_octets)
+  where
+    to : (o : Octets) (b : Bits) → Then CountedOctets AreThese o b → AreContents o b
+    to o b t =
+        let n = t.is_next in
+        let e : b ≡ t.front = t.whole ∙ ap (λ q. t.front ++ q) n.none ∙ append-nil t.front in
+        record {
+          counted = subst (λ q. CountedOctets q b) (sym n.same) (subst (λ q. CountedOctets t.first q) (sym e) t.is_first);
+          some = subst (λ q. 1 ≤ length q) (sym n.same) n.some;
+        }
+
+    from : (o : Octets) (b : Bits) → AreContents o b → Then CountedOctets AreThese o b
+    from o b a = record {
+      first = o;
+      front = b;
+      back = [];
+      is_first = a.counted;
+      is_next = record { same = refl; none = refl; some = a.some };
+      whole = sym (append-nil b);
+    }
+
+-- what fills octets has one at least
+pub some_filled : {x : Bits} {o : Octets} → Padded x o → 1 ≤ length o
+some_filled padded_none = omega arith
+some_filled (padded {b = x} {o = []} n some few h e) = absurd (let a = ap length e in let l = length-append x (replicate n false) in omega arith)
+some_filled (padded {o = y ∷ o} n some few h e) = omega arith
+
 -- octets of one number stand together
 pub all_octets : (o : Octets) → all_bits (map (word 8) o) ≡ octet_bits o
 all_octets [] = refl
@@ -172,24 +227,24 @@ together o l c = together_by o (map (word 8) o) refl l c.counted
 module _ (front : (o r : Octets) (a b p q : Bits) → CountedOctets o a → CountedOctets r b → a ++ p ≡ b ++ q → (o ≡ r) × (p ≡ q))
     (octets : IsReading CountedOctets octets_from)
     {X : Type 0} {P : X → Bits → Type 0} {f : Bits → Reading X} (F : IsExact P f) where
-  Octets' : IsExact CountedOctets (λ b. plain (octets_from b))
-  Octets' = plain_exact octets
+  Octets' : IsExact AreContents (λ b. plain (contents_from b))
+  Octets' = plain_exact (contents_read octets)
 
   read_behind : (w : Bool) (g : Reading X) (r s : Bits) (v : X) → before_rest w g r ≡ read v s → (z : Bits) × (g ≡ read v z) × (r ≡ s)
   read_behind w (read u z) r s v e = let i = one_value e in (z, same_value i.0 refl, i.1)
   read_behind w (refused d z) r s v e = absurd (not_both (sym e))
 
-  open_sound : (b s : Bits) (v : X) (g : Reading Octets) → plain (octets_from b) ≡ g → next g (λ o r. before_rest (nat_lt (length o) 16384) (filled_from f (octet_bits o)) r) ≡ read v s → (y : Bits) × Opened P v y × (b ≡ y ++ s)
+  open_sound : (b s : Bits) (v : X) (g : Reading Octets) → plain (contents_from b) ≡ g → next g (λ o r. before_rest (nat_lt (length o) 16384) (filled_from f (octet_bits o)) r) ≡ read v s → (y : Bits) × Opened P v y × (b ≡ y ++ s)
   open_sound b s v (read o r) h e =
       let c = Octets'.sound b r o h in
       let k = read_behind (nat_lt (length o) 16384) (filled_from f (octet_bits o)) r s v e in
-      let held = (filled_sound front F o v k.0 c.1.octets k.1).0 in
-      (c.0, record { inside = held.inside; is = held.is; is_open = open_type held.is_padded c.1 }, c.2 ∙ ap (λ q. c.0 ++ q) k.2)
+      let held = (filled_sound front F o v k.0 c.1.counted.octets k.1).0 in
+      (c.0, record { inside = held.inside; is = held.is; is_open = open_type held.is_padded c.1.counted }, c.2 ∙ ap (λ q. c.0 ++ q) k.2)
   open_sound b s v (refused d r) h e = absurd (not_both (sym e))
 
   open_whole : (v : X) (y r x : Bits) → P v x → Open x y → open_from f (y ++ r) ≡ read v r
   open_whole v y r x p (open_type {o = o} a c) =
-      ap (λ q. next q (λ o r. before_rest (nat_lt (length o) 16384) (filled_from f (octet_bits o)) r)) (Octets'.whole o y r c)
+      ap (λ q. next q (λ o r. before_rest (nat_lt (length o) 16384) (filled_from f (octet_bits o)) r)) (Octets'.whole o y r (record { counted = c; some = some_filled a }))
       ∙ ap (λ q. before_rest (nat_lt (length o) 16384) q r) (filled_whole front F o v (record { inside = x; is = p; is_padded = a }))
 
   behind_firm : (w : Bool) (g : Reading X) (r s m : Bits) (d : Fault) → before_rest w g r ≡ refused d s → before_rest w g (r ++ m) ≡ refused d (s ++ m)
@@ -197,7 +252,7 @@ module _ (front : (o r : Octets) (a b p q : Bits) → CountedOctets o a → Coun
   behind_firm true (refused c z) r s m d e = let i = one_fault e in same_fault i.0 (sym (append_assoc z r m) ∙ ap (λ q. q ++ m) i.1)
   behind_firm false (refused c z) r s m d e = let i = one_fault e in same_fault i.0 (ap (λ q. q ++ m) i.1)
 
-  open_firm : (b s m : Bits) (d : Fault) (g : Reading Octets) → plain (octets_from b) ≡ g → next g (λ o r. before_rest (nat_lt (length o) 16384) (filled_from f (octet_bits o)) r) ≡ refused d s → (d.why ≡ why.Truncated → ⊥) → open_from f (b ++ m) ≡ refused d (s ++ m)
+  open_firm : (b s m : Bits) (d : Fault) (g : Reading Octets) → plain (contents_from b) ≡ g → next g (λ o r. before_rest (nat_lt (length o) 16384) (filled_from f (octet_bits o)) r) ≡ refused d s → (d.why ≡ why.Truncated → ⊥) → open_from f (b ++ m) ≡ refused d (s ++ m)
   open_firm b s m d (read o r) h e n =
       let c = Octets'.sound b r o h in
       ap (open_from f) (further c.0 r m c.2)
@@ -216,16 +271,16 @@ module _ (front : (o r : Octets) (a b p q : Bits) → CountedOctets o a → Coun
       (q.0 ++ p.0, i ∙ ap (λ x. x ++ r) j ∙ append_assoc (q.0 ++ p.0) z r ∙ ap (λ x. (q.0 ++ p.0) ++ x) (one_fault e).1)
   behind_place false o b y r s d (refused k z) t c i h e = (y, i ∙ ap (λ x. y ++ x) (one_fault e).1)
 
-  open_place : (b s : Bits) (d : Fault) (g : Reading Octets) → plain (octets_from b) ≡ g → next g (λ o r. before_rest (nat_lt (length o) 16384) (filled_from f (octet_bits o)) r) ≡ refused d s → Before b s
+  open_place : (b s : Bits) (d : Fault) (g : Reading Octets) → plain (contents_from b) ≡ g → next g (λ o r. before_rest (nat_lt (length o) 16384) (filled_from f (octet_bits o)) r) ≡ refused d s → Before b s
   open_place b s d (read o r) h e =
       let c = Octets'.sound b r o h in
-      behind_place (nat_lt (length o) 16384) o b c.0 r s d (filled_from f (octet_bits o)) refl c.1 c.2 refl e
+      behind_place (nat_lt (length o) 16384) o b c.0 r s d (filled_from f (octet_bits o)) refl c.1.counted c.2 refl e
   open_place b s d (refused c r) h e = let i = one_fault e in Octets'.inside b s d (h ∙ same_fault i.0 i.1)
 
   pub open_exact : IsExact (Opened P) (open_from f)
   open_exact = record {
-    sound = λ b s v e. open_sound b s v (plain (octets_from b)) refl e;
+    sound = λ b s v e. open_sound b s v (plain (contents_from b)) refl e;
     whole = λ v y r p. open_whole v y r p.inside p.is p.is_open;
-    firm = λ b s m d h n. open_firm b s m d (plain (octets_from b)) refl h n;
-    inside = λ b s d h. open_place b s d (plain (octets_from b)) refl h;
+    firm = λ b s m d h n. open_firm b s m d (plain (contents_from b)) refl h n;
+    inside = λ b s d h. open_place b s d (plain (contents_from b)) refl h;
   }

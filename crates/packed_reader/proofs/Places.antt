@@ -4,13 +4,14 @@ use Rattle.std.specs.Prelude.{if◌then◌else◌}
 use Rattle.std.specs.List.{AllByRecursion}
 use Rattle.asn_base.specs.Abstract.{AbstractValue, Row, end, absent, present}
 use Rattle.asn_base.specs.Types.{Component, Resolved}
-use Rattle.asn_base.specs.Typed.{members, group_of, row_nodes}
+use Rattle.asn_base.specs.Typed.{members, group_of}
+use Rattle.packed_encodings.specs.Weights.{row_weight}
 use Rattle.asn_base.specs.Schemas.{is_addition}
 use Rattle.packed_encodings.specs.Orders.{Member, missing, standing, component, stands_before, Beside, beside_none, beside_absent, beside_present, root_of, behind_marker, placed, canonical, Addition, alone, bracketed, is_of_group, in_front, additions}
 use Rattle.packed_code.specs.Routines.{placed_from, place_in}
 use Rattle.packed_reader.specs.Structures.{no_row, with_value, with_members, members_in}
 use Rattle.packed_reader.proofs.Natural.{canonical_same, on_additions}
-use Rattle.packed_reader.proofs.Members.{all_nodes, member_nodes}
+use Rattle.packed_reader.proofs.Members.{all_weight, member_weight}
 
 -- ---- members in another order
 
@@ -39,13 +40,13 @@ pub mixed_back : {X : Type 0} (P : X → Type 0) {xs ys : List X} → Mixed xs y
 mixed_back P mixed_none a = tt
 mixed_back P (mixed_more q p) a = let r = put_back P p a in (r.0, mixed_back P q r.1)
 
-put_nodes : {m : Member AbstractValue} {xs ys : List (Member AbstractValue)} → Put m xs ys → all_nodes ys ≡ member_nodes m + all_nodes xs
-put_nodes put_here = refl
-put_nodes (put_there q) = let e = put_nodes q in omega arith
+put_weight : {m : Member AbstractValue} {xs ys : List (Member AbstractValue)} → Put m xs ys → all_weight ys ≡ member_weight m + all_weight xs
+put_weight put_here = refl
+put_weight (put_there q) = let e = put_weight q in omega arith
 
-pub mixed_nodes : {xs ys : List (Member AbstractValue)} → Mixed xs ys → all_nodes ys ≡ all_nodes xs
-mixed_nodes mixed_none = refl
-mixed_nodes (mixed_more q p) = let e = mixed_nodes q in let f = put_nodes p in omega arith
+pub mixed_weight : {xs ys : List (Member AbstractValue)} → Mixed xs ys → all_weight ys ≡ all_weight xs
+mixed_weight mixed_none = refl
+mixed_weight (mixed_more q p) = let e = mixed_weight q in let f = put_weight p in omega arith
 
 pub mixed_itself : {X : Type 0} (xs : List X) → Mixed xs xs
 mixed_itself [] = mixed_none
@@ -115,15 +116,15 @@ root_part P set s ms a = mixed_all P (ordered_mixed set s (root_of ms)) (all_fir
 pub more_part : {X : Type 0} (P : Member X → Type 0) (ms : List (Member X)) → AllByRecursion P ms → AllByRecursion P (behind_marker ms)
 more_part P ms a = all_second P (root_of ms) (behind_marker ms) (mixed_all P (root_mixed ms) a)
 
-nodes_both : (xs ys : List (Member AbstractValue)) → all_nodes (xs ++ ys) ≡ all_nodes xs + all_nodes ys
-nodes_both [] ys = let z : all_nodes ys ≡ 0 + all_nodes ys = omega arith in z
-nodes_both (x ∷ xs) ys = let e = nodes_both xs ys in omega arith
+weight_both : (xs ys : List (Member AbstractValue)) → all_weight (xs ++ ys) ≡ all_weight xs + all_weight ys
+weight_both [] ys = let z : all_weight ys ≡ 0 + all_weight ys = omega arith in z
+weight_both (x ∷ xs) ys = let e = weight_both xs ys in omega arith
 
-pub part_nodes : (set : Bool) (s : List Resolved) (ms : List (Member AbstractValue)) → all_nodes (ordered set s (root_of ms)) + all_nodes (behind_marker ms) ≡ all_nodes ms
-part_nodes set s ms =
-    let a = mixed_nodes (ordered_mixed set s (root_of ms)) in
-    let b = nodes_both (root_of ms) (behind_marker ms) in
-    let c = mixed_nodes (root_mixed ms) in
+pub part_weight : (set : Bool) (s : List Resolved) (ms : List (Member AbstractValue)) → all_weight (ordered set s (root_of ms)) + all_weight (behind_marker ms) ≡ all_weight ms
+part_weight set s ms =
+    let a = mixed_weight (ordered_mixed set s (root_of ms)) in
+    let b = weight_both (root_of ms) (behind_marker ms) in
+    let c = mixed_weight (root_mixed ms) in
     omega arith
 
 -- ---- distinct places
@@ -250,10 +251,10 @@ beside_many (beside_present a) = let e = beside_many a in omega arith
 pub beside_is : {cs : List Component} {ws : Row} {ms : List (Member AbstractValue)} → Beside cs ws ms → ms ≡ map (seen ws) (placed_from 0 cs)
 beside_is {cs} {ws} a = one_beside a (beside_seen cs ws (beside_many a))
 
-pub beside_nodes : {cs : List Component} {ws : Row} {ms : List (Member AbstractValue)} → Beside cs ws ms → row_nodes ws ≡ all_nodes ms
-beside_nodes beside_none = refl
-beside_nodes (beside_absent a) = let e = beside_nodes a in omega arith
-beside_nodes (beside_present a) = let e = beside_nodes a in omega arith
+pub beside_weight : {cs : List Component} {ws : Row} {ms : List (Member AbstractValue)} → Beside cs ws ms → row_weight ws ≡ all_weight ms
+beside_weight beside_none = refl
+beside_weight (beside_absent a) = let e = beside_weight a in omega arith
+beside_weight (beside_present a) = let e = beside_weight a in omega arith
 
 -- ---- values at places
 

@@ -1,13 +1,11 @@
 -- The steps of a routine are those of its type.
-use Rattle.std.proofs.Common.{arith, ◌≡◌, ℕ, zero, suc, ◌≤◌, ◌<◌, List, [], ◌∷◌, length, Some, None, slice_get, ap, subst, sym, refl, ◌∙◌, length-append}
-use Rattle.std.specs.Prelude.{Result, Ok, Err, IfOk}
+use Rattle.std.proofs.Common.{arith, ◌≡◌, ℕ, zero, suc, ◌+◌, ◌≤◌, ◌<◌, List, [], ◌∷◌, length, Some, None, slice_get, ap, subst, sym, refl, ◌∙◌, length-append}
 use Rattle.packed_code.specs.Routines.{routine_at, routine_of}
 use Rattle.packed_reader.specs.declared.plan.Plan.{Plan}
 use Rattle.packed_reader.specs.declared.reader.Progress.{Progress}
 use Rattle.packed_reader.specs.proving.Code.{Went}
 use Rattle.packed_reader.specs.proving.Plans.{IsNothing, PlanFits, run_plan}
 use Rattle.packed_reader.specs.proving.Running.{RunsValue, run_steps, run_value}
-use Rattle.packed_reader.proofs.ValueRun.{went_shorter}
 use Rattle.asn_base.specs.Types.{Resolved, TypeNumber}
 use Rattle.packed_code.specs.declared.step.PackedStep.{PackedStep}
 use Rattle.packed_encodings.specs.Lengths.{Bits}
@@ -48,6 +46,8 @@ there (r ∷ s) (suc t) h = let i = there s t h in omega (arith, i)
 pub type_there : (s : List Resolved) (t : ℕ) (ss : List PackedStep) (p q : Plan) → ss ≡ routine_at s t → p ≡ q → (ss ≡ [] → IsNothing p) → (IsNothing q → ⊥) → t < length s
 type_there s t ss p q e g h f = there s t (λ n. f (subst IsNothing g (h (e ∙ no_steps s t n))))
 
-pub shorter_ok : {X E : Type 0} (x : Result X E) (p : Progress) (b r : Bits) → IfOk x (λ v. length r ≤ length b) → IfOk x (λ v. Went p b p r)
-shorter_ok (Ok v) p b r h = went_shorter p b r h
-shorter_ok (Err e) p b r h = tt
+-- what a call leaves after a value that holds no others
+pub leaf_went : {X : Type 0} {P : X → Bits → Type 0} {f : Bits → Outcome X} → IsReading P f → (p q : Progress) (b r : Bits) (v : X) → f b ≡ found v r → q.left ≤ p.left → q.skipped ≡ p.skipped → Went p b q r
+leaf_went law p q b r v e l s =
+    let h = reading_shorter law b r v e in
+    record { left = l; room = (let k : q.skipped + length r ≤ p.skipped + length b = omega (arith, h, s) in k) }

@@ -1,15 +1,17 @@
 -- Rows of messages that are read or refused, by computation.
 use Rattle.std.proofs.Common.{lit<, ◌≡◌, ℕ, zero, suc, Bool, true, false, List, [], ◌∷◌, ◌++◌, refl}
 use Rattle.std.specs.Prelude.{Option, Some, None, ℤ, pos, replicate}
+use Rattle.asn_base.specs.declared.strings.StringKind.TheVariants.{Ia5}
 use Rattle.asn_base.specs.declared.tag.Class.TheVariants.{Context}
+use Rattle.bits.specs.Words.{octet_bits}
 use Rattle.asn_base.specs.declared.tag.Tag.{Tag}
-use Rattle.asn_base.specs.Abstract.{AbstractValue, boolean, integer, octets, null, fields, list, alternative, Row, end, absent, present}
-use Rattle.asn_base.specs.Types.{Constraint, any_number, any_size, Kind, a_boolean, an_integer, an_octet_string, a_null, a_sequence, a_set, a_sequence_of, a_set_of, a_choice, Presence, mandatory, optional, default, addition, Component, Alternative, Resolved}
+use Rattle.asn_base.specs.Abstract.{AbstractValue, boolean, integer, octets, text, null, fields, list, alternative, Row, end, absent, present}
+use Rattle.asn_base.specs.Types.{Constraint, any_number, any_size, Kind, a_boolean, an_integer, an_octet_string, a_null, a_restricted_string, a_sequence, a_set, a_sequence_of, a_set_of, a_choice, Presence, mandatory, optional, default, addition, Component, Alternative, Resolved}
 use Rattle.decode_faults.specs.declared.refusal.Refusal.{Refusal}
 use Rattle.decode_faults.specs.declared.refusal.Refusal.TheVariants.{Truncated, NotCanonical, Outside, UnknownAlternative, Padding, TooDeep, TooManyAdditions, NodesLimit}
 use Rattle.packed_reader.specs.declared.part.Part.{Part}
 use Rattle.packed_reader.specs.declared.part.Part.TheVariants as in_part
-use Rattle.packed_reader.specs.Readings.{Reading}
+use Rattle.packed_reader.specs.Readings.{Reading, taken}
 use Rattle.packed_reader.specs.Values.{Answer, answers, faulty, message_from, value_from}
 
 -- ---- types
@@ -147,6 +149,13 @@ one_unknown = refl
 two_unknown : message_from with_none 0 (192 ∷ 224 ∷ 52 ∷ 0 ∷ 32 ∷ 0 ∷ []) ≡ answers (fields (present (boolean true) end)) 2
 two_unknown = refl
 
+-- an open type of no octets, C04000, in an addition that the type lacks or has
+no_octets_unknown : message_from with_none 0 (192 ∷ 64 ∷ 0 ∷ []) ≡ at_bit Truncated 18
+no_octets_unknown = refl
+
+no_octets_known : message_from with_one 0 (192 ∷ 64 ∷ 0 ∷ []) ≡ within (in_part.Component 1 ∷ []) Truncated 18
+no_octets_known = refl
+
 a_shorter_map : message_from with_two 0 (192 ∷ 64 ∷ 104 ∷ 0 ∷ []) ≡ answers (fields (present (boolean true) (present (integer (pos 5)) (absent end)))) 0
 a_shorter_map = refl
 
@@ -206,6 +215,16 @@ choice_added = refl
 choice_unknown : message_from (of_kind (a_choice (an_alternative 1 ∷ []) true (an_alternative 2 ∷ [])) ∷ tagged 0 a_null ∷ of_kind a_boolean ∷ []) 0 (129 ∷ 1 ∷ 160 ∷ []) ≡ at_bit UnknownAlternative 1
 choice_unknown = refl
 
+-- CHOICE {a BOOLEAN, ..., b NULL}: 8000 has b without an octet, 800100 is b : NULL
+abbrev with_null : List Resolved
+with_null = of_kind (a_choice (an_alternative 1 ∷ []) true (an_alternative 2 ∷ [])) ∷ tagged 0 a_boolean ∷ of_kind a_null ∷ []
+
+no_octets_chosen : message_from with_null 0 (128 ∷ 0 ∷ []) ≡ within (in_part.Alternative 1 ∷ []) Truncated 16
+no_octets_chosen = refl
+
+one_octet_chosen : message_from with_null 0 (128 ∷ 1 ∷ 0 ∷ []) ≡ answers (alternative 1 null) 0
+one_octet_chosen = refl
+
 -- CHOICE {a [1] NULL, b [0] BOOLEAN, ...}: 20 is b : TRUE, 40 is a : NULL
 abbrev a_choice_with_marker : List Resolved
 a_choice_with_marker = of_kind (a_choice (an_alternative 1 ∷ an_alternative 2 ∷ []) true []) ∷ tagged 1 a_null ∷ tagged 0 a_boolean ∷ []
@@ -254,3 +273,26 @@ too_deep = refl
 -- SEQUENCE OF NULL: of three elements the third begins one value too many, where three may begin
 too_many_values : value_from (of_kind (a_sequence_of any_size 1) ∷ of_kind a_null ∷ []) 64 0 3 (replicate 6 false ++ (true ∷ true ∷ [])) ≡ Reading.refused (record { why = NodesLimit; path = in_part.Element 2 ∷ [] }) []
 too_many_values = refl
+
+-- ---- characters that take no bits
+
+-- IA5String (FROM ("a")): 03 is "aaa", which takes the place of four values. Where three values may begin, its fault is
+-- at its first bit.
+abbrev letters : Kind
+letters = a_restricted_string Ia5 (97 ∷ []) any_size
+
+characters_count : value_from (one_type letters) 64 0 4 (octet_bits (3 ∷ [])) ≡ Reading.read (taken (text (97 ∷ 97 ∷ 97 ∷ [])) 0 0) []
+characters_count = refl
+
+too_many_characters : value_from (one_type letters) 64 0 3 (octet_bits (3 ∷ [])) ≡ Reading.refused (record { why = NodesLimit; path = [] }) (octet_bits (3 ∷ []))
+too_many_characters = refl
+
+-- SEQUENCE OF IA5String (FROM ("a")) (SIZE (2)): 02 is {"aa", "aa"}, which takes the place of seven values
+abbrev pairs : List Resolved
+pairs = of_kind (a_sequence_of any_size 1) ∷ of_kind (a_restricted_string Ia5 (97 ∷ []) (from_to 2 2)) ∷ []
+
+pairs_count : value_from pairs 64 0 7 (octet_bits (2 ∷ [])) ≡ Reading.read (taken (list (present (text (97 ∷ 97 ∷ [])) (present (text (97 ∷ 97 ∷ [])) end))) 0 0) []
+pairs_count = refl
+
+too_many_pairs : value_from pairs 64 0 6 (octet_bits (2 ∷ [])) ≡ Reading.refused (record { why = NodesLimit; path = in_part.Element 1 ∷ [] }) []
+too_many_pairs = refl

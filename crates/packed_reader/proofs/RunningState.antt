@@ -6,10 +6,9 @@ use Rattle.bits.specs.Words.{octet_bits}
 use Rattle.packed_encodings.specs.Lengths.{Bits}
 use Rattle.decode_faults.specs.declared.refusal.Refusal.{Refusal}
 use Rattle.decode_faults.specs.declared.refusal.Refusal.TheVariants as why
-use Rattle.packed_readings.specs.Counts.{octets_from}
 use Rattle.packed_reader.specs.declared.part.Part.{Part}
 use Rattle.packed_reader.specs.Readings.{Reading, read, refused, stop, next, in_part, plain, tested, Taken, taken}
-use Rattle.packed_reader.specs.Structures.{is_filling, filled_from, before_rest, open_from}
+use Rattle.packed_reader.specs.Structures.{is_filling, filled_from, before_rest, contents_from, open_from}
 use Rattle.packed_reader.specs.proving.Running.{past}
 
 -- ---- numbers
@@ -122,7 +121,7 @@ module _ {A X : Type 0} (h : A → X) (k : ℕ) (f : Bits → Reading (Taken A))
   before whole (refused e z) r = refl
 
   pub opened : (b : Bits) → open_from f' b ≡ past_by h k (open_from f b)
-  opened b = after h k (plain (octets_from b)) (λ o r. before_rest (nat_lt (length o) 16384) (filled_from f (octet_bits o)) r) (λ o r. before_rest (nat_lt (length o) 16384) (filled_from f' (octet_bits o)) r) (λ o r. ap (λ q. before_rest (nat_lt (length o) 16384) q r) (filled (octet_bits o)) ∙ before (nat_lt (length o) 16384) (filled_from f (octet_bits o)) r)
+  opened b = after h k (plain (contents_from b)) (λ o r. before_rest (nat_lt (length o) 16384) (filled_from f (octet_bits o)) r) (λ o r. before_rest (nat_lt (length o) 16384) (filled_from f' (octet_bits o)) r) (λ o r. ap (λ q. before_rest (nat_lt (length o) 16384) q r) (filled (octet_bits o)) ∙ before (nat_lt (length o) 16384) (filled_from f (octet_bits o)) r)
 
 module _ {A : Type 0} (P : A → Type 0) (f : Bits → Reading A) (a : (b : Bits) → Always P (f b)) where
   always_filled : (b : Bits) → Always P (filled_from f b)
@@ -137,4 +136,4 @@ module _ {A : Type 0} (P : A → Type 0) (f : Bits → Reading A) (a : (b : Bits
   always_before whole (refused e z) r a = tt
 
   pub always_opened : (b : Bits) → Always P (open_from f b)
-  always_opened b = always_after P (plain (octets_from b)) (λ o r. before_rest (nat_lt (length o) 16384) (filled_from f (octet_bits o)) r) (λ o r. always_before (nat_lt (length o) 16384) (filled_from f (octet_bits o)) r (always_filled (octet_bits o)))
+  always_opened b = always_after P (plain (contents_from b)) (λ o r. before_rest (nat_lt (length o) 16384) (filled_from f (octet_bits o)) r) (λ o r. always_before (nat_lt (length o) 16384) (filled_from f (octet_bits o)) r (always_filled (octet_bits o)))

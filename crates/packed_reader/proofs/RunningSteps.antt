@@ -1,5 +1,5 @@
 -- What the steps of a routine read with a state is what they read without one.
-use Rattle.std.proofs.Common.{◌≡◌, ℕ, ◌+◌, Bool, true, false, List, [], ◌∷◌, length, take, drop, refl, sym, ap, ◌∙◌}
+use Rattle.std.proofs.Common.{◌≡◌, ℕ, ◌-◌, ◌+◌, Bool, true, false, List, [], ◌∷◌, length, take, drop, refl, sym, ap, ◌∙◌}
 use Rattle.std.specs.List.{AllByRecursion}
 use Rattle.asn_base.specs.Abstract.{AbstractValue, fields, list}
 use Rattle.asn_base.specs.Types.{Component, TypeNumber, Resolved}
@@ -12,12 +12,13 @@ use Rattle.packed_code.specs.declared.step.PackedStep.{PackedStep}
 use Rattle.packed_code.specs.declared.step.PackedStep.TheVariants as steps
 use Rattle.packed_code.specs.Meaning.{next_fields}
 use Rattle.packed_code.specs.Routines.{routine_at}
-use Rattle.packed_readings.specs.Leaves.{leaf_from}
+use Rattle.packed_encodings.specs.Weights.{characters}
+use Rattle.packed_readings.specs.Leaves.{leaf_within}
 use Rattle.packed_reader.specs.declared.part.Part.TheVariants.{Alternative as Alternative'}
 use Rattle.packed_reader.specs.Readings.{Reading, read, refused, next, in_part, plain, Taken, taken}
 use Rattle.packed_reader.specs.Structures.{ReadsValue, mark_from, presences_from, members_from, open_from, rest_from, in_pieces, pieces_from, no_row, with_members, members_in, row_of}
 use Rattle.packed_reader.specs.Lists.{list_from}
-use Rattle.packed_reader.specs.Values.{Chosen, in_root, added, alternative_of, chosen_value, elements_value}
+use Rattle.packed_reader.specs.Values.{Chosen, in_root, added, alternative_of, chosen_value, elements_value, leaf_taken}
 use Rattle.packed_reader.specs.Steps.{next_members, additions_in, structure_by, call_from, size_in, steps_from, value_by}
 use Rattle.packed_reader.specs.proving.Running.{past, run_value, run_presences, run_members, run_rest, as_fields, run_structure, no_elements, run_list, as_list, run_chosen, run_fields, run_each, run_steps}
 use Rattle.packed_reader.proofs.RunningState.{plus_none, past_by, past_is, same_read, Always, after, onto, nothing_asked, with_others, opened}
@@ -101,8 +102,8 @@ module _ (s : List Resolved) (l : ℕ) (value : ReadsValue) where
         by (read w r) = refl
         by (refused e r) = refl
 
-    leaf_same : (k n : ℕ) (b : Bits) → next (plain (leaf_from (kind_at s t) b)) (λ v r. read (taken v k n) r) ≡ past_by (λ x. x) k (next (plain (leaf_from (kind_at s t) b)) (λ v r. read (taken v 0 n) r))
-    leaf_same k n b = after (λ x. x) k (plain (leaf_from (kind_at s t) b)) (λ v r. read (taken v 0 n) r) (λ v r. read (taken v k n) r) (λ v r. same_read n r refl (plus_none k))
+    leaf_same : (k n : ℕ) (b : Bits) → next (plain (leaf_within n (kind_at s t) b)) (λ v r. read (taken v k (n - characters v)) r) ≡ past_by (λ x. x) k (next (plain (leaf_within n (kind_at s t) b)) (λ v r. read (leaf_taken n v) r))
+    leaf_same k n b = after (λ x. x) k (plain (leaf_within n (kind_at s t) b)) (λ v r. read (leaf_taken n v) r) (λ v r. read (taken v k (n - characters v)) r) (λ v r. same_read (n - characters v) r refl (plus_none k))
 
     -- any steps that fit the type
     pub steps_same : (ss : List PackedStep) (k n : ℕ) (b : Bits) → AllByRecursion (StepFits (components (kind_at s t))) ss → run_steps s l (run_of value) t ss k n b ≡ past_by (λ x. x) k (steps_from s l value t ss n b)

@@ -16,11 +16,11 @@ use Rattle.packed_code.specs.Routines.{id_of, placed_from, field_at, root_steps,
 use Rattle.packed_code.specs.Meaning.{next_fields}
 use Rattle.decode_faults.specs.declared.refusal.Refusal.TheVariants as why
 use Rattle.packed_readings.specs.Outcome.{onward, good, bad, judging, bit_from, field_from, small_from}
-use Rattle.packed_readings.specs.Leaves.{leaf_from}
+use Rattle.packed_readings.specs.Leaves.{leaf_within}
 use Rattle.packed_reader.specs.Readings.{read, stop, next, plain, taken}
 use Rattle.packed_reader.specs.Structures.{ReadsValue, pieces_from, row_of, members_in}
 use Rattle.packed_reader.specs.Lists.{list_from}
-use Rattle.packed_reader.specs.Values.{Chosen, in_root, added, ranked, root_choice, added_choice, root_chosen, chosen_from, chosen_value, elements_value, structure_from, kind_from, value_from}
+use Rattle.packed_reader.specs.Values.{Chosen, in_root, added, ranked, root_choice, added_choice, root_chosen, chosen_from, chosen_value, elements_value, leaf_taken, structure_from, kind_from, value_from}
 use Rattle.packed_reader.specs.Steps.{no_component, member_at, next_members, additions_in, structure_by, ranked_call, added_call, or_refused, root_call, call_from, size_in, steps_from, value_by}
 use Rattle.packed_reader.proofs.Within.{kind_is}
 use Rattle.packed_reader.proofs.Places.{ordered, root_part, more_part, flat_additions}
@@ -225,15 +225,15 @@ call_back s (a ∷ root) e more b some =
 
 -- ---- all kinds
 
-number_reads : (s : List Resolved) (l : ℕ) (value : ReadsValue) (t : TypeNumber) (e : Bool) (least greatest : Option ℤ) (n : ℕ) (b : Bits) → steps_from s l value t (integer_step e least greatest ∷ []) n b ≡ next (plain (leaf_from (kind_at s t) b)) (λ v r. read (taken v 0 n) r)
+number_reads : (s : List Resolved) (l : ℕ) (value : ReadsValue) (t : TypeNumber) (e : Bool) (least greatest : Option ℤ) (n : ℕ) (b : Bits) → steps_from s l value t (integer_step e least greatest ∷ []) n b ≡ next (plain (leaf_within n (kind_at s t) b)) (λ v r. read (leaf_taken n v) r)
 number_reads s l value t true least greatest n b = refl
 number_reads s l value t false None greatest n b = refl
 number_reads s l value t false (Some x) None n b = refl
 number_reads s l value t false (Some x) (Some y) n b = refl
 
 module _ (s : List Resolved) (l : ℕ) (value : ReadsValue) (t : TypeNumber) where
-  leaf_at : (k : Kind) (n : ℕ) (b : Bits) → kind_at s t ≡ k → next (plain (leaf_from (kind_at s t) b)) (λ v r. read (taken v 0 n) r) ≡ next (plain (leaf_from k b)) (λ v r. read (taken v 0 n) r)
-  leaf_at k n b e = ap (λ q. next (plain (leaf_from q b)) (λ v r. read (taken v 0 n) r)) e
+  leaf_at : (k : Kind) (n : ℕ) (b : Bits) → kind_at s t ≡ k → next (plain (leaf_within n (kind_at s t) b)) (λ v r. read (leaf_taken n v) r) ≡ next (plain (leaf_within n k b)) (λ v r. read (leaf_taken n v) r)
+  leaf_at k n b e = ap (λ q. next (plain (leaf_within n q b)) (λ v r. read (leaf_taken n v) r)) e
 
   routine_reads : (k : Kind) (n : ℕ) (b : Bits) → kind_at s t ≡ k → IsSound s k → steps_from s l value t (routine_of s k) n b ≡ kind_from s l value k n b
   unfolding routine_of

@@ -9,11 +9,10 @@ use Rattle.asn_base.specs.Types.{Resolved}
 use Rattle.packed_code.specs.Routines.{routine_at}
 use Rattle.packed_encodings.specs.Lengths.{Bits}
 use Rattle.decode_faults.specs.declared.refusal.Refusal.TheVariants as why
-use Rattle.packed_readings.specs.Counts.{octets_from}
 use Rattle.packed_readings.specs.Outcome.{found}
 use Rattle.packed_reader.specs.Readings.{Reading, read, refused, stop, next, plain, Taken, taken, IsExact}
 use Rattle.packed_reader.specs.Steps.{steps_from, value_by}
-use Rattle.packed_reader.specs.Structures.{is_filling, filled_from, before_rest, open_from}
+use Rattle.packed_reader.specs.Structures.{is_filling, filled_from, before_rest, contents_from, open_from}
 use Rattle.packed_reader.specs.Values.{IsValueRead, value_from}
 use Rattle.packed_reader.specs.proving.Code.{HasRoom, IsBare, IsGot, IsStop, IsStopAt, Went}
 use Rattle.packed_reader.specs.declared.reader.Progress.{Progress}
@@ -64,26 +63,26 @@ module _ {X : Type 0} (f : Bits → Reading X) where
   abbrev Inside : List ℕ → Bits → Reading X
   Inside o r = before_rest (nat_lt (length o) 16384) (filled_from f (octet_bits o)) r
 
-  open_is : (b r : Bits) (o : List ℕ) → octets_from b ≡ found o r → open_from f b ≡ Inside o r
+  open_is : (b r : Bits) (o : List ℕ) → contents_from b ≡ found o r → open_from f b ≡ Inside o r
   open_is b r o e = ap (λ q. next (plain q) Inside) e
 
-  pub open_good : (b r z : Bits) (o : List ℕ) (v : X) → octets_from b ≡ found o r → f (octet_bits o) ≡ read v z → is_filling (length (octet_bits o) - length z) z ≡ true → open_from f b ≡ read v r
+  pub open_good : (b r z : Bits) (o : List ℕ) (v : X) → contents_from b ≡ found o r → f (octet_bits o) ≡ read v z → is_filling (length (octet_bits o) - length z) z ≡ true → open_from f b ≡ read v r
   open_good b r z o v e g t = open_is b r o e ∙ ap (λ q. before_rest (nat_lt (length o) 16384) q r) (filled_good (octet_bits o) z v g t)
 
-  pub open_none : (b r : Bits) (x : Stop) → IsBare (octets_from b) r x → IsStop (open_from f b) x r
-  open_none b r x h = stop_next (plain (octets_from b)) Inside x r (stop_bare (octets_from b) x r h)
+  pub open_none : (b r : Bits) (x : Stop) → IsBare (contents_from b) r x → IsStop (open_from f b) x r
+  open_none b r x h = stop_next (plain (contents_from b)) Inside x r (stop_bare (contents_from b) x r h)
 
   -- a fault within the octets is at the place p
   before_stop : (w : Bool) (g : Reading X) (r z p : Bits) (x : Stop) → IsStop g x z → p ≡ (if w then z ++ r else r) → IsStop (before_rest w g r) x p
   before_stop w g r z p Memory h e = tt
   before_stop w g r z p (Refused d ps) h e = ap (λ q. before_rest w q r) h ∙ ap (λ q. refused (record { why = d; path = ps.items }) q) (sym e)
 
-  pub open_stop : (b r z p : Bits) (o : List ℕ) (n : ℕ) (x : Stop) → octets_from b ≡ found o r → length o ≡ n → IsStop (f (octet_bits o)) x z → p ≡ (if nat_lt n 16384 then z ++ r else r) → IsStop (open_from f b) x p
+  pub open_stop : (b r z p : Bits) (o : List ℕ) (n : ℕ) (x : Stop) → contents_from b ≡ found o r → length o ≡ n → IsStop (f (octet_bits o)) x z → p ≡ (if nat_lt n 16384 then z ++ r else r) → IsStop (open_from f b) x p
   open_stop b r z p o n x e l h d =
       stop_as (open_from f b) (Inside o r) x p (open_is b r o e)
       (before_stop (nat_lt (length o) 16384) (filled_from f (octet_bits o)) r z p x (filled_stop (octet_bits o) z x h) (d ∙ ap (λ m. if nat_lt m 16384 then z ++ r else r) (sym l)))
 
-  pub open_unfilled : (b r z p : Bits) (o : List ℕ) (n : ℕ) (v : X) (x : Stop) → octets_from b ≡ found o r → length o ≡ n → f (octet_bits o) ≡ read v z → is_filling (length (octet_bits o) - length z) z ≡ false → IsStopAt why.Padding x → p ≡ (if nat_lt n 16384 then z ++ r else r) → IsStop (open_from f b) x p
+  pub open_unfilled : (b r z p : Bits) (o : List ℕ) (n : ℕ) (v : X) (x : Stop) → contents_from b ≡ found o r → length o ≡ n → f (octet_bits o) ≡ read v z → is_filling (length (octet_bits o) - length z) z ≡ false → IsStopAt why.Padding x → p ≡ (if nat_lt n 16384 then z ++ r else r) → IsStop (open_from f b) x p
   open_unfilled b r z p o n v x e l g t a d =
       stop_as (open_from f b) (Inside o r) x p (open_is b r o e)
       (before_stop (nat_lt (length o) 16384) (filled_from f (octet_bits o)) r z p x (stop_at (filled_from f (octet_bits o)) why.Padding x z (filled_bad (octet_bits o) z v g t) a) (d ∙ ap (λ m. if nat_lt m 16384 then z ++ r else r) (sym l)))

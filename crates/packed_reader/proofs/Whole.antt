@@ -8,6 +8,7 @@ use Rattle.bits.specs.Words.{word, octet_bits}
 use Rattle.asn_base.specs.Abstract.{AbstractValue}
 use Rattle.asn_base.specs.Types.{TypeNumber, Resolved}
 use Rattle.asn_base.specs.Typed.{IsValue, nodes}
+use Rattle.packed_encodings.specs.Weights.{weight}
 use Rattle.encodings.specs.Header.{Octets}
 use Rattle.packed_encodings.specs.Lengths.{Bits, CountedOctets}
 use Rattle.packed_encodings.specs.Padding.{Padded, padded_none, padded}
@@ -84,9 +85,10 @@ module _ (s : List Resolved) (t : TypeNumber)
   many_too_long o l = long o l
 
   -- a message that is read
-  value_of : (w : Taken AbstractValue) (o : Octets) → Held (IsValueRead s 64 t most) o w → Reads s t w.it w.skipped o
-  value_of w o h = record {
-    value = record { shaped = h.is.value; few_nodes = (let c = h.is.counted in omega arith) };
+  value_of : ((v : AbstractValue) → nodes v ≤ weight v) → (w : Taken AbstractValue) (o : Octets) → Held (IsValueRead s 64 t most) o w → Reads s t w.it w.skipped o
+  value_of few w o h = record {
+    value = record { shaped = h.is.value; few_nodes = (let c = h.is.counted in let f = few w.it in let e : nodes w.it ≤ most = omega (arith, c, f) in e) };
+    light = (let c = h.is.counted in let e : weight w.it ≤ most = omega (arith, c) in e);
     bits = h.inside;
     says_it = h.is.says_it;
     filled = h.is_padded;
@@ -99,16 +101,16 @@ module _ (s : List Resolved) (t : TypeNumber)
   not_too_long : (w : AbstractValue) (k : ℕ) → answers w k ≡ too_long → ⊥
   not_too_long w k e = absurd (cc)
 
-  pub answer_reads : (o : Octets) (w : AbstractValue) (k : ℕ) → AllBelowBase 256 o → message_from s t o ≡ answers w k → Reads s t w k o × (length o ≤ most)
-  answer_reads [] w k h e = absurd (cc)
-  answer_reads (x ∷ o) w k h e = by (few_or_many (x ∷ o))
+  pub answer_reads : ((v : AbstractValue) → nodes v ≤ weight v) → (o : Octets) (w : AbstractValue) (k : ℕ) → AllBelowBase 256 o → message_from s t o ≡ answers w k → Reads s t w k o × (length o ≤ most)
+  answer_reads few [] w k h e = absurd (cc)
+  answer_reads few (x ∷ o) w k h e = by (few_or_many (x ∷ o))
     where
       by : (length (x ∷ o) ≤ most) ⊎ (most < length (x ∷ o)) → Reads s t w k (x ∷ o) × (length (x ∷ o) ≤ most)
       by (inr l) = absurd (not_too_long w k (sym e ∙ long (x ∷ o) l))
       by (inl l) =
           let a = answered (octet_bits (x ∷ o)) (filled_from from (octet_bits (x ∷ o))) w k (sym (not_long x o l) ∙ e) in
           let f = (filled_sound front V (x ∷ o) a.0 a.1 h a.2).0 in
-          (subst (λ j. Reads s t w j (x ∷ o)) a.4 (subst (λ v. Reads s t v a.0.skipped (x ∷ o)) a.3 (value_of a.0 (x ∷ o) f)), l)
+          (subst (λ j. Reads s t w j (x ∷ o)) a.4 (subst (λ v. Reads s t v a.0.skipped (x ∷ o)) a.3 (value_of few a.0 (x ∷ o) f)), l)
 
   some_octet : {x : Bits} → Padded x [] → ⊥
   some_octet (padded {b = x} n some few below e) = let l : 0 ≡ length (x ++ replicate n false) = ap length e in let m = length-append x (replicate n false) in absurd (omega arith)
@@ -116,8 +118,8 @@ module _ (s : List Resolved) (t : TypeNumber)
   pub reads_answer : (o : Octets) (w : AbstractValue) (k : ℕ) → Reads s t w k o → length o ≤ most → message_from s t o ≡ answers w k
   reads_answer [] w k a l = absurd (some_octet a.filled)
   reads_answer (x ∷ o) w k a l =
-      let few = a.value.few_nodes in
-      let v = taken w k (most - nodes w) in
+      let light = a.light in
+      let v = taken w k (most - weight w) in
       let h : Held (IsValueRead s 64 t most) (x ∷ o) v = record { inside = a.bits; is = record { says_it = a.says_it; value = a.value.shaped; counted = omega arith }; is_padded = a.filled } in
       not_long x o l ∙ ap (answer_of (octet_bits (x ∷ o))) (filled_whole front V (x ∷ o) v h)
 
@@ -129,15 +131,15 @@ module _ (s : List Resolved) (t : TypeNumber)
   filled_refused b r d e = ap (λ q. next q (λ v z. if is_filling (length b - length z) z then read v [] else stop why.Padding z)) e
 
   -- a whole message is read at its front
-  whole_read : (o : Octets) (w : AbstractValue) (k : ℕ) → Reads s t w k o → (r : Bits) × (from (octet_bits o) ≡ read (taken w k (most - nodes w)) r)
+  whole_read : (o : Octets) (w : AbstractValue) (k : ℕ) → Reads s t w k o → (r : Bits) × (from (octet_bits o) ≡ read (taken w k (most - weight w)) r)
   whole_read o w k a = by a.filled
     where
-      by : Padded a.bits o → (r : Bits) × (from (octet_bits o) ≡ read (taken w k (most - nodes w)) r)
+      by : Padded a.bits o → (r : Bits) × (from (octet_bits o) ≡ read (taken w k (most - weight w)) r)
       by f =
-          let few = a.value.few_nodes in
-          let is : IsValueRead s 64 t most (taken w k (most - nodes w)) a.bits = record { says_it = a.says_it; value = a.value.shaped; counted = omega arith } in
+          let light = a.light in
+          let is : IsValueRead s 64 t most (taken w k (most - weight w)) a.bits = record { says_it = a.says_it; value = a.value.shaped; counted = omega arith } in
           let p = behind f in
-          (p.0, ap from p.1 ∙ V.whole (taken w k (most - nodes w)) a.bits p.0 is)
+          (p.0, ap from p.1 ∙ V.whole (taken w k (most - weight w)) a.bits p.0 is)
         where
           behind : {x : Bits} {o : Octets} → Padded x o → (z : Bits) × (octet_bits o ≡ x ++ z)
           behind padded_none = (octet_bits (0 ∷ []), refl)
@@ -188,18 +190,17 @@ module _ (s : List Resolved) (t : TypeNumber)
                 absurd (not_both (sym q.1 ∙ ap from all ∙ V.firm (octet_bits (x ∷ o)) r (octet_bits m) d e n))
 
   -- an encoding before bits that don't fill its last octet
-  pub not_filled : (o : Octets) (w : AbstractValue) (k : ℕ) (x p : Bits) → AllBelowBase 256 o → 1 ≤ length o → length o ≤ most → Says s lenient t w k x → IsValue s t w → octet_bits o ≡ x ++ p → (Padded x o → ⊥) → message_from s t o ≡ faulty (record { why = why.Padding; path = [] }) (length x)
-  not_filled [] w k x p h some l a v e n = absurd (omega arith)
-  not_filled (y ∷ o) w k x p h some l a v e n =
-      let few = v.few_nodes in
-      let is : IsValueRead s 64 t most (taken w k (most - nodes w)) x = record { says_it = a; value = v.shaped; counted = omega arith } in
-      let g : from (octet_bits (y ∷ o)) ≡ read (taken w k (most - nodes w)) p = ap from e ∙ V.whole (taken w k (most - nodes w)) x p is in
+  pub not_filled : (o : Octets) (w : AbstractValue) (k : ℕ) (x p : Bits) → AllBelowBase 256 o → 1 ≤ length o → length o ≤ most → Says s lenient t w k x → IsValue s t w → weight w ≤ most → octet_bits o ≡ x ++ p → (Padded x o → ⊥) → message_from s t o ≡ faulty (record { why = why.Padding; path = [] }) (length x)
+  not_filled [] w k x p h some l a v light e n = absurd (omega arith)
+  not_filled (y ∷ o) w k x p h some l a v light e n =
+      let is : IsValueRead s 64 t most (taken w k (most - weight w)) x = record { says_it = a; value = v.shaped; counted = omega arith } in
+      let g : from (octet_bits (y ∷ o)) ≡ read (taken w k (most - weight w)) p = ap from e ∙ V.whole (taken w k (most - weight w)) x p is in
       let u : length (octet_bits (y ∷ o)) - length p ≡ length x = ap (λ q. length q - length p) e ∙ used_length x p in
       let f : is_filling (length x) p ≡ false = by (is_filling (length x) p) refl in
       not_long y o l
       ∙ ap (λ q. answer_of (octet_bits (y ∷ o)) (next q (λ v z. if is_filling (length (octet_bits (y ∷ o)) - length z) z then read v [] else stop why.Padding z))) g
-      ∙ ap (λ q. answer_of (octet_bits (y ∷ o)) (if is_filling q p then read (taken w k (most - nodes w)) [] else stop why.Padding p)) u
-      ∙ ap (λ q. answer_of (octet_bits (y ∷ o)) (if q then read (taken w k (most - nodes w)) [] else stop why.Padding p)) f
+      ∙ ap (λ q. answer_of (octet_bits (y ∷ o)) (if is_filling q p then read (taken w k (most - weight w)) [] else stop why.Padding p)) u
+      ∙ ap (λ q. answer_of (octet_bits (y ∷ o)) (if q then read (taken w k (most - weight w)) [] else stop why.Padding p)) f
       ∙ ap (faulty (record { why = why.Padding; path = [] })) u
     where
       by : (b : Bool) → is_filling (length x) p ≡ b → is_filling (length x) p ≡ false

@@ -16,11 +16,11 @@ use Rattle.packed_code.specs.Meaning.{next_fields}
 use Rattle.decode_faults.specs.declared.refusal.Refusal.{Refusal}
 use Rattle.decode_faults.specs.declared.refusal.Refusal.TheVariants as why
 use Rattle.packed_readings.specs.Outcome.{Outcome, onward, Judged, good, bad, judging, bit_from, field_from, small_from}
-use Rattle.packed_readings.specs.Leaves.{leaf_from}
+use Rattle.packed_readings.specs.Leaves.{leaf_within}
 use Rattle.packed_reader.specs.Readings.{Reading, read, stop, next, plain, Taken, taken}
 use Rattle.packed_reader.specs.Structures.{ReadsValue, pieces_from, row_of}
 use Rattle.packed_reader.specs.Lists.{list_from}
-use Rattle.packed_reader.specs.Values.{Chosen, in_root, added, chosen_value, elements_value}
+use Rattle.packed_reader.specs.Values.{Chosen, in_root, added, chosen_value, elements_value, leaf_taken}
 
 -- ---- components
 
@@ -104,7 +104,8 @@ steps_from s l value t (steps.EachSorted u ∷ ss) n b =
 steps_from s l value t (steps.Pick k ∷ ss) n b =
     next (plain (call_from (take k ss) b)) (λ c r. chosen_value value c n r)
 steps_from s l value t [] n b = stop why.Outside b
-steps_from s l value t (st ∷ ss) n b = next (plain (leaf_from (kind_at s t) b)) (λ v r. read (taken v 0 n) r)
+steps_from s l value t (st ∷ ss) n b =
+    next (plain (leaf_within n (kind_at s t) b)) (λ v r. read (leaf_taken n v) r)
 
 -- a value of type t by the routines of all types
 abbrev pub value_by : List Resolved → ℕ → TypeNumber → ℕ → Bits → Reading (Taken AbstractValue)

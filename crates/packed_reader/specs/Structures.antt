@@ -4,13 +4,14 @@ use Rattle.std.specs.Prelude.{List, [], ◌∷◌, ◌++◌, length, map, drop}
 use Rattle.bits.specs.Words.{octet_bits}
 use Rattle.asn_base.specs.Abstract.{AbstractValue, Row, end, absent, present}
 use Rattle.asn_base.specs.Types.{TypeNumber, Component, Resolved}
+use Rattle.encodings.specs.Header.{Octets}
 use Rattle.packed_encodings.specs.Lengths.{Bits}
 use Rattle.packed_encodings.specs.Orders.{Member, missing, standing, component, has_bit, Addition, alone, bracketed}
 use Rattle.packed_encodings.specs.Packing.{any_set}
 use Rattle.packed_encodings.specs.Computed.{is_default}
 use Rattle.packed_code.specs.Routines.{place_in}
 use Rattle.decode_faults.specs.declared.refusal.Refusal.TheVariants as why
-use Rattle.packed_readings.specs.Outcome.{bit_from, field_from}
+use Rattle.packed_readings.specs.Outcome.{Outcome, found, stops, onward, bit_from, field_from}
 use Rattle.packed_readings.specs.Counts.{several_bits, octets_from}
 use Rattle.packed_reader.specs.declared.part.Part.{Part}
 use Rattle.packed_reader.specs.declared.part.Part.TheVariants.{Component as Component'}
@@ -38,10 +39,20 @@ abbrev pub before_rest : {X : Type 0} → (whole : Bool) → Reading X → Bits 
 before_rest whole (read v z) r = read v r
 before_rest whole (refused e z) r = refused e (if whole then z ++ r else r)
 
+-- The octets of an open type, of which there is at least one. With none, the place of the fault is where they would
+-- be (11.2.1).
+abbrev pub at_least_one : Octets → Bits → Outcome Octets
+at_least_one [] r = stops why.Truncated r
+at_least_one (x ∷ o) r = found (x ∷ o) r
+
+-- the octets of an open type, after their number (11.2)
+abbrev pub contents_from : Bits → Outcome Octets
+contents_from b = onward (octets_from b) at_least_one
+
 -- an open type: one encoding, filled to octets, after the number of these (11.2)
 abbrev pub open_from : {X : Type 0} → (Bits → Reading X) → Bits → Reading X
 open_from f b =
-    next (plain (octets_from b))
+    next (plain (contents_from b))
     (λ o r. before_rest (nat_lt (length o) 16384) (filled_from f (octet_bits o)) r)
 
 -- ---- components
@@ -145,7 +156,7 @@ abbrev pub unknown_from : Bits → Bits → Reading ℕ
 unknown_from [] b = read 0 b
 unknown_from (false ∷ u) b = unknown_from u b
 unknown_from (true ∷ u) b =
-    next (plain (octets_from b)) (λ o r. next (unknown_from u r) (λ k z. read (suc k) z))
+    next (plain (contents_from b)) (λ o r. next (unknown_from u r) (λ k z. read (suc k) z))
 
 -- the number of a small form: one bit 0, and the six bits of the number (11.6.1)
 abbrev pub count_from : Bits → Reading ℕ

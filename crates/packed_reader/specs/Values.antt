@@ -6,17 +6,18 @@ use Rattle.bits.specs.Words.{octet_bits}
 use Rattle.asn_base.specs.Abstract.{AbstractValue, fields, list, alternative}
 use Rattle.asn_base.specs.Types.{Alternative, Kind, a_sequence, a_set, a_sequence_of, a_set_of, a_choice, TypeNumber}
 use Rattle.asn_base.specs.Types.{Component, Resolved}
-use Rattle.asn_base.specs.Typed.{ValueIn, nodes}
+use Rattle.asn_base.specs.Typed.{ValueIn}
 use Rattle.encodings.specs.Header.{Octets}
 use Rattle.packed_encodings.specs.Lengths.{Bits}
 use Rattle.packed_encodings.specs.Leaves.{place_width}
 use Rattle.packed_encodings.specs.Orders.{rank, Member, root_of, behind_marker, canonical, additions}
 use Rattle.packed_encodings.specs.Packing.{lenient, Says}
 use Rattle.packed_encodings.specs.Computed.{type_of}
+use Rattle.packed_encodings.specs.Weights.{characters, weight}
 use Rattle.packed_code.specs.Routines.{placed_from}
 use Rattle.decode_faults.specs.declared.refusal.Refusal.TheVariants as why
 use Rattle.packed_readings.specs.Outcome.{Outcome, onward, Judged, good, bad, judging, bit_from, field_from, small_from}
-use Rattle.packed_readings.specs.Leaves.{leaf_from}
+use Rattle.packed_readings.specs.Leaves.{leaf_within}
 use Rattle.packed_reader.specs.declared.part.Part.TheVariants.{Alternative as Alternative'}
 use Rattle.packed_reader.specs.Readings.{Fault, Reading, read, refused, stop, next, in_part, plain, Taken, taken}
 use Rattle.packed_reader.specs.Structures.{ReadsValue, open_from, filled_from, pieces_from, row_of}
@@ -79,6 +80,10 @@ structure_from s l value e cs root n b =
 abbrev pub elements_value : Taken (List Element') → Taken AbstractValue
 elements_value t = taken (list (row_of_elements t.it)) t.skipped t.left
 
+-- a value that holds no others; each octet of a character string counts like a value that begins
+abbrev pub leaf_taken : ℕ → AbstractValue → Taken AbstractValue
+leaf_taken n v = taken v 0 (n - characters v)
+
 -- a value of this kind, in which the members have at most l levels
 abbrev pub kind_from : List Resolved → ℕ → ReadsValue → Kind → ℕ → Bits → Reading (Taken AbstractValue)
 kind_from s l value (a_sequence e cs) n b = structure_from s l value e cs (root_of (placed_from 0 cs)) n b
@@ -89,9 +94,10 @@ kind_from s l value (a_set_of c u) n b =
     next (list_from (value u) true c n b) (λ t r. read (elements_value t) r)
 kind_from s l value (a_choice root e more) n b =
     next (plain (chosen_from s root e more b)) (λ c r. chosen_value value c n r)
-kind_from s l value k n b = next (plain (leaf_from k b)) (λ v r. read (taken v 0 n) r)
+kind_from s l value k n b = next (plain (leaf_within n k b)) (λ v r. read (leaf_taken n v) r)
 
--- A value of type t with at most l levels, if n values may still begin, this one included.
+-- A value of type t with at most l levels, if n values may still begin, this one included. Each octet of a character
+-- string counts like a value (own rule).
 abbrev pub value_from : List Resolved → ℕ → TypeNumber → ℕ → Bits → Reading (Taken AbstractValue)
 value_from s zero t n b = stop why.TooDeep b
 value_from s (suc l) t zero b = stop why.NodesLimit b
@@ -103,7 +109,7 @@ value_from s (suc l) t (suc n) b =
 pub record IsValueRead (s : List Resolved) (l t n : ℕ) (w : Taken AbstractValue) (x : Bits) : Type 0 where
   pub says_it : Says s lenient t w.it w.skipped x
   pub value : ValueIn s l t w.it
-  pub counted : n ≡ nodes w.it + w.left
+  pub counted : n ≡ weight w.it + w.left
 
 -- ---- messages
 

@@ -8,6 +8,7 @@ ghost use Rattle.asn_base.specs.Types.{Resolved};
 ghost use Rattle.bits.specs.Words.{octet_bits};
 ghost use Rattle.packed_encodings.specs.Packing.{Packed, Reads, Says, lenient};
 ghost use Rattle.packed_encodings.specs.Padding.{Padded};
+ghost use Rattle.packed_encodings.specs.Weights.{weight};
 ghost use Rattle.packed_reader.specs.Readings.{Fault, IsExact};
 ghost use Rattle.packed_reader.specs.Steps.{value_by};
 ghost use Rattle.packed_reader.specs.Values.{IsValueRead, answers, faulty, message_from, too_long, value_from};
@@ -16,11 +17,12 @@ ghost use Rattle.std.specs.Int.Digits.{AllBelowBase};
 ghost use Rattle.std.specs.Prelude.{◌≡◌, ◌↔◌, ◌*◌, ◌<◌, ◌≤◌, ℕ, Bool, List, [], ◌++◌, length};
 
 use packed_encodings::{
-    computing_laws, message_laws, part_laws, place_laws, reading_laws, writing_laws,
+    computing_laws, message_laws, part_laws, place_laws, reading_laws, weight_laws, writing_laws,
 };
 use packed_readings::law::{count_laws, field_laws, leaf_laws, octets_laws};
 
-/// A value of any type is decoded as bits encode it, within the limits on levels and on values. A decoded value is at
+/// A value of any type is decoded as bits encode it, within the limits on levels and on values. Each octet of a
+/// character string counts like a value. A decoded value is at
 /// the front. A value at the front is decoded, whatever follows it. A fault other than `Truncated` stays, whatever
 /// follows.
 pub fn value_laws()
@@ -75,6 +77,7 @@ pub fn message_laws_of_reading()
         → length o ≤ 16777216
         → Says s lenient t w k x
         → IsValue s t w
+        → weight w ≤ 16777216
         → octet_bits o ≡ x ++ p
         → (Padded x o → ⊥)
         → message_from s t o ≡ faulty (record { why = Padding; path = [] }) (length x) }
@@ -82,6 +85,7 @@ pub fn message_laws_of_reading()
     ensures written { (s : List Resolved) (t : ℕ) (v : AbstractValue) (x : List Bool) (o : List ℕ)
         → IsSchema s
         → IsValue s t v
+        → weight v ≤ 16777216
         → Packed s t v x
         → Padded x o
         → length o ≤ 16777216
@@ -103,4 +107,5 @@ pub fn message_laws_of_reading()
     message_laws();
     writing_laws();
     value_laws();
+    weight_laws();
 }

@@ -5,10 +5,9 @@ ghost use Rattle.bits.specs.Words.{octet_bits};
 ghost use Rattle.packed_encodings.specs.Lengths.{Bits as Bits'};
 ghost use Rattle.packed_reader.specs.Readings.{read};
 ghost use Rattle.packed_reader.specs.Structures as structures;
-ghost use Rattle.packed_reader.specs.Structures.{is_filling};
+ghost use Rattle.packed_reader.specs.Structures.{contents_from, is_filling};
 ghost use Rattle.packed_reader.specs.proving.Code.{HasRoom, IsBare, IsStop};
 ghost use Rattle.packed_reader.specs.proving.Running.{run_unknown};
-ghost use Rattle.packed_readings.specs.Counts.{octets_from};
 ghost use Rattle.packed_readings.specs.Outcome.{found};
 ghost use Rattle.std.specs.Prelude.{◌≡◌, ◌++◌, ◌+◌, ◌*◌, ◌≤◌, ◌<◌, ◌^◌, nat_lt};
 ghost use Rattle.std.specs.Prelude.{if◌then◌else◌, IfErr, IfOk, List, OnOk, length, ℕ};
@@ -16,6 +15,7 @@ ghost use Rattle.std.specs.Prelude.{if◌then◌else◌, IfErr, IfOk, List, OnOk
 use crate::reader::Progress;
 use crate::stop::Stop;
 use bits::cursor::Bits;
+use decode_faults::Refusal;
 use packed_readings::law::octets_laws;
 use packed_readings::{read_bit, read_octets};
 use std::alloc::Global;
@@ -26,7 +26,9 @@ pub(crate) fn all_clear(bits: Bits<'_>) -> bool
 {
     let mut rest = bits;
     while rest.len() > 0 {
-        if rest.take(1) == 1 {
+        let n = rest.len().min(64);
+        let number = rest.take(n);
+        if number != 0 {
             return false;
         }
     }
@@ -45,16 +47,21 @@ pub(crate) fn fills(used: usize, bits: Bits<'_>) -> bool
     fits && all_clear(bits)
 }
 
-/// Takes the octets of an open type.
+/// Takes the octets of an open type, after their number. `Truncated`: there are none (11.2.1).
 pub(crate) fn take_octets(alloc: Global, bits: &mut Bits<'_>) -> Result<Vec<u8>, Stop>
-    ensures ok { IfOk result (λ o. octets_from (bits_left bits.old) ≡ found o.items (bits_left bits.new)) }
-    ensures err { IfErr result (IsBare (octets_from (bits_left bits.old)) (bits_left bits.new)) }
+    ensures ok { IfOk result (λ o. contents_from (bits_left bits.old) ≡ found o.items (bits_left bits.new)) }
+    ensures err { IfErr result (IsBare (contents_from (bits_left bits.old)) (bits_left bits.new)) }
     ensures shorter { IfOk result (λ o.
         8 * length o.items + length (bits_left bits.new) < length (bits_left bits.old)) }
 {
     octets_laws();
     match read_octets(alloc, bits) {
-        Ok(octets) => Ok(octets),
+        Ok(octets) => {
+            if octets.is_empty() {
+                return Err(Stop::at(alloc, Refusal::Truncated));
+            }
+            Ok(octets)
+        }
         Err(fault) => Err(Stop::of(alloc, fault)),
     }
 }
@@ -69,7 +76,7 @@ pub(crate) fn fault_place<'a>(
 ) -> Bits<'a>
     requires { left + length (bits_left after) ≤ length (bits_left start) }
     ensures { (o : List ℕ) (y z : Bits')
-        → octets_from (bits_left start.entry) ≡ found o (bits_left after.entry)
+        → contents_from (bits_left start.entry) ≡ found o (bits_left after.entry)
         → length o ≡ octets
         → octet_bits o ≡ y ++ z
         → length z ≡ left

@@ -28,7 +28,7 @@ use asn_base::value::Value;
 use bits::cursor::Bits;
 use decode_faults::Refusal;
 use packed_readings::law::leaf_laws;
-use packed_readings::read_leaf;
+use packed_readings::{characters, read_leaf};
 use packed_writer::law::routines_fit;
 
 /// A value of the type. `TooDeep`: no level is left for it. `NodesLimit`: no value may begin any more.
@@ -108,27 +108,31 @@ fn read_steps(
     }
 }
 
-/// A value that holds no others.
+/// A value that holds no others. Each octet of a character string counts like a value. `NodesLimit`: it has more octets
+/// than values may still begin.
 fn read_contents(
     reader: Reader<'_>,
-    progress: &Progress,
+    progress: &mut Progress,
     bits: &mut Bits<'_>,
 ) -> Result<Value, Stop>
     requires there { reader.id.index < length reader.code.now }
     ensures ok { IfOk result (λ v. IsGot
         (run_leaf (kind_at reader.entry.code.now reader.entry.id.index)
-        progress.now.skipped progress.now.left (bits_left bits.old))
-        (abstract v) progress.now (bits_left bits.new)) }
+        progress.old.skipped progress.old.left (bits_left bits.old))
+        (abstract v) progress.new (bits_left bits.new)) }
     ensures err { IfErr result (λ e. IsStop
         (run_leaf (kind_at reader.entry.code.now reader.entry.id.index)
-        progress.now.skipped progress.now.left (bits_left bits.old))
+        progress.old.skipped progress.old.left (bits_left bits.old))
         e (bits_left bits.new)) }
-    ensures shorter { IfOk result (λ v. length (bits_left bits.new) ≤ length (bits_left bits.old)) }
+    ensures went { IfOk result (λ v. Went progress.old (bits_left bits.old) progress.new (bits_left bits.new)) }
 {
     leaf_laws();
     let core = reader.code.schema().core(reader.id);
-    match read_leaf(reader.alloc, core, bits) {
-        Ok(value) => Ok(value),
+    match read_leaf(reader.alloc, core, progress.left as usize, bits) {
+        Ok(value) => {
+            progress.left -= characters(&value) as u32;
+            Ok(value)
+        }
         Err(fault) => Err(Stop::of(reader.alloc, fault)),
     }
 }

@@ -16,4 +16,5 @@ mod Counted
 mod Judging
 mod Adding
 mod BitsRead
+mod Light
 mod Known

@@ -1,5 +1,5 @@
 -- Values of the kinds that hold no others, read from the start of bits (X.691, 12 to 14, 16 to 18, 24, 25 and 30).
-use Rattle.std.specs.Prelude.{ℕ, ◌+◌, ◌-◌, ◌*◌, ◌/◌, ◌%◌, ◌^◌, ◌==◌, nat_lt, ℤ, pos, negsuc, ◌+ℤ◌, ◌-ℤ◌}
+use Rattle.std.specs.Prelude.{ℕ, ◌+◌, ◌-◌, ◌*◌, ◌/◌, ◌%◌, ◌^◌, ◌==◌, ◌≤◌, nat_lt, ℤ, pos, negsuc, ◌+ℤ◌, ◌-ℤ◌}
 use Rattle.std.specs.Prelude.{nat_abs, Bool, true, false, not, ◌&&◌, ◌||◌, if◌then◌else◌, List, [], ◌∷◌, length, map}
 use Rattle.std.specs.Prelude.{Option, Some, None, option_map, slice_get, chars}
 use Rattle.std.specs.Str.{is_utf8}
@@ -14,6 +14,7 @@ use Rattle.encodings.specs.Header.{Octets}
 use Rattle.packed_encodings.specs.Lengths.{Bits, fewest_bits}
 use Rattle.packed_encodings.specs.Leaves.{place_width, Leaf}
 use Rattle.packed_encodings.specs.Computed.{is_in_root, codes_below}
+use Rattle.packed_encodings.specs.Weights.{characters}
 use Rattle.decode_faults.specs.declared.refusal.Refusal.{Refusal}
 use Rattle.decode_faults.specs.declared.refusal.Refusal.TheVariants as why
 use Rattle.packed_readings.specs.Outcome.{Outcome, found, stops, onward, Judged, good, bad, and_then, judging, bit_from}
@@ -193,3 +194,18 @@ leaf_from k b = stops why.Outside b
 pub record IsLeafOf (k : Kind) (w : AbstractValue) (b : Bits) : Type 0 where
   pub leaf : Leaf k w b
   pub fits : Fits k w
+
+-- ---- leaves within a limit
+
+-- a value, unless it is a character string of more than n octets (own rule)
+abbrev pub light_leaf : ℕ → AbstractValue → Judged AbstractValue
+light_leaf n v = if nat_lt n (characters v) then bad why.NodesLimit else good v
+
+-- a value of a kind that holds no others, of which a character string has at most n octets
+abbrev pub leaf_within : ℕ → Kind → Bits → Outcome AbstractValue
+leaf_within n k = judging (light_leaf n) (leaf_from k)
+
+-- the bits of a value of the kind, with at most n octets if it is a character string
+pub record IsLeafWithin (n : ℕ) (k : Kind) (w : AbstractValue) (b : Bits) : Type 0 where
+  pub is_leaf : IsLeafOf k w b
+  pub few : characters w ≤ n

@@ -6,7 +6,7 @@ ghost use Rattle.asn_base.specs.Types.{Constraint, Kind, Resolved};
 ghost use Rattle.packed_encodings.specs.Lengths.{Counted, CountedOctets, Sized};
 ghost use Rattle.decode_faults.specs.declared.refusal.Refusal.{Refusal};
 ghost use Rattle.packed_readings.specs.Counts.{InParts, InSize, IsCount, IsSizing, count_from, octets_from, size_from};
-ghost use Rattle.packed_readings.specs.Leaves.{IsLeafOf, leaf_from};
+ghost use Rattle.packed_readings.specs.Leaves.{IsLeafWithin, leaf_within};
 ghost use Rattle.packed_readings.specs.Outcome.{IsBit, IsField, IsReading, IsSmall, bit_from, field_from, small_from};
 ghost use Rattle.std.specs.Prelude.{ℕ, Bool, List, length, true};
 
@@ -38,7 +38,10 @@ pub fn octets_laws()
     ensures { IsReading CountedOctets octets_from }
 {}
 
-/// A value of a kind that holds no others is read exactly, if the kind's constraints allow it.
+/// A value of a kind that holds no others is read exactly, if the kind's constraints allow it, and if it has at most n
+/// octets where it is a character string.
 pub fn leaf_laws()
-    ensures { (s : List Resolved) (k : Kind) → IsSound s k → IsReading (IsLeafOf k) (leaf_from k) }
+    ensures { (s : List Resolved) (n : ℕ) (k : Kind)
+        → IsSound s k
+        → IsReading (IsLeafWithin n k) (leaf_within n k) }
 {}

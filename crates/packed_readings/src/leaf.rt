@@ -195,13 +195,17 @@ fn as_restricted(
 }
 
 /// Takes a value of a kind that holds no others (X.691, 12 to 14, 16 to 18, 24, 25 and 30). The kind must be one that a
-/// schema can have. Memory grows with what is read; only the characters of an alphabet of one take no bits.
+/// schema can have. Memory grows with what is read, and by characters that take no bits.
 ///
 /// The value is one that the kind's constraints allow. A refusal is the first fault, and the cursor is at its place.
 /// `Truncated`: the bits end before. `NotCanonical`, `Outside`, `UnknownEnumeration`, `IntegerLimit` and `OidLimit`
 /// come as the functions of each kind say. `Outside` comes also if the kind holds others. `Memory`: there is not enough
 /// memory; the cursor may have moved on.
-pub fn read_leaf(alloc: Global, core: &Core, bits: &mut Bits<'_>) -> Result<Value, PackedFault>
+pub(crate) fn read_any_leaf(
+    alloc: Global,
+    core: &Core,
+    bits: &mut Bits<'_>,
+) -> Result<Value, PackedFault>
     requires { (s : List Resolved) × IsSound s (kind_of core.now) }
     ensures ok { IfOk result
         (λ v. leaf_from (kind_of core.now) (bits_left bits.old) ≡ found (abstract v) (bits_left bits.new)) }

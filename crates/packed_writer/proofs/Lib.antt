@@ -10,3 +10,4 @@ mod Inside
 mod Rows
 mod Steps
 mod Messages
+mod Weighed

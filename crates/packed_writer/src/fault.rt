@@ -7,7 +7,8 @@ use std::alloc::AllocError;
 use thiserror::Error;
 
 /// Why a value was not encoded. `Memory`: an allocation failed. `NotOfType`: the value isn't one of the type.
-/// `TooLong`: its encoding has more than 16,777,216 octets.
+/// `TooLong`: its encoding has more than 16,777,216 octets, or its nodes and the octets of its character strings are
+/// together more than 16,777,216.
 #[derive(Clone, Copy, Debug, PartialEq, Eq, Error)]
 pub enum WriteFault {
     #[error("1 Memory")]

@@ -12,6 +12,7 @@ mod open;
 mod run;
 mod typed;
 mod values;
+mod weight;
 
 pub use default::{components_of, is_default};
 pub use fault::WriteFault;

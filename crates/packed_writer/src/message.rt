@@ -2,16 +2,16 @@
 
 ghost use Rattle.asn_base.specs.Abstract.{abstract};
 ghost use Rattle.asn_base.specs.Typed.{IsValue};
-ghost use Rattle.packed_encodings.specs.Packing.{Packed};
-ghost use Rattle.packed_encodings.specs.Padding.{Padded};
-ghost use Rattle.packed_writer.specs.Message.{IsMessage};
+ghost use Rattle.packed_encodings.specs.Weights.{weight};
+ghost use Rattle.packed_writer.specs.Message.{IsMessage, IsTooLong};
 ghost use Rattle.packed_writer.specs.declared.fault.WriteFault.TheVariants.{NotOfType, TooLong};
-ghost use Rattle.std.specs.Prelude.{◌≡◌, ◌<◌, Bool, Err, IfErr, IfOk, List, length, ℕ};
+ghost use Rattle.std.specs.Prelude.{◌≡◌, ◌<◌, Err, IfErr, IfOk};
 
 use crate::fault::WriteFault;
 use crate::open::filled;
 use crate::run::push_value;
 use crate::typed::Typed;
+use crate::weight::is_light;
 use asn_base::decide::is_value;
 use asn_base::law::sameness;
 use asn_base::schema::TypeId;
@@ -25,7 +25,8 @@ use std::alloc::Global;
 /// The message of a value in unaligned canonical PER: its bits, filled to octets with zero bits (X.691, 11.1).
 ///
 /// - `NotOfType`: exactly if the value isn't one of the type, or there is no such type.
-/// - `TooLong`: the value is one of the type, and its message has more than 16,777,216 octets.
+/// - `TooLong`: the value is one of the type. Its message has more than 16,777,216 octets; or its nodes and the octets
+///   of its character strings are together more than that, since characters and elements may take no bits.
 /// - `Memory`: an allocation failed.
 pub fn write_uper(
     alloc: Global,
@@ -38,11 +39,12 @@ pub fn write_uper(
     // `NotOfType` exactly if the value isn't one of the type.
     ensures not_of_type { IfErr result (λ e. e ≡ NotOfType → IsValue code.now id.index (abstract value.now) → ⊥) }
     ensures no_value { (IsValue code.now id.index (abstract value.now) → ⊥) → result ≡ Err NotOfType }
-    // After `TooLong` the message has more than 16,777,216 octets.
-    ensures longer { IfErr result (λ e. e ≡ TooLong → (b : List Bool) (o : List ℕ)
-        → Packed code.now id.index (abstract value.now) b
-        → Padded b o
-        → 16777216 < length o) }
+    // After `TooLong` the value is too heavy, or its message has more than 16,777,216 octets.
+    ensures longer { IfErr result (λ e. e ≡ TooLong → IsTooLong code.now id.index (abstract value.now)) }
+    // A value of the type that is too heavy is refused before anything is written.
+    ensures heavy { IsValue code.now id.index (abstract value.now)
+        → 16777216 < weight (abstract value.now)
+        → result ≡ Err TooLong }
 {
     code.accepted();
     computing_laws();
@@ -51,6 +53,9 @@ pub fn write_uper(
     sameness();
     if !is_value(value, code.schema(), id) {
         return Err(WriteFault::NotOfType);
+    }
+    if !is_light(value) {
+        return Err(WriteFault::TooLong);
     }
     let mut bits = BitBuf::new(alloc);
     push_value(

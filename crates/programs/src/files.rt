@@ -79,7 +79,7 @@ fn octets_of(rt: &HostRuntime, job: &Job) -> Result<Option<Vec<u8>>, Fault>
     ensures { IfOk result (HasFile job.now.octets) }
 {
     match &job.octets {
-        Given::Nothing | Given::Octets(_) => Ok(None),
+        Given::Nothing | Given::Octets(_) | Given::Lines => Ok(None),
         Given::Path(name) => Ok(Some(file_of(rt, name)?)),
     }
 }

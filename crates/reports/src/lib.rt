@@ -13,4 +13,4 @@ mod of_values;
 mod spots;
 mod told;
 
-pub use told::report;
+pub use told::{report, report_line};

@@ -3,20 +3,12 @@
 use crate::of_texts::{found, left_out, of_octets, of_tokens};
 use crate::of_values::of_value;
 use crate::spots::{octet_of_lexing, token_of_parsing};
-use command_line::{Job, ValueWords};
+use crate::told::Asked;
 use hints::wanted_in_value;
 use messages::NotationFault;
 use notation::SyntaxFault;
 use shown_texts::{context, line_and_column, on_one_line, spelled_at, start, tokens_in};
 use std::alloc::{AllocError, Global};
-
-/// The octets of the notation that a job gives; none if it gives no notation.
-fn notation_in(job: &Job) -> &[u8] {
-    match &job.value {
-        ValueWords::Written(text) => text.as_bytes(),
-        ValueWords::Nothing | ValueWords::Named(_) => &[],
-    }
-}
 
 /// The words for tokens that are not those of one value.
 fn of_value_tokens(alloc: Global, text: &[u8], fault: &SyntaxFault) -> Result<String, AllocError> {
@@ -77,18 +69,17 @@ fn octet_in(alloc: Global, text: &[u8], fault: &NotationFault) -> Result<usize, 
 /// and what was found and expected there. `--notation` is in place of the name of a file.
 pub(crate) fn of_notation(
     alloc: Global,
-    job: &Job,
-    texts: &[Vec<u8>],
+    asked: Asked<'_>,
     fault: &NotationFault,
 ) -> Result<String, AllocError> {
-    let text = notation_in(job);
-    let words = sentence(alloc, texts, text, fault)?;
+    let text = asked.notation;
+    let words = sentence(alloc, asked.texts, text, fault)?;
     let what = construct(alloc, text, fault)?;
     let octet = octet_in(alloc, text, fault)?;
     let (line, column) = line_and_column(text, octet);
     let shown = format!(in alloc; "{what}: --notation:{line}:{column}: {words}")?;
     let mut shown = on_one_line(alloc, shown.as_str())?;
-    if job.context {
+    if asked.context {
         shown.push_str(context(alloc, text, octet)?.as_str())?;
     }
     Ok(shown)

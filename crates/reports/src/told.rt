@@ -13,7 +13,7 @@ use crate::of_texts::{left_out, of_octets, of_tokens};
 use crate::of_types::{of_additions, of_bounds, of_tags};
 use crate::of_values::of_value;
 use crate::spots::{names_at, texts_at};
-use command_line::Job;
+use command_line::{Job, ValueWords};
 use front_end::FrontFault;
 use messages::Fault;
 use shown_texts::{context, escaped, line_and_column, on_one_line};
@@ -99,16 +99,30 @@ fn file_of(alloc: Global, names: &[String], number: usize) -> Result<String, All
     }
 }
 
-/// What follows the number and the name of a fault.
-fn after_heading(
-    alloc: Global,
-    job: &Job,
-    texts: &[Vec<u8>],
-    fault: &Fault,
-) -> Result<String, AllocError> {
-    if let Fault::Notation(inner) = fault {
-        return of_notation(alloc, job, texts, inner);
+/// What a report is about, besides the fault: the job, the texts of its modules in which the fault may be, the text of
+/// the notation that it gives, and whether the line of a text is shown with the fault in it.
+#[derive(Clone, Copy)]
+pub(crate) struct Asked<'a> {
+    pub(crate) job: &'a Job,
+    pub(crate) texts: &'a [Vec<u8>],
+    pub(crate) notation: &'a [u8],
+    pub(crate) context: bool,
+}
+
+/// The octets of the notation that a job gives; none if it gives no notation.
+fn notation_in(job: &Job) -> &[u8] {
+    match &job.value {
+        ValueWords::Written(text) => text.as_bytes(),
+        ValueWords::Nothing | ValueWords::Named(_) | ValueWords::Lines => &[],
     }
+}
+
+/// What follows the number and the name of a fault.
+fn after_heading(alloc: Global, asked: Asked<'_>, fault: &Fault) -> Result<String, AllocError> {
+    if let Fault::Notation(inner) = fault {
+        return of_notation(alloc, asked, inner);
+    }
+    let (job, texts) = (asked.job, asked.texts);
     if let Fault::NotAccount(stop) = fault {
         return of_account(alloc, job.account.as_str(), stop);
     }
@@ -131,7 +145,7 @@ fn after_heading(
     let (line, column) = line_and_column(text, octet);
     let told = format!(in alloc; "{what}: {file}:{line}:{column}: {words}")?;
     let mut told = on_one_line(alloc, told.as_str())?;
-    if job.context {
+    if asked.context {
         told.push_str(context(alloc, text, octet)?.as_str())?;
     }
     Ok(told)
@@ -159,8 +173,37 @@ pub fn report(
 ) -> Result<String, AllocError>
     ensures { IfOk result (λ s. Begins (heading_of fault.now) (string_bytes s)) }
 {
+    let asked = Asked {
+        job,
+        texts: texts_at(texts, newer, fault),
+        notation: notation_in(job),
+        context: job.context,
+    };
     let mut told = heading(alloc, fault)?;
-    let rest = after_heading(alloc, job, texts_at(texts, newer, fault), fault)?;
+    let rest = after_heading(alloc, asked, fault)?;
+    told.push_str(rest.as_str())?;
+    Ok(told)
+}
+
+/// One line that reports a fault that a job met at a line of standard input, as [`report`] does for one that its words
+/// give. If the job takes notations, `line` is the text of one. No line of a text follows.
+pub fn report_line(
+    alloc: Global,
+    job: &Job,
+    texts: &[Vec<u8>],
+    line: &[u8],
+    fault: &Fault,
+) -> Result<String, AllocError>
+    ensures { IfOk result (λ s. Begins (heading_of fault.now) (string_bytes s)) }
+{
+    let asked = Asked {
+        job,
+        texts,
+        notation: line,
+        context: false,
+    };
+    let mut told = heading(alloc, fault)?;
+    let rest = after_heading(alloc, asked, fault)?;
     told.push_str(rest.as_str())?;
     Ok(told)
 }

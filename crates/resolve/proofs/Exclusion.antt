@@ -2,6 +2,7 @@
 use Rattle.std.proofs.Common.{◌≡◌, ◌⊎◌, ◌^◌, inl, inr, ℕ, pos, List, length, map, get_or, ◌<◌, ◌+◌, Some, refl, sym, subst, ap, ◌∙◌, arith}
 use Rattle.std.specs.Prelude.{slice_get}
 use Rattle.std.proofs.lemmas.Option.{same_Some}
+use Rattle.trees.specs.declared.place.Spot.{Spot}
 use Rattle.trees.specs.Values.{Name}
 use Rattle.trees.specs.Types.{Plain, an_integer, a_bit_string, an_enumerated}
 use Rattle.trees.specs.declared.module.TagDefault.{TagDefault}
@@ -16,13 +17,17 @@ use Rattle.names.specs.Names.{Refers}
 use Rattle.names.specs.Sources.{Value}
 use Rattle.names.specs.proving.Distinct.{item_at, mapped, right}
 use Rattle.type_table.specs.Items.{additions_of, root_numbers, addition_numbers}
-use Rattle.type_table.specs.Lists.{IsSoundPlain, IsSoundKind}
+use Rattle.circles.specs.Circles.{IsFirstDefaultCircle, NoDefaultCircles}
+use Rattle.type_table.specs.declared.table.Written.{Written}
+use Rattle.type_table.specs.Lists.{AreSound, IsSoundPlain, IsSoundKind}
 use Rattle.type_table.specs.ListFaults.{IsTwiceAmong, IsTwicePlain, IsTwiceIn, HasManyMembers, HasManyItems, HasFarBit, HasGreatNumber, HasPassed}
+use Rattle.type_table.specs.Seen.{types_of}
 use Rattle.type_table.specs.Table.{Kind, simple, members, Type'}
 use Rattle.type_table.specs.proving.Checks.{IsKindFault}
+use Rattle.resolve.specs.First.{IsFirstList, IsFirstUnknown, TellsFirst, TypeMeans, ValueMeans, in_circle, in_list, in_type, in_value}
 use Rattle.resolve.specs.Program.{Program, IsAssignment, IsTypeIn, IsValueIn}
 use Rattle.resolve.specs.Qualified.{qualified, qualified_in, MeanValues}
-use Rattle.resolve.specs.Sound.{IsSound, IsSoundFault}
+use Rattle.resolve.specs.Sound.{IsSound, IsSoundFault, TypesMean}
 use Rattle.resolve.specs.proving.Unknown.{IsUnknownIn}
 
 -- the element of this turn, in the list as a program has it
@@ -51,13 +56,6 @@ moved p k M N x y q r a = subst (λ z. IsAssignment p k N z) (sym r) (subst (λ 
 -- the list of type i keeps the rules
 abbrev pub SoundAt : Program → ℕ → Type 0
 SoundAt p i = (t : Type') → slice_get p.types i ≡ Some t → IsSoundKind t.kind
-
--- the names in type i stand for values
-abbrev pub TypeMeans : Program → ℕ → Type 0
-TypeMeans p i = (t : Type') (M x : Name) → slice_get p.types i ≡ Some t → IsAssignment p t.assignment M x → MeanValues p.modules M (qualified_in t)
-
-abbrev pub ValueMeans : Program → ℕ → Type 0
-ValueMeans p i = (v : Value) (M x : Name) → slice_get p.values i ≡ Some v → IsAssignment p v.assignment M x → MeanValues p.modules M (qualified v.notation)
 
 pub sound_at : (p : Program) (i : ℕ) (t : Type') → slice_get p.types i ≡ Some t → IsSoundKind t.kind → SoundAt p i
 sound_at p i t e h u f = subst (λ z. IsSoundKind z.kind) (same_Some t u (sym e ∙ f)) h
@@ -98,10 +96,10 @@ unknown_fault : (p : Program) (M a : Name) (rs : List (Name × Name)) (e : NameF
     IsSoundFault p e
 unknown_fault p M a rs faults.Memory w u = tt
 unknown_fault p M a rs (faults.UnknownName s) w u = record {
-  owner = u.1;
+  owner = u.1.owner;
   assigns = a;
-  written = w (module_told s) u.1 (name_told s) u.0 u.2;
-  nothing = subst (λ z. (i : ℕ) → Refers p.modules z (Some u.1) (name_told s) (assigned.Value i) → ⊥) (sym u.0) u.3;
+  written = w (module_told s) u.1.owner (name_told s) u.0 (u.1.number, u.1.there);
+  nothing = subst (λ z. (i : ℕ) → Refers p.modules z (Some u.1.owner) (name_told s) (assigned.Value i) → ⊥) (sym u.0) u.1.nothing;
 }
 unknown_fault p M a rs (faults.Limit l s) w u = absurd u
 unknown_fault p M a rs (faults.Twice s) w u = absurd u
@@ -182,3 +180,55 @@ fault_not_sound p (faults.UnknownName s) n f g = no_value p (module_told s) (nam
 fault_not_sound p (faults.NotExported s) n f g = f
 fault_not_sound p (faults.Circular s) n f g = g.defaults f.number f.circle
 fault_not_sound p (faults.UnknownModule s) n f g = f
+
+-- ---- the first fault
+
+moved_first : (p : Program) (M N x : Name) (rs : List (Name × Name)) → N ≡ M → IsFirstUnknown p.modules M rs x →
+    IsFirstUnknown p.modules N rs x
+moved_first p M N x rs q u = subst (λ z. IsFirstUnknown p.modules z rs x) (sym q) u
+
+-- the first fault in a list
+pub first_list : (p : Program) (ws : List Written) (e : NameFault) → types_of ws ≡ p.types → IsFirstList p ws e →
+    TellsFirst p e
+first_list p ws faults.Memory q f = tt
+first_list p ws (faults.Limit k z) q f = (ws, q, in_list f)
+first_list p ws (faults.Twice z) q f = (ws, q, in_list f)
+first_list p ws (faults.UnknownName z) q f = (ws, q, in_list f)
+first_list p ws (faults.NotExported z) q f = (ws, q, in_list f)
+first_list p ws (faults.Circular z) q f = (ws, q, in_list f)
+first_list p ws (faults.UnknownModule z) q f = (ws, q, in_list f)
+
+-- a list in a circle of DEFAULTs, after lists were checked
+pub first_circle : (p : Program) (ws : List Written) (i : ℕ) (w : Written) (M a : Name) (s : Spot) →
+    types_of ws ≡ p.types → AreSound p.types → slice_get ws i ≡ Some w → IsAssignment p w.assignment M a →
+    module_told s ≡ M → name_told s ≡ a → s.at ≡ w.at → IsFirstDefaultCircle p.types i →
+    TellsFirst p (faults.Circular s)
+first_circle p ws i w M a s q l h u m x n c =
+    (ws, q, in_circle l (record { number = i; written = w; there = h; stands = moved p w.assignment M (module_told s) a (name_told s) m x u; at = n; circle = c }))
+
+module _ (p : Program) (ws : List Written) (q : types_of ws ≡ p.types) (l : AreSound p.types) (d : NoDefaultCircles p.types) where
+  -- the fault of a name in a type, after lists and circles were checked
+  pub first_type : (i : ℕ) (t : Type') (M a : Name) (e : NameFault) → slice_get p.types i ≡ Some t →
+      IsAssignment p t.assignment M a → ((k : ℕ) → k < i → TypeMeans p k) → IsUnknownIn p.modules M (qualified_in t) e →
+      TellsFirst p e
+  first_type i t M a faults.Memory h s b u = tt
+  first_type i t M a (faults.UnknownName z) h s b u =
+      (ws, q, in_type l d (record { number = i; written = t; there = h; assigns = a; stands = moved p t.assignment M (module_told z) a a u.0 refl s; first = moved_first p M (module_told z) (name_told z) (qualified_in t) u.0 u.1; before = b }))
+  first_type i t M a (faults.Limit k z) h s b u = absurd u
+  first_type i t M a (faults.Twice z) h s b u = absurd u
+  first_type i t M a (faults.NotExported z) h s b u = absurd u
+  first_type i t M a (faults.Circular z) h s b u = absurd u
+  first_type i t M a (faults.UnknownModule z) h s b u = absurd u
+
+  -- the fault of a name in a value, after lists, circles and types were checked
+  pub first_value : (i : ℕ) (v : Value) (M a : Name) (e : NameFault) → TypesMean p → slice_get p.values i ≡ Some v →
+      IsAssignment p v.assignment M a → ((k : ℕ) → k < i → ValueMeans p k) →
+      IsUnknownIn p.modules M (qualified v.notation) e → TellsFirst p e
+  first_value i v M a faults.Memory m h s b u = tt
+  first_value i v M a (faults.UnknownName z) m h s b u =
+      (ws, q, in_value l d m (record { number = i; value = v; there = h; assigns = a; stands = moved p v.assignment M (module_told z) a a u.0 refl s; first = moved_first p M (module_told z) (name_told z) (qualified v.notation) u.0 u.1; before = b }))
+  first_value i v M a (faults.Limit k z) m h s b u = absurd u
+  first_value i v M a (faults.Twice z) m h s b u = absurd u
+  first_value i v M a (faults.NotExported z) m h s b u = absurd u
+  first_value i v M a (faults.Circular z) m h s b u = absurd u
+  first_value i v M a (faults.UnknownModule z) m h s b u = absurd u

@@ -1,5 +1,6 @@
 pub mod Assembling
 pub mod Exclusion
+pub mod Firsts
 pub mod Notations
 pub mod Programs
 pub mod Ready

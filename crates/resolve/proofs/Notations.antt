@@ -1,5 +1,5 @@
 -- The names in a value, by the form in which it is written.
-use Rattle.std.proofs.Common.{◌≡◌, ℕ, ◌++◌, List, [], ◌∷◌, map, Option, Some, refl, sym, subst, ap, ◌∙◌}
+use Rattle.std.proofs.Common.{◌≡◌, ℕ, ◌++◌, List, [], ◌∷◌, map, Option, Some, refl, sym, subst, ap, ◌∙◌, arith}
 use Rattle.std.specs.Prelude.{slice_get, Vec, Box, String}
 use Rattle.std.specs.Global.{Global}
 use Rattle.trees.specs.declared.place.Reference.{Reference}
@@ -11,8 +11,8 @@ use Rattle.trees.specs.declared.value.ValueSyntax.TheViews.{out-ValueSyntax}
 use Rattle.trees.specs.declared.value.ValueSyntax.TheFolds.{fold_out-ValueSyntax, map-ValueSyntax}
 use Rattle.trees.specs.Values.{Name, Tree, trees, members, member_of, name_at, tree_of, layer, value_layer}
 use Rattle.names.specs.declared.scope.Assigned.TheVariants as assigned
-use Rattle.names.specs.Modules.{StandsIn}
 use Rattle.names.specs.Names.{Module, Refers}
+use Rattle.resolve.specs.First.{IsFirstUnknown}
 use Rattle.resolve.specs.Qualified.{each, behind_module, qualified, qualified_each, qualified_fields}
 use Rattle.resolve.specs.proving.Unknown.{named}
 
@@ -58,11 +58,14 @@ fields_names v fs e =
 
 -- a name after the name of module N isn't that of a value
 pub behind_none : (ms : List (Name × Module)) (M : Name) (o : Option Name) (N x m y : Name) → o ≡ Some N → m ≡ M →
-    y ≡ x → ((i : ℕ) → Refers ms M o x (assigned.Value i) → ⊥) →
-    (m ≡ M) × (K : Name) × StandsIn (behind_module o x) (K, y) × ((i : ℕ) → Refers ms M (Some K) y (assigned.Value i) → ⊥)
+    y ≡ x → ((i : ℕ) → Refers ms M o x (assigned.Value i) → ⊥) → (m ≡ M) × IsFirstUnknown ms M (behind_module o x) y
 behind_none ms M o N x m y q e f none = (
   e,
-  N,
-  (0, ap (λ p. slice_get (behind_module p x) 0) q ∙ ap (λ z. Some (N, z)) (sym f)),
-  λ i r. none i (subst (λ p. Refers ms M p x (assigned.Value i)) (sym q) (subst (λ z. Refers ms M (Some N) z (assigned.Value i)) f r)),
+  record {
+    number = 0;
+    owner = N;
+    there = ap (λ p. slice_get (behind_module p x) 0) q ∙ ap (λ z. Some (N, z)) (sym f);
+    nothing = λ i r. none i (subst (λ p. Refers ms M p x (assigned.Value i)) (sym q) (subst (λ z. Refers ms M (Some N) z (assigned.Value i)) f r));
+    before = λ k K z l h. absurd (omega (arith, l));
+  },
 )

@@ -24,7 +24,7 @@ use Rattle.resolve.specs.Sound.{IsSoundFault}
 use Rattle.resolve.specs.proving.Assembled.{IsOf, IsAssembled, IsAssemblyFault, IsTableFrom, IsTablesFault}
 
 -- the table of what is gathered is that of the modules
-same_table : (ms : List ModuleTree) (g : ModuleTables) (ts : List Type') → HasGathered ms g → IsTableFrom g ts →
+pub same_table : (ms : List ModuleTree) (g : ModuleTables) (ts : List Type') → HasGathered ms g → IsTableFrom g ts →
     AreNumbered (scopes_from 0 0 ms) (headers_of ms) (owned_from 0 ms) (roots_of ms) ts
 same_table ms g ts h a =
     subst (λ l. AreNumbered l (headers_of ms) (owned_from 0 ms) (roots_of ms) ts) h.scopes
@@ -32,7 +32,7 @@ same_table ms g ts h a =
     (subst (λ l. AreNumbered (seen module_of g.modules.entries) (map header_of g.headers.items) l (roots_of ms) ts) h.assignments
     (subst (λ l. AreNumbered (seen module_of g.modules.entries) (map header_of g.headers.items) (map assignment_of g.tables.assignments.items) l ts) h.roots a)))
 
-program_of : (ms : List ModuleTree) (g : ModuleTables) (p : Program) → HasGathered ms g → IsOf g p → IsProgramOf ms p
+pub program_of : (ms : List ModuleTree) (g : ModuleTables) (p : Program) → HasGathered ms g → IsOf g p → IsProgramOf ms p
 program_of ms g p h o =
     let modules = ap (λ z. z.modules) o.is ∙ h.scopes in
     let headers = ap (λ z. z.headers) o.is ∙ h.headers in

@@ -1,12 +1,13 @@
 -- Names after modules' names in lists, which are gone through from the front.
-use Rattle.std.proofs.Common.{◌≡◌, ◌<◌, ◌≤◌, ◌+◌, inl, inr, ℕ, List, [], ◌++◌, length, map, drop, get_or, sym, subst, ap}
+use Rattle.std.proofs.Common.{◌≡◌, ◌<◌, ◌≤◌, ◌+◌, inl, inr, ℕ, List, [], ◌++◌, length, map, drop, get_or, sym, subst, ap, ◌∙◌, arith}
 use Rattle.trees.specs.Values.{Name}
 use Rattle.names.specs.declared.fault.NameFault.{NameFault}
 use Rattle.names.specs.declared.fault.NameFault.TheVariants as faults
 use Rattle.names.specs.Faults.{name_told}
-use Rattle.names.specs.Modules.{StandsIn}
+use Rattle.std.specs.Prelude.{slice_get}
+use Rattle.std.proofs.lemmas.Option.{slice_get_within}
 use Rattle.names.specs.Names.{Module}
-use Rattle.names.specs.proving.Distinct.{drop_at, either, none_left, stands_left, stands_right}
+use Rattle.names.specs.proving.Distinct.{drop_at, either, left, none_left, right}
 use Rattle.resolve.specs.Qualified.{each, MeanValues}
 use Rattle.resolve.specs.proving.Unknown.{IsUnknownIn}
 
@@ -21,24 +22,56 @@ module _ (ms : List (Name × Module)) (M : Name) where
         | inr r ↦ q r.0 N x r.2
       ]
 
-  -- a fault of some names is one of all
-  unknown_among : (xs zs : List (Name × Name)) → ((z : Name × Name) → StandsIn xs z → StandsIn zs z) → (e : NameFault) →
-      IsUnknownIn ms M xs e → IsUnknownIn ms M zs e
-  unknown_among xs zs h faults.Memory u = tt
-  unknown_among xs zs h (faults.UnknownName s) u = (u.0, u.1, h (u.1, name_told s) u.2, u.3)
-  unknown_among xs zs h (faults.Limit l s) u = u
-  unknown_among xs zs h (faults.Twice s) u = u
-  unknown_among xs zs h (faults.NotExported s) u = u
-  unknown_among xs zs h (faults.Circular s) u = u
-  unknown_among xs zs h (faults.UnknownModule s) u = u
-
+  -- a fault of the first names is one of all
   pub unknown_front : (xs ys : List (Name × Name)) (e : NameFault) → IsUnknownIn ms M xs e →
       IsUnknownIn ms M (xs ++ ys) e
-  unknown_front xs ys e u = unknown_among xs (xs ++ ys) (stands_left xs ys) e u
+  unknown_front xs ys faults.Memory u = tt
+  unknown_front xs ys (faults.UnknownName s) u =
+      let r = u.1 in
+      let w = slice_get_within xs r.number (r.owner, name_told s) r.there in (
+        u.0,
+        record {
+          number = r.number;
+          owner = r.owner;
+          there = left xs ys r.number (r.owner, name_told s) r.there;
+          nothing = r.nothing;
+          before = λ k N y l h.
+              elim (either xs ys k (N, y) h) [
+                | inl f ↦ r.before k N y l f
+                | inr q ↦ (let g = q.1 in absurd (omega (arith, w, l, g)))
+              ];
+        },
+      )
+  unknown_front xs ys (faults.Limit l s) u = u
+  unknown_front xs ys (faults.Twice s) u = u
+  unknown_front xs ys (faults.NotExported s) u = u
+  unknown_front xs ys (faults.Circular s) u = u
+  unknown_front xs ys (faults.UnknownModule s) u = u
 
-  pub unknown_behind : (xs ys : List (Name × Name)) (e : NameFault) → IsUnknownIn ms M ys e →
+  -- a fault of the names after names that mean values is one of all
+  pub unknown_behind : (xs ys : List (Name × Name)) (e : NameFault) → MeanValues ms M xs → IsUnknownIn ms M ys e →
       IsUnknownIn ms M (xs ++ ys) e
-  unknown_behind xs ys e u = unknown_among ys (xs ++ ys) (stands_right xs ys) e u
+  unknown_behind xs ys faults.Memory m u = tt
+  unknown_behind xs ys (faults.UnknownName s) m u =
+      let r = u.1 in (
+        u.0,
+        record {
+          number = length xs + r.number;
+          owner = r.owner;
+          there = right xs ys r.number ∙ r.there;
+          nothing = r.nothing;
+          before = λ k N y l h.
+              elim (either xs ys k (N, y) h) [
+                | inl f ↦ m k N y f
+                | inr q ↦ (let g = q.1 in r.before q.0 N y (omega (arith, l, g)) q.2)
+              ];
+        },
+      )
+  unknown_behind xs ys (faults.Limit l s) m u = u
+  unknown_behind xs ys (faults.Twice s) m u = u
+  unknown_behind xs ys (faults.NotExported s) m u = u
+  unknown_behind xs ys (faults.Circular s) m u = u
+  unknown_behind xs ys (faults.UnknownModule s) m u = u
 
   -- what holds of the rest holds of the whole
   pub record Left (whole rest : List (Name × Name)) : Type 0 where
@@ -62,7 +95,7 @@ module _ (ms : List (Name × Module)) (M : Name) where
         let q = front x l e in
         record {
           good = λ r. h.good (subst (MeanValues ms M) (sym q) (mean_both (f (g x)) rest m r));
-          fault = λ b u. h.fault b (subst (λ l. IsUnknownIn ms M l b) (sym q) (unknown_behind (f (g x)) rest b u));
+          fault = λ b u. h.fault b (subst (λ l. IsUnknownIn ms M l b) (sym q) (unknown_behind (f (g x)) rest b m u));
         }
 
     pub left_fault : (x : X) (b : NameFault) → i < length xs → x ≡ get_or xs i x →

@@ -1,15 +1,19 @@
 //! Linked modules.
 
-ghost use Rattle.std.specs.Prelude.{◌≡◌, ◌↔◌, ◌<◌, ◌≤◌, Some, map, IfOk, IfErr, length};
+ghost use Rattle.std.specs.Prelude.{◌≡◌, ◌↔◌, ◌<◌, ◌≤◌, Some, map, IfOk, IfErr, List, length};
+ghost use Rattle.trees.specs.Modules.{ModuleTree};
 ghost use Rattle.names.specs.declared.scope.Assigned.{Assigned};
 ghost use Rattle.names.specs.Names.{Meaning};
 ghost use Rattle.names.specs.Sources.{value_of, assignment_of, header_of};
+ghost use Rattle.names.specs.Modules.{AreFew, AreNamed};
+ghost use Rattle.names.specs.proving.Gathering.{HasGathered};
 ghost use Rattle.names.specs.proving.Ready.{IsReady};
 ghost use Rattle.type_table.specs.Seen.{type_of, types_of};
-ghost use Rattle.type_table.specs.Table.{IsCore, IsLinked};
+ghost use Rattle.type_table.specs.Table.{AllUnfold, IsCore, IsLinked};
+ghost use Rattle.resolve.specs.First.{IsFirstFault};
 ghost use Rattle.resolve.specs.Finds.{Finds, RefersTo};
 ghost use Rattle.resolve.specs.Program.{IsAssignment, IsHome, IsWhole};
-ghost use Rattle.resolve.specs.proving.Assembled.{ArePlaced, IsOf, IsTablesFault, TellsType};
+ghost use Rattle.resolve.specs.proving.Assembled.{ArePlaced, IsCircularAt, IsOf, IsTablesFault, TellsType};
 
 use asn_base::schema::TypeId;
 use names::fault::spot;
@@ -78,7 +82,9 @@ fn circular_at(
 ) -> NameFault
     requires assigned { written.now.assignment < length assignments.now }
     requires placed { ArePlaced assignments.now headers.now }
-    ensures { TellsType (map header_of headers.now) (map assignment_of assignments.now) (type_of written.now) result }
+    ensures fault { TellsType (map header_of headers.now) (map assignment_of assignments.now)
+        (type_of written.now) result }
+    ensures at { IsCircularAt written.now.at result }
 {
     let assignment = &assignments[written.assignment];
     let header = &headers[assignment.module];
@@ -204,6 +210,12 @@ impl Linked {
         ensures program { IfOk result (IsOf gathered) }
         ensures few { IfOk result (λ p. length p.types ≤ 65536) }
         ensures fault { IfErr result (IsTablesFault gathered) }
+        ensures unfolds { IfOk result (λ p. AllUnfold p.types) }
+        ensures first { (ms : List ModuleTree) →
+            HasGathered ms gathered →
+            AreNamed ms →
+            AreFew ms →
+            IfErr result (IsFirstFault ms) }
     {
         numbered_there();
         numbered_linked();

@@ -1,8 +1,11 @@
 //! Linking of modules.
 
-ghost use Rattle.std.specs.Prelude.{map, IfOk, IfErr};
-ghost use Rattle.trees.specs.Modules.{module_tree_of};
+ghost use Rattle.std.specs.Prelude.{map, IfOk, IfErr, List};
+ghost use Rattle.trees.specs.Modules.{ModuleTree, module_tree_of};
+ghost use Rattle.names.specs.Modules.{AreFew, AreNamed};
+ghost use Rattle.names.specs.proving.Gathering.{HasGathered};
 ghost use Rattle.names.specs.proving.Ready.{IsReady};
+ghost use Rattle.resolve.specs.First.{IsFirstFault};
 ghost use Rattle.resolve.specs.Links.{Links, IsLinkFault};
 ghost use Rattle.resolve.specs.proving.Assembled.{IsAssembled, IsAssemblyFault};
 
@@ -21,6 +24,11 @@ fn assemble(alloc: Global, gathered: ModuleTables) -> Result<Linked, NameFault>
     requires ready { IsReady gathered }
     ensures assembled { IfOk result (IsAssembled gathered) }
     ensures fault { IfErr result (IsAssemblyFault gathered) }
+    ensures first { (ms : List ModuleTree) →
+        HasGathered ms gathered →
+        AreNamed ms →
+        AreFew ms →
+        IfErr result (IsFirstFault ms) }
 {
     if gathered.tables.roots.len() > MAX_WRITTEN {
         let source = &gathered.tables.roots[MAX_WRITTEN];
@@ -49,9 +57,14 @@ fn assemble(alloc: Global, gathered: ModuleTables) -> Result<Linked, NameFault>
 ///   the name.
 /// - `UnknownName`: a name has no meaning, or not the meaning that is needed, in its module.
 /// - `Circular`: a type comes back to itself, or a component with a DEFAULT leads back to the list that holds it.
+///
+/// The fault is the first one, in this order: limits, names that are given twice, exports and imports, references to
+/// types and the number of types, types that come back to themselves, lists in types, circles of DEFAULTs, names in
+/// types, names in values.
 pub fn link(alloc: Global, modules: Vec<Module>) -> Result<Linked, NameFault>
     ensures linked { IfOk result (Links (map module_tree_of modules.items)) }
     ensures fault { IfErr result (IsLinkFault (map module_tree_of modules.items)) }
+    ensures first { IfErr result (IsFirstFault (map module_tree_of modules.items)) }
 {
     ready();
     stood();

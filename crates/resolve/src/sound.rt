@@ -5,6 +5,7 @@ ghost use Rattle.names.specs.declared.fault.NameFault.{NameFault as NameFault'};
 ghost use Rattle.names.specs.declared.fault.NameFault.TheVariants as faults;
 ghost use Rattle.circles.specs.Circles.{NoDefaultCircles};
 ghost use Rattle.type_table.specs.Lists.{AreSound};
+ghost use Rattle.resolve.specs.First.{TellsFirst};
 ghost use Rattle.resolve.specs.Program.{Program};
 ghost use Rattle.resolve.specs.Sound.{IsSound, IsSoundFault, TypesMean, ValuesMean};
 
@@ -21,6 +22,7 @@ use type_table::lists::sound_shape;
 fn sound_lists(alloc: Global, linked: &Linked) -> Result<(), NameFault>
     ensures good { OnOk result (AreSound linked.now.types) }
     ensures fault { IfErr result (IsSoundFault linked.now) }
+    ensures first { IfErr result (TellsFirst linked.now) }
 {
     let types = linked.types();
     for index in 0..types.len() {
@@ -33,8 +35,10 @@ fn sound_lists(alloc: Global, linked: &Linked) -> Result<(), NameFault>
 
 /// Checks that no component with a DEFAULT has a type that leads back to the list that holds it (X.680, clause 25.7).
 fn no_default_circles(alloc: Global, linked: &Linked) -> Result<(), NameFault>
+    requires lists { AreSound linked.now.types }
     ensures good { OnOk result (NoDefaultCircles linked.now.types) }
     ensures fault { IfErr result (IsSoundFault linked.now) }
+    ensures first { IfErr result (TellsFirst linked.now) }
 {
     let types = linked.types();
     match circle_of(alloc, types)? {
@@ -48,8 +52,11 @@ fn no_default_circles(alloc: Global, linked: &Linked) -> Result<(), NameFault>
 
 /// Checks the names in all types.
 fn names_in_types(alloc: Global, linked: &Linked) -> Result<(), NameFault>
+    requires lists { AreSound linked.now.types }
+    requires circles { NoDefaultCircles linked.now.types }
     ensures good { OnOk result (TypesMean linked.now) }
     ensures fault { IfErr result (IsSoundFault linked.now) }
+    ensures first { IfErr result (TellsFirst linked.now) }
 {
     let types = linked.types();
     for index in 0..types.len() {
@@ -61,10 +68,15 @@ fn names_in_types(alloc: Global, linked: &Linked) -> Result<(), NameFault>
 
 /// Checks the names in all assigned values.
 fn names_in_values(alloc: Global, linked: &Linked) -> Result<(), NameFault>
+    requires lists { AreSound linked.now.types }
+    requires circles { NoDefaultCircles linked.now.types }
+    requires types { TypesMean linked.now }
     ensures good { OnOk result (ValuesMean linked.now) }
     ensures fault { IfErr result (IsSoundFault linked.now) }
+    ensures first { IfErr result (TellsFirst linked.now) }
 {
     let values = linked.values();
+    let _types = linked.types();
     linked.whole();
     for value in values {
         let home = linked.assigned(value.assignment);
@@ -77,10 +89,12 @@ fn names_in_values(alloc: Global, linked: &Linked) -> Result<(), NameFault>
 /// an assigned value. Such a name must be that of a value (X.680, clause 14.6).
 ///
 /// `Twice`: a list has a name or a number twice. `Limit`: a list passes a limit. `Circular`: a component with a DEFAULT
-/// leads back to its list. `UnknownName`: such a name isn't that of a value. `Memory`: an allocation failed.
+/// leads back to its list. `UnknownName`: such a name isn't that of a value. `Memory`: an allocation failed. The fault
+/// is the first one, in this order: lists, circles, names in types, names in values; and of each by number.
 pub(crate) fn sound(alloc: Global, linked: &Linked) -> Result<(), NameFault>
     ensures ok { OnOk result (IsSound linked.now) }
     ensures fault { IfErr result (IsSoundFault linked.now) }
+    ensures first { IfErr result (TellsFirst linked.now) }
 {
     sound_lists(alloc, linked)?;
     no_default_circles(alloc, linked)?;

@@ -5,9 +5,11 @@ use crate::requests::{asked, is_file, is_notation, texts_of, word};
 use asnc::{Fault, status};
 use check_jobs::refusal;
 use command_line::{Given, Job, ValueWords, Verb, job};
-use jobs::{Inputs, output};
+use input_lines::InputLines;
+use jobs::{Inputs, LineCommand, LineJob, line_command, output, work_lines};
 use reports::report;
 use row_files::{Row, RowText};
+use sinks::InMemory;
 use std::alloc::{AllocError, Global};
 
 /// The octets of files, by their names, from the texts of a row. In the name of a text `\n` means a line end.
@@ -34,7 +36,7 @@ fn octets_of(row: &Row, file: &String) -> Result<Vec<u8>, Fault> {
 /// The octets of the file of octets that a job names, if it names one.
 fn given_in(row: &Row, given: &Given) -> Result<Option<Vec<u8>>, Fault> {
     match given {
-        Given::Nothing | Given::Octets(_) => Ok(None),
+        Given::Nothing | Given::Octets(_) | Given::Lines => Ok(None),
         Given::Path(file) => Ok(Some(octets_of(row, file)?)),
     }
 }
@@ -55,15 +57,50 @@ fn printed(alloc: Global, octets: &[u8]) -> Result<String, AllocError> {
     }
 }
 
+/// The line of a fault that a job met.
+fn reported(alloc: Global, asked: &Asked, fault: &Fault) -> Result<String, AllocError> {
+    let line = report(alloc, &asked.job, asked.texts(), asked.newer(), fault)?;
+    let status = status(fault);
+    format!(in alloc; "status {status}: {line}")
+}
+
 /// The answer to a job: what the program prints, or the line of its fault.
 fn outcome(alloc: Global, asked: &Asked) -> Result<String, AllocError> {
     match output(alloc, &asked.job, &asked.inputs) {
         Ok(output) => printed(alloc, output.octets.as_slice()),
-        Err(fault) => {
-            let line = report(alloc, &asked.job, asked.texts(), asked.newer(), &fault)?;
-            let status = status(&fault);
-            format!(in alloc; "status {status}: {line}")
-        }
+        Err(fault) => reported(alloc, asked, &fault),
+    }
+}
+
+/// The answer to a job that takes lines: what the program prints for these lines, and `status 1` if one was refused; or
+/// what it prints, and the line of the fault that ended it.
+fn outcome_of_lines(
+    alloc: Global,
+    asked: &Asked,
+    command: LineCommand,
+    lines: &[u8],
+) -> Result<String, AllocError> {
+    let job = LineJob {
+        job: &asked.job,
+        inputs: &asked.inputs,
+        command,
+    };
+    let mut sink = InMemory::of(Vec::new(alloc));
+    let done = work_lines(alloc, job, &mut InputLines::of(alloc, lines), &mut sink);
+    let mut text = printed(alloc, sink.into_octets().as_slice())?;
+    match done {
+        Ok(true) => {}
+        Ok(false) => text.push_str("\nstatus 1")?,
+        Err(fault) => text.push_str(reported(alloc, asked, &fault)?.as_str())?,
+    }
+    Ok(text)
+}
+
+/// The octets of the text of a row that is named `stdin`; none without such a text.
+fn lines_of(row: &Row) -> &[u8] {
+    match row.texts.iter().find(|t| t.name.as_str() == "stdin") {
+        Some(text) => text.octets.as_slice(),
+        None => &[],
     }
 }
 
@@ -218,10 +255,13 @@ pub fn asked_in(alloc: Global, row: &Row, program: &str) -> Result<Asked, Refusa
 }
 
 /// `asnc NAME WORD..` and `octcheck NAME WORD..`: the output of the program for these words, with the texts of the row
-/// as its files.
+/// as its files. The text named `stdin` is standard input, if the job takes lines.
 pub fn run(alloc: Global, row: &Row, program: &str) -> Result<String, Refusal> {
     let asked = asked_in(alloc, row, program)?;
-    Ok(outcome(alloc, &asked)?)
+    match line_command(&asked.job) {
+        Some(command) => Ok(outcome_of_lines(alloc, &asked, command, lines_of(row))?),
+        None => Ok(outcome(alloc, &asked)?),
+    }
 }
 
 /// Adds a line for each file of newer modules.
@@ -237,6 +277,7 @@ fn push_newer(alloc: Global, text: &mut String, newer: &[String]) -> Result<(), 
 fn value_shown(value: &ValueWords) -> (&'static str, &str) {
     match value {
         ValueWords::Nothing => ("value", ""),
+        ValueWords::Lines => ("lines", ""),
         ValueWords::Named(name) => ("value", name.as_str()),
         ValueWords::Written(text) => ("notation", text.as_str()),
     }
@@ -257,6 +298,7 @@ pub fn job_of(alloc: Global, row: &Row, program: &str) -> Result<String, Refusal
     };
     let octets = match job.octets {
         Given::Nothing => "nothing",
+        Given::Lines => "lines",
         Given::Octets(_) => "octets",
         Given::Path(_) => "a file",
     };

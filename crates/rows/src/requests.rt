@@ -14,9 +14,9 @@ pub fn is_notation(text: &RowText) -> bool {
     text.name.as_str() == "notation"
 }
 
-/// Whether a text of a row is a file: neither the notation of a value nor the wanted answer.
+/// Whether a text of a row is a file: neither the notation of a value, nor standard input, nor the wanted answer.
 pub fn is_file(text: &RowText) -> bool {
-    !is_notation(text) && !is_wanted(text)
+    !is_notation(text) && !is_wanted(text) && text.name.as_str() != "stdin"
 }
 
 /// The words of a row after its command and its name, without those that change how texts are read.

@@ -8,8 +8,9 @@ ghost use Rattle.type_table.specs.Table.{IsCore, IsLinked, reference};
 ghost use Rattle.resolve.specs.Program.{IsWhole};
 ghost use Rattle.tagging.specs.Tags.{bears_tag, automatic_kind, is_automatic};
 ghost use Rattle.tagging.specs.Faults.{IsWrittenIn};
-ghost use Rattle.tagging.specs.proving.Columns.{is_reference, Front, AreKnown, AreFronts, all_automatic};
+ghost use Rattle.tagging.specs.proving.Columns.{is_reference, Front, AreKnown, AreFronts, all_automatic, HoldsOf};
 
+use crate::table::{Held, TagTable};
 use asn_base::schema::TypeId;
 use resolve::{Home, Linked};
 use std::alloc::{AllocError, Global};
@@ -142,13 +143,20 @@ fn automatic_of(alloc: Global, types: &[Written]) -> Result<Vec<bool>, AllocErro
     Ok(automatic)
 }
 
+/// Finds what is kept of the types of linked modules.
+pub(crate) fn table_of(alloc: Global, linked: &Linked) -> Result<TagTable, AllocError>
+    ensures { IfOk result (HoldsOf linked.now.types) }
+{
+    let types = linked.types();
+    let fronts = fronts_of(alloc, types)?;
+    let automatic = automatic_of(alloc, types)?;
+    Ok(TagTable { fronts, automatic })
+}
+
 /// Linked modules, with what is found once for all their types.
 pub(crate) struct Columns<'a> {
     linked: &'a Linked,
-    /// The first type, from each one on through references, that is no reference.
-    fronts: Vec<usize>,
-    /// Whether the members of each type are tagged automatically.
-    automatic: Vec<bool>,
+    table: Held<'a>,
 }
 
 impl<'a> Model for Columns<'a> {
@@ -162,27 +170,32 @@ impl<'a> Model for Columns<'a> {
 
     ghost view = { λ c. c.linked.now };
 
-    ghost use Rattle.std.specs.Prelude.{◌≡◌};
-    ghost use Rattle.tagging.specs.proving.Columns.{AreFronts, all_automatic};
+    ghost use Rattle.tagging.specs.proving.Columns.{HoldsOf, held};
 
-    ghost invariant = { λ c.
-        AreFronts c.linked.now.types c.fronts.items
-        × (c.automatic.items ≡ all_automatic c.linked.now.types) };
+    ghost invariant = { λ c. HoldsOf c.linked.now.types (held c.table) };
 }
 
 impl<'a> Columns<'a> {
-    /// Finds what `Columns` keeps of the types of linked modules.
-    pub(crate) fn of(alloc: Global, linked: &'a Linked) -> Result<Columns<'a>, AllocError>
-        ensures { IfOk result (λ c. c ≡ linked.now) }
+    /// Linked modules with a table of theirs, which the columns own.
+    pub(crate) fn owning(linked: &'a Linked, table: TagTable) -> Columns<'a>
+        requires { HoldsOf linked.now.types table }
+        ensures { result ≡ linked.now }
     {
-        let types = linked.types();
-        let fronts = fronts_of(alloc, types)?;
-        let automatic = automatic_of(alloc, types)?;
-        Ok(Columns {
+        Columns {
             linked,
-            fronts,
-            automatic,
-        })
+            table: Held::Owned(table),
+        }
+    }
+
+    /// Linked modules with a table of theirs, which someone else owns.
+    pub(crate) fn lent(linked: &'a Linked, table: &'a TagTable) -> Columns<'a>
+        requires { HoldsOf linked.now.types table.now }
+        ensures { result ≡ linked.now }
+    {
+        Columns {
+            linked,
+            table: Held::Lent(table),
+        }
     }
 
     /// The linked modules.
@@ -223,7 +236,7 @@ impl<'a> Columns<'a> {
         ensures front { Front self.now.types ty result }
         ensures there { result < length self.now.types }
     {
-        self.fronts[ty]
+        self.table.get().fronts[ty]
     }
 
     /// The type after all references and tags of a type.
@@ -239,7 +252,7 @@ impl<'a> Columns<'a> {
     pub(crate) fn numbers(&self, list: usize) -> bool
         ensures { result ≡ is_automatic self.now.types (slice_get self.now.types list) }
     {
-        match self.automatic.get(list) {
+        match self.table.get().automatic.get(list) {
             None => false,
             Some(numbers) => *numbers,
         }
@@ -265,8 +278,7 @@ impl<'a> Drop for Columns<'a> {
     fn drop(self) {
         let Columns {
             linked: _,
-            fronts: _,
-            automatic: _,
+            table: _,
         } = self;
     }
 }

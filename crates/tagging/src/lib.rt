@@ -9,8 +9,10 @@ mod first;
 pub mod law;
 mod lists;
 mod path;
+mod table;
 mod tagged;
 
 pub use fault::{Limit, TagFault};
 pub use path::{FormedTag, TagForm, TagPath};
-pub use tagged::{Tagged, tag, tags_of};
+pub use table::TagTable;
+pub use tagged::{Tagged, tag, tag_table, tags_of};

@@ -2,6 +2,8 @@
 
 ghost use Rattle.std.specs.Prelude.{ℕ, IsTrue, ◌↔◌, ◌≡◌, ◌<◌, ◌≤◌, length, List, IfErr, IfOk, IsOk, MatchResult};
 ghost use Rattle.tagging.specs.Tags.{Path, path_of, Tags};
+ghost use Rattle.tagging.specs.Tables.{AreTagsOf};
+ghost use Rattle.tagging.specs.proving.Columns.{HoldsOf};
 ghost use Rattle.tagging.specs.Tagged.{Breaks, IsTagged, HaveOneFirst};
 ghost use Rattle.tagging.specs.Faults.{Stands};
 ghost use Rattle.tagging.specs.FirstFault.{IsFirst, IsFirstFault, TellsFirst};
@@ -11,9 +13,10 @@ ghost use Rattle.type_table.specs.declared.table.Written.{Written as Written'};
 
 use crate::automatic::path_of;
 use crate::check::{Fault, Rule, check};
-use crate::columns::Columns;
+use crate::columns::{Columns, table_of};
 use crate::fault::{TagFault, fault_at};
 use crate::path::TagPath;
+use crate::table::TagTable;
 use asn_base::schema::TypeId;
 use resolve::Linked;
 use std::alloc::{AllocError, Global};
@@ -51,6 +54,15 @@ impl<'a> Tagged<'a> {
     {
         columns.whole();
         Tagged { columns }
+    }
+
+    /// Linked modules and their table, as [`tag`] returns them. The call takes no memory, and a time that is the same for
+    /// all modules.
+    pub fn with_table(linked: &'a Linked, table: &'a TagTable) -> Tagged<'a>
+        requires { AreTagsOf linked.now table.now }
+        ensures { result ≡ linked.now }
+    {
+        Tagged::of(Columns::lent(linked, table))
     }
 
     /// Whether the number is that of one of the types.
@@ -98,6 +110,45 @@ fn checked(alloc: Global, columns: &Columns<'_>, types: &[Written]) -> Result<()
     }
 }
 
+/// Checks whether the types of linked modules, for which the table was found, can be tagged; the error is the first
+/// fault of them.
+fn checked_by(
+    alloc: Global,
+    linked: &Linked,
+    table: &TagTable,
+    types: &[Written],
+) -> Result<(), TagFault>
+    requires holds { HoldsOf linked.now.types table.now }
+    requires types { types_of types.now ≡ linked.now.types }
+    ensures found { MatchResult result (λ _. IsTagged linked.now.types) (Stands linked.now) }
+    ensures first { IfErr result (IsFirst linked.now types.now) }
+{
+    let columns = Columns::lent(linked, table);
+    columns.whole();
+    match checked(alloc, &columns, types) {
+        Ok(()) => Ok(()),
+        Err(fault) => Err(fault),
+    }
+}
+
+/// What is found once for the types of linked modules, after they are checked (X.680, clauses 25, 27, 29 and 31).
+///
+/// # Errors The first fault, as [`tag`] returns it.
+pub fn tag_table(alloc: Global, linked: &Linked) -> Result<TagTable, TagFault>
+    ensures found { MatchResult result (AreTagsOf linked.now) (Stands linked.now) }
+    ensures first { IfErr result (TellsFirst linked.now) }
+{
+    let types = linked.types();
+    let table = match table_of(alloc, linked) {
+        Ok(table) => table,
+        Err(_) => return Err(TagFault::Memory),
+    };
+    match checked_by(alloc, linked, &table, types) {
+        Ok(()) => Ok(table),
+        Err(fault) => Err(fault),
+    }
+}
+
 /// Linked modules with their tags (X.680, clauses 25, 27, 29 and 31).
 ///
 /// # Errors The first fault, by the numbers of types, with its module, the name of the assignment and the offset. Each
@@ -110,13 +161,8 @@ pub fn tag(alloc: Global, linked: &Linked) -> Result<Tagged<'_>, TagFault>
         (Stands linked.now) }
     ensures first { IfErr result (TellsFirst linked.now) }
 {
-    let types = linked.types();
-    let columns = match Columns::of(alloc, linked) {
-        Ok(columns) => columns,
-        Err(_) => return Err(TagFault::Memory),
-    };
-    match checked(alloc, &columns, types) {
-        Ok(()) => Ok(Tagged::of(columns)),
+    match tag_table(alloc, linked) {
+        Ok(table) => Ok(Tagged::of(Columns::owning(linked, table))),
         Err(fault) => Err(fault),
     }
 }

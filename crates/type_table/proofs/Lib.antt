@@ -1,4 +1,5 @@
 pub mod Counts
+pub mod FirstFaults
 pub mod Free
 pub mod Fronts
 pub mod Knowing
@@ -8,6 +9,7 @@ pub mod Numbered
 pub mod Numbers
 pub mod Occurring
 pub mod Once
+pub mod OneFirst
 pub mod PartKinds
 pub mod Queue
 pub mod Sets

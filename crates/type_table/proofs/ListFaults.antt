@@ -5,12 +5,14 @@ use Rattle.trees.specs.Values.{Name}
 use Rattle.names.specs.declared.fault.Limit.{Limit}
 use Rattle.names.specs.declared.fault.NameFault.{NameFault}
 use Rattle.names.specs.declared.fault.NameFault.TheVariants as faults
+use Rattle.names.specs.Faults.{IsFirstAgain}
 use Rattle.names.specs.Modules.{StandsIn, StandsTwice}
+use Rattle.names.specs.proving.Distinct.{again_twice}
 use Rattle.names.specs.proving.Gathering.{IsTaken, IsRepeated, TellsTwice}
 use Rattle.type_table.specs.ListFaults.{IsTwiceAmong, IsTwiceIn, HasPassed}
 use Rattle.type_table.specs.Table.{Kind}
 use Rattle.type_table.specs.proving.Checks.{IsKindFault, IsNumberFault, TellsLimit, TellsName}
-use Rattle.type_table.proofs.Fronts.{Kept, KeptIn, kept_twice, kept_in_twice}
+use Rattle.type_table.proofs.Fronts.{Kept, KeptIn, kept_in_twice}
 
 pub kind_twice : (M a : Name) (k : Kind) (Q : Name → Name → Type 0) (e : NameFault) →
     ((m y : Name) → Q m y → (m ≡ M) × IsTwiceIn k y) → TellsTwice Q e → IsKindFault M a k e
@@ -35,13 +37,14 @@ kind_limit M a k l (faults.UnknownModule s) h t = absurd t
 -- a name that is twice in the list
 pub kind_repeated : (M a : Name) (k : Kind) (xs : List Name) (e : NameFault) →
     ((y : Name) → StandsTwice xs y → IsTwiceIn k y) → IsRepeated M xs e → IsKindFault M a k e
-kind_repeated M a k xs e f t = kind_twice M a k (λ m y. (m ≡ M) × StandsTwice xs y) e (λ m y q. (q.0, f y q.1)) t
+kind_repeated M a k xs e f t = kind_twice M a k (λ m y. (m ≡ M) × IsFirstAgain xs y) e (λ m y q. (q.0, f y (again_twice xs y q.1))) t
 
 -- the next name is one of those before it
 pub taken_repeated : (M : Name) (xs done : List Name) (i : ℕ) (x : Name) (e : NameFault) → slice_get xs i ≡ Some x →
     Kept xs done i → IsTaken M x done e → IsRepeated M xs e
 taken_repeated M xs done i x faults.Memory here kept t = tt
-taken_repeated M xs done i x (faults.Twice s) here kept t = (t.0, subst (λ z. StandsTwice xs z) (sym t.1) (kept_twice xs done i x here kept t.2))
+taken_repeated M xs done i x (faults.Twice s) here kept t =
+    (t.0, subst (λ z. IsFirstAgain xs z) (sym t.1) (record { number = i; there = here; again = subst (λ l. StandsIn l x) kept.same t.2; before = kept.apart }))
 taken_repeated M xs done i x (faults.Limit l s) here kept t = absurd t
 taken_repeated M xs done i x (faults.UnknownName s) here kept t = absurd t
 taken_repeated M xs done i x (faults.NotExported s) here kept t = absurd t

@@ -13,7 +13,7 @@ use Rattle.names.specs.Names.{Module}
 use Rattle.type_table.specs.Table.{Type'}
 use Rattle.names.specs.Sources.{Source, AllAssigned}
 use Rattle.type_table.specs.Numbering.{parts_of, member_sources, all_parts, IsTop, AreTops, AreNumbered, Occurs, directly, inside, AreMore}
-use Rattle.type_table.specs.Faults.{IsNumberingFault}
+use Rattle.type_table.specs.Faults.{IsFirstNumbering, IsFirstSource, IsNumberingFault}
 use Rattle.type_table.specs.proving.Checks.{IsSourceFault}
 use Rattle.names.specs.proving.Distinct.{left, right, at_all}
 
@@ -183,3 +183,30 @@ module _ (ms : List (Name × Module)) (hs : List (Name × TagDefault)) (gs : Lis
   halfway_fault roots ts s rest k (faults.NotExported z) h w f = absurd f
   halfway_fault roots ts s rest k (faults.Circular z) h w f = absurd f
   halfway_fault roots ts s rest k (faults.UnknownModule z) h w f = absurd f
+
+  first_source : (roots : List Source) (ts : List Type') (s : Source) (rest : List Source) (k : ℕ) (e : NameFault) →
+      IsHalfway ms hs gs roots ts (s ∷ rest) k → k + 1 + length rest ≤ 65536 →
+      IsSourceFault ms hs gs k (k + 1 + length rest) s e → IsFirstSource ms hs gs roots e
+  first_source roots ts s rest k e h w f =
+      let n : length (h.done ++ s ∷ rest) ≡ k + 1 + length rest = omega (arith, length-append h.done (s ∷ rest), h.count) in
+      record {
+        before = h.done;
+        source = s;
+        behind = rest;
+        all = h.all;
+        types = ts;
+        tops = h.tops;
+        few = omega (arith, n, w);
+        fault = subst (λ z. IsSourceFault ms hs gs (length h.done) z s e) (sym n) (subst (λ z. IsSourceFault ms hs gs z (k + 1 + length rest) s e) (sym h.count) f);
+      }
+
+  pub halfway_first : (roots : List Source) (ts : List Type') (s : Source) (rest : List Source) (k : ℕ)
+      (e : NameFault) → IsHalfway ms hs gs roots ts (s ∷ rest) k → k + 1 + length rest ≤ 65536 →
+      IsSourceFault ms hs gs k (k + 1 + length rest) s e → IsFirstNumbering ms hs gs roots e
+  halfway_first roots ts s rest k faults.Memory h w f = tt
+  halfway_first roots ts s rest k (faults.Limit l z) h w f = first_source roots ts s rest k (faults.Limit l z) h w f
+  halfway_first roots ts s rest k (faults.Twice z) h w f = first_source roots ts s rest k (faults.Twice z) h w f
+  halfway_first roots ts s rest k (faults.UnknownName z) h w f = first_source roots ts s rest k (faults.UnknownName z) h w f
+  halfway_first roots ts s rest k (faults.NotExported z) h w f = first_source roots ts s rest k (faults.NotExported z) h w f
+  halfway_first roots ts s rest k (faults.Circular z) h w f = first_source roots ts s rest k (faults.Circular z) h w f
+  halfway_first roots ts s rest k (faults.UnknownModule z) h w f = first_source roots ts s rest k (faults.UnknownModule z) h w f

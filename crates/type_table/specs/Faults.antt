@@ -1,6 +1,6 @@
 -- What faults of types mean (X.680, clause 16): the module and the name that they give. The offset in the text that
 -- they give isn't specified.
-use Rattle.std.specs.Prelude.{◌≡◌, ℕ, List, Some, slice_get}
+use Rattle.std.specs.Prelude.{◌≡◌, ◌<◌, ◌≤◌, ◌++◌, ◌∷◌, ℕ, List, Some, length, slice_get}
 use Rattle.trees.specs.Values.{Name}
 use Rattle.trees.specs.Types.{TypeTree}
 use Rattle.trees.specs.declared.module.TagDefault.{TagDefault}
@@ -10,8 +10,9 @@ use Rattle.names.specs.declared.fault.Limit.TheVariants as limits
 use Rattle.names.specs.Faults.{module_told, name_told}
 use Rattle.names.specs.Names.{Module}
 use Rattle.names.specs.Sources.{Source}
-use Rattle.type_table.specs.Numbering.{Occurs, AreMore, AreNumbered, RefersToNothing, form_of}
-use Rattle.type_table.specs.Table.{Type', IsCircular}
+use Rattle.type_table.specs.Numbering.{Occurs, AreMore, AreNumbered, AreTops, RefersToNothing, all_parts, form_of}
+use Rattle.type_table.specs.proving.Checks.{IsSourceFault}
+use Rattle.type_table.specs.Table.{Type', IsCircular, IsCore, walk}
 
 -- A reference in the assignment refers to name x, which is not the name of a type. M is the module of the assignment.
 pub record HasUnknown
@@ -45,6 +46,26 @@ IsNumberingFault ms hs gs roots (faults.UnknownName s) = HasUnknown ms hs gs roo
 IsNumberingFault ms hs gs roots (faults.Limit limits.Types s) = HasTooMany hs gs roots (module_told s) (name_told s)
 IsNumberingFault ms hs gs roots e = ⊥
 
+-- The types before this one have a meaning, and no limit is passed by them. This one is a reference without a meaning,
+-- or the types directly in it are too many.
+pub record IsFirstSource
+    (ms : List (Name × Module)) (hs : List (Name × TagDefault)) (gs : List (ℕ × Name))
+    (roots : List Source) (e : NameFault) : Type 0 where
+  pub before : List Source
+  pub source : Source
+  pub behind : List Source
+  pub all : roots ++ all_parts 0 before ≡ before ++ source ∷ behind
+  pub types : List Type'
+  pub tops : AreTops ms hs gs 0 (length roots) before types
+  pub few : length (before ++ source ∷ behind) ≤ 65536
+  pub fault : IsSourceFault ms hs gs (length before) (length (before ++ source ∷ behind)) source e
+
+-- the first type, in the order of their numbers, that can't be numbered; `Memory` says nothing
+abbrev pub IsFirstNumbering :
+    List (Name × Module) → List (Name × TagDefault) → List (ℕ × Name) → List Source → NameFault → Type 0
+IsFirstNumbering ms hs gs roots faults.Memory = Unit {0}
+IsFirstNumbering ms hs gs roots e = IsFirstSource ms hs gs roots e
+
 -- type i comes back to itself, and it is in the assignment of name x in module M
 pub record IsCircularAt
     (ms : List (Name × Module)) (hs : List (Name × TagDefault)) (gs : List (ℕ × Name))
@@ -59,6 +80,14 @@ pub record IsCircularAt
   pub default : TagDefault
   pub assigned : slice_get gs written.assignment ≡ Some (owner, x)
   pub header : slice_get hs owner ≡ Some (M, default)
+
+-- Type p is the one that is reported if a type doesn't unfold. From the first type without a core, as many references
+-- and tags as there are types lead to it, so it comes back to itself.
+pub record IsFirstCircle (ts : List Type') (p : ℕ) : Type 0 where
+  pub start : ℕ
+  pub there : start < length ts
+  pub leads : walk ts (length ts) start ≡ Some p
+  pub before : (i : ℕ) → i < start → (c : ℕ) × IsCore ts i c
 
 -- a reason why types can't be linked
 abbrev pub IsTableFault :

@@ -1,7 +1,7 @@
 -- What a reader has to believe: following references (`Walks`), written types and their unfolding (`Table`), the number
 -- of each type (`Numbering`), and the numbers of items (`Items`). The rules of lists are in `Lists`, the meaning of
--- faults in `Faults` and `ListFaults`, and how definitions see memory in `Seen`. Only contracts inside the crates and
--- proofs use what is in `proving`.
+-- faults in `Faults` and `ListFaults`, which one of a list is first in `FirstInList`, and how definitions see memory in
+-- `Seen`. Only contracts inside the crates and proofs use what is in `proving`.
 pub mod Walks
 pub mod Table
 pub mod Seen
@@ -10,4 +10,5 @@ pub mod Items
 pub mod Lists
 pub mod Faults
 pub mod ListFaults
+pub mod FirstInList
 pub mod proving

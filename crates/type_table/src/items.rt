@@ -3,11 +3,12 @@
 ghost use Rattle.std.specs.Prelude.{◌≡◌, ◌≤◌, ◌<◌, ◌+◌, ◌++◌, ◌^◌, ℤ, pos, List, IfOk, IfErr, OnOk, MatchOption, map};
 ghost use Rattle.trees.specs.Types.{item_of};
 ghost use Rattle.type_table.specs.declared.items.NumberFault.TheVariants as faults;
+ghost use Rattle.type_table.specs.FirstInList.{items_behind};
 ghost use Rattle.type_table.specs.Items.{given_numbers, root_numbers, additions_from, numbers_of, number_or, past};
 ghost use Rattle.type_table.specs.Lists.{AreWithinLimit};
 ghost use Rattle.type_table.specs.Seen.{root_of, more_of};
 ghost use Rattle.type_table.specs.proving.Sets.{Puts, IsSetOf, IsFree};
-ghost use Rattle.type_table.specs.proving.Checks.{IsGreatAt};
+ghost use Rattle.type_table.specs.proving.Checks.{IsGreatAt, IsGreatFirst};
 
 use asn_base::law::integer_within_limit;
 use std::alloc::{AllocError, AllocFailed, Global};
@@ -165,6 +166,7 @@ fn with_additions(
     ensures numbers { IfOk result (λ v. v.items ≡ root.items ++ additions_from root.items 0 (map item_of items.now)) }
     ensures within { IfOk result (λ v. AreWithinLimit v.items) }
     ensures fault { IfErr result (IsGreatAt root.items (map item_of items.now)) }
+    ensures before { IfErr result (IsGreatFirst root.items (map item_of items.now)) }
 {
     let used = set_of(alloc, &root)?;
     let mut numbers = root;
@@ -184,7 +186,8 @@ fn with_additions(
 
 /// The items after the extension marker, or none if there is no marker.
 pub(crate) fn additions(given: &EnumeratedSyntax) -> &[EnumeratedItem]
-    ensures { map item_of result.now ≡ more_of given.now }
+    ensures items { map item_of result.now ≡ more_of given.now }
+    ensures same { result.now ≡ items_behind given.now }
 {
     match &given.additions {
         None => &[],
@@ -200,6 +203,7 @@ pub fn item_numbers(alloc: Global, given: &EnumeratedSyntax) -> Result<Vec<i128>
     ensures numbers { IfOk result (λ v. v.items ≡ numbers_of (root_of given.now) (more_of given.now)) }
     ensures within { IfOk result (λ v. AreWithinLimit v.items) }
     ensures fault { IfErr result (IsGreatAt (root_numbers (root_of given.now)) (more_of given.now)) }
+    ensures before { IfErr result (IsGreatFirst (root_numbers (root_of given.now)) (more_of given.now)) }
 {
     let numbers = root(alloc, &given.root)?;
     match with_additions(alloc, numbers, additions(given)) {

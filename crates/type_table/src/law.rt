@@ -8,7 +8,9 @@ ghost use Rattle.names.specs.declared.fault.NameFault.{NameFault};
 ghost use Rattle.names.specs.declared.scope.Assigned.TheVariants as assigned;
 ghost use Rattle.names.specs.Names.{Module, IsApart, Refers};
 ghost use Rattle.names.specs.Sources.{HaveNoPlace, Source};
+ghost use Rattle.type_table.specs.declared.table.Shape.{Shape};
 ghost use Rattle.type_table.specs.Faults.{IsTableFault};
+ghost use Rattle.type_table.specs.FirstInList.{IsFirstInList, SaysSame};
 ghost use Rattle.type_table.specs.Items.{Item, given_numbers, AreRootNumbers, AreAdditionNumbers, root_numbers, addition_numbers};
 ghost use Rattle.type_table.specs.Numbering.{AreNumbered};
 ghost use Rattle.type_table.specs.Table.{Type', AllUnfold, IsClosed, IsLinked};
@@ -36,6 +38,14 @@ pub fn table_faults_exclude()
         (e ≡ faults.Memory → ⊥) →
         IsTableFault ms hs gs roots e →
         ⊥ }
+{}
+
+/// The list of a type has at most one first fault: two that are the first of one list say the same, with one offset.
+pub fn one_first_in_list()
+    ensures { (M a : Name) (k : Shape) (e f : NameFault) →
+        IsFirstInList M a k e →
+        IsFirstInList M a k f →
+        SaysSame e f }
 {}
 
 /// The types of the assignments are in the table, and each type of the table is in one of the assignments.

@@ -1,17 +1,22 @@
 //! The rules for lists in written types: names and numbers are distinct, and no limit is passed (X.680, 19.5, 19.6,
 //! 20.3 to 20.6, 22.4, 25.7, 27.3 and 29.3).
 
-ghost use Rattle.std.specs.Prelude.{ℕ, ℤ, Bool, ◌≡◌, ◌<◌, ◌≤◌, ◌+◌, ◌++◌, ◌∷◌, [], Some, IfOk, IfErr, OnOk, MatchOption, MatchResult, length, map, slice_get};
+ghost use Rattle.std.specs.Prelude.{ℕ, ℤ, Bool, ◌≡◌, ◌<◌, ◌≤◌, ◌+◌, ◌++◌, ◌∷◌, [], Some, IfOk, IfErr, IfSome, List, OnOk, MatchOption, MatchResult, length, map, slice_get};
 ghost use Rattle.trees.specs.Values.{Name, name_at};
 ghost use Rattle.trees.specs.Types.{number_of, bit_of, item_of, plain_of, an_integer, a_bit_string, an_enumerated};
 ghost use Rattle.trees.specs.declared.types.ListKind.{ListKind as Kinds};
+ghost use Rattle.names.specs.declared.fault.Limit.TheVariants as limits';
+ghost use Rattle.names.specs.First.{IsTwiceAt};
 ghost use Rattle.names.specs.Modules.{StandsIn, StandsTwice, AreDistinct};
 ghost use Rattle.names.specs.proving.Gathering.{IsTaken, IsRepeated};
+ghost use Rattle.type_table.specs.FirstInList.{Placed, IsLimitAt, TellsSecond, TellsPassed};
+ghost use Rattle.type_table.specs.FirstInList.{IsFirstNumber, IsFirstBit, IsFirstItem, IsFirstMember, IsFirstPlain, IsFirstInList};
+ghost use Rattle.type_table.specs.FirstInList.{HasFewItems, IsPassedItem, IsItemNumber, IsPastMember, all_names, all_places, item_places, member_places, members_named};
 ghost use Rattle.type_table.specs.Items.{numbers_of};
 ghost use Rattle.type_table.specs.Lists.{AreWithinLimit, IsSoundPlain, IsSoundKind, root_count, addition_count, in_root, in_additions};
 ghost use Rattle.type_table.specs.Seen.{part_of, kind_of, root_of, behind_marker, more_of};
 ghost use Rattle.type_table.specs.Table.{Part, simple, members as list_of};
-ghost use Rattle.type_table.specs.proving.Checks.{texts, TellsLimit, TellsName, IsNumberFault, IsKindFault};
+ghost use Rattle.type_table.specs.proving.Checks.{texts, TellsLimit, TellsName, IsAgain, IsNumberFault, IsKindFault};
 ghost use Rattle.type_table.specs.proving.Sets.{Puts, IsSetOf};
 
 use crate::items::{NumberFault, additions, item_numbers};
@@ -28,7 +33,8 @@ use trees::{
 
 /// The fault `Twice` for a name that, or whose number, is in a list already. `Memory` only if an allocation fails.
 fn twice(alloc: Global, within: &str, name: &At<String>) -> NameFault
-    ensures { TellsName within.now (name_at name.now) result }
+    ensures name { TellsName within.now (name_at name.now) result }
+    ensures at { IsTwiceAt name.now.at result }
 {
     match spot(alloc, within, name.it.as_str(), name.at) {
         Ok(spot) => NameFault::Twice(spot),
@@ -38,7 +44,8 @@ fn twice(alloc: Global, within: &str, name: &At<String>) -> NameFault
 
 /// The fault `Limit` for a limit that an assignment passes. `Memory` only if an allocation fails.
 fn passed(alloc: Global, limit: Limit, within: &str, assigns: &str, at: usize) -> NameFault
-    ensures { TellsLimit limit within.now assigns.now result }
+    ensures limit { TellsLimit limit within.now assigns.now result }
+    ensures at { IsLimitAt at result }
 {
     match spot(alloc, within, assigns, at) {
         Ok(spot) => NameFault::Limit(limit, spot),
@@ -56,6 +63,7 @@ fn name_once(
     ensures added { OnOk result (texts names.new.keys ≡ texts names.old.keys ++ name_at name.now ∷ []) }
     ensures fresh { OnOk result (StandsIn (texts names.old.keys) (name_at name.now) → ⊥) }
     ensures fault { IfErr result (IsTaken within.now (name_at name.now) (texts names.old.keys)) }
+    ensures at { IfErr result (IsTwiceAt name.now.at) }
 {
     let text = name.it.as_str();
     if names.contains(text) {
@@ -76,6 +84,7 @@ fn number_once(
     ensures added { OnOk result (Puts numbers.old.keys numbers.new.keys number) }
     ensures fresh { OnOk result (StandsIn numbers.old.keys number → ⊥) }
     ensures fault { IfErr result (IsNumberFault within.now (name_at name.now) number numbers.old.keys) }
+    ensures at { IfErr result (IsTwiceAt name.now.at) }
 {
     if numbers.contains(&number) {
         return Err(NameFault::Twice(spot(alloc, within, name.it.as_str(), name.at)?));
@@ -95,6 +104,7 @@ fn place_once(
     ensures added { OnOk result (Puts places.old.keys places.new.keys place) }
     ensures fresh { OnOk result (StandsIn places.old.keys place → ⊥) }
     ensures fault { IfErr result (IsNumberFault within.now (name_at name.now) place places.old.keys) }
+    ensures at { IfErr result (IsTwiceAt name.now.at) }
 {
     if places.contains(&place) {
         return Err(NameFault::Twice(spot(alloc, within, name.it.as_str(), name.at)?));
@@ -108,6 +118,7 @@ fn named_numbers(alloc: Global, within: &str, given: &[NamedNumber]) -> Result<(
     ensures good { OnOk result (IsSoundPlain (an_integer (map number_of given.now))) }
     ensures fault { (assigns : Name) →
         IfErr result (IsKindFault within.now assigns (simple (an_integer (map number_of given.now)))) }
+    ensures first { IfErr result (IsFirstNumber within.now given.now) }
 {
     let mut names = IndexSet::new(alloc);
     let mut numbers = BTreeSet::new(alloc);
@@ -134,6 +145,7 @@ fn named_bits(
     ensures good { OnOk result (IsSoundPlain (a_bit_string (map bit_of given.now))) }
     ensures fault { IfErr result
         (IsKindFault within.now assigns.now (simple (a_bit_string (map bit_of given.now)))) }
+    ensures first { IfErr result (IsFirstBit within.now assigns.now given.now) }
 {
     let mut names = IndexSet::new(alloc);
     let mut places = BTreeSet::new(alloc);
@@ -164,6 +176,7 @@ fn few_items(
     ensures more { OnOk result (length (more_of given.now) ≤ 64) }
     ensures fault { IfErr result
         (IsKindFault within.now assigns.now (simple (an_enumerated (root_of given.now) (behind_marker given.now)))) }
+    ensures first { IfErr result (IsPassedItem within.now assigns.now given.now) }
 {
     if given.root.len() > MAX_ITEMS {
         let place = given.root[MAX_ITEMS].name.at;
@@ -190,6 +203,10 @@ fn item_names(
     ensures distinct { OnOk result (AreDistinct (texts names.new.keys)) }
     ensures fault { IfErr result
         (IsRepeated within.now (texts names.old.keys ++ map (λ i. i.0) (map item_of items.now))) }
+    ensures first { (before : List Placed) →
+        length before ≡ length (texts names.old.keys) →
+        IfErr result (TellsSecond within.now (before ++ item_places items.now)
+        (texts names.old.keys ++ map (λ i. i.0) (map item_of items.now)) (λ i. Unit {0})) }
 {
     for item in items {
         match name_once(alloc, within, &item.name, names) {
@@ -202,9 +219,10 @@ fn item_names(
 
 /// The place of a number that is also at an earlier place, or None if all numbers are distinct.
 fn first_again(alloc: Global, numbers: &[i128]) -> Result<Option<usize>, AllocError>
-    ensures { IfOk result (λ o. MatchOption o
+    ensures again { IfOk result (λ o. MatchOption o
         (AreDistinct numbers.now)
         (λ i. (z : ℤ) × (slice_get numbers.now i ≡ Some z) × StandsTwice numbers.now z)) }
+    ensures first { IfOk result (λ o. IfSome o (λ i. IsAgain numbers.now i)) }
 {
     let mut before = BTreeSet::new(alloc);
     for i in 0..numbers.len() {
@@ -220,7 +238,8 @@ fn first_again(alloc: Global, numbers: &[i128]) -> Result<Option<usize>, AllocEr
 /// The name of the item at this place.
 fn name_at_place(items: &[EnumeratedItem], number: usize) -> &At<String>
     requires { number < length items.now }
-    ensures { slice_get (map (λ i. i.0) (map item_of items.now)) number ≡ Some (name_at result.now) }
+    ensures name { slice_get (map (λ i. i.0) (map item_of items.now)) number ≡ Some (name_at result.now) }
+    ensures place { slice_get (item_places items.now) number ≡ Some result.now }
 {
     let item = &items[number];
     &item.name
@@ -229,7 +248,8 @@ fn name_at_place(items: &[EnumeratedItem], number: usize) -> &At<String>
 /// The name of the item at this place, where first the root items and then the additions are counted from 0.
 fn item_name(given: &EnumeratedSyntax, number: usize) -> &At<String>
     requires { number < length (root_of given.now ++ more_of given.now) }
-    ensures { slice_get (map (λ i. i.0) (root_of given.now ++ more_of given.now)) number ≡ Some (name_at result.now) }
+    ensures name { slice_get (all_names given.now) number ≡ Some (name_at result.now) }
+    ensures place { slice_get (all_places given.now) number ≡ Some result.now }
 {
     let count = given.root.len();
     if number < count {
@@ -250,6 +270,9 @@ fn item_numbers_once(
     ensures limit { OnOk result (AreWithinLimit (numbers_of (root_of given.now) (more_of given.now))) }
     ensures fault { IfErr result
         (IsKindFault within.now assigns.now (simple (an_enumerated (root_of given.now) (behind_marker given.now)))) }
+    ensures first { HasFewItems given.now →
+        AreDistinct (all_names given.now) →
+        IfErr result (IsItemNumber within.now assigns.now given.now) }
 {
     match item_numbers(alloc, given) {
         Ok(numbers) => match first_again(alloc, &numbers) {
@@ -275,6 +298,7 @@ fn enumerated(
     ensures good { OnOk result (IsSoundPlain (an_enumerated (root_of given.now) (behind_marker given.now))) }
     ensures fault { IfErr result
         (IsKindFault within.now assigns.now (simple (an_enumerated (root_of given.now) (behind_marker given.now)))) }
+    ensures first { IfErr result (IsFirstItem within.now assigns.now given.now) }
 {
     match few_items(alloc, within, assigns, given) {
         Ok(()) => {}
@@ -326,6 +350,8 @@ fn few_members(
     ensures more { OnOk result (addition_count (map part_of given.now) ≤ 64) }
     ensures fault { (l : Kinds) (m : Bool) →
         IfErr result (IsKindFault within.now assigns.now (list_of l m (map part_of given.now))) }
+    ensures first { IfErr result (TellsPassed limits'.Members within.now assigns.now (member_places given.now)
+        (IsPastMember given.now)) }
 {
     let mut counted = Members { root: 0, more: 0 };
     for component in given {
@@ -345,6 +371,8 @@ fn few_members(
 fn member_names(alloc: Global, within: &str, given: &[ListMember]) -> Result<(), NameFault>
     ensures distinct { OnOk result (AreDistinct (map (λ (c : Part). c.name) (map part_of given.now))) }
     ensures fault { IfErr result (IsRepeated within.now (map (λ (c : Part). c.name) (map part_of given.now))) }
+    ensures first { IfErr result
+        (TellsSecond within.now (member_places given.now) (members_named given.now) (λ i. Unit {0})) }
 {
     let mut names = IndexSet::new(alloc);
     for component in given {
@@ -367,6 +395,7 @@ fn list_members(
 ) -> Result<(), NameFault>
     ensures good { OnOk result (IsSoundKind (list_of kind marker (map part_of given.now))) }
     ensures fault { IfErr result (IsKindFault within.now assigns.now (list_of kind marker (map part_of given.now))) }
+    ensures first { IfErr result (IsFirstMember within.now assigns.now given.now) }
 {
     match few_members(alloc, within, assigns, given) {
         Ok(()) => {}
@@ -382,6 +411,7 @@ fn list_members(
 fn simple_list(alloc: Global, within: &str, assigns: &str, given: &Simple) -> Result<(), NameFault>
     ensures good { OnOk result (IsSoundPlain (plain_of given.now)) }
     ensures fault { IfErr result (IsKindFault within.now assigns.now (simple (plain_of given.now))) }
+    ensures first { IfErr result (IsFirstPlain within.now assigns.now given.now) }
 {
     match given {
         Simple::Integer(numbers) => named_numbers(alloc, within, numbers),
@@ -406,9 +436,10 @@ pub fn sound_shape(
     assigns: &str,
     shape: &Shape,
 ) -> Result<(), NameFault>
-    ensures { MatchResult result
+    ensures sound { MatchResult result
         (λ _. IsSoundKind (kind_of shape.now))
         (IsKindFault within.now assigns.now (kind_of shape.now)) }
+    ensures first { IfErr result (IsFirstInList within.now assigns.now shape.now) }
 {
     match shape {
         Shape::Simple(given) => simple_list(alloc, within, assigns, given),

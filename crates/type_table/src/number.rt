@@ -8,7 +8,7 @@ ghost use Rattle.names.specs.declared.fault.NameFault.TheVariants as faults;
 ghost use Rattle.names.specs.declared.sources.AssignedAt.{AssignedAt};
 ghost use Rattle.names.specs.Names.{Refers};
 ghost use Rattle.names.specs.Sources.{header_of, assignment_of, source_of, sources_of, AllAssigned};
-ghost use Rattle.type_table.specs.Faults.{IsNumberingFault};
+ghost use Rattle.type_table.specs.Faults.{IsFirstNumbering, IsNumberingFault};
 ghost use Rattle.type_table.specs.Numbering.{member_sources, inner_source, numbered, form_parts, parts_of, IsKind, IsTop, AreNumbered};
 ghost use Rattle.type_table.specs.Seen.{types_of, kind_of, part_of, type_of, form_seen};
 ghost use Rattle.type_table.specs.proving.Checks.{IsNothing, IsUnknown, IsTypesLimit, IsSourceFault};
@@ -230,7 +230,7 @@ fn written_of(
 /// All written types in the order of their numbers: first those of the assignments, and then the parts of each type.
 ///
 /// `UnknownName`: a reference leads to no type. `Limit`: more than 65,536 types are written. `Memory`: an allocation
-/// failed.
+/// failed. The fault is that of the first type in the order of their numbers.
 pub fn number_all(
     alloc: Global,
     names: &Names,
@@ -247,6 +247,9 @@ pub fn number_all(
     ensures few { IfOk result (λ v. length v.items ≤ 65536) }
     ensures fault { IfErr result
         (IsNumberingFault names.now (map header_of headers.now) (map assignment_of assignments.now)
+        (sources_of roots.items)) }
+    ensures first { IfErr result
+        (IsFirstNumbering names.now (map header_of headers.now) (map assignment_of assignments.now)
         (sources_of roots.items)) }
 {
     let mut sources = roots;

@@ -1,8 +1,9 @@
 //! Unfolding: from a type through references and tags to its core.
 
-ghost use Rattle.std.specs.Prelude.{◌≡◌, ℕ, ◌<◌, length, Ok, Err, List, MatchResult};
+ghost use Rattle.std.specs.Prelude.{◌≡◌, ℕ, ◌<◌, length, Ok, Err, IfErr, List, MatchResult, Some};
 ghost use Rattle.type_table.specs.Seen.{type_of, types_of};
-ghost use Rattle.type_table.specs.Table.{behind, IsClosed, IsCircular, IsCore, Type'};
+ghost use Rattle.type_table.specs.Faults.{IsFirstCircle};
+ghost use Rattle.type_table.specs.Table.{behind, walk, IsClosed, IsCircular, IsCore, Type'};
 ghost use Rattle.type_table.specs.proving.Cores.{AreKnown, AreCores};
 ghost use Rattle.type_table.specs.proving.Notes.{IsKnown, AreUnknown};
 
@@ -26,8 +27,9 @@ fn core_by(types: &[Written], cores: &[usize], start: usize) -> Result<usize, us
     requires long { length cores.now ≡ length types.now }
     requires known { AreKnown (types_of types.now) cores.now }
     requires there { start < length types.now }
-    ensures { MatchResult result (λ c. (c < length types.now) × IsCore (types_of types.now) start c)
+    ensures core { MatchResult result (λ c. (c < length types.now) × IsCore (types_of types.now) start c)
         (λ i. (i < length types.now) × IsCircular (types_of types.now) i) }
+    ensures far { IfErr result (λ i. walk (types_of types.now) (length (types_of types.now)) start ≡ Some i) }
 {
     let mut at = start;
     for step in 0..types.len() {
@@ -69,14 +71,16 @@ fn note(types: &[Written], cores: &mut [usize], start: usize, core: usize)
     }
 }
 
-/// Finds the core of each type. The error is a type that comes back to itself. No type is passed more than three times,
+/// Finds the core of each type. The error is a type that comes back to itself, to which the first type without a core
+/// leads. No type is passed more than three times,
 /// so the time depends only on the length of the table, even if its chains of references are long.
 pub fn unfold_all(types: &[Written], cores: &mut [usize]) -> Result<(), usize>
     requires closed { IsClosed (types_of types.now) }
     requires long { length cores.old ≡ length types.now }
     requires unknown { AreUnknown (length types.now) cores.old }
-    ensures { MatchResult result (λ _. AreCores (types_of types.now) cores.new)
+    ensures cores { MatchResult result (λ _. AreCores (types_of types.now) cores.new)
         (λ i. (i < length types.now) × IsCircular (types_of types.now) i) }
+    ensures first { IfErr result (IsFirstCircle (types_of types.now)) }
 {
     for i in 0..types.len() {
         match core_by(types, cores, i) {

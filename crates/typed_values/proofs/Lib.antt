@@ -3,5 +3,7 @@ pub mod Places
 pub mod Following
 pub mod Rows
 pub mod Readings
+pub mod Outcomes
+pub mod Shown
 pub mod Excluding
 pub mod Absences

@@ -13,9 +13,8 @@ use Rattle.type_table.specs.declared.table.Written.{Written}
 use Rattle.type_table.specs.Seen.{kind_of, part_of, type_of, types_of}
 use Rattle.values.specs.Arranged.{IsArranged, place_of}
 use Rattle.type_table.specs.declared.table.ListMember.{ListMember}
-use Rattle.typed_values.proofs.Rows.{got, got_or, got_plain, place_below, split, taken, map_end, one_more, none_yet, one_field_more, no_field_yet}
-use Rattle.asn_base.specs.declared.value.Value.{Value}
-use Rattle.asn_base.specs.Abstract.{AbstractValue, abstract, Row, row_of_list, row_of_options, fields, list, alternative}
+use Rattle.typed_values.proofs.Rows.{got, got_or, got_plain, place_below, split, taken, one_more, one_field_more}
+use Rattle.asn_base.specs.Abstract.{AbstractValue, Row, row_of_list, row_of_options, fields, list, alternative}
 use Rattle.asn_base.specs.Typed.{nodes, members, GroupsAreWhole}
 use Rattle.trees.specs.declared.types.ListKind.{ListKind}
 use Rattle.trees.specs.declared.types.ListKind.TheVariants.{Sequence, Set, Choice}
@@ -453,20 +452,20 @@ value_as {p} {levels} {before} {after} {i} {os} {M} {n} e h =
 
 -- a list's elements, one after another
 pub row_wrong : {p : Program} {levels before between : ℕ} {os ps : List ℕ} {M : Name} {a : ℕ} {f : ValueFault}
-    (vs : List Value) (xs : List ValueSyntax) (i : ℕ) (x : ValueSyntax) →
+    (us : List AbstractValue) (xs : List ValueSyntax) (i : ℕ) (x : ValueSyntax) →
     i < length xs → x ≡ get_or xs i x →
-    MeanRow p levels before between os M a (map tree_of (take i xs)) (row_of_list (map abstract vs)) →
+    MeanRow p levels before between os M a (map tree_of (take i xs)) (row_of_list us) →
     ps ≡ os →
     Stands p levels between ps M a (tree_of x) f →
     StandsInOne p levels before os M a (map tree_of xs) f
-row_wrong {between = between} vs xs i x l e r q h =
+row_wrong {between = between} us xs i x l e r q h =
     let c = r.counted in
     record {
       before = map tree_of (take i xs);
       one = tree_of x;
       after = map tree_of (drop (i + 1) xs);
       split = split tree_of xs i x l e;
-      row = row_of_list (map abstract vs);
+      row = row_of_list us;
       stand = r.stand;
       values = r.values;
       rest = between;
@@ -474,27 +473,17 @@ row_wrong {between = between} vs xs i x l e r q h =
       fault = opened_as q h;
     }
 
-pub row_more : {p : Program} {levels before between after : ℕ} {os ps : List ℕ} {M : Name} {a : ℕ} (vs ws : List Value)
-    (v : Value) (xs : List ValueSyntax) (i : ℕ) (x : ValueSyntax) →
+pub row_more : {p : Program} {levels before between after : ℕ} {os ps : List ℕ} {M : Name} {a : ℕ}
+    (us : List AbstractValue) (v : AbstractValue) (xs : List ValueSyntax) (i : ℕ) (x : ValueSyntax) →
     i < length xs → x ≡ get_or xs i x →
-    ws ≡ vs ++ v ∷ [] →
-    MeanRow p levels before between os M a (map tree_of (take i xs)) (row_of_list (map abstract vs)) →
+    MeanRow p levels before between os M a (map tree_of (take i xs)) (row_of_list us) →
     ps ≡ os →
-    Means p levels between after ps M a (tree_of x) (abstract v) →
-    MeanRow p levels before after os M a (map tree_of (take (i + 1) xs)) (row_of_list (map abstract ws))
-row_more {p} {levels} {before} {between} {after} {os} {ps} {M} {a} vs ws v xs i x l e w r q h =
-    let all = ap (map abstract) w ∙ map_end abstract vs v in
-    let more = one_more p levels os M a before between after (map tree_of (take i xs)) (map abstract vs) (tree_of x) (abstract v) r
-    (means_as q h) in
-    subst (λ (us : List AbstractValue). MeanRow p levels before after os M a (map tree_of (take (i + 1) xs)) (row_of_list us)) (sym all)
-    (subst (λ (ts : List Tree). MeanRow p levels before after os M a ts (row_of_list (map abstract vs ++ abstract v ∷ [])))
-    (sym (taken tree_of xs i x l e)) more)
-
-pub row_none : (p : Program) (levels left : ℕ) (os : List ℕ) (M : Name) (a : ℕ) (vs : List Value) → vs ≡ [] →
-    MeanRow p levels left left os M a [] (row_of_list (map abstract vs))
-row_none p levels left os M a vs e =
-    subst (λ (us : List Value). MeanRow p levels left left os M a [] (row_of_list (map abstract us))) (sym e)
-    (none_yet p levels os M a left)
+    Means p levels between after ps M a (tree_of x) v →
+    MeanRow p levels before after os M a (map tree_of (take (i + 1) xs)) (row_of_list (us ++ v ∷ []))
+row_more {p} {levels} {before} {between} {after} {os} {ps} {M} {a} us v xs i x l e r q h =
+    let more = one_more p levels os M a before between after (map tree_of (take i xs)) us (tree_of x) v r (means_as q h) in
+    subst (λ (ts : List Tree). MeanRow p levels before after os M a ts (row_of_list (us ++ v ∷ [])))
+    (sym (taken tree_of xs i x l e)) more
 
 -- components, one after another
 wrong_as : {p : Program} {levels left : ℕ} {os ps : List ℕ} {K N : Name} {fs : List (Name × Tree)} {c : Part} {f : ValueFault} →
@@ -503,20 +492,20 @@ wrong_as {p} {levels} {left} {os} {ps} {K} {N} {fs} {c} {f} e h =
     subst (λ (x : List ℕ). IsWrongField p levels left x K N fs c f) e h
 
 pub fields_wrong : {p : Program} {levels before between : ℕ} {os ps : List ℕ} {K N : Name} {fs : List (Name × Tree)}
-    {f : ValueFault} (vs : List (Option Value)) (xs : List ListMember) (i : ℕ) (x : ListMember) →
+    {f : ValueFault} (us : List (Option AbstractValue)) (xs : List ListMember) (i : ℕ) (x : ListMember) →
     i < length xs → x ≡ get_or xs i x →
-    MeanFields p levels before between os K N fs (map part_of (take i xs)) (row_of_options (map (option_map abstract) vs)) →
+    MeanFields p levels before between os K N fs (map part_of (take i xs)) (row_of_options us) →
     ps ≡ os →
     IsWrongField p levels between ps K N fs (part_of x) f →
     StandsInField p levels before os K N fs (map part_of xs) f
-fields_wrong {between = between} vs xs i x l e r q h =
+fields_wrong {between = between} us xs i x l e r q h =
     let c = r.counted in
     record {
       before = map part_of (take i xs);
       one = part_of x;
       after = map part_of (drop (i + 1) xs);
       split = split part_of xs i x l e;
-      row = row_of_options (map (option_map abstract) vs);
+      row = row_of_options us;
       stand = r.stand;
       values = r.values;
       rest = between;
@@ -529,28 +518,18 @@ field_as : (p : Program) (levels : ℕ) {os ps : List ℕ} (K N : Name) (fs : Li
 field_as p levels {os} {ps} K N fs c o e h = subst (λ (x : List ℕ). IsField p levels x K N fs c o) e h
 
 pub fields_more : {p : Program} {levels before between after : ℕ} {os ps : List ℕ} {K N : Name} {fs : List (Name × Tree)}
-    (vs ws : List (Option Value)) (v : Option Value) (xs : List ListMember) (i : ℕ) (x : ListMember) →
+    (us : List (Option AbstractValue)) (v : Option AbstractValue) (xs : List ListMember) (i : ℕ) (x : ListMember) →
     i < length xs → x ≡ get_or xs i x →
-    ws ≡ vs ++ v ∷ [] →
-    MeanFields p levels before between os K N fs (map part_of (take i xs)) (row_of_options (map (option_map abstract) vs)) →
+    MeanFields p levels before between os K N fs (map part_of (take i xs)) (row_of_options us) →
     ps ≡ os →
-    IsField p levels ps K N fs (part_of x) (option_map abstract v) →
-    between ≡ after + option_nodes (option_map abstract v) →
-    MeanFields p levels before after os K N fs (map part_of (take (i + 1) xs)) (row_of_options (map (option_map abstract) ws))
-fields_more {p} {levels} {before} {between} {after} {os} {ps} {K} {N} {fs} vs ws v xs i x l e w r q h b =
-    let all = ap (map (option_map abstract)) w ∙ map_end (option_map abstract) vs v in
-    let more = one_field_more p levels os K N fs before between after (map part_of (take i xs)) (map (option_map abstract) vs)
-    (part_of x) (option_map abstract v) r (field_as p levels K N fs (part_of x) (option_map abstract v) q h) b in
-    subst (λ (us : List (Option AbstractValue)). MeanFields p levels before after os K N fs (map part_of (take (i + 1) xs)) (row_of_options us)) (sym all)
-    (subst (λ (ts : List Part). MeanFields p levels before after os K N fs ts (row_of_options (map (option_map abstract) vs ++ option_map abstract v ∷ [])))
-    (sym (taken part_of xs i x l e)) more)
-
-pub fields_none : (p : Program) (levels left : ℕ) (os : List ℕ) (K N : Name) (fs : List (Name × Tree)) (vs : List (Option Value)) →
-    vs ≡ [] →
-    MeanFields p levels left left os K N fs [] (row_of_options (map (option_map abstract) vs))
-fields_none p levels left os K N fs vs e =
-    subst (λ (us : List (Option Value)). MeanFields p levels left left os K N fs [] (row_of_options (map (option_map abstract) us))) (sym e)
-    (no_field_yet p levels os K N fs left)
+    IsField p levels ps K N fs (part_of x) v →
+    between ≡ after + option_nodes v →
+    MeanFields p levels before after os K N fs (map part_of (take (i + 1) xs)) (row_of_options (us ++ v ∷ []))
+fields_more {p} {levels} {before} {between} {after} {os} {ps} {K} {N} {fs} us v xs i x l e r q h b =
+    let more = one_field_more p levels os K N fs before between after (map part_of (take i xs)) us (part_of x) v r
+    (field_as p levels K N fs (part_of x) v q h) b in
+    subst (λ (ts : List Part). MeanFields p levels before after os K N fs ts (row_of_options (us ++ v ∷ [])))
+    (sym (taken part_of xs i x l e)) more
 
 -- alternatives
 pub alternative_below : (xs : List ListMember) (i : ℕ) (x : Name) → slice_get (part_names (map part_of xs)) i ≡ Some x → i < length xs
@@ -616,7 +595,7 @@ names_misfit Sequence e cs l none f = f
 names_misfit Set e cs l none f = f
 names_misfit Choice e cs l none f = absurd (none refl)
 
-pub row_count : (vs : List Value) → members (row_of_list (map abstract vs)) ≡ length vs
+pub row_count : (vs : List AbstractValue) → members (row_of_list vs) ≡ length vs
 row_count [] = refl
 row_count (v ∷ vs) = ap suc (row_count vs)
 

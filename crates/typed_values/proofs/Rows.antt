@@ -32,10 +32,6 @@ taken f (y ∷ ys) (suc i) x l e =
     let q : suc i + 1 ≡ suc (i + 1) = omega arith in
     rw q (ap (λ zs. f y ∷ zs) h)
 
-pub map_end : {A B : Type 0} (f : A → B) (xs : List A) (x : A) → map f (xs ++ x ∷ []) ≡ map f xs ++ f x ∷ []
-map_end f [] x = refl
-map_end f (y ∷ ys) x = ap (λ zs. f y ∷ zs) (map_end f ys x)
-
 pub place_below : {A : Type 0} (xs : List A) (i : ℕ) (x : A) → slice_get xs i ≡ Some x → i < length xs
 place_below [] i x e = absurd cc
 place_below (y ∷ ys) zero x e = omega arith

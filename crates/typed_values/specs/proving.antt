@@ -1,3 +1,4 @@
 -- What only contracts inside the crate, and proofs, speak of.
+pub mod Outcomes
 pub mod Reading
 pub mod Forms

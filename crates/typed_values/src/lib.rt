@@ -5,6 +5,7 @@ mod fault;
 mod forms;
 pub mod law;
 mod levels;
+mod outcome;
 mod reading;
 mod room;
 mod simple;
@@ -12,4 +13,4 @@ mod written;
 
 pub use fault::{Cause, Place, ValueFault};
 pub use levels::Defaults;
-pub use reading::{typed, typed_with};
+pub use reading::{judged_with, typed, typed_with};

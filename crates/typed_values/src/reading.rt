@@ -1,7 +1,7 @@
 //! The reading of a notation under a type, from its beginning on.
 
-ghost use Rattle.std.specs.Prelude.{◌<◌, ◌≡◌, ◌+◌, ℕ, suc, Bool as 𝔹, List, [], true, false, IfErr, IfOk, OnOk, None, Some, length, map, option_map, slice_get};
-ghost use Rattle.asn_base.specs.Abstract.{abstract, row_of_list, row_of_options};
+ghost use Rattle.std.specs.Prelude.{◌<◌, ◌≡◌, ℕ, suc, Bool as 𝔹, List, [], true, false, IfErr, IfOk, OnOk, None, Some, length, map, slice_get};
+ghost use Rattle.asn_base.specs.Abstract.{AbstractValue, abstract};
 ghost use Rattle.trees.specs.declared.types.ElementsKind.{ElementsKind as ElementsKind'};
 ghost use Rattle.trees.specs.declared.types.ListKind.TheVariants.{Choice as choice};
 ghost use Rattle.trees.specs.declared.types.Standing.TheVariants.{Root};
@@ -18,15 +18,15 @@ ghost use Rattle.values.specs.Allowing.{Allows, AllowsCode};
 ghost use Rattle.values.specs.Arranged.{place_of};
 ghost use Rattle.typed_values.specs.Faults.{IsWritten, Stands};
 ghost use Rattle.typed_values.specs.Known.{AreKnown, AreListed, IsListed};
-ghost use Rattle.typed_values.specs.proving.Reading.{ArePlaced, IsField, IsWrongDefault, IsWrongField, MeanFields, MeanRow, StandsInField, StandsInOne, Tells, option_nodes};
+ghost use Rattle.typed_values.specs.proving.Reading.{Answers, ArePlaced, IsMade, IsWrongDefault, IsWrongField, MakeFields, MakeRow, MakesField, StandsInField, StandsInOne};
 
 use crate::fault::{Cause, Place, ValueFault, unarranged, unfollowed};
 use crate::forms::{chosen_in, fields_in, values_in};
 use crate::levels::Defaults;
+use crate::outcome::{Judged, Outcome};
 use crate::room::room_for;
 use crate::simple::simple_value;
 use crate::written::written;
-use asn_base::law::abstract_values;
 use asn_base::schema::TypeId;
 use asn_base::value::Value;
 use constraints::{Bounded, allows_size};
@@ -57,7 +57,7 @@ fn is_choice(kind: ListKind) -> bool
 /// Reads a notation under a type, if `levels` levels and `left` nodes are left. `opened` are the values whose notations
 /// are being read; those that the reading of a value adds are removed again.
 #[cycle(reading)]
-fn read<'a>(
+fn read<'a, O: Outcome>(
     alloc: Global,
     bounded: &Bounded<'a>,
     defaults: &mut Defaults,
@@ -65,11 +65,11 @@ fn read<'a>(
     left: &mut u32,
     opened: &mut Opened,
     at: Place<'a>,
-) -> Result<Value, ValueFault<'a>>
+) -> Result<O, ValueFault<'a>>
     requires there { at.ty.index < length bounded.now.types }
     requires sound { AreSound bounded.now.types }
     requires known { AreKnown bounded.now defaults.old }
-    ensures tells { Tells bounded.now levels left.old left.new opened.old at.entry.within.now at.entry.ty.index
+    ensures tells { Answers O.shows bounded.now levels left.old left.new opened.old at.entry.within.now at.entry.ty.index
         (tree_of at.entry.notation.now) result }
     ensures back { OnOk result (opened.new ≡ opened.old) }
     ensures known { AreKnown bounded.now defaults.new }
@@ -119,7 +119,7 @@ fn read<'a>(
 /// Reads the notation to which the references of a notation lead, under the shape of its type after references and
 /// tags.
 #[cycle(reading)]
-fn value_of<'a>(
+fn value_of<'a, O: Outcome>(
     alloc: Global,
     bounded: &Bounded<'a>,
     defaults: &mut Defaults,
@@ -131,7 +131,7 @@ fn value_of<'a>(
     home: &'a str,
     within: &'a str,
     last: &'a ValueSyntax,
-) -> Result<Value, ValueFault<'a>>
+) -> Result<O, ValueFault<'a>>
     requires there { at.ty.index < length bounded.now.types }
     requires sound { AreSound bounded.now.types }
     requires written { IsWritten bounded.now at.ty.index (kind_of shape.now) home.now }
@@ -139,7 +139,8 @@ fn value_of<'a>(
     ensures tells { (os : List ℕ)
         → IsLast bounded.now (kind_of shape.now) os at.entry.within.now (tree_of at.entry.notation.now) opened.old within.now
         (tree_of last.now)
-        → Tells bounded.now (suc levels) (suc left.old) left.new os at.entry.within.now at.entry.ty.index (tree_of at.entry.notation.now)
+        → Answers O.shows bounded.now (suc levels) (suc left.old) left.new os at.entry.within.now
+        at.entry.ty.index (tree_of at.entry.notation.now)
         result }
     ensures back { OnOk result (opened.new ≡ opened.old) }
     ensures known { AreKnown bounded.now defaults.new }
@@ -147,7 +148,10 @@ fn value_of<'a>(
     let linked = bounded.linked();
     linked.whole();
     match shape {
-        Shape::Simple(simple) => simple_value(alloc, bounded, at, simple, within, last),
+        Shape::Simple(simple) => match simple_value(alloc, bounded, at, simple, within, last) {
+            Ok(value) => Ok(O::leaf(value)),
+            Err(fault) => Err(fault),
+        },
         Shape::Elements(_, element) => {
             let element = TypeId { index: *element };
             list(
@@ -174,7 +178,7 @@ fn value_of<'a>(
 
 /// Reads the value of a SEQUENCE OF or SET OF.
 #[cycle(reading)]
-fn list<'a>(
+fn list<'a, O: Outcome>(
     alloc: Global,
     bounded: &Bounded<'a>,
     defaults: &mut Defaults,
@@ -185,7 +189,7 @@ fn list<'a>(
     element: TypeId,
     within: &'a str,
     last: &'a ValueSyntax,
-) -> Result<Value, ValueFault<'a>>
+) -> Result<O, ValueFault<'a>>
     requires there { at.ty.index < length bounded.now.types }
     requires element { element.index < length bounded.now.types }
     requires sound { AreSound bounded.now.types }
@@ -194,12 +198,12 @@ fn list<'a>(
         → IsWritten bounded.now at.entry.ty.index (elements k element.index) N
         → IsLast bounded.now (elements k element.index) os at.entry.within.now (tree_of at.entry.notation.now) opened.old within.now
         (tree_of last.now)
-        → Tells bounded.now (suc levels) (suc left.old) left.new os at.entry.within.now at.entry.ty.index (tree_of at.entry.notation.now)
+        → Answers O.shows bounded.now (suc levels) (suc left.old) left.new os at.entry.within.now
+        at.entry.ty.index (tree_of at.entry.notation.now)
         result }
     ensures back { OnOk result (opened.new ≡ opened.old) }
     ensures known { AreKnown bounded.now defaults.new }
 {
-    abstract_values();
     let Some(notations) = values_in(last) else {
         let cause = Cause::NotOfType;
         return Err(ValueFault { at, cause });
@@ -214,12 +218,12 @@ fn list<'a>(
         let cause = Cause::Outside;
         return Err(ValueFault { at, cause });
     }
-    Ok(Value::List(values))
+    Ok(O::list(values))
 }
 
 /// Reads the elements of a list, one after the other.
 #[cycle(reading)]
-fn all<'a>(
+fn all<'a, O: Outcome>(
     alloc: Global,
     bounded: &Bounded<'a>,
     defaults: &mut Defaults,
@@ -229,12 +233,12 @@ fn all<'a>(
     element: TypeId,
     within: &'a str,
     notations: &'a [ValueSyntax],
-) -> Result<Vec<Value>, ValueFault<'a>>
+) -> Result<Vec<O>, ValueFault<'a>>
     requires there { element.index < length bounded.now.types }
     requires sound { AreSound bounded.now.types }
     requires known { AreKnown bounded.now defaults.old }
-    ensures value { IfOk result (λ vs. MeanRow bounded.now levels left.old left.new opened.old within.now element.index
-        (map tree_of notations.now) (row_of_list (map abstract vs.items))) }
+    ensures value { IfOk result (λ vs. MakeRow O.shows bounded.now levels left.old left.new opened.old within.now
+        element.index (map tree_of notations.now) vs.items) }
     ensures fault { IfErr result (StandsInOne bounded.now levels left.old opened.old within.now element.index
         (map tree_of notations.now)) }
     ensures back { OnOk result (opened.new ≡ opened.old) }
@@ -264,7 +268,7 @@ fn all<'a>(
 
 /// Reads the value of a CHOICE.
 #[cycle(reading)]
-fn chosen<'a>(
+fn chosen<'a, O: Outcome>(
     alloc: Global,
     bounded: &Bounded<'a>,
     defaults: &mut Defaults,
@@ -275,7 +279,7 @@ fn chosen<'a>(
     alternatives: &'a [ListMember],
     within: &'a str,
     last: &'a ValueSyntax,
-) -> Result<Value, ValueFault<'a>>
+) -> Result<O, ValueFault<'a>>
     requires members { (j : ℕ) (c : Part) → slice_get (map part_of alternatives.now) j ≡ Some c
         → c.ty < length bounded.now.types }
     requires sound { AreSound bounded.now.types }
@@ -284,12 +288,12 @@ fn chosen<'a>(
         → IsWritten bounded.now at.entry.ty.index (members choice e (map part_of alternatives.now)) N
         → IsLast bounded.now (members choice e (map part_of alternatives.now)) os at.entry.within.now
         (tree_of at.entry.notation.now) opened.old within.now (tree_of last.now)
-        → Tells bounded.now (suc levels) (suc left.old) left.new os at.entry.within.now at.entry.ty.index (tree_of at.entry.notation.now)
+        → Answers O.shows bounded.now (suc levels) (suc left.old) left.new os at.entry.within.now
+        at.entry.ty.index (tree_of at.entry.notation.now)
         result }
     ensures back { OnOk result (opened.new ≡ opened.old) }
     ensures known { AreKnown bounded.now defaults.new }
 {
-    abstract_values();
     let Some((name, notation)) = chosen_in(last) else {
         let cause = Cause::NotOfType;
         return Err(ValueFault { at, cause });
@@ -306,12 +310,12 @@ fn chosen<'a>(
         within,
         notation,
     };
-    let value = match read(alloc, bounded, defaults, levels, left, opened, inner) {
+    let value: O = match read(alloc, bounded, defaults, levels, left, opened, inner) {
         Ok(value) => value,
         Err(fault) => return Err(fault),
     };
-    match Box::new(alloc, value) {
-        Ok(held) => Ok(Value::Alt(number, held)),
+    match O::alternative(alloc, number, value) {
+        Ok(chosen) => Ok(chosen),
         Err(_) => {
             let cause = Cause::Memory;
             Err(ValueFault { at, cause })
@@ -321,7 +325,7 @@ fn chosen<'a>(
 
 /// Reads the value of a SEQUENCE or SET.
 #[cycle(reading)]
-fn fields<'a>(
+fn fields<'a, O: Outcome>(
     alloc: Global,
     bounded: &Bounded<'a>,
     defaults: &mut Defaults,
@@ -334,7 +338,7 @@ fn fields<'a>(
     home: &'a str,
     within: &'a str,
     last: &'a ValueSyntax,
-) -> Result<Value, ValueFault<'a>>
+) -> Result<O, ValueFault<'a>>
     requires list { kind ≡ choice → ⊥ }
     requires distinct { AreDistinct (part_names (map part_of components.now)) }
     requires members { (j : ℕ) (c : Part) → slice_get (map part_of components.now) j ≡ Some c
@@ -346,12 +350,12 @@ fn fields<'a>(
         → IsWritten bounded.now at.entry.ty.index (members kind e (map part_of components.now)) home.now
         → IsLast bounded.now (members kind e (map part_of components.now)) os at.entry.within.now (tree_of at.entry.notation.now)
         opened.old within.now (tree_of last.now)
-        → Tells bounded.now (suc levels) (suc left.old) left.new os at.entry.within.now at.entry.ty.index (tree_of at.entry.notation.now)
+        → Answers O.shows bounded.now (suc levels) (suc left.old) left.new os at.entry.within.now
+        at.entry.ty.index (tree_of at.entry.notation.now)
         result }
     ensures back { OnOk result (opened.new ≡ opened.old) }
     ensures known { AreKnown bounded.now defaults.new }
 {
-    abstract_values();
     stands_for_fields();
     groups_whole();
     let Some(given) = fields_in(last) else {
@@ -379,14 +383,14 @@ fn fields<'a>(
         given,
         places.as_slice(),
     ) {
-        Ok(values) => Ok(Value::Fields(values)),
+        Ok(values) => Ok(O::fields(values)),
         Err(fault) => Err(fault),
     }
 }
 
 /// Reads the components of a SEQUENCE or SET in the order of definition.
 #[cycle(reading)]
-fn all_fields<'a>(
+fn all_fields<'a, O: Outcome>(
     alloc: Global,
     bounded: &Bounded<'a>,
     defaults: &mut Defaults,
@@ -399,15 +403,15 @@ fn all_fields<'a>(
     within: &'a str,
     given: &'a [Named<ValueSyntax>],
     places: &[Option<usize>],
-) -> Result<Vec<Option<Value>>, ValueFault<'a>>
+) -> Result<Vec<Option<O>>, ValueFault<'a>>
     requires arranged { ArePlaced (map part_of components.now) (field_names (map member_of given.now)) places.now }
     requires members { (j : ℕ) (c : Part) → slice_get (map part_of components.now) j ≡ Some c
         → c.ty < length bounded.now.types }
     requires sound { AreSound bounded.now.types }
     requires listed { AreListed bounded.now home.now (map part_of components.now) }
     requires known { AreKnown bounded.now defaults.old }
-    ensures value { IfOk result (λ vs. MeanFields bounded.now levels left.old left.new opened.old within.now home.now
-        (map member_of given.now) (map part_of components.now) (row_of_options (map (option_map abstract) vs.items))) }
+    ensures value { IfOk result (λ vs. MakeFields O.shows bounded.now levels left.old left.new opened.old within.now
+        home.now (map member_of given.now) (map part_of components.now) vs.items) }
     ensures fault { IfErr result (StandsInField bounded.now levels left.old opened.old within.now home.now
         (map member_of given.now) (map part_of components.now)) }
     ensures back { OnOk result (opened.new ≡ opened.old) }
@@ -436,7 +440,7 @@ fn all_fields<'a>(
 
 /// Reads a component: its field, or nothing if it may be absent.
 #[cycle(reading)]
-fn field<'a>(
+fn field<'a, O: Outcome>(
     alloc: Global,
     bounded: &Bounded<'a>,
     defaults: &mut Defaults,
@@ -448,16 +452,15 @@ fn field<'a>(
     within: &'a str,
     given: &'a [Named<ValueSyntax>],
     place: Option<usize>,
-) -> Result<Option<Value>, ValueFault<'a>>
+) -> Result<Option<O>, ValueFault<'a>>
     requires there { component.now.ty < length bounded.now.types }
     requires placed { place ≡ place_of (part_of component.now).name (field_names (map member_of given.now)) }
     requires may { place ≡ None → may_be_absent (part_of component.now) ≡ true }
     requires sound { AreSound bounded.now.types }
     requires listed { IsListed bounded.now home.now (part_of component.now) }
     requires known { AreKnown bounded.now defaults.old }
-    ensures value { IfOk result (λ o. IsField bounded.now levels opened.old within.now home.now (map member_of given.now)
-        (part_of component.now) (option_map abstract o)) }
-    ensures counted { IfOk result (λ o. left.old ≡ left.new + option_nodes (option_map abstract o)) }
+    ensures value { IfOk result (MakesField O.shows bounded.now levels left.old left.new opened.old within.now home.now
+        (map member_of given.now) (part_of component.now)) }
     ensures fault { IfErr result (IsWrongField bounded.now levels left.old opened.old within.now home.now
         (map member_of given.now) (part_of component.now)) }
     ensures back { OnOk result (opened.new ≡ opened.old) }
@@ -479,7 +482,7 @@ fn field<'a>(
                 Err(fault) => Err(fault),
             }
         }
-        None => match default(alloc, bounded, defaults, levels, component, home) {
+        None => match default::<O>(alloc, bounded, defaults, levels, component, home) {
             Ok(()) => Ok(None),
             Err(fault) => Err(fault),
         },
@@ -488,7 +491,7 @@ fn field<'a>(
 
 /// Reads the DEFAULT of an absent component, if it has one.
 #[cycle(reading)]
-fn default<'a>(
+fn default<'a, O: Outcome>(
     alloc: Global,
     bounded: &Bounded<'a>,
     defaults: &mut Defaults,
@@ -511,7 +514,7 @@ fn default<'a>(
         Standing::Root => match &component.presence {
             PresenceSyntax::Mandatory => Ok(()),
             PresenceSyntax::Optional => Ok(()),
-            PresenceSyntax::Default(notation) => whole_default(
+            PresenceSyntax::Default(notation) => whole_default::<O>(
                 alloc, bounded, defaults, levels, component, home, notation,
             ),
         },
@@ -521,7 +524,7 @@ fn default<'a>(
 /// Reads a DEFAULT, unless the table says that it stands for a value of at most `levels` levels. After the reading the
 /// table says so.
 #[cycle(reading)]
-fn whole_default<'a>(
+fn whole_default<'a, O: Outcome>(
     alloc: Global,
     bounded: &Bounded<'a>,
     defaults: &mut Defaults,
@@ -545,12 +548,12 @@ fn whole_default<'a>(
         return Ok(());
     }
     let before = defaults.begin(levels);
-    match read_default(alloc, bounded, defaults, levels, component, home, notation) {
+    match read_default::<O>(alloc, bounded, defaults, levels, component, home, notation) {
         Ok(()) => {}
         Err(fault) => return Err(fault),
     }
     let used = defaults.used(levels);
-    match read_default(alloc, bounded, defaults, used, component, home, notation) {
+    match read_default::<O>(alloc, bounded, defaults, used, component, home, notation) {
         Ok(()) => defaults.note(bounded, component, home, used),
         Err(_) => defaults.note(bounded, component, home, levels),
     }
@@ -561,7 +564,7 @@ fn whole_default<'a>(
 
 /// Reads a DEFAULT in the module where it is written, with 2^24 nodes.
 #[cycle(reading)]
-fn read_default<'a>(
+fn read_default<'a, O: Outcome>(
     alloc: Global,
     bounded: &Bounded<'a>,
     defaults: &mut Defaults,
@@ -589,10 +592,39 @@ fn read_default<'a>(
     };
     let mut left = MAX_NODES;
     let mut opened = Opened::new(alloc);
-    match read(alloc, bounded, defaults, levels, &mut left, &mut opened, at) {
+    match read::<O>(alloc, bounded, defaults, levels, &mut left, &mut opened, at) {
         Ok(_) => Ok(()),
         Err(fault) => Err(fault),
     }
+}
+
+/// What is made of a notation under a type, with 64 levels and 2^24 nodes.
+fn whole<'a, O: Outcome>(
+    alloc: Global,
+    bounded: &Bounded<'a>,
+    defaults: &mut Defaults,
+    at: Place<'a>,
+) -> Result<O, ValueFault<'a>>
+    requires there { at.ty.index < length bounded.now.types }
+    requires sound { AreSound bounded.now.types }
+    requires known { AreKnown bounded.now defaults.old }
+    ensures value { IfOk result (IsMade O.shows bounded.now at.entry.within.now at.entry.ty.index
+        (tree_of at.entry.notation.now)) }
+    ensures fault { IfErr result (Stands bounded.now 64 16777216 [] at.entry.within.now at.entry.ty.index
+        (tree_of at.entry.notation.now)) }
+    ensures known { AreKnown bounded.now defaults.new }
+{
+    let mut left = MAX_NODES;
+    let mut opened = Opened::new(alloc);
+    read(
+        alloc,
+        bounded,
+        defaults,
+        MOST_LEVELS,
+        &mut left,
+        &mut opened,
+        at,
+    )
 }
 
 /// The value that a notation stands for under a type (X.680, clause 17), as [`typed`] returns it. The caller gives the
@@ -618,17 +650,39 @@ pub fn typed_with<'a>(
         within,
         notation,
     };
-    let mut left = MAX_NODES;
-    let mut opened = Opened::new(alloc);
-    read(
-        alloc,
-        bounded,
-        defaults,
-        MOST_LEVELS,
-        &mut left,
-        &mut opened,
-        at,
-    )
+    match whole::<Value>(alloc, bounded, defaults, at) {
+        Ok(value) => Ok(value),
+        Err(fault) => Err(fault),
+    }
+}
+
+/// Whether a notation stands for a value of a type, or its first fault, as [`typed_with`] returns it. No value is built,
+/// so the call takes little memory, however many nodes the value has.
+pub fn judged_with<'a>(
+    alloc: Global,
+    bounded: &Bounded<'a>,
+    defaults: &mut Defaults,
+    ty: TypeId,
+    within: &'a str,
+    notation: &'a ValueSyntax,
+) -> Result<(), ValueFault<'a>>
+    requires there { ty.index < length bounded.now.types }
+    requires sound { AreSound bounded.now.types }
+    requires known { AreKnown bounded.now defaults.old }
+    ensures value { OnOk result ((v : AbstractValue) × IsTyped bounded.now (Allows bounded.now) (AllowsCode bounded.now)
+        within.now ty.index (tree_of notation.now) v) }
+    ensures fault { IfErr result (Stands bounded.now 64 16777216 [] within.now ty.index (tree_of notation.now)) }
+    ensures known { AreKnown bounded.now defaults.new }
+{
+    let at = Place {
+        ty,
+        within,
+        notation,
+    };
+    match whole::<Judged>(alloc, bounded, defaults, at) {
+        Ok(_) => Ok(()),
+        Err(fault) => Err(fault),
+    }
 }
 
 /// The value that a notation stands for under a type (X.680, clause 17): `ty` is the type, `within` the name of the

@@ -56,12 +56,12 @@ unknown_at {u} {v} {x} {y} {j} {k} e f g a = subst (λ q. Unknown q k y) e (subs
 pub clear_unknown : {u x : Bits} {k : ℕ} → Unknown u k x → any_set u ≡ false → (k ≡ 0) × (x ≡ [])
 clear_unknown no_bit e = (refl, refl)
 clear_unknown (clear_bit a) e = clear_unknown a e
-clear_unknown (set_bit o a) e = absurd (let f : true ≡ false = e in cc)
+clear_unknown (set_bit m o a) e = absurd (let f : true ≡ false = e in cc)
 
 pub unknown_clear : {u x : Bits} {k : ℕ} → Unknown u k x → k ≡ 0 → (u ≡ zeros (length u)) × (x ≡ [])
 unknown_clear no_bit e = (refl, refl)
 unknown_clear (clear_bit a) e = let r = unknown_clear a e in (both_parts refl r.0, r.1)
-unknown_clear (set_bit o a) e = absurd (omega (arith, e))
+unknown_clear (set_bit m o a) e = absurd (omega (arith, e))
 
 pub zeros_unknown : (n : ℕ) → Unknown (zeros n) 0 []
 zeros_unknown zero = no_bit
@@ -70,7 +70,7 @@ zeros_unknown (suc n) = clear_bit (zeros_unknown n)
 unknown_joined : {u v x y : Bits} {j k : ℕ} → Unknown u j x → Unknown v k y → Unknown (u ++ v) (j + k) (x ++ y)
 unknown_joined no_bit b = unknown_at refl (omega arith) refl b
 unknown_joined (clear_bit a) b = clear_bit (unknown_joined a b)
-unknown_joined {y = y} (set_bit {x = x} {b = z} o a) b = unknown_at refl (omega arith) (sym (append_assoc x z y)) (set_bit o (unknown_joined a b))
+unknown_joined {y = y} (set_bit {x = x} {b = z} m o a) b = unknown_at refl (omega arith) (sym (append_assoc x z y)) (set_bit m o (unknown_joined a b))
 
 -- clear bits at the end are for no addition
 unknown_front : (u : Bits) (n : ℕ) {k : ℕ} {x w : Bits} → w ≡ u ++ zeros n → Unknown w k x → Unknown u k x
@@ -80,8 +80,8 @@ unknown_front [] n e a =
 unknown_front (b ∷ u) n e no_bit = absurd (not_empty (sym e))
 unknown_front (b ∷ u) n e (clear_bit {u = v} a) =
     unknown_at (ap (λ q. q ∷ u) (heads e)) refl refl (clear_bit (unknown_front u n (tails e) a))
-unknown_front (b ∷ u) n e (set_bit {u = v} o a) =
-    unknown_at (ap (λ q. q ∷ u) (heads e)) refl refl (set_bit o (unknown_front u n (tails e) a))
+unknown_front (b ∷ u) n e (set_bit {u = v} m o a) =
+    unknown_at (ap (λ q. q ∷ u) (heads e)) refl refl (set_bit m o (unknown_front u n (tails e) a))
 
 -- ---- two parts
 

@@ -1,5 +1,5 @@
 -- Packed bits of a value of a later version are bits of what the earlier type keeps of it.
-use Rattle.std.proofs.Common.{arith, ◌≡◌, ℕ, suc, ◌+◌, Bool, true, false, cond, List, [], ◌∷◌, ◌++◌, length, refl, sym, ap, subst, ◌∙◌, append_assoc}
+use Rattle.std.proofs.Common.{arith, ◌≡◌, ℕ, suc, ◌+◌, ◌≤◌, Bool, true, false, cond, List, [], ◌∷◌, ◌++◌, length, length-append, replicate, refl, sym, ap, subst, ◌∙◌, append_assoc}
 use Rattle.std.specs.Prelude.{slice_get}
 use Rattle.asn_base.specs.Abstract.{AbstractValue, fields, list, alternative, Row}
 use Rattle.asn_base.specs.Types.{Kind, Component, Resolved}
@@ -12,7 +12,7 @@ use Rattle.later_versions.specs.Later.{IsLaterKind, later_sequence, later_set, l
 use Rattle.packed_encodings.specs.Lengths.{Bits, Items, Sized}
 use Rattle.packed_encodings.specs.Leaves.{place_bits, root_bit}
 use Rattle.packed_encodings.specs.Orders.{rank, Member, Addition, additions}
-use Rattle.packed_encodings.specs.Padding.{Unknown, no_bit, clear_bit, set_bit, open_type}
+use Rattle.packed_encodings.specs.Padding.{Padded, padded_none, padded, Unknown, no_bit, clear_bit, set_bit, open_type}
 use Rattle.packed_encodings.specs.Packing.{lenient, Says, says, Holds, leaf, sequence, set, sequence_of, set_of, choice, added_choice, Members, no_member, must_stand, may_stand, is_missing, Additions, no_addition, added, not_added, group, no_group, Elements, no_element as no_items, element}
 use Rattle.version_laws.specs.LeftOut.{components_of, members_in, present_additions, left_out_packed, left_out_of_components, left_out_of_items}
 use Rattle.version_laws.specs.Widened.{widened}
@@ -57,12 +57,18 @@ elements_at {s} {u} {i} {j} {ws} {xs} e h = subst (λ q. Elements s lenient u ws
 
 -- ---- additions that were appended
 
+-- what bits fill has an octet
+some_filled : {x : Bits} {o : List ℕ} → Padded x o → 1 ≤ length o
+some_filled padded_none = omega arith
+some_filled (padded {b = x} {o = []} n some few h e) = absurd (let a = ap length e in let l = length-append x (replicate n false) in omega (arith, a, l, some))
+some_filled (padded {o = y ∷ o} n some few h e) = omega arith
+
 unknown_rests : {s' : List Resolved} {n : ℕ} {es : List (Addition AbstractValue)} {q d : Bits} → Additions s' lenient es n q d → Unknown q (present_additions es) d
 unknown_rests no_addition = no_bit
-unknown_rests (added x (open_type f o) a) = set_bit o (unknown_rests a)
+unknown_rests (added x (open_type f o) a) = set_bit (some_filled f) o (unknown_rests a)
 unknown_rests (not_added a) = clear_bit (unknown_rests a)
 unknown_rests (group {as' = es} {y = y} {q = q} {d = d} h m (open_type f o) a) =
-    subst (λ b. Unknown (true ∷ q) (cond b (suc (present_additions es)) (present_additions es)) (y ++ d)) (sym h) (set_bit o (unknown_rests a))
+    subst (λ b. Unknown (true ∷ q) (cond b (suc (present_additions es)) (present_additions es)) (y ++ d)) (sym h) (set_bit (some_filled f) o (unknown_rests a))
 unknown_rests (no_group {as' = es} {q = q} {d = d} h a) =
     subst (λ b. Unknown (false ∷ q) (cond b (suc (present_additions es)) (present_additions es)) d) (sym h) (clear_bit (unknown_rests a))
 

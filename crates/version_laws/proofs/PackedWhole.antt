@@ -11,7 +11,8 @@ use Rattle.packed_encodings.specs.Lengths.{Bits}
 use Rattle.packed_encodings.specs.Packing.{lenient, Says, Reads}
 use Rattle.version_laws.specs.LeftOut.{left_out_packed}
 use Rattle.version_laws.specs.Versions.{IsKnown}
-use Rattle.version_laws.specs.Widened.{widened}
+use Rattle.packed_encodings.specs.Weights.{weight, row_weight}
+use Rattle.version_laws.specs.Widened.{all_absent, widened, widened_row, widened_elements}
 use Rattle.version_laws.proofs.Apart.{type_there}
 use Rattle.version_laws.proofs.Alikes.{Laws, alike_kept}
 use Rattle.version_laws.proofs.Wide.{wide_nodes}
@@ -48,6 +49,66 @@ mutual
   fewer_in_elements s u (absent vs) = fewer_in_elements s u vs
   fewer_in_elements s u (present v vs) = let a = fewer_nodes s u v in let r = fewer_in_elements s u vs in omega (arith, a, r)
 
+-- ---- weights
+
+mutual
+  kept_weight : (s : List Resolved) (t : ℕ) (v : AbstractValue) → weight (kept s t v) ≤ weight v
+  kept_weight s t (boolean b) = omega arith
+  kept_weight s t (integer z) = omega arith
+  kept_weight s t (enumerated z) = omega arith
+  kept_weight s t (bits b) = omega arith
+  kept_weight s t (octets o) = omega arith
+  kept_weight s t (text o) = omega arith
+  kept_weight s t null = omega arith
+  kept_weight s t (oid ns) = omega arith
+  kept_weight s t (relative_oid ns) = omega arith
+  kept_weight s t (fields vs) = let r = kept_row_weight s (members_of s t) vs in omega (arith, r)
+  kept_weight s t (list vs) = let r = kept_elements_weight s (member_of s t 0) vs in omega (arith, r)
+  kept_weight s t (alternative i v) = let r = kept_weight s (member_of s t i) v in omega (arith, r)
+
+  kept_row_weight : (s : List Resolved) (us : List ℕ) (vs : Row) → row_weight (kept_row s us vs) ≤ row_weight vs
+  kept_row_weight s us end = omega arith
+  kept_row_weight s [] (absent vs) = omega arith
+  kept_row_weight s [] (present v vs) = omega arith
+  kept_row_weight s (u ∷ us) (absent vs) = kept_row_weight s us vs
+  kept_row_weight s (u ∷ us) (present v vs) = let a = kept_weight s u v in let r = kept_row_weight s us vs in omega (arith, a, r)
+
+  kept_elements_weight : (s : List Resolved) (u : ℕ) (vs : Row) → row_weight (kept_elements s u vs) ≤ row_weight vs
+  kept_elements_weight s u end = omega arith
+  kept_elements_weight s u (absent vs) = kept_elements_weight s u vs
+  kept_elements_weight s u (present v vs) = let a = kept_weight s u v in let r = kept_elements_weight s u vs in omega (arith, a, r)
+
+no_weight : (us : List ℕ) → row_weight (all_absent us) ≤ 0
+no_weight [] = omega arith
+no_weight (u ∷ us) = no_weight us
+
+mutual
+  wide_weight : (s : List Resolved) (t : ℕ) (v : AbstractValue) → weight (widened s t v) ≤ weight v
+  wide_weight s t (boolean b) = omega arith
+  wide_weight s t (integer z) = omega arith
+  wide_weight s t (enumerated z) = omega arith
+  wide_weight s t (bits b) = omega arith
+  wide_weight s t (octets o) = omega arith
+  wide_weight s t (text o) = omega arith
+  wide_weight s t null = omega arith
+  wide_weight s t (oid ns) = omega arith
+  wide_weight s t (relative_oid ns) = omega arith
+  wide_weight s t (fields vs) = let r = wide_row_weight s (members_of s t) vs in omega (arith, r)
+  wide_weight s t (list vs) = let r = wide_elements_weight s (member_of s t 0) vs in omega (arith, r)
+  wide_weight s t (alternative i v) = let r = wide_weight s (member_of s t i) v in omega (arith, r)
+
+  wide_row_weight : (s : List Resolved) (us : List ℕ) (vs : Row) → row_weight (widened_row s us vs) ≤ row_weight vs
+  wide_row_weight s us end = no_weight us
+  wide_row_weight s [] (absent vs) = omega arith
+  wide_row_weight s [] (present v vs) = omega arith
+  wide_row_weight s (u ∷ us) (absent vs) = wide_row_weight s us vs
+  wide_row_weight s (u ∷ us) (present v vs) = let a = wide_weight s u v in let r = wide_row_weight s us vs in omega (arith, a, r)
+
+  wide_elements_weight : (s : List Resolved) (u : ℕ) (vs : Row) → row_weight (widened_elements s u vs) ≤ row_weight vs
+  wide_elements_weight s u end = omega arith
+  wide_elements_weight s u (absent vs) = wide_elements_weight s u vs
+  wide_elements_weight s u (present v vs) = let a = wide_weight s u v in let r = wide_elements_weight s u vs in omega (arith, a, r)
+
 -- ---- wholes
 
 module _ (laws : Laws) (s s' : List Resolved) (t t' : ℕ) (schema : IsSchema s) (schema' : IsSchema s') (l : Later s t s' t') where
@@ -70,7 +131,9 @@ module _ (laws : Laws) (s s' : List Resolved) (t t' : ℕ) (schema : IsSchema s)
   older_message {w} known r =
       let n = fewer_nodes s t w in
       let m = r.value.few_nodes in
-      record { value = record { shaped = known; few_nodes = omega (arith, n, m) }; bits = r.bits; says_it = older_bits known r.value.shaped r.says_it; filled = r.filled }
+      let j = kept_weight s t w in
+      let k = r.light in
+      record { value = record { shaped = known; few_nodes = omega (arith, n, m) }; light = omega (arith, j, k); bits = r.bits; says_it = older_bits known r.value.shaped r.says_it; filled = r.filled }
 
   pub older_message_same : {v w : AbstractValue} {o : List ℕ} → IsKnown s t v → Same s' t' v w → Reads s' t' w 0 o → Reads s t (kept s t w) (left_out_packed s t s' t' v) o
   older_message_same {v} {w} {o} known a r =
@@ -81,4 +144,6 @@ module _ (laws : Laws) (s s' : List Resolved) (t t' : ℕ) (schema : IsSchema s)
 
   pub newer_message : {w : AbstractValue} {o : List ℕ} → t' < length s' → Reads s t w 0 o → Reads s' t' (widened s' t' w) 0 o
   newer_message {w} h r =
-      record { value = wide_nodes laws s s' t t' schema' l h w r.value; bits = r.bits; says_it = newer_bits h r.value.shaped r.says_it; filled = r.filled }
+      let j = wide_weight s' t' w in
+      let k = r.light in
+      record { value = wide_nodes laws s s' t t' schema' l h w r.value; light = omega (arith, j, k); bits = r.bits; says_it = newer_bits h r.value.shaped r.says_it; filled = r.filled }

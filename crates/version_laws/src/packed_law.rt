@@ -9,6 +9,7 @@ ghost use Rattle.later_versions.specs.Kept.{kept, left_out};
 ghost use Rattle.later_versions.specs.Later.{Later};
 ghost use Rattle.packed_encodings.specs.Packing.{Packed, Reads, Says, lenient};
 ghost use Rattle.packed_encodings.specs.Padding.{Padded};
+ghost use Rattle.packed_encodings.specs.Weights.{weight};
 ghost use Rattle.std.specs.Prelude.{◌≡◌, ◌<◌, ◌≤◌, Bool, List, length, ℕ};
 ghost use Rattle.version_laws.specs.LeftOut.{left_out_packed};
 ghost use Rattle.version_laws.specs.Versions.{IsKnown};
@@ -78,6 +79,7 @@ pub fn earlier_reads_packed()
         → Later s t s' t'
         → IsKnown s t v
         → IsValue s' t' v
+        → weight v ≤ 16777216
         → Packed s' t' v b
         → Padded b o
         → (w : AbstractValue) × Same s t (kept s t v) w × Reads s t w (left_out_packed s t s' t' v) o }
@@ -121,6 +123,7 @@ pub fn later_reads_packed()
         → Later s t s' t'
         → t' < length s'
         → IsValue s t v
+        → weight v ≤ 16777216
         → Packed s t v b
         → Padded b o
         → (w : AbstractValue) × Same s' t' (widened s' t' v) w × Reads s' t' w 0 o }

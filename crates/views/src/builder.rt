@@ -22,13 +22,26 @@ pub struct Builder<'a> {
     pub(crate) headers: Vec<usize>,
 }
 
+/// The number of nodes that a new list has room for.
+const FIRST_NODES: usize = 64;
+
+/// A list without nodes, with room for some, if there is memory for them.
+fn with_room<'a>(alloc: Global) -> Vec<Node<'a>>
+    ensures { result.items ≡ [] }
+{
+    match Vec::with_capacity(alloc, FIRST_NODES) {
+        Ok(nodes) => nodes,
+        Err(_) => Vec::new(alloc),
+    }
+}
+
 impl<'a> Builder<'a> {
     /// A builder with nothing in it.
     pub fn new(alloc: Global) -> Self
         ensures { Holds result begun }
     {
         Builder {
-            nodes: Vec::new(alloc),
+            nodes: with_room(alloc),
             lists: Lists {
                 octets: Vec::new(alloc),
                 texts: Vec::new(alloc),
@@ -39,6 +52,7 @@ impl<'a> Builder<'a> {
     }
 
     /// Adds a value of one node.
+    #[inline(always)]
     fn add(&mut self, number: u32, told: Told<'a>) -> Result<(), AllocError>
         requires { IsToldWithin (beside_of self.old.lists) told }
         ensures { (b : Building) (t : Tree)
@@ -210,6 +224,7 @@ impl<'a> Builder<'a> {
     }
 
     /// Opens a node.
+    #[inline(always)]
     fn open(&mut self, number: u32, told: Told<'a>) -> Result<(), AllocError>
         requires { IsToldWithin (beside_of self.old.lists) told }
         ensures { (b : Building) (h : Header)

@@ -96,7 +96,7 @@ fn elements(alloc: Global, lists: &Lists, nodes: &[Node<'_>]) -> Result<Vec<Valu
         → SpellMembers (beside_of lists.now) nodes.now ms
         → IfOk result (λ vs. row_of_list (map abstract vs.items) ≡ element_values ms) }
 {
-    let mut values = Vec::new(alloc);
+    let mut values = Vec::with_capacity(alloc, member_count(lists, nodes))?;
     let mut at = 0;
     while at < nodes.len() {
         let (_, end) = next_of(lists, nodes, at);
@@ -105,6 +105,20 @@ fn elements(alloc: Global, lists: &Lists, nodes: &[Node<'_>]) -> Result<Vec<Valu
         at = end;
     }
     Ok(values)
+}
+
+/// How many members these nodes are, so that a list of their values takes no more memory than it needs.
+fn member_count(lists: &Lists, nodes: &[Node<'_>]) -> usize
+    requires { (ms : Members) × SpellMembers (beside_of lists.now) nodes.now ms }
+{
+    let mut count = 0;
+    let mut at = 0;
+    while at < nodes.len() {
+        let (_, end) = next_of(lists, nodes, at);
+        count += 1;
+        at = end;
+    }
+    count
 }
 
 /// Adds one more item to a list.
@@ -119,7 +133,7 @@ fn add<T: Drop>(list: &mut Vec<T>, one: T) -> Result<(), AllocError>
 fn absent(alloc: Global, size: usize) -> Result<Vec<Option<Value>>, AllocError>
     ensures { IfOk result (λ vs. AreAbsent size vs.items) }
 {
-    let mut values = Vec::new(alloc);
+    let mut values = Vec::with_capacity(alloc, size)?;
     for i in 0..size {
         add(&mut values, None)?;
     }

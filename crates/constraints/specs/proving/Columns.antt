@@ -18,6 +18,9 @@ use Rattle.constraints.specs.Allowed.{Bears, IsCounted, IsInRoot, IsInAlphabet, 
 use Rattle.constraints.specs.Bounded.{IsWritten, IsReconstrained, IsEmpty, HasConstraint, IsMisfit, IsTurnedRound, IsMisplaced, IsRound}
 use Rattle.constraints.specs.declared.column.Fault.{Fault}
 use Rattle.constraints.specs.declared.column.Fault.TheVariants as faults
+use Rattle.constraints.specs.declared.column.BoundTable.{BoundTable}
+use Rattle.constraints.specs.declared.column.Held.{Held}
+use Rattle.constraints.specs.declared.column.Held.TheVariants.{Owned, Lent}
 use Rattle.constraints.specs.declared.limit.Limit.{Limit}
 use Rattle.constraints.specs.declared.meaning.Wrong.{Wrong}
 use Rattle.constraints.specs.declared.meaning.Wrong.TheVariants as wrongs
@@ -108,6 +111,15 @@ limit_noted at limits i = noted_in limits (slice_get at i)
 pub record AreAllNoted (p : Program) (at : List (Option ℕ)) (limits : List Limit) : Type 0 where
   pub noted : AreNoted p at limits
   pub all : (i : ℕ) → i < length p.types → IsNoted at i
+
+-- the table that is owned or lent
+abbrev pub held : Held → BoundTable
+held (Owned t) = t
+held (Lent t) = t.now
+
+-- the table has a limit for each type
+abbrev pub HoldsOf : Program → BoundTable → Type 0
+HoldsOf p t = AreAllNoted p t.at.items t.limits.items
 
 -- a type that type i is a reference or tag of has the constraint
 pub record BearsBehind (p : Program) (i : ℕ) (M : Name) (c : ConstraintTree) : Type 0 where

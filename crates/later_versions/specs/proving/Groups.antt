@@ -1,5 +1,5 @@
 -- Groups of adjacent components, recognized by neighbours.
-use Rattle.std.specs.Prelude.{◌≡◌, ◌↔◌, ℕ, ◌+◌, ◌<◌, List, length}
+use Rattle.std.specs.Prelude.{◌≡◌, ◌↔◌, ℕ, ◌+◌, ◌<◌, ◌≤◌, List, length}
 use Rattle.asn_base.specs.Types.{Component}
 use Rattle.asn_base.specs.Typed.{IsOfGroup}
 use Rattle.later_versions.specs.Later.{AreInOneGroup}
@@ -19,3 +19,9 @@ pub record HaveSameGroups (cs ds : List Component) : Type 0 where
   pub grouped : (i : ℕ) → i < length cs → (AreInOneGroup cs i i ↔ AreInOneGroup ds i i)
   pub joined : (i : ℕ) → i < length cs → (AreJoined cs i ↔ AreJoined ds i)
   pub behind : AreJoined ds (length cs) → ⊥
+
+-- Component i isn't in one group with the same components of the first list in both. It is one of the first list, or
+-- the first one after them.
+pub record HaveOtherGroups (cs ds : List Component) (i : ℕ) : Type 0 where
+  pub within : i ≤ length cs
+  pub other : ((j : ℕ) → j < length cs → (AreInOneGroup cs j i ↔ AreInOneGroup ds j i)) → ⊥

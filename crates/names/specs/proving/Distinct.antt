@@ -1,12 +1,13 @@
 -- Names that are in a list, and lists in which no name is twice.
-use Rattle.std.proofs.Common.{◌≡◌, ◌<◌, ◌≤◌, ◌⊎◌, inl, inr, ℕ, zero, suc, ◌+◌, ◌++◌, Bool, true, false, cond, List, [], ◌∷◌, Some, None, length, map, drop, get_or, refl, sym, subst, ap, ◌∙◌, arith, below_more}
+use Rattle.std.proofs.Common.{◌≡◌, ◌<◌, ◌≤◌, ◌⊎◌, inl, inr, ℕ, zero, suc, ◌+◌, ◌++◌, Bool, true, false, cond, List, [], ◌∷◌, Some, None, length, map, drop, take, get_or, refl, sym, subst, ap, ◌∙◌, arith, below_more}
 use Rattle.std.specs.Prelude.{slice_get, bytes_eq}
 use Rattle.std.specs.List.{AllByRecursion}
 use Rattle.std.proofs.Math.Seq.{drop-cons}
-use Rattle.std.proofs.lemmas.List.{drop_all}
+use Rattle.std.proofs.lemmas.List.{drop_all, length-take-le, take-append-drop}
 use Rattle.std.proofs.lemmas.Option.{same_Some, slice_get_within, slice_get_read}
 use Rattle.std.proofs.lemmas.Slice.Eq.{bytes_eq-Decides}
 use Rattle.trees.specs.Values.{Name}
+use Rattle.names.specs.Faults.{IsFirstAgain}
 use Rattle.names.specs.Names.{names_of, under}
 use Rattle.names.specs.Modules.{StandsIn, StandsTwice, AreDistinct}
 
@@ -156,3 +157,18 @@ under_some x (e ∷ es) a u = some_on x e es a (bytes_eq x e.0) refl u (under_so
 
 pub name_under : {X : Type 0} (x : Name) (es : List (Name × X)) (a : X) → under x es ≡ Some a → StandsIn (names_of es) x
 name_under x es a u = let s = under_some x es a u in (s.0, stands_map (λ (e : Name × _). e.0) es s.0 (x, a) s.1)
+
+-- a name that is also before its place is there twice
+pub again_twice : (xs : List Name) (x : Name) → IsFirstAgain xs x → StandsTwice xs x
+again_twice xs x a =
+    let w = slice_get_within (take a.number xs) a.again.0 x a.again.1 in
+    let v = slice_get_within xs a.number x a.there in
+    let s = length-take-le a.number xs (omega (arith, v)) in
+    record {
+      first = a.again.0;
+      second = a.number;
+      apart = omega (arith, w, s);
+      here = subst (λ l. slice_get l a.again.0 ≡ Some x) (take-append-drop a.number xs)
+          (left (take a.number xs) (drop a.number xs) a.again.0 x a.again.1);
+      there = a.there;
+    }

@@ -11,8 +11,8 @@ use Rattle.names.specs.declared.gather.Tables.{Tables}
 use Rattle.names.specs.declared.gather.ModuleTables.{ModuleTables}
 use Rattle.names.specs.declared.scope.Assigned.{Assigned}
 use Rattle.names.specs.ByNumber.{named_from, roots_from, values_from, owned_by, scopes_from, headers_of, owned_from, roots_of, values_of}
-use Rattle.names.specs.Faults.{IsNamesFault, module_told, name_told}
-use Rattle.names.specs.Modules.{StandsIn, StandsTwice, AreDistinct, names_in}
+use Rattle.names.specs.Faults.{IsFirstAgain, IsFirstTwice, IsNamesFault, module_told, name_told}
+use Rattle.names.specs.Modules.{StandsIn, AreDistinct, names_in}
 use Rattle.names.specs.Names.{Module, under, names_of}
 use Rattle.names.specs.Scopes.{meanings, scopes}
 use Rattle.names.specs.Sources.{Source, Value, assignment_of, header_of, sources_of, value_of}
@@ -73,9 +73,19 @@ IsTwice {X} M x es = TellsTwice (λ m y. (m ≡ M) × (y ≡ x) × (a : X) × (u
 abbrev pub IsTaken : Name → Name → List Name → NameFault → Type 0
 IsTaken M x xs = TellsTwice (λ m y. (m ≡ M) × (y ≡ x) × StandsIn xs x)
 
--- a name of module M is twice among these
+-- a name of module M is the first of these that is also before its place
 abbrev pub IsRepeated : Name → List Name → NameFault → Type 0
-IsRepeated M xs = TellsTwice (λ m y. (m ≡ M) × StandsTwice xs y)
+IsRepeated M xs = TellsTwice (λ m y. (m ≡ M) × IsFirstAgain xs y)
+
+-- memory ran out, or a name is the first that is given twice in these modules
+abbrev pub IsTwiceFirst : List ModuleTree → NameFault → Type 0
+IsTwiceFirst ms = TellsTwice (IsFirstTwice ms)
+
+-- memory ran out, or a limit is passed
+abbrev pub IsSomeLimit : NameFault → Type 0
+IsSomeLimit faults.Memory = Unit {0}
+IsSomeLimit (faults.Limit l s) = Unit {0}
+IsSomeLimit e = ⊥
 
 -- memory ran out, or something is wrong with the names of modules
 abbrev pub IsNamingFault : List ModuleTree → NameFault → Type 0

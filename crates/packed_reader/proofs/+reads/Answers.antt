@@ -58,7 +58,7 @@ use Rattle.asn_base.specs.Seen.{component_of, kind_of}
 use Rattle.packed_reader.specs.Structures.{mark_from}
 use Rattle.packed_reader.specs.proving.Running.{as_fields, run_absent}
 use Rattle.packed_writer.specs.proving.Values.{FieldOf}
-use Rattle.packed_reader.proofs.Plans.{as_plan, fits_as, type_there, shorter_ok}
+use Rattle.packed_reader.proofs.Plans.{as_plan, fits_as, type_there}
 use Rattle.packed_reader.proofs.Flow.{went_same}
 use Rattle.packed_reader.proofs.Presences.{fields_taken}
 use Rattle.packed_reader.proofs.Calls.{call_shorter, call_room, components_are, components_many, map-length, is_component, default_as}
@@ -1551,7 +1551,7 @@ value::read_steps-returns-in-Choice-clause-went t c = c.read_pick.ensures.went
 
 pub value::read_steps-returns-in-Leaf-clause-ok : goal.value::read_steps-returns-in-Leaf-clause-ok
 value::read_steps-returns-in-Leaf-clause-ok t c =
-    got_as c.read_contents.result (run_steps c.args.reader.code.now c.args.reader.levels (run_value c.args.reader.code.now c.args.reader.levels) c.args.reader.id.index (routine_at c.args.reader.code.now c.args.reader.id.index) c.args.progress.now.skipped c.args.progress.now.left (bits_left c.args.bits.now)) (run_plan c.args.reader.code.now c.args.reader.levels (run_value c.args.reader.code.now c.args.reader.levels) c.args.reader.id.index (plans.Leaf) c.args.progress.now.skipped c.args.progress.now.left (bits_left c.args.bits.now)) c.args.progress.now (bits_left c.read_contents.new.bits)
+    got_as c.read_contents.result (run_steps c.args.reader.code.now c.args.reader.levels (run_value c.args.reader.code.now c.args.reader.levels) c.args.reader.id.index (routine_at c.args.reader.code.now c.args.reader.id.index) c.args.progress.now.skipped c.args.progress.now.left (bits_left c.args.bits.now)) (run_plan c.args.reader.code.now c.args.reader.levels (run_value c.args.reader.code.now c.args.reader.levels) c.args.reader.id.index (plans.Leaf) c.args.progress.now.skipped c.args.progress.now.left (bits_left c.args.bits.now)) c.read_contents.new.progress (bits_left c.read_contents.new.bits)
     (as_plan c.args.reader.code.now c.args.reader.levels c.args.reader.id.index c.args.progress.now.skipped c.args.progress.now.left (bits_left c.args.bits.now) c.steps.result.now c.plan_of.result (plans.Leaf) c.steps.ensures c.plan_of.ensures.is c.in-Leaf.is) c.read_contents.ensures.ok
 
 pub value::read_steps-returns-in-Leaf-clause-err : goal.value::read_steps-returns-in-Leaf-clause-err
@@ -1560,7 +1560,7 @@ value::read_steps-returns-in-Leaf-clause-err t c =
     (as_plan c.args.reader.code.now c.args.reader.levels c.args.reader.id.index c.args.progress.now.skipped c.args.progress.now.left (bits_left c.args.bits.now) c.steps.result.now c.plan_of.result (plans.Leaf) c.steps.ensures c.plan_of.ensures.is c.in-Leaf.is) c.read_contents.ensures.err
 
 pub value::read_steps-returns-in-Leaf-clause-went : goal.value::read_steps-returns-in-Leaf-clause-went
-value::read_steps-returns-in-Leaf-clause-went t c = shorter_ok c.read_contents.result c.args.progress.now (bits_left c.args.bits.now) (bits_left c.read_contents.new.bits) c.read_contents.ensures.shorter
+value::read_steps-returns-in-Leaf-clause-went t c = c.read_contents.ensures.went
 
 pub value::read_steps-returns-in-Nothing-clause-err : goal.value::read_steps-returns-in-Nothing-clause-err
 value::read_steps-returns-in-Nothing-clause-err t c =

@@ -1,6 +1,6 @@
 -- What the reader's code computes, in the order in which it does: the state goes from part to part, and each value is
 -- put at its place at once. `k` counts additions that were skipped so far, and `n` values that may still begin.
-use Rattle.std.specs.Prelude.{ℕ, zero, suc, ◌+◌, ◌*◌, ◌==◌, Bool, true, false, not, ◌&&◌, ◌||◌}
+use Rattle.std.specs.Prelude.{ℕ, zero, suc, ◌+◌, ◌-◌, ◌*◌, ◌==◌, Bool, true, false, not, ◌&&◌, ◌||◌}
 use Rattle.std.specs.Prelude.{if◌then◌else◌, List, [], ◌∷◌, ◌++◌, length}
 use Rattle.std.specs.Prelude.{drop, take, Option}
 use Rattle.asn_base.specs.Abstract.{AbstractValue, fields, list, Row, end, present}
@@ -19,16 +19,17 @@ use Rattle.packed_readings.specs.declared.count.Count.{Count}
 use Rattle.packed_readings.specs.declared.count.Count.TheVariants.{Last as last, Part as part}
 use Rattle.packed_readings.specs.declared.size.Sizing.{Sizing}
 use Rattle.packed_readings.specs.declared.size.Sizing.TheVariants.{AtOnce as at_once, Counted as counted}
-use Rattle.packed_readings.specs.Counts.{count_from, octets_from, total, size_from, size_fault}
+use Rattle.packed_readings.specs.Counts.{count_from, total, size_from, size_fault}
 use Rattle.packed_readings.specs.Outcome.{judging}
-use Rattle.packed_readings.specs.Leaves.{leaf_from}
+use Rattle.packed_encodings.specs.Weights.{characters}
+use Rattle.packed_readings.specs.Leaves.{leaf_within}
 use Rattle.packed_reader.specs.declared.part.Part.TheVariants.{Component as Component', Element}
 use Rattle.packed_reader.specs.declared.sent.Sent.{Sent}
 use Rattle.packed_reader.specs.Levels.{is_within, may_lack}
 use Rattle.packed_reader.specs.Readings.{Reading, read, refused, stop, next, in_part}
 use Rattle.packed_reader.specs.Readings.{plain, tested, with_bits, Taken, taken}
-use Rattle.packed_reader.specs.Structures.{presence_from, mark_from, bitmap_from, unknown_from, open_from, no_row}
-use Rattle.packed_reader.specs.Structures.{with_value}
+use Rattle.packed_reader.specs.Structures.{presence_from, mark_from, bitmap_from, contents_from, unknown_from}
+use Rattle.packed_reader.specs.Structures.{open_from, no_row, with_value}
 use Rattle.packed_reader.specs.Lists.{in_order}
 use Rattle.packed_reader.specs.Steps.{call_from, member_at, size_in, value_by}
 use Rattle.packed_reader.specs.Values.{Chosen, in_root, added, alternative_of}
@@ -117,7 +118,7 @@ run_group s l value cs fs ws k n b = open_from (run_group_inside s l value cs fs
 abbrev pub run_unknown : ℕ → Bits → Bits → Reading ℕ
 run_unknown k [] b = read k b
 run_unknown k (false ∷ q) b = run_unknown k q b
-run_unknown k (true ∷ q) b = next (plain (octets_from b)) (λ o r. run_unknown (suc k) q r)
+run_unknown k (true ∷ q) b = next (plain (contents_from b)) (λ o r. run_unknown (suc k) q r)
 
 -- the bit of the next addition, 0 after the last one
 abbrev pub first_bit : Bits → Bool
@@ -251,7 +252,7 @@ run_each s value t sorted u k n b =
 
 -- a value that holds no others
 abbrev pub run_leaf : Kind → Runs AbstractValue
-run_leaf c k n b = next (plain (leaf_from c b)) (λ v r. read (taken v k n) r)
+run_leaf c k n b = next (plain (leaf_within n c b)) (λ v r. read (taken v k (n - characters v)) r)
 
 abbrev pub run_steps : List Resolved → ℕ → RunsValue → TypeNumber → List PackedStep → Runs AbstractValue
 run_steps s l value t (steps.Mark m ∷ (steps.Map i ∷ ss)) k n b = run_fields s l value t true i ss k n b

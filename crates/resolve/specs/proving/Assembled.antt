@@ -69,6 +69,12 @@ TellsType hs gs t (faults.Circular s) =
     × (slice_get hs owner ≡ Some (module_told s, default))
 TellsType hs gs t e = ⊥
 
+-- `Memory`; or `Circular` with this offset
+abbrev pub IsCircularAt : ℕ → NameFault → Type 0
+IsCircularAt n faults.Memory = Unit {0}
+IsCircularAt n (faults.Circular s) = s.at ≡ n
+IsCircularAt n e = ⊥
+
 -- the invariant of Linked: a whole program, and the cores of its types
 abbrev pub IsKept :
     List (Name × Module) → List Header → List AssignedAt → List Written → List ValueAt → Vec ℕ Global → Type 0

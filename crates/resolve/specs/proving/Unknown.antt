@@ -6,9 +6,9 @@ use Rattle.names.specs.declared.fault.NameFault.{NameFault}
 use Rattle.names.specs.declared.fault.NameFault.TheVariants as faults
 use Rattle.names.specs.declared.scope.Assigned.TheVariants as assigned
 use Rattle.names.specs.Faults.{module_told, name_told}
-use Rattle.names.specs.Modules.{StandsIn}
 use Rattle.names.specs.Names.{Module, Refers}
 use Rattle.resolve.specs.Program.{Program}
+use Rattle.resolve.specs.First.{IsFirstUnknown}
 use Rattle.resolve.specs.Qualified.{behind_module, MeanValues}
 
 -- the written name, if it is after a module's name
@@ -20,14 +20,10 @@ abbrev pub MeansValue : Program → Name → Reference → Type 0
 MeansValue p M r =
     (i : ℕ) × Refers p.modules M (option_map string_bytes r.module) (string_bytes r.name) (assigned.Value i)
 
--- `Memory`; or `UnknownName`, and one of these names after modules' names isn't that of a value in module M
+-- `Memory`; or `UnknownName` for the first of these names after modules' names that isn't that of a value in module M
 abbrev pub IsUnknownIn : List (Name × Module) → Name → List (Name × Name) → NameFault → Type 0
 IsUnknownIn ms M rs faults.Memory = Unit {0}
-IsUnknownIn ms M rs (faults.UnknownName s) =
-    (module_told s ≡ M)
-    × (N : Name)
-    × StandsIn rs (N, name_told s)
-    × ((i : ℕ) → Refers ms M (Some N) (name_told s) (assigned.Value i) → ⊥)
+IsUnknownIn ms M rs (faults.UnknownName s) = (module_told s ≡ M) × IsFirstUnknown ms M rs (name_told s)
 IsUnknownIn ms M rs e = ⊥
 
 -- the results of a check of these names

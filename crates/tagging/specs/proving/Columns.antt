@@ -5,6 +5,9 @@ use Rattle.trees.specs.declared.module.TagDefault.{TagDefault}
 use Rattle.type_table.specs.Table.{Type', Kind, reference, Is}
 use Rattle.type_table.specs.proving.Notes.{AreRight, AreNoted}
 use Rattle.tagging.specs.Tags.{automatic_kind}
+use Rattle.tagging.specs.declared.table.Held.{Held}
+use Rattle.tagging.specs.declared.table.Held.TheVariants.{Owned, Lent}
+use Rattle.tagging.specs.declared.table.TagTable.{TagTable}
 
 abbrev pub is_reference : Kind → Bool
 is_reference (reference j) = true
@@ -32,3 +35,13 @@ AreFronts ts fronts = AreNoted (length ts) (Front ts) fronts
 -- whether the members of each type are tagged automatically; false for a type that is no list
 abbrev pub all_automatic : List Type' → List Bool
 all_automatic ts = map (λ t. automatic_kind ts t.kind t.default) ts
+
+-- the table that is owned or lent
+abbrev pub held : Held → TagTable
+held (Owned t) = t
+held (Lent t) = t.now
+
+-- the table has what is found once for these types
+pub record HoldsOf (ts : List Type') (t : TagTable) : Type 0 where
+  pub fronts : AreFronts ts t.fronts.items
+  pub automatic : t.automatic.items ≡ all_automatic ts

@@ -1,5 +1,5 @@
 -- The results of the checks of one type, one list and one name.
-use Rattle.std.specs.Prelude.{◌≡◌, ◌<◌, ◌+◌, ◌^◌, ℕ, ℤ, pos, List, Option, Some, length, map, slice_get, string_bytes, String}
+use Rattle.std.specs.Prelude.{◌≡◌, ◌<◌, ◌+◌, ◌^◌, ℕ, ℤ, pos, List, Option, Some, length, map, slice_get, string_bytes, take, String}
 use Rattle.std.specs.Global.{Global}
 use Rattle.trees.specs.Values.{Name}
 use Rattle.trees.specs.Types.{FormTree}
@@ -10,13 +10,14 @@ use Rattle.names.specs.declared.fault.Limit.{Limit}
 use Rattle.names.specs.declared.fault.Limit.TheVariants as limits
 use Rattle.names.specs.declared.scope.Assigned.TheVariants as assigned
 use Rattle.names.specs.Faults.{module_told, name_told}
-use Rattle.names.specs.Modules.{StandsIn}
+use Rattle.names.specs.Modules.{AreDistinct, StandsIn}
 use Rattle.names.specs.Names.{Module, Refers}
 use Rattle.names.specs.Sources.{Source}
 use Rattle.names.specs.proving.Gathering.{TellsTwice}
 use Rattle.type_table.specs.declared.items.NumberFault.{NumberFault}
 use Rattle.type_table.specs.declared.items.NumberFault.TheVariants as numbers
 use Rattle.type_table.specs.Items.{Item, additions_from}
+use Rattle.type_table.specs.Lists.{AreWithinLimit}
 use Rattle.type_table.specs.ListFaults.{IsTwiceIn, HasPassed}
 use Rattle.type_table.specs.Numbering.{RefersToNothing, form_of, parts_of}
 use Rattle.type_table.specs.Table.{Kind}
@@ -92,3 +93,12 @@ IsKindFault M a k e = ⊥
 abbrev pub IsGreatAt : List ℤ → List Item → NumberFault → Type 0
 IsGreatAt root more numbers.Memory = Unit {0}
 IsGreatAt root more (numbers.TooGreat i) = slice_get (additions_from root 0 more) i ≡ Some (pos (2 ^ 127))
+
+-- no addition before this one gets a number past the limit
+abbrev pub IsGreatFirst : List ℤ → List Item → NumberFault → Type 0
+IsGreatFirst root more numbers.Memory = Unit {0}
+IsGreatFirst root more (numbers.TooGreat i) = AreWithinLimit (take i (additions_from root 0 more))
+
+-- number i is among those before it, which are distinct
+abbrev pub IsAgain : List ℤ → ℕ → Type 0
+IsAgain zs i = (z : ℤ) × (slice_get zs i ≡ Some z) × StandsIn (take i zs) z × AreDistinct (take i zs)

@@ -1,7 +1,8 @@
 -- What the parts of a reading return.
 use Rattle.std.specs.Prelude.{◌≡◌, ◌+◌, ℕ, true, List, [], ◌∷◌, ◌++◌, Option, Some, None, IsTrue, MatchResult, Result, map, slice_get}
+use Rattle.std.specs.List.{AllZip}
 use Rattle.asn_base.specs.declared.value.Value.{Value}
-use Rattle.asn_base.specs.Abstract.{AbstractValue, abstract, Row}
+use Rattle.asn_base.specs.Abstract.{AbstractValue, abstract, Row, row_of_list, row_of_options}
 use Rattle.asn_base.specs.Typed.{nodes, row_nodes}
 use Rattle.trees.specs.declared.types.Standing.TheVariants.{Root}
 use Rattle.trees.specs.Values.{Name, Tree}
@@ -10,12 +11,13 @@ use Rattle.names.specs.Modules.{StandsIn}
 use Rattle.type_table.specs.Table.{Part}
 use Rattle.resolve.specs.Program.{Program}
 use Rattle.value_notations.specs.Notations.{Notation, Fields, Elements, field_names, part_names, may_be_absent}
-use Rattle.value_notations.specs.Values.{ValueIn, AreComponents, AreElements, MayBeAbsent}
+use Rattle.value_notations.specs.Values.{ValueIn, AreComponents, AreElements, IsTyped, MayBeAbsent}
 use Rattle.values.specs.Allowing.{Allows, AllowsCode}
 use Rattle.values.specs.Arranged.{place_of}
 use Rattle.typed_values.specs.declared.fault.ValueFault.{ValueFault}
 use Rattle.typed_values.specs.declared.fault.Cause.TheVariants as cause
 use Rattle.typed_values.specs.Faults.{Stands}
+use Rattle.typed_values.specs.proving.Outcomes.{ShowsOption}
 
 -- the notation stands for v, a value of the type with at most `levels` levels, whose nodes were counted
 pub record Means (p : Program) (levels before after : ℕ) (os : List ℕ) (M : Name) (i : ℕ) (n : Tree) (v : AbstractValue)
@@ -32,12 +34,41 @@ Tells p levels before after os M i n result =
     (λ v. Means p levels before after os M i n (abstract v))
     (Stands p levels before os M i n)
 
+-- the notation stands for a value for which this is an outcome
+pub record Makes {A : Type 0} (shows : A → AbstractValue → Type 0) (p : Program) (levels before after : ℕ) (os : List ℕ)
+    (M : Name) (i : ℕ) (n : Tree) (x : A) : Type 0 where
+  pub value : AbstractValue
+  pub shown : shows x value
+  pub means : Means p levels before after os M i n value
+
+-- the notation stands for a value for which the returned one is an outcome, or has the returned fault
+abbrev pub Answers : {A : Type 0} → (A → AbstractValue → Type 0) →
+    Program → (levels before after : ℕ) → List ℕ → Name → ℕ → Tree → Result A ValueFault → Type 0
+Answers shows p levels before after os M i n result =
+    MatchResult result
+    (Makes shows p levels before after os M i n)
+    (Stands p levels before os M i n)
+
+-- the notation stands for a value of the type, within the limits, for which this is an outcome
+pub record IsMade {A : Type 0} (shows : A → AbstractValue → Type 0) (p : Program) (M : Name) (i : ℕ) (n : Tree) (x : A)
+    : Type 0 where
+  pub value : AbstractValue
+  pub shown : shows x value
+  pub typed : IsTyped p (Allows p) (AllowsCode p) M i n value
+
 -- the notations stand for the values of a row, each one of type i
 pub record MeanRow (p : Program) (levels before after : ℕ) (os : List ℕ) (M : Name) (i : ℕ) (ts : List Tree) (r : Row)
     : Type 0 where
   pub stand : Elements p os M i ts r
   pub values : AreElements p (Allows p) (AllowsCode p) levels i r
   pub counted : before ≡ after + row_nodes r
+
+-- the notations stand for values of type i for which these are outcomes, in order
+pub record MakeRow {A : Type 0} (shows : A → AbstractValue → Type 0) (p : Program) (levels before after : ℕ)
+    (os : List ℕ) (M : Name) (i : ℕ) (ts : List Tree) (xs : List A) : Type 0 where
+  pub values : List AbstractValue
+  pub shown : AllZip shows xs values
+  pub mean : MeanRow p levels before after os M i ts (row_of_list values)
 
 -- one of the notations has this fault, and those before it stand for values of the type
 pub record StandsInOne (p : Program) (levels left : ℕ) (os : List ℕ) (M : Name) (i : ℕ) (ts : List Tree) (f : ValueFault)
@@ -67,6 +98,15 @@ IsField p levels ps K N fs c None =
     × MayBeAbsent p (Allows p) (AllowsCode p) levels N c
 IsField p levels ps K N fs c (Some v) =
     (m : Tree) × StandsIn fs (c.name, m) × Notation p ps K c.ty m v × ValueIn p (Allows p) (AllowsCode p) levels c.ty v
+
+-- component c, of a list that is written in module N, has no field and may be absent, or its field stands for a value;
+-- this is an outcome for it, and its nodes were counted
+pub record MakesField {A : Type 0} (shows : A → AbstractValue → Type 0) (p : Program) (levels before after : ℕ)
+    (ps : List ℕ) (K N : Name) (fs : List (Name × Tree)) (c : Part) (x : Option A) : Type 0 where
+  pub value : Option AbstractValue
+  pub shown : ShowsOption shows x value
+  pub field : IsField p levels ps K N fs c value
+  pub counted : before ≡ after + option_nodes value
 
 -- the DEFAULT of component c has this fault
 pub record IsWrongDefault (p : Program) (levels : ℕ) (N : Name) (c : Part) (f : ValueFault) : Type 0 where
@@ -101,6 +141,13 @@ pub record MeanFields (p : Program) (levels before after : ℕ) (ps : List ℕ) 
   pub stand : Fields p ps K fs cs r
   pub values : AreComponents p (Allows p) (AllowsCode p) levels N cs r
   pub counted : before ≡ after + row_nodes r
+
+-- the fields stand for values of their components, for which these are outcomes, in order
+pub record MakeFields {A : Type 0} (shows : A → AbstractValue → Type 0) (p : Program) (levels before after : ℕ)
+    (ps : List ℕ) (K N : Name) (fs : List (Name × Tree)) (cs : List Part) (xs : List (Option A)) : Type 0 where
+  pub values : List (Option AbstractValue)
+  pub shown : AllZip (ShowsOption shows) xs values
+  pub mean : MeanFields p levels before after ps K N fs cs (row_of_options values)
 
 -- a component has this fault, and the fields of those before it stand for values of their types
 pub record StandsInField (p : Program) (levels left : ℕ) (ps : List ℕ) (K N : Name) (fs : List (Name × Tree))

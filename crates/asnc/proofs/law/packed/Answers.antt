@@ -3,7 +3,7 @@ use Rattle.asnc.proofs.law.packed.Goals as goal
 pub returns : goal.returns
 returns c = λ xs p s first second o a w.
     let m = w.message in
-    let r = c.writing_laws.ensures.message s w.type w.value m.bits o m.value m.packed m.filled in
+    let r = c.writing_laws.ensures.message s w.type w.value m.bits o m.value m.light m.packed m.filled in
     record {
       program = p;
       types = s;

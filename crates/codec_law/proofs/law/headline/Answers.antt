@@ -29,9 +29,9 @@ returns c = λ s t v i. record {
   packed = λ o m. (m.bits, m.packed, m.filled);
   one_message = λ o p u b m same k f. c.message_laws.ensures.one_filling m.bits o p m.filled
       (subst (λ z. Padded z p) (c.writing_laws.ensures.one_list s t v u m.bits b i same m.packed k) f);
-  one_unpacked = λ o w k m d. (let b = c.writing_laws.ensures.message s t v m.bits o m.value m.packed m.filled in
+  one_unpacked = λ o w k m d. (let b = c.writing_laws.ensures.message s t v m.bits o m.value m.light m.packed m.filled in
       let e = c.message_laws.ensures.one_value s t 0 k b.0 w o i b.2 d in
       (subst (Same s t v) e.0 b.1, sym e.1));
-  unpacked = λ o x m r. (let b = c.writing_laws.ensures.message s t v m.bits o m.value m.packed m.filled in
+  unpacked = λ o x m r. (let b = c.writing_laws.ensures.message s t v m.bits o m.value m.light m.packed m.filled in
       unpacks x (λ w u j k. c.message_laws.ensures.one_value s t j k w u o i) b.1 b.2 m.not_too_long r);
 }

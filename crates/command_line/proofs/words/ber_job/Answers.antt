@@ -1,13 +1,12 @@
-use Rattle.std.proofs.Common.{rules, arith, refl, subst, ◌∙◌}
+use Rattle.std.proofs.Common.{rules, arith, refl}
 use Rattle.clap.proofs.WalkLemmas.{one_text-rows}
-use Rattle.command_line.specs.CommandLine.{IsGiven}
 use Rattle.command_line.proofs.words.ber_job.Goals as goal
 
 pub returns-clause-job : goal.returns-clause-job
 returns-clause-job c = record {
   verb = refl;
   type = search rules;
-  octets = subst (λ t. IsGiven t c.in_ok-octets.octets) (c.as_str.ensures.value ∙ c.in_ok-hex.ensures) c.in_ok-octets.ensures.given;
+  octets = c.in_ok-octets.ensures.octets;
   strict = grind (arith, c.get_flag-strict.ensures.value, one_text-rows);
   not_strict = grind (arith, c.get_flag-strict.ensures.other, one_text-rows);
   context = grind (arith, c.get_flag-context.ensures.value, one_text-rows);

@@ -2,11 +2,11 @@ use Rattle.std.proofs.Common.{rules, arith, refl}
 use Rattle.clap.proofs.WalkLemmas.{one_text-rows}
 use Rattle.command_line.proofs.words.value_job.Goals as goal
 
-pub returns-clause-job : goal.returns-clause-job
-returns-clause-job c = record {
+pub returns : goal.returns
+returns c = record {
   verb_is = refl;
+  value_is = refl;
   type = search rules;
-  value = c.in_ok-value.ensures.value;
   context = grind (arith, c.get_flag-context.ensures.value, one_text-rows);
   no_context = grind (arith, c.get_flag-context.ensures.other, one_text-rows);
   files = search rules;

@@ -1,8 +1,6 @@
-use Rattle.std.proofs.Common.{map, subst}
-use Rattle.resolve.specs.Program.{Program}
+use Rattle.std.proofs.Common.{map}
 use Rattle.front_end.specs.Accepted.{octets_of}
 use Rattle.named_values.specs.Given.{as_given}
-use Rattle.judging.specs.Judged.{IsNotJudgedOn}
 use Rattle.judging.proofs.Refused.{not_judged}
 use Rattle.judging.proofs.judged.judge.Goals as goal
 
@@ -10,12 +8,7 @@ pub returns-in-Err-clause-refused : goal.returns-in-Err-clause-refused
 returns-in-Err-clause-refused c =
     c.refusal.ensures (map octets_of c.args.texts.now) c.args.ty.now (as_given c.args.value) c.args.account.now c.in-Err.ensures.fault
 
-pub of-modules-requires : goal.of-modules-requires
-of-modules-requires c = c.accepted_keep.ensures (map octets_of c.args.texts.now) c.in-Ok.front.linked c.in-Ok.ensures.accepted.accepted
-
 pub returns-clause-refused : goal.returns-clause-refused
 returns-clause-refused c =
-    not_judged (map octets_of c.args.texts.now) c.in-Ok.front.linked c.args.ty.now (as_given c.args.value) c.args.account.now c.in-Err-judge_in.fault
-    c.in-Ok.ensures.accepted.accepted
-    (subst (λ (p : Program). IsNotJudgedOn p c.args.ty.now (as_given c.args.value) c.args.account.now c.in-Err-judge_in.fault) c.of-modules.ensures
-    c.in-Err-judge_in.ensures.refused)
+    not_judged (map octets_of c.args.texts.now) c.in-Ok.front.modules c.args.ty.now (as_given c.args.value) c.args.account.now c.in-Err-judge_in.fault
+    c.in-Ok.ensures.accepted.accepted c.in-Err-judge_in.ensures.refused

@@ -3,4 +3,4 @@ use Rattle.later_versions.proofs.Pairing.{NotedTo}
 use Rattle.later_versions.proofs.versions.note_members.Given as goal
 
 abbrev pub invariant-loop-place : goal.invariant-loop-place
-invariant-loop-place l = NotedTo l.first l.second (pair_of l.fn.pair) l.fn.pairs l.pairs l.place
+invariant-loop-place l = NotedTo l.first l.second l.fn.at (pair_of l.fn.pair) l.fn.pairs l.pairs l.place

@@ -2,6 +2,7 @@ use Rattle.std.proofs.Common.{rules, arith, ◌≡◌, ◌++◌, ◌∷◌, [], 
 use Rattle.std.proofs.lemmas.List.{map-append}
 use Rattle.trees.specs.Values.{name_at}
 use Rattle.trees.specs.Modules.{module_tree_of}
+use Rattle.names.specs.declared.fault.NameFault.TheVariants as faults
 use Rattle.names.specs.Modules.{StandsTwice}
 use Rattle.names.specs.proving.Gathering.{Adds}
 use Rattle.names.specs.Names.{under}
@@ -9,6 +10,7 @@ use Rattle.names.specs.Scopes.{module_of, scopes}
 use Rattle.names.specs.Sources.{header_of}
 use Rattle.names.proofs.Entries.{inserted}
 use Rattle.names.proofs.Gatherings.{gathered_more, module_twice, scope_fault}
+use Rattle.names.proofs.Gatherings.{module_first, scope_first}
 use Rattle.names.proofs.gather.add_module.Goals as goal
 
 pub returns-in-Some-clause-fault : goal.returns-in-Some-clause-fault
@@ -34,3 +36,18 @@ returns-in_ok-insert-in-Ok-clause-ok c = λ ms h.
 pub returns-in-Err-clause-fault : goal.returns-in-Err-clause-fault
 returns-in-Err-clause-fault c = λ ms rest h.
     scope_fault ms rest (module_tree_of c.args.given) c.as_str-2.result.now c.in-Err.fault c.as_str-2.ensures.value c.in-Err.ensures.fault
+
+pub returns-in-Some-clause-first : goal.returns-in-Some-clause-first
+returns-in-Some-clause-first c = λ ms rest h.
+    let t = module_tree_of c.args.given in
+    let ss = scopes c.args.gathered.now.modules.entries in
+    let u : under t.name ss ≡ Some (module_of c.in-Some.field-0.now) = ap (λ z. under z ss) (sym c.as_str.ensures.value) ∙ sym c.scope_of.ensures ∙ ap (option_map (λ s. module_of s.now)) c.in-Some.is in
+    let e = c.in_ok-told-in-Some.ensures in
+    module_first ms rest t c.args.gathered.now h (faults.Twice c.in_ok-told-in-Some.told) (module_of c.in-Some.field-0.now) u (e.within ∙ c.as_str-in-Some.ensures.value, e.name ∙ c.as_str-in-Some-2.ensures.value)
+
+pub returns-in-Err-clause-first : goal.returns-in-Err-clause-first
+returns-in-Err-clause-first c = λ ms rest h.
+    let t = module_tree_of c.args.given in
+    let ss = scopes c.args.gathered.now.modules.entries in
+    let u : under t.name ss ≡ None = ap (λ z. under z ss) (sym c.as_str.ensures.value) ∙ sym c.scope_of.ensures ∙ ap (option_map (λ s. module_of s.now)) c.in-None.is in
+    scope_first ms rest t c.args.gathered.now h c.as_str-2.result.now c.in-Err.fault c.as_str-2.ensures.value u c.in-Err.ensures.fault

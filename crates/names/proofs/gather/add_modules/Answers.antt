@@ -2,6 +2,7 @@ use Rattle.std.proofs.Common.{rules, arith, ◌≡◌, ◌∷◌, [], map, subst
 use Rattle.std.proofs.lemmas.Grind.{common_steps}
 use Rattle.trees.specs.Modules.{module_tree_of}
 use Rattle.names.proofs.Gatherings.{ArePartly, partly_step, partly_end, partly_fault}
+use Rattle.names.proofs.Gatherings.{partly_first}
 use Rattle.names.proofs.gather.add_modules.Goals as goal
 
 pub loop-given-init : goal.loop-given-init
@@ -25,3 +26,9 @@ pub returns-clause-ok : goal.returns-clause-ok
 returns-clause-ok c =
     let e : c.loop-given.given-iterator.rest.items ≡ [] = grind (arith, common_steps) in
     partly_end (map module_tree_of c.args.modules.items) c.loop-given.gathered (subst (λ l. ArePartly (map module_tree_of c.args.modules.items) (map module_tree_of l) c.loop-given.gathered) e c.loop-given.invariant)
+
+pub returns-in-Err-clause-first : goal.returns-in-Err-clause-first
+returns-in-Err-clause-first c =
+    let e : c.loop-given.given-iterator.rest.items ≡ c.in-Some.given ∷ c.next.new.self.rest.items = search rules in
+    let p = subst (λ l. ArePartly (map module_tree_of c.args.modules.items) (map module_tree_of l) c.loop-given.gathered) e c.loop-given.invariant in
+    partly_first (map module_tree_of c.args.modules.items) (map module_tree_of c.next.new.self.rest.items) (module_tree_of c.in-Some.given) c.loop-given.gathered c.in-Err.fault p c.in-Err.ensures.first

@@ -28,4 +28,4 @@ returns-in-Err-clause-fault c =
     let all = origins c.args.imports.now.entries ++ map (λ x. (x, N)) (map name_at c.args.names.items) in
     let rest = map (λ x. (x, N)) (map name_at c.next.new.self.rest.items) in
     let s : is ++ (x, N) ∷ rest ≡ all = ap (λ l. is ++ map (λ x. (x, N)) (map name_at l)) (sym e) ∙ c.loop-name.invariant.sum in
-    import_fault c.args.within.now x N (names_of (meanings c.args.assigned.now.entries)) is rest all c.in-Err.fault s c.in-Err.ensures.fault
+    import_fault c.args.within.now x N (names_of (meanings c.args.assigned.now.entries)) is rest all c.in-Err.fault s c.loop-name.invariant.distinct c.in-Err.ensures.fault

@@ -1,4 +1,4 @@
-use Rattle.std.proofs.Common.{◌≡◌, ◌≤◌, ◌<◌, ◌++◌, length, sym, ap, subst, ◌∙◌, arith}
+use Rattle.std.proofs.Common.{◌≡◌, ◌≤◌, ◌<◌, ◌++◌, length, sym, ap, subst, ◌∙◌, arith, inr}
 use Rattle.asn_base.specs.Abstract.{abstract}
 use Rattle.asn_base.specs.Typed.{IsValue}
 use Rattle.packed_encodings.specs.Computed.{bits_of}
@@ -16,7 +16,7 @@ returns-then-len-gt-MAX_MESSAGE-clause-longer c = λ e.
     let k : Packed s t v c.push_value.new.out = subst (Packed s t v) (sym x) (c.computing_laws.ensures.packed s t v c.accepted.ensures a.shaped) in
     let n : c.len.result ≡ length c.in_ok-octets.octets.items = grind arith in
     let l : 16777216 < length c.in_ok-octets.octets.items = let g = c.if-len-gt-MAX_MESSAGE.true in omega (arith, n, g) in
-    longer c.writing_laws.ensures.one_list c.message_laws.ensures.one_filling s t v c.push_value.new.out c.in_ok-octets.octets.items c.accepted.ensures (c.sameness.ensures.itself s t v a.shaped) k c.in_ok-octets.ensures l
+    inr (longer c.writing_laws.ensures.one_list c.message_laws.ensures.one_filling s t v c.push_value.new.out c.in_ok-octets.octets.items c.accepted.ensures (c.sameness.ensures.itself s t v a.shaped) k c.in_ok-octets.ensures l)
 
 pub returns-clause-message : goal.returns-clause-message
 returns-clause-message c =
@@ -28,4 +28,4 @@ returns-clause-message c =
     let k : Packed s t v c.push_value.new.out = subst (Packed s t v) (sym x) (c.computing_laws.ensures.packed s t v c.accepted.ensures a.shaped) in
     let n : c.len.result ≡ length c.in_ok-octets.octets.items = grind arith in
     let l : length c.in_ok-octets.octets.items ≤ 16777216 = let g = c.if-len-gt-MAX_MESSAGE.false in omega (arith, n, g) in
-    message c.writing_laws.ensures.one_list c.message_laws.ensures.one_filling s t v c.push_value.new.out c.in_ok-octets.octets.items c.accepted.ensures (c.sameness.ensures.itself s t v a.shaped) a k c.in_ok-octets.ensures l
+    message c.writing_laws.ensures.one_list c.message_laws.ensures.one_filling s t v c.push_value.new.out c.in_ok-octets.octets.items c.accepted.ensures (c.sameness.ensures.itself s t v a.shaped) a (c.is_light.ensures.light c.if-not-is_light.false) k c.in_ok-octets.ensures l

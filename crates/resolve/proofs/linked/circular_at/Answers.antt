@@ -3,8 +3,8 @@ use Rattle.std.proofs.lemmas.Option.{slice_get_read}
 use Rattle.names.specs.proving.Rows.{assignment_at, header_at}
 use Rattle.resolve.proofs.linked.circular_at.Goals as goal
 
-pub returns-in-Ok : goal.returns-in-Ok
-returns-in-Ok c =
+pub returns-in-Ok-clause-fault : goal.returns-in-Ok-clause-fault
+returns-in-Ok-clause-fault c =
     let g = c.index-assignments-written.result in
     let h = c.index-headers-assignment.result in
     let k = c.args.written.now.assignment in

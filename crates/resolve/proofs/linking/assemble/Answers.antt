@@ -1,10 +1,13 @@
-use Rattle.std.proofs.Common.{◌<◌, inl, length, refl, arith}
+use Rattle.std.proofs.Common.{◌<◌, inl, length, map, refl, arith}
+use Rattle.std.proofs.lemmas.List.{length-map}
 use Rattle.std.proofs.lemmas.Option.{slice_get_read}
 use Rattle.trees.specs.Values.{name_at}
-use Rattle.names.specs.Sources.{source_of, sources_of}
+use Rattle.names.specs.Scopes.{module_of, seen}
+use Rattle.names.specs.Sources.{assignment_of, header_of, source_of, sources_of}
 use Rattle.names.specs.proving.Distinct.{stands_map, at_all}
 use Rattle.resolve.proofs.Ready.{more_roots}
 use Rattle.names.specs.proving.Rows.{assignment_at, header_at}
+use Rattle.resolve.proofs.Firsts.{many_first, sound_first}
 use Rattle.resolve.proofs.linking.assemble.Goals as goal
 
 pub index-assignment-requires : goal.index-assignment-requires
@@ -39,3 +42,21 @@ returns-then-len-gt-MAX_WRITTEN-clause-fault c =
     let placed = c.requires.ready.placed s.assignment a (slice_get_read g.tables.assignments.items (length g.tables.assignments.items) s.assignment a refl within c.index-assignment.ensures) in
     inl (more_roots g (source_of s) a.module (name_at h.name) (name_at a.name) h.default c.too_many.result there
     (assignment_at g.tables.assignments.items s.assignment a within c.index-assignment.ensures) (header_at g.headers.items a.module h placed c.index-header.ensures) c.too_many.ensures)
+
+pub returns-in-Err-sound-clause-first : goal.returns-in-Err-sound-clause-first
+returns-in-Err-sound-clause-first c = λ ms h n f.
+    sound_first ms c.args.gathered c.in-Ok.linked c.in-Err-sound.fault h n f c.in-Ok.ensures.program c.in-Ok.ensures.unfolds c.in-Err-sound.ensures.first
+
+pub returns-then-len-gt-MAX_WRITTEN-clause-first : goal.returns-then-len-gt-MAX_WRITTEN-clause-first
+returns-then-len-gt-MAX_WRITTEN-clause-first c = λ ms made n f.
+    let g = c.args.gathered in
+    let s = c.index-source.result.now in
+    let a = c.index-assignment.result.now in
+    let h = c.index-header.result.now in
+    let inside : 65536 < length g.tables.roots.items = omega arith in
+    let there = stands_map source_of g.tables.roots.items 65536 s (slice_get_read g.tables.roots.items (length g.tables.roots.items) 65536 s refl inside c.index-source.ensures) in
+    let within : s.assignment < length g.tables.assignments.items = at_all (λ r. r.assignment < length g.tables.assignments.items) (sources_of g.tables.roots.items) 65536 (source_of s) c.requires.ready.assigned there in
+    let placed = c.requires.ready.placed s.assignment a (slice_get_read g.tables.assignments.items (length g.tables.assignments.items) s.assignment a refl within c.index-assignment.ensures) in
+    let limit = more_roots g (source_of s) a.module (name_at h.name) (name_at a.name) h.default c.too_many.result there
+    (assignment_at g.tables.assignments.items s.assignment a within c.index-assignment.ensures) (header_at g.headers.items a.module h placed c.index-header.ensures) c.too_many.ensures in
+    many_first ms g (name_at h.name) (name_at a.name) c.too_many.result made n f (omega (arith, inside, length-map g.tables.roots.items source_of)) c.too_many.ensures limit

@@ -3,6 +3,7 @@ use Rattle.names.specs.proving.Gathering.{IsNamingFault}
 use Rattle.names.specs.Modules.{AreFew}
 use Rattle.trees.specs.Modules.{module_tree_of}
 use Rattle.resolve.proofs.Ready.{are_linked, naming_link, assembly_link}
+use Rattle.resolve.proofs.Firsts.{counts_first, meanings_first, offers_first}
 use Rattle.resolve.proofs.linking.link.Goals as goal
 
 pub returns-in-Err-all_stand-clause-fault : goal.returns-in-Err-all_stand-clause-fault
@@ -29,3 +30,23 @@ pub returns-in-Err-assemble-clause-fault : goal.returns-in-Err-assemble-clause-f
 returns-in-Err-assemble-clause-fault c =
     let ms = map module_tree_of c.args.modules.items in
     assembly_link ms c.in-Ok-gather.gathered c.in-Err-assemble.fault c.in-Ok-gather.ensures.ok c.in-Err-assemble.ensures.fault
+
+pub returns-in-Err-clause-first : goal.returns-in-Err-clause-first
+returns-in-Err-clause-first c = counts_first (map module_tree_of c.args.modules.items) c.in-Err.fault (subst (λ l. IsNamingFault (map module_tree_of l) c.in-Err.fault) c.deref.ensures.value c.in-Err.ensures.fault) c.in-Err.ensures.limit
+
+pub returns-in-Err-gather-clause-first : goal.returns-in-Err-gather-clause-first
+returns-in-Err-gather-clause-first c =
+    meanings_first (map module_tree_of c.args.modules.items) c.in-Err-gather.fault (subst (λ l. AreFew (map module_tree_of l)) c.deref.ensures.value c.in-Ok.ensures.ok) c.in-Err-gather.ensures.first
+
+pub returns-in-Err-all_stand-clause-first : goal.returns-in-Err-all_stand-clause-first
+returns-in-Err-all_stand-clause-first c =
+    let ms = map module_tree_of c.args.modules.items in
+    let g = c.in-Ok-gather.gathered in
+    offers_first ms g c.in-Err-all_stand.fault (subst (λ l. AreFew (map module_tree_of l)) c.deref.ensures.value c.in-Ok.ensures.ok) c.in-Ok-gather.ensures.ok
+    (c.stood.ensures.fault ms g c.in-Err-all_stand.fault c.in-Ok-gather.ensures.ok c.in-Err-all_stand.ensures.fault) c.in-Err-all_stand.ensures.first
+
+pub returns-in-Err-assemble-clause-first : goal.returns-in-Err-assemble-clause-first
+returns-in-Err-assemble-clause-first c =
+    let ms = map module_tree_of c.args.modules.items in
+    let g = c.in-Ok-gather.gathered in
+    c.in-Err-assemble.ensures.first ms c.in-Ok-gather.ensures.ok (c.stood.ensures.named ms g c.in-Ok-gather.ensures.ok c.in-Ok-all_stand.ensures.ok) (subst (λ l. AreFew (map module_tree_of l)) c.deref.ensures.value c.in-Ok.ensures.ok)

@@ -3,7 +3,9 @@ use Rattle.std.proofs.lemmas.Option.{slice_get_within}
 use Rattle.std.proofs.lemmas.Result.{err_from_is_err_and}
 use Rattle.type_table.specs.Seen.{type_of}
 use Rattle.type_table.specs.proving.Tables.{as_long}
-use Rattle.resolve.proofs.Exclusion.{TypeMeans, type_means, type_fault, turn_there}
+use Rattle.resolve.specs.First.{TypeMeans}
+use Rattle.resolve.proofs.Exclusion.{type_means, type_fault, turn_there}
+use Rattle.resolve.proofs.Exclusion.{first_type}
 use Rattle.resolve.proofs.sound.names_in_types.Goals as goal
 
 pub returns-in_err-names_in_type-clause-fault : goal.returns-in_err-names_in_type-clause-fault
@@ -25,3 +27,11 @@ returns-clause-good c = λ k t M x e a.
     let j = slice_get_within c.args.linked.now.types k t e in
     let within : k < c.loop-index.index = omega (arith, j, as_long c.types-types.result.now, ap length c.types-types.ensures.types, c.loop-index-test.false) in
     c.loop-index.invariant k within t M x e a
+
+pub returns-in_err-names_in_type-clause-first : goal.returns-in_err-names_in_type-clause-first
+returns-in_err-names_in_type-clause-first c =
+    let w = c.index-types-index.result in
+    let there = turn_there type_of c.types-types.result.now c.args.linked.now.types c.loop-index.index w c.types-types.ensures.types c.loop-index-test.true c.index-types-index.is in
+    let p = err_from_is_err_and c.from_residual.result c.from_residual.ensures.1 in
+    rw (p.1, p.2) (first_type c.args.linked.now c.types-types.result.now c.types-types.ensures.types c.requires.lists c.requires.circles c.loop-index.index (type_of w) c.home-home.result.module.now c.home-home.result.name.now c.in_err-names_in_type.field-0.0 there
+    (c.home-home.ensures (type_of w) there) c.loop-index.invariant c.in_err-names_in_type.ensures)

@@ -1,5 +1,5 @@
 use Rattle.std.proofs.Common.{ℕ, ◌<◌}
-use Rattle.resolve.proofs.Exclusion.{TypeMeans}
+use Rattle.resolve.specs.First.{TypeMeans}
 use Rattle.resolve.proofs.sound.names_in_types.Given as goal
 
 abbrev pub invariant-loop-index : goal.invariant-loop-index

@@ -3,7 +3,9 @@ use Rattle.std.proofs.lemmas.List.{length-map}
 use Rattle.std.proofs.lemmas.Option.{slice_get_within}
 use Rattle.std.proofs.lemmas.Result.{err_from_is_err_and}
 use Rattle.names.specs.Sources.{value_of}
-use Rattle.resolve.proofs.Exclusion.{ValueMeans, value_means, value_fault, turn_there}
+use Rattle.resolve.specs.First.{ValueMeans}
+use Rattle.resolve.proofs.Exclusion.{value_means, value_fault, turn_there}
+use Rattle.resolve.proofs.Exclusion.{first_value}
 use Rattle.resolve.proofs.sound.names_in_values.Goals as goal
 
 pub assigned-home-requires : goal.assigned-home-requires
@@ -27,3 +29,9 @@ returns-clause-good c = λ k v M x e a.
     let j = slice_get_within c.args.linked.now.values k v e in
     let within : k < c.loop-value.value-index = omega (arith, j, length-map c.values-values.result.now value_of, ap length c.values-values.ensures, c.loop-value-test.false) in
     c.loop-value.invariant k within v M x e a
+
+pub returns-in_err-names_in_value-clause-first : goal.returns-in_err-names_in_value-clause-first
+returns-in_err-names_in_value-clause-first c =
+    let p = err_from_is_err_and c.from_residual.result c.from_residual.ensures.1 in
+    rw (p.1, p.2) (first_value c.args.linked.now c.types-types.result.now c.types-types.ensures.types c.requires.lists c.requires.circles c.loop-value.value-index (value_of c.value-item.result) c.assigned-home.result.module.now c.assigned-home.result.name.now c.in_err-names_in_value.field-0.0 c.requires.types
+    (turn_there value_of c.values-values.result.now c.args.linked.now.values c.loop-value.value-index c.value-item.result c.values-values.ensures c.loop-value-test.true c.value-item.is) c.assigned-home.ensures c.loop-value.invariant c.in_err-names_in_value.ensures)

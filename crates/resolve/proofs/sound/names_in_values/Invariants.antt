@@ -1,5 +1,5 @@
 use Rattle.std.proofs.Common.{ℕ, ◌<◌}
-use Rattle.resolve.proofs.Exclusion.{ValueMeans}
+use Rattle.resolve.specs.First.{ValueMeans}
 use Rattle.resolve.proofs.sound.names_in_values.Given as goal
 
 abbrev pub invariant-loop-value : goal.invariant-loop-value

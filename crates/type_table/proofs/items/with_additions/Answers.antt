@@ -10,6 +10,7 @@ use Rattle.type_table.specs.proving.Sets.{IsSetOf}
 use Rattle.type_table.specs.Lists.{AreWithinLimit}
 use Rattle.type_table.proofs.Limits.{within_more}
 use Rattle.type_table.proofs.Stepping.{additions_step, addition_here}
+use Rattle.type_table.proofs.FirstFaults.{within_front}
 use Rattle.type_table.proofs.items.with_additions.Goals as goal
 
 pub returns-in-None-clause-fault : goal.returns-in-None-clause-fault
@@ -36,3 +37,7 @@ loop-i-preserved c =
       within = subst (λ q. AreWithinLimit q) (sym items) (within_more c.loop-i.numbers.items c.in-Some.number c.loop-i.invariant.within (subst IsWithinLimit same c.integer_within_limit.ensures));
       small = omega (arith, past_small, c.max-next.ensures, c.loop-i.invariant.small);
     }
+
+pub returns-in-None-clause-before : goal.returns-in-None-clause-before
+returns-in-None-clause-before c =
+    within_front c.args.root.items c.loop-i.numbers.items _ (additions_from c.args.root.items 0 (map item_of c.args.items.now)) c.loop-i.i c.loop-i.invariant.numbers c.loop-i.invariant.long c.loop-i.invariant.within

@@ -35,7 +35,13 @@ returns-then-contains c =
     let f : SFits w128 n = search rules in
     let here = slice_get-get_or ns c.loop-i.i (pos 0) c.loop-i-test.true in
     let s = subst (λ y. StandsIn ks y) (to_z-of_z w128 n f) (has int_cmp int_cmp_total int_exact ks (to_z w128 (of_z w128 n)) (sym c.if-contains.ensures)) in
-    (n, here, kept_in_twice ns ks c.loop-i.i n here c.loop-i.invariant s)
+    record {
+      again = (n, here, kept_in_twice ns ks c.loop-i.i n here c.loop-i.invariant s);
+      first = (n, here, (c.loop-i.invariant.same n).0 s, c.loop-i.invariant.apart);
+    }
 
 pub returns : goal.returns
-returns c = kept_in_all c.args.numbers.now c.loop-i.before.keys c.loop-i.i c.loop-i-test.false c.loop-i.invariant
+returns c = record {
+  again = kept_in_all c.args.numbers.now c.loop-i.before.keys c.loop-i.i c.loop-i-test.false c.loop-i.invariant;
+  first = tt;
+}

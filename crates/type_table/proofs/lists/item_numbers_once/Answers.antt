@@ -1,4 +1,4 @@
-use Rattle.std.proofs.Common.{◌≡◌, ◌<◌, ◌++◌, Some, length, map, sym, subst, ap, ◌∙◌, arith}
+use Rattle.std.proofs.Common.{◌≡◌, ◌<◌, ◌++◌, Some, length, map, take, sym, subst, ap, ◌∙◌, inl, inr, arith}
 use Rattle.std.specs.Prelude.{slice_get}
 use Rattle.std.proofs.lemmas.List.{length-map}
 use Rattle.std.proofs.lemmas.Option.{slice_get_within}
@@ -10,19 +10,24 @@ use Rattle.type_table.specs.Seen.{root_of, more_of, behind_marker}
 use Rattle.type_table.specs.Table.{simple}
 use Rattle.type_table.proofs.Counts.{more_long, numbers_long}
 use Rattle.type_table.proofs.ListFaults.{kind_again}
+use Rattle.names.specs.declared.fault.Limit.TheVariants as limits
+use Rattle.names.specs.Modules.{StandsIn}
+use Rattle.type_table.specs.FirstInList.{HasFewItems, IsGreatItem, TellsPassed, all_names, all_places, item_places}
+use Rattle.type_table.specs.Lists.{AreWithinLimit}
+use Rattle.type_table.proofs.FirstFaults.{passed_at, second_told}
 use Rattle.type_table.proofs.lists.item_numbers_once.Goals as goal
 
 pub returns-in-Ok-None-clause-distinct : goal.returns-in-Ok-None-clause-distinct
 returns-in-Ok-None-clause-distinct c =
     let e = c.deref.ensures.value ∙ c.in-Ok.ensures.numbers in
-    subst AreDistinct e (rw c.in-Ok-None.field-0-is at c.in-Ok-None.ensures)
+    subst AreDistinct e (rw c.in-Ok-None.field-0-is at c.in-Ok-None.ensures.again)
 
 pub item_name-requires : goal.item_name-requires
 item_name-requires c =
     let root = root_of c.args.given.now in
     let more = more_of c.args.given.now in
     let e : c.deref.result.now ≡ numbers_of root more = c.deref.ensures.value ∙ c.in-Ok.ensures.numbers in
-    let s = rw c.in-Ok-Some.field-0-is at c.in-Ok-Some.ensures in
+    let s = rw c.in-Ok-Some.field-0-is at c.in-Ok-Some.ensures.again in
     let w : c.in-Ok-Some.i < length c.deref.result.now = slice_get_within c.deref.result.now c.in-Ok-Some.i s.0 s.1 in
     let l : length c.deref.result.now ≡ length (numbers_of root more) = ap length e in
     omega (arith, w, l, numbers_long root more)
@@ -33,9 +38,9 @@ returns-in-Ok-Some-clause-fault c =
     let more = more_of c.args.given.now in
     let i = c.in-Ok-Some.i in
     let e : c.deref.result.now ≡ numbers_of root more = c.deref.ensures.value ∙ c.in-Ok.ensures.numbers in
-    let s = rw c.in-Ok-Some.field-0-is at c.in-Ok-Some.ensures in
+    let s = rw c.in-Ok-Some.field-0-is at c.in-Ok-Some.ensures.again in
     kind_again c.args.within.now c.args.assigns.now (simple (an_enumerated root (behind_marker c.args.given.now))) (map (λ (i : Item). i.0) (root ++ more)) (numbers_of root more) i (name_at c.item_name.result.now) s.0 c.twice.result (λ y t. t)
-    c.item_name.ensures (subst (λ l. slice_get l i ≡ Some s.0) e s.1) (subst (λ l. StandsTwice l s.0) e s.2) c.twice.ensures
+    c.item_name.ensures.name (subst (λ l. slice_get l i ≡ Some s.0) e s.1) (subst (λ l. StandsTwice l s.0) e s.2) c.twice.ensures.name
 
 pub name_at_place-requires : goal.name_at_place-requires
 name_at_place-requires c =
@@ -43,5 +48,27 @@ name_at_place-requires c =
     let more = more_of c.args.given.now in
     let s = rw c.in-Err-TooGreat.field-0-is at c.in-Err-TooGreat.ensures.fault in
     let w = slice_get_within (additions_from (root_numbers root) 0 more) c.in-Err-TooGreat.i _ s in
-    let l : length c.additions.result.now ≡ length more = sym (length-map c.additions.result.now item_of) ∙ ap length c.additions.ensures in
+    let l : length c.additions.result.now ≡ length more = sym (length-map c.additions.result.now item_of) ∙ ap length c.additions.ensures.items in
     omega (arith, w, l, more_long (root_numbers root) 0 more)
+
+pub returns-in-Ok-Some-clause-first : goal.returns-in-Ok-Some-clause-first
+returns-in-Ok-Some-clause-first c = λ few names.
+    let root = root_of c.args.given.now in
+    let more = more_of c.args.given.now in
+    let i = c.in-Ok-Some.i in
+    let e : c.deref.result.now ≡ numbers_of root more = c.deref.ensures.value ∙ c.in-Ok.ensures.numbers in
+    let s = rw c.in-Ok-Some.field-0-is at c.in-Ok-Some.ensures.first in
+    let within = subst AreWithinLimit c.in-Ok.ensures.numbers c.in-Ok.ensures.within in
+    inr (second_told c.args.within.now (all_places c.args.given.now) (numbers_of root more) i c.item_name.result.now s.0
+    (λ i. HasFewItems c.args.given.now × AreDistinct (all_names c.args.given.now) × AreWithinLimit (numbers_of root more)) c.twice.result
+    c.item_name.ensures.place (subst (λ l. slice_get l i ≡ Some s.0) e s.1) (subst (λ l. StandsIn (take i l) s.0) e s.2) (subst (λ l. AreDistinct (take i l)) e s.3) (few, names, within)
+    c.twice.ensures.name c.twice.ensures.at)
+
+pub returns-clause-first : goal.returns-clause-first
+returns-clause-first c = λ few names.
+    let i = c.in-Err-TooGreat.i in
+    let great = rw c.in-Err-TooGreat.field-0-is at c.in-Err-TooGreat.ensures.fault in
+    let before = rw c.in-Err-TooGreat.field-0-is at c.in-Err-TooGreat.ensures.before in
+    inl (subst (λ is. TellsPassed limits.Integer c.args.within.now c.args.assigns.now (item_places is) (IsGreatItem c.args.given.now) c.passed.result) c.additions.ensures.same
+    (passed_at limits.Integer c.args.within.now c.args.assigns.now (item_places c.additions.result.now) i c.name_at_place.result.now (IsGreatItem c.args.given.now) c.passed.result
+    c.name_at_place.ensures.place (record { few = few; names = names; great = great; before = before }) c.passed.ensures.limit c.passed.ensures.at))

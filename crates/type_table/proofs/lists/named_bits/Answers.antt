@@ -1,4 +1,4 @@
-use Rattle.std.proofs.Common.{ℕ, ◌<◌, ◌≤◌, length, map, ap, inl, arith}
+use Rattle.std.proofs.Common.{ℕ, ◌<◌, ◌≤◌, ◌+◌, length, map, take, ap, inl, inr, arith}
 use Rattle.std.proofs.lemmas.List.{length-map}
 use Rattle.std.proofs.lemmas.Option.{slice_get_within}
 use Rattle.trees.specs.Values.{Name}
@@ -9,6 +9,10 @@ use Rattle.type_table.specs.Table.{simple}
 use Rattle.type_table.specs.proving.Checks.{texts}
 use Rattle.type_table.proofs.Fronts.{seen_at, seen_long, kept_start, kept_more, kept_all, kept_in_start, kept_in_more, kept_in_all}
 use Rattle.type_table.proofs.ListFaults.{kind_taken, kind_numbered, kind_limit}
+use Rattle.trees.specs.declared.types.NamedBit.{NamedBit}
+use Rattle.type_table.specs.FirstInList.{AreNear, IsFarBit, bit_names, bit_places, bits_named}
+use Rattle.names.specs.Modules.{AreDistinct}
+use Rattle.type_table.proofs.FirstFaults.{passed_at, second_numbered, second_taken}
 use Rattle.type_table.proofs.lists.named_bits.Goals as goal
 
 pub loop-item-init : goal.loop-item-init
@@ -45,7 +49,7 @@ returns-then-item-gt65535-clause-fault c =
     let l : i < length gs = omega arith in
     let far : 65535 < c.item-item.result.place = omega arith in
     kind_limit c.args.within.now c.args.assigns.now (simple (a_bit_string (map bit_of gs))) limits.NamedBit c.passed.result
-    (c.item-item.result.place, (i, seen_at (λ (b : Name × ℕ). b.1) bit_of gs i c.item-item.result l c.item-item.is), far) c.passed.ensures
+    (c.item-item.result.place, (i, seen_at (λ (b : Name × ℕ). b.1) bit_of gs i c.item-item.result l c.item-item.is), far) c.passed.ensures.limit
 
 pub returns-in-Err-place_once-clause-fault : goal.returns-in-Err-place_once-clause-fault
 returns-in-Err-place_once-clause-fault c =
@@ -62,3 +66,42 @@ returns-clause-good c =
     let l : length gs ≤ i = omega arith in
     let n = kept_all _ (texts c.loop-item.names.keys) i (seen_long (λ (b : Name × ℕ). b.0) bit_of gs i l) c.loop-item.invariant.names in
     (n.1, kept_in_all _ c.loop-item.places.keys i (seen_long (λ (b : Name × ℕ). b.1) bit_of gs i l) c.loop-item.invariant.places, λ k b e. (let w = slice_get_within (map bit_of gs) k b e in c.loop-item.invariant.near k b (omega (arith, w, l, length-map gs bit_of)) e))
+
+pub returns-in-Err-clause-first : goal.returns-in-Err-clause-first
+returns-in-Err-clause-first c =
+    let gs = c.args.given.now in
+    let i = c.loop-item.item-index in
+    let l : i < length gs = omega arith in
+    inl (second_taken c.args.within.now (bit_names gs) (bits_named gs) (texts c.loop-item.names.keys) i c.item-item.result.name
+    (λ k. AreDistinct (take k (bit_places gs)) × AreNear k gs) c.in-Err.fault (item_at (λ (b : NamedBit). b.name) gs i c.item-item.result l c.item-item.is)
+    (seen_at (λ (b : Name × ℕ). b.0) bit_of gs i c.item-item.result l c.item-item.is) c.loop-item.invariant.names (c.loop-item.invariant.places.apart, c.loop-item.invariant.near) c.in-Err.ensures.fault c.in-Err.ensures.at)
+
+pub returns-then-item-gt65535-clause-first : goal.returns-then-item-gt65535-clause-first
+returns-then-item-gt65535-clause-first c =
+    let gs = c.args.given.now in
+    let i = c.loop-item.item-index in
+    let l : i < length gs = omega arith in
+    let far : 65535 < c.item-item.result.place = omega arith in
+    let names = kept_more _ (texts c.loop-item.names.keys) (texts c.name_once.new.names.keys) i _ (seen_at (λ (b : Name × ℕ). b.0) bit_of gs i c.item-item.result l c.item-item.is) c.loop-item.invariant.names c.in-Ok.ensures.added c.in-Ok.ensures.fresh in
+    inr (inl (passed_at limits.NamedBit c.args.within.now c.args.assigns.now (bit_names gs) i c.item-item.result.name (IsFarBit gs) c.passed.result
+    (item_at (λ (b : NamedBit). b.name) gs i c.item-item.result l c.item-item.is)
+    (record {
+      place = c.item-item.result.place;
+      there = seen_at (λ (b : Name × ℕ). b.1) bit_of gs i c.item-item.result l c.item-item.is;
+      far = far;
+      names = names.apart;
+      places = c.loop-item.invariant.places.apart;
+      near = c.loop-item.invariant.near;
+    }) c.passed.ensures.limit c.passed.ensures.at))
+
+pub returns-in-Err-place_once-clause-first : goal.returns-in-Err-place_once-clause-first
+returns-in-Err-place_once-clause-first c =
+    let gs = c.args.given.now in
+    let i = c.loop-item.item-index in
+    let l : i < length gs = omega arith in
+    let near : c.item-item.result.place ≤ 65535 = omega arith in
+    let names = kept_more _ (texts c.loop-item.names.keys) (texts c.name_once.new.names.keys) i _ (seen_at (λ (b : Name × ℕ). b.0) bit_of gs i c.item-item.result l c.item-item.is) c.loop-item.invariant.names c.in-Ok.ensures.added c.in-Ok.ensures.fresh in
+    let all = each_more (map bit_of gs) (λ (b : Name × ℕ). b.1 ≤ 65535) i (bit_of c.item-item.result) (item_at bit_of gs i c.item-item.result l c.item-item.is) c.loop-item.invariant.near near in
+    inr (inr (second_numbered c.args.within.now (bit_names gs) (bit_places gs) c.loop-item.places.keys i c.item-item.result.name c.item-item.result.place
+    (λ k. AreDistinct (take (k + 1) (bits_named gs)) × AreNear (k + 1) gs) c.in-Err-place_once.fault (item_at (λ (b : NamedBit). b.name) gs i c.item-item.result l c.item-item.is)
+    (seen_at (λ (b : Name × ℕ). b.1) bit_of gs i c.item-item.result l c.item-item.is) c.loop-item.invariant.places (names.apart, all) c.in-Err-place_once.ensures.fault c.in-Err-place_once.ensures.at))

@@ -1,4 +1,4 @@
-use Rattle.std.proofs.Common.{ℤ, ◌<◌, ◌≤◌, length, map, subst, ap, inl, arith, rules}
+use Rattle.std.proofs.Common.{ℤ, ◌<◌, ◌≤◌, ◌+◌, length, map, take, subst, ap, inl, inr, arith, rules}
 use mir.Syntax.{w128}
 use mir.Val.{SFits}
 use Rattle.std.proofs.lemmas.Int.{to_z-of_z}
@@ -10,6 +10,11 @@ use Rattle.type_table.specs.proving.Sets.{Puts}
 use Rattle.names.specs.Modules.{StandsIn}
 use Rattle.type_table.proofs.Fronts.{seen_at, seen_long, kept_start, kept_more, kept_all, kept_in_start, kept_in_more, kept_in_all}
 use Rattle.type_table.proofs.ListFaults.{kind_taken, kind_numbered}
+use Rattle.names.specs.proving.Distinct.{item_at}
+use Rattle.trees.specs.declared.types.NamedNumber.{NamedNumber}
+use Rattle.type_table.specs.FirstInList.{number_names, numbers_given, numbers_named}
+use Rattle.names.specs.Modules.{AreDistinct}
+use Rattle.type_table.proofs.FirstFaults.{second_numbered, second_taken}
 use Rattle.type_table.proofs.lists.named_numbers.Goals as goal
 
 pub loop-item-init : goal.loop-item-init
@@ -56,3 +61,24 @@ returns-clause-good c =
     let l : length gs ≤ i = omega arith in
     let n = kept_all _ (texts c.loop-item.names.keys) i (seen_long (λ (n : Name × ℤ). n.0) number_of gs i l) c.loop-item.invariant.names in
     (n.1, kept_in_all _ c.loop-item.numbers.keys i (seen_long (λ (n : Name × ℤ). n.1) number_of gs i l) c.loop-item.invariant.numbers)
+
+pub returns-in-Err-clause-first : goal.returns-in-Err-clause-first
+returns-in-Err-clause-first c =
+    let gs = c.args.given.now in
+    let i = c.loop-item.item-index in
+    let l : i < length gs = omega arith in
+    inl (second_taken c.args.within.now (number_names gs) (numbers_named gs) (texts c.loop-item.names.keys) i c.item-item.result.name
+    (λ k. AreDistinct (take k (numbers_given gs))) c.in-Err.fault (item_at (λ (n : NamedNumber). n.name) gs i c.item-item.result l c.item-item.is)
+    (seen_at (λ (n : Name × ℤ). n.0) number_of gs i c.item-item.result l c.item-item.is) c.loop-item.invariant.names c.loop-item.invariant.numbers.apart c.in-Err.ensures.fault c.in-Err.ensures.at)
+
+pub returns-in-Err-number_once-clause-first : goal.returns-in-Err-number_once-clause-first
+returns-in-Err-number_once-clause-first c =
+    let gs = c.args.given.now in
+    let i = c.loop-item.item-index in
+    let l : i < length gs = omega arith in
+    let f : SFits w128 c.item-item.result.number = search rules in
+    let e = subst (λ z. IsNumberFault c.args.within.now (name_at c.item-item.result.name) z c.loop-item.numbers.keys c.in-Err-number_once.fault) (to_z-of_z w128 c.item-item.result.number f) c.in-Err-number_once.ensures.fault in
+    let names = kept_more _ (texts c.loop-item.names.keys) (texts c.name_once.new.names.keys) i _ (seen_at (λ (n : Name × ℤ). n.0) number_of gs i c.item-item.result l c.item-item.is) c.loop-item.invariant.names c.in-Ok.ensures.added c.in-Ok.ensures.fresh in
+    inr (second_numbered c.args.within.now (number_names gs) (numbers_given gs) c.loop-item.numbers.keys i c.item-item.result.name c.item-item.result.number
+    (λ k. AreDistinct (take (k + 1) (numbers_named gs))) c.in-Err-number_once.fault (item_at (λ (n : NamedNumber). n.name) gs i c.item-item.result l c.item-item.is)
+    (seen_at (λ (n : Name × ℤ). n.1) number_of gs i c.item-item.result l c.item-item.is) c.loop-item.invariant.numbers names.apart e c.in-Err-number_once.ensures.at)

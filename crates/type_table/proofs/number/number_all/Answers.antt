@@ -4,7 +4,7 @@ use Rattle.names.specs.Sources.{header_of, assignment_of, source_of, sources_of,
 use Rattle.type_table.specs.Seen.{type_of, types_of}
 use Rattle.type_table.specs.Numbering.{IsTop}
 use Rattle.type_table.specs.proving.Checks.{IsSourceFault}
-use Rattle.type_table.proofs.Queue.{IsHalfway, halfway_start, halfway_step, halfway_fault}
+use Rattle.type_table.proofs.Queue.{IsHalfway, halfway_start, halfway_step, halfway_fault, halfway_first}
 use Rattle.type_table.proofs.number.number_all.Goals as goal
 
 pub loop-number-init : goal.loop-number-init
@@ -40,3 +40,10 @@ loop-number-preserved c =
       count = omega (arith, ap length c.in_ok-push-in-Ok.ensures.items, length-append c.loop-number.types.items (c.in-Ok.written ∷ []), c.loop-number.invariant.count);
       few = c.in-Ok.ensures.few;
     }
+
+pub returns-in-Err-clause-first : goal.returns-in-Err-clause-first
+returns-in-Err-clause-first c =
+    let rest = c.pop_front.new.self.items in
+    let h = subst (λ l. IsHalfway c.args.names.now (map header_of c.args.headers.now) (map assignment_of c.args.assignments.now) (sources_of c.args.roots.items) (types_of c.loop-number.types.items) (sources_of l) c.loop-number.number) c.in-Some.ensures.items c.loop-number.invariant.halfway in
+    halfway_first c.args.names.now (map header_of c.args.headers.now) (map assignment_of c.args.assignments.now) (sources_of c.args.roots.items) (types_of c.loop-number.types.items) (source_of c.in-Some.source) (sources_of rest) c.loop-number.number c.in-Err.fault h (omega (arith, c.loop-number.invariant.few, ap length c.in-Some.ensures.items, length-map rest source_of))
+    (subst (λ n. IsSourceFault c.args.names.now (map header_of c.args.headers.now) (map assignment_of c.args.assignments.now) c.loop-number.number (c.loop-number.number + 1 + n) (source_of c.in-Some.source) c.in-Err.fault) (sym (length-map rest source_of)) c.in-Err.ensures.fault)

@@ -1,9 +1,9 @@
-use Rattle.std.proofs.Common.{rules, arith, ◌∙◌, sym, ap, refl, subst, map, get_or}
+use Rattle.std.proofs.Common.{Some, None, rules, arith, ◌∙◌, sym, ap, refl, subst, map, get_or}
 use Rattle.std.specs.Prelude.{pos}
 use Rattle.values.specs.Allowing.{Allows}
 use Rattle.typed_values.specs.proving.Reading.{ArePlaced}
 use Rattle.std.proofs.lemmas.List.{length-map}
-use Rattle.asn_base.specs.Abstract.{abstract, alternative}
+use Rattle.asn_base.specs.Abstract.{alternative, fields as family_fields, list, row_of_list, row_of_options}
 use Rattle.trees.specs.Values.{member_of, tree_of}
 use Rattle.type_table.specs.Seen.{kind_of, part_of}
 use Rattle.type_table.specs.Table as table
@@ -15,30 +15,31 @@ use Rattle.typed_values.specs.Faults as faults
 use Rattle.typed_values.specs.proving.Reading as reading
 use Rattle.typed_values.proofs.Following.{sound_kind}
 use Rattle.typed_values.proofs.Rows.{got}
-use Rattle.typed_values.proofs.Readings.{of_kind, own_fault, room_fault, row_none, row_wrong, row_more, fields_none, fields_wrong, fields_more, place_at, as_many, placed, field_there, field_stands, place_none, list_means, list_outside, list_fault, choice_means, choice_fault, fields_fault, fields_mean, value_as, means_as, alternative_below, alternative_at, alternative_name, no_alternative, names_misfit, row_count, unfollowed_at, written_of, last_of, member_there, element_there, no_reference, no_tagged, absent_addition, absent_optional, absent_mandatory, read_means, read_stands, last_at, stands_as}
+use Rattle.typed_values.proofs.Readings.{of_kind, own_fault, room_fault, place_at, as_many, placed, field_there, field_stands, place_none, list_means, list_outside, list_fault, choice_means, choice_fault, fields_fault, fields_mean, value_as, means_as, alternative_below, alternative_at, alternative_name, no_alternative, names_misfit, row_count, unfollowed_at, written_of, last_of, member_there, element_there, no_reference, no_tagged, absent_addition, absent_optional, absent_mandatory, read_means, read_stands, last_at, stands_as}
+use Rattle.typed_values.proofs.Outcomes.{made_none, made_wrong, made_more, fields_made_none, fields_made_wrong, fields_made_more, zip_count}
 use Rattle.typed_values.proofs.Braces.{values_found, values_none_found, fields_found, fields_none_found}
 use Rattle.typed_values.proofs.reading.+reading.Goals as goal
 
 -- ---- elements
 
 pub all-loop-i-init : goal.all-loop-i-init
-all-loop-i-init t c =
-    record { read = row_none _ _ _ _ _ _ c.room_for-values.result.items c.room_for-values.ensures; back = refl; known = c.requires.1.1.1.1 }
+all-loop-i-init t g c =
+    record { read = made_none _ _ _ _ _ _ _ c.room_for-values.result.items c.room_for-values.ensures; back = refl; known = c.requires.1.1.1.1.1 }
 
 pub all-returns-in-Err-clause-fault : goal.all-returns-in-Err-clause-fault
-all-returns-in-Err-clause-fault t c =
-    row_wrong c.loop-i.values.items c.args.notations.now c.loop-i.i c.index-notations-i.result c.loop-i-test.true c.index-notations-i.is
+all-returns-in-Err-clause-fault t g c =
+    made_wrong _ _ _ _ c.loop-i.values.items c.args.notations.now c.loop-i.i c.index-notations-i.result c.loop-i-test.true c.index-notations-i.is
     c.loop-i.invariant.read c.loop-i.invariant.back c.in-Err.ensures.tells
 
 pub all-returns-in-Err-push-clause-fault : goal.all-returns-in-Err-push-clause-fault
-all-returns-in-Err-push-clause-fault t c =
-    row_wrong c.loop-i.values.items c.args.notations.now c.loop-i.i c.index-notations-i.result c.loop-i-test.true c.index-notations-i.is
+all-returns-in-Err-push-clause-fault t g c =
+    made_wrong _ _ _ _ c.loop-i.values.items c.args.notations.now c.loop-i.i c.index-notations-i.result c.loop-i-test.true c.index-notations-i.is
     c.loop-i.invariant.read c.loop-i.invariant.back (faults.no_memory refl)
 
 pub all-loop-i-preserved : goal.all-loop-i-preserved
-all-loop-i-preserved t c =
+all-loop-i-preserved t g c =
     record {
-      read = row_more c.loop-i.values.items c.push.new.self.items c.in-Ok.value c.args.notations.now c.loop-i.i
+      read = made_more _ _ _ _ c.loop-i.values.items c.push.new.self.items c.in-Ok.value c.args.notations.now c.loop-i.i
           c.index-notations-i.result c.loop-i-test.true c.index-notations-i.is c.in-Ok-push.ensures.items
           c.loop-i.invariant.read c.loop-i.invariant.back c.in-Ok.ensures.tells;
       back = c.in-Ok.ensures.back ∙ c.loop-i.invariant.back;
@@ -48,29 +49,32 @@ all-loop-i-preserved t c =
 -- ---- components
 
 pub all_fields-loop-i-init : goal.all_fields-loop-i-init
-all_fields-loop-i-init t c =
-    record { read = fields_none _ _ _ _ _ _ _ c.room_for-values.result.items c.room_for-values.ensures; back = refl; known = c.requires.1.1.1.1.1.1 }
+all_fields-loop-i-init t g c =
+    record { read = fields_made_none _ _ _ _ _ _ _ _ c.room_for-values.result.items c.room_for-values.ensures; back = refl; known = c.requires.1.1.1.1.1.1.1 }
 
 pub all_fields-field-requires : goal.all_fields-field-requires
-all_fields-field-requires t c =
+all_fields-field-requires t g c =
     let cs = map part_of c.args.components.now in
     let fs = field_names (map member_of c.args.given.now) in
     let there = got part_of c.args.components.now c.loop-i.i c.index-components-i.result c.loop-i-test.true c.index-components-i.is in
-    let many = as_many cs fs c.args.places.now c.requires.1.1.0 in
+    let many = as_many cs fs c.args.places.now c.requires.1.1.1.0 in
     let same = length-map c.args.components.now part_of in
     let test = c.loop-i-test.true in
-    let at = place_at cs fs c.args.places.now c.loop-i.i (part_of c.index-components-i.result) _ c.requires.1.1.0 there
-    (omega (arith, many, same, test)) in (
+    let at = place_at cs fs c.args.places.now c.loop-i.i (part_of c.index-components-i.result) _ c.requires.1.1.1.0 there
+    (omega (arith, many, same, test)) in λ k h. (
       search rules,
       (
-        c.requires.1.1.1.0 c.loop-i.i _ there,
+        h,
         (
-          at.0,
+          c.requires.1.1.1.1.0 c.loop-i.i _ there,
           (
-            at.1,
+            at.0,
             (
-              c.requires.1.1.1.1.0,
-              (record { parts = cs; listed = c.requires.1.1.1.1.1.0; there = (c.loop-i.i, there) }, c.loop-i.invariant.known),
+              at.1,
+              (
+                c.requires.1.1.1.1.1.0,
+                (record { parts = cs; listed = c.requires.1.1.1.1.1.1.0; there = (c.loop-i.i, there) }, c.loop-i.invariant.known),
+              ),
             ),
           ),
         ),
@@ -78,21 +82,21 @@ all_fields-field-requires t c =
     )
 
 pub all_fields-returns-in-Err-clause-fault : goal.all_fields-returns-in-Err-clause-fault
-all_fields-returns-in-Err-clause-fault t c =
-    fields_wrong c.loop-i.values.items c.args.components.now c.loop-i.i c.index-components-i.result c.loop-i-test.true c.index-components-i.is
+all_fields-returns-in-Err-clause-fault t g c =
+    fields_made_wrong _ _ _ _ c.loop-i.values.items c.args.components.now c.loop-i.i c.index-components-i.result c.loop-i-test.true c.index-components-i.is
     c.loop-i.invariant.read c.loop-i.invariant.back c.in-Err.ensures.fault
 
 pub all_fields-returns-in-Err-push-clause-fault : goal.all_fields-returns-in-Err-push-clause-fault
-all_fields-returns-in-Err-push-clause-fault t c =
-    fields_wrong c.loop-i.values.items c.args.components.now c.loop-i.i c.index-components-i.result c.loop-i-test.true c.index-components-i.is
+all_fields-returns-in-Err-push-clause-fault t g c =
+    fields_made_wrong _ _ _ _ c.loop-i.values.items c.args.components.now c.loop-i.i c.index-components-i.result c.loop-i-test.true c.index-components-i.is
     c.loop-i.invariant.read c.loop-i.invariant.back (reading.no_memory refl)
 
 pub all_fields-loop-i-preserved : goal.all_fields-loop-i-preserved
-all_fields-loop-i-preserved t c =
+all_fields-loop-i-preserved t g c =
     record {
-      read = fields_more c.loop-i.values.items c.push.new.self.items c.in-Ok.value c.args.components.now c.loop-i.i
+      read = fields_made_more _ _ _ _ c.loop-i.values.items c.push.new.self.items c.in-Ok.value c.args.components.now c.loop-i.i
           c.index-components-i.result c.loop-i-test.true c.index-components-i.is c.in-Ok-push.ensures.items
-          c.loop-i.invariant.read c.loop-i.invariant.back c.in-Ok.ensures.value c.in-Ok.ensures.counted;
+          c.loop-i.invariant.read c.loop-i.invariant.back c.in-Ok.ensures.value;
       back = c.in-Ok.ensures.back ∙ c.loop-i.invariant.back;
       known = c.in-Ok.ensures.known;
     }
@@ -100,35 +104,38 @@ all_fields-loop-i-preserved t c =
 -- ---- alternatives
 
 pub chosen-returns-in_default-clause-tells : goal.chosen-returns-in_default-clause-tells
-chosen-returns-in_default-clause-tells t c = λ os e N w h.
+chosen-returns-in_default-clause-tells t g c = λ os e N w h.
     own_fault _ refl refl refl (misfit (of_kind w) h c.in_default.ensures)
 
 pub chosen-returns-in_default-alternative-clause-tells : goal.chosen-returns-in_default-alternative-clause-tells
-chosen-returns-in_default-alternative-clause-tells t c = λ os e N w h.
+chosen-returns-in_default-alternative-clause-tells t g c = λ os e N w h.
     own_fault _ refl refl refl
     (no_alternative c.in-Some.name.now (tree_of c.in-Some.notation.now) w h c.in-Some.ensures c.in_default-alternative.ensures)
 
 pub chosen-bounds-alternatives-number : goal.chosen-bounds-alternatives-number
-chosen-bounds-alternatives-number t c =
+chosen-bounds-alternatives-number t g c =
     alternative_below c.args.alternatives.now c.in-Some-alternative.number _ c.in-Some-alternative.ensures
 
 pub chosen-bounds-alternatives-number-in-Some-alternative : goal.chosen-bounds-alternatives-number-in-Some-alternative
-chosen-bounds-alternatives-number-in-Some-alternative t c =
+chosen-bounds-alternatives-number-in-Some-alternative t g c =
     alternative_below c.args.alternatives.now c.in-Some-alternative.number _ c.in-Some-alternative.ensures
 
 pub chosen-read-requires : goal.chosen-read-requires
-chosen-read-requires t c = (
+chosen-read-requires t g c = λ k h. (
   search rules,
   (
-    c.requires.1.1.0 c.in-Some-alternative.number _
-        (alternative_at c.args.alternatives.now c.in-Some-alternative.number c.index-alternatives-number.result _
-        c.in-Some-alternative.ensures),
-    (c.requires.1.1.1.0, c.requires.1.1.1.1),
+    h,
+    (
+      c.requires.1.1.1.0 c.in-Some-alternative.number _
+          (alternative_at c.args.alternatives.now c.in-Some-alternative.number c.index-alternatives-number.result _
+          c.in-Some-alternative.ensures),
+      (c.requires.1.1.1.1.0, c.requires.1.1.1.1.1),
+    ),
   ),
 )
 
 pub chosen-returns-in-Err-clause-tells : goal.chosen-returns-in-Err-clause-tells
-chosen-returns-in-Err-clause-tells t c = λ os e N w h.
+chosen-returns-in-Err-clause-tells t g c = λ os e N w h.
     let xs = c.args.alternatives.now in
     let n = c.in-Some-alternative.number in
     let d = c.index-alternatives-number.result in
@@ -136,270 +143,308 @@ chosen-returns-in-Err-clause-tells t c = λ os e N w h.
     (n, alternative_at xs n d _ c.in-Some-alternative.ensures)
     (alternative_name xs n d _ c.in-Some-alternative.ensures) c.in-Err.ensures.tells
 
-pub chosen-returns-in-Ok-new-clause-tells : goal.chosen-returns-in-Ok-new-clause-tells
-chosen-returns-in-Ok-new-clause-tells t c = λ os e N w h.
+pub chosen-returns-in-Ok-alternative-clause-tells : goal.chosen-returns-in-Ok-alternative-clause-tells
+chosen-returns-in-Ok-alternative-clause-tells t g c = λ os e N w h.
     let xs = c.args.alternatives.now in
     let n = c.in-Some-alternative.number in
     let d = c.index-alternatives-number.result in
-    value_as
-    (ap (λ v. alternative n v) (sym (ap abstract c.in-Ok-new.ensures.ok))
-    ∙ sym (c.abstract_values.ensures.alt n c.in-Ok-new.held))
-    (choice_means (part_of (get_or xs n d)) w h c.in-Some.ensures
-    (alternative_at xs n d _ c.in-Some-alternative.ensures)
-    (alternative_name xs n d _ c.in-Some-alternative.ensures) c.in-Ok.ensures.tells)
+    let m = c.in-Ok.ensures.tells in
+    record {
+      value = alternative n m.value;
+      shown = c.in-Ok-alternative.ensures m.value m.shown;
+      means = choice_means (part_of (get_or xs n d)) w h c.in-Some.ensures
+          (alternative_at xs n d _ c.in-Some-alternative.ensures)
+          (alternative_name xs n d _ c.in-Some-alternative.ensures) m.means;
+    }
 
-pub chosen-returns-clause-tells : goal.chosen-returns-clause-tells
-chosen-returns-clause-tells t c = λ os e N w h. faults.no_memory refl
+pub chosen-returns-in-Err-alternative-clause-tells : goal.chosen-returns-in-Err-alternative-clause-tells
+chosen-returns-in-Err-alternative-clause-tells t g c = λ os e N w h. faults.no_memory refl
 
 -- ---- defaults
 
 pub read_default-returns-in-Ok-clause-may : goal.read_default-returns-in-Ok-clause-may
-read_default-returns-in-Ok-clause-may t c =
-    let m = means_as c.new-opened.ensures c.in-Ok.ensures.tells in
-    values.where_default c.requires.1.1.1.0 c.requires.1.1.1.1.0 m.stands m.value
+read_default-returns-in-Ok-clause-may t g c =
+    let m = means_as c.new-opened.ensures c.in-Ok.ensures.tells.means in
+    values.where_default c.requires.1.1.1.1.0 c.requires.1.1.1.1.1.0 m.stands m.value
 
 -- ---- a component
 
 pub field-bounds-given-place : goal.field-bounds-given-place
-field-bounds-given-place t c = field_there c.args.given.now _ c.in-Some.place (sym c.requires.1.1.1.0 ∙ c.in-Some.is)
+field-bounds-given-place t g c = field_there c.args.given.now _ c.in-Some.place (sym c.requires.1.1.1.1.0 ∙ c.in-Some.is)
 
 pub field-returns-in-Ok-clause-value : goal.field-returns-in-Ok-clause-value
-field-returns-in-Ok-clause-value t c = (
-  _,
-  field_stands c.args.given.now _ c.in-Some.place c.index-given-place.result (sym c.requires.1.1.1.0 ∙ c.in-Some.is),
-  c.in-Ok.ensures.tells.stands,
-  c.in-Ok.ensures.tells.value,
-)
+field-returns-in-Ok-clause-value t g c =
+    let m = c.in-Ok.ensures.tells in
+    record {
+      value = Some m.value;
+      shown = m.shown;
+      field = (
+        _,
+        field_stands c.args.given.now _ c.in-Some.place c.index-given-place.result (sym c.requires.1.1.1.1.0 ∙ c.in-Some.is),
+        m.means.stands,
+        m.means.value,
+      );
+      counted = m.means.counted;
+    }
 
 pub field-returns-in-Err-clause-fault : goal.field-returns-in-Err-clause-fault
-field-returns-in-Err-clause-fault t c =
+field-returns-in-Err-clause-fault t g c =
     reading.in_field
-    (field_stands c.args.given.now _ c.in-Some.place c.index-given-place.result (sym c.requires.1.1.1.0 ∙ c.in-Some.is))
+    (field_stands c.args.given.now _ c.in-Some.place c.index-given-place.result (sym c.requires.1.1.1.1.0 ∙ c.in-Some.is))
     c.in-Err.ensures.tells
 
 pub field-returns-in-Ok-default-clause-value : goal.field-returns-in-Ok-default-clause-value
-field-returns-in-Ok-default-clause-value t c =
-    (place_none _ _ (sym c.requires.1.1.1.0 ∙ c.in-None.is), c.requires.1.1.1.1.0 c.in-None.is, c.in-Ok-default.ensures.may)
+field-returns-in-Ok-default-clause-value t g c = record {
+  value = None;
+  shown = tt;
+  field = (place_none _ _ (sym c.requires.1.1.1.1.0 ∙ c.in-None.is), c.requires.1.1.1.1.1.0 c.in-None.is, c.in-Ok-default.ensures.may);
+  counted = omega arith;
+}
 
 pub field-returns-in-Err-default-clause-fault : goal.field-returns-in-Err-default-clause-fault
-field-returns-in-Err-default-clause-fault t c =
-    reading.in_default (place_none _ _ (sym c.requires.1.1.1.0 ∙ c.in-None.is)) c.in-Err-default.ensures.fault
+field-returns-in-Err-default-clause-fault t g c =
+    reading.in_default (place_none _ _ (sym c.requires.1.1.1.1.0 ∙ c.in-None.is)) c.in-Err-default.ensures.fault
 
 -- ---- a SEQUENCE or SET
 
 pub fields-returns-in_default-clause-tells : goal.fields-returns-in_default-clause-tells
-fields-returns-in_default-clause-tells t c = λ os e w h.
+fields-returns-in_default-clause-tells t g c = λ os e w h.
     own_fault _ refl refl refl
-    (misfit (of_kind w) h (names_misfit c.args.kind e _ _ c.requires.1.1.0 (fields_none_found _ c.in_default.ensures)))
+    (misfit (of_kind w) h (names_misfit c.args.kind e _ _ c.requires.1.1.1.0 (fields_none_found _ c.in_default.ensures)))
 
 pub fields-returns-in-Err-clause-tells : goal.fields-returns-in-Err-clause-tells
-fields-returns-in-Err-clause-tells t c = λ os e w h.
+fields-returns-in-Err-clause-tells t g c = λ os e w h.
     own_fault _ refl refl refl
-    (c.unarranged-cause.ensures c.args.bounded.now _ _ _ os _ _ _ c.args.kind e _ _ (of_kind w) c.requires.1.1.0 h
+    (c.unarranged-cause.ensures c.args.bounded.now _ _ _ os _ _ _ c.args.kind e _ _ (of_kind w) c.requires.1.1.1.0 h
     (fields_found _ _ c.in-Some.ensures) c.in-Err.ensures)
 
 pub fields-all_fields-requires : goal.fields-all_fields-requires
-fields-all_fields-requires t c = (
+fields-all_fields-requires t g c = λ k h. (
   search rules,
   (
-    subst (λ ps. ArePlaced (map part_of c.args.components.now) (field_names (map member_of c.in-Some.given.now)) ps)
-        (sym c.as_slice.ensures.value) (placed c.args.kind _ _ _ c.in-Ok.ensures),
-    (c.requires.1.1.1.1.0, (c.requires.1.1.1.1.1.0, (c.requires.1.1.1.1.1.1.0, c.requires.1.1.1.1.1.1.1))),
+    h,
+    (
+      subst (λ ps. ArePlaced (map part_of c.args.components.now) (field_names (map member_of c.in-Some.given.now)) ps)
+          (sym c.as_slice.ensures.value) (placed c.args.kind _ _ _ c.in-Ok.ensures),
+      (c.requires.1.1.1.1.1.0, (c.requires.1.1.1.1.1.1.0, (c.requires.1.1.1.1.1.1.1.0, c.requires.1.1.1.1.1.1.1.1))),
+    ),
   ),
 )
 
 pub fields-returns-in-Ok-all_fields-clause-tells : goal.fields-returns-in-Ok-all_fields-clause-tells
-fields-returns-in-Ok-all_fields-clause-tells t c = λ os e w h.
-    let m = c.in-Ok-all_fields.ensures.value in
-    value_as (sym (c.abstract_values.ensures.fields_ c.in-Ok-all_fields.values))
-    (fields_mean w c.requires.1.1.0 h
-    (c.stands_for_fields.ensures c.args.bounded.now _ _ c.args.kind e _ _ _ _ _ (fields_found _ _ c.in-Some.ensures) c.in-Ok.ensures m.stand)
-    (c.groups_whole.ensures c.args.bounded.now _ _ c.args.kind _ _ _ _ c.in-Ok.ensures m.stand) m)
+fields-returns-in-Ok-all_fields-clause-tells t g c = λ os e w h.
+    let r = c.in-Ok-all_fields.ensures.value in
+    let m = r.mean in
+    record {
+      value = family_fields (row_of_options r.values);
+      shown = c.fields.ensures r.values r.shown;
+      means = fields_mean w c.requires.1.1.1.0 h
+          (c.stands_for_fields.ensures c.args.bounded.now _ _ c.args.kind e _ _ _ _ _ (fields_found _ _ c.in-Some.ensures) c.in-Ok.ensures m.stand)
+          (c.groups_whole.ensures c.args.bounded.now _ _ c.args.kind _ _ _ _ c.in-Ok.ensures m.stand) m;
+    }
 
 pub fields-returns-clause-tells : goal.fields-returns-clause-tells
-fields-returns-clause-tells t c = λ os e w h.
-    fields_fault w c.requires.1.1.0 h (fields_found _ _ c.in-Some.ensures) c.in-Ok.ensures c.in-Err-all_fields.ensures.fault
+fields-returns-clause-tells t g c = λ os e w h.
+    fields_fault w c.requires.1.1.1.0 h (fields_found _ _ c.in-Some.ensures) c.in-Ok.ensures c.in-Err-all_fields.ensures.fault
 
 -- ---- a SEQUENCE OF or SET OF
 
 pub list-returns-in_default-clause-tells : goal.list-returns-in_default-clause-tells
-list-returns-in_default-clause-tells t c = λ os k N w h.
+list-returns-in_default-clause-tells t g c = λ os k N w h.
     own_fault _ refl refl refl (misfit (of_kind w) h (values_none_found _ c.in_default.ensures))
 
 pub list-returns-in-Err-clause-tells : goal.list-returns-in-Err-clause-tells
-list-returns-in-Err-clause-tells t c = λ os k N w h. list_fault w h (values_found _ _ c.in-Some.ensures) c.in-Err.ensures.fault
+list-returns-in-Err-clause-tells t g c = λ os k N w h. list_fault w h (values_found _ _ c.in-Some.ensures) c.in-Err.ensures.fault
 
 pub list-returns-then-not-allows_size-clause-tells : goal.list-returns-then-not-allows_size-clause-tells
-list-returns-then-not-allows_size-clause-tells t c = λ os k N w h.
-    let many = row_count c.in-Ok.values.items ∙ sym c.in-Ok.values.ok.0 ∙ sym c.len.ensures in
+list-returns-then-not-allows_size-clause-tells t g c = λ os k N w h.
+    let r = c.in-Ok.ensures.value in
+    let many = row_count r.values ∙ zip_count _ _ r.values r.shown ∙ sym c.in-Ok.values.ok.0 ∙ sym c.len.ensures in
     own_fault _ refl refl refl
-    (list_outside w h (values_found _ _ c.in-Some.ensures) c.in-Ok.ensures.value
+    (list_outside w h (values_found _ _ c.in-Some.ensures) r.mean
     (λ a.
     let b = subst (λ z. Allows c.args.bounded.now c.args.at.ty.index (pos z)) many a in
     let f = (c.allows_size.ensures _ (of_kind w)).1 (b _ (of_kind w)) in
     cc))
 
 pub list-returns-clause-tells : goal.list-returns-clause-tells
-list-returns-clause-tells t c = λ os k N w h.
-    let many = row_count c.in-Ok.values.items ∙ sym c.in-Ok.values.ok.0 ∙ sym c.len.ensures in
-    value_as (sym (c.abstract_values.ensures.list_ c.in-Ok.values))
-    (list_means w h (values_found _ _ c.in-Some.ensures) c.in-Ok.ensures.value
-    (subst (λ z. Allows c.args.bounded.now c.args.at.ty.index (pos z)) (sym many)
-    (λ j is. (c.allows_size.ensures j is).0 c.if-not-allows_size.false)))
+list-returns-clause-tells t g c = λ os k N w h.
+    let r = c.in-Ok.ensures.value in
+    let many = row_count r.values ∙ zip_count _ _ r.values r.shown ∙ sym c.in-Ok.values.ok.0 ∙ sym c.len.ensures in
+    record {
+      value = list (row_of_list r.values);
+      shown = c.list.ensures r.values r.shown;
+      means = list_means w h (values_found _ _ c.in-Some.ensures) r.mean
+          (subst (λ z. Allows c.args.bounded.now c.args.at.ty.index (pos z)) (sym many)
+          (λ j is. (c.allows_size.ensures j is).0 c.if-not-allows_size.false));
+    }
 
 -- ---- a notation
 
 pub read-returns-then-levels-eq0-clause-tells : goal.read-returns-then-levels-eq0-clause-tells
-read-returns-then-levels-eq0-clause-tells t c = faults.itself refl refl refl tt c.if-levels-eq0.true
+read-returns-then-levels-eq0-clause-tells t g c = faults.itself refl refl refl tt c.if-levels-eq0.true
 
 pub read-returns-then-left-eq0-clause-tells : goal.read-returns-then-left-eq0-clause-tells
-read-returns-then-left-eq0-clause-tells t c = faults.itself refl refl refl c.if-levels-eq0.false c.if-left-eq0.true
+read-returns-then-left-eq0-clause-tells t g c = faults.itself refl refl refl c.if-levels-eq0.false c.if-left-eq0.true
 
 pub read-returns-in-Err-clause-tells : goal.read-returns-in-Err-clause-tells
-read-returns-in-Err-clause-tells t c =
+read-returns-in-Err-clause-tells t g c =
     room_fault _ refl refl refl c.if-levels-eq0.false c.if-left-eq0.false
     (unfollowed_at _ _ _ _ _ _ _ c.linked-linked.ensures c.written.ensures c.in-Err.ensures.fault c.unfollowed-cause.ensures)
 
 pub value_of-list-requires : goal.value_of-list-requires
-value_of-list-requires t c =
+value_of-list-requires t g c =
     let l = (subst (λ (p : Program). IsWhole p) c.linked-linked.ensures c.whole.ensures).linked in
     let e = ap kind_of c.in-Elements.is in
-    (search rules, (c.requires.1.1.0, (element_there l (written_of e c.requires.1.1.1.1.0), (c.requires.1.1.1.0, c.requires.1.1.1.1.1))))
+    λ k h. (search rules, (h, (c.requires.1.1.1.0, (element_there l (written_of e c.requires.1.1.1.1.1.0), (c.requires.1.1.1.1.0, c.requires.1.1.1.1.1.1)))))
 
 pub value_of-chosen-requires : goal.value_of-chosen-requires
-value_of-chosen-requires t c =
+value_of-chosen-requires t g c =
     let l = (subst (λ (p : Program). IsWhole p) c.linked-linked.ensures c.whole.ensures).linked in
     let e = ap kind_of c.in-Members.is
     ∙ ap (λ cs. table.members c.in-Members.kind c.in-Members.field-1 (map part_of cs)) (sym c.as_slice-members.ensures.value) in
-    (search rules, (member_there l (written_of e c.requires.1.1.1.1.0), (c.requires.1.1.1.0, c.requires.1.1.1.1.1)))
+    λ k h. (search rules, (h, (member_there l (written_of e c.requires.1.1.1.1.1.0), (c.requires.1.1.1.1.0, c.requires.1.1.1.1.1.1))))
 
 pub value_of-fields-requires : goal.value_of-fields-requires
-value_of-fields-requires t c =
+value_of-fields-requires t g c =
     let l = (subst (λ (p : Program). IsWhole p) c.linked-linked.ensures c.whole.ensures).linked in
     let e = ap kind_of c.in-Members.is
     ∙ ap (λ cs. table.members c.in-Members.kind c.in-Members.field-1 (map part_of cs)) (sym c.as_slice-members.ensures.value) in
-    let w = written_of e c.requires.1.1.1.1.0 in
-    let s = sound_kind c.args.bounded.now.types _ _ c.requires.1.1.1.0 (of_kind w) in (
+    let w = written_of e c.requires.1.1.1.1.1.0 in
+    let s = sound_kind c.args.bounded.now.types _ _ c.requires.1.1.1.1.0 (of_kind w) in λ k h. (
       search rules,
       (
-        c.is_choice.ensures.no c.if-is_choice.false,
+        h,
         (
-          s.names,
+          c.is_choice.ensures.no c.if-is_choice.false,
           (
-            member_there l w,
+            s.names,
             (
-              c.requires.1.1.1.0,
-              (record { type = c.args.at.ty.index; kind = c.in-Members.kind; marked = c.in-Members.field-1; written = w }, c.requires.1.1.1.1.1),
+              member_there l w,
+              (
+                c.requires.1.1.1.1.0,
+                (record { type = c.args.at.ty.index; kind = c.in-Members.kind; marked = c.in-Members.field-1; written = w }, c.requires.1.1.1.1.1.1),
+              ),
             ),
           ),
         ),
       ),
     )
 
-pub value_of-returns-in-Simple-clause-tells : goal.value_of-returns-in-Simple-clause-tells
-value_of-returns-in-Simple-clause-tells t c = λ os h.
+pub value_of-returns-in-Ok-clause-tells : goal.value_of-returns-in-Ok-clause-tells
+value_of-returns-in-Ok-clause-tells t g c = λ os h.
     let e = ap kind_of c.in-Simple.is in
-    c.simple_value.ensures _ _ os _ c.args.home.now (written_of e c.requires.1.1.1.1.0) (last_of e h)
+    record {
+      value = _;
+      shown = c.leaf.ensures;
+      means = c.in-Ok.ensures _ _ os _ c.args.home.now (written_of e c.requires.1.1.1.1.1.0) (last_of e h);
+    }
+
+pub value_of-returns-in-Err-clause-tells : goal.value_of-returns-in-Err-clause-tells
+value_of-returns-in-Err-clause-tells t g c = λ os h.
+    let e = ap kind_of c.in-Simple.is in
+    c.in-Err.ensures _ _ os _ c.args.home.now (written_of e c.requires.1.1.1.1.1.0) (last_of e h)
 
 pub value_of-returns-in-Elements-clause-tells : goal.value_of-returns-in-Elements-clause-tells
-value_of-returns-in-Elements-clause-tells t c = λ os h.
+value_of-returns-in-Elements-clause-tells t g c = λ os h.
     let e = ap kind_of c.in-Elements.is in
-    c.list.ensures.tells os _ c.args.home.now (written_of e c.requires.1.1.1.1.0) (last_of e h)
+    c.list.ensures.tells os _ c.args.home.now (written_of e c.requires.1.1.1.1.1.0) (last_of e h)
 
 -- ---- the rest
 
 pub value_of-returns-then-is_choice-clause-tells : goal.value_of-returns-then-is_choice-clause-tells
-value_of-returns-then-is_choice-clause-tells t c = λ os h.
+value_of-returns-then-is_choice-clause-tells t g c = λ os h.
     let e = ap kind_of c.in-Members.is
     ∙ ap (λ cs. table.members c.in-Members.kind c.in-Members.field-1 (map part_of cs)) (sym c.as_slice-members.ensures.value) in
     let g = e ∙ ap (λ k. table.members k c.in-Members.field-1 (map part_of c.as_slice-members.result.now))
     (c.is_choice.ensures.yes c.if-is_choice.true) in
-    c.chosen.ensures.tells os _ c.args.home.now (written_of g c.requires.1.1.1.1.0) (last_of g h)
+    c.chosen.ensures.tells os _ c.args.home.now (written_of g c.requires.1.1.1.1.1.0) (last_of g h)
 
 pub value_of-returns-else-is_choice-clause-tells : goal.value_of-returns-else-is_choice-clause-tells
-value_of-returns-else-is_choice-clause-tells t c = λ os h.
+value_of-returns-else-is_choice-clause-tells t g c = λ os h.
     let e = ap kind_of c.in-Members.is
     ∙ ap (λ cs. table.members c.in-Members.kind c.in-Members.field-1 (map part_of cs)) (sym c.as_slice-members.ensures.value) in
-    c.fields.ensures.tells os _ (written_of e c.requires.1.1.1.1.0) (last_of e h)
+    c.fields.ensures.tells os _ (written_of e c.requires.1.1.1.1.1.0) (last_of e h)
 
 pub value_of-unreachable-requires : goal.value_of-unreachable-requires
-value_of-unreachable-requires t c =
-    no_reference (written_of (ap kind_of c.in-Reference.is) c.requires.1.1.1.1.0)
+value_of-unreachable-requires t g c =
+    no_reference (written_of (ap kind_of c.in-Reference.is) c.requires.1.1.1.1.1.0)
 
 pub value_of-unreachable-requires-in-Tagged : goal.value_of-unreachable-requires-in-Tagged
-value_of-unreachable-requires-in-Tagged t c =
-    no_tagged (written_of (ap kind_of c.in-Tagged.is) c.requires.1.1.1.1.0)
+value_of-unreachable-requires-in-Tagged t g c =
+    no_tagged (written_of (ap kind_of c.in-Tagged.is) c.requires.1.1.1.1.1.0)
 
 pub value_of-unreachable-unreachable : goal.value_of-unreachable-unreachable
-value_of-unreachable-unreachable t c =
-    no_reference (written_of (ap kind_of c.in-Reference.is) c.requires.1.1.1.1.0)
+value_of-unreachable-unreachable t g c =
+    no_reference (written_of (ap kind_of c.in-Reference.is) c.requires.1.1.1.1.1.0)
 
 pub value_of-unreachable-unreachable-in-Tagged : goal.value_of-unreachable-unreachable-in-Tagged
-value_of-unreachable-unreachable-in-Tagged t c =
-    no_tagged (written_of (ap kind_of c.in-Tagged.is) c.requires.1.1.1.1.0)
+value_of-unreachable-unreachable-in-Tagged t g c =
+    no_tagged (written_of (ap kind_of c.in-Tagged.is) c.requires.1.1.1.1.1.0)
 
 pub value_of-simple_value-requires-clause-there : goal.value_of-simple_value-requires-clause-there
-value_of-simple_value-requires-clause-there t c = c.requires.1.1.0
+value_of-simple_value-requires-clause-there t g c = c.requires.1.1.1.0
 
 pub value_of-simple_value-requires-clause-sound : goal.value_of-simple_value-requires-clause-sound
-value_of-simple_value-requires-clause-sound t c =
-    sound_kind c.args.bounded.now.types _ _ c.requires.1.1.1.0 (of_kind (written_of (ap kind_of c.in-Simple.is) c.requires.1.1.1.1.0))
+value_of-simple_value-requires-clause-sound t g c =
+    sound_kind c.args.bounded.now.types _ _ c.requires.1.1.1.1.0 (of_kind (written_of (ap kind_of c.in-Simple.is) c.requires.1.1.1.1.1.0))
 
 pub value_of-simple_value-requires-clause-is : goal.value_of-simple_value-requires-clause-is
-value_of-simple_value-requires-clause-is t c = of_kind (written_of (ap kind_of c.in-Simple.is) c.requires.1.1.1.1.0)
+value_of-simple_value-requires-clause-is t g c = of_kind (written_of (ap kind_of c.in-Simple.is) c.requires.1.1.1.1.1.0)
 
 pub read-returns-in-Ok-value_of-clause-tells : goal.read-returns-in-Ok-value_of-clause-tells
-read-returns-in-Ok-value_of-clause-tells t c =
-    read_means _ _ c.if-levels-eq0.false c.if-left-eq0.false
-    (c.in-Ok-value_of.ensures.tells _ (last_at c.linked-linked.ensures c.in-Ok.ensures.last))
+read-returns-in-Ok-value_of-clause-tells t g c =
+    let m = c.in-Ok-value_of.ensures.tells _ (last_at c.linked-linked.ensures c.in-Ok.ensures.last) in
+    record {
+      value = m.value;
+      shown = m.shown;
+      means = read_means _ _ c.if-levels-eq0.false c.if-left-eq0.false m.means;
+    }
 
 pub read-returns-in-Err-value_of-clause-tells : goal.read-returns-in-Err-value_of-clause-tells
-read-returns-in-Err-value_of-clause-tells t c =
+read-returns-in-Err-value_of-clause-tells t g c =
     read_stands _ _ c.if-levels-eq0.false c.if-left-eq0.false
     (c.in-Err-value_of.ensures.tells _ (last_at c.linked-linked.ensures c.in-Ok.ensures.last))
 
 pub read-returns-in-Ok-value_of-clause-back : goal.read-returns-in-Ok-value_of-clause-back
-read-returns-in-Ok-value_of-clause-back t c =
+read-returns-in-Ok-value_of-clause-back t g c =
     c.close.ensures c.in-Ok.ensures.grown.0 _ (c.in-Ok-value_of.ensures.back ∙ c.in-Ok.ensures.grown.1) (sym c.count-count.ensures)
 
 pub read_default-returns-clause-fault : goal.read_default-returns-clause-fault
-read_default-returns-clause-fault t c =
+read_default-returns-clause-fault t g c =
     record {
       default = tree_of c.args.notation.now;
-      standing = c.requires.1.1.1.0;
-      presence = c.requires.1.1.1.1.0;
+      standing = c.requires.1.1.1.1.0;
+      presence = c.requires.1.1.1.1.1.0;
       fault = stands_as c.new-opened.ensures c.in-Err.ensures.tells;
     }
 
 pub default-returns-in-Addition-clause-may : goal.default-returns-in-Addition-clause-may
-default-returns-in-Addition-clause-may t c = absent_addition c.args.component.now c.in-Addition.field-0 c.in-Addition.is
+default-returns-in-Addition-clause-may t g c = absent_addition c.args.component.now c.in-Addition.field-0 c.in-Addition.is
 
 pub default-returns-in-Optional-clause-may : goal.default-returns-in-Optional-clause-may
-default-returns-in-Optional-clause-may t c = absent_optional c.args.component.now c.in-Optional.is
+default-returns-in-Optional-clause-may t g c = absent_optional c.args.component.now c.in-Optional.is
 
 pub default-returns-in-Mandatory-clause-may : goal.default-returns-in-Mandatory-clause-may
-default-returns-in-Mandatory-clause-may t c =
-    absent_mandatory c.args.component.now c.in-Root.is c.in-Mandatory.is c.requires.1.1.1.0
+default-returns-in-Mandatory-clause-may t g c =
+    absent_mandatory c.args.component.now c.in-Root.is c.in-Mandatory.is c.requires.1.1.1.1.0
 
 pub default-returns-in-Default-clause-may : goal.default-returns-in-Default-clause-may
-default-returns-in-Default-clause-may t c = c.whole_default.ensures.may
+default-returns-in-Default-clause-may t g c = c.whole_default.ensures.may
 
 pub default-returns-in-Default-clause-fault : goal.default-returns-in-Default-clause-fault
-default-returns-in-Default-clause-fault t c = c.whole_default.ensures.fault
+default-returns-in-Default-clause-fault t g c = c.whole_default.ensures.fault
 
 pub fields-arranged-requires-clause-distinct : goal.fields-arranged-requires-clause-distinct
-fields-arranged-requires-clause-distinct t c = c.requires.1.1.1.0
+fields-arranged-requires-clause-distinct t g c = c.requires.1.1.1.1.0
 
 pub fields-arranged-requires-clause-list : goal.fields-arranged-requires-clause-list
-fields-arranged-requires-clause-list t c = c.requires.1.1.0
+fields-arranged-requires-clause-list t g c = c.requires.1.1.1.0
 
 pub list-allows_size-requires : goal.list-allows_size-requires
-list-allows_size-requires t c = c.requires.1.1.0
-
-pub field-returns-in-Ok-clause-counted : goal.field-returns-in-Ok-clause-counted
-field-returns-in-Ok-clause-counted t c = c.in-Ok.ensures.tells.counted
+list-allows_size-requires t g c = c.requires.1.1.1.0
 
 pub field-offset_bounds-given-place : goal.field-offset_bounds-given-place
-field-offset_bounds-given-place t c =
-    let b = field_there c.args.given.now _ c.in-Some.place (sym c.requires.1.1.1.0 ∙ c.in-Some.is) in
+field-offset_bounds-given-place t g c =
+    let b = field_there c.args.given.now _ c.in-Some.place (sym c.requires.1.1.1.1.0 ∙ c.in-Some.is) in
     search rules

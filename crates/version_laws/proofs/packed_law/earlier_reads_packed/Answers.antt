@@ -35,12 +35,12 @@ returns-clause-reads c s s' t t' w o schema schema' l known r =
     older_message laws s s' t t' schema schema' l known r
 
 pub returns-clause-message : goal.returns-clause-message
-returns-clause-message c s s' t t' v b o schema schema' l known x p f =
+returns-clause-message c s s' t t' v b o schema schema' l known x light p f =
     let laws : Laws = record {
       groups = c.alike_values.ensures.groups;
       levels = c.alike_values.ensures.levels;
       joined = c.sameness.ensures.alike_joined;
       turned = c.sameness.ensures.alike_turned;
     } in
-    let m = c.writing_laws.ensures.message s' t' v b o x p f in
+    let m = c.writing_laws.ensures.message s' t' v b o x light p f in
     (kept s t m.0, kept_same laws s s' t t' schema schema' l known m.1, older_message_same laws s s' t t' schema schema' l known m.1 m.2)

@@ -36,12 +36,12 @@ returns-clause-reads c s s' t t' w o schema schema' l h r =
     newer_message laws s s' t t' schema schema' l h r
 
 pub returns-clause-message : goal.returns-clause-message
-returns-clause-message c s s' t t' v b o schema schema' l h x p f =
+returns-clause-message c s s' t t' v b o schema schema' l h x light p f =
     let laws : Laws = record {
       groups = c.alike_values.ensures.groups;
       levels = c.alike_values.ensures.levels;
       joined = c.sameness.ensures.alike_joined;
       turned = c.sameness.ensures.alike_turned;
     } in
-    let m = c.writing_laws.ensures.message s t v b o x p f in
+    let m = c.writing_laws.ensures.message s t v b o x light p f in
     (widened s' t' m.0, wide_same laws s s' t t' schema' l h m.1, newer_message laws s s' t t' schema schema' l h m.2)

@@ -5,14 +5,11 @@ use Rattle.asnc.proofs.Opening.{kit_answers}
 use Rattle.asnc.proofs.kit.Kit.open.Goals as goal
 
 pub kit_of-requires : goal.kit_of-requires
-kit_of-requires c = record {
-  kept = c.accepted_keep.ensures (map octets_of c.args.texts.now) c.in-Ok.front.linked c.in-Ok.ensures.accepted.accepted;
-  types = c.in-Ok.ensures.accepted.types;
-}
+kit_of-requires c = c.in-Ok.ensures.accepted.types
 
 pub returns-in-Ok-clause-only : goal.returns-in-Ok-clause-only
 returns-in-Ok-clause-only c = λ p a.
-    kit_answers (λ (k : Opened). k.program) c.in-Ok.front.linked p c.kit_of.result (c.in-Ok.ensures.only p a) c.kit_of.ensures.program c.kit_of.ensures.memory
+    kit_answers (λ (k : Opened). k.program) c.in-Ok.front.modules p c.kit_of.result (c.in-Ok.ensures.only p a) c.kit_of.ensures.program c.kit_of.ensures.memory
 
 pub returns-in-Err-clause-only : goal.returns-in-Err-clause-only
 returns-in-Err-clause-only c = λ p a. c.refusal.ensures.memory (c.in-Err.ensures.only p a)

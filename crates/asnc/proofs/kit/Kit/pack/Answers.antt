@@ -1,11 +1,8 @@
-use Rattle.std.proofs.Common.{◌≡◌, ◌<◌, subst, ℕ, List, length, Err}
+use Rattle.std.proofs.Common.{◌≡◌, subst, Err}
 use Rattle.std.specs.Prelude.{IfErr, IfOk}
 use Rattle.asn_base.specs.Abstract.{abstract}
 use Rattle.asn_base.specs.Typed.{IsValue}
-use Rattle.packed_encodings.specs.Lengths.{Bits}
-use Rattle.packed_encodings.specs.Packing.{Packed}
-use Rattle.packed_encodings.specs.Padding.{Padded}
-use Rattle.packed_writer.specs.Message.{IsMessage}
+use Rattle.packed_writer.specs.Message.{IsMessage, IsTooLong}
 use Rattle.packed_writer.specs.declared.fault.WriteFault.TheVariants.{NotOfType, TooLong}
 use Rattle.asnc.specs.Kits.{Opened}
 use Rattle.asnc.proofs.kit.Kit.pack.Goals as goal
@@ -33,9 +30,7 @@ returns-clause-no_value c =
 
 pub returns-clause-longer : goal.returns-clause-longer
 returns-clause-longer c =
-    subst (λ (k : Opened). IfErr c.write_uper.result (λ e. e ≡ TooLong → (b : Bits) (o : List ℕ) →
-    Packed k.types c.args.id.index (abstract c.args.value.now) b → Padded b o → 16777216 < length o))
+    subst (λ (k : Opened). IfErr c.write_uper.result (λ e. e ≡ TooLong → IsTooLong k.types c.args.id.index (abstract c.args.value.now)))
     c.self.view_is
-    (subst (λ s. IfErr c.write_uper.result (λ e. e ≡ TooLong → (b : Bits) (o : List ℕ) →
-    Packed s c.args.id.index (abstract c.args.value.now) b → Padded b o → 16777216 < length o))
+    (subst (λ s. IfErr c.write_uper.result (λ e. e ≡ TooLong → IsTooLong s c.args.id.index (abstract c.args.value.now)))
     c.self.invariant.2 c.write_uper.ensures.longer)

@@ -1,10 +1,12 @@
-use Rattle.std.proofs.Common.{subst}
-use Rattle.constraints.specs.proving.Columns.{AreAllNoted}
+use Rattle.std.proofs.Common.{subst, sym}
+use Rattle.constraints.specs.declared.column.BoundTable.{BoundTable}
+use Rattle.constraints.specs.proving.Columns.{HoldsOf}
 use Rattle.constraints.proofs.Bounding.{limit_some}
 use Rattle.constraints.proofs.bounded.Bounded.limit.Goals as goal
 
 pub returns : goal.returns
 returns c =
-    let col = c.self.inside.column in
+    let col = c.get.result.now in
+    let h = subst (λ (t : BoundTable). HoldsOf c.self.inside.tagged.now t) (sym c.get.ensures) c.self.invariant in
     limit_some c.args.self.now col.at.items col.limits.items c.args.ty c.limit.result
-    (subst (λ p. AreAllNoted p col.at.items col.limits.items) c.self.view_is c.self.invariant) c.requires c.limit.ensures
+    (subst (λ p. HoldsOf p col) c.self.view_is h) c.requires c.limit.ensures

@@ -1,9 +1,10 @@
 use Rattle.std.proofs.Common.{subst}
 use Rattle.constraints.specs.Bounded.{AreBounded}
+use Rattle.constraints.specs.proving.Columns.{held}
 use Rattle.constraints.proofs.Bounding.{bounded_by}
 use Rattle.constraints.proofs.bounded.Bounded.whole.Goals as goal
 
 pub returns : goal.returns
 returns c =
-    subst AreBounded c.self.view_is
-    (bounded_by _ c.self.inside.column.at.items c.self.inside.column.limits.items c.self.invariant)
+    let col = held c.self.inside.table in
+    subst AreBounded c.self.view_is (bounded_by _ col.at.items col.limits.items c.self.invariant)

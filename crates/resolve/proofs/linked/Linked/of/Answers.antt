@@ -8,6 +8,10 @@ use Rattle.type_table.specs.proving.Notes.{AreUnknown}
 use Rattle.type_table.specs.proving.Tables.{type_at, all_unfold, none_known, written_back}
 use Rattle.resolve.specs.Program.{IsWhole}
 use Rattle.resolve.proofs.Assembling.{circular_fault, closed, table_of, typed, whole}
+use Rattle.std.proofs.lemmas.Option.{slice_get_read}
+use Rattle.type_table.specs.Faults.{IsFirstCircle}
+use Rattle.resolve.proofs.Firsts.{circular_first, numbering_first}
+use Rattle.std.proofs.Common.{refl}
 use Rattle.resolve.proofs.linked.Linked.of.Goals as goal
 
 pub unfold_all-requires-clause-closed : goal.unfold_all-requires-clause-closed
@@ -23,7 +27,7 @@ unfold_all-requires-clause-unknown c =
 pub invariant_of-result : goal.invariant_of-result
 invariant_of-result c =
     let ts = types_of c.in-Ok.types.items in
-    let cores = subst (λ l. AreCores (types_of l) c.unfold_all.new.cores) c.deref-3.ensures.value c.in-Ok-unfold_all.ensures in
+    let cores = subst (λ l. AreCores (types_of l) c.unfold_all.new.cores) c.deref-3.ensures.value c.in-Ok-unfold_all.ensures.cores in
     let many : c.in_ok-cores.cores.len ≡ length c.unfold_all.new.cores = omega (arith, c.in_ok-cores.cores.ok.0, c.unfold_all.auto.cores, ap length c.deref_mut.ensures.value) in
     let back = written_back c.in_ok-cores.cores.len c.unfold_all.new.cores (drop (length c.unfold_all.new.cores) c.in_ok-cores.cores.items) many in (
       subst (λ n. IsWhole (record { modules = n; headers = map header_of c.args.gathered.headers.items; assignments = map assignment_of c.args.gathered.tables.assignments.items; types = ts; values = map value_of c.args.gathered.tables.values.items })) (sym c.of-names.ensures)
@@ -33,7 +37,7 @@ invariant_of-result c =
 
 pub circular_at-requires-clause-assigned : goal.circular_at-requires-clause-assigned
 circular_at-requires-clause-assigned c =
-    let inside : c.in-Err-unfold_all.circular < length c.in-Ok.types.items = subst (λ l. c.in-Err-unfold_all.circular < length l) c.deref-3.ensures.value c.in-Err-unfold_all.ensures.0 in
+    let inside : c.in-Err-unfold_all.circular < length c.in-Ok.types.items = subst (λ l. c.in-Err-unfold_all.circular < length l) c.deref-3.ensures.value c.in-Err-unfold_all.ensures.cores.0 in
     let t = typed (record { roots = c.numbered_there.ensures.roots; stand = c.numbered_there.ensures.assigned; closed = c.numbered_linked.ensures.closed; linked = c.numbered_linked.ensures.linked }) c.args.gathered c.requires.ready (types_of c.in-Ok.types.items) (table_of c.args.gathered c.of-names.result c.deref.result.now c.deref-2.result.now (types_of c.in-Ok.types.items) c.of-names.ensures c.deref.ensures.value c.deref-2.ensures.value c.in-Ok.ensures.ok) c.in-Err-unfold_all.circular (type_of c.index.result.now) (type_at c.in-Ok.types.items c.in-Err-unfold_all.circular c.index.result.now inside c.index.ensures) in
     omega (arith, t, ap length c.deref-in-Err-unfold_all-2.ensures.value)
 
@@ -44,7 +48,26 @@ circular_at-requires-clause-placed c = λ k a e.
 
 pub returns-in-Err-unfold_all-clause-fault : goal.returns-in-Err-unfold_all-clause-fault
 returns-in-Err-unfold_all-clause-fault c =
-    let inside : c.in-Err-unfold_all.circular < length c.in-Ok.types.items = subst (λ l. c.in-Err-unfold_all.circular < length l) c.deref-3.ensures.value c.in-Err-unfold_all.ensures.0 in
+    let inside : c.in-Err-unfold_all.circular < length c.in-Ok.types.items = subst (λ l. c.in-Err-unfold_all.circular < length l) c.deref-3.ensures.value c.in-Err-unfold_all.ensures.cores.0 in
     circular_fault c.args.gathered c.deref-in-Err-unfold_all.result.now c.deref-in-Err-unfold_all-2.result.now (types_of c.in-Ok.types.items) c.in-Err-unfold_all.circular (type_of c.index.result.now) c.circular_at.result
     c.deref-in-Err-unfold_all.ensures.value c.deref-in-Err-unfold_all-2.ensures.value (table_of c.args.gathered c.of-names.result c.deref.result.now c.deref-2.result.now (types_of c.in-Ok.types.items) c.of-names.ensures c.deref.ensures.value c.deref-2.ensures.value c.in-Ok.ensures.ok) (type_at c.in-Ok.types.items c.in-Err-unfold_all.circular c.index.result.now inside c.index.ensures)
-    (subst (λ l. IsCircular (types_of l) c.in-Err-unfold_all.circular) c.deref-3.ensures.value c.in-Err-unfold_all.ensures.1) c.circular_at.ensures
+    (subst (λ l. IsCircular (types_of l) c.in-Err-unfold_all.circular) c.deref-3.ensures.value c.in-Err-unfold_all.ensures.cores.1) c.circular_at.ensures.fault
+
+pub returns-in-Err-unfold_all-clause-first : goal.returns-in-Err-unfold_all-clause-first
+returns-in-Err-unfold_all-clause-first c = λ ms h n f.
+    let ws = c.in-Ok.types.items in
+    let i = c.in-Err-unfold_all.circular in
+    let inside : i < length ws = subst (λ l. i < length l) c.deref-3.ensures.value c.in-Err-unfold_all.ensures.cores.0 in
+    let all = table_of c.args.gathered c.of-names.result c.deref.result.now c.deref-2.result.now (types_of ws) c.of-names.ensures c.deref.ensures.value c.deref-2.ensures.value c.in-Ok.ensures.ok in
+    circular_first ms c.args.gathered c.deref-in-Err-unfold_all.result.now c.deref-in-Err-unfold_all-2.result.now ws i c.index.result.now c.circular_at.result h n f
+    c.deref-in-Err-unfold_all.ensures.value c.deref-in-Err-unfold_all-2.ensures.value all (slice_get_read ws (length ws) i c.index.result.now refl inside c.index.ensures)
+    (subst (λ l. IsFirstCircle (types_of l) i) c.deref-3.ensures.value c.in-Err-unfold_all.ensures.first) c.circular_at.ensures.fault c.circular_at.ensures.at
+
+pub returns-in-Err-clause-first : goal.returns-in-Err-clause-first
+returns-in-Err-clause-first c = λ ms h n f.
+    numbering_first ms c.args.gathered c.of-names.result c.deref.result.now c.deref-2.result.now c.in-Err.fault h n f c.of-names.ensures c.deref.ensures.value c.deref-2.ensures.value c.in-Err.ensures.first
+
+pub returns-in-Ok-unfold_all-clause-unfolds : goal.returns-in-Ok-unfold_all-clause-unfolds
+returns-in-Ok-unfold_all-clause-unfolds c =
+    let ts = types_of c.in-Ok.types.items in
+    all_unfold ts c.unfold_all.new.cores (subst (λ l. AreCores (types_of l) c.unfold_all.new.cores) c.deref-3.ensures.value c.in-Ok-unfold_all.ensures.cores)

@@ -1,0 +1,103 @@
+//! The headers of a message, in lines.
+
+ghost use Rattle.std.specs.Prelude.{◌≡◌, IfOk, IfErr, string_bytes};
+ghost use Rattle.header_listing.specs.Listing.{IsListing};
+ghost use Rattle.messages.specs.declared.fault.Fault.TheVariants.{Memory};
+ghost use Rattle.asnc.specs.Showing.{IsJudged, IsNotShownAs, IsShown, IsShownAs, limit_of};
+ghost use Rattle.std.specs.Prelude.{ℕ, List, Option};
+
+use crate::reading::{Rules, read_by, unread_at};
+use asn_base::schema::{Schema, TypeId};
+use codec_code::Code;
+use decode_faults::ReadFault;
+use front_end::Modules;
+use header_listing::{Types, list_headers};
+use messages::{Fault, Unread};
+use named_values::type_number;
+use std::alloc::{AllocError, Global};
+
+/// The headers of a message, and whether the message is accepted.
+#[derive(Drop)]
+pub struct Listing {
+    /// A line for each header, with a line end after each line.
+    pub lines: String,
+    /// Why the octets are refused, and where. None if they are accepted.
+    pub refusal: Option<Unread>,
+}
+
+/// Why octets are refused by the basic rules, or None if they are accepted. `Memory`: an allocation failed.
+fn judged(
+    alloc: Global,
+    schema: &Schema,
+    code: &Code,
+    id: TypeId,
+    octets: &[u8],
+) -> Result<Option<Unread>, Fault>
+    requires same { schema.now ≡ code.now }
+    ensures judged { IfOk result (IsJudged code.now id.index octets.now) }
+    ensures memory { IfErr result (λ e. e ≡ Memory) }
+{
+    let fault = match read_by(alloc, code, id, octets, Rules::Ber) {
+        Ok(_) => return Ok(None),
+        Err(fault) => fault,
+    };
+    if fault == ReadFault::Memory {
+        return Err(Fault::Memory);
+    }
+    Ok(Some(unread_at(alloc, schema, code, id, octets, fault)?))
+}
+
+/// The offset before which headers are shown.
+fn limit_at(octets: &[u8], refusal: &Option<Unread>) -> usize
+    ensures { result ≡ limit_of octets.now refusal.now }
+{
+    match refusal {
+        Some(unread) => unread.octet,
+        None => octets.len(),
+    }
+}
+
+/// The headers of a message of a value of the type, up to the octet at which it is refused, if it is.
+fn shown(
+    alloc: Global,
+    modules: &Modules,
+    schema: &Schema,
+    id: TypeId,
+    octets: &[u8],
+    refusal: Option<Unread>,
+) -> Result<Listing, AllocError>
+    ensures { IfOk result (λ l. (l.refusal ≡ refusal)
+        × ((stop : ℕ) × IsListing octets.now (limit_of octets.now refusal) stop (string_bytes l.lines))) }
+{
+    let types = Types {
+        linked: modules.linked(),
+        schema,
+    };
+    let limit = limit_at(octets, &refusal);
+    let lines = list_headers(alloc, types, id, octets, limit)?;
+    Ok(Listing { lines, refusal })
+}
+
+/// The headers of a message in the terms of the type that a text names. `NoType`: the text names no type. `Memory`: an
+/// allocation failed.
+pub(crate) fn shown_as(
+    alloc: Global,
+    modules: &Modules,
+    schema: &Schema,
+    code: &Code,
+    ty: &str,
+    octets: &[u8],
+) -> Result<Listing, Fault>
+    requires same { schema.now ≡ code.now }
+    ensures shown { IfOk result (IsShownAs modules.now code.now ty.now octets.now) }
+    ensures refused { IfErr result (IsNotShownAs modules.now ty.now) }
+{
+    let Some(id) = type_number(modules, ty) else {
+        return Err(Fault::NoType(String::from_str(alloc, ty)?));
+    };
+    let refusal = match judged(alloc, schema, code, id, octets) {
+        Ok(refusal) => refusal,
+        Err(fault) => return Err(fault),
+    };
+    Ok(shown(alloc, modules, schema, id, octets, refusal)?)
+}

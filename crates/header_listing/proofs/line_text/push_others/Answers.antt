@@ -1,0 +1,10 @@
+use Rattle.std.proofs.Common.{string_bytes}
+use Rattle.header_listing.specs.Shown.{others}
+use Rattle.header_listing.proofs.Lines.{one_more, joined}
+use Rattle.header_listing.proofs.line_text.push_others.Goals as goal
+
+pub returns : goal.returns
+returns c = λ ls x a.
+    let w = c.in_ok-push_words.ensures in
+    one_more ls (others c.args.depth c.args.offset x)
+    (string_bytes c.args.out.now) w.0 _ a (joined _ _ _ _ _ (c.in_ok-push_start_of_others.ensures x) w.1) w.2

@@ -1,0 +1,5 @@
+-- The definitions that a user must believe. `Shown` says which lines show the headers of octets, `Lines` which text
+-- these lines are, and `Listing` joins the two.
+pub mod Shown
+pub mod Lines
+pub mod Listing

@@ -1,0 +1,8 @@
+-- Nothing was taken so far.
+use Rattle.std.proofs.Common.{◌≡◌, length}
+use Rattle.std.specs.Io.KnownBytes.{Keeps}
+use Rattle.input_lines.proofs.fill.read_once.Given as goal
+
+abbrev pub invariant-loop : goal.invariant-loop
+invariant-loop g l =
+    Keeps (g.R.Read.remaining l.fn.reader) (g.R.Read.remaining l.reader) × (length l.room ≡ length l.fn.room)

@@ -1,0 +1,13 @@
+use Rattle.std.proofs.Common.{subst, map}
+use Rattle.front_end.specs.Accepted.{Accepted, octets_of}
+use Rattle.jobs.proofs.line_jobs.work_lines.Goals as goal
+
+-- the texts are accepted, and the sink failed
+pub returns-clause-device : goal.returns-clause-device
+returns-clause-device g c = λ n e. record {
+  program = c.in-Ok.kit.program;
+  types = c.in-Ok.kit.types;
+  accepted = subst (λ xs. Accepted (map octets_of xs) c.in-Ok.kit.program c.in-Ok.kit.types) c.as_slice.ensures.value
+      c.in-Ok.ensures.opened;
+  streamed = c.in-Err-stream.ensures.device n e;
+}

@@ -1,7 +1,0 @@
-use Rattle.std.proofs.Common.{◌≡◌, map}
-use Rattle.asn_base.specs.Seen.{alternative_of}
-use Rattle.later_versions.proofs.Fronts.{FrontTo}
-use Rattle.later_versions.proofs.lists.begin_with_alternatives.Given as goal
-
-abbrev pub invariant-loop-i : goal.invariant-loop-i
-invariant-loop-i l = FrontTo (λ a b. a.name ≡ b.name) (map alternative_of l.alternatives) (map alternative_of l.others) l.i

@@ -1,0 +1,43 @@
+-- Headers of two octets.
+use Rattle.std.proofs.Common.{arith, ◌≡◌, ℕ, ◌+◌, ◌<◌, Bool, true, false, List, [], ◌∷◌, ◌++◌, length, refl, sym, ap, ◌∙◌, cond}
+use Rattle.std.proofs.lemmas.Bool.Decides.{nat_tests}
+use Rattle.std.specs.Prelude.{nat_lt}
+use Rattle.asn_base.specs.declared.tag.Class.{Class}
+use Rattle.asn_base.specs.declared.tag.Tag.{Tag}
+use Rattle.encodings.specs.Header.{identifier, class_bits, septets, short}
+use Rattle.octet_answers.specs.Units.{UnitAt}
+
+low : (class : Class) (number : ℕ) → number < 31 → identifier class number false ≡ (class_bits class + 0 + number) ∷ []
+unfolding identifier
+low class number l = by (nat_lt number 31) (grind (arith, nat_tests))
+  where
+    by : (t : Bool) → t ≡ true → cond t ((class_bits class + 0 + number) ∷ []) ((class_bits class + 0 + 31) ∷ septets number) ≡ (class_bits class + 0 + number) ∷ []
+    by true e = refl
+    by false e = absurd (cc)
+
+-- the one identifier octet of a primitive encoding
+pub one_octet : (class : Class) (number bits octet : ℕ) → bits ≡ class_bits class → number < 31 → octet ≡ bits + number → identifier class number false ≡ octet ∷ []
+one_octet class number bits octet b l e =
+    let f : class_bits class + 0 + number ≡ octet = omega (arith, b, e) in
+    low class number l ∙ ap (λ q. q ∷ []) f
+
+-- an encoding whose header is that octet and a length below 128
+pub short_at : (t : Tag) (first size : ℕ) (inner x r o behind : List ℕ)
+    → identifier t.class t.number false ≡ first ∷ []
+    → o ≡ first ∷ behind
+    → behind ≡ size ∷ inner
+    → inner ≡ x ++ r
+    → length x ≡ size
+    → size < 128
+    → UnitAt t false 2 x r o
+short_at t first size inner x r o behind i e f g h l = record {
+  header = first ∷ size ∷ [];
+  is_header = record {
+    size = length x ∷ [];
+    is_size = short (omega (arith, h, l));
+    whole = ap (λ q. first ∷ q ∷ []) (sym h) ∙ ap (λ q. q ++ length x ∷ []) (sym i);
+  };
+  few = omega (arith, h, l);
+  long = refl;
+  whole = e ∙ ap (λ q. first ∷ q) f ∙ ap (λ q. first ∷ size ∷ q) g;
+}

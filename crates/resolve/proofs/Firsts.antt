@@ -1,0 +1,145 @@
+-- The first fault of modules, by what is gathered from them.
+use Rattle.std.proofs.Common.{◌≡◌, ◌<◌, ℕ, List, Some, length, map, refl, sym, subst, ap, ◌∙◌}
+use Rattle.std.specs.Prelude.{slice_get}
+use Rattle.trees.specs.declared.module.TagDefault.{TagDefault}
+use Rattle.trees.specs.declared.place.Spot.{Spot}
+use Rattle.trees.specs.Modules.{ModuleTree}
+use Rattle.trees.specs.Values.{Name}
+use Rattle.names.specs.declared.fault.Limit.TheVariants as limits
+use Rattle.names.specs.declared.fault.NameFault.{NameFault}
+use Rattle.names.specs.declared.fault.NameFault.TheVariants as faults
+use Rattle.names.specs.declared.gather.ModuleTables.{ModuleTables}
+use Rattle.names.specs.declared.sources.AssignedAt.{AssignedAt}
+use Rattle.names.specs.declared.sources.Header.{Header}
+use Rattle.names.specs.ByNumber.{headers_of, owned_from, roots_of, scopes_from}
+use Rattle.names.specs.Faults.{module_told, name_told}
+use Rattle.names.specs.First.{IsFirstStanding}
+use Rattle.names.specs.Modules.{AreFew, AreNamed}
+use Rattle.names.specs.Names.{Module}
+use Rattle.names.specs.Scopes.{module_of, seen}
+use Rattle.names.specs.Sources.{Source, assignment_of, header_of, sources_of}
+use Rattle.names.specs.proving.Gathering.{HasGathered, IsNamingFault, IsSomeLimit, IsTwiceFirst}
+use Rattle.type_table.specs.declared.table.Written.{Written}
+use Rattle.type_table.specs.Faults.{HasTooMany, IsFirstCircle, IsFirstNumbering}
+use Rattle.type_table.specs.Seen.{type_of, types_of}
+use Rattle.type_table.specs.Table.{AllUnfold}
+use Rattle.type_table.specs.proving.Checks.{IsTypesLimit}
+use Rattle.resolve.specs.First.{IsFirstFault, TellsFirst, of_counts, of_many, of_meanings, of_offers, of_program, of_types, of_unfolding}
+use Rattle.resolve.specs.Program.{Program}
+use Rattle.resolve.specs.proving.Assembled.{IsCircularAt, IsOf, IsTableFrom, IsTablesFault, TellsType}
+use Rattle.resolve.proofs.Ready.{program_of, same_table}
+
+pub counts_first : (ms : List ModuleTree) (e : NameFault) → IsNamingFault ms e → IsSomeLimit e → IsFirstFault ms e
+counts_first ms faults.Memory f l = tt
+counts_first ms (faults.Limit k s) f l = of_counts f
+counts_first ms (faults.Twice s) f l = absurd l
+counts_first ms (faults.UnknownName s) f l = absurd l
+counts_first ms (faults.NotExported s) f l = absurd l
+counts_first ms (faults.Circular s) f l = absurd l
+counts_first ms (faults.UnknownModule s) f l = absurd l
+
+pub meanings_first : (ms : List ModuleTree) (e : NameFault) → AreFew ms → IsTwiceFirst ms e → IsFirstFault ms e
+meanings_first ms faults.Memory n f = tt
+meanings_first ms (faults.Twice s) n f = of_meanings n f
+meanings_first ms (faults.Limit k s) n f = absurd f
+meanings_first ms (faults.UnknownName s) n f = absurd f
+meanings_first ms (faults.NotExported s) n f = absurd f
+meanings_first ms (faults.Circular s) n f = absurd f
+meanings_first ms (faults.UnknownModule s) n f = absurd f
+
+pub offers_first : (ms : List ModuleTree) (g : ModuleTables) (e : NameFault) → AreFew ms → HasGathered ms g →
+    IsNamingFault ms e → IsFirstStanding g.modules.entries e → IsFirstFault ms e
+offers_first ms g faults.Memory n h f t = tt
+offers_first ms g (faults.Limit l s) n h f t = of_offers g.modules.entries n (h.distinct, h.apart) h.scopes f t
+offers_first ms g (faults.Twice s) n h f t = of_offers g.modules.entries n (h.distinct, h.apart) h.scopes f t
+offers_first ms g (faults.UnknownName s) n h f t = of_offers g.modules.entries n (h.distinct, h.apart) h.scopes f t
+offers_first ms g (faults.NotExported s) n h f t = of_offers g.modules.entries n (h.distinct, h.apart) h.scopes f t
+offers_first ms g (faults.Circular s) n h f t = of_offers g.modules.entries n (h.distinct, h.apart) h.scopes f t
+offers_first ms g (faults.UnknownModule s) n h f t = of_offers g.modules.entries n (h.distinct, h.apart) h.scopes f t
+
+module _ (ms : List ModuleTree) (g : ModuleTables) where
+  -- what holds of what is gathered holds of the modules
+  moved : (Q : List (Name × Module) → List (Name × TagDefault) → List (ℕ × Name) → List Source → Type 0)
+      (ns : List (Name × Module)) (hs : List Header) (as' : List AssignedAt) → HasGathered ms g →
+      ns ≡ seen module_of g.modules.entries → hs ≡ g.headers.items → as' ≡ g.tables.assignments.items →
+      Q ns (map header_of hs) (map assignment_of as') (sources_of g.tables.roots.items) →
+      Q (scopes_from 0 0 ms) (headers_of ms) (owned_from 0 ms) (roots_of ms)
+  moved Q ns hs as' h en eh ea q =
+      let a = subst (λ l. Q l (map header_of hs) (map assignment_of as') (sources_of g.tables.roots.items)) (en ∙ h.scopes) q in
+      let b = subst (λ l. Q (scopes_from 0 0 ms) l (map assignment_of as') (sources_of g.tables.roots.items)) (ap (λ l. map header_of l) eh ∙ h.headers) a in
+      let c = subst (λ l. Q (scopes_from 0 0 ms) (headers_of ms) l (sources_of g.tables.roots.items)) (ap (λ l. map assignment_of l) ea ∙ h.assignments) b in
+      subst (λ l. Q (scopes_from 0 0 ms) (headers_of ms) (owned_from 0 ms) l) h.roots c
+
+  types_first : (e : NameFault) → AreNamed ms → AreFew ms →
+      IsFirstNumbering (scopes_from 0 0 ms) (headers_of ms) (owned_from 0 ms) (roots_of ms) e → IsFirstFault ms e
+  types_first faults.Memory n f q = tt
+  types_first (faults.Limit l s) n f q = of_types n f q
+  types_first (faults.Twice s) n f q = of_types n f q
+  types_first (faults.UnknownName s) n f q = of_types n f q
+  types_first (faults.NotExported s) n f q = of_types n f q
+  types_first (faults.Circular s) n f q = of_types n f q
+  types_first (faults.UnknownModule s) n f q = of_types n f q
+
+  pub numbering_first : (ns : List (Name × Module)) (hs : List Header) (as' : List AssignedAt) (e : NameFault) →
+      HasGathered ms g → AreNamed ms → AreFew ms → ns ≡ seen module_of g.modules.entries → hs ≡ g.headers.items →
+      as' ≡ g.tables.assignments.items →
+      IsFirstNumbering ns (map header_of hs) (map assignment_of as') (sources_of g.tables.roots.items) e → IsFirstFault ms e
+  numbering_first ns hs as' e h n f en eh ea q =
+      types_first e n f (moved (λ a b c d. IsFirstNumbering a b c d e) ns hs as' h en eh ea q)
+
+  -- more assignments than there may be types
+  many : (s : Spot) → HasGathered ms g → AreNamed ms → AreFew ms → 65536 < length (sources_of g.tables.roots.items) →
+      IsTablesFault g (faults.Limit limits.Types s) → IsFirstFault ms (faults.Limit limits.Types s)
+  many s h n f l t =
+      of_many n f (subst (λ r. 65536 < length r) h.roots l)
+      (moved (λ a b c d. HasTooMany b c d (module_told s) (name_told s)) (seen module_of g.modules.entries) g.headers.items g.tables.assignments.items h refl refl refl t)
+
+  pub many_first : (M x : Name) (e : NameFault) → HasGathered ms g → AreNamed ms → AreFew ms →
+      65536 < length (sources_of g.tables.roots.items) → IsTypesLimit M x e → IsTablesFault g e → IsFirstFault ms e
+  many_first M x faults.Memory h n f l y t = tt
+  many_first M x (faults.Limit limits.Types s) h n f l y t = many s h n f l t
+  many_first M x (faults.Limit limits.Modules s) h n f l y t = absurd y
+  many_first M x (faults.Limit limits.Values s) h n f l y t = absurd y
+  many_first M x (faults.Limit limits.Members s) h n f l y t = absurd y
+  many_first M x (faults.Limit limits.Items s) h n f l y t = absurd y
+  many_first M x (faults.Limit limits.NamedBit s) h n f l y t = absurd y
+  many_first M x (faults.Limit limits.Integer s) h n f l y t = absurd y
+  many_first M x (faults.Twice s) h n f l y t = absurd y
+  many_first M x (faults.UnknownName s) h n f l y t = absurd y
+  many_first M x (faults.NotExported s) h n f l y t = absurd y
+  many_first M x (faults.Circular s) h n f l y t = absurd y
+  many_first M x (faults.UnknownModule s) h n f l y t = absurd y
+
+  pub circular_first : (hs : List Header) (as' : List AssignedAt) (ws : List Written) (i : ℕ) (w : Written) (e : NameFault) →
+      HasGathered ms g → AreNamed ms → AreFew ms → hs ≡ g.headers.items → as' ≡ g.tables.assignments.items →
+      IsTableFrom g (types_of ws) → slice_get ws i ≡ Some w → IsFirstCircle (types_of ws) i →
+      TellsType (map header_of hs) (map assignment_of as') (type_of w) e → IsCircularAt w.at e → IsFirstFault ms e
+  circular_first hs as' ws i w faults.Memory h n f eh ea all there c t at = tt
+  circular_first hs as' ws i w (faults.Circular s) h n f eh ea all there c t at = of_unfolding n f (record {
+    written_types = ws;
+    numbered = same_table ms g (types_of ws) h all;
+    number = i;
+    written = w;
+    there = there;
+    circle = c;
+    at = at;
+    owner = t.0;
+    default = t.1;
+    assigned = ap (λ l. slice_get l w.assignment) (sym (ap (λ l. map assignment_of l) ea ∙ h.assignments)) ∙ t.2;
+    header = ap (λ l. slice_get l t.0) (sym (ap (λ l. map header_of l) eh ∙ h.headers)) ∙ t.3;
+  })
+  circular_first hs as' ws i w (faults.Limit l s) h n f eh ea all there c t at = absurd t
+  circular_first hs as' ws i w (faults.Twice s) h n f eh ea all there c t at = absurd t
+  circular_first hs as' ws i w (faults.UnknownName s) h n f eh ea all there c t at = absurd t
+  circular_first hs as' ws i w (faults.NotExported s) h n f eh ea all there c t at = absurd t
+  circular_first hs as' ws i w (faults.UnknownModule s) h n f eh ea all there c t at = absurd t
+
+  pub sound_first : (p : Program) (e : NameFault) → HasGathered ms g → AreNamed ms → AreFew ms → IsOf g p →
+      AllUnfold p.types → TellsFirst p e → IsFirstFault ms e
+  sound_first p faults.Memory h n f o u t = tt
+  sound_first p (faults.Limit l s) h n f o u t = of_program p n f (program_of ms g p h o) u t
+  sound_first p (faults.Twice s) h n f o u t = of_program p n f (program_of ms g p h o) u t
+  sound_first p (faults.UnknownName s) h n f o u t = of_program p n f (program_of ms g p h o) u t
+  sound_first p (faults.NotExported s) h n f o u t = of_program p n f (program_of ms g p h o) u t
+  sound_first p (faults.Circular s) h n f o u t = of_program p n f (program_of ms g p h o) u t
+  sound_first p (faults.UnknownModule s) h n f o u t = of_program p n f (program_of ms g p h o) u t

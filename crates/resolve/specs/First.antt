@@ -1,0 +1,184 @@
+-- Which of several faults of linked modules is reported, and where in the text. The lists in written types come first,
+-- then circles of DEFAULTs, then names after modules' names: those in types, and last those in values. Types and values
+-- are checked in the order of their numbers.
+use Rattle.std.specs.Prelude.{◌≡◌, ◌<◌, ℕ, List, Some, String, length, map, slice_get}
+use Rattle.std.specs.Global.{Global}
+use Rattle.trees.specs.declared.place.Spot.{Spot}
+use Rattle.trees.specs.declared.module.TagDefault.{TagDefault}
+use Rattle.trees.specs.Modules.{ModuleTree}
+use Rattle.trees.specs.Values.{Name}
+use Rattle.names.specs.declared.fault.Limit.{Limit}
+use Rattle.names.specs.declared.fault.Limit.TheVariants as limits
+use Rattle.names.specs.declared.fault.NameFault.{NameFault}
+use Rattle.names.specs.declared.fault.NameFault.TheVariants as faults
+use Rattle.names.specs.declared.scope.Assigned.TheVariants as assigned
+use Rattle.names.specs.declared.scope.Scope.{Scope}
+use Rattle.names.specs.ByNumber.{scopes_from, headers_of, owned_from, roots_of}
+use Rattle.names.specs.Faults.{IsFirstTwice, IsNamesFault, module_told, name_told}
+use Rattle.names.specs.First.{IsFirstStanding}
+use Rattle.names.specs.Modules.{AreDistinct, AreFew, AreNamed, StandsIn, names_in}
+use Rattle.names.specs.Names.{Module, Refers}
+use Rattle.names.specs.Scopes.{scopes}
+use Rattle.names.specs.Sources.{Value}
+use Rattle.circles.specs.Circles.{IsFirstDefaultCircle, NoDefaultCircles}
+use Rattle.type_table.specs.declared.table.Written.{Written}
+use Rattle.type_table.specs.Faults.{HasTooMany, IsFirstCircle, IsFirstNumbering}
+use Rattle.type_table.specs.FirstInList.{IsFirstInList}
+use Rattle.type_table.specs.Lists.{AreSound, IsSoundKind}
+use Rattle.type_table.specs.Numbering.{AreNumbered}
+use Rattle.type_table.specs.Seen.{types_of}
+use Rattle.type_table.specs.Table.{Type', AllUnfold}
+use Rattle.resolve.specs.Links.{IsProgramOf}
+use Rattle.resolve.specs.Program.{Program, IsAssignment}
+use Rattle.resolve.specs.Qualified.{qualified, qualified_in, MeanValues}
+use Rattle.resolve.specs.Sound.{TypesMean}
+
+-- the fault is the first one of the first type with a fault in its list, reported for the assignment of the type
+pub record IsFirstList (p : Program) (ws : List Written) (e : NameFault) : Type 0 where
+  pub number : ℕ
+  pub written : Written
+  pub there : slice_get ws number ≡ Some written
+  pub within : Name
+  pub assigns : Name
+  pub stands : IsAssignment p written.assignment within assigns
+  pub fault : IsFirstInList within assigns written.shape e
+  pub before : (k : ℕ) (t : Type') → k < number → slice_get p.types k ≡ Some t → IsSoundKind t.kind
+
+-- the first list in a circle of DEFAULTs is reported where its type begins
+pub record IsFirstInCircle (p : Program) (ws : List Written) (s : Spot) : Type 0 where
+  pub number : ℕ
+  pub written : Written
+  pub there : slice_get ws number ≡ Some written
+  pub stands : IsAssignment p written.assignment (module_told s) (name_told s)
+  pub at : s.at ≡ written.at
+  pub circle : IsFirstDefaultCircle p.types number
+
+-- x is the first of these names after modules' names, read in module M, that isn't that of a value
+pub record IsFirstUnknown (ms : List (Name × Module)) (M : Name) (rs : List (Name × Name)) (x : Name) : Type 0 where
+  pub number : ℕ
+  pub owner : Name
+  pub there : slice_get rs number ≡ Some (owner, x)
+  pub nothing : (i : ℕ) → Refers ms M (Some owner) x (assigned.Value i) → ⊥
+  pub before : (k : ℕ) (N y : Name) →
+      k < number →
+      slice_get rs k ≡ Some (N, y) →
+      (i : ℕ) × Refers ms M (Some N) y (assigned.Value i)
+
+-- the names in type i mean values
+abbrev pub TypeMeans : Program → ℕ → Type 0
+TypeMeans p i = (t : Type') (M x : Name) →
+    slice_get p.types i ≡ Some t →
+    IsAssignment p t.assignment M x →
+    MeanValues p.modules M (qualified_in t)
+
+-- the names in value i mean values
+abbrev pub ValueMeans : Program → ℕ → Type 0
+ValueMeans p i = (v : Value) (M x : Name) →
+    slice_get p.values i ≡ Some v →
+    IsAssignment p v.assignment M x →
+    MeanValues p.modules M (qualified v.notation)
+
+-- the name is the first one in the first type with a name that isn't that of a value
+pub record IsFirstInType (p : Program) (s : Spot) : Type 0 where
+  pub number : ℕ
+  pub written : Type'
+  pub there : slice_get p.types number ≡ Some written
+  pub assigns : Name
+  pub stands : IsAssignment p written.assignment (module_told s) assigns
+  pub first : IsFirstUnknown p.modules (module_told s) (qualified_in written) (name_told s)
+  pub before : (k : ℕ) → k < number → TypeMeans p k
+
+-- the name is the first one in the first assigned value with a name that isn't that of a value
+pub record IsFirstInValue (p : Program) (s : Spot) : Type 0 where
+  pub number : ℕ
+  pub value : Value
+  pub there : slice_get p.values number ≡ Some value
+  pub assigns : Name
+  pub stands : IsAssignment p value.assignment (module_told s) assigns
+  pub first : IsFirstUnknown p.modules (module_told s) (qualified value.notation) (name_told s)
+  pub before : (k : ℕ) → k < number → ValueMeans p k
+
+-- the first fault of program p, whose types are written so
+pub data IsFirst (p : Program) (ws : List Written) : NameFault → Type 0 where
+  in_list : {e : NameFault} → IsFirstList p ws e → IsFirst p ws e
+  in_circle : {s : Spot} → AreSound p.types → IsFirstInCircle p ws s → IsFirst p ws (faults.Circular s)
+  in_type : {s : Spot} →
+      AreSound p.types →
+      NoDefaultCircles p.types →
+      IsFirstInType p s →
+      IsFirst p ws (faults.UnknownName s)
+  in_value : {s : Spot} →
+      AreSound p.types →
+      NoDefaultCircles p.types →
+      TypesMean p →
+      IsFirstInValue p s →
+      IsFirst p ws (faults.UnknownName s)
+
+-- this fault is the first one for the program's types as they are written; `Memory` says nothing
+abbrev pub TellsFirst : Program → NameFault → Type 0
+TellsFirst p faults.Memory = Unit {0}
+TellsFirst p e = (ws : List Written) × (types_of ws ≡ p.types) × IsFirst p ws e
+
+-- ---- modules
+
+-- a type of these modules doesn't unfold; the one that is reported is reported where it begins
+pub record IsFirstCircular (ms : List ModuleTree) (s : Spot) : Type 0 where
+  pub written_types : List Written
+  pub numbered :
+      AreNumbered (scopes_from 0 0 ms) (headers_of ms) (owned_from 0 ms) (roots_of ms) (types_of written_types)
+  pub number : ℕ
+  pub written : Written
+  pub there : slice_get written_types number ≡ Some written
+  pub circle : IsFirstCircle (types_of written_types) number
+  pub at : s.at ≡ written.at
+  pub owner : ℕ
+  pub default : TagDefault
+  pub assigned : slice_get (owned_from 0 ms) written.assignment ≡ Some (owner, name_told s)
+  pub header : slice_get (headers_of ms) owner ≡ Some (module_told s, default)
+
+-- the names of modules are distinct, and so are the names in each module
+abbrev pub HaveOneMeaning : List ModuleTree → Type 0
+HaveOneMeaning ms =
+    AreDistinct (map (λ m. m.name) ms) × ((m : ModuleTree) → StandsIn ms m → AreDistinct (names_in m))
+
+-- The first fault of modules: a passed limit; otherwise a name that is given twice; otherwise an export or an import;
+-- otherwise too many assignments; otherwise the first type, by number, that is a reference to nothing or holds too many
+-- types; otherwise a type that doesn't unfold; otherwise a fault of the linked program. For exports and imports, es are
+-- the names of the modules with their offsets.
+pub data IsFirstLink (ms : List ModuleTree) : NameFault → Type 0 where
+  of_counts : {l : Limit} {s : Spot} → IsNamesFault ms (faults.Limit l s) → IsFirstLink ms (faults.Limit l s)
+  of_meanings : {s : Spot} →
+      AreFew ms →
+      IsFirstTwice ms (module_told s) (name_told s) →
+      IsFirstLink ms (faults.Twice s)
+  of_offers : {e : NameFault} (es : List (String Global × Scope)) →
+      AreFew ms →
+      HaveOneMeaning ms →
+      scopes es ≡ scopes_from 0 0 ms →
+      IsNamesFault ms e →
+      IsFirstStanding es e →
+      IsFirstLink ms e
+  of_many : {s : Spot} →
+      AreNamed ms →
+      AreFew ms →
+      65536 < length (roots_of ms) →
+      HasTooMany (headers_of ms) (owned_from 0 ms) (roots_of ms) (module_told s) (name_told s) →
+      IsFirstLink ms (faults.Limit limits.Types s)
+  of_types : {e : NameFault} →
+      AreNamed ms →
+      AreFew ms →
+      IsFirstNumbering (scopes_from 0 0 ms) (headers_of ms) (owned_from 0 ms) (roots_of ms) e →
+      IsFirstLink ms e
+  of_unfolding : {s : Spot} → AreNamed ms → AreFew ms → IsFirstCircular ms s → IsFirstLink ms (faults.Circular s)
+  of_program : {e : NameFault} (p : Program) →
+      AreNamed ms →
+      AreFew ms →
+      IsProgramOf ms p →
+      AllUnfold p.types →
+      TellsFirst p e →
+      IsFirstLink ms e
+
+-- this fault of modules is the first one; `Memory` says nothing
+abbrev pub IsFirstFault : List ModuleTree → NameFault → Type 0
+IsFirstFault ms faults.Memory = Unit {0}
+IsFirstFault ms e = IsFirstLink ms e

@@ -1,0 +1,92 @@
+-- Outcomes of readings, one after another.
+use Rattle.std.proofs.Common.{◌≡◌, ℕ, suc, ◌+◌, ◌<◌, List, [], ◌∷◌, ◌++◌, Option, refl, sym, ap, length, map, subst, get_or, take}
+use Rattle.std.specs.List.{AllZip}
+use Rattle.asn_base.specs.Abstract.{AbstractValue}
+use Rattle.trees.specs.declared.value.ValueSyntax.{ValueSyntax}
+use Rattle.trees.specs.Values.{Name, Tree, tree_of}
+use Rattle.type_table.specs.declared.table.ListMember.{ListMember}
+use Rattle.type_table.specs.Seen.{part_of}
+use Rattle.resolve.specs.Program.{Program}
+use Rattle.typed_values.specs.declared.fault.ValueFault.{ValueFault}
+use Rattle.typed_values.specs.Faults.{Stands}
+use Rattle.typed_values.specs.proving.Outcomes.{ShowsOption}
+use Rattle.typed_values.specs.proving.Reading.{Makes, MakeRow, MakeFields, MakesField, StandsInOne, StandsInField, IsWrongField}
+use Rattle.typed_values.proofs.Rows.{none_yet, no_field_yet}
+use Rattle.typed_values.proofs.Readings.{row_more, row_wrong, fields_more, fields_wrong}
+
+zip_end : {A B : Type 0} (R : A → B → Type 0) (xs : List A) (ys : List B) (x : A) (y : B) →
+    AllZip R xs ys → R x y → AllZip R (xs ++ x ∷ []) (ys ++ y ∷ [])
+zip_end R [] [] x y z r = (r, tt)
+zip_end R [] (b ∷ ys) x y z r = absurd z
+zip_end R (a ∷ xs) [] x y z r = absurd z
+zip_end R (a ∷ xs) (b ∷ ys) x y z r = (z.0, zip_end R xs ys x y z.1 r)
+
+pub zip_count : {A B : Type 0} (R : A → B → Type 0) (xs : List A) (ys : List B) → AllZip R xs ys → length ys ≡ length xs
+zip_count R [] [] z = refl
+zip_count R [] (b ∷ ys) z = absurd z
+zip_count R (a ∷ xs) [] z = absurd z
+zip_count R (a ∷ xs) (b ∷ ys) z = ap suc (zip_count R xs ys z.1)
+
+module _ {A : Type 0} (shows : A → AbstractValue → Type 0) (p : Program) (levels : ℕ) (os : List ℕ) where
+  pub made_none : (left : ℕ) (M : Name) (a : ℕ) (xs : List A) → xs ≡ [] → MakeRow shows p levels left left os M a [] xs
+  made_none left M a xs e = record {
+    values = [];
+    shown = subst (λ ys. AllZip shows ys []) (sym e) tt;
+    mean = none_yet p levels os M a left;
+  }
+
+  pub made_more : {before between after : ℕ} {ps : List ℕ} {M : Name} {a : ℕ} (xs ys : List A) (x : A)
+      (ns : List ValueSyntax) (i : ℕ) (n : ValueSyntax) →
+      i < length ns → n ≡ get_or ns i n →
+      ys ≡ xs ++ x ∷ [] →
+      MakeRow shows p levels before between os M a (map tree_of (take i ns)) xs →
+      ps ≡ os →
+      Makes shows p levels between after ps M a (tree_of n) x →
+      MakeRow shows p levels before after os M a (map tree_of (take (i + 1) ns)) ys
+  made_more xs ys x ns i n l e w r q h = record {
+    values = r.values ++ h.value ∷ [];
+    shown = subst (λ zs. AllZip shows zs (r.values ++ h.value ∷ [])) (sym w)
+        (zip_end shows xs r.values x h.value r.shown h.shown);
+    mean = row_more r.values h.value ns i n l e r.mean q h.means;
+  }
+
+  pub made_wrong : {before between : ℕ} {ps : List ℕ} {M : Name} {a : ℕ} {f : ValueFault} (xs : List A)
+      (ns : List ValueSyntax) (i : ℕ) (n : ValueSyntax) →
+      i < length ns → n ≡ get_or ns i n →
+      MakeRow shows p levels before between os M a (map tree_of (take i ns)) xs →
+      ps ≡ os →
+      Stands p levels between ps M a (tree_of n) f →
+      StandsInOne p levels before os M a (map tree_of ns) f
+  made_wrong xs ns i n l e r q h = row_wrong r.values ns i n l e r.mean q h
+
+  pub fields_made_none : (left : ℕ) (K N : Name) (fs : List (Name × Tree)) (xs : List (Option A)) → xs ≡ [] →
+      MakeFields shows p levels left left os K N fs [] xs
+  fields_made_none left K N fs xs e = record {
+    values = [];
+    shown = subst (λ ys. AllZip (ShowsOption shows) ys []) (sym e) tt;
+    mean = no_field_yet p levels os K N fs left;
+  }
+
+  pub fields_made_more : {before between after : ℕ} {ps : List ℕ} {K N : Name} {fs : List (Name × Tree)}
+      (xs ys : List (Option A)) (x : Option A) (ms : List ListMember) (i : ℕ) (m : ListMember) →
+      i < length ms → m ≡ get_or ms i m →
+      ys ≡ xs ++ x ∷ [] →
+      MakeFields shows p levels before between os K N fs (map part_of (take i ms)) xs →
+      ps ≡ os →
+      MakesField shows p levels between after ps K N fs (part_of m) x →
+      MakeFields shows p levels before after os K N fs (map part_of (take (i + 1) ms)) ys
+  fields_made_more xs ys x ms i m l e w r q h = record {
+    values = r.values ++ h.value ∷ [];
+    shown = subst (λ zs. AllZip (ShowsOption shows) zs (r.values ++ h.value ∷ [])) (sym w)
+        (zip_end (ShowsOption shows) xs r.values x h.value r.shown h.shown);
+    mean = fields_more r.values h.value ms i m l e r.mean q h.field h.counted;
+  }
+
+  pub fields_made_wrong : {before between : ℕ} {ps : List ℕ} {K N : Name} {fs : List (Name × Tree)} {f : ValueFault}
+      (xs : List (Option A)) (ms : List ListMember) (i : ℕ) (m : ListMember) →
+      i < length ms → m ≡ get_or ms i m →
+      MakeFields shows p levels before between os K N fs (map part_of (take i ms)) xs →
+      ps ≡ os →
+      IsWrongField p levels between ps K N fs (part_of m) f →
+      StandsInField p levels before os K N fs (map part_of ms) f
+  fields_made_wrong xs ms i m l e r q h = fields_wrong r.values ms i m l e r.mean q h

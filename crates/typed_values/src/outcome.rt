@@ -1,0 +1,101 @@
+//! What is made of a notation that stands for a value: the value, or nothing at all.
+
+ghost use Rattle.std.specs.Prelude.{◌≡◌, ℕ, List, Option, IfOk};
+ghost use Rattle.std.specs.List.{AllZip};
+ghost use Rattle.asn_base.specs.Abstract.{AbstractValue, abstract, alternative, fields, list, row_of_list, row_of_options};
+ghost use Rattle.typed_values.specs.proving.Outcomes.{ShowsOption};
+
+use asn_base::law::abstract_values;
+use asn_base::value::Value;
+use std::alloc::{AllocError, Global};
+
+/// What the reading of a notation makes of the value that the notation stands for.
+pub(crate) trait Outcome: Sized + Drop {
+    /// The outcome is one for this value.
+    ghost shows: { Self → AbstractValue → Type 0 };
+
+    /// The outcome for a value that holds no others.
+    fn leaf(value: Value) -> Self
+        ensures { shows result (abstract value) };
+
+    /// The outcome for a value of a SEQUENCE OF or SET OF.
+    fn list(elements: Vec<Self>) -> Self
+        ensures { (vs : List AbstractValue) → AllZip shows elements.items vs → shows result (list (row_of_list vs)) };
+
+    /// The outcome for a value of a SEQUENCE or SET.
+    fn fields(components: Vec<Option<Self>>) -> Self
+        ensures { (vs : List (Option AbstractValue)) → AllZip (ShowsOption shows) components.items vs →
+            shows result (fields (row_of_options vs)) };
+
+    /// The outcome for a value of a CHOICE.
+    fn alternative(alloc: Global, number: usize, chosen: Self) -> Result<Self, AllocError>
+        ensures { IfOk result (λ r. (v : AbstractValue) → shows chosen v → shows r (alternative number v)) };
+}
+
+/// The value itself.
+impl Outcome for Value {
+    ghost shows = { λ x v. abstract x ≡ v };
+
+    fn leaf(value: Value) -> Value
+        ensures { abstract result ≡ abstract value }
+    {
+        value
+    }
+
+    fn list(elements: Vec<Value>) -> Value
+        ensures { (vs : List AbstractValue) → AllZip (λ x v. abstract x ≡ v) elements.items vs →
+            abstract result ≡ list (row_of_list vs) }
+    {
+        abstract_values();
+        Value::List(elements)
+    }
+
+    fn fields(components: Vec<Option<Value>>) -> Value
+        ensures { (vs : List (Option AbstractValue)) →
+            AllZip (ShowsOption (λ x v. abstract x ≡ v)) components.items vs →
+            abstract result ≡ fields (row_of_options vs) }
+    {
+        abstract_values();
+        Value::Fields(components)
+    }
+
+    fn alternative(alloc: Global, number: usize, chosen: Value) -> Result<Value, AllocError>
+        ensures { IfOk result (λ r. (v : AbstractValue) → abstract chosen ≡ v → abstract r ≡ alternative number v) }
+    {
+        abstract_values();
+        Ok(Value::Alt(number, Box::new(alloc, chosen)?))
+    }
+}
+
+/// That there is a value, which takes no memory.
+#[derive(Drop)]
+pub(crate) struct Judged;
+
+impl Outcome for Judged {
+    ghost shows = { λ x v. Unit {0} };
+
+    fn leaf(value: Value) -> Judged
+        ensures { Unit {0} }
+    {
+        Judged
+    }
+
+    fn list(elements: Vec<Judged>) -> Judged
+        ensures { (vs : List AbstractValue) → AllZip (λ x v. Unit {0}) elements.items vs → Unit {0} }
+    {
+        Judged
+    }
+
+    fn fields(components: Vec<Option<Judged>>) -> Judged
+        ensures { (vs : List (Option AbstractValue)) → AllZip (ShowsOption (λ x v. Unit {0})) components.items vs →
+            Unit {0} }
+    {
+        Judged
+    }
+
+    fn alternative(alloc: Global, number: usize, chosen: Judged) -> Result<Judged, AllocError>
+        ensures { IfOk result (λ r. (v : AbstractValue) → Unit {0} → Unit {0}) }
+    {
+        Ok(Judged)
+    }
+}

@@ -1,0 +1,5 @@
+pub mod Places
+pub mod Setting
+pub mod Packing
+pub mod SetBits
+pub mod Rows

@@ -1,0 +1,11 @@
+use Rattle.std.proofs.Common.{◌≡◌, ◌<◌, ◌≤◌, ℕ, suc, take}
+use Rattle.std.specs.List.{AllByRecursion}
+use Rattle.value_builders.specs.Made.{IsAmong}
+use Rattle.value_builders.proofs.bit_names.bit_count.Given as goal
+
+abbrev pub invariant-loop-place : goal.invariant-loop-place
+invariant-loop-place l = record {
+  all : AllByRecursion (λ p. p < l.count) (take l.place-index l.places);
+  greatest : (n : ℕ) → l.count ≡ suc n → IsAmong l.places n;
+  few : l.count ≤ 65536;
+}

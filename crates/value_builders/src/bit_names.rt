@@ -1,0 +1,175 @@
+//! Strings of named bits, by the names of the bits that are set.
+
+ghost use Rattle.std.specs.Prelude.{◌≡◌, ◌≤◌, ◌<◌, ℕ, suc, [], IfErr, IfOk, MatchOption, None, OnOk, Some, bytes_eq, length, map};
+ghost use Rattle.std.specs.Int.Digits.{AllBelowBase};
+ghost use Rattle.std.specs.List.{AllByRecursion};
+ghost use Rattle.asn_base.specs.Abstract.{abstract, bits_of};
+ghost use Rattle.asn_base.specs.Schemas.{AreNamedBits};
+ghost use Rattle.asn_base.specs.Seen.{kind_of, named_bit_of};
+ghost use Rattle.value_builders.specs.Made.{AreBitPlaces, AreSetBits, IsBits, IsAmong};
+ghost use Rattle.value_builders.specs.Named.{bit_of, bits_in};
+ghost use Rattle.value_builders.specs.Refused.{IsNoBitAmong, IsNoBits};
+
+use crate::fault::BuildFault;
+use crate::names::core_of;
+use asn_base::law::abstract_values;
+use asn_base::schema::{Core, NamedBit, Schema, TypeId};
+use asn_base::value::{BitString, Value};
+use bits::buffer::BitBuf;
+use std::alloc::{AllocError, Global};
+
+/// Whether the bit has the name.
+fn is_bit(bit: &NamedBit, name: &str) -> bool
+    ensures { result ≡ bytes_eq (named_bit_of bit.now).name name.now }
+{
+    bit.name.as_str() == name
+}
+
+/// The place in the string of the bit with a name, from 0, or None if no bit has it.
+fn bit_place(bits: &[NamedBit], name: &str) -> Option<usize>
+    ensures { result ≡ bit_of (map named_bit_of bits.now) name.now }
+{
+    for bit in bits {
+        if is_bit(bit, name) {
+            return Some(bit.place);
+        }
+    }
+    None
+}
+
+/// The places of the bits with these names.
+fn places_of(alloc: Global, bits: &[NamedBit], names: &[&str]) -> Result<Vec<usize>, BuildFault>
+    ensures ok { IfOk result (λ ps.
+        AreBitPlaces (map named_bit_of bits.now) (map (λ n. n.now) names.now) ps.items) }
+    ensures refused { IfErr result (IsNoBitAmong (map named_bit_of bits.now) (map (λ n. n.now) names.now)) }
+{
+    let mut places = Vec::new(alloc);
+    for name in names {
+        match bit_place(bits, *name) {
+            Some(place) => places.push(place)?,
+            None => return Err(BuildFault::NoBit(String::from_str(alloc, *name)?)),
+        }
+    }
+    Ok(places)
+}
+
+/// How many bits there are up to the greatest of some places.
+fn bit_count(places: &[usize]) -> usize
+    requires within { AllByRecursion (λ p. p ≤ 65535) places.now }
+    ensures all { AllByRecursion (λ p. p < result) places.now }
+    ensures greatest { (n : ℕ) → result ≡ suc n → IsAmong places.now n }
+    ensures few { result ≤ 65536 }
+{
+    let mut count = 0;
+    for place in places {
+        if *place >= count {
+            count = *place + 1;
+        }
+    }
+    count
+}
+
+/// Bits that are set at some places, up to the greatest of them.
+fn set_bits(alloc: Global, places: &[usize]) -> Result<Vec<bool>, AllocError>
+    requires within { AllByRecursion (λ p. p ≤ 65535) places.now }
+    ensures { IfOk result (λ s. AreSetBits places.now s.items) }
+{
+    let count = bit_count(places);
+    let mut bits = Vec::new(alloc);
+    for bit in 0..count {
+        bits.push(false)?;
+    }
+    for place in places {
+        bits[*place] = true;
+    }
+    Ok(bits)
+}
+
+/// How many octets there are.
+fn octet_count(octets: &[u8]) -> usize
+    ensures count { result ≡ length octets.now }
+    ensures below { AllBelowBase 256 octets.now }
+{
+    octets.len()
+}
+
+/// Puts bits into an empty list of bits.
+fn fill(bits: &[bool], buffer: &mut BitBuf) -> Result<(), AllocError>
+    requires empty { buffer.old ≡ [] }
+    ensures { OnOk result (buffer.new ≡ bits.now) }
+{
+    for bit in bits {
+        buffer.push(*bit)?;
+    }
+    Ok(())
+}
+
+/// The bits in octets, the last one filled with zeros.
+fn packed(alloc: Global, bits: &[bool]) -> Result<BitString, AllocError>
+    ensures { IfOk result (λ b. bits_of b ≡ bits.now) }
+{
+    let mut buffer = BitBuf::new(alloc);
+    fill(bits, &mut buffer)?;
+    buffer.pad()?;
+    let octets = buffer.into_octets()?;
+    let count = octet_count(octets.as_slice());
+    let unused = (8 - bits.len() % 8) % 8;
+    Ok(BitString::of(octets, unused as u8))
+}
+
+/// The named bits of a BIT STRING, or None for another kind.
+fn named_bits_of(core: &Core) -> Option<&[NamedBit]>
+    ensures { MatchOption result
+        (bits_in (kind_of core.now) ≡ None)
+        (λ bs. bits_in (kind_of core.now) ≡ Some (map named_bit_of bs.now)) }
+{
+    match core {
+        Core::NamedBits(bits) => Some(bits.as_slice()),
+        _ => None,
+    }
+}
+
+/// The string in which the bits with these names are set, and no others; its last bit is the last one that is set.
+fn string_of(alloc: Global, bits: &[NamedBit], names: &[&str]) -> Result<BitString, BuildFault>
+    requires { AreNamedBits (map named_bit_of bits.now) }
+    ensures ok { IfOk result (λ b. (ps : _)
+        × AreBitPlaces (map named_bit_of bits.now) (map (λ n. n.now) names.now) ps
+        × AreSetBits ps (bits_of b)) }
+    ensures refused { IfErr result (IsNoBitAmong (map named_bit_of bits.now) (map (λ n. n.now) names.now)) }
+{
+    let places = match places_of(alloc, bits, names) {
+        Ok(places) => places,
+        Err(fault) => return Err(fault),
+    };
+    let set = set_bits(alloc, places.as_slice())?;
+    Ok(packed(alloc, set.as_slice())?)
+}
+
+/// Makes a value of a BIT STRING with named bits (X.680, clause 22): exactly the bits with these names are set, and no
+/// zeros follow the last of them. A name may be given twice.
+///
+/// `NoType`: the schema has no such type. `NotNamedBits`: it is no BIT STRING with named bits. `NoBit`: it has no bit
+/// with this name, which is the first one that is none. `Memory`: an allocation failed.
+pub fn named_bits(
+    alloc: Global,
+    schema: &Schema,
+    id: TypeId,
+    names: &[&str],
+) -> Result<Value, BuildFault>
+    // The bits with these names are set, and no others.
+    ensures made { IfOk result (λ v. IsBits schema.now id.index (map (λ n. n.now) names.now) (abstract v)) }
+    // The reason of a refusal applies.
+    ensures refused { IfErr result (IsNoBits schema.now id.index (map (λ n. n.now) names.now)) }
+{
+    abstract_values();
+    let Some(core) = core_of(schema, id) else {
+        return Err(BuildFault::NoType);
+    };
+    let Some(named) = named_bits_of(core) else {
+        return Err(BuildFault::NotNamedBits);
+    };
+    match string_of(alloc, named, names) {
+        Ok(string) => Ok(Value::Bits(string)),
+        Err(fault) => Err(fault),
+    }
+}

@@ -1,0 +1,13 @@
+//! Values made by the names of their components, alternatives, items and bits.
+#![tactic(auto)]
+
+mod bit_names;
+mod fault;
+mod fields;
+pub mod names;
+mod parts;
+
+pub use bit_names::named_bits;
+pub use fault::BuildFault;
+pub use fields::Fields;
+pub use parts::{alternative, item};
