@@ -8,19 +8,19 @@ use Rattle.encodings.specs.Rules.{Rules}
 use Rattle.packed_encodings.specs.Packing.{Packed}
 use Rattle.packed_encodings.specs.Weights.{weight}
 use Rattle.resolve.specs.Program.{Program}
-use Rattle.front_end.specs.Accepted.{AreAccepted, Keeps}
-use Rattle.front_end.specs.Faults.{Stands}
-use Rattle.front_end.specs.declared.fault.FrontFault.{FrontFault}
-use Rattle.front_end.specs.declared.fault.FrontFault.TheVariants as texts
+use Rattle.judging.specs.front_end.Accepted.{AreAccepted, Keeps}
+use Rattle.judging.specs.front_end.Faults.{Stands}
+use Rattle.judging.specs.front_end.declared.fault.FrontFault.{FrontFault}
+use Rattle.judging.specs.front_end.declared.fault.FrontFault.TheVariants as texts
 use Rattle.decode_faults.specs.declared.read_fault.ReadFault.{ReadFault}
-use Rattle.messages.specs.declared.fault.Fault.{Fault}
-use Rattle.messages.specs.declared.fault.Fault.TheVariants as faults
+use Rattle.judging.specs.messages.declared.fault.Fault.{Fault}
+use Rattle.judging.specs.messages.declared.fault.Fault.TheVariants as faults
 use Rattle.asnc.specs.Kits.{IsNotOpened}
 use Rattle.asnc.specs.Packing.{HasLongBits, IsNotPacked, IsPacked}
 use Rattle.asnc.specs.Reading.{IsNotReadAs, IsReadAs, IsUnread}
 use Rattle.asnc.specs.Writing.{IsEncoded, IsNotEncoded, StandsForLong}
-use Rattle.named_values.specs.Meant.{IsMeant, IsNotMeant}
-use Rattle.named_values.specs.Given.{Given}
+use Rattle.judging.specs.named_values.Meant.{IsMeant, IsNotMeant}
+use Rattle.judging.specs.named_values.Given.{Given}
 
 -- ---- texts
 

@@ -14,18 +14,18 @@ use Rattle.decode_faults.specs.declared.read_fault.ReadFault.{ReadFault}
 use Rattle.decode_faults.specs.declared.read_fault.ReadFault.TheVariants as reading
 use Rattle.ber_message.specs.Messages.{IsEncoding, BeginsEncoding, HasEncodingFirst, HasMessageFirst}
 use Rattle.resolve.specs.Program.{Program}
-use Rattle.messages.specs.declared.fault.Fault.{Fault}
-use Rattle.messages.specs.declared.fault.Fault.TheVariants as faults
+use Rattle.judging.specs.messages.declared.fault.Fault.{Fault}
+use Rattle.judging.specs.messages.declared.fault.Fault.TheVariants as faults
 use Rattle.codec_code.specs.Routines.{id_of}
 use Rattle.ber_reader.specs.Readings.{IsRefused}
 use Rattle.asnc.specs.Headline.{IsAnswer, IsMessageOf}
-use Rattle.named_values.specs.Named.{TypeNamed}
+use Rattle.judging.specs.named_values.Named.{TypeNamed}
 use Rattle.asnc.specs.Reading.{IsNotDer, IsNotReadAs, IsRead, IsUnread, rules_of}
 use Rattle.asnc.specs.Writing.{IsEncoded}
 use Rattle.asnc.specs.declared.reading.Rules.{Rules as Rules'}
 use Rattle.asnc.specs.declared.reading.Rules.TheVariants as asked
 use Rattle.asnc.proofs.Weaker.{basic_of}
-use Rattle.named_values.specs.Given.{Given}
+use Rattle.judging.specs.named_values.Given.{Given}
 
 -- a type that has a value is there
 pub type_there : {s : List Resolved} {n t : ℕ} {v : AbstractValue} → ValueIn s n t v → t < length s

@@ -9,14 +9,14 @@ use Rattle.packed_writer.specs.Message.{IsMessage}
 use Rattle.version_laws.specs.LeftOut.{left_out_packed}
 use Rattle.version_laws.specs.Widened.{widened}
 use Rattle.resolve.specs.Program.{Program}
-use Rattle.messages.specs.declared.fault.Fault.{Fault}
-use Rattle.messages.specs.declared.fault.Fault.TheVariants as faults
-use Rattle.named_values.specs.Named.{Names}
+use Rattle.judging.specs.messages.declared.fault.Fault.{Fault}
+use Rattle.judging.specs.messages.declared.fault.Fault.TheVariants as faults
+use Rattle.judging.specs.named_values.Named.{Names}
 use Rattle.asnc.specs.Packing.{IsPacked}
 use Rattle.asnc.specs.Unpacking.{IsNotUnpackedAs, IsUnpackedAs}
 use Rattle.asnc.specs.Versions.{IsCompared, IsPackedKeptAnswer, IsWidenedAnswer}
 use Rattle.asnc.proofs.ReadBack.{message_refused, unpacked_of}
-use Rattle.named_values.specs.Given.{Given}
+use Rattle.judging.specs.named_values.Given.{Given}
 
 -- the message of a named value is one of a value of the type that its name finds
 pub message_of_named : {p : Program} {s : List Resolved} {first : List ℕ} {second : Given} {o : List ℕ} {t : ℕ} →

@@ -12,13 +12,13 @@ use Rattle.packed_reader.specs.Values.{message_from}
 use Rattle.packed_reader.specs.declared.fault.PerFault.{PerFault}
 use Rattle.packed_reader.specs.declared.fault.PerFault.TheVariants as per
 use Rattle.resolve.specs.Program.{Program}
-use Rattle.messages.specs.declared.fault.Fault.{Fault}
-use Rattle.messages.specs.declared.fault.Fault.TheVariants as faults
-use Rattle.named_values.specs.Named.{Names, TypeNamed}
+use Rattle.judging.specs.messages.declared.fault.Fault.{Fault}
+use Rattle.judging.specs.messages.declared.fault.Fault.TheVariants as faults
+use Rattle.judging.specs.named_values.Named.{Names, TypeNamed}
 use Rattle.asnc.specs.Headline.{IsAnswer}
 use Rattle.asnc.specs.Packing.{IsPacked}
 use Rattle.asnc.specs.Unpacking.{IsFirstFault, IsNotUnpacked, IsNotUnpackedAs, IsNotUnpackedBy, IsUnpacked, IsUnpackedAs}
-use Rattle.named_values.specs.Given.{Given}
+use Rattle.judging.specs.named_values.Given.{Given}
 
 -- ---- refusals
 

@@ -19,13 +19,13 @@ use Rattle.version_laws.specs.LeftOut.{left_out_packed}
 use Rattle.version_laws.specs.Widened.{widened}
 use Rattle.value_text.specs.Print.{print}
 use Rattle.resolve.specs.Program.{Program}
-use Rattle.messages.specs.declared.fault.Fault.{Fault}
-use Rattle.messages.specs.declared.fault.Fault.TheVariants.{Memory}
-use Rattle.front_end.specs.Accepted.{Accepted}
-use Rattle.front_end.specs.Untyped.{StandsFor}
+use Rattle.judging.specs.messages.declared.fault.Fault.{Fault}
+use Rattle.judging.specs.messages.declared.fault.Fault.TheVariants.{Memory}
+use Rattle.judging.specs.front_end.Accepted.{Accepted}
+use Rattle.judging.specs.front_end.Untyped.{StandsFor}
 use Rattle.judging.specs.Judged.{IsAccountIn, IsJudged}
-use Rattle.named_values.specs.Named.{AreGiven, TypeNamed}
-use Rattle.named_values.specs.Given.{Given}
+use Rattle.judging.specs.named_values.Named.{AreGiven, TypeNamed}
+use Rattle.judging.specs.named_values.Given.{Given}
 use Rattle.asnc.specs.Headline.{IsAnswer, IsMessageOf, IsRight, IsRightlyPacked, IsRightlyRead, IsRightlyUnpacked}
 use Rattle.asnc.specs.Reading.{IsNotReadAs, IsRead, IsReadAs, rules_of}
 use Rattle.asnc.specs.Unpacking.{IsNotUnpackedAs, IsUnpackedAs, IsUnpackedBy}

@@ -6,10 +6,10 @@ use Rattle.encodings.specs.Rules.{Basic}
 use Rattle.resolve.specs.Program.{Program}
 use Rattle.value_text.specs.Print.{print}
 use Rattle.views.specs.Tree.{value_of}
-use Rattle.named_values.specs.Named.{Names}
-use Rattle.messages.specs.declared.fault.Fault.{Fault}
-use Rattle.messages.specs.declared.fault.Fault.TheVariants as faults
-use Rattle.messages.specs.declared.fault.Unread.{Unread}
+use Rattle.judging.specs.named_values.Named.{Names}
+use Rattle.judging.specs.messages.declared.fault.Fault.{Fault}
+use Rattle.judging.specs.messages.declared.fault.Fault.TheVariants as faults
+use Rattle.judging.specs.messages.declared.fault.Unread.{Unread}
 use Rattle.asnc.specs.Reading.{IsReadAs, IsNotReadAs}
 use Rattle.asnc.specs.Showing.{IsJudged, IsShownAs}
 use Rattle.asnc.specs.declared.showing.Listing.{Listing}

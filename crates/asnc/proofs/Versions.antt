@@ -11,16 +11,16 @@ use Rattle.later_versions.specs.Kept.{kept, left_out}
 use Rattle.version_laws.specs.Versions.{IsReadAs as IsReadable, IsStrictlyReadAs}
 use Rattle.version_laws.specs.Widened.{widened}
 use Rattle.resolve.specs.Program.{Program}
-use Rattle.messages.specs.declared.fault.Fault.{Fault}
-use Rattle.messages.specs.declared.fault.Fault.TheVariants as faults
-use Rattle.named_values.specs.Named.{Names}
+use Rattle.judging.specs.messages.declared.fault.Fault.{Fault}
+use Rattle.judging.specs.messages.declared.fault.Fault.TheVariants as faults
+use Rattle.judging.specs.named_values.Named.{Names}
 use Rattle.asnc.specs.Reading.{IsNotReadAs, IsRead, IsReadAs, rules_of}
 use Rattle.asnc.specs.Versions.{IsCompared, IsKeptAnswer, IsWidenedAnswer}
 use Rattle.asnc.specs.Writing.{IsEncoded}
 use Rattle.asnc.specs.declared.reading.Rules.{Rules as Rules'}
 use Rattle.asnc.specs.declared.reading.Rules.TheVariants as asked
 use Rattle.asnc.proofs.Messages.{encoding_is_read}
-use Rattle.named_values.specs.Given.{Given}
+use Rattle.judging.specs.named_values.Given.{Given}
 
 -- the encoding of a named value is one of a value of the type that its name finds
 pub der_of_named : {p : Program} {s : List Resolved} {first : List ℕ} {second : Given} {o : List ℕ} {a : Account}

@@ -6,7 +6,7 @@ use Rattle.later_versions.specs.Later.{Later}
 use Rattle.later_versions.specs.Told.{IsTold, comparison_of, says_later}
 use Rattle.later_versions.specs.declared.reason.Explained.{Explained}
 use Rattle.resolve.specs.Program.{Program}
-use Rattle.named_values.specs.Named.{Names}
+use Rattle.judging.specs.named_values.Named.{Names}
 
 -- The name finds one type in program p, whose types are s, and one in program q, whose types are r. This is what their
 -- comparison answers.

@@ -16,11 +16,11 @@ use Rattle.packed_encodings.specs.Packing.{Packed, Reads}
 use Rattle.packed_encodings.specs.Padding.{Padded}
 use Rattle.trees.specs.Values.{Name, Tree}
 use Rattle.resolve.specs.Program.{Program}
-use Rattle.front_end.specs.Accepted.{Accepted}
-use Rattle.front_end.specs.Untyped.{StandsFor}
+use Rattle.judging.specs.front_end.Accepted.{Accepted}
+use Rattle.judging.specs.front_end.Untyped.{StandsFor}
 use Rattle.account_checker.specs.Reasons.{IsRight as IsRightBesideIt}
-use Rattle.named_values.specs.Named.{AreGiven, TypeNamed}
-use Rattle.named_values.specs.Given.{Given}
+use Rattle.judging.specs.named_values.Named.{AreGiven, TypeNamed}
+use Rattle.judging.specs.named_values.Given.{Given}
 
 -- For these texts of modules, the name of a type and a value that is given, the octets o are the value's DER encoding,
 -- and account a describes them.

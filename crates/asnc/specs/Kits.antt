@@ -2,10 +2,10 @@
 use Rattle.std.specs.Prelude.{◌≡◌, ℕ, List}
 use Rattle.asn_base.specs.Types.{Resolved}
 use Rattle.resolve.specs.Program.{Program}
-use Rattle.front_end.specs.Faults.{Stands}
-use Rattle.front_end.specs.declared.fault.FrontFault.TheVariants as texts
-use Rattle.messages.specs.declared.fault.Fault.{Fault}
-use Rattle.messages.specs.declared.fault.Fault.TheVariants as faults
+use Rattle.judging.specs.front_end.Faults.{Stands}
+use Rattle.judging.specs.front_end.declared.fault.FrontFault.TheVariants as texts
+use Rattle.judging.specs.messages.declared.fault.Fault.{Fault}
+use Rattle.judging.specs.messages.declared.fault.Fault.TheVariants as faults
 
 -- the program of accepted texts and its types; a type has the same number in both
 pub record Opened : Type 0 where

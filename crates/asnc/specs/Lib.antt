@@ -3,7 +3,7 @@
 -- which value of a named type octets encode, and when none is read; `Unpacking` says the same for packed encodings.
 -- `Places` says at which octet a message is refused. `Showing` says which lines show its headers. `Versions` says how versions of a type read each other. `Headline`
 -- goes from the texts to the octets and back, and `Whole` says all of it of one named value.
-pub use Rattle.messages.specs.Status
+pub use Rattle.judging.specs.messages.Status
 pub mod Headline
 pub mod Kits
 pub mod Packing
@@ -15,3 +15,6 @@ pub mod Versions
 pub mod Differences
 pub mod Writing
 pub mod Whole
+pub use Rattle.judging.specs.front_end as front_end
+pub use Rattle.judging.specs.messages as messages
+pub use Rattle.judging.specs.named_values as named_values

@@ -5,10 +5,10 @@ use Rattle.asn_base.specs.Abstract.{AbstractValue}
 use Rattle.asn_base.specs.Types.{Resolved}
 use Rattle.packed_writer.specs.Message.{IsMessage, IsTooLong}
 use Rattle.resolve.specs.Program.{Program}
-use Rattle.messages.specs.declared.fault.Fault.{Fault}
-use Rattle.messages.specs.declared.fault.Fault.TheVariants as faults
-use Rattle.named_values.specs.Meant.{IsMeant, IsNotMeant}
-use Rattle.named_values.specs.Given.{Given}
+use Rattle.judging.specs.messages.declared.fault.Fault.{Fault}
+use Rattle.judging.specs.messages.declared.fault.Fault.TheVariants as faults
+use Rattle.judging.specs.named_values.Meant.{IsMeant, IsNotMeant}
+use Rattle.judging.specs.named_values.Given.{Given}
 
 -- The name is that of a type, and a value is given. The octets are the bits of the value that its notation stands for
 -- under the type, filled to octets, and no others are (X.691, 11.1).

@@ -15,10 +15,10 @@ use Rattle.ber_reader.specs.declared.read.Read.{Read}
 use Rattle.views.specs.Tree.{value_of}
 use Rattle.ber_message.specs.Messages.{IsEncoding, BeginsEncoding, HasEncodingFirst, HasMessageFirst}
 use Rattle.resolve.specs.Program.{Program}
-use Rattle.messages.specs.declared.fault.Fault.{Fault}
-use Rattle.messages.specs.declared.fault.Fault.TheVariants as faults
-use Rattle.messages.specs.declared.fault.Unread.{Unread}
-use Rattle.named_values.specs.Named.{Names, TypeNamed}
+use Rattle.judging.specs.messages.declared.fault.Fault.{Fault}
+use Rattle.judging.specs.messages.declared.fault.Fault.TheVariants as faults
+use Rattle.judging.specs.messages.declared.fault.Unread.{Unread}
+use Rattle.judging.specs.named_values.Named.{Names, TypeNamed}
 use Rattle.asnc.specs.Places.{IsStopped}
 use Rattle.asnc.specs.declared.reading.Rules.{Rules as Rules'}
 use Rattle.asnc.specs.declared.reading.Rules.TheVariants as asked

@@ -5,10 +5,10 @@ use Rattle.encodings.specs.Rules.{Basic}
 use Rattle.ber_reader.specs.declared.read.Read.{Read}
 use Rattle.header_listing.specs.Listing.{IsListing}
 use Rattle.resolve.specs.Program.{Program}
-use Rattle.messages.specs.declared.fault.Fault.{Fault}
-use Rattle.messages.specs.declared.fault.Fault.TheVariants as faults
-use Rattle.messages.specs.declared.fault.Unread.{Unread}
-use Rattle.named_values.specs.Named.{Names, TypeNamed}
+use Rattle.judging.specs.messages.declared.fault.Fault.{Fault}
+use Rattle.judging.specs.messages.declared.fault.Fault.TheVariants as faults
+use Rattle.judging.specs.messages.declared.fault.Unread.{Unread}
+use Rattle.judging.specs.named_values.Named.{Names, TypeNamed}
 use Rattle.asnc.specs.Reading.{IsReadBy, IsUnreadAt}
 use Rattle.asnc.specs.declared.showing.Listing.{Listing}
 

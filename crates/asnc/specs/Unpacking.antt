@@ -17,10 +17,10 @@ use Rattle.packed_reader.specs.declared.fault.PerFault.TheVariants as per
 use Rattle.packed_reader.specs.declared.part.Part.{Part as Part'}
 use Rattle.packed_reader.specs.declared.part.Part.TheVariants as packed
 use Rattle.resolve.specs.Program.{Program}
-use Rattle.messages.specs.declared.fault.Fault.{Fault}
-use Rattle.messages.specs.declared.fault.Fault.TheVariants as faults
-use Rattle.messages.specs.declared.fault.UnreadBits.{UnreadBits}
-use Rattle.named_values.specs.Named.{Names, TypeNamed}
+use Rattle.judging.specs.messages.declared.fault.Fault.{Fault}
+use Rattle.judging.specs.messages.declared.fault.Fault.TheVariants as faults
+use Rattle.judging.specs.messages.declared.fault.UnreadBits.{UnreadBits}
+use Rattle.judging.specs.named_values.Named.{Names, TypeNamed}
 use Rattle.asnc.specs.Places.{with_part}
 
 -- ---- paths

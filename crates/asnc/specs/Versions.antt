@@ -10,9 +10,9 @@ use Rattle.version_laws.specs.LeftOut.{left_out_packed}
 use Rattle.version_laws.specs.Widened.{widened}
 use Rattle.value_text.specs.Print.{print}
 use Rattle.resolve.specs.Program.{Program}
-use Rattle.messages.specs.declared.fault.Fault.{Fault}
-use Rattle.messages.specs.declared.fault.Fault.TheVariants as faults
-use Rattle.named_values.specs.Named.{Names, TypeNamed}
+use Rattle.judging.specs.messages.declared.fault.Fault.{Fault}
+use Rattle.judging.specs.messages.declared.fault.Fault.TheVariants as faults
+use Rattle.judging.specs.named_values.Named.{Names, TypeNamed}
 
 -- The name finds one type in program p, whose types are s, and one in program q, whose types are r. The answer is yes
 -- exactly if the second type is a later version of the first.

@@ -6,14 +6,14 @@ use Rattle.account_checker.specs.declared.reason.Verdict.TheVariants.{Yes}
 use Rattle.encodings.specs.Account.{Account}
 use Rattle.encodings.specs.Rules.{Rules, Basic}
 use Rattle.judging.specs.Judged.{IsAccountIn, IsJudged}
-use Rattle.messages.specs.declared.fault.Fault.{Fault}
-use Rattle.messages.specs.declared.fault.Fault.TheVariants.{Memory}
+use Rattle.judging.specs.messages.declared.fault.Fault.{Fault}
+use Rattle.judging.specs.messages.declared.fault.Fault.TheVariants.{Memory}
 use Rattle.resolve.specs.Program.{Program}
 use Rattle.asnc.specs.Headline.{IsAnswer, IsMessageOf, IsRight, IsRightlyPacked}
 use Rattle.asnc.specs.Reading.{IsNotReadAs, IsReadAs, rules_of}
 use Rattle.asnc.specs.Unpacking.{IsNotUnpackedAs, IsUnpackedAs}
 use Rattle.asnc.specs.declared.reading.Rules.{Rules as Rules'}
-use Rattle.named_values.specs.Given.{Given}
+use Rattle.judging.specs.named_values.Given.{Given}
 
 -- The texts are accepted as program p with types s. The octets o with account a are written for value v of the type
 -- with the first name, and b is its message of canonical PER.

@@ -9,10 +9,10 @@ use Rattle.account_text.specs.Text.{compact_text, IsTextOf}
 use Rattle.resolve.specs.Program.{Program}
 use Rattle.sinks.specs.Sent.{SinkState}
 use Rattle.der_writer.specs.Encoded.{IsEncoding, Went, WentInPart}
-use Rattle.messages.specs.declared.fault.Fault.{Fault}
-use Rattle.messages.specs.declared.fault.Fault.TheVariants as faults
-use Rattle.named_values.specs.Meant.{IsMeant, IsNotMeant}
-use Rattle.named_values.specs.Given.{Given}
+use Rattle.judging.specs.messages.declared.fault.Fault.{Fault}
+use Rattle.judging.specs.messages.declared.fault.Fault.TheVariants as faults
+use Rattle.judging.specs.named_values.Meant.{IsMeant, IsNotMeant}
+use Rattle.judging.specs.named_values.Given.{Given}
 
 -- The name is that of a type, and a value is given. The octets are the only DER encoding of what the value's notation
 -- means under the type, and no encoding by the basic rules is shorter. The account is that of the octets.

@@ -17,11 +17,11 @@ ghost use Rattle.value_text.specs.Print.{print};
 ghost use Rattle.views.specs.Seen.{IsView};
 ghost use Rattle.views.specs.Tree.{Tree, value_of};
 ghost use Rattle.resolve.specs.Program.{Program};
-ghost use Rattle.front_end.specs.Accepted.{Accepted, AreAccepted, HasTypes, octets_of};
-ghost use Rattle.front_end.specs.Faults.{Stands};
-ghost use Rattle.front_end.specs.declared.fault.FrontFault.TheVariants.{Memory as no_memory};
+ghost use Rattle.judging.specs.front_end.Accepted.{Accepted, AreAccepted, HasTypes, octets_of};
+ghost use Rattle.judging.specs.front_end.Faults.{Stands};
+ghost use Rattle.judging.specs.front_end.declared.fault.FrontFault.TheVariants.{Memory as no_memory};
 ghost use Rattle.sinks.specs.Sent.{state};
-ghost use Rattle.messages.specs.declared.fault.Fault.TheVariants.{Device, Front, Memory};
+ghost use Rattle.judging.specs.messages.declared.fault.Fault.TheVariants.{Device, Front, Memory};
 ghost use Rattle.asnc.specs.Differences.{AreCompared};
 ghost use Rattle.asnc.specs.Kits.{IsNotOpened};
 ghost use Rattle.asnc.specs.Packing.{IsNotPacked, IsPacked};
@@ -30,9 +30,9 @@ ghost use Rattle.asnc.specs.Showing.{IsNotShownAs, IsShownAs};
 ghost use Rattle.asnc.specs.Unpacking.{IsNotUnpackedAs, IsNotUnpackedBy, IsUnpackedAs, IsUnpackedBy};
 ghost use Rattle.asnc.specs.Versions.{IsCompared, IsNotCompared};
 ghost use Rattle.asnc.specs.Writing.{IsAccountOf, IsEncoded, IsNotEncoded, IsSent, IsSentInPart};
-ghost use Rattle.named_values.specs.Given.{as_given};
-ghost use Rattle.named_values.specs.Meant.{IsMeant, IsNotMeant};
-ghost use Rattle.named_values.specs.Named.{Names, TypeNamed};
+ghost use Rattle.judging.specs.named_values.Given.{as_given};
+ghost use Rattle.judging.specs.named_values.Meant.{IsMeant, IsNotMeant};
+ghost use Rattle.judging.specs.named_values.Named.{Names, TypeNamed};
 
 use crate::reading::{Rules, read_as, read_by};
 use crate::showing::{Listing, shown_as};
@@ -44,11 +44,11 @@ use ber_reader::Read;
 use codec_code::{Code, compile};
 use decode_faults::ReadFault;
 use der_writer::{WriteFault, write_der, write_der_to};
-use front_end::law::values_of_schema;
-use front_end::{FrontFault, Modules};
+use judging::front_end::law::values_of_schema;
+use judging::front_end::{FrontFault, Modules};
+use judging::messages::Fault;
+use judging::named_values::{ValueGiven, meant, type_number};
 use later_versions::{Explained, explain, later};
-use messages::Fault;
-use named_values::{ValueGiven, meant, type_number};
 use octet_account::account::Account;
 use packed_code::{PackedCode, compile_packed};
 use packed_reader::PerFault;
@@ -81,7 +81,7 @@ impl Model for Kit {
     ghost view = { λ k. record { program = k.modules; types = k.code } };
 
     ghost use Rattle.std.specs.Prelude.{◌≡◌};
-    ghost use Rattle.front_end.specs.Accepted.{HasTypes};
+    ghost use Rattle.judging.specs.front_end.Accepted.{HasTypes};
 
     ghost invariant = { λ k. HasTypes k.modules k.code × (k.schema ≡ k.code) × (k.packed ≡ k.code) };
 }
@@ -139,7 +139,7 @@ impl Kit {
         // A fault is true, and is the first one in reading order.
         ensures fault { IfErr result (IsNotOpened (map octets_of texts.now)) }
     {
-        match front_end::open(alloc, texts) {
+        match judging::front_end::open(alloc, texts) {
             Ok(front) => kit_of(alloc, front.modules, front.schema),
             Err(fault) => Err(refusal(fault)),
         }

@@ -14,13 +14,16 @@ pub use asn_base::value::Value;
 pub use ber_reader::Read;
 pub use decode_faults::{ReadFault, Refusal};
 pub use der_writer::WriteFault;
+pub use judging::messages::{Fault, NotationFault, Unread, UnreadBits, number, status};
+pub use judging::named_values::ValueGiven;
 pub use kit::Kit;
 pub use later_versions::{Difference, Explained, Reason};
-pub use messages::{Fault, NotationFault, Unread, UnreadBits, number, status};
-pub use named_values::ValueGiven;
 pub use octet_account::account::Account;
 pub use packed_reader::{PerFault, RefusedBits};
 pub use reading::Rules;
 pub use showing::Listing;
 pub use sinks::{Counted, InMemory, Sink, Stops, send_all};
 pub use views::{Part, View};
+
+// Libraries that crates above name through this one.
+pub use judging::{front_end, messages, named_values};

@@ -2,7 +2,7 @@
 
 ghost use Rattle.std.specs.Prelude.{◌≡◌, IfOk, IfErr, string_bytes};
 ghost use Rattle.header_listing.specs.Listing.{IsListing};
-ghost use Rattle.messages.specs.declared.fault.Fault.TheVariants.{Memory};
+ghost use Rattle.judging.specs.messages.declared.fault.Fault.TheVariants.{Memory};
 ghost use Rattle.asnc.specs.Showing.{IsJudged, IsNotShownAs, IsShown, IsShownAs, limit_of};
 ghost use Rattle.std.specs.Prelude.{ℕ, List, Option};
 
@@ -10,10 +10,10 @@ use crate::reading::{Rules, read_by, unread_at};
 use asn_base::schema::{Schema, TypeId};
 use codec_code::Code;
 use decode_faults::ReadFault;
-use front_end::Modules;
 use header_listing::{Types, list_headers};
-use messages::{Fault, Unread};
-use named_values::type_number;
+use judging::front_end::Modules;
+use judging::messages::{Fault, Unread};
+use judging::named_values::type_number;
 use std::alloc::{AllocError, Global};
 
 /// The headers of a message, and whether the message is accepted.

@@ -6,7 +6,7 @@ use Rattle.account_checker.specs.declared.reason.Reason.TheVariants as reasons
 use Rattle.account_checker.specs.declared.reason.Verdict.TheVariants.{Yes, No}
 use Rattle.command_line.specs.declared.request.Given.TheVariants as given
 use Rattle.command_line.specs.declared.request.Job.{Job}
-use Rattle.front_end.specs.Accepted.{octets_of}
+use Rattle.judging.specs.front_end.Accepted.{octets_of}
 use Rattle.judging.specs.Judged.{IsJudged, answer_of}
 use Rattle.sinks.specs.Sent.{SinkState, SentAll, SentFront}
 use Rattle.check_jobs.specs.declared.inputs.Inputs.{Inputs}

@@ -2,9 +2,9 @@
 use Rattle.std.specs.Prelude.{◌≡◌, ℕ, List, Bool, true, false, map, string_bytes}
 use Rattle.account_checker.specs.declared.reason.Verdict.{Verdict}
 use Rattle.account_checker.specs.declared.reason.Verdict.TheVariants.{Yes, No}
-use Rattle.front_end.specs.Accepted.{octets_of}
+use Rattle.judging.specs.front_end.Accepted.{octets_of}
 use Rattle.judging.specs.Judged.{IsJudged, IsNotJudged, answer_of}
-use Rattle.messages.specs.declared.fault.Fault.{Fault}
+use Rattle.judging.specs.messages.declared.fault.Fault.{Fault}
 use Rattle.sinks.specs.Sent.{SinkState, SentAll, SentFront}
 use Rattle.command_line.specs.declared.request.Job.{Job}
 use Rattle.check_jobs.specs.declared.inputs.Inputs.{Inputs}

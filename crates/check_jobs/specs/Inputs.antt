@@ -10,9 +10,9 @@ use Rattle.command_line.specs.declared.request.Job.{Job}
 use Rattle.command_line.specs.declared.request.ValueWords.{ValueWords}
 use Rattle.command_line.specs.declared.request.ValueWords.TheVariants as values
 use Rattle.command_line.specs.declared.request.Verb.TheVariants as verbs
-use Rattle.messages.specs.declared.fault.Fault.{Fault}
-use Rattle.messages.specs.declared.fault.Fault.TheVariants as faults
-use Rattle.named_values.specs.Given.{Given as GivenValue, named, written}
+use Rattle.judging.specs.messages.declared.fault.Fault.{Fault}
+use Rattle.judging.specs.messages.declared.fault.Fault.TheVariants as faults
+use Rattle.judging.specs.named_values.Given.{Given as GivenValue, named, written}
 use Rattle.check_jobs.specs.declared.inputs.Inputs.{Inputs}
 
 -- the octets of a file; none if there is no file

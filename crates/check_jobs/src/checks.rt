@@ -4,13 +4,13 @@ ghost use Rattle.std.specs.Prelude.{◌≡◌, ◌<◌, ℕ, IfOk, IfErr, string
 ghost use Rattle.check_jobs.specs.Checks.{is_yes, IsChecked, IsCheckedInPart, IsNotChecked, IsVerdictLine};
 ghost use Rattle.check_jobs.specs.Inputs.{line_of};
 ghost use Rattle.judging.specs.Judged.{answer_of};
-ghost use Rattle.messages.specs.declared.fault.Fault.TheVariants.{Device, Memory};
+ghost use Rattle.judging.specs.messages.declared.fault.Fault.TheVariants.{Device, Memory};
 ghost use Rattle.sinks.specs.Sent.{state};
 
 use crate::inputs::{Inputs, Output, ended, value_of};
 use command_line::Job;
+use judging::messages::Fault;
 use judging::{Verdict, answer, judge};
-use messages::Fault;
 use sinks::{Sink, send_all};
 use std::alloc::Global;
 

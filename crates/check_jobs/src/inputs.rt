@@ -2,12 +2,12 @@
 
 ghost use Rattle.std.specs.Prelude.{◌≡◌, IfOk, IfErr, string_bytes};
 ghost use Rattle.check_jobs.specs.Inputs.{contents, given_in, line_of, octets_given};
-ghost use Rattle.messages.specs.declared.fault.Fault.TheVariants.{Memory};
-ghost use Rattle.named_values.specs.Given.{as_given};
+ghost use Rattle.judging.specs.messages.declared.fault.Fault.TheVariants.{Memory};
+ghost use Rattle.judging.specs.named_values.Given.{as_given};
 
 use command_line::{Given, Job, ValueWords};
 use judging::ValueGiven;
-use messages::Fault;
+use judging::messages::Fault;
 
 /// The contents of the files that a job names.
 #[derive(Debug, Drop)]

@@ -9,3 +9,6 @@ mod words;
 pub use checks::{check, check_output};
 pub use inputs::{Inputs, Output, ended, value_of};
 pub use words::refusal;
+
+// Libraries that crates above name through this one.
+pub use judging;

@@ -4,7 +4,7 @@ ghost use Rattle.std.specs.Prelude.{◌≡◌};
 ghost use Rattle.check_jobs.specs.Inputs.{fault_of_words};
 
 use command_line::WordsFault;
-use messages::Fault;
+use judging::messages::Fault;
 
 /// A fault of words, as a user sees it.
 pub fn refusal(fault: WordsFault) -> Fault

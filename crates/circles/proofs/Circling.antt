@@ -3,9 +3,9 @@ use Rattle.std.proofs.Common.{◌≡◌, ℕ, ◌<◌, List, length, Some, Vec, 
 use Rattle.circles.proofs.Marking.{same_at}
 use Rattle.std.specs.Prelude.{Bool, slice_get}
 use Rattle.std.proofs.lemmas.Option.{slice_get_within, get_or_from_slice_get}
-use Rattle.trees.specs.Values.{Tree}
-use Rattle.trees.specs.Types.{PresenceTree, mandatory, optional, default}
-use Rattle.trees.specs.declared.types.ListKind.{ListKind}
+use Rattle.type_table.specs.trees.Values.{Tree}
+use Rattle.type_table.specs.trees.Types.{PresenceTree, mandatory, optional, default}
+use Rattle.type_table.specs.trees.declared.types.ListKind.{ListKind}
 use Rattle.type_table.specs.declared.table.Shape.{Shape}
 use Rattle.type_table.specs.declared.table.Shape.TheVariants as shapes
 use Rattle.type_table.specs.declared.table.ListMember.{ListMember}

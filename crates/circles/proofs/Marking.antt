@@ -4,13 +4,13 @@ use Rattle.std.specs.Prelude.{slice_get, IsTrue}
 use Rattle.std.proofs.lemmas.Bool.{eqb-true, cases_Bool, cases_lt}
 use Rattle.std.proofs.lemmas.List.{length-set}
 use Rattle.std.proofs.lemmas.Option.{slice_get_within, slice_get-map, slice_get_read, slice_get-get_or, get_or_from_slice_get, same_Some}
-use Rattle.asn_base.specs.declared.tag.Tag.{Tag}
-use Rattle.trees.specs.declared.types.Keyword.{Keyword}
+use Rattle.type_table.specs.asn_base.declared.tag.Tag.{Tag}
+use Rattle.type_table.specs.trees.declared.types.Keyword.{Keyword}
 use Rattle.type_table.specs.declared.table.ListMember.{ListMember}
-use Rattle.trees.specs.declared.types.ElementsKind.{ElementsKind}
-use Rattle.trees.specs.declared.types.ListKind.{ListKind}
-use Rattle.names.specs.Modules.{StandsIn}
-use Rattle.trees.specs.Types.{Plain}
+use Rattle.type_table.specs.trees.declared.types.ElementsKind.{ElementsKind}
+use Rattle.type_table.specs.trees.declared.types.ListKind.{ListKind}
+use Rattle.type_table.specs.names.Modules.{StandsIn}
+use Rattle.type_table.specs.trees.Types.{Plain}
 use Rattle.type_table.specs.Seen.{part_of}
 use Rattle.type_table.specs.Table.{Part, simple, reference, tagged, members, elements, Type'}
 use Rattle.circles.specs.Circles.{IsPart, referred, behind_tag, member, element, Reaches, itself, onward}

@@ -3,15 +3,15 @@ use Rattle.std.proofs.Common.{◌≡◌, inl, inr, ℕ, ◌+◌, ◌<◌, ◌≤
 use Rattle.std.specs.Prelude.{slice_get, slice_index, Bool}
 use Rattle.std.proofs.lemmas.Option.{slice_get_within, same_Some}
 use Rattle.type_table.specs.declared.table.ListMember.{ListMember}
-use Rattle.trees.specs.declared.types.ListKind.{ListKind}
-use Rattle.names.specs.Modules.{StandsIn}
+use Rattle.type_table.specs.trees.declared.types.ListKind.{ListKind}
+use Rattle.type_table.specs.names.Modules.{StandsIn}
 use Rattle.circles.specs.proving.Ranks.{parts, AreFrom, Rise, DefaultsAbove}
 use Rattle.circles.specs.proving.Reach.{HasDefault}
 use Rattle.type_table.specs.Seen.{part_of}
 use Rattle.circles.specs.Circles.{IsPart, referred, behind_tag, member, element, Reaches, itself, onward, IsDefaultCircle}
 use Rattle.type_table.specs.Table.{Part, Kind, simple, reference, tagged, members, elements, Type'}
 use Rattle.circles.proofs.Circling.{leads_of_circle}
-use Rattle.names.specs.proving.Distinct.{stands_map as map_get, item_at}
+use Rattle.type_table.specs.names.proving.Distinct.{stands_map as map_get, item_at}
 use Rattle.circles.proofs.Marking.{IsDefaultedBelow, last_or, same_at}
 
 -- what is a part is among the parts

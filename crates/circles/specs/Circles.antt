@@ -1,12 +1,12 @@
 -- Components with a DEFAULT whose types lead back to the lists that hold them (own rule, narrower than X.680, clause
 -- 25).
 use Rattle.std.specs.Prelude.{◌≡◌, ◌<◌, ℕ, Bool, List, Some, slice_get}
-use Rattle.asn_base.specs.declared.tag.Tag.{Tag}
-use Rattle.trees.specs.Values.{Tree}
-use Rattle.trees.specs.declared.types.ListKind.{ListKind}
-use Rattle.trees.specs.declared.types.ElementsKind.{ElementsKind}
-use Rattle.trees.specs.declared.types.Keyword.{Keyword}
-use Rattle.trees.specs.Types.{default}
+use Rattle.type_table.specs.asn_base.declared.tag.Tag.{Tag}
+use Rattle.type_table.specs.trees.Values.{Tree}
+use Rattle.type_table.specs.trees.declared.types.ListKind.{ListKind}
+use Rattle.type_table.specs.trees.declared.types.ElementsKind.{ElementsKind}
+use Rattle.type_table.specs.trees.declared.types.Keyword.{Keyword}
+use Rattle.type_table.specs.trees.Types.{default}
 use Rattle.type_table.specs.Table.{Part, Kind, reference, tagged, members, elements, Type'}
 
 -- type k is one that a type of this kind refers to, tags or directly contains

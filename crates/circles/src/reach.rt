@@ -1,14 +1,14 @@
 //! Searches for the types that a type leads to, through references, tags, members and elements.
 
 ghost use Rattle.std.specs.Prelude.{ℕ, Bool, ◌≡◌, ◌<◌, ◌≤◌, ◌↔◌, length, slice_get, map, IfOk, OnOk, IsTrue};
-ghost use Rattle.names.specs.Modules.{StandsIn};
+ghost use Rattle.type_table.specs.names.Modules.{StandsIn};
 ghost use Rattle.type_table.specs.Table.{Part, members};
 ghost use Rattle.type_table.specs.Seen.{part_of, type_of, types_of};
 ghost use Rattle.circles.specs.Circles.{IsPart};
 ghost use Rattle.circles.specs.proving.Reach.{HasParts, HasDefault, IsDefaulted, LeadsTo, IsMarked, AreUpTo, Marks, MarksReached};
 
 use std::alloc::{AllocError, Global};
-use trees::{ListKind, PresenceSyntax};
+use type_table::trees::{ListKind, PresenceSyntax};
 use type_table::{ListMember, Shape, Written};
 
 /// Marks a type and adds it to the waiting types, unless this search has marked it before.

@@ -17,9 +17,9 @@ use Rattle.resolve.specs.Program.{Program}
 use Rattle.range_ends.specs.Ends.{IsOfKind}
 use Rattle.tagging.specs.Tags.{Path, Tags, label}
 use Rattle.constraints.specs.Allowed.{IsAllowed, IsInRoot, IsInAlphabet, IsExtensible, IsCounted, AreVisible, IsConstraintOf, AreCodesOf, LeaveTheSame, HaveOneAlphabet}
-use Rattle.values.specs.Allowing.{Allows, AllowsCode}
-use Rattle.schema_of.specs.SchemaOf.{IsKindOf, IsTypeOf, AllowsNumbersOf, AllowsSizesOf}
-use Rattle.schema_of.specs.SchemaOf as schema_of
+use Rattle.settled.specs.values.Allowing.{Allows, AllowsCode}
+use Rattle.settled.specs.schema_of.SchemaOf.{IsKindOf, IsTypeOf, AllowsNumbersOf, AllowsSizesOf}
+use Rattle.settled.specs.schema_of.SchemaOf as schema_of
 use Rattle.settled.specs.Settled.{IsConstrained, IsSettledType, standing}
 use Rattle.extensions.specs.proving.Cores.{AreAlike}
 use Rattle.extensions.specs.proving.Tables.{IsResolved}

@@ -15,9 +15,9 @@ use Rattle.type_table.specs.Table.{Type', Kind, simple, elements, IsCore, next}
 use Rattle.resolve.specs.Program.{Program}
 use Rattle.range_ends.specs.Ends.{IsOfKind}
 use Rattle.constraints.specs.Allowed.{IsAllowed, IsInAlphabet, IsCounted, IsConstraintOf, AreCodesOf}
-use Rattle.values.specs.Allowing.{Allows, AllowsCode}
-use Rattle.schema_of.specs.SchemaOf as schema_of
-use Rattle.schema_of.specs.SchemaOf.{named_bit}
+use Rattle.settled.specs.values.Allowing.{Allows, AllowsCode}
+use Rattle.settled.specs.schema_of.SchemaOf as schema_of
+use Rattle.settled.specs.schema_of.SchemaOf.{named_bit}
 use Rattle.extensions.specs.proving.Cores.{IsCoreOf}
 
 -- ---- one kind

@@ -16,7 +16,7 @@ use Rattle.type_table.specs.Seen.{kind_of, type_of}
 use Rattle.type_table.specs.Table.{Part, Type', Kind, members, IsCore, IsLinked, next}
 use Rattle.resolve.specs.Program.{Program, IsAssignment}
 use Rattle.value_notations.specs.Values.{IsTyped}
-use Rattle.values.specs.Allowing.{Allows, AllowsCode}
+use Rattle.settled.specs.values.Allowing.{Allows, AllowsCode}
 use Rattle.settled.specs.Settled.{IsTypedDefault, AreTypedDefaults, IsSettled}
 use Rattle.extensions.specs.proving.Defaults.{IsDefaultOf, AreDefaultsOf, HasDefaults}
 use Rattle.typed_values.specs.declared.fault.ValueFault.{ValueFault}

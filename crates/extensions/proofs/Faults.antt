@@ -14,11 +14,11 @@ use Rattle.type_table.specs.Table.{members}
 use Rattle.resolve.specs.Program.{Program}
 use Rattle.value_notations.specs.Notations.{Notation}
 use Rattle.value_notations.specs.Values.{IsTyped, ValueIn}
-use Rattle.values.specs.Allowing.{Allows, AllowsCode}
-use Rattle.additions.specs.Additions.{KeepAdditions}
-use Rattle.additions.specs.Faults as additions
-use Rattle.additions.specs.declared.fault.ExtFault.{ExtFault as AdditionFault}
-use Rattle.additions.specs.declared.fault.ExtFault.TheVariants as markers
+use Rattle.settled.specs.values.Allowing.{Allows, AllowsCode}
+use Rattle.settled.specs.additions.Additions.{KeepAdditions}
+use Rattle.settled.specs.additions.Faults as additions
+use Rattle.settled.specs.additions.declared.fault.ExtFault.{ExtFault as AdditionFault}
+use Rattle.settled.specs.additions.declared.fault.ExtFault.TheVariants as markers
 use Rattle.typed_values.specs.declared.fault.Cause.TheVariants as causes
 use Rattle.typed_values.specs.declared.fault.ValueFault.{ValueFault}
 use Rattle.typed_values.specs.Faults as typed

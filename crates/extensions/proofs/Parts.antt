@@ -15,9 +15,9 @@ use Rattle.trees.specs.Types.{PresenceTree, mandatory, optional, default}
 use Rattle.type_table.specs.Table.{Kind, Part, Type', Is, members}
 use Rattle.resolve.specs.Program.{Program}
 use Rattle.tagging.specs.First as first
-use Rattle.additions.specs.Additions.{IsAdded, KeepAdditions, has_default}
-use Rattle.schema_of.specs.SchemaOf as schema_of
-use Rattle.schema_of.specs.SchemaOf.{AreComponentsOf, no_component, component_and, IsComponentOf, AreAlternativesOf, no_alternative, root_and, addition_and, IsAlternativeOf, IsPresenceOf}
+use Rattle.settled.specs.additions.Additions.{IsAdded, KeepAdditions, has_default}
+use Rattle.settled.specs.schema_of.SchemaOf as schema_of
+use Rattle.settled.specs.schema_of.SchemaOf.{AreComponentsOf, no_component, component_and, IsComponentOf, AreAlternativesOf, no_alternative, root_and, addition_and, IsAlternativeOf, IsPresenceOf}
 use Rattle.extensions.specs.proving.Defaults.{IsDefaultOf, AreDefaultsOf}
 use Rattle.extensions.specs.proving.Cores.{AreBehind, HaveNoDefaultBehind, IsCoreOf, IsGiven, is_optional}
 

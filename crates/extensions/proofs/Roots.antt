@@ -15,8 +15,8 @@ use Rattle.type_table.specs.Items.{numbers_of}
 use Rattle.type_table.specs.Lists.{IsSoundEnumeration}
 use Rattle.type_table.specs.Table.{simple}
 use Rattle.resolve.specs.Program.{Program}
-use Rattle.schema_of.specs.SchemaOf as schema_of
-use Rattle.schema_of.specs.SchemaOf.{IsRootItem, IsAddedItem}
+use Rattle.settled.specs.schema_of.SchemaOf as schema_of
+use Rattle.settled.specs.schema_of.SchemaOf.{IsRootItem, IsAddedItem}
 use Rattle.extensions.specs.proving.Cores.{IsCoreOf}
 use Rattle.extensions.specs.proving.Items.{item_with, with_numbers}
 use Rattle.extensions.proofs.Numbers.{placed, at_place, drop_get}

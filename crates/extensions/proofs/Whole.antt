@@ -9,8 +9,8 @@ use Rattle.type_table.specs.Seen.{kind_of}
 use Rattle.type_table.specs.Table.{Kind}
 use Rattle.resolve.specs.Program.{Program}
 use Rattle.tagging.specs.Tags.{Path, Tags, label}
-use Rattle.values.specs.Allowing.{Allows, AllowsCode}
-use Rattle.schema_of.specs.SchemaOf.{IsKindOf, IsTypeOf}
+use Rattle.settled.specs.values.Allowing.{Allows, AllowsCode}
+use Rattle.settled.specs.schema_of.SchemaOf.{IsKindOf, IsTypeOf}
 use Rattle.settled.specs.Settled.{IsSettledType, standing}
 use Rattle.extensions.specs.proving.Cores.{IsCoreIn, IsCoreOf, IsCoreType}
 

@@ -8,9 +8,9 @@ use Rattle.trees.specs.Types.{default}
 use Rattle.names.specs.Sources.{Value}
 use Rattle.type_table.specs.Table.{Part, Type', members}
 use Rattle.resolve.specs.Program.{Program, IsAssignment}
-use Rattle.additions.specs.Additions.{KeepAdditions}
-use Rattle.additions.specs.Faults as additions
-use Rattle.additions.specs.declared.fault.ExtFault.TheVariants as markers
+use Rattle.settled.specs.additions.Additions.{KeepAdditions}
+use Rattle.settled.specs.additions.Faults as additions
+use Rattle.settled.specs.additions.declared.fault.ExtFault.TheVariants as markers
 use Rattle.typed_values.specs.Faults as typed
 use Rattle.typed_values.specs.declared.fault.Cause.TheVariants as causes
 use Rattle.typed_values.specs.declared.fault.ValueFault.{ValueFault}

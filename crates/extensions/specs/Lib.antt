@@ -4,3 +4,7 @@
 pub mod Settles
 pub mod Faults
 pub mod proving
+pub use Rattle.settled.specs.additions as additions
+pub use Rattle.settled.specs.schema_of as schema_of
+pub use Rattle.settled.specs.spelled as spelled
+pub use Rattle.settled.specs.values as values

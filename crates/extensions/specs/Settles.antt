@@ -10,9 +10,9 @@ use Rattle.names.specs.Sources.{Value}
 use Rattle.resolve.specs.Program.{Program, IsAssignment}
 use Rattle.resolve.specs.Sound.{IsSound}
 use Rattle.value_notations.specs.Values.{IsTyped}
-use Rattle.values.specs.Allowing.{Allows, AllowsCode}
-use Rattle.additions.specs.Additions.{KeepAdditions}
-use Rattle.spelled.specs.Spelled.{AreSpelled}
+use Rattle.settled.specs.values.Allowing.{Allows, AllowsCode}
+use Rattle.settled.specs.additions.Additions.{KeepAdditions}
+use Rattle.settled.specs.spelled.Spelled.{AreSpelled}
 use Rattle.settled.specs.Settled.{AreTypedDefaults, IsSettled}
 
 -- The result of parsing and linking modules. Each name has one meaning, the lists and the names in them keep the rules,

@@ -3,7 +3,7 @@
 ghost use Rattle.std.specs.Prelude.{◌≡◌, ◌++◌, ◌∷◌, [], ◌<◌, ◌≤◌, IfOk, IfSome, OnOk, length, true};
 ghost use Rattle.asn_base.specs.Seen.{resolved_of, types_of};
 ghost use Rattle.type_table.specs.Lists.{AreSound};
-ghost use Rattle.additions.specs.Additions.{KeepAdditions};
+ghost use Rattle.settled.specs.additions.Additions.{KeepAdditions};
 ghost use Rattle.settled.specs.Settled.{IsSettled};
 ghost use Rattle.extensions.specs.proving.Cores.{AreAlike};
 ghost use Rattle.extensions.specs.proving.Tables.{AreEach, AreTabled, IsResolved, table_seen};

@@ -1,14 +1,14 @@
 //! Why bounded modules have no schema.
 
 ghost use Rattle.resolve.specs.Program.{Program};
-ghost use Rattle.additions.specs.Additions.{KeepAdditions};
-ghost use Rattle.additions.specs.Faults as markers;
+ghost use Rattle.settled.specs.additions.Additions.{KeepAdditions};
+ghost use Rattle.settled.specs.additions.Faults as markers;
 ghost use Rattle.settled.specs.Settled.{AreTypedDefaults};
 ghost use Rattle.extensions.specs.Faults.{IsFirstValue, Stands};
 ghost use Rattle.extensions.specs.proving.Tables.{Tells};
 
 use crate::wrong::Wrong;
-use additions::ExtFault as AdditionFault;
+use settled::additions::ExtFault as AdditionFault;
 use typed_values::ValueFault;
 
 /// Why bounded modules have no schema. A `ValueFault` names the notation, the type of the value and the module of the

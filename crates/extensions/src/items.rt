@@ -13,7 +13,7 @@ ghost use Rattle.type_table.specs.Lists.{IsSoundEnumeration};
 ghost use Rattle.type_table.specs.Seen.{behind_marker, more_of, root_of};
 ghost use Rattle.type_table.specs.Table.{simple};
 ghost use Rattle.resolve.specs.Program.{Program};
-ghost use Rattle.schema_of.specs.SchemaOf.{IsAddedItem, IsRootItem};
+ghost use Rattle.settled.specs.schema_of.SchemaOf.{IsAddedItem, IsRootItem};
 ghost use Rattle.extensions.specs.proving.Cores.{IsCoreOf};
 ghost use Rattle.extensions.specs.proving.Items.{DifferByNumber, item_with, with_numbers};
 

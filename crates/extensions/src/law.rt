@@ -5,9 +5,9 @@ ghost use Rattle.std.specs.List.{All};
 ghost use Rattle.trees.specs.Modules.{ModuleTree};
 ghost use Rattle.resolve.specs.Links.{Links};
 ghost use Rattle.resolve.specs.Program.{Program};
-ghost use Rattle.spelled.specs.Written.{IsSpelledModule};
+ghost use Rattle.settled.specs.spelled.Written.{IsSpelledModule};
 ghost use Rattle.extensions.specs.declared.fault.ExtFault.{ExtFault};
-ghost use Rattle.additions.specs.declared.fault.ExtFault.{ExtFault as AdditionFault};
+ghost use Rattle.settled.specs.additions.declared.fault.ExtFault.{ExtFault as AdditionFault};
 ghost use Rattle.typed_values.specs.declared.fault.ValueFault.{ValueFault};
 ghost use Rattle.typed_values.specs.Laws.{HaveFewNodes};
 ghost use Rattle.settled.specs.Settled.{AreTypedDefaults};
@@ -20,7 +20,7 @@ ghost use Rattle.extensions.specs.Settles.{IsRead, IsSettling};
 pub fn no_other()
     ensures { (p : Program) (e : ExtFault) → IsRead p → (e ≡ Memory → ⊥) → Stands p e → IsSettling p → ⊥ }
 {
-    additions::law::no_other();
+    settled::additions::law::no_other();
     typed_values::law::faults_exclude();
     value_notations::law::one_value();
 }
@@ -35,7 +35,7 @@ pub fn one_kind()
     ensures assigned_behind_defaults { (p : Program) (e f : ValueFault) → IsRead p → Stands p (Default e)
         → Stands p (Assigned f) → ⊥ }
 {
-    additions::law::no_other();
+    settled::additions::law::no_other();
     typed_values::law::faults_exclude();
     value_notations::law::one_value();
 }
@@ -58,6 +58,6 @@ pub fn one_place()
 pub fn linked_are_read()
     ensures { (ms : List ModuleTree) (p : Program) → Links ms p → All IsSpelledModule ms → IsRead p }
 {
-    spelled::law::types_are_spelled();
-    spelled::law::linked_are_sound();
+    settled::spelled::law::types_are_spelled();
+    settled::spelled::law::linked_are_sound();
 }

@@ -21,3 +21,6 @@ mod wrong;
 pub use accepted::settle;
 pub use fault::ExtFault;
 pub use schema::settled_types;
+
+// Libraries that crates above name through this one.
+pub use settled::{additions, schema_of, spelled, values};

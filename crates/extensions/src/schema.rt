@@ -10,9 +10,9 @@ use crate::defaults::all_defaults;
 use crate::each_type::all_types;
 use crate::fault::{ExtFault, of_additions, of_assigned};
 use crate::wrong::Wrong;
-use additions::additions;
 use asn_base::schema::Resolved;
 use constraints::Bounded;
+use settled::additions::additions;
 use std::alloc::Global;
 use typed_values::Defaults;
 

@@ -7,7 +7,7 @@ ghost use Rattle.type_table.specs.Lists.{AreSound};
 ghost use Rattle.type_table.specs.Seen.{kind_of};
 ghost use Rattle.type_table.specs.Table.{elements};
 ghost use Rattle.range_ends.specs.Ends.{IsOfKind};
-ghost use Rattle.additions.specs.Additions.{KeepAdditions};
+ghost use Rattle.settled.specs.additions.Additions.{KeepAdditions};
 ghost use Rattle.extensions.specs.proving.Defaults.{HasDefaults};
 ghost use Rattle.extensions.specs.proving.Cores.{AreAlike, IsCoreIn, IsCoreOf, IsCoreType};
 ghost use Rattle.extensions.specs.proving.Tables.{IsResolved, defaults_seen};

@@ -9,7 +9,7 @@ ghost use Rattle.typed_values.specs.declared.fault.Cause.TheVariants as causes;
 ghost use Rattle.typed_values.specs.Faults.{Stands};
 ghost use Rattle.typed_values.specs.Known.{AreKnown};
 ghost use Rattle.value_notations.specs.Values.{IsTyped};
-ghost use Rattle.values.specs.Allowing.{Allows, AllowsCode};
+ghost use Rattle.settled.specs.values.Allowing.{Allows, AllowsCode};
 ghost use Rattle.extensions.specs.Faults.{IsWrong};
 ghost use Rattle.extensions.specs.Settles.{HasValue};
 ghost use Rattle.extensions.specs.proving.Tables.{Tells};

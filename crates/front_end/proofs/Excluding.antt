@@ -15,7 +15,7 @@ use Rattle.trees.specs.Modules.{ModuleTree}
 use Rattle.names.specs.Modules.{AreNamed}
 use Rattle.resolve.specs.Links.{FaultsExclude, IsProgramOf, Links, IsLinkFault}
 use Rattle.resolve.specs.Program.{Program}
-use Rattle.spelled.specs.Written.{IsSpelledModule}
+use Rattle.extensions.specs.spelled.Written.{IsSpelledModule}
 use Rattle.tagging.specs.Faults as tagging
 use Rattle.tagging.specs.Tagged.{IsTagged}
 use Rattle.tagging.specs.declared.fault.TagFault.{TagFault}

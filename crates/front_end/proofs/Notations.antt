@@ -8,11 +8,11 @@ use Rattle.names.specs.Names.{IsApart}
 use Rattle.resolve.specs.Program.{Program}
 use Rattle.value_notations.specs.Notations.{Notation}
 use Rattle.value_notations.specs.Values.{ValueIn}
-use Rattle.values.specs.Allowing.{Allows, AllowsCode}
-use Rattle.typed_values.specs.declared.fault.Cause.TheVariants as causes
-use Rattle.typed_values.specs.declared.fault.ValueFault.{ValueFault}
-use Rattle.typed_values.specs.Faults as typed
-use Rattle.typed_values.specs.Laws.{HaveFewNodes}
+use Rattle.extensions.specs.values.Allowing.{Allows, AllowsCode}
+use Rattle.told_values.specs.typed_values.declared.fault.Cause.TheVariants as causes
+use Rattle.told_values.specs.typed_values.declared.fault.ValueFault.{ValueFault}
+use Rattle.told_values.specs.typed_values.Faults as typed
+use Rattle.told_values.specs.typed_values.Laws.{HaveFewNodes}
 use Rattle.extensions.specs.Faults.{IsWrong}
 use Rattle.front_end.specs.Accepted.{Keeps}
 use Rattle.front_end.specs.Untyped.{StandsFor}

@@ -18,8 +18,8 @@ use Rattle.resolve.specs.Links.{Links, IsLinkFault}
 use Rattle.resolve.specs.Program.{Program}
 use Rattle.tagging.specs.Tagged.{IsTagged}
 use Rattle.constraints.specs.Bounded.{AreBounded}
-use Rattle.additions.specs.declared.fault.ExtFault.{ExtFault as AdditionFault}
-use Rattle.typed_values.specs.declared.fault.ValueFault.{ValueFault}
+use Rattle.extensions.specs.additions.declared.fault.ExtFault.{ExtFault as AdditionFault}
+use Rattle.told_values.specs.typed_values.declared.fault.ValueFault.{ValueFault}
 use Rattle.extensions.specs.Faults as settling
 use Rattle.extensions.specs.Settles.{IsRead}
 use Rattle.extensions.specs.declared.fault.ExtFault.TheVariants as settled

@@ -7,9 +7,9 @@ use Rattle.trees.specs.Values.{Name, Tree}
 use Rattle.type_table.specs.Table.{Is, IsLinked, Part, members}
 use Rattle.resolve.specs.Links.{Links}
 use Rattle.resolve.specs.Program.{IsWhole, Program}
-use Rattle.typed_values.specs.declared.fault.Cause.TheVariants as causes
-use Rattle.typed_values.specs.declared.fault.ValueFault.{ValueFault}
-use Rattle.typed_values.specs.Faults as typed
+use Rattle.told_values.specs.typed_values.declared.fault.Cause.TheVariants as causes
+use Rattle.told_values.specs.typed_values.declared.fault.ValueFault.{ValueFault}
+use Rattle.told_values.specs.typed_values.Faults as typed
 use Rattle.extensions.specs.Faults.{IsFirstDefault}
 use Rattle.front_end.specs.Accepted.{IsModule}
 use Rattle.front_end.specs.Faults.{IsLinkedFault, Stands}

@@ -26,7 +26,7 @@ use Rattle.constraints.specs.Bounded.{AreBounded}
 use Rattle.constraints.specs.Faults as bounding
 use Rattle.constraints.specs.First as first_bounds
 use Rattle.constraints.specs.declared.fault.BoundFault.TheVariants as bounds
-use Rattle.typed_values.specs.declared.fault.ValueFault.{ValueFault}
+use Rattle.told_values.specs.typed_values.declared.fault.ValueFault.{ValueFault}
 use Rattle.extensions.specs.Faults as settling
 use Rattle.extensions.specs.declared.fault.ExtFault.TheVariants as settled
 use Rattle.told_values.specs.Told.{IsTold}

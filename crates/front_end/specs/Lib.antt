@@ -7,3 +7,7 @@ pub mod Faults
 pub mod Layers
 pub mod Untyped
 pub mod proving
+pub use Rattle.extensions.specs.additions as additions
+pub use Rattle.constraints.specs as constraints
+pub use Rattle.tagging.specs as tagging
+pub use Rattle.told_values.specs as told_values

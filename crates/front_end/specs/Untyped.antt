@@ -5,7 +5,7 @@ use Rattle.asn_base.specs.Abstract.{AbstractValue}
 use Rattle.trees.specs.Values.{Name, Tree}
 use Rattle.resolve.specs.Program.{Program}
 use Rattle.value_notations.specs.Values.{IsTyped}
-use Rattle.values.specs.Allowing.{Allows, AllowsCode}
+use Rattle.extensions.specs.values.Allowing.{Allows, AllowsCode}
 use Rattle.extensions.specs.Faults.{IsWrong}
 use Rattle.told_values.specs.declared.telling.ValueTold.{ValueTold}
 use Rattle.front_end.specs.Faults.{Tells}

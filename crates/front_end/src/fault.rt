@@ -3,8 +3,8 @@
 ghost use Rattle.std.specs.Prelude.{◌≡◌};
 ghost use Rattle.front_end.specs.declared.fault.FrontFault.TheVariants.{Memory};
 
-use additions::ExtFault;
 use constraints::BoundFault;
+use extensions::additions::ExtFault;
 use names::NameFault;
 use notation::SyntaxFault;
 use std::alloc::{AllocError, AllocFailed};

@@ -96,7 +96,7 @@ pub fn modules_are_read()
     ensures { (xs : List (List ℕ)) (ms : List ModuleTree) (p : Program) → AllZip IsModule xs ms → Links ms p
         → IsRead p }
 {
-    spelled::law::modules_are_spelled();
+    extensions::spelled::law::modules_are_spelled();
     extensions::law::linked_are_read();
 }
 
@@ -115,7 +115,7 @@ pub fn values_of_schema()
         StandsFor p M i n v →
         IsValue s i v }
 {
-    schema_of::law::same_values();
+    extensions::schema_of::law::same_values();
 }
 
 /// A notation in accepted texts means at most one value of a type.

@@ -11,3 +11,9 @@ mod reading;
 pub use fault::FrontFault;
 pub use front::{Front, open};
 pub use modules::{Modules, Untyped};
+
+// Libraries that crates above name through this one.
+pub use constraints;
+pub use extensions::additions;
+pub use tagging;
+pub use told_values;

@@ -16,9 +16,9 @@ use resolve::Linked;
 use std::alloc::Global;
 use std::marker::Model;
 use tagging::{TagTable, Tagged};
+use told_values::typed_values::{Cause, ValueFault, typed};
 use told_values::{ValueTold, told};
 use trees::ValueSyntax;
-use typed_values::{Cause, ValueFault, typed};
 
 /// Why a notation has no value.
 #[derive(Debug, Drop)]
@@ -67,7 +67,7 @@ fn told_of<'a>(
     requires stands { IsWrong bounded.now within.now ty.index (tree_of notation.now) fault }
     ensures { IsUntyped bounded.now within.now ty.index (tree_of notation.now) result }
 {
-    typed_values::law::faults_exclude();
+    told_values::typed_values::law::faults_exclude();
     value_notations::law::one_value();
     told_values::law::types_are_there();
     let linked = bounded.linked();

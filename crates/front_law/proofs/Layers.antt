@@ -25,7 +25,7 @@ use Rattle.extensions.specs.Settles.{IsRead, IsSettling}
 use Rattle.extensions.specs.declared.fault.ExtFault.{ExtFault}
 use Rattle.extensions.specs.declared.fault.ExtFault.TheVariants as settled
 use Rattle.asn_base.specs.Types.{Resolved}
-use Rattle.front_end.specs.Accepted.{Accepted, AreAccepted, IsModule}
+use Rattle.named_values.specs.front_end.Accepted.{Accepted, AreAccepted, IsModule}
 use Rattle.front_law.specs.Headline.{EachAccepts, ReturnsModule, NoneRefuses}
 
 -- ---- lists beside lists

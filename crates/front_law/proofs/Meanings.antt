@@ -11,12 +11,12 @@ use Rattle.names.specs.declared.scope.Assigned.{Assigned}
 use Rattle.names.specs.declared.scope.Assigned.TheVariants as assigned
 use Rattle.resolve.specs.Program.{Program, IsAssignment, IsWhole}
 use Rattle.value_notations.specs.Notations.{Notation}
-use Rattle.front_end.specs.Accepted.{HasTypes, Keeps}
-use Rattle.front_end.specs.Untyped.{StandsFor}
-use Rattle.front_end.specs.declared.modules.Untyped.{Untyped}
-use Rattle.front_end.specs.declared.modules.Untyped.TheVariants as untyped
-use Rattle.messages.specs.declared.fault.Fault.{Fault}
-use Rattle.messages.specs.declared.fault.Fault.TheVariants as messages
+use Rattle.named_values.specs.front_end.Accepted.{HasTypes, Keeps}
+use Rattle.named_values.specs.front_end.Untyped.{StandsFor}
+use Rattle.named_values.specs.front_end.declared.modules.Untyped.{Untyped}
+use Rattle.named_values.specs.front_end.declared.modules.Untyped.TheVariants as untyped
+use Rattle.named_values.specs.messages.declared.fault.Fault.{Fault}
+use Rattle.named_values.specs.messages.declared.fault.Fault.TheVariants as messages
 use Rattle.named_values.specs.Given.{Given}
 use Rattle.named_values.specs.Meant.{IsMeant, IsNotMeant}
 use Rattle.named_values.specs.Named.{IsNamed, TypeNamed, ValueNamed}

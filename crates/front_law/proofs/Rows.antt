@@ -58,15 +58,15 @@ use Rattle.extensions.specs.declared.fault.ExtFault.TheVariants as settled
 use Rattle.typed_values.specs.declared.fault.ValueFault.{ValueFault}
 use Rattle.told_values.specs.Told.{IsTold}
 use Rattle.told_values.specs.declared.telling.ValueTold.{ValueTold}
-use Rattle.front_end.specs.Accepted.{Accepted, AreAccepted, IsModule}
-use Rattle.front_end.specs.Faults.{Stands}
-use Rattle.front_end.specs.Layers.{layer}
-use Rattle.front_end.specs.Untyped.{IsNone, StandsFor}
-use Rattle.front_end.specs.declared.fault.FrontFault.{FrontFault}
-use Rattle.front_end.specs.declared.fault.FrontFault.TheVariants as faults
-use Rattle.front_end.specs.declared.modules.Untyped.TheVariants as untyped
-use Rattle.messages.specs.declared.fault.Fault.{Fault}
-use Rattle.messages.specs.declared.fault.Fault.TheVariants as messages
+use Rattle.named_values.specs.front_end.Accepted.{Accepted, AreAccepted, IsModule}
+use Rattle.named_values.specs.front_end.Faults.{Stands}
+use Rattle.named_values.specs.front_end.Layers.{layer}
+use Rattle.named_values.specs.front_end.Untyped.{IsNone, StandsFor}
+use Rattle.named_values.specs.front_end.declared.fault.FrontFault.{FrontFault}
+use Rattle.named_values.specs.front_end.declared.fault.FrontFault.TheVariants as faults
+use Rattle.named_values.specs.front_end.declared.modules.Untyped.TheVariants as untyped
+use Rattle.named_values.specs.messages.declared.fault.Fault.{Fault}
+use Rattle.named_values.specs.messages.declared.fault.Fault.TheVariants as messages
 use Rattle.named_values.specs.Given.{Given}
 use Rattle.named_values.specs.Meant.{IsMeant, IsNotMeant}
 use Rattle.named_values.specs.Named.{IsNamed, TypeNamed, ValueNamed}

@@ -18,11 +18,11 @@ use Rattle.schema_of.specs.SchemaOf.{IsSchemaOf}
 use Rattle.value_text.specs.Print.{print}
 use Rattle.printed_values.specs.LineEnds.{HasNoLineEnd}
 use Rattle.printed_values.specs.ReadBack.{IsReadBack}
-use Rattle.front_end.specs.Accepted.{Accepted, AreAccepted, Keeps}
-use Rattle.front_end.specs.Faults.{Stands}
-use Rattle.front_end.specs.Layers.{layer}
-use Rattle.front_end.specs.declared.fault.FrontFault.{FrontFault}
-use Rattle.front_end.specs.declared.fault.FrontFault.TheVariants as faults
+use Rattle.named_values.specs.front_end.Accepted.{Accepted, AreAccepted, Keeps}
+use Rattle.named_values.specs.front_end.Faults.{Stands}
+use Rattle.named_values.specs.front_end.Layers.{layer}
+use Rattle.named_values.specs.front_end.declared.fault.FrontFault.{FrontFault}
+use Rattle.named_values.specs.front_end.declared.fault.FrontFault.TheVariants as faults
 use Rattle.front_law.specs.Calls.{IsOpenResult, IsPrinted}
 use Rattle.front_law.specs.Headline.{AreRightlyAccepted, AreRightlyPrinted, EachAccepts, HasMeanings, IsFrontEnd}
 use Rattle.front_law.specs.Headline.{OpenResult}

@@ -32,13 +32,13 @@ use Rattle.constraints.specs.declared.fault.BoundFault.{BoundFault}
 use Rattle.extensions.specs.Faults as settling
 use Rattle.extensions.specs.Settles.{Settles}
 use Rattle.extensions.specs.declared.fault.ExtFault.{ExtFault}
-use Rattle.front_end.specs.Accepted.{Accepted, AreAccepted}
-use Rattle.front_end.specs.Faults.{Stands}
-use Rattle.front_end.specs.Untyped.{IsUntyped, StandsFor}
-use Rattle.front_end.specs.declared.fault.FrontFault.{FrontFault}
-use Rattle.front_end.specs.declared.fault.FrontFault.TheVariants as faults
-use Rattle.front_end.specs.declared.modules.Untyped.{Untyped}
-use Rattle.messages.specs.declared.fault.Fault.{Fault}
+use Rattle.named_values.specs.front_end.Accepted.{Accepted, AreAccepted}
+use Rattle.named_values.specs.front_end.Faults.{Stands}
+use Rattle.named_values.specs.front_end.Untyped.{IsUntyped, StandsFor}
+use Rattle.named_values.specs.front_end.declared.fault.FrontFault.{FrontFault}
+use Rattle.named_values.specs.front_end.declared.fault.FrontFault.TheVariants as faults
+use Rattle.named_values.specs.front_end.declared.modules.Untyped.{Untyped}
+use Rattle.named_values.specs.messages.declared.fault.Fault.{Fault}
 use Rattle.named_values.specs.Given.{Given}
 use Rattle.named_values.specs.Meant.{IsMeant, IsNotMeant}
 use Rattle.named_values.specs.Named.{Names, TypeNamed, ValueNamed}

@@ -34,14 +34,14 @@ use Rattle.printed_values.specs.LineEnds.{HasNoLineEnd}
 use Rattle.printed_values.specs.ReadBack.{IsReadBack}
 use Rattle.extensions.specs.declared.fault.ExtFault.{ExtFault}
 use Rattle.extensions.specs.declared.fault.ExtFault.TheVariants as settled
-use Rattle.front_end.specs.Accepted.{Accepted, AreAccepted, IsModule}
-use Rattle.front_end.specs.Untyped.{StandsFor}
-use Rattle.front_end.specs.declared.fault.FrontFault.{FrontFault}
-use Rattle.front_end.specs.declared.fault.FrontFault.TheVariants as faults
-use Rattle.front_end.specs.declared.modules.Untyped.{Untyped}
-use Rattle.front_end.specs.declared.modules.Untyped.TheVariants as untyped
-use Rattle.messages.specs.declared.fault.Fault.{Fault}
-use Rattle.messages.specs.declared.fault.Fault.TheVariants as messages
+use Rattle.named_values.specs.front_end.Accepted.{Accepted, AreAccepted, IsModule}
+use Rattle.named_values.specs.front_end.Untyped.{StandsFor}
+use Rattle.named_values.specs.front_end.declared.fault.FrontFault.{FrontFault}
+use Rattle.named_values.specs.front_end.declared.fault.FrontFault.TheVariants as faults
+use Rattle.named_values.specs.front_end.declared.modules.Untyped.{Untyped}
+use Rattle.named_values.specs.front_end.declared.modules.Untyped.TheVariants as untyped
+use Rattle.named_values.specs.messages.declared.fault.Fault.{Fault}
+use Rattle.named_values.specs.messages.declared.fault.Fault.TheVariants as messages
 use Rattle.named_values.specs.Given.{Given}
 use Rattle.named_values.specs.Meant.{IsMeant}
 use Rattle.named_values.specs.Named.{IsNamed, TypeNamed, ValueNamed}

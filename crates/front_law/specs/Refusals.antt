@@ -4,11 +4,11 @@ use Rattle.asn_base.specs.Types.{Resolved}
 use Rattle.text.specs.declared.fault.LexFault.{LexFault}
 use Rattle.notation.specs.declared.fault.SyntaxFault.{SyntaxFault}
 use Rattle.resolve.specs.Program.{Program}
-use Rattle.front_end.specs.Accepted.{AreAccepted}
-use Rattle.front_end.specs.Faults.{Stands}
-use Rattle.front_end.specs.Layers.{layer}
-use Rattle.front_end.specs.declared.fault.FrontFault.{FrontFault}
-use Rattle.front_end.specs.declared.fault.FrontFault.TheVariants as faults
+use Rattle.named_values.specs.front_end.Accepted.{AreAccepted}
+use Rattle.named_values.specs.front_end.Faults.{Stands}
+use Rattle.named_values.specs.front_end.Layers.{layer}
+use Rattle.named_values.specs.front_end.declared.fault.FrontFault.{FrontFault}
+use Rattle.named_values.specs.front_end.declared.fault.FrontFault.TheVariants as faults
 use Rattle.front_law.specs.Calls.{IsOpenResult}
 
 -- What the front end promises of texts of modules that are refused.

@@ -3,7 +3,7 @@
 
 ghost use Rattle.asn_base.specs.Abstract.{abstract};
 ghost use Rattle.extensions.specs.Settles.{IsRead};
-ghost use Rattle.front_end.specs.Accepted.{octets_of};
+ghost use Rattle.named_values.specs.front_end.Accepted.{octets_of};
 ghost use Rattle.front_law.specs.Calls.{IsBoundResult, IsLexResult, IsLinkResult, IsMeantResult, IsOpenResult};
 ghost use Rattle.front_law.specs.Calls.{IsParseResult, IsPrinted, IsSettleResult, IsTagResult, IsTypeResult};
 ghost use Rattle.front_law.specs.Calls.{IsTypedResult, IsValueResult};
@@ -17,9 +17,9 @@ use asn_base::schema::{Schema, TypeId};
 use asn_base::value::Value;
 use constraints::{BoundFault, Bounded};
 use extensions::ExtFault;
-use front_end::{Front, FrontFault, Modules, Untyped};
-use messages::Fault;
 use named_values::ValueGiven;
+use named_values::front_end::{Front, FrontFault, Modules, Untyped};
+use named_values::messages::Fault;
 use names::NameFault;
 use notation::SyntaxFault;
 use resolve::Linked;
@@ -93,7 +93,7 @@ pub fn opened(alloc: Global, texts: &[Vec<u8>]) -> Result<Front, FrontFault>
         (λ f. IsOpenResult (map octets_of texts.now) (Ok (f.modules, f.schema)))
         (λ e. IsOpenResult (map octets_of texts.now) (Err e)) }
 {
-    match front_end::open(alloc, texts) {
+    match named_values::front_end::open(alloc, texts) {
         Ok(front) => {
             front.modules.linked().whole();
             Ok(front)

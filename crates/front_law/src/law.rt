@@ -3,7 +3,7 @@
 ghost use Rattle.std.specs.Prelude.{List, ℕ};
 ghost use Rattle.front_law.specs.Headline.{IsFrontEnd};
 
-use front_end::law::{
+use named_values::front_end::law::{
     accepted_keep, faults_exclude, one_layer, one_list, one_program, values_of_schema,
 };
 use named_values::law::{one_meaning, one_name};

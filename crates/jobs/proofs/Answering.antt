@@ -4,7 +4,7 @@ use Rattle.std.specs.Prelude.{IfOk, decimal}
 use Rattle.asn_base.specs.Types.{Resolved}
 use Rattle.resolve.specs.Program.{Program}
 use Rattle.check_jobs.specs.Inputs.{line_of}
-use Rattle.messages.specs.declared.fault.Fault.TheVariants as faults
+use Rattle.asnc.specs.messages.declared.fault.Fault.TheVariants as faults
 use Rattle.jobs.specs.Answers.{IsAnswer, IsLineRefused, IsMarkedReport, IsTextOf, comment_of, has_end, without_ends}
 use Rattle.jobs.specs.declared.commands_of_lines.LineCommand.{LineCommand}
 use Rattle.jobs.specs.declared.refusals.LineFault.{LineFault}

@@ -3,11 +3,11 @@ use Rattle.std.proofs.Common.{◌≡◌, ◌⊎◌, inl, inr, ℕ, List}
 use Rattle.std.specs.Prelude.{String}
 use Rattle.std.specs.declared.alloc.Global.{Global}
 use Rattle.resolve.specs.Program.{Program}
-use Rattle.front_end.specs.Accepted.{AreAccepted}
+use Rattle.asnc.specs.front_end.Accepted.{AreAccepted}
 use Rattle.asnc.specs.Versions.{IsNotCompared}
-use Rattle.messages.specs.declared.fault.Fault.{Fault}
-use Rattle.messages.specs.declared.fault.Fault.TheVariants as faults
-use Rattle.named_values.specs.Named.{TypeNamed}
+use Rattle.asnc.specs.messages.declared.fault.Fault.{Fault}
+use Rattle.asnc.specs.messages.declared.fault.Fault.TheVariants as faults
+use Rattle.asnc.specs.named_values.Named.{TypeNamed}
 use Rattle.jobs.specs.Refusals.{IsNoAnswer, LacksType}
 
 -- a name without a type is a fault of accepted texts

@@ -7,8 +7,8 @@ use Rattle.hex.proofs.OnLiterals.{hex_on_literals}
 use Rattle.asn_base.specs.Types.{Resolved}
 use Rattle.encodings.specs.Rules.{Basic, Distinguished}
 use Rattle.resolve.specs.Program.{Program}
-use Rattle.front_end.specs.Accepted.{Accepted, AreAccepted, octets_of}
-use Rattle.front_end.specs.declared.fault.FrontFault.{FrontFault}
+use Rattle.asnc.specs.front_end.Accepted.{Accepted, AreAccepted, octets_of}
+use Rattle.asnc.specs.front_end.declared.fault.FrontFault.{FrontFault}
 use Rattle.asnc.specs.Kits.{IsNotOpened}
 use Rattle.asnc.specs.Packing.{IsPacked}
 use Rattle.asnc.specs.Reading.{IsReadAs}
@@ -17,8 +17,8 @@ use Rattle.asnc.specs.Differences.{AreCompared}
 use Rattle.later_versions.specs.Told.{says_later}
 use Rattle.later_versions.specs.declared.reason.Explained.TheVariants as explained
 use Rattle.asnc.specs.Writing.{IsAccountOf, IsEncoded}
-use Rattle.messages.specs.declared.fault.Fault.{Fault}
-use Rattle.messages.specs.declared.fault.Fault.TheVariants as faults
+use Rattle.asnc.specs.messages.declared.fault.Fault.{Fault}
+use Rattle.asnc.specs.messages.declared.fault.Fault.TheVariants as faults
 use Rattle.later_versions.specs.declared.reason.Difference.{Difference}
 use Rattle.sinks.specs.Sent.{SinkState, SentAll, SentFront}
 use Rattle.command_line.specs.declared.request.Job.{Job}

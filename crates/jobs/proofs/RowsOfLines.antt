@@ -9,7 +9,7 @@ use Rattle.asn_base.specs.Types.{Resolved}
 use Rattle.encodings.specs.Rules.{Rules}
 use Rattle.input_lines.specs.Lines.{lines_of}
 use Rattle.resolve.specs.Program.{Program}
-use Rattle.front_end.specs.Accepted.{Accepted, AreAccepted, octets_of}
+use Rattle.asnc.specs.front_end.Accepted.{Accepted, AreAccepted, octets_of}
 use Rattle.asnc.specs.Packing.{IsPacked}
 use Rattle.asnc.specs.Reading.{IsNotReadAs, IsReadAs}
 use Rattle.asnc.specs.Unpacking.{IsNotUnpackedAs, IsUnpackedAs}
@@ -21,9 +21,9 @@ use Rattle.command_line.specs.declared.request.ValueWords.TheVariants as value_w
 use Rattle.command_line.specs.declared.request.Verb.TheVariants as verbs
 use Rattle.check_jobs.specs.Inputs.{line_of}
 use Rattle.check_jobs.specs.declared.inputs.Inputs.{Inputs}
-use Rattle.messages.specs.declared.fault.Fault.{Fault}
-use Rattle.messages.specs.declared.fault.Fault.TheVariants as faults
-use Rattle.named_values.specs.Given.{written}
+use Rattle.asnc.specs.messages.declared.fault.Fault.{Fault}
+use Rattle.asnc.specs.messages.declared.fault.Fault.TheVariants as faults
+use Rattle.asnc.specs.named_values.Given.{written}
 use Rattle.reports.specs.Heading.{Begins}
 use Rattle.sinks.specs.Sent.{SinkState, SentAll, SentFront}
 use Rattle.jobs.specs.Answers.{HasEndInText, IsAnswer, IsBerText, IsDerText, IsLineRefused, IsMarkedReport, IsNotBerLine}

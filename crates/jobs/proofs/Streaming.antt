@@ -6,7 +6,7 @@ use Rattle.std.specs.Io.KnownBytes.{Appends}
 use Rattle.std.proofs.KnownBytes.{Appends-nil, Appends-trans}
 use Rattle.input_lines.specs.Lines.{HasNoLine, TakesLine, lines_of}
 use Rattle.sinks.specs.Sent.{SinkState, SentAll, SentFront}
-use Rattle.messages.specs.declared.fault.Fault.{Fault}
+use Rattle.asnc.specs.messages.declared.fault.Fault.{Fault}
 use Rattle.jobs.specs.Answers.{IsAnswer}
 use Rattle.jobs.specs.Streams.{AreAnswers, AreFirst, AreReplies, EndsStream, IsStopped, IsStreamed, IsStreamedInPart}
 use Rattle.jobs.specs.Streams.{Reply, Stream}

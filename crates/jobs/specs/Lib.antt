@@ -5,3 +5,6 @@ pub mod Done
 pub mod Outputs
 pub mod Refusals
 pub mod Streams
+pub use Rattle.asnc.specs as asnc
+pub use Rattle.check_jobs.specs.judging as judging
+pub use Rattle.asnc.specs.messages as messages

@@ -5,7 +5,7 @@ use Rattle.asn_base.specs.Types.{Resolved}
 use Rattle.encodings.specs.Account.{Account}
 use Rattle.encodings.specs.Rules.{Rules, Basic, Distinguished}
 use Rattle.resolve.specs.Program.{Program}
-use Rattle.front_end.specs.Accepted.{Accepted, octets_of}
+use Rattle.asnc.specs.front_end.Accepted.{Accepted, octets_of}
 use Rattle.asnc.specs.Packing.{IsPacked}
 use Rattle.asnc.specs.Reading.{IsReadAs}
 use Rattle.asnc.specs.Unpacking.{IsUnpackedAs}

@@ -2,10 +2,10 @@
 use Rattle.std.specs.Prelude.{◌≡◌, ◌⊎◌, ⊤, ℕ, List, map, string_bytes}
 use Rattle.asn_base.specs.Types.{Resolved}
 use Rattle.resolve.specs.Program.{Program}
-use Rattle.front_end.specs.Accepted.{Accepted, AreAccepted, octets_of}
-use Rattle.front_end.specs.declared.fault.FrontFault.{FrontFault}
-use Rattle.messages.specs.declared.fault.Fault.{Fault}
-use Rattle.messages.specs.declared.fault.Fault.TheVariants as faults
+use Rattle.asnc.specs.front_end.Accepted.{Accepted, AreAccepted, octets_of}
+use Rattle.asnc.specs.front_end.declared.fault.FrontFault.{FrontFault}
+use Rattle.asnc.specs.messages.declared.fault.Fault.{Fault}
+use Rattle.asnc.specs.messages.declared.fault.Fault.TheVariants as faults
 use Rattle.asnc.specs.Kits.{IsNotOpened}
 use Rattle.asnc.specs.Packing.{IsNotPacked}
 use Rattle.asnc.specs.Reading.{IsNotReadAs}
@@ -17,7 +17,7 @@ use Rattle.command_line.specs.declared.request.Verb.TheVariants as verbs
 use Rattle.check_jobs.specs.Checks.{IsNotChecked}
 use Rattle.check_jobs.specs.Inputs.{given_in, octets_given}
 use Rattle.check_jobs.specs.declared.inputs.Inputs.{Inputs}
-use Rattle.named_values.specs.Named.{TypeNamed}
+use Rattle.asnc.specs.named_values.Named.{TypeNamed}
 use Rattle.jobs.specs.Outputs.{rules_if}
 
 -- Why a command of asnc prints nothing in a program with its types. `octets` are those that the job gives. `list` is

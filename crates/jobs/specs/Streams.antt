@@ -5,11 +5,11 @@ use Rattle.std.specs.List.{list_all}
 use Rattle.asn_base.specs.Types.{Resolved}
 use Rattle.input_lines.specs.Lines.{lines_of}
 use Rattle.resolve.specs.Program.{Program}
-use Rattle.front_end.specs.Accepted.{Accepted, AreAccepted, octets_of}
+use Rattle.asnc.specs.front_end.Accepted.{Accepted, AreAccepted, octets_of}
 use Rattle.asnc.specs.Kits.{IsNotOpened}
-use Rattle.messages.specs.declared.fault.Fault.{Fault}
-use Rattle.messages.specs.declared.fault.Fault.TheVariants as faults
-use Rattle.named_values.specs.Named.{TypeNamed}
+use Rattle.asnc.specs.messages.declared.fault.Fault.{Fault}
+use Rattle.asnc.specs.messages.declared.fault.Fault.TheVariants as faults
+use Rattle.asnc.specs.named_values.Named.{TypeNamed}
 use Rattle.sinks.specs.Sent.{SinkState, SentAll, SentFront}
 use Rattle.jobs.specs.Answers.{IsAnswer}
 use Rattle.jobs.specs.declared.answers.Lines.{Lines}

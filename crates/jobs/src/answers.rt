@@ -7,23 +7,23 @@ ghost use Rattle.asn_base.specs.Types.{Resolved};
 ghost use Rattle.asnc.specs.Packing.{IsNotPacked};
 ghost use Rattle.asnc.specs.Reading.{rules_of};
 ghost use Rattle.asnc.specs.Writing.{IsNotEncoded};
-ghost use Rattle.named_values.specs.Given.{written};
+ghost use Rattle.asnc.specs.named_values.Given.{written};
 ghost use Rattle.resolve.specs.Program.{Program};
 ghost use Rattle.jobs.specs.Answers.{comment_of, digits_of, has_end, IsAnswer, IsBerText, IsDerText, IsLineRefused};
 ghost use Rattle.jobs.specs.Answers.{IsNotBerLine, IsNotHexadecimal, IsNotUnperLine, IsTextOf, IsUnperText};
 ghost use Rattle.jobs.specs.Answers.{IsUperText, RefusesLine};
 ghost use Rattle.jobs.specs.declared.commands_of_lines.LineCommand.{LineCommand as Command};
 ghost use Rattle.jobs.specs.declared.refusals.LineFault.TheVariants.{Refused};
-ghost use Rattle.messages.specs.declared.fault.Fault.TheVariants.{Memory};
+ghost use Rattle.asnc.specs.messages.declared.fault.Fault.TheVariants.{Memory};
 
 use crate::commands_of_lines::LineCommand;
 use crate::refusals::{LineFault, refusal_text};
+use asnc::messages::Fault;
 use asnc::{Kit, Rules, ValueGiven};
 use check_jobs::Output;
 use command_line::Job;
 use hex::FromHexError;
 use input_lines::LONGEST;
-use messages::Fault;
 use shown_texts::shown;
 use std::alloc::{AllocError, Global};
 

@@ -10,12 +10,12 @@ ghost use Rattle.command_line.specs.declared.request.Verb.TheVariants.{Check, La
 ghost use Rattle.jobs.specs.Outputs.{hex_line, rules_if, value_lines, Prints};
 ghost use Rattle.jobs.specs.Outputs.{PrintsAccount, PrintsBer, PrintsDer, PrintsUnper, PrintsUper};
 ghost use Rattle.jobs.specs.Refusals.{Refuses};
-ghost use Rattle.messages.specs.declared.fault.Fault.TheVariants.{Memory};
+ghost use Rattle.asnc.specs.messages.declared.fault.Fault.TheVariants.{Memory};
 
+use asnc::messages::Fault;
 use asnc::{Kit, Rules};
 use check_jobs::{ended, value_of};
 use command_line::{Job, Verb};
-use messages::Fault;
 use std::alloc::Global;
 
 /// A line of octets in hexadecimal.

@@ -17,3 +17,8 @@ pub use line_jobs::{LineJob, work_lines};
 pub use outputs::{output, work};
 pub use refusals::LineFault;
 pub use streams::stream;
+
+// Libraries that crates above name through this one.
+pub use asnc;
+pub use asnc::messages;
+pub use check_jobs::judging;

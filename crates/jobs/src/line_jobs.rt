@@ -3,17 +3,17 @@
 ghost use Rattle.std.specs.Prelude.{◌≡◌, ◌⊎◌, ◌<◌, ℕ, IfOk, IfErr, string_bytes};
 ghost use Rattle.input_lines.specs.Left.{left_of};
 ghost use Rattle.jobs.specs.Streams.{AreLinesDone, AreLinesDoneInPart, AreLinesStopped, IsNotBegun, IsUnnamed};
-ghost use Rattle.messages.specs.declared.fault.Fault.TheVariants.{Device};
+ghost use Rattle.asnc.specs.messages.declared.fault.Fault.TheVariants.{Device};
 ghost use Rattle.sinks.specs.Sent.{state};
 
 use crate::answers::Lines;
 use crate::commands_of_lines::LineCommand;
 use crate::streams::stream;
 use asnc::Kit;
+use asnc::messages::Fault;
 use check_jobs::Inputs;
 use command_line::Job;
 use input_lines::InputLines;
-use messages::Fault;
 use sinks::Sink;
 use std::alloc::Global;
 use std::io::Read;

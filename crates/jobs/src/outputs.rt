@@ -5,15 +5,15 @@ ghost use Rattle.command_line.specs.declared.request.Verb.TheVariants.{Check, La
 ghost use Rattle.jobs.specs.Done.{IsDone, IsDoneInPart};
 ghost use Rattle.jobs.specs.Outputs.{IsCommandOutput, IsOutput};
 ghost use Rattle.jobs.specs.Refusals.{IsCommandRefused, IsNoOutput};
-ghost use Rattle.messages.specs.declared.fault.Fault.TheVariants.{Device};
+ghost use Rattle.asnc.specs.messages.declared.fault.Fault.TheVariants.{Device};
 ghost use Rattle.sinks.specs.Sent.{state};
 
 use crate::commands::command_output;
 use crate::versions::later_output;
 use asnc::Kit;
+use asnc::messages::Fault;
 use check_jobs::{Inputs, Output, check_output};
 use command_line::{Job, Verb};
-use messages::Fault;
 use sinks::{Sink, send_all};
 use std::alloc::Global;
 

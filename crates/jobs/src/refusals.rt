@@ -4,8 +4,8 @@ ghost use Rattle.std.specs.Prelude.{◌≡◌, ◌++◌, IfOk, codes, string_byt
 ghost use Rattle.jobs.specs.Answers.{line_heading, without_ends, IsMarkedReport};
 ghost use Rattle.reports.specs.Heading.{Begins};
 
+use asnc::messages::Fault;
 use command_line::Job;
-use messages::Fault;
 use reports::report_line;
 use std::alloc::{AllocError, Global};
 

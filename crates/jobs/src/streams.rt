@@ -5,13 +5,13 @@ ghost use Rattle.input_lines.specs.Left.{left_of};
 ghost use Rattle.input_lines.specs.Lines.{HasNoLine, TakesLine};
 ghost use Rattle.jobs.specs.Answers.{IsAnswer};
 ghost use Rattle.jobs.specs.Streams.{stream_of, EndsStream, IsStopped, IsStreamed, IsStreamedInPart};
-ghost use Rattle.messages.specs.declared.fault.Fault.TheVariants.{Device};
+ghost use Rattle.asnc.specs.messages.declared.fault.Fault.TheVariants.{Device};
 ghost use Rattle.sinks.specs.Sent.{SentAll, SentFront, state};
 
 use crate::answers::{Lines, answer, too_long};
+use asnc::messages::Fault;
 use check_jobs::Output;
 use input_lines::{InputLines, NextLine};
-use messages::Fault;
 use sinks::{Sink, send_all};
 use std::alloc::Global;
 use std::io;

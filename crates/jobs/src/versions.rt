@@ -5,15 +5,15 @@ ghost use Rattle.asnc.specs.Differences.{AreCompared};
 ghost use Rattle.later_versions.specs.Told.{says_later as says_later'};
 ghost use Rattle.asnc.specs.Versions.{IsNotCompared};
 ghost use Rattle.check_jobs.specs.Inputs.{line_of};
-ghost use Rattle.front_end.specs.Accepted.{Accepted, octets_of};
+ghost use Rattle.asnc.specs.front_end.Accepted.{Accepted, octets_of};
 ghost use Rattle.jobs.specs.Outputs.{answer_text, IsAnswerLine};
 ghost use Rattle.jobs.specs.Refusals.{IsNewerFault, IsNoAnswer, LacksType};
-ghost use Rattle.messages.specs.declared.fault.Fault.TheVariants.{Memory};
+ghost use Rattle.asnc.specs.messages.declared.fault.Fault.TheVariants.{Memory};
 
+use asnc::messages::Fault;
 use asnc::{Explained, Kit};
 use check_jobs::{Inputs, Output, ended};
 use command_line::Job;
-use messages::Fault;
 use std::alloc::Global;
 
 /// Whether the answer is that the newer type is a later version.

@@ -5,12 +5,12 @@ use Rattle.asn_base.specs.Abstract.{AbstractValue}
 use Rattle.encodings.specs.Account.{Account}
 use Rattle.account_text.specs.Text.{IsTextOf}
 use Rattle.resolve.specs.Program.{Program}
-use Rattle.front_end.specs.Accepted.{AreAccepted, Keeps}
-use Rattle.front_end.specs.Faults.{Stands}
-use Rattle.front_end.specs.declared.fault.FrontFault.{FrontFault}
-use Rattle.front_end.specs.declared.fault.FrontFault.TheVariants as texts
-use Rattle.messages.specs.declared.fault.Fault.{Fault}
-use Rattle.messages.specs.declared.fault.Fault.TheVariants as faults
+use Rattle.named_values.specs.front_end.Accepted.{AreAccepted, Keeps}
+use Rattle.named_values.specs.front_end.Faults.{Stands}
+use Rattle.named_values.specs.front_end.declared.fault.FrontFault.{FrontFault}
+use Rattle.named_values.specs.front_end.declared.fault.FrontFault.TheVariants as texts
+use Rattle.named_values.specs.messages.declared.fault.Fault.{Fault}
+use Rattle.named_values.specs.messages.declared.fault.Fault.TheVariants as faults
 use Rattle.named_values.specs.Meant.{IsMeant, IsNotMeant}
 use Rattle.judging.specs.Judged.{IsAccountIn, IsNoAccount, IsNotJudged, IsNotJudgedOn, IsVerdictOn}
 use Rattle.account_checker.specs.declared.reason.Verdict.{Verdict}

@@ -7,8 +7,8 @@ use Rattle.encodings.specs.Encoding.{Ber}
 use Rattle.account_checker.specs.declared.reason.Reason.TheVariants.{NotOfType}
 use Rattle.account_checker.specs.declared.reason.Verdict.TheVariants.{Yes, No}
 use Rattle.account_text.specs.Text.{IsTextOf}
-use Rattle.front_end.specs.Accepted.{Accepted}
-use Rattle.front_end.specs.Untyped.{StandsFor}
+use Rattle.named_values.specs.front_end.Accepted.{Accepted}
+use Rattle.named_values.specs.front_end.Untyped.{StandsFor}
 use Rattle.named_values.specs.Meant.{IsMeant}
 use Rattle.judging.specs.Judged.{IsAccountIn, IsConfirmed, IsVerdict, IsVerdictOn, IsJudged, answer_of}
 use Rattle.named_values.specs.Given.{Given}

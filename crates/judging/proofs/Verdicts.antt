@@ -9,7 +9,7 @@ use Rattle.account_checker.specs.declared.reason.Verdict.{Verdict}
 use Rattle.account_checker.specs.declared.reason.Verdict.TheVariants.{Yes, No}
 use Rattle.account_text.specs.Text.{IsTextOf}
 use Rattle.resolve.specs.Program.{Program}
-use Rattle.front_end.specs.Accepted.{Keeps}
+use Rattle.named_values.specs.front_end.Accepted.{Keeps}
 use Rattle.named_values.specs.Meant.{IsMeant}
 use Rattle.judging.specs.Judged.{IsVerdict, IsVerdictOn}
 use Rattle.named_values.specs.Given.{Given}

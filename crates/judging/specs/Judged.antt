@@ -14,12 +14,12 @@ use Rattle.account_checker.specs.declared.reason.Verdict.TheVariants.{Yes, No}
 use Rattle.account_text.specs.Text.{IsTextOf}
 use Rattle.trees.specs.Values.{Name, Tree}
 use Rattle.resolve.specs.Program.{Program}
-use Rattle.front_end.specs.Accepted.{Accepted, AreAccepted}
-use Rattle.front_end.specs.Faults.{Stands}
-use Rattle.front_end.specs.Untyped.{StandsFor}
-use Rattle.front_end.specs.declared.fault.FrontFault.TheVariants as texts
-use Rattle.messages.specs.declared.fault.Fault.{Fault}
-use Rattle.messages.specs.declared.fault.Fault.TheVariants as faults
+use Rattle.named_values.specs.front_end.Accepted.{Accepted, AreAccepted}
+use Rattle.named_values.specs.front_end.Faults.{Stands}
+use Rattle.named_values.specs.front_end.Untyped.{StandsFor}
+use Rattle.named_values.specs.front_end.declared.fault.FrontFault.TheVariants as texts
+use Rattle.named_values.specs.messages.declared.fault.Fault.{Fault}
+use Rattle.named_values.specs.messages.declared.fault.Fault.TheVariants as faults
 use Rattle.named_values.specs.Meant.{IsMeant, IsNotMeant}
 use Rattle.named_values.specs.Named.{AreGiven}
 use Rattle.named_values.specs.Given.{Given}

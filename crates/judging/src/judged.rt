@@ -3,8 +3,8 @@
 ghost use Rattle.std.specs.Prelude.{◌≡◌, List, map, ℕ, IfOk, IfErr};
 ghost use Rattle.asn_base.specs.Abstract.{abstract};
 ghost use Rattle.encodings.specs.Account.{Account as Account'};
-ghost use Rattle.front_end.specs.Accepted.{octets_of};
-ghost use Rattle.front_end.specs.Faults.{Stands};
+ghost use Rattle.named_values.specs.front_end.Accepted.{octets_of};
+ghost use Rattle.named_values.specs.front_end.Faults.{Stands};
 ghost use Rattle.judging.specs.Judged.{IsAccountIn, IsJudged, IsVerdict, IsVerdictOn};
 ghost use Rattle.judging.specs.Judged.{IsNoAccount, IsNotJudged, IsNotJudgedOn};
 ghost use Rattle.named_values.specs.Given.{Given, as_given};
@@ -14,8 +14,8 @@ use account_checker::reason::Verdict;
 use account_text::{AccountFault, from_json, stop_of};
 use asn_base::schema::{Schema, TypeId};
 use asn_base::value::Value;
-use front_end::{FrontFault, Modules};
-use messages::Fault;
+use named_values::front_end::{FrontFault, Modules};
+use named_values::messages::Fault;
 use named_values::{ValueGiven, meant};
 use octet_account::account::Account;
 use std::alloc::Global;
@@ -124,7 +124,7 @@ pub fn judge(
     // A fault is true, and is the first one in the order above.
     ensures refused { IfErr result (IsNotJudged (map octets_of texts.now) ty.now (as_given value.entry) account.now) }
 {
-    let front = match front_end::open(alloc, texts) {
+    let front = match named_values::front_end::open(alloc, texts) {
         Ok(front) => front,
         Err(fault) => return Err(refusal(fault)),
     };

@@ -5,16 +5,16 @@ ghost use Rattle.asn_base.specs.Types.{Resolved};
 ghost use Rattle.account_checker.specs.declared.reason.Verdict.{Verdict};
 ghost use Rattle.account_checker.specs.declared.reason.Verdict.TheVariants.{Yes};
 ghost use Rattle.resolve.specs.Program.{Program};
-ghost use Rattle.front_end.specs.Accepted.{Keeps};
-ghost use Rattle.messages.specs.declared.fault.Fault.{Fault};
-ghost use Rattle.messages.specs.declared.fault.Fault.TheVariants.{Memory};
+ghost use Rattle.named_values.specs.front_end.Accepted.{Keeps};
+ghost use Rattle.named_values.specs.messages.declared.fault.Fault.{Fault};
+ghost use Rattle.named_values.specs.messages.declared.fault.Fault.TheVariants.{Memory};
 ghost use Rattle.judging.specs.Judged.{IsConfirmed, IsJudged, IsNotJudged, IsNotJudgedOn, IsVerdictOn};
 ghost use Rattle.named_values.specs.Given.{Given};
 
 use account_checker::law::one_reason;
 use account_text::law::one_account_of_a_text;
 use encodings::account_laws;
-use front_end::law::{accepted_keep, faults_exclude, values_of_schema};
+use named_values::front_end::law::{accepted_keep, faults_exclude, values_of_schema};
 use named_values::law::one_meaning;
 
 /// What a yes alone means, whoever made the octets and the account. The octets are an encoding of the value that the
@@ -56,5 +56,5 @@ pub fn one_verdict()
     one_account_of_a_text();
     accepted_keep();
     faults_exclude();
-    front_end::law::one_program();
+    named_values::front_end::law::one_program();
 }

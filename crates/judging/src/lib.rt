@@ -10,3 +10,7 @@ pub use account_checker::reason::{Reason, Verdict};
 pub use judged::judge;
 pub use named_values::ValueGiven;
 pub use words::answer;
+
+// Libraries that crates above name through this one.
+pub use named_values;
+pub use named_values::{front_end, messages};

@@ -9,19 +9,19 @@ use Rattle.notation.specs.declared.fault.SyntaxFault.TheVariants as trees
 use Rattle.names.specs.declared.fault.Limit.TheVariants as name_limits
 use Rattle.names.specs.declared.fault.NameFault.{NameFault}
 use Rattle.names.specs.declared.fault.NameFault.TheVariants as names
-use Rattle.tagging.specs.declared.fault.Limit.TheVariants as tag_limits
-use Rattle.tagging.specs.declared.fault.TagFault.{TagFault}
-use Rattle.tagging.specs.declared.fault.TagFault.TheVariants as tags
-use Rattle.constraints.specs.declared.fault.BoundFault.{BoundFault}
-use Rattle.constraints.specs.declared.fault.BoundFault.TheVariants as bounds
-use Rattle.additions.specs.declared.fault.ExtFault.{ExtFault}
-use Rattle.additions.specs.declared.fault.ExtFault.TheVariants as additions
+use Rattle.front_end.specs.tagging.declared.fault.Limit.TheVariants as tag_limits
+use Rattle.front_end.specs.tagging.declared.fault.TagFault.{TagFault}
+use Rattle.front_end.specs.tagging.declared.fault.TagFault.TheVariants as tags
+use Rattle.front_end.specs.constraints.declared.fault.BoundFault.{BoundFault}
+use Rattle.front_end.specs.constraints.declared.fault.BoundFault.TheVariants as bounds
+use Rattle.front_end.specs.additions.declared.fault.ExtFault.{ExtFault}
+use Rattle.front_end.specs.additions.declared.fault.ExtFault.TheVariants as additions
 use Rattle.decode_faults.specs.declared.read_fault.ReadFault.{ReadFault}
 use Rattle.decode_faults.specs.declared.read_fault.ReadFault.TheVariants as readings
 use Rattle.decode_faults.specs.declared.refusal.Refusal.{Refusal}
 use Rattle.decode_faults.specs.declared.refusal.Refusal.TheVariants as packed
-use Rattle.told_values.specs.declared.telling.Reason.{Reason}
-use Rattle.told_values.specs.declared.telling.Reason.TheVariants as reasons
+use Rattle.front_end.specs.told_values.declared.telling.Reason.{Reason}
+use Rattle.front_end.specs.told_values.declared.telling.Reason.TheVariants as reasons
 use Rattle.front_end.specs.declared.fault.FrontFault.{FrontFault}
 use Rattle.front_end.specs.declared.fault.FrontFault.TheVariants as fronts
 use Rattle.messages.specs.declared.fault.NotationFault.{NotationFault}

@@ -5,15 +5,15 @@ ghost use Rattle.messages.specs.Classes.{name_class_of, tag_class_of, bit_class_
 ghost use Rattle.messages.specs.Classes.{addition_class_of, notation_class_of, reason_class_of, read_class_of};
 
 use crate::fault::{Fault, NotationFault};
-use additions::ExtFault;
-use constraints::BoundFault;
 use decode_faults::{ReadFault, Refusal};
 use front_end::FrontFault;
+use front_end::additions::ExtFault;
+use front_end::constraints::BoundFault;
+use front_end::tagging::TagFault;
+use front_end::told_values::Reason;
 use names::{Limit, NameFault};
 use notation::SyntaxFault;
-use tagging::TagFault;
 use text::LexFault;
-use told_values::Reason;
 
 /// A number and a name.
 #[derive(Clone, Copy)]
@@ -120,8 +120,8 @@ fn of_tag(fault: &TagFault) -> Class
 {
     match fault {
         TagFault::Memory => is(1, "Memory"),
-        TagFault::Limit(tagging::Limit::Tags, _) => is(2, "Limit(Tags)"),
-        TagFault::Limit(tagging::Limit::TagNumber, _) => is(2, "Limit(TagNumber)"),
+        TagFault::Limit(front_end::tagging::Limit::Tags, _) => is(2, "Limit(Tags)"),
+        TagFault::Limit(front_end::tagging::Limit::TagNumber, _) => is(2, "Limit(TagNumber)"),
         TagFault::TagClash(_) => is(40, "TagClash"),
         TagFault::ImplicitChoice(_) => is(41, "ImplicitChoice"),
         TagFault::UntaggedChoice(_) => is(42, "UntaggedChoice"),

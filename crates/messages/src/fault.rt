@@ -9,11 +9,11 @@ use crate::classes::told_class;
 use account_text::Stop;
 use decode_faults::{ReadFault, Refusal};
 use front_end::FrontFault;
+use front_end::told_values::ValueTold;
 use notation::SyntaxFault;
 use std::alloc::{AllocError, AllocFailed};
 use text::LexFault;
 use thiserror::Error;
-use told_values::ValueTold;
 
 /// What was found in octets that are refused, and what was expected in its place, in words.
 #[derive(Debug, Drop)]

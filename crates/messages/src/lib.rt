@@ -5,3 +5,7 @@ mod classes;
 mod fault;
 
 pub use fault::{Fault, Finding, NotationFault, Unread, UnreadBits, name, number, status};
+
+// Libraries that crates above name through this one.
+pub use front_end;
+pub use front_end::told_values;

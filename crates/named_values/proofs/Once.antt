@@ -10,9 +10,9 @@ use Rattle.names.specs.Faults.{module_told}
 use Rattle.names.specs.Names.{Module, Meaning, own, imported, IsApart, under}
 use Rattle.range_ends.specs.Ends.{IsValueAt}
 use Rattle.resolve.specs.Program.{Program}
-use Rattle.front_end.specs.Accepted.{Keeps}
-use Rattle.front_end.specs.Untyped.{StandsFor}
-use Rattle.told_values.specs.declared.telling.ValueTold.{ValueTold}
+use Rattle.messages.specs.front_end.Accepted.{Keeps}
+use Rattle.messages.specs.front_end.Untyped.{StandsFor}
+use Rattle.messages.specs.told_values.declared.telling.ValueTold.{ValueTold}
 use Rattle.text.specs.declared.fault.LexFault.{LexFault}
 use Rattle.notation.specs.declared.fault.SyntaxFault.{SyntaxFault}
 use Rattle.messages.specs.declared.fault.Fault.{Fault}

@@ -4,3 +4,5 @@
 pub mod Given
 pub mod Named
 pub mod Meant
+pub use Rattle.messages.specs.front_end as front_end
+pub use Rattle.messages.specs as messages

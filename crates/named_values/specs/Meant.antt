@@ -6,8 +6,8 @@ use Rattle.asn_base.specs.Abstract.{AbstractValue}
 use Rattle.trees.specs.Values.{Name, Tree}
 use Rattle.names.specs.Faults.{module_told}
 use Rattle.resolve.specs.Program.{Program}
-use Rattle.front_end.specs.Untyped.{StandsFor, IsNone}
-use Rattle.told_values.specs.declared.telling.ValueTold.{ValueTold}
+use Rattle.messages.specs.front_end.Untyped.{StandsFor, IsNone}
+use Rattle.messages.specs.told_values.declared.telling.ValueTold.{ValueTold}
 use Rattle.messages.specs.declared.fault.Fault.{Fault}
 use Rattle.messages.specs.declared.fault.Fault.TheVariants as faults
 use Rattle.messages.specs.declared.fault.NotationFault.{NotationFault}

@@ -6,19 +6,19 @@ ghost use Rattle.std.specs.Global.{Global};
 ghost use Rattle.asn_base.specs.Abstract.{AbstractValue};
 ghost use Rattle.names.specs.declared.scope.Assigned.{Assigned};
 ghost use Rattle.resolve.specs.Program.{Program};
-ghost use Rattle.front_end.specs.Accepted.{Keeps};
+ghost use Rattle.messages.specs.front_end.Accepted.{Keeps};
 ghost use Rattle.text.specs.declared.fault.LexFault.{LexFault};
 ghost use Rattle.notation.specs.declared.fault.SyntaxFault.{SyntaxFault};
 ghost use Rattle.messages.specs.declared.fault.Fault.{Fault};
 ghost use Rattle.messages.specs.declared.fault.Fault.TheVariants.{Memory, NoType, NoValue, Notation, Value};
 ghost use Rattle.messages.specs.declared.fault.NotationFault.{NotationFault as NotationFault'};
 ghost use Rattle.messages.specs.declared.fault.NotationFault.TheVariants.{Octets, Tokens};
-ghost use Rattle.told_values.specs.declared.telling.ValueTold.{ValueTold};
+ghost use Rattle.messages.specs.told_values.declared.telling.ValueTold.{ValueTold};
 ghost use Rattle.named_values.specs.Given.{Given};
 ghost use Rattle.named_values.specs.Meant.{IsMeant, IsNotMeant, StandsForNone};
 ghost use Rattle.named_values.specs.Named.{IsNamed};
 
-use front_end::law::one_value;
+use messages::front_end::law::one_value;
 use written_values::law::{one_fault, one_notation, wrong_texts_are_none};
 
 /// A name of a type and a value that is given mean at most one value of one type. If they mean one, the only refusal is

@@ -10,3 +10,7 @@ mod naming;
 pub use given::ValueGiven;
 pub use meaning::meant;
 pub use naming::{notation_at, type_number, value_number};
+
+// Libraries that crates above name through this one.
+pub use messages;
+pub use messages::front_end;

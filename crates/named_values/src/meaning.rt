@@ -13,10 +13,10 @@ use crate::given::ValueGiven;
 use crate::naming::{module_in, notation_at, type_number, value_number};
 use asn_base::schema::TypeId;
 use asn_base::value::Value;
-use front_end::{Modules, Untyped};
+use messages::front_end::{Modules, Untyped};
+use messages::told_values::ValueTold;
 use messages::{Fault, NotationFault};
 use std::alloc::{AllocError, Global};
-use told_values::ValueTold;
 use written_values::{WrittenFault, notation_of};
 
 /// The value that the notation of a value stands for under a type, both found by their names.

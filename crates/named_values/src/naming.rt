@@ -9,7 +9,7 @@ ghost use Rattle.resolve.specs.Program.{IsThere};
 ghost use Rattle.named_values.specs.Named.{IsNamed, IsQualified, IsWithin, Names, TypeNamed, ValueNamed};
 
 use asn_base::schema::TypeId;
-use front_end::Modules;
+use messages::front_end::Modules;
 use names::{Assigned, ValueAt};
 use resolve::Linked;
 use trees::ValueSyntax;

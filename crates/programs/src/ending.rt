@@ -2,11 +2,11 @@
 
 ghost use Rattle.std.specs.Prelude.{◌≡◌, ◌⊎◌};
 ghost use Rattle.std.specs.Process.{exit_status};
-ghost use Rattle.messages.specs.Classes.{number_of};
-ghost use Rattle.messages.specs.Status.{status_of};
+ghost use Rattle.reports.specs.messages.Classes.{number_of};
+ghost use Rattle.reports.specs.messages.Status.{status_of};
 
 use command_line::Job;
-use messages::{Fault, status};
+use reports::messages::{Fault, status};
 use reports::report;
 use std::io;
 use std::process::ExitCode;

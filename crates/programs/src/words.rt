@@ -5,7 +5,7 @@ ghost use Rattle.command_line.specs.CommandLine.{IsAsked};
 
 use check_jobs::refusal;
 use command_line::{Job, job};
-use messages::Fault;
+use reports::messages::Fault;
 use std::env;
 
 /// The words of the command line, the first of them the product's name.

@@ -14,8 +14,8 @@ use Rattle.constraints.specs.declared.fault.BoundFault.{BoundFault}
 use Rattle.constraints.specs.declared.fault.BoundFault.TheVariants as bounds
 use Rattle.additions.specs.declared.fault.ExtFault.{ExtFault}
 use Rattle.additions.specs.declared.fault.ExtFault.TheVariants as additions
-use Rattle.front_end.specs.declared.fault.FrontFault.{FrontFault}
-use Rattle.front_end.specs.declared.fault.FrontFault.TheVariants as fronts
+use Rattle.messages.specs.front_end.declared.fault.FrontFault.{FrontFault}
+use Rattle.messages.specs.front_end.declared.fault.FrontFault.TheVariants as fronts
 use Rattle.messages.specs.declared.fault.Fault.{Fault}
 use Rattle.messages.specs.declared.fault.Fault.TheVariants as faults
 

@@ -1,8 +1,8 @@
 //! The text and the octet at which a fault is.
 
 use crate::spots::{octet_told, spot, text_told, token_told};
-use front_end::FrontFault;
 use messages::Fault;
+use messages::front_end::FrontFault;
 use names::NameFault;
 use shown_texts::{is_kind, spelled_at, start, tokens_in};
 use std::alloc::{AllocError, Global};

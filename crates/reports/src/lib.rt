@@ -14,3 +14,7 @@ mod spots;
 mod told;
 
 pub use told::{report, report_line};
+
+// Libraries that crates above name through this one.
+pub use messages;
+pub use messages::front_end;

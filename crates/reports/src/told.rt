@@ -14,8 +14,8 @@ use crate::of_types::{of_additions, of_bounds, of_tags};
 use crate::of_values::of_value;
 use crate::spots::{names_at, texts_at};
 use command_line::{Job, ValueWords};
-use front_end::FrontFault;
 use messages::Fault;
+use messages::front_end::FrontFault;
 use shown_texts::{context, escaped, line_and_column, on_one_line};
 use std::alloc::{AllocError, Global};
 

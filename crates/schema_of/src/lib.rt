@@ -2,3 +2,6 @@
 #![tactic(auto)]
 
 pub mod law;
+
+// Libraries that crates above name through this one.
+pub use values;

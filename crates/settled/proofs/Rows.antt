@@ -15,7 +15,7 @@ use Rattle.trees.specs.declared.module.TagDefault.TheVariants.{Explicit as Expli
 use Rattle.trees.specs.Types.{a_restricted_string, a_boolean, mandatory}
 use Rattle.type_table.specs.Table.{IsCore, walk, Kind, Type', simple, reference, tagged, members, Is}
 use Rattle.resolve.specs.Program.{Program, IsAssignment}
-use Rattle.values.specs.Allowing.{Allows, AllowsCode}
+use Rattle.schema_of.specs.values.Allowing.{Allows, AllowsCode}
 use Rattle.schema_of.specs.SchemaOf.{IsTypeOf, boolean as boolean_kind}
 use Rattle.tagging.specs.declared.path.TagForm.TheVariants.{Implicit, Explicit}
 use Rattle.tagging.specs.Tags.{Path, label, universal_tag, Written, core, behind, inside, as_written, numbered}

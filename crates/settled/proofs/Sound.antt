@@ -24,7 +24,7 @@ use Rattle.type_table.specs.Lists.{AreSound}
 use Rattle.resolve.specs.Program.{Program, IsAssignment}
 use Rattle.value_notations.specs.Notations.{Notation}
 use Rattle.value_notations.specs.Values as values
-use Rattle.values.specs.Allowing.{Allows, AllowsCode}
+use Rattle.schema_of.specs.values.Allowing.{Allows, AllowsCode}
 use Rattle.spelled.specs.Spelled.{IsSpelledKind}
 use Rattle.schema_of.specs.SchemaOf as schema_of
 use Rattle.schema_of.specs.SchemaOf.{IsKindOf, IsSchemaOf, AreComponentsOf}

@@ -2,3 +2,7 @@
 -- program must fulfil for that schema to be accepted.
 pub mod Settled
 pub mod Parts
+pub use Rattle.additions.specs as additions
+pub use Rattle.schema_of.specs as schema_of
+pub use Rattle.spelled.specs as spelled
+pub use Rattle.schema_of.specs.values as values

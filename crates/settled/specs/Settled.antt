@@ -18,7 +18,7 @@ use Rattle.tagging.specs.declared.path.TagForm.TheVariants.{Implicit, Explicit}
 use Rattle.tagging.specs.Tags.{Label, Path, Tags, label}
 use Rattle.constraints.specs.Allowed.{IsConstraintOf, AreCodesOf}
 use Rattle.value_notations.specs.Values.{IsTyped}
-use Rattle.values.specs.Allowing.{Allows, AllowsCode}
+use Rattle.schema_of.specs.values.Allowing.{Allows, AllowsCode}
 use Rattle.schema_of.specs.SchemaOf.{IsSchemaOf}
 
 -- ---- tags

@@ -3,3 +3,9 @@
 #![tactic(auto)]
 
 pub mod law;
+
+// Libraries that crates above name through this one.
+pub use additions;
+pub use schema_of;
+pub use schema_of::values;
+pub use spelled;

@@ -1,2 +1,3 @@
 pub mod Told
 pub mod proving
+pub use Rattle.typed_values.specs as typed_values

@@ -6,10 +6,10 @@ use crate::naming::field_at;
 use asn_base::constraint::Range;
 use asn_base::schema::TypeId;
 use asn_base::strings::StringKind;
-use constraints::{Bounded, alphabet, constraint, range};
 use std::alloc::{AllocError, Global};
 use trees::{EnumeratedSyntax, ListKind, NamedBit, Simple, ValueSyntax};
 use type_table::{ListMember, Shape};
+use typed_values::constraints::{Bounded, alphabet, constraint, range};
 use typed_values::{Cause, ValueFault};
 
 /// The most characters of a list of words.

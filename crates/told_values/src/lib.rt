@@ -9,3 +9,6 @@ mod telling;
 
 pub use expected::of_ranges;
 pub use telling::{Reason, ValueTold, number, told};
+
+// Libraries that crates above name through this one.
+pub use typed_values;

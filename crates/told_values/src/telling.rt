@@ -7,12 +7,12 @@ ghost use Rattle.told_values.specs.proving.Pointed.{Points};
 
 use crate::expected::expected;
 use crate::naming::{component_name, field_at, name_in, prefix_in};
-use constraints::Bounded;
 use names::fault::spot;
 use resolve::Linked;
 use std::alloc::{AllocError, Global};
 use thiserror::Error;
 use trees::{Spot, ValueSyntax};
+use typed_values::constraints::Bounded;
 use typed_values::{Cause, Place, ValueFault};
 
 /// Why a notation stands for no value of a type.

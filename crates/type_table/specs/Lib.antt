@@ -12,3 +12,6 @@ pub mod Faults
 pub mod ListFaults
 pub mod FirstInList
 pub mod proving
+pub use Rattle.asn_base.specs as asn_base
+pub use Rattle.names.specs as names
+pub use Rattle.trees.specs as trees

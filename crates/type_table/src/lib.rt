@@ -11,3 +11,8 @@ pub mod unfolding;
 
 pub use items::{NumberFault, item_numbers};
 pub use table::{ListMember, Shape, Written};
+
+// Libraries that crates above name through this one.
+pub use asn_base;
+pub use names;
+pub use trees;

@@ -4,3 +4,4 @@ pub mod Faults
 pub mod Known
 pub mod Laws
 pub mod proving
+pub use Rattle.values.specs.constraints as constraints

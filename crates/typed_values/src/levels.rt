@@ -6,10 +6,10 @@ ghost use Rattle.value_notations.specs.Values.{MayBeAbsent};
 ghost use Rattle.values.specs.Allowing.{Allows, AllowsCode};
 ghost use Rattle.typed_values.specs.Known.{AreKnown, IsListed};
 
-use constraints::Bounded;
 use std::alloc::{AllocError, Global};
 use std::marker::Model;
 use type_table::ListMember;
+use values::constraints::Bounded;
 
 /// The entry of a DEFAULT that was not read yet.
 const UNREAD: u8 = 255;

@@ -14,3 +14,6 @@ mod written;
 pub use fault::{Cause, Place, ValueFault};
 pub use levels::Defaults;
 pub use reading::{judged_with, typed, typed_with};
+
+// Libraries that crates above name through this one.
+pub use values::constraints;

@@ -29,13 +29,13 @@ use crate::simple::simple_value;
 use crate::written::written;
 use asn_base::schema::TypeId;
 use asn_base::value::Value;
-use constraints::{Bounded, allows_size};
 use limits::MAX_NODES;
 use std::alloc::Global;
 use trees::{ListKind, Named, PresenceSyntax, Standing, ValueSyntax};
 use type_table::{ListMember, Shape};
 use value_notations::opened::Opened;
 use value_notations::references::follow;
+use values::constraints::{Bounded, allows_size};
 use values::law::{groups_whole, stands_for_fields};
 use values::{alternative, arranged};
 

@@ -12,10 +12,10 @@ ghost use Rattle.typed_values.specs.proving.Reading.{Tells};
 
 use crate::fault::{Cause, Place, ValueFault, no_leaf};
 use asn_base::value::Value;
-use constraints::Bounded;
 use std::alloc::Global;
 use trees::{Simple, ValueSyntax};
 use value_notations::leaves::leaf;
+use values::constraints::Bounded;
 use values::is_allowed;
 
 /// The value of a notation under a type that holds no other types.

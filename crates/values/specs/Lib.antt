@@ -4,3 +4,4 @@
 pub mod Arranged
 pub mod Allowing
 pub mod proving
+pub use Rattle.constraints.specs as constraints

@@ -10,3 +10,6 @@ mod order;
 pub use allowed::is_allowed;
 pub use arranging::{NamesFault, arranged};
 pub use lookup::alternative;
+
+// Libraries that crates above name through this one.
+pub use constraints;

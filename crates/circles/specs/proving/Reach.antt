@@ -1,7 +1,7 @@
 -- Which types the components with a DEFAULT lead to, and the marks that a search leaves.
 use Rattle.std.specs.Prelude.{◌≡◌, ◌<◌, ◌≤◌, ◌⊎◌, ◌+◌, ◌==◌, ℕ, cond, List, [], Some, ◌∷◌, length, slice_get}
-use Rattle.trees.specs.Types.{PresenceTree, mandatory, optional, default}
-use Rattle.names.specs.Modules.{StandsIn}
+use Rattle.type_table.specs.trees.Types.{PresenceTree, mandatory, optional, default}
+use Rattle.type_table.specs.names.Modules.{StandsIn}
 use Rattle.type_table.specs.Table.{Part, Type'}
 use Rattle.circles.specs.Circles.{IsPart, Reaches}
 

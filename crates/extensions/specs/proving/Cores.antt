@@ -11,9 +11,9 @@ use Rattle.tagging.specs.declared.path.TagForm.TheVariants.{Implicit, Explicit}
 use Rattle.tagging.specs.Tags.{Label, Path}
 use Rattle.range_ends.specs.Ends.{IsOfKind}
 use Rattle.constraints.specs.Allowed.{LeaveTheSame}
-use Rattle.values.specs.Allowing.{Allows, AllowsCode}
-use Rattle.schema_of.specs.SchemaOf.{IsKindOf}
-use Rattle.additions.specs.Additions.{IsAdded, has_default}
+use Rattle.settled.specs.values.Allowing.{Allows, AllowsCode}
+use Rattle.settled.specs.schema_of.SchemaOf.{IsKindOf}
+use Rattle.settled.specs.additions.Additions.{IsAdded, has_default}
 use Rattle.settled.specs.Settled.{IsConstrained, ItemsAscend, standing, without_first}
 
 -- ---- tags

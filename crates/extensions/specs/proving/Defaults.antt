@@ -7,7 +7,7 @@ use Rattle.trees.specs.Types.{default}
 use Rattle.type_table.specs.Table.{Part, Type', members, IsCore}
 use Rattle.resolve.specs.Program.{Program, IsAssignment}
 use Rattle.value_notations.specs.Values.{IsTyped}
-use Rattle.values.specs.Allowing.{Allows, AllowsCode}
+use Rattle.settled.specs.values.Allowing.{Allows, AllowsCode}
 
 -- the value of the DEFAULT of component c in module M, or None if the component has no DEFAULT
 abbrev pub IsDefaultOf : Program → Name → Part → Option AbstractValue → Type 0

@@ -10,8 +10,8 @@ use Rattle.type_table.specs.Table.{Part}
 use Rattle.names.specs.Sources as sources
 use Rattle.resolve.specs.Program.{Program, IsAssignment}
 use Rattle.typed_values.specs.declared.fault.ValueFault.{ValueFault}
-use Rattle.values.specs.Allowing.{Allows, AllowsCode}
-use Rattle.schema_of.specs.SchemaOf.{IsTypeOf}
+use Rattle.settled.specs.values.Allowing.{Allows, AllowsCode}
+use Rattle.settled.specs.schema_of.SchemaOf.{IsTypeOf}
 use Rattle.settled.specs.Settled.{IsSettledType}
 use Rattle.extensions.specs.proving.Defaults.{AreDefaultsOf}
 use Rattle.extensions.specs.Faults.{IsList, IsFirstIn, IsWrong}

@@ -2,8 +2,8 @@
 
 use super::growths::{answer, refusal, report};
 use super::modules::{OCTETS, kit, reading_kit, texts};
-use asnc::{Kit, ValueGiven};
-use judging::{Verdict, judge};
+use jobs::asnc::{Kit, ValueGiven};
+use jobs::judging::{Verdict, judge};
 use starving::{Starved, Swept, Turn, sweep};
 use std::alloc::Global;
 use std::test::Fail;

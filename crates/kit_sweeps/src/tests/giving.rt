@@ -2,7 +2,7 @@
 
 use super::growths::{answer, refusal, report};
 use super::modules::{OCTETS, kit};
-use asnc::{Fault, Kit, NotationFault, ValueGiven};
+use jobs::asnc::{Fault, Kit, NotationFault, ValueGiven};
 use starving::{Starved, Turn, sweep};
 use std::alloc::Global;
 use std::test::Fail;

@@ -1,7 +1,7 @@
 //! Allocations that fail one after another. Each call answers `Memory` and writes nothing, or it gives the answer.
 
 use super::modules::{OCTETS, PACKED, kit, texts};
-use asnc::{Fault, Kit, Sink, ValueGiven};
+use jobs::asnc::{Fault, Kit, Sink, ValueGiven};
 use starving::{Starved, Swept, Turn, sweep};
 use std::alloc::Global;
 use std::io;

@@ -1,6 +1,6 @@
 //! The modules that are opened, and the encodings of their values.
 
-use asnc::Kit;
+use jobs::asnc::Kit;
 use std::alloc::Global;
 use std::test::Fail;
 

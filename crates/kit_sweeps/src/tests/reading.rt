@@ -2,7 +2,7 @@
 
 use super::growths::{answer, report};
 use super::modules::reading_kit;
-use asnc::{Fault, Kit, Rules, number};
+use jobs::asnc::{Fault, Kit, Rules, number};
 use starving::{Starved, Turn, sweep};
 use std::alloc::Global;
 use std::test::Fail;

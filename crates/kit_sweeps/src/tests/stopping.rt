@@ -1,7 +1,7 @@
 //! A sink that fails at each octet in turn.
 
 use super::modules::{OCTETS, kit};
-use asnc::{Fault, Kit, Sink, Stops, ValueGiven};
+use jobs::asnc::{Fault, Kit, Sink, Stops, ValueGiven};
 use std::alloc::Global;
 use std::test::Fail;
 

@@ -2,7 +2,7 @@
 
 use super::growths::{answer, report};
 use super::modules::{PACKED, reading_kit};
-use asnc::{Fault, Kit, number};
+use jobs::asnc::{Fault, Kit, number};
 use starving::{Starved, Turn, sweep};
 use std::alloc::Global;
 use std::test::Fail;

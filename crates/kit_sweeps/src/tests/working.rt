@@ -2,10 +2,10 @@
 
 use super::growths::{Compared, answer, refusal, report};
 use super::modules::{OCTETS, PACKED, kit, texts};
-use asnc::ValueGiven;
 use command_line::{Given, Job, ValueWords, Verb};
+use jobs::asnc::ValueGiven;
+use jobs::messages::Fault;
 use jobs::{Inputs, work};
-use messages::Fault;
 use sinks::{Sink, Stops};
 use starving::{Starved, Turn, sweep};
 use std::alloc::Global;

@@ -1,6 +1,6 @@
 use Rattle.std.proofs.Common.{◌≡◌, true, length, map, refl, subst, arith}
 use Rattle.std.proofs.lemmas.List.{length-map}
-use Rattle.trees.specs.declared.types.ListKind.TheVariants.{Sequence}
+use Rattle.type_table.specs.trees.declared.types.ListKind.TheVariants.{Sequence}
 use Rattle.type_table.specs.Seen.{part_of}
 use Rattle.circles.specs.Circles.{member}
 use Rattle.circles.specs.proving.Reach.{Marks}

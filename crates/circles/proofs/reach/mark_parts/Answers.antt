@@ -1,5 +1,5 @@
 use Rattle.std.proofs.Common.{◌≡◌, List, ℕ, map, subst, sym, ap, ◌∙◌}
-use Rattle.trees.specs.Types.{plain_of}
+use Rattle.type_table.specs.trees.Types.{plain_of}
 use Rattle.type_table.specs.Seen.{part_of, kind_of}
 use Rattle.circles.specs.Circles.{IsPart, referred, behind_tag, element}
 use Rattle.type_table.specs.Table.{Kind, simple, reference, tagged, members, elements}

@@ -6,7 +6,7 @@ use Rattle.names.specs.Modules.{AreDistinct}
 use Rattle.trees.specs.Types as trees
 use Rattle.type_table.specs.Items.{numbers_of}
 use Rattle.type_table.specs.Seen.{root_of, more_of}
-use Rattle.schema_of.specs.SchemaOf.{IsAddedItem}
+use Rattle.settled.specs.schema_of.SchemaOf.{IsAddedItem}
 use Rattle.extensions.specs.proving.Items.{item_with, with_numbers}
 use Rattle.extensions.proofs.Numbers.{differ}
 use Rattle.extensions.proofs.Roots.{numbers_long, drop_distinct, added_members, ordered}

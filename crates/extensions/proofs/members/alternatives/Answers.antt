@@ -1,7 +1,7 @@
 use Rattle.std.proofs.Common.{map, subst, sym, take, []}
 use Rattle.asn_base.specs.Seen.{alternative_of}
 use Rattle.names.specs.proving.Distinct.{item_at}
-use Rattle.schema_of.specs.SchemaOf.{AreAlternativesOf, no_alternative}
+use Rattle.settled.specs.schema_of.SchemaOf.{AreAlternativesOf, no_alternative}
 use Rattle.type_table.specs.Seen.{part_of}
 use Rattle.extensions.proofs.Parts.{next_alternative, added_before}
 use Rattle.extensions.proofs.members.alternatives.Goals as goal

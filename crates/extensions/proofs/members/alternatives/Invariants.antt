@@ -1,6 +1,6 @@
 use Rattle.std.proofs.Common.{map, take}
 use Rattle.asn_base.specs.Seen.{alternative_of}
-use Rattle.schema_of.specs.SchemaOf.{AreAlternativesOf}
+use Rattle.settled.specs.schema_of.SchemaOf.{AreAlternativesOf}
 use Rattle.type_table.specs.Seen.{part_of}
 use Rattle.extensions.proofs.members.alternatives.Given as goal
 

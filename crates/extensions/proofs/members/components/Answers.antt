@@ -3,7 +3,7 @@ use Rattle.std.proofs.lemmas.List.{length-map}
 use Rattle.extensions.specs.proving.Tables.{shared_seen}
 use Rattle.names.specs.proving.Distinct.{item_at}
 use Rattle.asn_base.specs.Seen.{component_of}
-use Rattle.schema_of.specs.SchemaOf.{AreComponentsOf, no_component}
+use Rattle.settled.specs.schema_of.SchemaOf.{AreComponentsOf, no_component}
 use Rattle.type_table.specs.Seen.{part_of}
 use Rattle.extensions.proofs.Numbers.{pushed}
 use Rattle.extensions.proofs.Parts.{given_at, next_component, all_taken}

@@ -2,7 +2,7 @@ use Rattle.std.proofs.Common.{map, option_map, take}
 use Rattle.extensions.specs.proving.Tables.{shared_seen}
 use Rattle.asn_base.specs.Seen.{component_of}
 use Rattle.resolve.specs.Program.{Program}
-use Rattle.schema_of.specs.SchemaOf.{AreComponentsOf}
+use Rattle.settled.specs.schema_of.SchemaOf.{AreComponentsOf}
 use Rattle.trees.specs.Values.{Name}
 use Rattle.type_table.specs.Seen.{part_of}
 use Rattle.extensions.specs.proving.Defaults.{AreDefaultsOf}

@@ -2,7 +2,7 @@ use Rattle.std.proofs.Common.{ap, option_map}
 use Rattle.std.proofs.lemmas.Result.{IfOk-weaker}
 use Rattle.extensions.specs.proving.Tables.{shared_seen}
 use Rattle.asn_base.specs.Seen.{presence_of as presence_seen}
-use Rattle.schema_of.specs.SchemaOf as schema_of
+use Rattle.settled.specs.schema_of.SchemaOf as schema_of
 use Rattle.trees.specs.Types.{presence_of}
 use Rattle.type_table.specs.Seen.{part_of}
 use Rattle.extensions.proofs.Parts.{default_there}

@@ -1,6 +1,6 @@
 use Rattle.std.proofs.Common.{ap, refl, subst, sym}
 use Rattle.asn_base.specs.Types as types
-use Rattle.schema_of.specs.SchemaOf.{IsPresenceOf}
+use Rattle.settled.specs.schema_of.SchemaOf.{IsPresenceOf}
 use Rattle.tagging.specs.First as first
 use Rattle.type_table.specs.Seen.{part_of}
 use Rattle.extensions.proofs.Parts.{added_presence}

@@ -1,7 +1,7 @@
 use Rattle.std.proofs.Common.{◌≡◌, map, subst, sym, ◌++◌, ◌∷◌, []}
 use Rattle.std.proofs.lemmas.Result.{on_ok_weaker}
 use Rattle.asn_base.specs.Seen.{alternative_of}
-use Rattle.schema_of.specs.SchemaOf.{AreAlternativesOf}
+use Rattle.settled.specs.schema_of.SchemaOf.{AreAlternativesOf}
 use Rattle.type_table.specs.Seen.{part_of}
 use Rattle.extensions.proofs.Parts.{put_root, put_addition}
 use Rattle.extensions.proofs.members.put.Goals as goal

@@ -1,7 +1,7 @@
 use Rattle.std.proofs.Common.{map, take, ap, sym, ◌∙◌, ◌∷◌, []}
 use Rattle.std.proofs.lemmas.List.{map-append}
 use Rattle.asn_base.specs.Seen.{named_bit_of}
-use Rattle.schema_of.specs.SchemaOf.{named_bit}
+use Rattle.settled.specs.schema_of.SchemaOf.{named_bit}
 use Rattle.extensions.proofs.Numbers.{pushed}
 use Rattle.extensions.proofs.Parts.{taken_at}
 use Rattle.names.specs.proving.Distinct.{item_at}

@@ -1,6 +1,6 @@
 use Rattle.std.proofs.Common.{◌≡◌, map, take}
 use Rattle.asn_base.specs.Seen.{named_bit_of}
-use Rattle.schema_of.specs.SchemaOf.{named_bit}
+use Rattle.settled.specs.schema_of.SchemaOf.{named_bit}
 use Rattle.trees.specs.Types.{bit_of}
 use Rattle.extensions.proofs.simple.named_bits.Given as goal
 

@@ -1,6 +1,6 @@
 use Rattle.std.proofs.Common.{map, subst, sym}
 use Rattle.asn_base.specs.Types as types
-use Rattle.schema_of.specs.SchemaOf as schema_of
+use Rattle.settled.specs.schema_of.SchemaOf as schema_of
 use Rattle.trees.specs.Types.{a_bit_string, bit_of, plain_of}
 use Rattle.type_table.specs.Lists.{IsSoundPlain}
 use Rattle.type_table.specs.Table.{simple}

@@ -1,5 +1,5 @@
 use Rattle.std.proofs.Common.{subst, map}
-use Rattle.front_end.specs.Accepted.{Accepted, octets_of}
+use Rattle.asnc.specs.front_end.Accepted.{Accepted, octets_of}
 use Rattle.jobs.proofs.line_jobs.work_lines.Goals as goal
 
 -- the texts are accepted, and the sink failed

@@ -1,6 +1,6 @@
 use Rattle.std.proofs.Common.{subst}
 use Rattle.std.specs.Prelude.{map, string_bytes}
-use Rattle.front_end.specs.Accepted.{octets_of, AreAccepted}
+use Rattle.asnc.specs.front_end.Accepted.{octets_of, AreAccepted}
 use Rattle.jobs.specs.Refusals.{LacksType}
 use Rattle.jobs.proofs.Refused.{without_type}
 use Rattle.jobs.proofs.versions.later_output.Goals as goal

@@ -1,5 +1,5 @@
 use Rattle.std.proofs.Common.{map}
-use Rattle.front_end.specs.Accepted.{octets_of}
+use Rattle.named_values.specs.front_end.Accepted.{octets_of}
 use Rattle.named_values.specs.Given.{as_given}
 use Rattle.judging.proofs.Refused.{not_judged}
 use Rattle.judging.proofs.judged.judge.Goals as goal

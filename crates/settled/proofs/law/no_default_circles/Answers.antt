@@ -1,4 +1,4 @@
-use Rattle.values.specs.Allowing.{Allows, AllowsCode}
+use Rattle.schema_of.specs.values.Allowing.{Allows, AllowsCode}
 use Rattle.settled.proofs.Circles.{no_circle}
 use Rattle.settled.proofs.law.no_default_circles.Goals as goal
 

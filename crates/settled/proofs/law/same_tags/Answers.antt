@@ -1,7 +1,7 @@
 use Rattle.settled.proofs.Firsts.{first_written, first_resolved, one_each}
 use Rattle.settled.proofs.law.same_tags.Goals as goal
 use Rattle.std.proofs.Common.{refl}
-use Rattle.values.specs.Allowing.{Allows, AllowsCode}
+use Rattle.schema_of.specs.values.Allowing.{Allows, AllowsCode}
 
 pub returns : goal.returns
 returns c =

@@ -1,4 +1,4 @@
-use Rattle.values.specs.Allowing.{Allows, AllowsCode}
+use Rattle.schema_of.specs.values.Allowing.{Allows, AllowsCode}
 use Rattle.settled.proofs.Firsts.{all_tagged}
 use Rattle.settled.proofs.Kept.{all_tellable, has_few, components_tagged, alternatives_tagged, additions_ascend}
 use Rattle.settled.proofs.law.tags_are_kept.Goals as goal

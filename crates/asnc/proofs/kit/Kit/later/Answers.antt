@@ -1,7 +1,7 @@
 use Rattle.std.proofs.Common.{◌↔◌, ◌<◌, inl, inr, length, subst, sym, ℕ}
 use Rattle.std.specs.Prelude.{IsTrue}
 use Rattle.later_versions.specs.Later.{Later}
-use Rattle.named_values.specs.Named.{Names, TypeNamed}
+use Rattle.judging.specs.named_values.Named.{Names, TypeNamed}
 use Rattle.asnc.specs.Kits.{Opened}
 use Rattle.asnc.proofs.kit.Kit.later.Goals as goal
 

@@ -1,5 +1,5 @@
 use Rattle.std.proofs.Common.{map}
-use Rattle.front_end.specs.Accepted.{octets_of}
+use Rattle.judging.specs.front_end.Accepted.{octets_of}
 use Rattle.asnc.specs.Kits.{Opened}
 use Rattle.asnc.proofs.Opening.{kit_answers}
 use Rattle.asnc.proofs.kit.Kit.open.Goals as goal

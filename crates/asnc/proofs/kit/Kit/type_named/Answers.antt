@@ -1,6 +1,6 @@
 use Rattle.std.proofs.Common.{subst, ℕ}
 use Rattle.std.specs.Prelude.{IfSome, MatchOption}
-use Rattle.named_values.specs.Named.{Names, TypeNamed}
+use Rattle.judging.specs.named_values.Named.{Names, TypeNamed}
 use Rattle.asnc.specs.Kits.{Opened}
 use Rattle.asnc.proofs.kit.Kit.type_named.Goals as goal
 

@@ -1,8 +1,8 @@
 use Rattle.std.proofs.Common.{subst}
 use Rattle.std.specs.Prelude.{IfErr}
 use Rattle.asnc.specs.Kits.{Opened}
-use Rattle.named_values.specs.Given.{as_given}
-use Rattle.named_values.specs.Meant.{IsNotMeant}
+use Rattle.judging.specs.named_values.Given.{as_given}
+use Rattle.judging.specs.named_values.Meant.{IsNotMeant}
 use Rattle.asnc.proofs.kit.Kit.value_of.Goals as goal
 
 pub returns-clause-refused : goal.returns-clause-refused
