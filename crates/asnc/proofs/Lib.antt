@@ -1,6 +1,6 @@
 mod Opening
 mod Weaker
-mod Messages
+mod MessagesRead
 mod Paths
 mod Answered
 mod ReadBack

@@ -19,7 +19,7 @@ use Rattle.asnc.specs.Versions.{IsCompared, IsKeptAnswer, IsWidenedAnswer}
 use Rattle.asnc.specs.Writing.{IsEncoded}
 use Rattle.asnc.specs.declared.reading.Rules.{Rules as Rules'}
 use Rattle.asnc.specs.declared.reading.Rules.TheVariants as asked
-use Rattle.asnc.proofs.Messages.{encoding_is_read}
+use Rattle.asnc.proofs.MessagesRead.{encoding_is_read}
 use Rattle.judging.specs.named_values.Given.{Given}
 
 -- the encoding of a named value is one of a value of the type that its name finds

@@ -1,4 +1,4 @@
 pub mod Lists
-pub mod Values
+pub mod ValuesOfTypes
 pub mod Resolved
 pub mod Rows

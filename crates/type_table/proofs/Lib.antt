@@ -15,4 +15,4 @@ pub mod Queue
 pub mod Sets
 pub mod Sources
 pub mod Stepping
-pub mod Trees
+pub mod WrittenTrees

@@ -2,7 +2,7 @@ use Rattle.std.proofs.Common.{sym, subst, ◌∙◌, ◌≤◌}
 use Rattle.asn_base.specs.Same.{Same}
 use Rattle.encodings.specs.Rules.{Basic, Distinguished}
 use Rattle.asnc.specs.Reading.{IsRead}
-use Rattle.asnc.proofs.Messages.{answer_of, never_refused, written_message, written_is_read}
+use Rattle.asnc.proofs.MessagesRead.{answer_of, never_refused, written_message, written_is_read}
 use Rattle.asnc.proofs.Weaker.{basic_of}
 use Rattle.asnc.proofs.law.reading.Goals as goal
 

@@ -1,6 +1,6 @@
 use Rattle.encodings.specs.Rules.{Basic}
 use Rattle.ber_reader.specs.Readings.{IsRefused}
-use Rattle.asnc.proofs.Messages.{unread_by, of_any}
+use Rattle.asnc.proofs.MessagesRead.{unread_by, of_any}
 use Rattle.asnc.proofs.reading.read_basic.Goals as goal
 
 pub returns-in-Ok-clause-read : goal.returns-in-Ok-clause-read

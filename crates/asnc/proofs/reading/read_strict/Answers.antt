@@ -1,5 +1,5 @@
 use Rattle.std.proofs.Common.{refl}
-use Rattle.asnc.proofs.Messages.{unread_by}
+use Rattle.asnc.proofs.MessagesRead.{unread_by}
 use Rattle.asnc.proofs.reading.read_strict.Goals as goal
 
 pub returns-in-Ok-clause-read : goal.returns-in-Ok-clause-read

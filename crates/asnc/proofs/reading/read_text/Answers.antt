@@ -2,7 +2,7 @@ use Rattle.std.proofs.Common.{◌<◌, length, sym, ap, ◌∙◌, subst}
 use Rattle.value_text.specs.Print.{print}
 use Rattle.views.specs.Tree.{value_of}
 use Rattle.asnc.specs.Reading.{rules_of}
-use Rattle.asnc.proofs.Messages.{type_there}
+use Rattle.asnc.proofs.MessagesRead.{type_there}
 use Rattle.asnc.proofs.reading.read_text.Goals as goal
 
 pub print_shown-requires : goal.print_shown-requires

@@ -1,5 +1,5 @@
 use Rattle.values.specs.Allowing.{Allows, AllowsCode}
-use Rattle.schema_of.proofs.Values.{written}
+use Rattle.schema_of.proofs.ValuesOfTypes.{written}
 use Rattle.schema_of.proofs.Resolved.{resolved}
 use Rattle.schema_of.proofs.law.same_values.Goals as goal
 

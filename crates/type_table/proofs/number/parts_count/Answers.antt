@@ -1,7 +1,7 @@
 use Rattle.std.proofs.Common.{◌≡◌, length, arith, sym, ap, ◌∙◌}
 use Rattle.type_table.specs.Numbering.{form_parts}
 use Rattle.type_table.specs.Seen.{form_seen}
-use Rattle.type_table.proofs.Trees.{form_is_seen, count_is}
+use Rattle.type_table.proofs.WrittenTrees.{form_is_seen, count_is}
 use Rattle.type_table.proofs.number.parts_count.Goals as goal
 
 pub returns-in-List : goal.returns-in-List

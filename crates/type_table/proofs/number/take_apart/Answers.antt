@@ -1,7 +1,7 @@
 use Rattle.std.proofs.Common.{◌≤◌, ◌+◌, length, arith, subst}
 use Rattle.type_table.specs.Numbering.{form_parts}
 use Rattle.type_table.specs.Seen.{form_seen}
-use Rattle.type_table.proofs.Trees.{count_is}
+use Rattle.type_table.proofs.WrittenTrees.{count_is}
 use Rattle.type_table.proofs.number.take_apart.Goals as goal
 
 pub components_of-requires : goal.components_of-requires

@@ -8,7 +8,7 @@ use Rattle.trees.specs.Values.{name_at}
 use Rattle.trees.specs.Types.{type_tree_of}
 use Rattle.names.specs.proving.Rows.{assignment_at, header_at}
 use Rattle.std.proofs.lemmas.List.{length-map}
-use Rattle.type_table.proofs.Trees.{form_is_seen, constraints_are}
+use Rattle.type_table.proofs.WrittenTrees.{form_is_seen, constraints_are}
 use Rattle.type_table.proofs.Sources.{unknown_source, limit_source}
 use Rattle.type_table.proofs.number.written_of.Goals as goal
 
