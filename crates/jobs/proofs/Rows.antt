@@ -142,10 +142,19 @@ module _ (job : Job) (inputs : Inputs) (yes : Bool) (out : List ℕ) (r : IsOutp
   output_of_later : job.verb ≡ verbs.Later → IsAnswerLine job inputs yes out
   output_of_later = r.later
 
-  output_of_a_command : (job.verb ≡ verbs.Check → ⊥) → (job.verb ≡ verbs.Later → ⊥) → IsCommandOutput job inputs out
+  output_of_show : job.verb ≡ verbs.Show → IsShownOutput job inputs yes out
+  output_of_show = r.show
+
+  output_of_a_command : (job.verb ≡ verbs.Check → ⊥)
+      → (job.verb ≡ verbs.Later → ⊥)
+      → (job.verb ≡ verbs.Show → ⊥)
+      → IsCommandOutput job inputs out
   output_of_a_command = r.command
 
-  answer_of_a_command : (job.verb ≡ verbs.Check → ⊥) → (job.verb ≡ verbs.Later → ⊥) → yes ≡ true
+  answer_of_a_command : (job.verb ≡ verbs.Check → ⊥)
+      → (job.verb ≡ verbs.Later → ⊥)
+      → (job.verb ≡ verbs.Show → ⊥)
+      → yes ≡ true
   answer_of_a_command = r.no_no
 
 module _ (job : Job) (inputs : Inputs) (e : Fault) (r : IsCommandRefused job inputs e) where
@@ -163,8 +172,12 @@ module _ (job : Job) (inputs : Inputs) (e : Fault) (r : IsNoOutput job inputs e)
       → IsNoAnswer (map octets_of inputs.files.items) (map octets_of inputs.newer.items) (string_bytes job.ty) e
   no_answer = r.later
 
+  nothing_shown : job.verb ≡ verbs.Show → IsNotOpened (map octets_of inputs.files.items) e ⊎ IsShowRefused job inputs e
+  nothing_shown = r.show
+
   no_output : (job.verb ≡ verbs.Check → ⊥)
       → (job.verb ≡ verbs.Later → ⊥)
+      → (job.verb ≡ verbs.Show → ⊥)
       → IsNotOpened (map octets_of inputs.files.items) e ⊎ IsCommandRefused job inputs e
   no_output = r.command
 
