@@ -20,8 +20,8 @@ pub record IsRefusalLine (lines : List ℕ) (u : Unread) (output : List ℕ) : T
   pub begins : Begins (heading_of (faults.Unread u)) report
   pub output_is : output ≡ line_of (lines ++ report)
 
--- The output is the lines alone and `yes` is true, or the octets are refused: the report of that is after the lines, and
--- `yes` is false.
+-- The octets are accepted: the output is the lines alone, and `yes` is true. Or they are refused: the report of that is
+-- after the lines, and `yes` is false.
 abbrev pub EndsInRefusal : (lines : List ℕ) → Option Unread → (yes : Bool) → (output : List ℕ) → Type 0
 EndsInRefusal lines None yes output = (yes ≡ true) × (output ≡ lines)
 EndsInRefusal lines (Some u) yes output = (yes ≡ false) × IsRefusalLine lines u output

@@ -73,7 +73,7 @@ pub fn output(alloc: Global, job: &Job, inputs: &Inputs) -> Result<Output, Fault
     }
 }
 
-/// Does a job: writes what [`output`] returns to a sink. Returns false if that is a `no`, or a refusal that `show` shows.
+/// Does a job: writes what [`output`] returns to a sink. Returns false if that is a `no`, or if `show` shows a refusal.
 ///
 /// The faults are those of [`output`], before the first octet. `Device`: one call of the sink failed, which isn't tried
 /// again; the fault has the number of octets that went out before.
