@@ -101,8 +101,8 @@ Examples:
   asnc show --type M.T --hex @v.der m.asn
 
 Each header is a line, indented as it is nested: where it begins, its identifier and length octets, the component
-and its type, and the value of what is primitive. Octets that no type here describes are marked. If the octets
-are refused, the lines up to the fault come first, and then the refusal.";
+and its type, and the value of what is primitive. Additions that the type lacks are marked. If the octets are
+refused, the lines up to the fault come first, and then the refusal.";
 
 /// The text at the end of the help of `octcheck`.
 const CHECK_HELP: &str = "\
