@@ -6,7 +6,7 @@ _asnc() {
   local before=${COMP_WORDS[COMP_CWORD - 1]}
   COMPREPLY=()
   if [[ $COMP_CWORD -eq 1 ]]; then
-    mapfile -t COMPREPLY < <(compgen -W 'der ber uper unper account list later --help -h --version -V' -- "$current")
+    mapfile -t COMPREPLY < <(compgen -W 'der ber uper unper account list later show --help -h --version -V' -- "$current")
     return
   fi
   local words
@@ -16,6 +16,7 @@ _asnc() {
     account) words='--type --value --notation --context --help -h' ;;
     ber) words='--type --hex --lines --strict --context --help -h' ;;
     unper) words='--type --hex --lines --context --help -h' ;;
+    show) words='--type --hex --context --help -h' ;;
     list) words='--context --help -h' ;;
     later) words='--type --newer --context --help -h' ;;
     *) return ;;

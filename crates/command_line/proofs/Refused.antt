@@ -47,8 +47,16 @@ pub no_account : (command : Text) (rows : List Row) (fault : WordsFault) → com
     → IsNoValueIn rows fault
     → IsNoJobOf command rows fault
 no_account command rows faults.Memory t n = tt
-no_account command rows (faults.BadWords b) t n = inr (inr (t, n))
+no_account command rows (faults.BadWords b) t n = inr (inr (inl (t, n)))
 no_account command rows (faults.Help b) t n = absurd n
+
+-- `show` has no job if the text of `--hex` gives no octets
+pub no_show : (command : Text) (rows : List Row) (fault : WordsFault) → command ≡ codes "show"
+    → IsNotGiven (text_in rows (codes "hex")) fault
+    → IsNoJobOf command rows fault
+no_show command rows faults.Memory t n = tt
+no_show command rows (faults.BadWords b) t n = inr (inr (inr (t, n)))
+no_show command rows (faults.Help b) t n = absurd n
 
 -- words that mix lines with others give no value, and words without lines may give none
 pub mixed_value : (rows : List Row) (fault : WordsFault) → IsMixed rows fault → IsNoValueOrLines rows fault

@@ -113,6 +113,15 @@ later_names_app =
 abbrev pub later_app : App
 later_app = with_rule later_names_app files_rule
 
+-- `NAME --type TEXT --hex TEXT`
+abbrev pub octets_names_app : Text → App
+octets_names_app name = with_rule (with_rule (new_app name) (text_rule (codes "type"))) (text_rule (codes "hex"))
+
+-- `show --type TEXT --hex TEXT [--context] FILE..`
+abbrev pub show_app : App
+show_app =
+    with_rule (with_rule (octets_names_app (codes "show")) (flag_rule (codes "context"))) files_rule
+
 -- the program asnc without its commands: a command is required, `help` isn't one, and there is a version
 abbrev pub bare_app : App
 bare_app = record (new_app (codes "asnc")) {
@@ -136,8 +145,12 @@ abbrev pub listing_app : App
 listing_app = with_subcommand (with_subcommand packed_app (value_app (codes "account")).top) list_app.top
 
 -- the commands `der`, `ber`, `uper`, `unper`, `account`, `list` and `later`
+abbrev pub comparing_app : App
+comparing_app = with_subcommand listing_app later_app.top
+
+-- the commands `der`, `ber`, `uper`, `unper`, `account`, `list`, `later` and `show`
 abbrev pub asnc_app : App
-asnc_app = with_subcommand listing_app later_app.top
+asnc_app = with_subcommand comparing_app show_app.top
 
 -- the program octcheck without its arguments: there is a version, and there are no commands
 abbrev pub bare_check_app : App
@@ -407,6 +420,21 @@ pub record IsLaterOf (rows : List Row) (job : Job) : Type 0 where
   pub not_raw : job.raw ≡ false
   pub not_strict : job.strict ≡ false
 
+-- The job has what was found for the arguments of `show`, and the octets that the text of `--hex` gives. Fields that
+-- `show` doesn't take are empty.
+pub record IsShowOf (rows : List Row) (job : Job) : Type 0 where
+  pub verb : job.verb ≡ verbs.Show
+  pub type : string_bytes job.ty ≡ text_in rows (codes "type")
+  pub octets : IsGiven (text_in rows (codes "hex")) job.octets
+  pub context : (one_of (codes "context") rows ≡ Some (codes "true")) → job.context ≡ true
+  pub no_context : (one_of (codes "context") rows ≡ Some (codes "false")) → job.context ≡ false
+  pub files : map string_bytes job.files.items ≡ texts_in rows (codes "FILE")
+  pub no_newer : job.newer.items ≡ []
+  pub no_value : job.value ≡ value_words.Nothing
+  pub no_account : string_bytes job.account ≡ []
+  pub not_raw : job.raw ≡ false
+  pub not_strict : job.strict ≡ false
+
 -- The job has what was found for the arguments of `octcheck`, and the octets that the text of `--hex` gives. Fields
 -- that `octcheck` doesn't take are empty.
 pub record IsCheckOf (rows : List Row) (job : Job) : Type 0 where
@@ -422,8 +450,8 @@ pub record IsCheckOf (rows : List Row) (job : Job) : Type 0 where
   pub not_raw : job.raw ≡ false
   pub not_strict : job.strict ≡ false
 
--- The job is that of the command with this name: `list`, `ber`, `uper`, `unper`, `account`, `later`, or otherwise
--- `der`.
+-- The job is that of the command with this name: `list`, `ber`, `uper`, `unper`, `account`, `later`, `show`, or
+-- otherwise `der`.
 pub record IsJobOf (command : Text) (rows : List Row) (job : Job) : Type 0 where
   pub list : command ≡ codes "list" → IsListOf rows job
   pub ber : command ≡ codes "ber" → IsBerOf rows job
@@ -431,12 +459,14 @@ pub record IsJobOf (command : Text) (rows : List Row) (job : Job) : Type 0 where
   pub unper : command ≡ codes "unper" → IsUnperOf rows job
   pub account : command ≡ codes "account" → IsAccountOf rows job
   pub later : command ≡ codes "later" → IsLaterOf rows job
+  pub show : command ≡ codes "show" → IsShowOf rows job
   pub der : (command ≡ codes "list" → ⊥)
       → (command ≡ codes "ber" → ⊥)
       → (command ≡ codes "uper" → ⊥)
       → (command ≡ codes "unper" → ⊥)
       → (command ≡ codes "account" → ⊥)
       → (command ≡ codes "later" → ⊥)
+      → (command ≡ codes "show" → ⊥)
       → IsDerOf rows job
 
 -- the fault of a text that gives no octets; `Memory` says nothing of the text
@@ -445,7 +475,7 @@ IsNotGiven text faults.Memory = ⊤
 IsNotGiven text (faults.BadWords t) = TellsNone text
 IsNotGiven text (faults.Help t) = ⊥
 
--- the command takes octets
+-- the command takes octets or lines of them
 abbrev pub TakesOctets : Text → Type 0
 TakesOctets command = (command ≡ codes "ber") ⊎ (command ≡ codes "unper")
 
@@ -456,14 +486,16 @@ TakesValue command = (command ≡ codes "list" → ⊥)
     × (command ≡ codes "unper" → ⊥)
     × (command ≡ codes "account" → ⊥)
     × (command ≡ codes "later" → ⊥)
+    × (command ≡ codes "show" → ⊥)
 
 -- The command takes octets or lines of them, and the words give neither or mix them. Or it takes a value or lines of
 -- values, and the words give none, or two, or mix them. Or it is `account`, and the words give no value or give it
--- twice.
+-- twice. Or it is `show`, and the text of `--hex` gives no octets.
 abbrev pub LacksPart : Text → List Row → Type 0
 LacksPart command rows = (TakesOctets command × LacksOctetsOrLines rows)
     ⊎ ((TakesValue command × LacksValueOrLines rows)
-    ⊎ ((command ≡ codes "account") × GivesNoValue rows))
+    ⊎ (((command ≡ codes "account") × GivesNoValue rows)
+    ⊎ ((command ≡ codes "show") × TellsNone (text_in rows (codes "hex")))))
 
 -- the fault of a command without a job; `Memory` says nothing of the words
 abbrev pub IsNoJobOf : Text → List Row → WordsFault → Type 0

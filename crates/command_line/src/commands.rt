@@ -4,9 +4,11 @@ ghost use Rattle.std.specs.Prelude.{◌≡◌, IfOk, codes, false, true};
 ghost use Rattle.clap.specs.Words.{app_of, rule_of};
 ghost use Rattle.clap.specs.declared.builder.command.Command.TheViews.{out-Command};
 ghost use Rattle.command_line.specs.CommandLine.{asnc_app, ber_app, ber_flags_app, check_names_app, check_texts_app};
-ghost use Rattle.command_line.specs.CommandLine.{choice_rule, der_app, der_flags_app, files_rule, flag_rule, later_app};
+ghost use Rattle.command_line.specs.CommandLine.{choice_rule, comparing_app, der_app, der_flags_app, files_rule};
+ghost use Rattle.command_line.specs.CommandLine.{flag_rule, later_app};
 ghost use Rattle.command_line.specs.CommandLine.{later_names_app, list_app, listing_app, newer_rule, octcheck_app};
-ghost use Rattle.command_line.specs.CommandLine.{octets_app, octets_lines_app, packed_app, text_rule, unper_app};
+ghost use Rattle.command_line.specs.CommandLine.{octets_app, octets_lines_app, octets_names_app, packed_app, show_app};
+ghost use Rattle.command_line.specs.CommandLine.{text_rule, unper_app};
 ghost use Rattle.command_line.specs.CommandLine.{unper_flags_app, uper_app, value_app, value_lines_app};
 ghost use Rattle.command_line.specs.CommandLine.{value_names_app};
 
@@ -23,6 +25,7 @@ Examples:
   asnc account --type M.T --value M.v m.asn
   asnc list m.asn
   asnc later --type M.T m.asn --newer n.asn
+  asnc show --type M.T --hex 020105 m.asn
 
 Exit status: 0 done, 1 no, or the texts, names, values or octets are refused, 2 a bad command line,
 3 out of memory, or a file or a device failed. A refusal is one line, with its number and
@@ -90,6 +93,16 @@ Examples:
 
 It prints yes, or no. A later version only appends additions at extension markers;
 each version then decodes what the other encodes.";
+
+/// The text at the end of the help of `show`.
+const SHOW_EXAMPLES: &str = "\
+Examples:
+  asnc show --type M.T --hex 020105 m.asn
+  asnc show --type M.T --hex @v.der m.asn
+
+Each header is a line, indented as it is nested: where it begins, its identifier and length octets, the component
+and its type, and the value of what is primitive. Additions that the type lacks are marked. If the octets are
+refused, the lines up to the fault come first, and then the refusal.";
 
 /// The text at the end of the help of `octcheck`.
 const CHECK_HELP: &str = "\
@@ -392,6 +405,27 @@ fn later_command<'a>(alloc: Global) -> Result<Command<'a>, AllocError>
     later_names(alloc)?.arg(files_arg(alloc))
 }
 
+/// `show` with the name of a type, and octets.
+fn show_names<'a>(alloc: Global) -> Result<Command<'a>, AllocError>
+    ensures shape { IfOk result (λ c. app_of c ≡ octets_names_app (codes "show")) }
+    ensures local { IfOk result (λ c. (out-Command c).has_globals ≡ false) }
+{
+    Command::new(alloc, "show")
+        .about("Read octets by BER, and show them header by header")
+        .after_help(SHOW_EXAMPLES)
+        .arg(text_arg(alloc, "type", "MODULE.TYPE", "The type"))?
+        .arg(hex_arg(alloc))
+}
+
+fn show_command<'a>(alloc: Global) -> Result<Command<'a>, AllocError>
+    ensures shape { IfOk result (λ c. app_of c ≡ show_app) }
+    ensures local { IfOk result (λ c. (out-Command c).has_globals ≡ false) }
+{
+    show_names(alloc)?
+        .arg(context_arg(alloc))?
+        .arg(files_arg(alloc))
+}
+
 /// The program asnc with the commands that write or read octets of DER and BER.
 fn octets_command<'a>(alloc: Global) -> Result<Command<'a>, AllocError>
     ensures shape { IfOk result (λ c. app_of c ≡ octets_app) }
@@ -430,13 +464,22 @@ fn listing_command<'a>(alloc: Global) -> Result<Command<'a>, AllocError>
         .subcommand(list_command(alloc)?)
 }
 
+/// The program asnc with the commands that need one set of modules or two, but for `show`.
+fn comparing_command<'a>(alloc: Global) -> Result<Command<'a>, AllocError>
+    ensures shape { IfOk result (λ c. app_of c ≡ comparing_app) }
+    ensures local { IfOk result (λ c. (out-Command c).has_globals ≡ false) }
+    ensures wants { IfOk result (λ c. (out-Command c).subcommand_required ≡ true) }
+{
+    listing_command(alloc)?.subcommand(later_command(alloc)?)
+}
+
 /// The program asnc.
 pub(crate) fn asnc_command<'a>(alloc: Global) -> Result<Command<'a>, AllocError>
     ensures shape { IfOk result (λ c. app_of c ≡ asnc_app) }
     ensures local { IfOk result (λ c. (out-Command c).has_globals ≡ false) }
     ensures wants { IfOk result (λ c. (out-Command c).subcommand_required ≡ true) }
 {
-    listing_command(alloc)?.subcommand(later_command(alloc)?)
+    comparing_command(alloc)?.subcommand(show_command(alloc)?)
 }
 
 /// The program octcheck with the name of a type, and a value.

@@ -43,6 +43,8 @@ pub enum Verb {
     List,
     /// Says whether a type of newer modules is a later version of that of older ones.
     Later,
+    /// Reads octets by the basic encoding rules, and shows them header by header.
+    Show,
     /// Judges octets by an account of them.
     Check,
 }

@@ -5,10 +5,10 @@ ghost use Rattle.clap.specs.Words.{found_of, kind_of, rows_of};
 ghost use Rattle.command_line.specs.CommandLine.{asnc_app, octcheck_app, text_in, texts_in, AreOfChecker};
 ghost use Rattle.command_line.specs.CommandLine.{HasNoCheck, HasNoJob, IsAccountOf, IsAsked, IsBerOf, IsCheck};
 ghost use Rattle.command_line.specs.CommandLine.{IsCheckOf, IsCommand, IsDerOf, IsFaultOf, IsJobOf, IsLaterOf};
-ghost use Rattle.command_line.specs.CommandLine.{IsListOf};
+ghost use Rattle.command_line.specs.CommandLine.{IsListOf, IsNotGiven};
 ghost use Rattle.command_line.specs.CommandLine.{IsNoCheckOf, IsNoJobOf, IsNoOctetsOrLines, IsNoValueIn};
-ghost use Rattle.command_line.specs.CommandLine.{IsNoValueOrLines, IsRefused, IsRefusedBy, IsUnperOf, IsUperOf};
-ghost use Rattle.command_line.specs.CommandLine.{IsValueJobOf};
+ghost use Rattle.command_line.specs.CommandLine.{IsNoValueOrLines, IsRefused, IsRefusedBy, IsShowOf, IsUnperOf};
+ghost use Rattle.command_line.specs.CommandLine.{IsUperOf, IsValueJobOf};
 
 use crate::commands::{asnc_command, octcheck_command};
 use crate::fault::WordsFault;
@@ -188,6 +188,28 @@ fn later_job(alloc: Global, found: &ArgMatches<'_>) -> Result<Job, AllocError>
     })
 }
 
+/// The job of `show`. `BadWords`: the text of `--hex` gives no octets.
+fn show_job(alloc: Global, found: &ArgMatches<'_>) -> Result<Job, WordsFault>
+    ensures job { IfOk result (IsShowOf (rows_of (found_of found.now))) }
+    ensures none { IfErr result (IsNotGiven (text_in (rows_of (found_of found.now)) (codes "hex"))) }
+{
+    let context = found.get_flag("context");
+    let hex = text_of(alloc, found, "hex")?;
+    let octets = given_in(alloc, "asnc", hex.as_str())?;
+    Ok(Job {
+        verb: Verb::Show,
+        ty: text_of(alloc, found, "type")?,
+        value: ValueWords::Nothing,
+        account: String::new(alloc),
+        octets,
+        raw: false,
+        strict: false,
+        context,
+        files: files_of(alloc, found, "FILE")?,
+        newer: Vec::new(alloc),
+    })
+}
+
 /// The job of a command that takes the name of a type, a value, and files.
 fn value_job(
     alloc: Global,
@@ -271,6 +293,8 @@ fn job_of(alloc: Global, command: &str, found: &ArgMatches<'_>) -> Result<Job, W
         account_job(alloc, found)
     } else if command == "later" {
         Ok(later_job(alloc, found)?)
+    } else if command == "show" {
+        show_job(alloc, found)
     } else {
         der_job(alloc, found)
     }

@@ -1,6 +1,6 @@
 -- Worked rows: lines of octets and of values, and what each part of a conclusion says, in full.
 use Rattle.std.proofs.Common.{◌≡◌, ◌⊎◌, ℕ, List, [], ◌∷◌, ◌++◌, Bool, true, false, ap, map, refl}
-use Rattle.std.specs.Prelude.{codes, string_bytes, String}
+use Rattle.std.specs.Prelude.{codes, string_bytes, String, None, Some}
 use Rattle.std.specs.declared.alloc.Global.{Global}
 use Rattle.std.specs.Fmt.{digits}
 use Rattle.hex.proofs.OnLiterals.{hex_on_literals}
@@ -12,6 +12,7 @@ use Rattle.asnc.specs.front_end.declared.fault.FrontFault.{FrontFault}
 use Rattle.asnc.specs.Kits.{IsNotOpened}
 use Rattle.asnc.specs.Packing.{IsPacked}
 use Rattle.asnc.specs.Reading.{IsReadAs}
+use Rattle.asnc.specs.Showing.{IsNotShownAs, IsShownAs}
 use Rattle.asnc.specs.Unpacking.{IsUnpackedAs}
 use Rattle.asnc.specs.Differences.{AreCompared}
 use Rattle.later_versions.specs.Told.{says_later}
@@ -19,7 +20,9 @@ use Rattle.later_versions.specs.declared.reason.Explained.TheVariants as explain
 use Rattle.asnc.specs.Writing.{IsAccountOf, IsEncoded}
 use Rattle.asnc.specs.messages.declared.fault.Fault.{Fault}
 use Rattle.asnc.specs.messages.declared.fault.Fault.TheVariants as faults
+use Rattle.asnc.specs.messages.declared.fault.Unread.{Unread}
 use Rattle.later_versions.specs.declared.reason.Difference.{Difference}
+use Rattle.reports.specs.Heading.{heading_of, Begins}
 use Rattle.sinks.specs.Sent.{SinkState, SentAll, SentFront}
 use Rattle.command_line.specs.declared.request.Job.{Job}
 use Rattle.command_line.specs.declared.request.Verb.TheVariants as verbs
@@ -31,6 +34,7 @@ use Rattle.jobs.specs.Outputs.{IsAnswerLine, IsCommandOutput, IsOutput, Prints, 
 use Rattle.jobs.specs.Outputs.{PrintsUnper, PrintsUper, answer_text, hex_line, rules_if, value_lines}
 use Rattle.jobs.specs.Refusals.{AreNewerRefused, AreWithoutType, IsCommandRefused, IsNoAnswer, IsNoOutput, LacksType}
 use Rattle.jobs.specs.Refusals.{Refuses}
+use Rattle.jobs.specs.Shown.{EndsInRefusal, IsRefusalLine, IsShownOutput, IsShowRefused, PrintsShown}
 
 -- ---- lines
 
@@ -126,7 +130,47 @@ module _ (job : Job) (inputs : Inputs) (yes : Bool) (out : List ℕ) (r : IsAnsw
   later_line : out ≡ line_of (answer_text r.answer)
   later_line = r.output_is
 
+-- the octets are accepted: the lines alone
+shown_lines : (lines : List ℕ) → EndsInRefusal lines None true lines
+shown_lines lines = (refl, refl)
+
+-- the octets are refused: lines without a refusal are no output, nor is a yes
+no_yes_of_refused : (lines output : List ℕ) (u : Unread) → EndsInRefusal lines (Some u) true output → ⊥
+no_yes_of_refused lines output u h = let e : true ≡ false = h.0 in cc
+
+no_no_of_accepted : (lines output : List ℕ) → EndsInRefusal lines None false output → ⊥
+no_no_of_accepted lines output h = let e : false ≡ true = h.0 in cc
+
+module _ (lines out : List ℕ) (u : Unread) (r : IsRefusalLine lines u out) where
+  refusal_begins : Begins (heading_of (faults.Unread u)) r.report
+  refusal_begins = r.begins
+
+  refusal_line : out ≡ line_of (lines ++ r.report)
+  refusal_line = r.output_is
+
+module _ (p : Program) (s : List Resolved) (ty o : List ℕ) (yes : Bool) (out : List ℕ)
+    (r : PrintsShown p s ty o yes out) where
+  shown_listing : IsShownAs p s ty o r.listing
+  shown_listing = r.shown
+
+  shown_output : EndsInRefusal (string_bytes r.listing.lines) r.listing.refusal yes out
+  shown_output = r.printed
+
 -- ---- jobs
+
+module _ (job : Job) (inputs : Inputs) (yes : Bool) (out : List ℕ) (r : IsShownOutput job inputs yes out) where
+  shown_texts : Accepted (map octets_of inputs.files.items) r.program r.types
+  shown_texts = r.accepted
+
+  shown_prints : PrintsShown r.program r.types (string_bytes job.ty) (octets_given job.octets inputs.octets) yes out
+  shown_prints = r.prints
+
+module _ (job : Job) (inputs : Inputs) (e : Fault) (r : IsShowRefused job inputs e) where
+  not_shown_texts : Accepted (map octets_of inputs.files.items) r.program r.types
+  not_shown_texts = r.accepted
+
+  not_shown : IsNotShownAs r.program (string_bytes job.ty) e
+  not_shown = r.refused
 
 module _ (job : Job) (inputs : Inputs) (out : List ℕ) (r : IsCommandOutput job inputs out) where
   command_texts : Accepted (map octets_of inputs.files.items) r.program r.types
@@ -142,10 +186,19 @@ module _ (job : Job) (inputs : Inputs) (yes : Bool) (out : List ℕ) (r : IsOutp
   output_of_later : job.verb ≡ verbs.Later → IsAnswerLine job inputs yes out
   output_of_later = r.later
 
-  output_of_a_command : (job.verb ≡ verbs.Check → ⊥) → (job.verb ≡ verbs.Later → ⊥) → IsCommandOutput job inputs out
+  output_of_show : job.verb ≡ verbs.Show → IsShownOutput job inputs yes out
+  output_of_show = r.show
+
+  output_of_a_command : (job.verb ≡ verbs.Check → ⊥)
+      → (job.verb ≡ verbs.Later → ⊥)
+      → (job.verb ≡ verbs.Show → ⊥)
+      → IsCommandOutput job inputs out
   output_of_a_command = r.command
 
-  answer_of_a_command : (job.verb ≡ verbs.Check → ⊥) → (job.verb ≡ verbs.Later → ⊥) → yes ≡ true
+  answer_of_a_command : (job.verb ≡ verbs.Check → ⊥)
+      → (job.verb ≡ verbs.Later → ⊥)
+      → (job.verb ≡ verbs.Show → ⊥)
+      → yes ≡ true
   answer_of_a_command = r.no_no
 
 module _ (job : Job) (inputs : Inputs) (e : Fault) (r : IsCommandRefused job inputs e) where
@@ -163,8 +216,12 @@ module _ (job : Job) (inputs : Inputs) (e : Fault) (r : IsNoOutput job inputs e)
       → IsNoAnswer (map octets_of inputs.files.items) (map octets_of inputs.newer.items) (string_bytes job.ty) e
   no_answer = r.later
 
+  nothing_shown : job.verb ≡ verbs.Show → IsNotOpened (map octets_of inputs.files.items) e ⊎ IsShowRefused job inputs e
+  nothing_shown = r.show
+
   no_output : (job.verb ≡ verbs.Check → ⊥)
       → (job.verb ≡ verbs.Later → ⊥)
+      → (job.verb ≡ verbs.Show → ⊥)
       → IsNotOpened (map octets_of inputs.files.items) e ⊎ IsCommandRefused job inputs e
   no_output = r.command
 

@@ -20,6 +20,7 @@ use Rattle.command_line.specs.declared.request.Verb.TheVariants as verbs
 use Rattle.check_jobs.specs.Checks.{IsVerdictLine}
 use Rattle.check_jobs.specs.Inputs.{given_in, line_of, octets_given}
 use Rattle.check_jobs.specs.declared.inputs.Inputs.{Inputs}
+use Rattle.jobs.specs.Shown.{IsShownOutput}
 
 -- a line of octets in hexadecimal digits of upper case, two for each octet
 abbrev pub hex_line : List ℕ → List ℕ
@@ -77,7 +78,8 @@ pub record PrintsAccount (p : Program) (s : List Resolved) (job : Job) (output :
   pub output_is : output ≡ line_of text
 
 -- What a command of asnc prints in a program with its types. `octets` are those that the job gives. Nothing is said of
--- the text that `list` prints, which is for people. `later` needs two programs, and `check` is of octcheck.
+-- the text that `list` prints, which is for people. `later` needs two programs, `show` can say no, and `check` is of
+-- octcheck.
 abbrev pub Prints : Verb → Program → List Resolved → Job → (octets output : List ℕ) → Type 0
 Prints verbs.Der p s job octets output = PrintsDer p s job output
 Prints verbs.Ber p s job octets output = PrintsBer p s job octets output
@@ -86,6 +88,7 @@ Prints verbs.Unper p s job octets output = PrintsUnper p s job octets output
 Prints verbs.Account p s job octets output = PrintsAccount p s job output
 Prints verbs.List p s job octets output = ⊤
 Prints verbs.Later p s job octets output = ⊥
+Prints verbs.Show p s job octets output = ⊥
 Prints verbs.Check p s job octets output = ⊥
 
 -- The texts of the job's files are accepted, as this program with these types, and the output is what the command
@@ -114,9 +117,17 @@ pub record IsAnswerLine (job : Job) (inputs : Inputs) (yes : Bool) (output : Lis
   pub yes_is : yes ≡ says_later answer
   pub output_is : output ≡ line_of (answer_text answer)
 
--- The output is what the job asks for. `yes` is false if and only if that is a `no` of octcheck or of `later`.
+-- The output is what the job asks for. `yes` is false if and only if that is a `no` of octcheck or of `later`, or the
+-- refusal of octets that `show` shows.
 pub record IsOutput (job : Job) (inputs : Inputs) (yes : Bool) (output : List ℕ) : Type 0 where
   pub check : job.verb ≡ verbs.Check → IsVerdictLine job inputs yes output
   pub later : job.verb ≡ verbs.Later → IsAnswerLine job inputs yes output
-  pub command : (job.verb ≡ verbs.Check → ⊥) → (job.verb ≡ verbs.Later → ⊥) → IsCommandOutput job inputs output
-  pub no_no : (job.verb ≡ verbs.Check → ⊥) → (job.verb ≡ verbs.Later → ⊥) → yes ≡ true
+  pub show : job.verb ≡ verbs.Show → IsShownOutput job inputs yes output
+  pub command : (job.verb ≡ verbs.Check → ⊥)
+      → (job.verb ≡ verbs.Later → ⊥)
+      → (job.verb ≡ verbs.Show → ⊥)
+      → IsCommandOutput job inputs output
+  pub no_no : (job.verb ≡ verbs.Check → ⊥)
+      → (job.verb ≡ verbs.Later → ⊥)
+      → (job.verb ≡ verbs.Show → ⊥)
+      → yes ≡ true

@@ -19,6 +19,7 @@ use Rattle.check_jobs.specs.Inputs.{given_in, octets_given}
 use Rattle.check_jobs.specs.declared.inputs.Inputs.{Inputs}
 use Rattle.asnc.specs.named_values.Named.{TypeNamed}
 use Rattle.jobs.specs.Outputs.{rules_if}
+use Rattle.jobs.specs.Shown.{IsShowRefused}
 
 -- Why a command of asnc prints nothing in a program with its types. `octets` are those that the job gives. `list` is
 -- refused for memory alone.
@@ -30,6 +31,7 @@ Refuses verbs.Unper p s job octets e = IsNotUnpackedAs p s (string_bytes job.ty)
 Refuses verbs.Account p s job octets e = IsNotEncoded p s (string_bytes job.ty) (given_in job.value) e
 Refuses verbs.List p s job octets e = e ≡ faults.Memory
 Refuses verbs.Later p s job octets e = ⊥
+Refuses verbs.Show p s job octets e = ⊥
 Refuses verbs.Check p s job octets e = ⊥
 
 -- the texts of the job's files are accepted, and the command is refused in their program
@@ -83,6 +85,8 @@ pub record IsNoOutput (job : Job) (inputs : Inputs) (e : Fault) : Type 0 where
   pub check : job.verb ≡ verbs.Check → IsNotChecked job inputs e
   pub later : job.verb ≡ verbs.Later
       → IsNoAnswer (map octets_of inputs.files.items) (map octets_of inputs.newer.items) (string_bytes job.ty) e
+  pub show : job.verb ≡ verbs.Show → IsNotOpened (map octets_of inputs.files.items) e ⊎ IsShowRefused job inputs e
   pub command : (job.verb ≡ verbs.Check → ⊥)
       → (job.verb ≡ verbs.Later → ⊥)
+      → (job.verb ≡ verbs.Show → ⊥)
       → IsNotOpened (map octets_of inputs.files.items) e ⊎ IsCommandRefused job inputs e

@@ -6,7 +6,7 @@ ghost use Rattle.asnc.specs.Reading.{IsNotReadAs, rules_of};
 ghost use Rattle.asnc.specs.Unpacking.{IsNotUnpackedAs};
 ghost use Rattle.asnc.specs.Writing.{IsNotEncoded};
 ghost use Rattle.check_jobs.specs.Inputs.{given_in};
-ghost use Rattle.command_line.specs.declared.request.Verb.TheVariants.{Check, Later};
+ghost use Rattle.command_line.specs.declared.request.Verb.TheVariants.{Check, Later, Show};
 ghost use Rattle.jobs.specs.Outputs.{hex_line, rules_if, value_lines, Prints};
 ghost use Rattle.jobs.specs.Outputs.{PrintsAccount, PrintsBer, PrintsDer, PrintsUnper, PrintsUper};
 ghost use Rattle.jobs.specs.Refusals.{Refuses};
@@ -146,6 +146,7 @@ pub(crate) fn command_output(
 ) -> Result<Vec<u8>, Fault>
     requires asnc { job.now.verb ≡ Check → ⊥ }
     requires one { job.now.verb ≡ Later → ⊥ }
+    requires yes { job.now.verb ≡ Show → ⊥ }
     ensures printed { IfOk result (λ v.
         Prints job.now.verb kit.now.program kit.now.types job.now octets.now v.items) }
     ensures refused { IfErr result
@@ -159,6 +160,7 @@ pub(crate) fn command_output(
         Verb::Account => account(alloc, kit, job),
         Verb::List => list(alloc, kit),
         Verb::Later => unreachable!(),
+        Verb::Show => unreachable!(),
         Verb::Check => unreachable!(),
     }
 }

@@ -47,6 +47,6 @@ pub fn line_command(job: &Job) -> Option<LineCommand>
             Given::Lines => Some(LineCommand::Unper),
             Given::Nothing | Given::Octets(_) | Given::Path(_) => None,
         },
-        Verb::Account | Verb::List | Verb::Later | Verb::Check => None,
+        Verb::Account | Verb::List | Verb::Later | Verb::Show | Verb::Check => None,
     }
 }

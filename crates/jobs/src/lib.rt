@@ -7,6 +7,7 @@ mod commands_of_lines;
 mod line_jobs;
 mod outputs;
 mod refusals;
+mod showing;
 mod streams;
 mod versions;
 

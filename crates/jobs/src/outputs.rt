@@ -1,7 +1,7 @@
 //! A job, from its inputs to a sink.
 
 ghost use Rattle.std.specs.Prelude.{◌≡◌, ◌<◌, ℕ, IfOk, IfErr};
-ghost use Rattle.command_line.specs.declared.request.Verb.TheVariants.{Check, Later};
+ghost use Rattle.command_line.specs.declared.request.Verb.TheVariants.{Check, Later, Show};
 ghost use Rattle.jobs.specs.Done.{IsDone, IsDoneInPart};
 ghost use Rattle.jobs.specs.Outputs.{IsCommandOutput, IsOutput};
 ghost use Rattle.jobs.specs.Refusals.{IsCommandRefused, IsNoOutput};
@@ -9,6 +9,7 @@ ghost use Rattle.asnc.specs.messages.declared.fault.Fault.TheVariants.{Device};
 ghost use Rattle.sinks.specs.Sent.{state};
 
 use crate::commands::command_output;
+use crate::showing::show_output;
 use crate::versions::later_output;
 use asnc::Kit;
 use asnc::messages::Fault;
@@ -17,10 +18,11 @@ use command_line::{Job, Verb};
 use sinks::{Sink, send_all};
 use std::alloc::Global;
 
-/// What a job of asnc prints, if it needs one program.
+/// What a job of asnc prints, if it needs one program and can't say no.
 fn asnc_output(alloc: Global, job: &Job, inputs: &Inputs) -> Result<Output, Fault>
     requires asnc { job.now.verb ≡ Check → ⊥ }
     requires one { job.now.verb ≡ Later → ⊥ }
+    requires yes { job.now.verb ≡ Show → ⊥ }
     ensures printed { IfOk result (λ o. IsOutput job.now inputs.now o.yes o.octets.items) }
     ensures refused { IfErr result (IsNoOutput job.now inputs.now) }
 {
@@ -39,6 +41,8 @@ fn asnc_output(alloc: Global, job: &Job, inputs: &Inputs) -> Result<Output, Faul
 /// - `der`, `uper`: octets in hexadecimal digits of upper case and a line end; with `--raw` the octets alone.
 /// - `ber`, `unper`: the printed value, a line end, `skipped`, the number of skipped additions, and a line end.
 /// - `account`: the text of the account and a line end. `list`: the listing.
+/// - `show`: a line for each header of the octets. If the octets are refused, these are the headers before the octet of
+///   the refusal, and the line of [`report`](reports::report) and a line end follow.
 /// - `later`: `yes`, or `no`, a colon, where the newer type is no later version and why, and a line end. `octcheck`:
 ///   `yes`, or `no` and the first reason, and a line end.
 ///
@@ -61,11 +65,15 @@ pub fn output(alloc: Global, job: &Job, inputs: &Inputs) -> Result<Output, Fault
             Ok(answer) => Ok(answer),
             Err(fault) => Err(fault),
         },
+        Verb::Show => match show_output(alloc, job, inputs) {
+            Ok(shown) => Ok(shown),
+            Err(fault) => Err(fault),
+        },
         _ => asnc_output(alloc, job, inputs),
     }
 }
 
-/// Does a job: writes what [`output`] returns to a sink. Returns false if that is a `no`.
+/// Does a job: writes what [`output`] returns to a sink. Returns false if that is a `no`, or if `show` shows a refusal.
 ///
 /// The faults are those of [`output`], before the first octet. `Device`: one call of the sink failed, which isn't tried
 /// again; the fault has the number of octets that went out before.

@@ -294,6 +294,7 @@ pub fn job_of(alloc: Global, row: &Row, program: &str) -> Result<String, Refusal
         Verb::Account => "account",
         Verb::List => "list",
         Verb::Later => "later",
+        Verb::Show => "show",
         Verb::Check => "check",
     };
     let octets = match job.octets {

@@ -1,8 +1,8 @@
 //! Allocations that fail one after another in calls about accounts and versions.
 
 use super::growths::{answer, refusal, report};
-use super::modules::{OCTETS, kit, reading_kit, texts};
-use jobs::asnc::{Kit, ValueGiven};
+use super::modules::{OCTETS, kit, narrower_kit, reading_kit, texts};
+use jobs::asnc::{Explained, Kit, ValueGiven};
 use jobs::judging::{Verdict, judge};
 use starving::{Starved, Swept, Turn, sweep};
 use std::alloc::Global;
@@ -57,6 +57,26 @@ impl Starved for Judging {
     }
 }
 
+/// Where a type of fewer numbers is no later version.
+const DIFFERENCE: &str = "at n: other numbers are allowed";
+
+/// `Kit::compare`, of a type and one of fewer numbers.
+#[derive(Drop)]
+struct Explaining {
+    older: Kit,
+    newer: Kit,
+}
+
+impl Starved for Explaining {
+    fn call(&mut self, alloc: Global) -> Turn {
+        match Kit::compare(alloc, &self.older, &self.newer, "R.T") {
+            Ok(Explained::Differs(_, text)) => answer(text.as_str() == DIFFERENCE),
+            Ok(Explained::Later) => Turn::Wrong,
+            Err(fault) => refusal(&fault),
+        }
+    }
+}
+
 /// `Kit::later`, of a type and itself.
 #[derive(Drop)]
 struct Comparing {
@@ -103,6 +123,19 @@ fn later_with_ever_more_memory(rt: HostRuntime) -> Result<(), Fail> {
         newer: reading_kit(alloc)?,
     };
     match sweep(alloc, &mut comparing)? {
+        Swept::Wrong(_) => Err("another answer".into()),
+        Swept::Endless | Swept::Through { .. } => Ok(()),
+    }
+}
+
+#[test]
+fn compare_with_ever_more_memory(rt: HostRuntime) -> Result<(), Fail> {
+    let alloc = rt.alloc();
+    let mut explaining = Explaining {
+        older: reading_kit(alloc)?,
+        newer: narrower_kit(alloc)?,
+    };
+    match sweep(alloc, &mut explaining)? {
         Swept::Wrong(_) => Err("another answer".into()),
         Swept::Endless | Swept::Through { .. } => Ok(()),
     }

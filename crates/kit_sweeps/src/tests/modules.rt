@@ -17,6 +17,11 @@ R DEFINITIONS AUTOMATIC TAGS ::= BEGIN
 T ::= SEQUENCE {n INTEGER (0..9), s SET OF BOOLEAN, ...}
 END";
 
+const NARROWER: &str = "\
+R DEFINITIONS AUTOMATIC TAGS ::= BEGIN
+T ::= SEQUENCE {n INTEGER (0..7), s SET OF BOOLEAN, ...}
+END";
+
 /// The texts of the two modules. The first module imports from the second.
 pub fn texts(alloc: Global) -> Result<Vec<Vec<u8>>, Fail> {
     let mut texts = Vec::with_capacity(alloc, 2)?;
@@ -36,14 +41,24 @@ pub fn kit(alloc: Global) -> Result<Kit, Fail> {
     }
 }
 
-/// The kit of a module with an extensible type.
-pub fn reading_kit(alloc: Global) -> Result<Kit, Fail> {
+/// The kit of one module.
+fn kit_of(alloc: Global, text: &str) -> Result<Kit, Fail> {
     let mut octets = Vec::new(alloc);
-    octets.extend_from_slice(R.as_bytes())?;
+    octets.extend_from_slice(text.as_bytes())?;
     match Kit::open(alloc, &vec![in alloc; octets]?) {
         Ok(kit) => Ok(kit),
         Err(_) => Err("no kit".into()),
     }
+}
+
+/// The kit of a module with an extensible type.
+pub fn reading_kit(alloc: Global) -> Result<Kit, Fail> {
+    kit_of(alloc, R)
+}
+
+/// The kit of a module in which fewer numbers are allowed in the same type.
+pub fn narrower_kit(alloc: Global) -> Result<Kit, Fail> {
+    kit_of(alloc, NARROWER)
 }
 
 /// The encoding of A.v under B.T, worked out by hand: 300B 020107 3106 010100 0101FF. The members of the SET OF ascend,
