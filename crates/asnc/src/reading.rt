@@ -19,9 +19,9 @@ use ber_reader::{Read, read_ber, read_der};
 use codec_code::Code;
 use decode_faults::ReadFault;
 use judging::front_end::Modules;
-use judging::messages::{Fault, Unread};
+use judging::messages::{Fault, Finding, Unread};
 use judging::named_values::type_number;
-use octet_findings::{finding, missing};
+use octet_findings::{Encoded, broken_rule, finding, missing};
 use std::alloc::{AllocError, Global};
 use view_text::print_shown;
 
@@ -34,7 +34,33 @@ pub enum Rules {
     Der,
 }
 
-/// A fault of octets with the octet and the path at which it is, and what was found there.
+/// The first rule of DER that octets break, which encode a value of the type by BER. The result is None if there is no
+/// such rule.
+fn broken(
+    alloc: Global,
+    schema: &Schema,
+    code: &Code,
+    id: TypeId,
+    octets: &[u8],
+) -> Result<Option<Finding>, AllocError> {
+    let read = match read_ber(alloc, code, id, octets) {
+        Ok(read) => read,
+        Err(ReadFault::Memory) => return Err(AllocError),
+        Err(_) => return Ok(None),
+    };
+    let value = read.view.to_value(alloc)?;
+    let encoded = Encoded {
+        schema,
+        code,
+        ty: id,
+        value: &value,
+        octets,
+    };
+    broken_rule(alloc, encoded)
+}
+
+/// A fault of octets with the octet and the path at which it is, and what was found there. The finding of `NotDer` has
+/// its own octet and path.
 pub(crate) fn unread_at(
     alloc: Global,
     schema: &Schema,
@@ -50,6 +76,7 @@ pub(crate) fn unread_at(
     let part = stopped(alloc, schema, code, id, octets)?;
     let finding = match fault {
         ReadFault::Missing => missing(alloc, schema, part.ty, octets, part.gap)?,
+        ReadFault::NotDer => broken(alloc, schema, code, id, octets)?,
         _ => finding(alloc, schema, part.ty, octets, part.octet, fault)?,
     };
     Ok(Unread {

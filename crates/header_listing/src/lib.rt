@@ -11,5 +11,8 @@ mod type_names;
 mod values;
 mod walk;
 
+pub use first::{Encoding, first_encoding};
 pub use inside::Types;
+pub use value_text;
+pub use values::kind_word;
 pub use walk::list_headers;
