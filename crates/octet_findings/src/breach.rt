@@ -62,8 +62,7 @@ fn of_contents<'a>(core: &Core, contents: &[u8]) -> Option<(Rule<'a>, usize)> {
             _ => None,
         },
         Core::BitString(_) | Core::NamedBits(_)
-            if !is_distinguished(LeafKind::BitString, contents) =>
-        {
+            if !is_distinguished(LeafKind::BitString, contents) => {
             Some((Rule::UnusedBits, last))
         }
         Core::NamedBits(_) if !is_distinguished(LeafKind::NamedBits, contents) => {

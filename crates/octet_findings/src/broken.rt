@@ -1,6 +1,7 @@
 //! The first place at which octets that encode a value by BER break a rule of DER (X.690, 10 and 11).
 
 use crate::breach::{Breach, is_segmented, of_encoding};
+use crate::label::named;
 use crate::parts::{Inside, Part, Unit, next_part, type_at, within};
 use crate::rule::Rule;
 use crate::words::offset;
@@ -102,7 +103,7 @@ fn note_default<'a>(
             let rule = Rule::Default;
             let mut whole = part;
             whole.ty = member.ty;
-            whole.label.alternative = "";
+            whole.label = named(part.label.name);
             note(alloc, walk, whole, Breach { rule, octet: start })
         }
         _ => Ok(()),
@@ -204,10 +205,7 @@ fn step<'a>(
 
 /// The first rule of DER that the octets break. Each turn reads a header, which has two octets at least, or leaves the
 /// contents octets after one.
-fn first_broken<'a>(
-    alloc: Global,
-    encoded: Encoded<'a>,
-) -> Result<Option<First<'a>>, AllocError> {
+fn first_broken<'a>(alloc: Global, encoded: Encoded<'a>) -> Result<Option<First<'a>>, AllocError> {
     let mut walk = Walk {
         outer: Vec::new(alloc),
         first: None,

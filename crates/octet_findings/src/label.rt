@@ -55,7 +55,16 @@ fn push_name(path: &mut String, name: &str) -> Result<(), AllocError> {
     push(path, name)
 }
 
-impl Label<'_> {
+impl<'a> Label<'a> {
+    /// The label with the alternative of an untagged CHOICE after it.
+    pub(crate) fn with(self, alternative: &'a str) -> Label<'a> {
+        Label {
+            name: self.name,
+            index: self.index,
+            alternative,
+        }
+    }
+
     /// Appends the label to a path, of which at most 60 characters are shown.
     pub(crate) fn push_to(self, alloc: Global, path: &mut String) -> Result<(), AllocError> {
         push_name(path, self.name)?;

@@ -3,7 +3,7 @@
 use crate::label::{Label, named, numbered};
 use crate::order::{is_at_most, is_before};
 use crate::rule::Rule;
-use asn_base::schema::{Component, Core, Resolved, Schema, TypeId};
+use asn_base::schema::{Alternative, Component, Core, Resolved, Schema, TypeId};
 use asn_base::tag::Tag;
 use asn_base::value::Value;
 use header_listing::value_text::names::{alternative_at, components};
@@ -59,28 +59,45 @@ pub(crate) fn type_at(schema: &Schema, ty: TypeId) -> Option<&Resolved> {
     schema.types().get(ty.index)
 }
 
+/// The alternative that a value of an untagged CHOICE chooses, and the value of that. The result is None for another type.
+fn chosen<'a>(
+    schema: &'a Schema,
+    ty: TypeId,
+    value: &'a Value,
+) -> Option<(&'a Alternative, &'a Value)> {
+    let Some(resolved) = type_at(schema, ty) else {
+        return None;
+    };
+    let Value::Alt(number, inner) = value else {
+        return None;
+    };
+    if !resolved.tags.is_empty() {
+        return None;
+    }
+    match alternative_at(&*resolved.core, *number) {
+        Some(alternative) => Some((alternative, inner)),
+        None => None,
+    }
+}
+
 /// A value as a part. If its type is an untagged CHOICE, the part is the chosen alternative.
 fn part_of<'a>(schema: &'a Schema, ty: TypeId, value: &'a Value, label: Label<'a>) -> Part<'a> {
-    let mut part = Part {
+    let (ty, value, label) = match chosen(schema, ty, value) {
+        Some((alternative, inner)) => (
+            alternative.ty,
+            inner,
+            label.with(alternative.name.as_str()),
+        ),
+        None => (ty, value, label),
+    };
+    Part {
         ty,
         level: 0,
         value,
         label,
         member: None,
         order: None,
-    };
-    if let Some(resolved) = type_at(schema, ty) {
-        if let Value::Alt(number, inner) = value {
-            if resolved.tags.is_empty() {
-                if let Some(alternative) = alternative_at(&*resolved.core, *number) {
-                    part.ty = alternative.ty;
-                    part.value = inner;
-                    part.label.alternative = alternative.name.as_str();
-                }
-            }
-        }
     }
-    part
 }
 
 /// The components of a type; none if it is no SEQUENCE or SET.
