@@ -16,12 +16,13 @@ ghost use Rattle.asnc.specs.Reading.{IsNotRead, IsNotReadAs, IsRead, IsReadAs, I
 use crate::places::stopped;
 use asn_base::schema::{Schema, TypeId};
 use ber_reader::{Read, read_ber, read_der};
+use broken_rules::{Broken, Encoded, broken_rule};
 use codec_code::Code;
 use decode_faults::ReadFault;
 use judging::front_end::Modules;
 use judging::messages::{Fault, Finding, Unread};
 use judging::named_values::type_number;
-use octet_findings::{Encoded, broken_rule, finding, missing};
+use octet_findings::{finding, missing};
 use std::alloc::{AllocError, Global};
 use view_text::print_shown;
 
@@ -34,9 +35,22 @@ pub enum Rules {
     Der,
 }
 
-/// The first rule of DER that octets break, which encode a value of the type by BER. The result is None if there is no
-/// such rule.
-fn broken(
+/// A broken rule of DER as a finding, with its own octet and path.
+fn finding_of(alloc: Global, broken: Broken) -> Result<Finding, AllocError> {
+    let path = if broken.path.is_empty() {
+        "the whole value"
+    } else {
+        broken.path.as_str()
+    };
+    let (found, octet, kind) = (broken.found.as_str(), broken.octet, broken.kind);
+    Ok(Finding {
+        found: format!(in alloc; "{found} at octet {octet}, in {path} ({kind})")?,
+        expected: broken.expected,
+    })
+}
+
+/// The first rule of DER that octets break which encode a value of the type by BER, or None if there is none.
+fn not_der(
     alloc: Global,
     schema: &Schema,
     code: &Code,
@@ -56,7 +70,10 @@ fn broken(
         value: &value,
         octets,
     };
-    broken_rule(alloc, encoded)
+    match broken_rule(alloc, encoded)? {
+        Some(broken) => Ok(Some(finding_of(alloc, broken)?)),
+        None => Ok(None),
+    }
 }
 
 /// A fault of octets with the octet and the path at which it is, and what was found there. The finding of `NotDer` has
@@ -76,7 +93,7 @@ pub(crate) fn unread_at(
     let part = stopped(alloc, schema, code, id, octets)?;
     let finding = match fault {
         ReadFault::Missing => missing(alloc, schema, part.ty, octets, part.gap)?,
-        ReadFault::NotDer => broken(alloc, schema, code, id, octets)?,
+        ReadFault::NotDer => not_der(alloc, schema, code, id, octets)?,
         _ => finding(alloc, schema, part.ty, octets, part.octet, fault)?,
     };
     Ok(Unread {

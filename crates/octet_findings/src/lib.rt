@@ -3,20 +3,13 @@
 
 mod allowed;
 mod arcs;
-mod breach;
-mod broken;
 mod contents;
 mod headers;
 mod items;
-mod label;
 mod lacking;
-mod order;
-mod parts;
 mod refused;
-mod rule;
 mod words;
 
 pub use allowed::allowed_in_bits;
-pub use broken::{Encoded, broken_rule};
 pub use lacking::{Gap, missing};
 pub use refused::finding;

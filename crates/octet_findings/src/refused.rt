@@ -13,7 +13,7 @@ use octets::Form;
 use std::alloc::{AllocError, Global};
 
 /// A tag in notation, as `[3]` or `[UNIVERSAL 16]` (X.680, 31).
-pub(crate) fn tag_text(alloc: Global, tag: Tag) -> Result<String, AllocError> {
+fn tag_text(alloc: Global, tag: Tag) -> Result<String, AllocError> {
     let number = tag.number;
     match tag.class {
         Class::Universal => format!(in alloc; "[UNIVERSAL {number}]"),

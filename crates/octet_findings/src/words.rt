@@ -29,25 +29,6 @@ pub(crate) fn digits(alloc: Global, octet: u8) -> Result<String, AllocError> {
     format!(in alloc; "{octet:02X}")
 }
 
-/// The most octets that words show, three characters for each.
-const SHOWN: usize = 20;
-
-/// Octets in hexadecimal digits, with spaces between them. Two dots say that there are more than 20.
-pub(crate) fn listed(alloc: Global, octets: &[u8]) -> Result<String, AllocError> {
-    let mut list = String::new(alloc);
-    for place in 0..octets.len() {
-        if place > 0 {
-            list.push_str(" ")?;
-        }
-        if place == SHOWN {
-            list.push_str("..")?;
-            return Ok(list);
-        }
-        list.push_str(digits(alloc, octets[place])?.as_str())?;
-    }
-    Ok(list)
-}
-
 /// The offset at some distance.
 pub(crate) fn offset(at: usize, distance: usize) -> usize {
     at.saturating_add(distance)

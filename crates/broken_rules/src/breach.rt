@@ -2,7 +2,6 @@
 
 use crate::parts::{Part, type_at};
 use crate::rule::Rule;
-use crate::words::offset;
 use asn_base::schema::{Core, Schema};
 use encodings::LeafKind;
 use header_listing::Encoding;
@@ -14,6 +13,11 @@ use octets::{Form, header_len};
 pub(crate) struct Breach<'a> {
     pub rule: Rule<'a>,
     pub octet: usize,
+}
+
+/// The offset at some distance.
+pub(crate) fn offset(start: usize, distance: usize) -> usize {
+    start.saturating_add(distance)
 }
 
 /// Whether the contents octets of a type hold encodings by all rules.

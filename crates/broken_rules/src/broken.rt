@@ -1,15 +1,15 @@
 //! The first place at which octets that encode a value by BER break a rule of DER (X.690, 10 and 11).
 
-use crate::breach::{Breach, is_segmented, of_encoding};
+ghost use Rattle.std.specs.Prelude.{◌≡◌, ◌<◌, IfOk, IfSome, length};
+
+use crate::breach::{Breach, is_segmented, of_encoding, offset};
 use crate::label::named;
 use crate::parts::{Inside, Part, Unit, next_part, type_at, within};
 use crate::rule::Rule;
-use crate::words::offset;
 use asn_base::schema::{Schema, TypeId};
 use asn_base::value::Value;
 use codec_code::Code;
 use header_listing::{Encoding, first_encoding, kind_word};
-use messages::Finding;
 use octets::Form;
 use std::alloc::{AllocError, Global};
 
@@ -21,6 +21,18 @@ pub struct Encoded<'a> {
     pub ty: TypeId,
     pub value: &'a Value,
     pub octets: &'a [u8],
+}
+
+/// A broken rule of DER, in words: what was found and what was expected in its place. It is broken at this octet, whose
+/// offset counts from 0, by a part of the value, whose type is of this kind, as `BOOLEAN`. The path of the part is as
+/// `a.b[2].c`, cut off after 60 characters; it is empty if it is the whole value.
+#[derive(Debug, Drop)]
+pub struct Broken {
+    pub octet: usize,
+    pub path: String,
+    pub kind: &'static str,
+    pub found: String,
+    pub expected: String,
 }
 
 /// An encoding whose contents octets are read: the part that it is of, and its offset. After it come other octets, and
@@ -237,32 +249,35 @@ fn kind_of(schema: &Schema, ty: TypeId) -> &'static str {
     }
 }
 
-/// The finding of a broken rule, with its offset, and the path and the kind of the part that breaks it.
-fn finding_of(alloc: Global, schema: &Schema, first: First<'_>) -> Result<Finding, AllocError> {
-    let words = first.breach.rule.found(alloc)?;
-    let octet = first.breach.octet;
-    let kind = kind_of(schema, first.ty);
-    let path = if first.path.is_empty() {
-        "the whole value"
-    } else {
-        first.path.as_str()
-    };
-    Ok(Finding {
-        found: format!(in alloc; "{words} at octet {octet}, in {path} ({kind})")?,
-        expected: first.breach.rule.expected(alloc)?,
+/// The words for a broken rule.
+fn told(alloc: Global, schema: &Schema, first: First<'_>) -> Result<Broken, AllocError>
+    ensures { IfOk result (λ b. b.octet ≡ first.entry.breach.octet) }
+{
+    let rule = first.breach.rule;
+    Ok(Broken {
+        octet: first.breach.octet,
+        path: first.path,
+        kind: kind_of(schema, first.ty),
+        found: rule.found(alloc)?,
+        expected: rule.expected(alloc)?,
     })
 }
 
-/// Returns which rule of DER octets break that encode a value by BER, and where, in words. Of several it is the first
-/// one in the order of the octets. The rules are those of `strict_rules`: fewest length octets, strings in primitive
-/// form, TRUE as `FF`, zeros as unused bits, no zero at the end of named bits, the order of SET and SET OF, and no
-/// encoding of a DEFAULT. An addition that the type lacks isn't judged.
+/// Returns which rule of DER octets break that encode a value by BER, and where. Of several it is the first one in the
+/// order of the octets. The rules are those of `strict_rules`: fewest length octets, strings in primitive form, TRUE as
+/// `FF`, zeros as unused bits, no zero at the end of named bits, the order of SET and SET OF, and no encoding of a
+/// DEFAULT. An addition that the type lacks isn't judged.
 ///
 /// The result is None if no rule is found broken. `AllocError`: an allocation failed. Each header is read once. A
 /// component with a DEFAULT is compared with it once, which is the only work that grows with the number of levels.
-pub fn broken_rule(alloc: Global, encoded: Encoded<'_>) -> Result<Option<Finding>, AllocError> {
+pub fn broken_rule(alloc: Global, encoded: Encoded<'_>) -> Result<Option<Broken>, AllocError>
+    // The offset is that of an octet.
+    ensures { IfOk result (λ o. IfSome o (λ b. b.octet < length encoded.entry.octets.now)) }
+{
     match first_broken(alloc, encoded)? {
-        Some(first) => Ok(Some(finding_of(alloc, encoded.schema, first)?)),
-        None => Ok(None),
+        Some(first) if first.breach.octet < encoded.octets.len() => {
+            Ok(Some(told(alloc, encoded.schema, first)?))
+        }
+        _ => Ok(None),
     }
 }

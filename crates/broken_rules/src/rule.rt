@@ -1,8 +1,7 @@
 //! What the distinguished rules ask besides the basic ones (X.690, 10 and 11), in words.
 
-use crate::refused::tag_text;
-use crate::words::{digits, listed};
 use asn_base::tag::Tag;
+use header_listing::{push_hex, push_tag};
 use octets::octets_of;
 use std::alloc::{AllocError, Global};
 
@@ -27,21 +26,45 @@ pub(crate) enum Rule<'a> {
     ElementOrder,
 }
 
+/// The most octets that words show, three characters for each.
+const SHOWN: usize = 20;
+
+/// Octets in hexadecimal digits, with spaces between them. Two dots say that there are more than 20.
+fn listed(alloc: Global, octets: &[u8]) -> Result<String, AllocError> {
+    let mut list = String::new(alloc);
+    for place in 0..octets.len() {
+        if place > 0 {
+            list.push_str(" ")?;
+        }
+        if place == SHOWN {
+            list.push_str("..")?;
+            return Ok(list);
+        }
+        push_hex(&mut list, &[octets[place]])?;
+    }
+    Ok(list)
+}
+
 /// The fewest length octets, in hexadecimal digits.
 fn fewest(alloc: Global, contents: usize) -> Result<String, AllocError> {
+    if contents < 128 {
+        return listed(alloc, &[contents as u8]);
+    }
     let Ok(octets) = octets_of(alloc, contents as u128) else {
         return Err(AllocError);
     };
-    let size = listed(alloc, octets.as_slice())?;
-    if contents < 128 {
-        return if contents == 0 {
-            digits(alloc, 0)
-        } else {
-            Ok(size)
-        };
-    }
     let count = octets.len();
+    let size = listed(alloc, octets.as_slice())?;
     format!(in alloc; "8{count} {size}")
+}
+
+/// The words for a tag after another one.
+fn tag_after(alloc: Global, last: Tag, tag: Tag) -> Result<String, AllocError> {
+    let mut words = String::from_str(alloc, "the tag ")?;
+    push_tag(&mut words, tag)?;
+    words.push_str(" after ")?;
+    push_tag(&mut words, last)?;
+    Ok(words)
 }
 
 impl Rule<'_> {
@@ -53,13 +76,9 @@ impl Rule<'_> {
                 format!(in alloc; "the length octets {size}")
             }
             Rule::Form => String::from_str(alloc, "the constructed form"),
-            Rule::TagOrder(last, tag) => {
-                let last = tag_text(alloc, last)?;
-                let tag = tag_text(alloc, tag)?;
-                format!(in alloc; "the tag {tag} after {last}")
-            }
+            Rule::TagOrder(last, tag) => tag_after(alloc, last, tag),
             Rule::Truth(octet) => {
-                let octet = digits(alloc, octet)?;
+                let octet = listed(alloc, &[octet])?;
                 format!(in alloc; "the contents {octet}")
             }
             Rule::UnusedBits => String::from_str(alloc, "an unused bit that is one"),
