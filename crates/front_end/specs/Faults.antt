@@ -16,6 +16,7 @@ use Rattle.notation.specs.declared.fault.SyntaxFault.TheVariants as parsing
 use Rattle.trees.specs.Modules.{ModuleTree}
 use Rattle.syntax.specs.Syntax.{module_text}
 use Rattle.names.specs.declared.fault.NameFault.TheVariants as linking
+use Rattle.resolve.specs.First.{IsFirstFault}
 use Rattle.resolve.specs.Links.{Links, IsLinkFault}
 use Rattle.resolve.specs.Program.{Program}
 use Rattle.tagging.specs.Faults as tagging
@@ -86,12 +87,12 @@ pub record HaveProgram (ms : List ModuleTree) (P : Program → Type 0) : Type 0 
   pub links : Links ms program
   pub such : P program
 
--- the fault is true of modules: of their names, or otherwise of the linked modules
+-- The fault is the first one of modules: of their names, or otherwise of the linked modules. `Memory` says nothing.
 abbrev pub IsModulesFault : List ModuleTree → FrontFault → Type 0
 IsModulesFault ms faults.Memory = Unit {0}
 IsModulesFault ms (faults.Text k f) = ⊥
 IsModulesFault ms (faults.Tree k f) = ⊥
-IsModulesFault ms (faults.Name f) = (f ≡ linking.Memory → ⊥) × IsLinkFault ms f
+IsModulesFault ms (faults.Name f) = (f ≡ linking.Memory → ⊥) × IsLinkFault ms f × IsFirstFault ms f
 IsModulesFault ms fault = HaveProgram ms (λ p. IsLinkedFault p fault)
 
 -- each text is a module, and the fault is true of the modules

@@ -33,6 +33,7 @@ use Rattle.names.specs.declared.fault.NameFault.{NameFault}
 use Rattle.names.specs.declared.fault.NameFault.TheVariants as linking
 use Rattle.names.specs.declared.scope.Assigned.{Assigned}
 use Rattle.type_table.specs.Table.{Part, Type', members}
+use Rattle.resolve.specs.First.{IsFirstFault}
 use Rattle.resolve.specs.Links.{Links, IsLinkFault}
 use Rattle.resolve.specs.Program.{Program, IsAssignment, IsWhole}
 use Rattle.tagging.specs.Faults as tagging
@@ -209,11 +210,12 @@ module _ (xs : List (List ℕ)) (h : IsFrontEnd xs) where
         → (e ≡ linking.Memory → ⊥)
         → AllZip IsModule xs ms
         → IsLinkFault ms e
+        → IsFirstFault ms e
         → ⊥
-    never_linked ms e u z b = none.linked ms e u z (record { linked = tt; fault = b })
+    never_linked ms e u z b f = none.linked ms e u z (record { linked = tt; fault = b; first = f })
 
     linked_alone : (ms : List ModuleTree) (q : Program) → AllZip IsModule xs ms → Links ms q → q ≡ p
-    linked_alone ms q z b = none.one_link ms q z (record { linked = b; fault = tt })
+    linked_alone ms q z b = none.one_link ms q z (record { linked = b; fault = tt; first = tt })
 
     never_tagged : (e : TagFault) → (e ≡ tags.Memory → ⊥) → tagging.Stands p e → first_tags.TellsFirst p e → ⊥
     never_tagged e u b f = none.tagged e u (record { found = b; first = f })
@@ -311,7 +313,7 @@ module _ (xs : List (List ℕ)) (h : IsFrontEnd xs) where
     each = record {
       modules = ms;
       read = z;
-      linked = record { linked = l; fault = tt };
+      linked = record { linked = l; fault = tt; first = tt };
       tagged = record { found = (refl, t); first = tt };
       bounded = record { found = (refl, b); first = tt };
       settled = y;
@@ -429,7 +431,8 @@ module _ (xs : List (List ℕ)) where
   of_names : (f : NameFault)
       → Stands xs (faults.Name f)
       → (ms : List ModuleTree) × AllZip IsModule xs ms × (f ≡ linking.Memory → ⊥) × IsLinkFault ms f
-  of_names f a = (a.modules, a.are, a.stands.0, a.stands.1)
+      × IsFirstFault ms f
+  of_names f a = (a.modules, a.are, a.stands)
 
   of_tags : (f : TagFault)
       → Stands xs (faults.Tag f)

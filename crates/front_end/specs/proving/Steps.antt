@@ -2,6 +2,7 @@
 use Rattle.std.specs.Prelude.{◌≡◌, ℕ, List}
 use Rattle.trees.specs.Modules.{ModuleTree}
 use Rattle.names.specs.declared.fault.NameFault.TheVariants as linking
+use Rattle.resolve.specs.First.{IsFirstFault}
 use Rattle.resolve.specs.Links.{IsLinkFault}
 use Rattle.front_end.specs.Faults.{HasNoTokens, IsNoModule}
 use Rattle.front_end.specs.declared.fault.FrontFault.{FrontFault}
@@ -20,8 +21,8 @@ IsRefusedAt k x (faults.Text i f) = (i ≡ k) × HasNoTokens x f
 IsRefusedAt k x (faults.Tree i f) = (i ≡ k) × IsNoModule x f
 IsRefusedAt k x fault = ⊥
 
--- the fault of the names of modules is true
+-- the fault is the first one of the names of modules
 abbrev pub IsNamesFault : List ModuleTree → FrontFault → Type 0
 IsNamesFault ms faults.Memory = Unit {0}
-IsNamesFault ms (faults.Name f) = (f ≡ linking.Memory → ⊥) × IsLinkFault ms f
+IsNamesFault ms (faults.Name f) = (f ≡ linking.Memory → ⊥) × IsLinkFault ms f × IsFirstFault ms f
 IsNamesFault ms fault = ⊥
