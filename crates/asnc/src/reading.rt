@@ -16,10 +16,11 @@ ghost use Rattle.asnc.specs.Reading.{IsNotRead, IsNotReadAs, IsRead, IsReadAs, I
 use crate::places::stopped;
 use asn_base::schema::{Schema, TypeId};
 use ber_reader::{Read, read_ber, read_der};
+use broken_rules::{Broken, Encoded, broken_rule};
 use codec_code::Code;
 use decode_faults::ReadFault;
 use judging::front_end::Modules;
-use judging::messages::{Fault, Unread};
+use judging::messages::{Fault, Finding, Unread};
 use judging::named_values::type_number;
 use octet_findings::{finding, missing};
 use std::alloc::{AllocError, Global};
@@ -34,7 +35,49 @@ pub enum Rules {
     Der,
 }
 
-/// A fault of octets with the octet and the path at which it is, and what was found there.
+/// A broken rule of DER as a finding, with its own octet and path.
+fn finding_of(alloc: Global, broken: Broken) -> Result<Finding, AllocError> {
+    let path = if broken.path.is_empty() {
+        "the whole value"
+    } else {
+        broken.path.as_str()
+    };
+    let (found, octet, kind) = (broken.found.as_str(), broken.octet, broken.kind);
+    Ok(Finding {
+        found: format!(in alloc; "{found} at octet {octet}, in {path} ({kind})")?,
+        expected: broken.expected,
+    })
+}
+
+/// The first rule of DER that octets break which encode a value of the type by BER, or None if there is none.
+fn not_der(
+    alloc: Global,
+    schema: &Schema,
+    code: &Code,
+    id: TypeId,
+    octets: &[u8],
+) -> Result<Option<Finding>, AllocError> {
+    let read = match read_ber(alloc, code, id, octets) {
+        Ok(read) => read,
+        Err(ReadFault::Memory) => return Err(AllocError),
+        Err(_) => return Ok(None),
+    };
+    let value = read.view.to_value(alloc)?;
+    let encoded = Encoded {
+        schema,
+        code,
+        ty: id,
+        value: &value,
+        octets,
+    };
+    match broken_rule(alloc, encoded)? {
+        Some(broken) => Ok(Some(finding_of(alloc, broken)?)),
+        None => Ok(None),
+    }
+}
+
+/// A fault of octets with the octet and the path at which it is, and what was found there. The finding of `NotDer` has
+/// its own octet and path.
 pub(crate) fn unread_at(
     alloc: Global,
     schema: &Schema,
@@ -50,6 +93,7 @@ pub(crate) fn unread_at(
     let part = stopped(alloc, schema, code, id, octets)?;
     let finding = match fault {
         ReadFault::Missing => missing(alloc, schema, part.ty, octets, part.gap)?,
+        ReadFault::NotDer => not_der(alloc, schema, code, id, octets)?,
         _ => finding(alloc, schema, part.ty, octets, part.octet, fault)?,
     };
     Ok(Unread {

@@ -12,7 +12,7 @@ use octets::{Form, Header, header_len, read_header};
 
 /// An encoding: its tag and form, its identifier octets, length octets and contents octets, and what follows it.
 #[derive(Clone, Copy)]
-pub(crate) struct Encoding<'a> {
+pub struct Encoding<'a> {
     pub tag: Tag,
     pub form: Form,
     pub identifier: &'a [u8],
@@ -50,7 +50,7 @@ fn parted(octets: &[u8], header: Header) -> Encoding<'_>
 
 /// The encoding at the start of octets. The result is None if no header is there, or if it promises more contents than
 /// follow it.
-pub(crate) fn first_encoding(octets: &[u8]) -> Option<Encoding<'_>>
+pub fn first_encoding(octets: &[u8]) -> Option<Encoding<'_>>
     ensures some { IfSome result (λ e. IsFirst e.tag (is_constructed e.form) e.identifier.now e.size.now
         e.contents.now e.rest.now octets.now) }
     ensures none { IfNone result (HasNone octets.now) }

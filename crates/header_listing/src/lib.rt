@@ -11,5 +11,10 @@ mod type_names;
 mod values;
 mod walk;
 
+pub use first::{Encoding, first_encoding};
 pub use inside::Types;
+pub use line_text::push_hex;
+pub use type_names::push_tag;
+pub use value_text;
+pub use values::kind_word;
 pub use walk::list_headers;

@@ -25,7 +25,7 @@ fn hex_character(digit: u8) -> char
 }
 
 /// Appends two hexadecimal digits for each octet.
-pub(crate) fn push_hex(out: &mut String, octets: &[u8]) -> Result<(), AllocError>
+pub fn push_hex(out: &mut String, octets: &[u8]) -> Result<(), AllocError>
     ensures { OnOk result (string_bytes out.new ≡ string_bytes out.old ++ hex_digits octets.now) }
 {
     for i in 0..octets.len() {

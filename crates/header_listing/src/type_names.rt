@@ -25,7 +25,7 @@ pub(crate) fn push_cut(out: &mut String, name: &str) -> Result<(), AllocError> {
 }
 
 /// Appends a tag in notation, as `[3]` or `[UNIVERSAL 16]` (X.680, 31).
-pub(crate) fn push_tag(out: &mut String, tag: Tag) -> Result<(), AllocError> {
+pub fn push_tag(out: &mut String, tag: Tag) -> Result<(), AllocError> {
     out.push_str(match tag.class {
         Class::Universal => "[UNIVERSAL ",
         Class::Application => "[APPLICATION ",

@@ -25,7 +25,7 @@ const SHOWN_BITS: usize = 7;
 const MOST_ARCS: usize = 64;
 
 /// The word for the kind of a type (X.680, 17 to 30).
-pub(crate) fn kind_word(core: &Core) -> &'static str {
+pub fn kind_word(core: &Core) -> &'static str {
     match core {
         Core::Boolean => "BOOLEAN",
         Core::Integer(_) => "INTEGER",

@@ -5,16 +5,16 @@ use messages::{Finding, Unread, UnreadBits};
 use shown_texts::shown;
 use std::alloc::{AllocError, Global};
 
-/// The words for octets that can't be read: the place of the octet from 0, the part of the value, and why. `NotDer` has
-/// no octet: the octets are a BER encoding that is not DER.
+/// The words for octets that can't be read: the place of the octet from 0, the part of the value, and why. The octets of
+/// `NotDer` are read to their end, so the octet and the part are those of its finding, which says them.
 pub(crate) fn of_unread(alloc: Global, unread: &Unread) -> Result<String, AllocError> {
-    if unread.fault == ReadFault::NotDer {
-        return String::from_str(alloc, of_reading(unread.fault));
-    }
     let words = match &unread.finding {
         Some(finding) => of_finding(alloc, finding)?,
         None => String::from_str(alloc, of_reading(unread.fault))?,
     };
+    if unread.fault == ReadFault::NotDer {
+        return Ok(words);
+    }
     let octet = unread.octet;
     if unread.path.is_empty() {
         return format!(in alloc; "at octet {octet}: {words}");
