@@ -35,14 +35,21 @@ pub enum Rules {
     Der,
 }
 
-/// A broken rule of DER as a finding, with its own octet and path.
-fn finding_of(alloc: Global, broken: Broken) -> Result<Finding, AllocError> {
-    let path = if broken.path.is_empty() {
+/// The words for the part of a value at a path.
+fn part_at(path: &str) -> &str {
+    if path.is_empty() {
         "the whole value"
     } else {
-        broken.path.as_str()
-    };
-    let (found, octet, kind) = (broken.found.as_str(), broken.octet, broken.kind);
+        path
+    }
+}
+
+/// A broken rule of DER as a finding, with its own octet and path.
+fn finding_of(alloc: Global, broken: Broken) -> Result<Finding, AllocError> {
+    let path = part_at(broken.path.as_str());
+    let found = broken.found.as_str();
+    let octet = broken.octet;
+    let kind = broken.kind;
     Ok(Finding {
         found: format!(in alloc; "{found} at octet {octet}, in {path} ({kind})")?,
         expected: broken.expected,
