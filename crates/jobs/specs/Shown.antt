@@ -23,8 +23,8 @@ pub record IsRefusalLine (lines : List ℕ) (u : Unread) (output : List ℕ) : T
 -- The octets are accepted: the output is the lines alone, and `yes` is true. Or they are refused: the report of that is
 -- after the lines, and `yes` is false.
 abbrev pub EndsInRefusal : (lines : List ℕ) → Option Unread → (yes : Bool) → (output : List ℕ) → Type 0
-EndsInRefusal lines None yes output = (yes ≡ true) × (output ≡ lines)
-EndsInRefusal lines (Some u) yes output = (yes ≡ false) × IsRefusalLine lines u output
+EndsInRefusal lines None accepted output = (accepted ≡ true) × (output ≡ lines)
+EndsInRefusal lines (Some u) accepted output = (accepted ≡ false) × IsRefusalLine lines u output
 
 -- `show` prints the headers of the octets in the terms of the type of this name, and their refusal if they are refused.
 pub record PrintsShown (p : Program) (s : List Resolved) (ty octets : List ℕ) (yes : Bool) (output : List ℕ)
