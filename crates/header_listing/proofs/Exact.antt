@@ -1,11 +1,11 @@
 -- The octets of lines, joined.
-use Rattle.std.proofs.Common.{arith, ◌≡◌, ℕ, ◌+◌, ◌≤◌, ◌<◌, List, [], ◌∷◌, ◌++◌, length, refl, sym, ap, ◌∙◌, append_assoc, length-append, take}
+use Rattle.std.proofs.Common.{arith, ◌≡◌, ℕ, ◌≤◌, ◌<◌, List, [], ◌∷◌, ◌++◌, length, refl, sym, ap, ◌∙◌, append_assoc, length-append, take}
 use Rattle.std.proofs.lemmas.List.{append-nil}
 use Rattle.std.proofs.lemmas.Grind.{flat_map-append}
 use Rattle.std.proofs.Math.Seq.{take-append_seam, take-length}
 use Rattle.std.specs.Prelude.{flat_map}
 use Rattle.encodings.specs.Header.{Octets}
-use Rattle.header_listing.specs.Shown.{Line, header, others, octets_of, IsFirst, Shows, ends, primitive, within, after, none}
+use Rattle.header_listing.specs.Shown.{Line, octets_of, Shows, ends, primitive, within, after, none}
 use Rattle.header_listing.specs.Listing.{IsListing}
 
 pub record Exactly (o : Octets) (m : ℕ) (shown : Octets) : Type 0 where

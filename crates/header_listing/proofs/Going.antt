@@ -1,24 +1,9 @@
 -- Showing the octets that are left, and then those after each encoding that is open.
-use Rattle.std.proofs.Common.{arith, ◌≡◌, ℕ, zero, suc, ◌+◌, ◌≤◌, ◌<◌, Bool, true, false, List, [], ◌∷◌, ◌++◌, length, refl, sym, ap, subst, ◌∙◌, append_assoc, length-append}
-use Rattle.std.proofs.lemmas.List.{append-nil}
+use Rattle.std.proofs.Common.{arith, ◌≡◌, ℕ, suc, ◌+◌, ◌≤◌, Bool, true, false, List, [], ◌∷◌, ◌++◌, length, refl, sym, ap, subst, ◌∙◌, append_assoc, length-append}
 use Rattle.asn_base.specs.declared.tag.Tag.{Tag}
 use Rattle.encodings.specs.Header.{Octets, LengthOf, short, long}
 use Rattle.header_listing.specs.Shown.{IsFirst, HasNone, Line, header, others, Shows, ends, primitive, within, after, none}
-
--- The lines show the next m octets, the first of which are those left of the innermost open encoding. `outs` has what
--- comes after each open encoding, the innermost first.
-pub data Goes : List Octets → ℕ → Octets → ℕ → List Line → Type 0 where
-  inside : {outs : List Octets} {n m : ℕ} {o : Octets} {ls : List Line}
-      → Shows (length outs) n o m ls
-      → Goes outs n o m ls
-  out : {outs : List Octets} {n p k m q : ℕ} {o u : Octets} {ks ls js : List Line}
-      → Shows (suc (length outs)) n o k ks
-      → k ≡ length o
-      → p ≡ n + k
-      → Goes outs p u m ls
-      → q ≡ k + m
-      → js ≡ ks ++ ls
-      → Goes (u ∷ outs) n o q js
+use Rattle.header_listing.specs.proving.Going.{Goes, inside, out}
 
 pub as_many : {d n m k : ℕ} {o : Octets} {ls js : List Line} → Shows d n o m ls → m ≡ k → ls ≡ js → Shows d n o k js
 as_many {d} {n} {m} {k} {o} {ls} {js} s e f =

@@ -1,7 +1,6 @@
 -- What is kept while headers are listed.
-use Rattle.std.proofs.Common.{arith, ◌≡◌, ℕ, zero, suc, ◌+◌, ◌-◌, ◌*◌, take, ◌≤◌, ◌<◌, Bool, true, false, List, [], ◌∷◌, ◌++◌, length, map, refl, sym, ap, subst, ◌∙◌, append_assoc, length-append}
+use Rattle.std.proofs.Common.{arith, ◌≡◌, ℕ, ◌+◌, ◌-◌, take, ◌≤◌, ◌<◌, Bool, true, false, List, [], ◌∷◌, ◌++◌, length, refl, sym, ap, subst, ◌∙◌, append_assoc, length-append}
 use Rattle.std.proofs.lemmas.List.{append-nil, reverse-append, map-append, length-reverse, length-map}
-use Rattle.std.specs.Prelude.{reverse}
 use Rattle.std.specs.List.{AllByRecursion}
 use Rattle.asn_base.specs.declared.tag.Tag.{Tag}
 use Rattle.encodings.specs.Header.{Octets}
@@ -9,23 +8,8 @@ use Rattle.header_listing.specs.Lines.{AreLines}
 use Rattle.header_listing.specs.Listing.{IsListing}
 use Rattle.header_listing.specs.Shown.{IsFirst, HasNone, Line, header, others, offset_of, Shows, ends}
 use Rattle.header_listing.specs.declared.walk.Outer.{Outer}
-use Rattle.header_listing.proofs.Going.{Goes, inside, out, as_many, goes_from, go_primitive, go_within, go_none, go_out, counted, sized_some, unit_counted, header_counted}
-
--- what comes after each open encoding, the innermost first
-abbrev pub outs_of : List Outer → List Octets
-outs_of items = reverse (map (λ u. u.rest.now) items)
-
-abbrev pub total : List Octets → ℕ
-total [] = 0
-total (o ∷ os) = length o + total os
-
--- The lines of the text show the octets before the offset, and lines for what is left complete them.
-pub record Going (o : Octets) (limit : ℕ) (outs : List Octets) (left : Octets) (offset : ℕ) (text : List ℕ) : Type 0 where
-  pub lines : List Line
-  pub are_lines : AreLines lines text
-  pub before : AllByRecursion (λ l. offset_of l < limit) lines
-  pub goes : (m : ℕ) (ls : List Line) → Goes outs offset left m ls → Shows 0 0 o (offset + m) (lines ++ ls)
-  pub sum : offset + (length left + total outs) ≡ length o
+use Rattle.header_listing.specs.proving.Going.{Goes, inside, outs_of, total, measure, Going}
+use Rattle.header_listing.proofs.Going.{as_many, goes_from, go_primitive, go_within, go_none, go_out, counted, sized_some, unit_counted, header_counted}
 
 pub started : {m : ℕ} {o : Octets} {ls : List Line} → Goes [] 0 o m ls → Shows 0 0 o (0 + m) ([] ++ ls)
 started (inside s) = as_many s (omega arith) refl
@@ -162,10 +146,6 @@ outs_more items u = simp (map-append, reverse-append)
 pub outs_counted : (items : List Outer) → length (outs_of items) ≡ length items
 outs_counted items = simp (length-reverse, length-map)
 
--- what is left to show, with the open encodings
-abbrev pub measure : Octets → List Outer → ℕ
-measure left items = 2 * (length left + total (outs_of items)) + length items
-
 pub smaller_after : {t : Tag} {c : Bool} {i z x rest left : Octets} (there : Octets) (items news : List Outer)
     → IsFirst t c i z x rest left
     → there ≡ rest
@@ -210,3 +190,18 @@ ended {o} {limit} {left} {offset} {n} items {news} g z e f q =
     let t : total (outs_of items) ≡ 0 = ap (λ y. total (outs_of y)) none in
     let s = g.sum in
     listed g (λ b. absurd (omega (arith, s, t, z, b)))
+
+pub smaller_out : (there left : Octets) (items news : List Outer) (u : Outer)
+    → items ≡ news ++ u ∷ []
+    → u.rest.now ≡ there
+    → measure there news < measure left items
+smaller_out there left items news u e f =
+    let a = ap (λ y. total (outs_of y)) e in
+    let b = ap total (outs_more news u) in
+    let d = ap (λ y. length y) e in
+    let k = length-append news (u ∷ []) in
+    let q = ap length f in
+    omega (arith, a, b, d, k, q)
+
+pub smaller_none : (left : Octets) (items : List Outer) → 0 < length left → measure [] items < measure left items
+smaller_none left items l = omega (arith, l)

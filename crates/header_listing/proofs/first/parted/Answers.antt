@@ -1,5 +1,4 @@
-use Rattle.std.proofs.Common.{arith, sym, ap, ◌∙◌}
-use Rattle.std.proofs.lemmas.List.{take-append-drop}
+use Rattle.std.proofs.Common.{arith, ◌∙◌}
 use Rattle.octets.specs.Forms.{is_constructed}
 use Rattle.header_listing.proofs.Parts.{first_is, cut_at, identifier_within}
 use Rattle.header_listing.proofs.first.parted.Goals as goal

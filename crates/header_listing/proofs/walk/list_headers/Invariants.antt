@@ -1,9 +1,8 @@
-use Rattle.std.proofs.Common.{◌+◌, ◌*◌, length, string_bytes}
-use Rattle.header_listing.proofs.Listed.{Going, outs_of, total}
+use Rattle.header_listing.specs.proving.Going.{IsGoing, weight}
 use Rattle.header_listing.proofs.walk.list_headers.Given as goal
 
-abbrev pub invariant-headers : goal.invariant-headers
-invariant-headers l = Going l.octets l.limit (outs_of l.outer.items) l.left l.offset (string_bytes l.out)
+abbrev pub invariant-loop-listing : goal.invariant-loop-listing
+invariant-loop-listing l = IsGoing l.octets l.limit l.listing
 
-abbrev pub decreases-headers : goal.decreases-headers
-decreases-headers l = 2 * (length l.left + total (outs_of l.outer.items)) + length l.outer.items
+abbrev pub decreases-loop-listing : goal.decreases-loop-listing
+decreases-loop-listing l = weight l.listing
