@@ -2,7 +2,8 @@
 use Rattle.std.specs.Prelude.{◌≡◌, ◌↔◌, ℕ, suc, ℤ, Bool, true, List, length, map, Some, slice_get}
 use Rattle.asn_base.specs.Abstract.{AbstractValue, alternative, enumerated, bits}
 use Rattle.asn_base.specs.Types.{Alternative, Item, NamedBit, Resolved}
-use Rattle.value_builders.specs.Named.{Has, alternatives_in, items_in, bits_in, place_of, number_of, bit_of, alternative_names}
+use Rattle.value_builders.specs.Named.{Has, alternatives_in, items_in, bits_in, place_of, number_of, bit_of}
+use Rattle.value_builders.specs.Named.{alternative_names}
 
 -- w is v as the alternative with this name of type t, a CHOICE (X.680, clause 29)
 pub record IsAlternative (s : List Resolved) (t : ℕ) (name : List ℕ) (v w : AbstractValue) : Type 0 where

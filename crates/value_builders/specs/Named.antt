@@ -1,6 +1,7 @@
 -- The components, alternatives, items and bits of a type by their names (X.680, clause 12.3). The names of one type
 -- differ in each schema, so the first part of a name is the only one.
-use Rattle.std.specs.Prelude.{◌≡◌, ℕ, suc, ℤ, List, [], ◌∷◌, ◌++◌, map, Option, Some, None, option_map, slice_get, bytes_eq}
+use Rattle.std.specs.Prelude.{◌≡◌, ℕ, suc, ℤ, List, [], ◌∷◌, ◌++◌, map, Option, Some, None, option_map, slice_get}
+use Rattle.std.specs.Prelude.{bytes_eq}
 use Rattle.std.specs.Prelude.{if◌then◌else◌}
 use Rattle.asn_base.specs.Types.{Item, NamedBit, Alternative, Component, Kind, an_enumerated, a_named_bit_string}
 use Rattle.asn_base.specs.Types.{a_sequence, a_set, a_choice, Resolved}

@@ -4,7 +4,8 @@ use Rattle.asn_base.specs.Abstract.{AbstractValue}
 use Rattle.asn_base.specs.Types.{Alternative, Item, NamedBit, Resolved}
 use Rattle.value_builders.specs.declared.fault.BuildFault.{BuildFault}
 use Rattle.value_builders.specs.declared.fault.BuildFault.TheVariants as fault
-use Rattle.value_builders.specs.Named.{Has, IsOther, kind_at, components_in, alternatives_in, items_in, bits_in, place_of}
+use Rattle.value_builders.specs.Named.{Has, IsOther, kind_at, components_in, alternatives_in, items_in, bits_in}
+use Rattle.value_builders.specs.Named.{place_of}
 use Rattle.value_builders.specs.Named.{number_of, bit_of, component_names, alternative_names}
 use Rattle.value_builders.specs.Building.{Building, missing}
 use Rattle.value_builders.specs.Made.{AreBitPlaces}

@@ -1,6 +1,7 @@
 //! Strings of named bits, by the names of the bits that are set.
 
-ghost use Rattle.std.specs.Prelude.{◌≡◌, ◌≤◌, ◌<◌, ℕ, suc, [], IfErr, IfOk, MatchOption, None, OnOk, Some, bytes_eq, length, map};
+ghost use Rattle.std.specs.Prelude.{◌≡◌, ◌≤◌, ◌<◌, ℕ, suc, [], IfErr, IfOk, MatchOption, None, OnOk, Some, bytes_eq};
+ghost use Rattle.std.specs.Prelude.{length, map};
 ghost use Rattle.std.specs.Int.Digits.{AllBelowBase};
 ghost use Rattle.std.specs.List.{AllByRecursion};
 ghost use Rattle.asn_base.specs.Abstract.{abstract, bits_of};

@@ -1,6 +1,7 @@
 //! Values of a SEQUENCE or SET, made component by component.
 
-ghost use Rattle.std.specs.Prelude.{◌≡◌, ◌<◌, IfErr, IfOk, IsFalse, IsTrue, List, MatchOption, None, Some, length, map, option_map, replicate, slice_get, slice_set};
+ghost use Rattle.std.specs.Prelude.{◌≡◌, ◌<◌, IfErr, IfOk, IsFalse, IsTrue, List, MatchOption, None, Some, length, map};
+ghost use Rattle.std.specs.Prelude.{option_map, replicate, slice_get, slice_set};
 ghost use Rattle.asn_base.specs.Abstract.{AbstractValue, abstract, fields, row_of_options};
 ghost use Rattle.asn_base.specs.Seen.{component_of};
 ghost use Rattle.asn_base.specs.Types.{Component as Component'};

@@ -3,7 +3,8 @@
 ghost use Rattle.std.specs.Prelude.{◌≡◌, ◌++◌, IfSome, MatchOption, None, Some, bytes_eq, map};
 ghost use Rattle.asn_base.specs.Schemas.{IsSound};
 ghost use Rattle.asn_base.specs.Seen.{alternative_of, component_of, item_of, kind_of};
-ghost use Rattle.value_builders.specs.Named.{alternative_names, alternatives_in, component_names, components_in, items_in, kind_at, number_of, place_of};
+ghost use Rattle.value_builders.specs.Named.{alternative_names, alternatives_in, component_names, components_in};
+ghost use Rattle.value_builders.specs.Named.{items_in, kind_at, number_of, place_of};
 
 use asn_base::schema::{Alternative, Alternatives, Component, Core, Item, Items, Schema, TypeId};
 
@@ -136,7 +137,8 @@ pub fn alternatives_of(core: &Core) -> Option<&Alternatives>
 pub fn items_of(core: &Core) -> Option<&Items>
     ensures { MatchOption result
         (items_in (kind_of core.now) ≡ None)
-        (λ i. items_in (kind_of core.now) ≡ Some (map item_of i.now.root.items ++ map item_of i.now.additions.items)) }
+        (λ i. items_in (kind_of core.now)
+        ≡ Some (map item_of i.now.root.items ++ map item_of i.now.additions.items)) }
 {
     match core {
         Core::Enumerated(items) => Some(items),

@@ -15,8 +15,8 @@ use std::alloc::Global;
 /// Makes a value of a CHOICE: the alternative with a name, and its value. Whether this is one of the alternative's type
 /// is decided when the whole is encoded.
 ///
-/// `NoType`: the schema has no such type. `NotChoice`: it is no CHOICE. `NoAlternative`: it has no alternative with this
-/// name. `Memory`: an allocation failed.
+/// `NoType`: the schema has no such type. `NotChoice`: it is no CHOICE. `NoAlternative`: it has no alternative with
+/// this name. `Memory`: an allocation failed.
 pub fn alternative(
     alloc: Global,
     schema: &Schema,
@@ -44,8 +44,8 @@ pub fn alternative(
 
 /// Makes a value of an ENUMERATED: the item with a name.
 ///
-/// `NoType`: the schema has no such type. `NotEnumerated`: it is no ENUMERATED. `NoItem`: it has no item with this name.
-/// `Memory`: an allocation failed.
+/// `NoType`: the schema has no such type. `NotEnumerated`: it is no ENUMERATED. `NoItem`: it has no item with this
+/// name. `Memory`: an allocation failed.
 pub fn item(alloc: Global, schema: &Schema, id: TypeId, name: &str) -> Result<Value, BuildFault>
     // The item is the one with this name.
     ensures made { IfOk result (λ v. IsItem schema.now id.index name.now (abstract v)) }
