@@ -1,6 +1,6 @@
--- The text of an account: its rows in JSON (RFC 8259), from the root down; no clause of X.680, X.690 or X.691. Each row
--- is an array that begins with the name of its kind. All numbers are whole, and written in digits alone. A text with a
--- sign, a fraction or an exponent is not that of the account, even if the number is the same.
+-- The text of an account: its rows in JSON (RFC 8259), from the root down (own rule). Each row is an array that begins
+-- with the name of its kind. All numbers are whole, and written in digits alone. A text with a sign, a fraction or an
+-- exponent is not that of the account, even if the number is the same.
 use Rattle.std.specs.Prelude.{◌≡◌, ℕ, List, [], ◌∷◌, ◌++◌, map, Some, codes, decimal}
 use Rattle.json.specs.Json.{Json, number, string, array, Items, no_items, item, document}
 use Rattle.json.specs.Print.{print}

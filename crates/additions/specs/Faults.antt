@@ -1,4 +1,5 @@
--- What faults of a program p mean, whose types are bounded. Names are lists of octets.
+-- What faults of extension additions mean (X.680, clauses 20, 25, 27 and 29), for a program p whose types are bounded.
+-- Names are lists of octets.
 use Rattle.resolve.specs.Program.{Program}
 use Rattle.additions.specs.First.{IsFirstAt}
 use Rattle.additions.specs.declared.check.Rule.TheVariants as rules

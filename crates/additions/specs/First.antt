@@ -1,5 +1,5 @@
--- The place in the text at which the first fault is reported: the name of the member or of the item that breaks the
--- rule.
+-- Where in the text the first fault of extension additions is reported (X.680, clauses 20, 25, 27 and 29). It is the
+-- place of the name of the member or of the item that breaks the rule.
 use Rattle.std.specs.Prelude.{◌≡◌, ℕ, List, Some, slice_get}
 use Rattle.trees.specs.declared.place.Spot.{Spot}
 use Rattle.names.specs.Faults.{module_told, name_told}

@@ -29,8 +29,8 @@ IsGreatest P (Some g) = P g × ((z : ℤ) → P z → z ≤ℤ g)
 IsGreatest P None = (g : ℤ) → ((z : ℤ) → P z → z ≤ℤ g) → ⊥
 
 -- Constraint c, on the numbers or sizes for which P holds, allows what a root and its marker say, and has the root's
--- bounds (X.680, clauses 51 and 52). The root is those in some ranges, or all of them. Without an extension marker
--- exactly the root is allowed; with one, every number is.
+-- bounds (X.680, clauses 51 and 52). The root has the numbers in some ranges, or all of them. Without an extension
+-- marker exactly the root is allowed; with one, every number is.
 pub record AreBounds (P : ℤ → Type 0) (c : Constraint) : Type 0 where
   -- None says that the root has all numbers for which P holds
   pub root : Option (List Range)

@@ -22,8 +22,8 @@ use Rattle.account_checker.specs.Reasons.{IsRight as IsRightBesideIt}
 use Rattle.judging.specs.named_values.Named.{AreGiven, TypeNamed}
 use Rattle.judging.specs.named_values.Given.{Given}
 
--- For these texts of modules, the name of a type and a value that is given, the octets o are the value's DER encoding,
--- and account a describes them.
+-- For these texts of modules, the name of a type and a value that is given, octets o are the value's DER encoding, and
+-- account a describes them.
 pub record IsRight (texts : List (List ℕ)) (first : List ℕ) (second : Given) (o : List ℕ) (a : Account) : Type 0 where
   -- the texts are accepted, as this program with these types
   pub program : Program
@@ -49,8 +49,8 @@ pub record IsRight (texts : List (List ℕ)) (first : List ℕ) (second : Given)
   -- the checker accepts the account
   pub checked : IsRightBesideIt types type value o a
 
--- For these texts of modules, the name of a type and a value that is given, the octets o are the value's one message
--- of unaligned canonical PER (X.691, clause 11.1).
+-- For these texts of modules, the name of a type and a value that is given, octets o are the value's one message of
+-- unaligned canonical PER (X.691, clause 11.1).
 pub record IsRightlyPacked (texts : List (List ℕ)) (first : List ℕ) (second : Given) (o : List ℕ) : Type 0 where
   -- the texts are accepted, as this program with these types
   pub program : Program

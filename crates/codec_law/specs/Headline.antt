@@ -1,5 +1,5 @@
--- The headline of the codec, for any schema, type and value: what is written of the value, what the checker says of it,
--- and what is read back (X.690, clauses 8, 10 and 11; X.691, clauses 11 to 30).
+-- The headline of the codec, for any schema, type and value. It says what is written of the value, what the checker
+-- says of it, and what is read back (X.690, clauses 8, 10 and 11; X.691, clauses 11 to 30).
 use Rattle.std.specs.Prelude.{◌≡◌, ℕ, ◌≤◌, List, length, Result, MatchResult}
 use Rattle.account_checker.specs.declared.reason.Reason.{Reason}
 use Rattle.account_checker.specs.declared.reason.Verdict.{Verdict}

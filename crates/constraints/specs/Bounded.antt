@@ -96,6 +96,7 @@ IsTurnedRound p k M (values_in r) = HasSuch r.ranges (IsReversed p k M IsNumber)
 IsTurnedRound p k M (sizes_in r) = HasSuch r.ranges (IsReversed p k M IsSize)
 IsTurnedRound p k M (chars_in xs) = HasSuch xs IsTurned
 
+-- the constraint has an extension marker at a place that is not allowed (own rule)
 abbrev pub IsMisplaced : Kind → Name → ConstraintTree → Type 0
 IsMisplaced k M c = is_marked k c ≡ false
 

@@ -1,4 +1,5 @@
--- What faults of linked modules mean, for a program p. Names are lists of octets.
+-- What faults of constraints of linked modules mean (X.680, clauses 49 to 52), for a program p. Names are lists of
+-- octets.
 use Rattle.std.specs.Prelude.{◌≡◌, ℕ, Some, slice_get}
 use Rattle.trees.specs.declared.place.Spot.{Spot}
 use Rattle.names.specs.Faults.{module_told, name_told}

@@ -1,6 +1,7 @@
--- Which of several faults of constraints is reported, and where in the text. Types are checked by their numbers, and
--- before each one those that its references and tags lead to, the farthest first. The constraints of a type are checked
--- in order. For each one the order is: no earlier one has a marker; the type takes it; its own marker; its ranges.
+-- Which of several faults of constraints is reported (X.680, clauses 49 to 52), and where in the text. Types are
+-- checked by their numbers, and before each one those that its references and tags lead to, the farthest first. The
+-- constraints of a type are checked in order. For each one the order is: no earlier one has a marker; the type takes
+-- it; its own marker; its ranges.
 use Rattle.std.specs.Prelude.{◌≡◌, ◌⊎◌, ◌<◌, ℕ, true, false, List, Some, Vec, map, slice_get}
 use Rattle.std.specs.Global.{Global}
 use Rattle.trees.specs.declared.place.At.{At as Placed}
@@ -50,6 +51,7 @@ AreEndsWrong a b (chars.NoCharacter at) =
     ⊎ ((at ≡ b.at) × (c : ℕ) × IsCharacter a.it.items c × ((d : ℕ) → IsCharacter b.it.items d → ⊥))
 AreEndsWrong a b (chars.Reversed at) = (at ≡ a.at) × AreReversed a.it.items b.it.items
 
+-- the fault is the first one of a range of characters; a text that is no range has none
 abbrev pub IsCharsWrong : CharsSyntax → CharsFault → Type 0
 IsCharsWrong c f = (b : Placed (Vec ℕ Global)) × (c.last ≡ Some b) × AreEndsWrong c.first b f
 
@@ -69,6 +71,7 @@ wrong_of (ranges.NoEnd at) = wrongs.At rules.WrongKind at
 wrong_of (ranges.Reversed at) = wrongs.At rules.LowerAboveUpper at
 wrong_of (ranges.Circular v) = wrongs.Circular v
 
+-- the fault of a constraint in which this is the fault of a range of characters
 abbrev pub wrong_chars : CharsFault → Wrong
 wrong_chars (chars.NoCharacter at) = wrongs.At rules.WrongKind at
 wrong_chars (chars.Reversed at) = wrongs.At rules.LowerAboveUpper at

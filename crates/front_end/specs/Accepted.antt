@@ -41,7 +41,7 @@ pub record AreAccepted (xs : List (List ℕ)) (p : Program) : Type 0 where
   -- types
   pub asked : IsSettling p
 
--- These are the settled types s of program p, and those of an accepted schema.
+-- the additions, DEFAULTs and values of program p are as required, and s are its types, which are an accepted schema
 abbrev pub HasTypes : Program → List Resolved → Type 0
 HasTypes p s = Settles p s
 

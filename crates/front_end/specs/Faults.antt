@@ -1,6 +1,6 @@
--- Why texts aren't accepted: which fault is true, the first one in reading order. Each text is read in turn, its octets
--- and then its tokens. After all texts come names, tags and constraints, and last additions, DEFAULTs and value
--- assignments.
+-- Why texts aren't accepted (X.680, clauses 12 to 51): which fault is true, the first one in reading order. Each text
+-- is read in turn, its octets and then its tokens. After all texts come names, tags and constraints, and last
+-- additions, DEFAULTs and value assignments.
 use Rattle.std.specs.Prelude.{◌≡◌, ◌<◌, ℕ, List, Some, slice_get}
 use Rattle.std.specs.List.{AllZip}
 use Rattle.text.specs.declared.fault.LexFault.{LexFault}

@@ -1,4 +1,4 @@
--- The order in which faults are reported, layer by layer.
+-- The order in which faults are reported, layer by layer (own rule).
 use Rattle.std.specs.Prelude.{ℕ}
 use Rattle.front_end.specs.declared.fault.FrontFault.{FrontFault}
 use Rattle.front_end.specs.declared.fault.FrontFault.TheVariants as faults

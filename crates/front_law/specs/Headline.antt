@@ -1,5 +1,5 @@
--- The headline of the front end, for any texts of modules: which texts are accepted, as which program and schema, what
--- the names and the notations in them mean, and what a refusal says (X.680, clauses 12 to 51).
+-- The headline of the front end, for any texts of modules. It says which texts are accepted, as which program and
+-- schema, what the names and the notations in them mean, and what a refusal says (X.680, clauses 12 to 51).
 use Rattle.std.specs.Prelude.{◌≡◌, ◌↔◌, ◌<◌, ◌≤◌, ℕ, List, [], Option, Some, None, length, slice_get, Result, Ok, Err}
 use Rattle.std.specs.Prelude.{Bool, MatchResult}
 use Rattle.std.specs.List.{AllZip}

@@ -30,11 +30,11 @@ pub data Lexeme : Type 0 where
 unfoldable pub digit_of : ℕ → Option ℕ
 digit_of c = if is_hex c then Some (digit_value c) else None
 
--- the digits between the apostrophes, the last of them before a letter
+-- the digits between the apostrophes of a string, whose last octet is a letter
 abbrev pub digits_between : List ℕ → ℕ → ℕ → List ℕ
 digits_between x i j = filter_map digit_of (slice_range x (i + 1) (j - 2))
 
--- Two quotes are one: between the quotes of a text, quotes are only in pairs.
+-- The octets with one quote in place of each two. Between the quotes of a character string, quotes are only in pairs.
 unfoldable pub single_quotes : List ℕ → List ℕ
 single_quotes [] = []
 single_quotes (c ∷ []) = c ∷ []

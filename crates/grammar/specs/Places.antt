@@ -1,4 +1,4 @@
--- The limits under which productions are read, and what is at a place among lexemes; no clause.
+-- The limits under which productions are read (own rule), and what is at a place among lexemes.
 use Rattle.std.specs.Prelude.{◌≡◌, ℕ, ◌+◌, ◌-◌, ◌^◌, ◌<◌, ◌≤◌, Bool, true, nat_lt, List, length, take, drop}
 use Rattle.grammar.specs.Lexeme.{Lexeme}
 use Rattle.grammar.specs.Grammar.{Grammar}

@@ -1,9 +1,10 @@
--- Reading from left to right, with the first fault that is met.
+-- Reading from left to right by productions (X.680, clause 5), with the first fault that is met.
 use Rattle.std.specs.Prelude.{◌⊎◌, ℕ, zero, suc, List, [], ◌∷◌, ◌++◌, length, Option, Some, None, Bool, true, false, Result, Ok, Err}
 use Rattle.std.proofs.Common.{inl, inr}
 use Rattle.text.specs.declared.token.Mark.TheVariants.{Colon, Comma, Ellipsis, OpenBrace, CloseBrace, OpenParenthesis, CloseParenthesis, OpenVersion, CloseVersion}
 use Rattle.grammar.specs.Lexeme.{Lexeme, Ident, Number, Mark}
 
+-- a limit that a text may pass: on nested parts, on numbers without a minus, or on the numbers of tags (own rule)
 pub data Limit : Type 0 where
   Nesting : Limit
   Integer : Limit
@@ -20,6 +21,7 @@ pub data Fault : Type 0 where
 abbrev pub Read : Type 0 → Type 0
 Read A = Result (A × List Lexeme) Fault
 
+-- a function that reads a tree from the front of lexemes, or finds a fault in them
 abbrev pub Reader : Type 0 → Type 0
 Reader A = List Lexeme → Read A
 
@@ -28,6 +30,7 @@ abbrev pub ◌>>=◌ : {A B : Type 0} → Result A Fault → (A → Result B Fau
 (Ok x) >>= f = f x
 (Err e) >>= f = Err e
 
+-- the fault that nothing can continue with the first of these lexemes, or that none is left to continue with
 abbrev pub stop : {A : Type 0} → List Lexeme → Read A
 stop ts = Err (Unexpected (length ts))
 
@@ -35,6 +38,7 @@ stop ts = Err (Unexpected (length ts))
 abbrev pub with_front : {A : Type 0} → List A → Read (List A) → Read (List A)
 with_front front read = read >>= λ x. Ok (front ++ x.0, x.1)
 
+-- a closing brace
 unfoldable pub closed_at : Reader (Unit {0})
 closed_at (Mark CloseBrace ∷ rest) = Ok (tt, rest)
 closed_at ts = stop ts
@@ -70,6 +74,7 @@ behind_commas_at read (suc k) (Mark Comma ∷ rest) = do
   Ok (x.0 ∷ xs.0, xs.1)
 behind_commas_at read k ts = Ok ([], ts)
 
+-- at least one part, with commas between parts
 unfoldable pub listed_at : {A : Type 0} → Reader A → Reader (List A)
 listed_at read ts = do
   x ← read ts

@@ -46,8 +46,8 @@ pub record IsVerdictOn (p : Program) (s : List Resolved) (first : List ℕ) (sec
   pub read : IsAccountIn account told
   pub verdict : IsVerdict s type value o told r
 
--- The texts xs are accepted, as a program with its types, and verdict r is the one in this program. It is on the names
--- of a type and of a value, octets o, and the text of an account.
+-- The texts xs are accepted, as a program with its types, and verdict r is the one in this program. It is on the name
+-- of a type, a value that is given, octets o, and the text of an account.
 pub record IsJudged (xs : List (List ℕ)) (first : List ℕ) (second : Given) (o account : List ℕ) (r : Verdict)
     : Type 0 where
   pub program : Program

@@ -19,6 +19,7 @@ pub record IsTokenOf (x : List ℕ) (t : Token) : Type 0 where
 abbrev pub AreTokens : List ℕ → List Token → Type 0
 AreTokens x = AllByRecursion (IsTokenOf x)
 
+-- the limit in an error of a reading function, as one of the limits of grammars
 abbrev pub limit_of : Limit → Limit'
 limit_of limits.Nesting = Nesting
 limit_of limits.Integer = Integer

@@ -1,8 +1,9 @@
--- How a value is given: by its name, or by the text of a notation.
+-- How a value is given: by its name, or by the text of a notation (X.680, clauses 14.1 and 17).
 use Rattle.std.specs.Prelude.{ℕ, List}
 use Rattle.named_values.specs.declared.given.ValueGiven.{ValueGiven}
 use Rattle.named_values.specs.declared.given.ValueGiven.TheVariants.{Named, Written}
 
+-- a value that is given: by its name, or by the text of a notation
 pub data Given : Type 0 where
   -- the octets of a name, as Module.name
   named : List ℕ → Given

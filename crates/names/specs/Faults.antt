@@ -1,4 +1,5 @@
--- What faults of names say: the module and the name in them. `First` says where in the text they are.
+-- What faults of names say: the module and the name in them (X.680, clauses 13 and 16). `First` says where in the text
+-- they are.
 use Rattle.std.specs.Prelude.{◌≡◌, ◌<◌, ◌+◌, ℕ, List, Some, string_bytes, slice_get, take, ◌⊎◌, ◌++◌, [], ◌∷◌, map}
 use Rattle.trees.specs.declared.place.Spot.{Spot}
 use Rattle.trees.specs.Values.{Name}
@@ -8,10 +9,11 @@ use Rattle.names.specs.declared.fault.NameFault.TheVariants as faults
 use Rattle.names.specs.declared.fault.Limit.TheVariants as limits
 use Rattle.names.specs.Modules.{AreDistinct, StandsIn, StandsTwice, name_of, assigned_names, names_in, IsExported, Imports, type_count, value_count, all_assignments}
 
--- the module and the name in a fault
+-- the name of the module in a fault
 abbrev pub module_told : Spot → Name
 module_told s = string_bytes s.module
 
+-- the name in a fault
 abbrev pub name_told : Spot → Name
 name_told s = string_bytes s.name
 

@@ -31,6 +31,7 @@ pub record Value : Type 0 where
   pub ty : ℕ
   pub notation : Tree
 
+-- the number of the list that a member is in, and its number there; None for a type that is no member
 abbrev pub place_of : Option Place → Option (ℕ × ℕ)
 place_of None = None
 place_of (Some p) = Some (p.list, p.number)

@@ -1,4 +1,5 @@
--- What is returned for the tokens from a place on.
+-- What is returned for the tokens from a place on, and which words and marks are refused (X.680, clauses 12.37 and
+-- 12.38).
 use Rattle.std.specs.Prelude.{◌≡◌, ℕ, ⊤, Bool, true, false, List, Option, Some, None, slice_get, if◌then◌else◌}
 use Rattle.text.specs.declared.token.Mark.{Mark as Mark'}
 use Rattle.text.specs.declared.token.Mark.TheVariants.{Caret, Less, Exclamation, At, Ampersand, Ellipsis}
@@ -55,11 +56,13 @@ is_refused_mark Ampersand = true
 is_refused_mark Ellipsis = true
 is_refused_mark m = false
 
+-- whether the lexeme is a word or a mark of a construct that this compiler leaves out
 abbrev pub is_refused : Lexeme → Bool
 is_refused (Word w) = is_refused_word w
 is_refused (Mark m) = is_refused_mark m
 is_refused t = false
 
+-- whether there is a lexeme, and it is a word or a mark of a construct that this compiler leaves out
 abbrev pub is_refused_at : Option Lexeme → Bool
 is_refused_at (Some t) = is_refused t
 is_refused_at None = false

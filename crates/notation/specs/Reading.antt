@@ -1,4 +1,4 @@
--- Reading values from left to right.
+-- Reading values from left to right (X.680, clauses 17 to 33 and 41).
 use Rattle.std.specs.Prelude.{ℕ, zero, suc, List, [], ◌∷◌, Option, Some, None, Bool, true, false, Ok, option_map, string_bytes}
 use Rattle.text.specs.declared.token.Mark.TheVariants.{Comma, Colon, Dot, Minus, OpenBrace, CloseBrace}
 use Rattle.text.specs.declared.reserved.Word.TheVariants.{True, False, Null}
@@ -8,6 +8,7 @@ use Rattle.trees.specs.declared.place.Reference.{Reference}
 use Rattle.trees.specs.Values.{Name, Tree, yes, no, null, binary, hex, chars, reference, chosen, nothing, numbers, items, fields, trees, members}
 use Rattle.notation.specs.Value.{positive, negative}
 
+-- the number after a minus
 unfoldable pub negative_at : Reader Tree
 negative_at (Number n ∷ rest) = Ok (negative n, rest)
 negative_at ts = stop ts
@@ -34,12 +35,14 @@ unfoldable pub next_number : List Lexeme → Option (ℕ × List Lexeme)
 next_number (Number n ∷ rest) = Some (n, rest)
 next_number ts = None
 
+-- one or more values with commas between, up to the closing brace
 unfoldable pub items_at : Reader Tree → Reader Tree
 items_at read ts = do
   vs ← listed_at read ts
   end ← closed_at vs.1
   Ok (items (trees vs.0), end.1)
 
+-- one or more values, each after its identifier, with commas between, up to the closing brace
 unfoldable pub fields_at : Reader Tree → Reader Tree
 fields_at read ts = do
   ms ← listed_at (named_at read) ts
@@ -53,12 +56,15 @@ follows_name (Mark Colon ∷ rest) = true
 follows_name (Mark CloseBrace ∷ rest) = true
 follows_name ts = false
 
+-- what comes after an open brace if an identifier is first: values, if the flag says so, or else values after
+-- identifiers
 unfoldable pub by_name_at : Bool → Reader Tree → Reader Tree
 by_name_at true read ts = items_at read ts
 by_name_at false read ts = fields_at read ts
 
 -- fits: the test that numbers without a minus must pass
 module _ (fits : ℕ → Bool) where
+  -- any number of numbers, one after the other, without commas
   unfoldable pub numbers_at : Reader (List ℕ)
   numbers_at (Number n ∷ rest) =
       fitting (fits n) (Number n ∷ rest) (numbers_at rest >>= λ ns. Ok (n ∷ ns.0, ns.1))
@@ -83,6 +89,8 @@ module _ (fits : ℕ → Bool) where
   braced_at read (Ident x ∷ rest) = by_name_at (follows_name rest) read (Ident x ∷ rest)
   braced_at read ts = items_at read ts
 
+  -- what comes after identifier x: a colon and the value of alternative x, if n more parts may be open; or nothing, and
+  -- x is a reference
   unfoldable pub alternative_at : ℕ → Reader Tree → List ℕ → Reader Tree
   alternative_at n read x (Mark Colon ∷ rest) =
       opened n (Mark Colon ∷ rest) (read rest >>= λ v. Ok (chosen x v.0, v.1))
@@ -103,6 +111,7 @@ module _ (fits : ℕ → Bool) where
   step_at n read (Mark OpenBrace ∷ rest) = opened n (Mark OpenBrace ∷ rest) (braced_at read rest)
   step_at n read ts = stop ts
 
+  -- a value, with at most n braces and alternatives nested in each other
   unfoldable pub value_at : ℕ → Reader Tree
   value_at zero = step_at zero stop
   value_at (suc n) = step_at (suc n) (value_at n)

@@ -5,8 +5,8 @@ use Rattle.std.specs.List.{list_any}
 use Rattle.asn_base.specs.Abstract.{AbstractValue, text, fields, list, alternative, Row, end, absent, present}
 use Rattle.value_text.specs.Print.{is_line_end}
 
--- in no text of the value a line ends
 abbrev mutual
+  -- no character string in the value, at any depth, has a line end in it
   pub HasNoLineEnd : AbstractValue → Type 0
   HasNoLineEnd (text o) = list_any is_line_end o ≡ false
   HasNoLineEnd (fields vs) = HaveNoLineEnd vs
@@ -14,6 +14,7 @@ abbrev mutual
   HasNoLineEnd (alternative i v) = HasNoLineEnd v
   HasNoLineEnd v = Unit {0}
 
+  -- no character string in the members of the row, at any depth, has a line end in it
   pub HaveNoLineEnd : Row → Type 0
   HaveNoLineEnd end = Unit {0}
   HaveNoLineEnd (absent vs) = HaveNoLineEnd vs

@@ -1,4 +1,4 @@
--- What it is for a text to be read back as a value.
+-- What it is for a text to be read back as a value (X.680, clauses 12 and 17).
 use Rattle.std.specs.Prelude.{◌≡◌, ℕ, ℤ, List, [], Ok}
 use Rattle.asn_base.specs.Abstract.{AbstractValue}
 use Rattle.text.specs.declared.token.Token.{Token}

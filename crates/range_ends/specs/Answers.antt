@@ -1,4 +1,5 @@
--- What is returned for ends and ranges that are read in a module, for a constraint on a type of kind k.
+-- What is returned for ends and ranges (X.680, clauses 50.1, 51.2, 51.4 and 51.5). They are read in a module, for a
+-- constraint on a type of kind k.
 use Rattle.std.specs.Prelude.{◌≡◌, ◌↔◌, ℤ, List}
 use Rattle.asn_base.specs.Schemas.{IsNumber, IsSize}
 use Rattle.asn_base.specs.Types.{Range}

@@ -67,6 +67,7 @@ pub record AreReversed (first last : List ℕ) : Type 0 where
   pub ends : IsCharacter last to
   pub reversed : to < from
 
+-- the first character of the range has a greater code than the last one; a text is no range
 abbrev pub IsTurned : CharsTree → Type 0
 IsTurned (text, None) = ⊥
 IsTurned (first, Some last) = AreReversed first last

@@ -1,6 +1,6 @@
--- Which of several faults of ranges is reported, and where in the text: that of the first range at fault. In a range
--- the lower end goes before the upper one, and both before their order. Ends are read in module M, in a constraint on a
--- type of kind k.
+-- Which of several faults of ranges is reported (X.680, clauses 51.2, 51.4 and 51.5), and where in the text: that of
+-- the first range at fault. In a range the lower end goes before the upper one, and both before their order. Ends are
+-- read in module M, in a constraint on a type of kind k.
 use Rattle.std.specs.Prelude.{◌≡◌, ◌⊎◌, ◌<◌, ℕ, ℤ, List, Some, None, map, slice_get}
 use Rattle.trees.specs.declared.constraint.EndSyntax.{EndSyntax}
 use Rattle.trees.specs.declared.constraint.EndSyntax.TheVariants as written

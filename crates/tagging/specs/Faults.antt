@@ -1,4 +1,5 @@
--- What faults say of linked modules: program p has the written types p.types. Names are lists of octets.
+-- What faults of tags say of linked modules (X.680, clauses 25, 27, 29 and 31): program p has the written types
+-- p.types. Names are lists of octets.
 use Rattle.std.specs.Prelude.{◌≡◌, ℕ, List, Some, slice_get}
 use Rattle.trees.specs.declared.place.Spot.{Spot}
 use Rattle.type_table.specs.Table.{Type'}

@@ -1,7 +1,7 @@
--- Which of several faults of tags is reported, and where in the text: that of the first type, by its number, that
--- breaks a rule. The rules are checked for a type in this order: how many tags are written on it, the number of its
--- automatic tag, and the word IMPLICIT. For a list: its automatic tags, its members that need a tag, and whether first
--- tags differ.
+-- Which of several faults of tags is reported, and where in the text (X.680, clauses 25, 27, 29 and 31). It is that of
+-- the first type, by its number, that breaks a rule. The rules are checked for a type in this order: how many tags are
+-- written on it, the number of its automatic tag, and the word IMPLICIT. For a list: its automatic tags, its members
+-- that need a tag, and whether first tags differ.
 use Rattle.std.specs.Prelude.{◌≡◌, ◌<◌, ℕ, true, List, [], Some, map, slice_get}
 use Rattle.trees.specs.declared.place.Spot.{Spot}
 use Rattle.trees.specs.declared.module.TagDefault.{TagDefault}

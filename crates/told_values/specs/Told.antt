@@ -1,4 +1,4 @@
--- What a user reads about a fault of a value: the number, the reason, the module, the name and the place.
+-- What a user reads about a fault of a value: the number, the reason, the module, the name and the place (own rule).
 use Rattle.std.specs.Prelude.{◌≡◌, ℕ, Bool, true, false, List, [], Option, Some, None, string_bytes, slice_get}
 use Rattle.trees.specs.Values.{Name, name_at}
 use Rattle.trees.specs.declared.value.ValueSyntax.{ValueSyntax}
@@ -18,6 +18,7 @@ use Rattle.told_values.specs.declared.telling.Reason.{Reason}
 use Rattle.told_values.specs.declared.telling.Reason.TheVariants as reasons
 use Rattle.told_values.specs.declared.telling.ValueTold.{ValueTold}
 
+-- the number by which a user knows a reason (own rule)
 abbrev pub number_of : Reason → ℕ
 number_of reasons.Depth = 2
 number_of reasons.Nodes = 2
@@ -47,6 +48,7 @@ abbrev pub name_of : ValueForm ValueSyntax → Name
 name_of (Reference r) = string_bytes r.name
 name_of f = []
 
+-- whether there is something, which Some has and None lacks
 abbrev pub is_given : {A : Type 0} → Option A → Bool
 is_given None = false
 is_given (Some x) = true
@@ -61,10 +63,12 @@ abbrev pub lost_as : Bool → Reason
 lost_as true = reasons.LostName
 lost_as false = reasons.LostItem
 
+-- the name of a field, or the empty name if there is no field
 abbrev pub name_in_field : Option (Named ValueSyntax) → Name
 name_in_field None = []
 name_in_field (Some f) = name_at f.name
 
+-- the offset of the name of a field, or n if there is no field
 abbrev pub place_in_field : ℕ → Option (Named ValueSyntax) → ℕ
 place_in_field n None = n
 place_in_field n (Some f) = f.name.at
@@ -79,6 +83,7 @@ abbrev pub place_in : ℕ → ValueForm ValueSyntax → ℕ → ℕ
 place_in n (Fields fs) i = place_in_field n (slice_get fs.items i)
 place_in n f i = n
 
+-- the offset of the name of field i of notation l, or that of l if it has no such field
 abbrev pub field_place : ValueSyntax → ℕ → ℕ
 field_place l i = place_in (begins l) (form_of l) i
 
@@ -87,6 +92,7 @@ abbrev pub parts_in : Kind → List Part
 parts_in (members k m cs) = cs
 parts_in k = []
 
+-- the name of a member of a list, or the empty name if there is no member
 abbrev pub name_in_part : Option Part → Name
 name_in_part None = []
 name_in_part (Some c) = c.name

@@ -38,20 +38,25 @@ pub data ConstraintTree : Type 0 where
   -- FROM, with texts, or the first and the last one of a range
   chars_in : List (List ℕ × Option (List ℕ)) → ConstraintTree
 
+-- the tree that an end of a range or a single value in memory holds (X.680, clauses 51.2 and 51.4)
 abbrev pub end_of : EndSyntax → EndTree
 end_of (ends.Number n) = number_end n.it
 end_of (ends.Reference r) = name_end (option_map string_bytes r.module) (string_bytes r.name)
 
+-- the tree that a single value or a range in memory holds (X.680, clauses 51.2 and 51.4)
 abbrev pub range_of : RangeSyntax → RangeTree
 range_of (ranges.Single e) = only (end_of e)
 range_of (ranges.Between a b) = between (option_map end_of a) (option_map end_of b)
 
+-- the tree that ranges in memory hold, and whether the extension marker follows them (X.680, clause 50.1)
 abbrev pub ranges_of : RangesSyntax → RangesTree
 ranges_of r = record { ranges = map range_of r.ranges.items; marker = r.marker }
 
+-- a text in memory, or the first and the last one of a range, as lists of octets (X.680, clauses 51.4 and 51.7)
 abbrev pub chars_of : CharsSyntax → List ℕ × Option (List ℕ)
 chars_of c = (c.first.it.items, option_map (λ l. l.it.items) c.last)
 
+-- the tree that the form of a constraint in memory holds: its values, its sizes or its characters
 abbrev pub form_of : ConstraintForm → ConstraintTree
 form_of (forms.Values r) = values_in (ranges_of r)
 form_of (forms.Size r) = sizes_in (ranges_of r)

@@ -104,20 +104,26 @@ abbrev pub type_members : List MemberTree → TypeMembers
 type_members [] = no_member
 type_members (m ∷ ms) = member_and m.name m.type m.presence m.standing (type_members ms)
 
+-- the tree that the presence of a member in memory holds: mandatory, OPTIONAL, or DEFAULT with its value (X.680, clause
+-- 25)
 abbrev pub presence_of : PresenceSyntax → PresenceTree
 presence_of presences.Mandatory = mandatory
 presence_of presences.Optional = optional
 presence_of (presences.Default v) = default (tree_of v)
 
+-- the name and the number of a named number in memory (X.680, clause 19)
 abbrev pub number_of : NamedNumber → Name × ℤ
 number_of n = (name_at n.name, n.number)
 
+-- the name and the place of a named bit in memory (X.680, clause 22)
 abbrev pub bit_of : NamedBit → Name × ℕ
 bit_of b = (name_at b.name, b.place)
 
+-- the name of an item of an enumeration in memory, and its number if one is written (X.680, clause 20)
 abbrev pub item_of : EnumeratedItem → Name × Option ℤ
 item_of i = (name_at i.name, i.number)
 
+-- the tree that a type in memory holds, if it holds no other type (X.680, clauses 17 to 33 and 41)
 abbrev pub plain_of : Simple → Plain
 plain_of simples.Boolean = a_boolean
 plain_of (simples.Integer ns) = an_integer (map number_of ns.items)

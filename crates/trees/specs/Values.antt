@@ -82,6 +82,7 @@ layer (Numbers ns) = numbers ns.items
 layer (Items vs) = items (trees vs.items)
 layer (Fields fs) = fields (members (map (λ f. (name_at f.name, f.value)) fs.items))
 
+-- the tree of one level of a value in memory, without its place in the text; the values in it are trees already
 abbrev pub value_layer : ValueSyntax-F Tree → Tree
 value_layer v = layer v.form
 

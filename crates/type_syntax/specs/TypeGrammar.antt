@@ -48,7 +48,7 @@ behind_marker (Some xs) = additions_from 0 xs
 abbrev pub all_members : Listing → List MemberTree
 all_members l = map (a_member standings.Root) l.0 ++ behind_marker l.1
 
--- the tree of a SEQUENCE, SET or CHOICE with these members, and with an extension marker if there is a list after it
+-- the tree of a SEQUENCE, SET or CHOICE with these members, and with an extension marker if they have one
 abbrev pub of_listing : ListKind → Listing → FormTree
 of_listing k l = a_list k (is_some l.1) (type_members (all_members l))
 

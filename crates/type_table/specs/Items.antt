@@ -62,7 +62,8 @@ pub data AreAdditionNumbers (root : List ℤ) : (earlier : List ℤ) → List It
 abbrev pub is_among : ℤ → List ℤ → Bool
 is_among z zs = list_any (int_eq z) zs
 
--- the first number from n on that isn't in the list, if it is one of the next `turns` numbers
+-- the first of the next `turns` numbers from n on that isn't in the list, or the number after these if each of them is
+-- in it
 abbrev pub first_free : (turns n : ℕ) → List ℤ → ℕ
 first_free zero n used = n
 first_free (suc turns) n used = cond (is_among (pos n) used) (first_free turns (suc n) used) n

@@ -63,8 +63,8 @@ abbrev pub RefersToNothing : List (Name × Module) → Name → FormTree → Nam
 RefersToNothing ms M (a_reference N x) y = (x ≡ y) × ((j : ℕ) → Refers ms M N x (assigned.Type j) → ⊥)
 RefersToNothing ms M f y = ⊥
 
--- Type t of the table is the written type s, and its parts have the numbers from n on. hs holds the modules' names and
--- tag defaults, and gs the assignments.
+-- Type t of the table is the written type s, and its parts have the numbers from n on. The names and tag defaults of
+-- modules are in hs, and the assignments in gs.
 pub record IsTop
     (ms : List (Name × Module)) (hs : List (Name × TagDefault)) (gs : List (ℕ × Name))
     (n : ℕ) (s : Source) (t : Type') : Type 0 where

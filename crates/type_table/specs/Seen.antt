@@ -1,4 +1,5 @@
--- The types of a table and of a syntax tree as definitions see them, without their places in memory.
+-- The types of a table and of a syntax tree as definitions see them, without their places in memory (X.680, clauses 16
+-- and 17).
 use Rattle.std.specs.Prelude.{Option, List, map, option_map, string_bytes}
 use Rattle.trees.specs.declared.types.TypeSyntax.{TypeSyntax}
 use Rattle.trees.specs.declared.types.TypeForm.{TypeForm}
@@ -15,9 +16,11 @@ use Rattle.type_table.specs.declared.table.Written.{Written}
 use Rattle.type_table.specs.Items.{Item, additions_of}
 use Rattle.type_table.specs.Table.{Part, Kind, simple, reference, tagged, members, elements, Type'}
 
+-- the member of a list that one in memory is: its name, its type by number, its presence, and whether it is in the root
 abbrev pub part_of : ListMember → Part
 part_of c = record { name = name_at c.name; ty = c.ty; presence = presence_of c.presence; standing = c.standing }
 
+-- the kind of a written type that a shape in memory is
 abbrev pub kind_of : Shape → Kind
 kind_of (shapes.Simple s) = simple (plain_of s)
 kind_of (shapes.Reference j) = reference j
@@ -25,6 +28,7 @@ kind_of (shapes.Tagged t k j) = tagged t k j
 kind_of (shapes.Members k m cs) = members k m (map part_of cs.items)
 kind_of (shapes.Elements k j) = elements k j
 
+-- the written type that one in memory is, without its place in the text
 abbrev pub type_of : Written → Type'
 type_of w = record {
   kind = kind_of w.shape;
@@ -34,6 +38,7 @@ type_of w = record {
   assignment = w.assignment;
 }
 
+-- the written types of a table in memory, in order, without their places in the text
 abbrev pub types_of : List Written → List Type'
 types_of = map type_of
 

@@ -1,5 +1,5 @@
--- What the faults of one notation say: the faults of following its references, and those of a value that holds no
--- others. Each fault has the notation that is wrong, and so its place in the text.
+-- What the faults of one notation say (X.680, clause 17): the faults of following its references, and those of a value
+-- that holds no others. Each fault has the notation that is wrong, and so its place in the text.
 use Rattle.std.specs.Prelude.{◌≡◌, ℕ, List, Option, None}
 use Rattle.asn_base.specs.Abstract.{AbstractValue}
 use Rattle.trees.specs.Values.{Name, Tree, tree_of, reference}

@@ -26,6 +26,7 @@ IsLeftOut Allows AllowsCode i k v = ⊥
 abbrev pub ArePast : List ℕ → Type 0
 ArePast ns = (64 < length ns) ⊎ (AllByRecursion (λ n. n < 2 ^ 64) ns → ⊥)
 
+-- the value is an object identifier, relative or not, that has more than 64 numbers, or one of 2^64 or more (own rule)
 abbrev pub HasPast : AbstractValue → Type 0
 HasPast (oid ns) = ArePast ns
 HasPast (relative_oid ns) = ArePast ns

@@ -1,5 +1,5 @@
--- Why a notation stands for no value under a type: what is wrong, and which notation within it is. Constraints and
--- limits are no part of this.
+-- Why a notation stands for no value under a type (X.680, clause 17): what is wrong, and which notation within it is.
+-- Constraints and limits are no part of this.
 use Rattle.std.specs.Prelude.{◌≡◌, ℕ, ◌<◌, Bool, false, List, ◌∷◌, Option, Some, None, slice_get}
 use Rattle.asn_base.specs.Abstract.{AbstractValue}
 use Rattle.trees.specs.declared.types.ListKind.{ListKind}

@@ -1,4 +1,4 @@
--- Numbers of 128 bits in two halves.
+-- Numbers of 128 bits in two halves, in which a decoded INTEGER or ENUMERATED is kept (own rule).
 use Rattle.std.specs.Prelude.{◌+◌, ◌*◌, ◌^◌, ℤ}
 use Rattle.std.specs.Int.{cast_signed, w128}
 use Rattle.views.specs.declared.halves.Halves.{Halves}

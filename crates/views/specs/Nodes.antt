@@ -1,5 +1,5 @@
 -- The list of nodes that spells a tree: each node comes before those below it, and says how many nodes it has with
--- them.
+-- them. A decoded value is kept in this form (own rule).
 use Rattle.std.specs.Prelude.{ℕ, ◌+◌, List, [], ◌∷◌, ◌++◌, length}
 use Rattle.views.specs.Tree.{Leaf, Tree, leaf, fields, list, alternative, Members, no_member, member}
 
@@ -15,6 +15,7 @@ pub record Node : Type 0 where
   pub number : ℕ
   pub told : Told
 
+-- the node with this number of a component that says this
 abbrev pub node : ℕ → Told → Node
 node k w = record { number = k; told = w }
 
@@ -26,6 +27,7 @@ abbrev mutual
   nodes k (list ms) = node k (some_elements (length (member_nodes ms) + 1)) ∷ member_nodes ms
   nodes k (alternative i t) = node k (an_alternative i (length (nodes 0 t) + 1)) ∷ nodes 0 t
 
+  -- the nodes of all the members, in order
   pub member_nodes : Members → List Node
   member_nodes no_member = []
   member_nodes (member k t ms) = nodes k t ++ member_nodes ms

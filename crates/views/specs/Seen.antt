@@ -1,4 +1,5 @@
--- Nodes in memory, seen as nodes without addresses; a builder and a view, seen as trees.
+-- Nodes in memory, seen as nodes without addresses; a builder and a view, seen as trees. A decoded value is kept in
+-- this form (own rule).
 use Rattle.std.specs.Prelude.{◌≡◌, ℕ, ◌-◌, ◌<◌, ◌≤◌, List, length, map, drop, get_or, string_bytes, Option, Some, None}
 use Rattle.std.specs.List.{slice_range, AllByRecursion}
 use Rattle.std.specs.Prelude.{[]}
@@ -24,6 +25,7 @@ pub record Beside : Type 0 where
   pub texts : List (List ℕ)
   pub arcs : List ℕ
 
+-- the lists beside the nodes that are in memory
 abbrev pub beside_of : Lists → Beside
 beside_of l = record { octets = l.octets.items; texts = map string_bytes l.texts.items; arcs = l.arcs.items }
 
@@ -45,9 +47,11 @@ told_of b (told.Fields size extent) = some_fields size extent
 told_of b (told.List extent) = some_elements extent
 told_of b (told.Alternative index extent) = an_alternative index extent
 
+-- the node that one in memory is, with its string or numbers from the lists beside the nodes
 abbrev pub node_of : Beside → Node' → Node
 node_of b n = node n.number (told_of b n.told)
 
+-- the nodes that these in memory are, in order
 abbrev pub nodes_of : Beside → List Node' → List Node
 nodes_of b ns = map (node_of b) ns
 
@@ -76,6 +80,8 @@ IsToldWithin b (told.Fields size extent) = Unit {0}
 IsToldWithin b (told.List extent) = Unit {0}
 IsToldWithin b (told.Alternative index extent) = Unit {0}
 
+-- what each node refers to is within the lists beside the nodes; a BIT STRING has fewer than 8 unused bits, and none if
+-- it has no octets
 abbrev pub AreWithin : Beside → List Node' → Type 0
 AreWithin b ns = AllByRecursion (λ n. IsToldWithin b n.told) ns
 

@@ -1,4 +1,4 @@
--- Values that are read from a message, as trees, without their addresses in memory.
+-- Values that are read from a message, as trees, without their addresses in memory (X.680, clauses 18 to 33 and 41).
 use Rattle.std.specs.Prelude.{◌≡◌, ℕ, zero, suc, ◌+◌, ◌*◌, ◌-◌, ◌==◌, ℤ, Bool, List, [], ◌∷◌, length, take, flat_map}
 use Rattle.std.specs.Prelude.{cond, Option, Some, None, true, false}
 use Rattle.std.specs.List.{slice_range}
@@ -35,6 +35,7 @@ mutual
 abbrev pub bits_in : ℕ → List ℕ → List Bool
 bits_in unused os = take (8 * length os - unused) (flat_map bits_of_octet os)
 
+-- the abstract value that a leaf shows, wherever its octets are in the message
 abbrev pub leaf_value : Leaf → AbstractValue
 leaf_value (boolean b) = value.boolean b
 leaf_value (integer z) = value.integer z
@@ -64,6 +65,7 @@ abbrev mutual
   component_value no_member i = None
   component_value (member k t ms) i = cond (k == i) (Some (value_of t)) (component_value ms i)
 
+  -- the values of the members, in order, as the elements of a SEQUENCE OF or SET OF
   pub element_values : Members → Row
   element_values no_member = value.end
   element_values (member k t ms) = value.present (value_of t) (element_values ms)

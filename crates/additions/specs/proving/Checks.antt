@@ -1,4 +1,4 @@
--- The results of the checks of one list, of one type and of all types.
+-- The results of the checks of one list, of one type and of all types (X.680, clauses 20, 25, 27 and 29).
 use Rattle.std.specs.Prelude.{◌≡◌, ◌<◌, ◌-◌, ℕ, Bool, ℤ, List, Option, Some, None, option_map, slice_get}
 use Rattle.trees.specs.declared.module.TagDefault.{TagDefault}
 use Rattle.trees.specs.declared.types.ListKind.{ListKind}

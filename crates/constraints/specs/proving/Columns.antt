@@ -1,4 +1,4 @@
--- The limits that are noted for the types of a program.
+-- What the constraints of each type of a program allow, as it is noted for the type (X.680, clauses 49 to 52).
 use Rattle.std.specs.Prelude.{◌≡◌, ◌↔◌, ◌⊎◌, ◌<◌, ◌+◌, ℕ, ℤ, List, [], Option, Some, None, true, length, slice_get, IsTrue}
 use Rattle.std.specs.Prelude.{Vec, map, false}
 use Rattle.std.specs.Global.{Global}
@@ -48,6 +48,7 @@ pub record IsGood (p : Program) (i : ℕ) : Type 0 where
       IsFitting p k M c
   pub last : IsReconstrained p i → ⊥
 
+-- l is what the constraints of type i allow, which is something, and these constraints are as required
 pub record IsLimitOf (p : Program) (i : ℕ) (l : Limit) : Type 0 where
   pub left : (k : Kind) → IsOfKind p.types i k → IsLeft p k i l
   pub good : IsGood p i
@@ -85,6 +86,7 @@ IsFault p faults.Memory = Unit {0}
 IsFault p (faults.Circular v) = IsRoundAt p v × (v < length p.values)
 IsFault p (faults.At rule ty at) = (ty < length p.types) × Breaks p rule ty
 
+-- the fault of a program that is this fault of the constraints of type ty
 abbrev pub fault_of : Wrong → ℕ → Fault
 fault_of wrongs.Memory ty = faults.Memory
 fault_of (wrongs.Circular v) ty = faults.Circular v
@@ -127,6 +129,8 @@ pub record BearsBehind (p : Program) (i : ℕ) (M : Name) (c : ConstraintTree) :
   pub leads : next p.types i ≡ Some behind
   pub bears : Bears p behind M c
 
+-- The codes are those of the characters that the constraints of the types which type i leads to allow. This is asked of
+-- the four restricted strings; for other types the list may have any codes.
 abbrev pub HasCodesBehind : Program → Kind → ℕ → List ℕ → Type 0
 HasCodesBehind p (simple (a_restricted_string s)) i cs = (x : ℕ) →
     (IsMember x cs ↔ (IsTrue (is_character s x) × ((M : Name) (c : ConstraintTree) → BearsBehind p i M c → AllowsCharacter c x)))
@@ -140,6 +144,7 @@ pub record Inherits (p : Program) (i : ℕ) (l : Limit) (k : Kind) : Type 0 wher
   pub codes : HasCodesBehind p k i l.codes
   pub extensible : l.extensible ≡ true ↔ ((M : Name) × (c : ConstraintTree) × BearsBehind p i M c × (has_marker c ≡ true))
 
+-- l is what the constraints of the types that type i leads to allow, and these constraints are as required
 pub record IsStartOf (p : Program) (i : ℕ) (l : Limit) : Type 0 where
   pub inherits : (k : Kind) → IsOfKind p.types i k → Inherits p i l k
   pub good : (j : ℕ) → next p.types i ≡ Some j → IsGood p j

@@ -1,4 +1,4 @@
--- The numbers, sizes and characters that constraints of a type of kind k allow.
+-- The numbers, sizes and characters that constraints of a type of kind k allow (X.680, clauses 49 to 52).
 use Rattle.std.specs.Prelude.{◌≡◌, ◌↔◌, ◌⊎◌, ◌<◌, ℕ, ℤ, List, [], Option, Some, None, true, false, ◌||◌, length, slice_get, IsTrue, pos, if◌then◌else◌}
 use Rattle.asn_base.specs.Names.{IsMember}
 use Rattle.asn_base.specs.Schemas.{is_character}
@@ -90,11 +90,14 @@ AreWrong p k M cs l (wrongs.At rule at) = HasAt cs (λ i c. BreaksAlone p k M c 
 abbrev pub LeavesNothing : Kind → Limit → Type 0
 LeavesNothing k l = ((z : ℤ) → IsInSome z l.numbers → ⊥) ⊎ ((has_alphabet k ≡ true) × (l.codes ≡ []))
 
+-- the limit l allows a number or size, and a character if the type is one of the four restricted strings
 pub record LeavesSome (k : Kind) (l : Limit) : Type 0 where
   pub numbers : 0 < length l.numbers
   pub number : (z : ℤ) × IsInSome z l.numbers
   pub codes : has_alphabet k ≡ true → 0 < length l.codes
 
+-- the constraints cs, read in module M, each have a meaning; together they leave no number, size or character of what l
+-- allows
 pub record LeavesNone (p : Program) (k : Kind) (M : Name) (cs : List ConstraintTree) (l : Limit) : Type 0 where
   pub limit : Limit
   pub narrows : Narrows p k M cs (length cs) l limit

@@ -1,4 +1,4 @@
--- What the check of one type returns.
+-- What the check of one type returns (X.680, clauses 25, 27, 29 and 31).
 use Rattle.std.specs.Prelude.{◌≡◌, ℕ, ◌<◌, ◌≤◌, Bool, true, false, length, List, [], Option, Some, slice_get, All, Result, MatchResult}
 use Rattle.trees.specs.declared.types.Keyword.{Keyword}
 use Rattle.trees.specs.declared.types.Keyword.TheVariants.{Implicit}
