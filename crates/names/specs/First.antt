@@ -1,5 +1,5 @@
 -- Which of several faults of names is reported, and where in the text: the first one, in the order of modules. In a
--- module the fault of an export goes before that of an import.
+-- module the fault of an export goes before that of an import (X.680, clause 13).
 use Rattle.std.specs.Prelude.{◌≡◌, ◌⊎◌, ◌<◌, ℕ, List, Option, Some, None, String, map, slice_get, string_bytes}
 use Rattle.std.specs.Global.{Global}
 use Rattle.trees.specs.declared.place.At.{At}
@@ -46,6 +46,7 @@ pub record IsFirstLost (ns : List (At (String Global))) (as' : List (Name × Ass
   pub at : s.at ≡ name.at
   pub before : (k : ℕ) (x : Name) → k < number → slice_get (map name_at ns) k ≡ Some x → StandsIn (names_of as') x
 
+-- UnknownName has the first of these names without an assignment; `Memory` says nothing
 abbrev pub TellsLost : List (At (String Global)) → List (Name × Assigned) → NameFault → Type 0
 TellsLost ns as' faults.Memory = Unit {0}
 TellsLost ns as' (faults.UnknownName s) = IsFirstLost ns as' s

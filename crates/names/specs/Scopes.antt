@@ -1,4 +1,5 @@
--- Tables of names, without their addresses in memory.
+-- Tables of the names of a module: what they are assigned, and where they are imported from, without their addresses in
+-- memory (X.680, clause 13).
 use Rattle.std.specs.Prelude.{List, map, string_bytes, String}
 use Rattle.std.specs.Global.{Global}
 use Rattle.trees.specs.declared.place.At.{At}
@@ -24,6 +25,7 @@ meanings = seen (λ a. a.it)
 abbrev pub origins : List (String Global × Origin) → List (Name × Name)
 origins = seen origin_of
 
+-- what a table of names says of a module: its assignments, imports and exports
 abbrev pub module_of : Scope → Module
 module_of s =
     record { assigned = meanings s.assigned.entries; imports = origins s.imports.entries; exports = s.exports }

@@ -1,6 +1,6 @@
 -- Which of several faults of linked modules is reported, and where in the text. The lists in written types come first,
 -- then circles of DEFAULTs, then names after modules' names: those in types, and last those in values. Types and values
--- are checked in the order of their numbers.
+-- are checked in the order of their numbers (X.680, clauses 13 to 29).
 use Rattle.std.specs.Prelude.{◌≡◌, ◌<◌, ℕ, List, Some, String, length, map, slice_get}
 use Rattle.std.specs.Global.{Global}
 use Rattle.trees.specs.declared.place.Spot.{Spot}

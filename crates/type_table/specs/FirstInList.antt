@@ -81,6 +81,7 @@ number_names ns = map (λ (n : NamedNumber). n.name) ns
 abbrev pub numbers_named : List NamedNumber → List Name
 numbers_named ns = map (λ (n : Name × ℤ). n.0) (map number_of ns)
 
+-- the numbers of named numbers
 abbrev pub numbers_given : List NamedNumber → List ℤ
 numbers_given ns = map (λ (n : Name × ℤ). n.1) (map number_of ns)
 
@@ -98,6 +99,7 @@ bit_names bs = map (λ (b : NamedBit). b.name) bs
 abbrev pub bits_named : List NamedBit → List Name
 bits_named bs = map (λ (b : Name × ℕ). b.0) (map bit_of bs)
 
+-- the places of named bits
 abbrev pub bit_places : List NamedBit → List ℕ
 bit_places bs = map (λ (b : Name × ℕ). b.1) (map bit_of bs)
 
@@ -130,6 +132,7 @@ abbrev pub items_or_none : Option (Vec EnumeratedItem Global) → List Enumerate
 items_or_none None = []
 items_or_none (Some v) = v.items
 
+-- the items of an enumeration after the extension marker
 abbrev pub items_behind : EnumeratedSyntax → List EnumeratedItem
 items_behind e = items_or_none e.additions
 

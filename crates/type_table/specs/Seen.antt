@@ -58,5 +58,6 @@ root_of e = map item_of e.root.items
 abbrev pub behind_marker : EnumeratedSyntax → Option (List Item)
 behind_marker e = option_map (λ is. map item_of is.items) e.additions
 
+-- the items after the marker, or none if it has no marker
 abbrev pub more_of : EnumeratedSyntax → List Item
 more_of e = additions_of (behind_marker e)

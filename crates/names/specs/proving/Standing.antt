@@ -1,4 +1,4 @@
--- What is exported and imported, in tables of names.
+-- What is exported and imported, in tables of names (X.680, clause 13).
 use Rattle.std.specs.Prelude.{◌≡◌, List, Some, None, ◌⊎◌}
 use Rattle.trees.specs.Values.{Name}
 use Rattle.names.specs.declared.fault.NameFault.{NameFault}

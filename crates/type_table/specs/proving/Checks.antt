@@ -1,4 +1,4 @@
--- The results of the checks of one type, one list and one name.
+-- The results of the checks of one type, one list and one name (X.680, clauses 17, 20, 22, 25, 27 and 29).
 use Rattle.std.specs.Prelude.{◌≡◌, ◌<◌, ◌+◌, ◌^◌, ℕ, ℤ, pos, List, Option, Some, length, map, slice_get, string_bytes, take, String}
 use Rattle.std.specs.Global.{Global}
 use Rattle.trees.specs.Values.{Name}
