@@ -432,7 +432,7 @@ module _ (xs : List (List ℕ)) where
       → Stands xs (faults.Name f)
       → (ms : List ModuleTree) × AllZip IsModule xs ms × (f ≡ linking.Memory → ⊥) × IsLinkFault ms f
       × IsFirstFault ms f
-  of_names f a = (a.modules, a.are, a.stands)
+  of_names f a = (a.modules, a.are, a.stands.0, a.stands.1, a.stands.2)
 
   of_tags : (f : TagFault)
       → Stands xs (faults.Tag f)
