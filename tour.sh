@@ -44,9 +44,14 @@ check() {
 
 # run_page PAGE: runs the commands of a page.
 run_page() {
-  local line
+  local line indent=
   while IFS= read -r line; do
-    line=${line#    }
+    if [[ $line == '    $ '* ]]; then
+      indent='    '
+    elif [[ $line == '$ '* ]]; then
+      indent=
+    fi
+    line=${line#"$indent"}
     if [[ $line == '$ ./asnc'* || $line == '$ ./octcheck'* ]]; then
       check
       command=${line#\$ }
