@@ -15,9 +15,9 @@ use crate::value::{BitString, Value};
 use std::fmt;
 
 /// Two values are equal exactly if their abstract values are: they have one form and equal parts at every level. The
-/// order counts in the values of a SET OF too, zeros at the end count under named bits, and an absent component is equal
-/// to an absent one alone. `same` is the question that knows the type. The comparison takes no memory, and its time is
-/// linear in the shorter value. It calls itself once for each level of the values, as dropping a value does.
+/// order counts in the values of a SET OF too, zeros at the end count under named bits, and an absent component is
+/// equal to an absent one alone. `same` is the question that knows the type. The comparison takes no memory, and its
+/// time is linear in the shorter value. It calls itself once for each level of the values, as dropping a value does.
 impl PartialEq for Value {
     ghost eq = { λ v w. are_equal (abstract v) (abstract w) };
 

@@ -380,8 +380,8 @@ impl Kit {
         type_number(&self.modules, name)
     }
 
-    /// The types of the kit's modules. Values are made and looked into by names with them. The numbers of types are those
-    /// that [`Kit::type_named`] finds.
+    /// The types of the kit's modules. Values are made and looked into by names with them. The numbers of types are
+    /// those that [`Kit::type_named`] finds.
     pub fn schema(&self) -> &Schema
         ensures { result.now ≡ self.now.types }
     {
@@ -521,8 +521,8 @@ impl Kit {
         }
     }
 
-    /// Compares the type of this name in the older kit with that in the newer kit. The answer is that the newer one is a
-    /// later version, as [`Kit::later`] says, or where it is none first, and why, with a text that says so.
+    /// Compares the type of this name in the older kit with that in the newer kit. The answer is that the newer one is
+    /// a later version, as [`Kit::later`] says, or where it is none first, and why, with a text that says so.
     ///
     /// `NoType`: at least one kit has no type of this name. `Memory`: an allocation failed.
     pub fn compare(alloc: Global, older: &Kit, newer: &Kit, ty: &str) -> Result<Explained, Fault>

@@ -59,7 +59,8 @@ pub(crate) fn type_at(schema: &Schema, ty: TypeId) -> Option<&Resolved> {
     schema.types().get(ty.index)
 }
 
-/// The alternative that a value of an untagged CHOICE chooses, and the value of that. The result is None for another type.
+/// The alternative that a value of an untagged CHOICE chooses, and the value of that. The result is None for another
+/// type.
 fn chosen<'a>(
     schema: &'a Schema,
     ty: TypeId,
@@ -206,8 +207,8 @@ fn next_element<'a>(
     Some((part, next))
 }
 
-/// The part that the next encoding in contents octets is of, and what comes after it. The result is None for an addition
-/// that the type lacks.
+/// The part that the next encoding in contents octets is of, and what comes after it. The result is None for an
+/// addition that the type lacks.
 pub(crate) fn next_part<'a>(
     schema: &'a Schema,
     inside: Inside<'a>,

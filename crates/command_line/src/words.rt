@@ -349,8 +349,8 @@ fn are_of_checker(words: &[String]) -> bool
 /// Returns the job that the words ask for. The first word is the program's name: `octcheck`, or otherwise `asnc`.
 ///
 /// `BadWords`: the words ask for nothing that the program does, give no value or give it twice, give octets that can't
-/// be read, or ask for lines beside words that exclude them. `Help`: the words ask for help or for the version. `Memory`:
-/// an allocation failed.
+/// be read, or ask for lines beside words that exclude them. `Help`: the words ask for help or for the version.
+/// `Memory`: an allocation failed.
 pub fn job(alloc: Global, words: &[String]) -> Result<Job, WordsFault>
     ensures asked { IfOk result (IsAsked (map string_bytes words.now)) }
     ensures refused { IfErr result (IsRefused (map string_bytes words.now)) }

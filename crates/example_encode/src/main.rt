@@ -1,4 +1,5 @@
-//! A program that calls the library: it makes a value by names, encodes it, decodes the octets and prints them by names.
+//! A program that calls the library: it makes a value by names, encodes it, decodes the octets and prints them by
+//! names.
 #![tactic(auto)]
 
 use anyhow::Result;

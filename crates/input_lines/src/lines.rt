@@ -115,7 +115,8 @@ impl<R: Read> InputLines<R> {
     /// Puts the next line into `line`, in place of what is there, without its line end. Of a line that is too long only
     /// the first octets are put there, and the whole line is passed over.
     ///
-    /// The error is that of the reader, or of kind `OutOfMemory`. After an error the octets of the line so far are lost.
+    /// The error is that of the reader, or of kind `OutOfMemory`. After an error the octets of the line so far are
+    /// lost.
     pub fn next(&mut self, line: &mut Vec<u8>) -> io::Result<NextLine>
         // The line is the first of those that were left, and the others are left.
         ensures line { IfOk result (λ r. r ≡ Line →

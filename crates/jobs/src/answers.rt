@@ -275,11 +275,11 @@ pub(crate) fn too_long(alloc: Global, lines: &Lines<'_>) -> Result<Output, Fault
 ///
 /// - `Der`, `Uper`: the octets that encode the value of the line's notation, in hexadecimal digits of upper case.
 /// - `Ber`, `Unper`: the printed value of the octets whose hexadecimal digits the line is. If additions were skipped,
-///   ` -- skipped ` and their number follow, which is a comment (X.680, clause 12.6). The digits may be of either case, and
-///   may end with a carriage return.
+///   ` -- skipped ` and their number follow, which is a comment (X.680, clause 12.6). The digits may be of either case,
+///   and may end with a carriage return.
 /// - If the line is refused: `! ` and the line that [`report_line`](reports::report_line) reports; `yes` is false then.
-///   Beside the faults of the calls of [`Kit`] these are `BadWords` if the line is not the digits of octets, 2
-///   Limit(Line) if it has more than 33,554,432 octets, and 73 LineEnd if the text would have a line end.
+///   Beside the faults of the calls of [`Kit`] these are `BadWords` if the line is not the digits of octets,
+///   `Limit(Line)` if it has more than 33,554,432 octets, and `LineEnd` if the text would have a line end.
 ///
 /// The error is `Memory`: an allocation failed.
 pub fn answer(alloc: Global, lines: &Lines<'_>, line: &[u8]) -> Result<Output, Fault>

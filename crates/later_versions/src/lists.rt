@@ -77,7 +77,8 @@ fn same_alternatives(alternatives: &[Alternative], others: &[Alternative]) -> us
     alternatives.len()
 }
 
-/// What differs in alternatives, or None if the root has the same names, and the other additions begin with these names.
+/// What differs in alternatives, or None if the root has the same names, and the other additions begin with these
+/// names.
 pub(crate) fn other_alternatives(
     alternatives: &Alternatives,
     others: &Alternatives,

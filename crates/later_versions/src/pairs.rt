@@ -1,5 +1,5 @@
-//! Pairs of types, one of an earlier schema and one of a later schema, and the places of members that lead to them. Each
-//! pair is compared once.
+//! Pairs of types, one of an earlier schema and one of a later schema, and the places of members that lead to them.
+//! Each pair is compared once.
 
 ghost use Rattle.std.specs.Prelude.{◌≡◌, ◌<◌, ℕ, IfOk, List, OnOk, Some, length, reverse};
 ghost use Rattle.std.specs.Prelude.{slice_get};

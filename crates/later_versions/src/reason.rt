@@ -22,7 +22,8 @@ pub enum Reason {
     NamedBits,
     /// The extension marker is in one of both alone.
     Marker,
-    /// The items or alternatives of the root differ at this place, or one root ends there. Items are in order of number.
+    /// The items or alternatives of the root differ at this place, or one root ends there. Items are in order of
+    /// number.
     Root(usize),
     /// The addition of an ENUMERATED or a CHOICE at this place, counted from the marker, is missing or another one.
     Addition(usize),

@@ -14,8 +14,8 @@ use value_builders::names::{component_place, components_of, core_of};
 use value_text::names::{alternative_at, item_name};
 use views::{Part, View};
 
-/// A part of a decoded value with its type. What the part holds is found by the names that the type gives. No call takes
-/// memory.
+/// A part of a decoded value with its type. What the part holds is found by the names that the type gives. No call
+/// takes memory.
 #[derive(Drop)]
 pub struct NamedPart<'v, 'a> {
     part: Part<'v, 'a>,

@@ -281,8 +281,8 @@ fn of_contents(
     }
 }
 
-/// Returns which component a SEQUENCE or SET of type `ty` lacks in a message, in words. The result is None if that can't
-/// be said. `AllocError`: an allocation failed.
+/// Returns which component a SEQUENCE or SET of type `ty` lacks in a message, in words. The result is None if that
+/// can't be said. `AllocError`: an allocation failed.
 pub fn missing(
     alloc: Global,
     schema: &Schema,

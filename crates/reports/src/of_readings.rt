@@ -5,8 +5,8 @@ use messages::{Finding, Unread, UnreadBits};
 use shown_texts::shown;
 use std::alloc::{AllocError, Global};
 
-/// The words for octets that can't be read: the place of the octet from 0, the part of the value, and why. The octets of
-/// `NotDer` are read to their end, so the octet and the part are those of its finding, which says them.
+/// The words for octets that can't be read: the place of the octet from 0, the part of the value, and why. The octets
+/// of `NotDer` are read to their end, so the octet and the part are those of its finding, which says them.
 pub(crate) fn of_unread(alloc: Global, unread: &Unread) -> Result<String, AllocError> {
     let words = match &unread.finding {
         Some(finding) => of_finding(alloc, finding)?,

@@ -3,8 +3,8 @@
 ghost use Rattle.std.specs.Prelude.{◌≡◌};
 ghost use Rattle.tagging.specs.proving.Columns.{held};
 
-/// What [`crate::tag`] finds once for the types of linked modules. It owns its memory and borrows no modules, so an owner
-/// of modules can keep it beside them. [`crate::Tagged::with_table`] puts both together again.
+/// What [`crate::tag`] finds once for the types of linked modules. It owns its memory and borrows no modules, so an
+/// owner of modules can keep it beside them. [`crate::Tagged::with_table`] puts both together again.
 pub struct TagTable {
     /// The first type, from each one on through references, that is no reference.
     pub(crate) fronts: Vec<usize>,

@@ -56,8 +56,8 @@ impl<'a> Tagged<'a> {
         Tagged { columns }
     }
 
-    /// Linked modules and their table, as [`tag`] returns them. The call takes no memory, and a time that is the same for
-    /// all modules.
+    /// Linked modules and their table, as [`tag`] returns them. The call takes no memory, and a time that is the same
+    /// for all modules.
     pub fn with_table(linked: &'a Linked, table: &'a TagTable) -> Tagged<'a>
         requires { AreTagsOf linked.now table.now }
         ensures { result ≡ linked.now }

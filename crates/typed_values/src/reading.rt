@@ -69,8 +69,8 @@ fn read<'a, O: Outcome>(
     requires there { at.ty.index < length bounded.now.types }
     requires sound { AreSound bounded.now.types }
     requires known { AreKnown bounded.now defaults.old }
-    ensures tells { Answers O.shows bounded.now levels left.old left.new opened.old at.entry.within.now at.entry.ty.index
-        (tree_of at.entry.notation.now) result }
+    ensures tells { Answers O.shows bounded.now levels left.old left.new opened.old
+        at.entry.within.now at.entry.ty.index (tree_of at.entry.notation.now) result }
     ensures back { OnOk result (opened.new ≡ opened.old) }
     ensures known { AreKnown bounded.now defaults.new }
 {
@@ -656,8 +656,8 @@ pub fn typed_with<'a>(
     }
 }
 
-/// Whether a notation stands for a value of a type, or its first fault, as [`typed_with`] returns it. No value is built,
-/// so the call takes little memory, however many nodes the value has.
+/// Whether a notation stands for a value of a type, or its first fault, as [`typed_with`] returns it. No value is
+/// built, so the call takes little memory, however many nodes the value has.
 pub fn judged_with<'a>(
     alloc: Global,
     bounded: &Bounded<'a>,

@@ -36,7 +36,8 @@ abbrev pub measure : Octets → List Outer → ℕ
 measure left items = 2 * (length left + total (outs_of items)) + length items
 
 -- The lines of the text show the octets before the offset, and lines for what is left complete them.
-pub record Going (o : Octets) (limit : ℕ) (outs : List Octets) (left : Octets) (offset : ℕ) (text : List ℕ) : Type 0 where
+pub record Going
+    (o : Octets) (limit : ℕ) (outs : List Octets) (left : Octets) (offset : ℕ) (text : List ℕ) : Type 0 where
   pub lines : List Line
   pub are_lines : AreLines lines text
   pub before : AllByRecursion (λ l. offset_of l < limit) lines

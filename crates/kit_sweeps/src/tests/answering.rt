@@ -56,7 +56,8 @@ fn nth_row(number: usize) -> Row {
             command: LineCommand::Der,
             line: "{n 10, s {}}",
             yes: false,
-            answer: "! error 61 OutsideConstraint: --notation:1:4: found '10' for the component n, expected a number of (0..9), under the type that was asked for\n",
+            answer: "! error 61 OutsideConstraint: --notation:1:4: found '10' for the component n, \
+                expected a number of (0..9), under the type that was asked for\n",
         },
         5 => Row {
             name: "answer of ber to half an octet",
