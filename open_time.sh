@@ -21,8 +21,9 @@ here=$(dirname "$(readlink -f "${BASH_SOURCE[0]}")")
 "$here/asnc" --help >/dev/null
 program=$here/crates/asnc_main/out/asnc_main
 file=$(mktemp)
+newer=$(mktemp)
 most=$(mktemp)
-trap 'rm -f "$file" "$most"' EXIT
+trap 'rm -f "$file" "$newer" "$most"' EXIT
 
 # in_module: the lines of standard input, as a module of a text.
 in_module() {
@@ -127,6 +128,15 @@ referred_union() {
     print "}" }' | in_module
 }
 
+# narrowed_union N: an INTEGER with a union of N numbers, and N/5 types that each narrow it to six of them.
+narrowed_union() {
+  awk -v n="$1" 'BEGIN {
+    printf "U ::= INTEGER (0"
+    for (i = 1; i < n; i++) printf " | %d", 2 * i
+    print ")"
+    for (i = 0; i < n / 5; i++) print "T" i " ::= U (" 2 * i ".." 2 * i + 10 ")" }' | in_module
+}
+
 # long_default N: a value of N numbers, and N/20 components with that DEFAULT, 200 in a list.
 long_default() {
   awk -v n="$1" 'BEGIN {
@@ -172,6 +182,11 @@ record_values() {
     for (i = 1; i < n; i++) print "v" i " Record1 ::= { number " i ", name \x27" "0102\x27H, flag TRUE }" }' | in_module
 }
 
+# circle N: N lists, each of the next one, and the last of the first.
+circle() {
+  awk -v n="$1" 'BEGIN { for (i = 0; i < n; i++) print "A" i " ::= SEQUENCE OF A" (i + 1) % n }' | in_module
+}
+
 # endless N: N thousand assignments of types, and no END.
 endless() {
   printf '%s\n' "M DEFINITIONS ::= BEGIN"
@@ -183,26 +198,45 @@ long_name() {
   awk -v n="$1" 'BEGIN { printf "M DEFINITIONS ::= BEGIN "; for (i = 0; i < n * 1000; i++) printf "%01000d", 0 }' | tr 0 a
 }
 
-# resident: the most memory that the program had resident for the file, in megabytes, or nothing without a tool for it.
+# resident WORDS..: the most memory that the program had resident with these words, in megabytes, or nothing without a
+# tool for it.
 resident() {
   [[ -x /usr/bin/time ]] || return 0
-  /usr/bin/time -f ' %M' -o "$most" "$program" der --type M.Record1 --value M.v "$file" >/dev/null 2>&1 || true
+  /usr/bin/time -f ' %M' -o "$most" "$program" "$@" >/dev/null 2>&1 || true
   awk 'END { printf "%7.1f MB", $NF / 1024 }' "$most"
+}
+
+# spent WORDS..: the processor time that the program took with these words, in microseconds.
+spent() {
+  local took TIMEFORMAT='%3U %3S'
+  took=$({ time "$program" "$@" >/dev/null 2>&1 || true; } 2>&1)
+  awk '{ printf "%d", ($1 + $2) * 1000000 }' <<<"$took"
 }
 
 # measure SHAPE SIZE..: the least times of a shape at these sizes, a line each.
 measure() {
-  local shape=$1 size took least TIMEFORMAT='%3U %3S'
+  local shape=$1 size took least
   shift
   for size in "$@"; do
     "$shape" "$size" >"$file"
     least=
     for _ in 1 2 3 4 5; do
-      took=$({ time "$program" der --type M.Record1 --value M.v "$file" >/dev/null 2>&1 || true; } 2>&1)
-      took=$(awk '{ printf "%d", ($1 + $2) * 1000000 }' <<<"$took")
+      took=$(spent der --type M.Record1 --value M.v "$file")
       [[ -n $least && $least -le $took ]] || least=$took
     done
-    printf '%-16s %6d %9d octets %6d.%d ms%s\n' "$shape" "$size" "$(stat -c %s "$file")" $((least / 1000)) $((least % 1000 / 100)) "$(resident)"
+    printf '%-16s %6d %9d octets %6d.%d ms%s\n' "$shape" "$size" "$(stat -c %s "$file")" $((least / 1000)) $((least % 1000 / 100)) "$(resident der --type M.Record1 --value M.v "$file")"
+  done
+}
+
+# compare N..: the time of comparing a circle of N lists and one of N + 1, which have N * (N + 1) pairs, a line each.
+compare() {
+  local size took
+  for size in "$@"; do
+    circle "$size" >"$file"
+    circle $((size + 1)) >"$newer"
+    took=$(spent later --type M.A0 "$file" --newer "$newer")
+    printf '%-16s %6d %9d pairs  %6d.%d ms%s\n' compare "$size" $((size * (size + 1))) $((took / 1000)) \
+      $((took % 1000 / 100)) "$(resident later --type M.A0 "$file" --newer "$newer")"
   done
 }
 
@@ -214,6 +248,7 @@ measure alike_numbers 16000 32000 64000
 measure defaulted_chain 1000 2000 4000
 measure referred_items 1000 2000 4000
 measure referred_union 5000 10000 20000
+measure narrowed_union 5000 10000 20000
 measure long_default 5000 10000 20000
 measure doubled_values 16 17 18
 measure doubled_values 24
@@ -221,6 +256,7 @@ measure doubled_defaults 5 10 20
 measure record_values 10000 20000 40000
 measure endless 180 360 720
 measure long_name 1 2 4
+compare 511 1023 2047
 
 # notations: lays out what bench says of long notations, a line for each call that answered; other lines stay.
 notations() {

@@ -473,7 +473,7 @@ show_edits() {
 # row_names: the names of all rows: lemmas, laws and rows of data; and those of crates, files of rows and edits.
 row_names() {
   find "$top/crates" -name out -prune -o \( -name '*.antt' -o -name '*.rt' \) -print0 |
-    xargs -0 sed -nE "s/^((pub|abbrev) )*([a-z][A-Za-z0-9_']*) :.*/\3/p; s/^ *(pub )?fn ([a-z_0-9]+).*/\2/p"
+    xargs -0 sed -nE "s/^ *((pub|abbrev) )*([a-z][A-Za-z0-9_']*) :.*/\3/p; s/^ *(pub )?fn ([a-z_0-9]+).*/\2/p"
   sed -nE 's/^=== //p' "$top"/crates/*/data/{,*/}*.rows | tr ' ' '\n'
   printf '%s\n' "$top"/crates/* "$top"/crates/*/data/{,*/}*.rows "$top"/crates/*/trial/*.edit | sed -E 's/.*\///; s/\.[a-z]+$//'
 }

@@ -6,10 +6,10 @@ use Rattle.std.proofs.lemmas.Option.{slice_get_within}
 use Rattle.encodings.specs.Account.{Rows, ArePlaces}
 use Rattle.octet_account.specs.declared.row.Places.{Places}
 use Rattle.octet_account.specs.Flat.{FlatRow, member_rows}
-use Rattle.account_checker.specs.declared.asked.Asked.{Asked}
+use Rattle.account_checker.specs.declared.checks.Checks.{Checks}
 use Rattle.account_checker.specs.declared.order.Order.{Order}
 use Rattle.account_checker.specs.declared.order.Order.TheVariants.{Placed}
-use Rattle.account_checker.specs.Follows.{Where, sizes, before, by_place}
+use Rattle.account_checker.specs.Follows.{Checked, sizes, before, by_place}
 use Rattle.account_checker.specs.Parts.{Member, is_absent, is_default, is_written, put, size_in, size_or, count_or, end_before, EndsAt, EndsFrom, AreEnds, AreInOrder}
 use Rattle.account_checker.proofs.Members.{next, LeftAt, first, passed}
 use Rattle.account_checker.proofs.SentBack.{found, same_some}
@@ -39,10 +39,10 @@ EndsLeft p es rs left rest n place number =
     LeftAt (EndsFrom p es 0 (sizes rs)) (λ k ms. EndsFrom p es k (sizes ms)) (sizes rs) left rest n place number
 
 module _ (rs : Rows) {left left' rest : List FlatRow} {n n' place place' number number' : ℕ} where
-  pub counts_next : (h : CountsLeft rs left rest n place number) (some : 0 < n) → left' ≡ member_rows (first h some).behind ++ rest → suc n' ≡ n → place' ≡ place + size_or (size_in (first h some).member) → number' ≡ number + count_or (size_in (first h some).member) → CountsLeft rs left' rest n' place' number'
+  pub counts_next : (h : CountsLeft rs left rest n place number) (some : 0 < n) → left' ≡ member_rows (first h some).following ++ rest → suc n' ≡ n → place' ≡ place + size_or (size_in (first h some).member) → number' ≡ number + count_or (size_in (first h some).member) → CountsLeft rs left' rest n' place' number'
   counts_next h some e f g c = passed (λ k ms. Unit {0}) (λ k ms. Unit {0}) (λ m. Unit {0}) h some (λ m ms. (λ d. (tt, tt), λ d. tt)) tt e f g c
 
-  pub ends_next : (p es : List ℕ) (h : EndsLeft p es rs left rest n place number) (some : 0 < n) → EndsAt p es number (size_in (first h some).member) → left' ≡ member_rows (first h some).behind ++ rest → suc n' ≡ n → place' ≡ place + size_or (size_in (first h some).member) → number' ≡ number + count_or (size_in (first h some).member) → EndsLeft p es rs left' rest n' place' number'
+  pub ends_next : (p es : List ℕ) (h : EndsLeft p es rs left rest n place number) (some : 0 < n) → EndsAt p es number (size_in (first h some).member) → left' ≡ member_rows (first h some).following ++ rest → suc n' ≡ n → place' ≡ place + size_or (size_in (first h some).member) → number' ≡ number + count_or (size_in (first h some).member) → EndsLeft p es rs left' rest n' place' number'
   ends_next p es h some a e f g c = passed (λ k ms. EndsFrom p es k (sizes ms)) (λ k ms. EndsFrom p es k (sizes ms)) (λ m. EndsAt p es number (size_in m)) h some (ends_step p es number) a e f g c
 
 -- each one
@@ -91,12 +91,12 @@ module _ (ns p q es : List ℕ) (a : ArePlaces (length ns) p q) (d : EndsFrom p 
       by (inl l) = up_to (get_or p k 0) (let w = slice_get_within q (get_or p k 0) k (a.there k (get_or p k 0) (found p k 0 l)) in omega arith)
       by (inr l) = ap (λ j. before (by_place ns q) j) (number_past p k l) ∙ sym (ap (end_before es) (number_past p k l))
 
-where_asked : (b : Bool) {P : Type 0} → not b ≡ false → Where b P → P
+where_asked : (b : Bool) {P : Type 0} → not b ≡ false → Checked b P → P
 where_asked true e w = w
 where_asked false e w = absurd (cc)
 
 -- places of that many members, each of which ends at the end of its place
-pub are_right : (s : Asked) {o : Order} (b : Bor Places) (ns : List ℕ) {n : ℕ} → o ≡ Placed b → AreInOrder s o n → not s.places ≡ false → n ≡ length ns → EndsFrom b.now.places.items b.now.ends.items 0 ns → AreEnds o ns
+pub are_right : (s : Checks) {o : Order} (b : Bor Places) (ns : List ℕ) {n : ℕ} → o ≡ Placed b → AreInOrder s o n → not s.places ≡ false → n ≡ length ns → EndsFrom b.now.places.items b.now.ends.items 0 ns → AreEnds o ns
 are_right s {o} b ns {n} g w e f d =
     subst (λ r. AreEnds r ns) (sym g)
     (ends_right ns b.now.places.items b.now.inverse.items b.now.ends.items (subst (λ k. ArePlaces k b.now.places.items b.now.inverse.items) f (where_asked s.places e (subst (λ r. AreInOrder s r n) g w))) d)

@@ -36,6 +36,6 @@ same_rest (a ∷ f) x y e = same_rest f x y (ap tail_of e)
     tail_of [] = []
     tail_of (x ∷ xs) = xs
 
-pub behind_none : Only → (t : Tag) (c : Bool) (n : ℕ) (o i r s x : List ℕ) → i ≡ identifier t.class t.number c → s ≡ shortest_size n → o ≡ i ++ r → BeginsWith t c n o x → r ≡ s ++ x
-behind_none only t c n o i r s x e f g b =
+pub after_none : Only → (t : Tag) (c : Bool) (n : ℕ) (o i r s x : List ℕ) → i ≡ identifier t.class t.number c → s ≡ shortest_size n → o ≡ i ++ r → BeginsWith t c n o x → r ≡ s ++ x
+after_none only t c n o i r s x e f g b =
     same_rest i r (s ++ x) (sym g ∙ split only t c n o x b ∙ ap (λ q. q ++ (shortest_size n ++ x)) (sym e) ∙ ap (λ q. i ++ (q ++ x)) (sym f))

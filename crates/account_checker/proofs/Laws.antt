@@ -9,11 +9,11 @@ use Rattle.asn_base.specs.Same.{IsLeaf}
 use Rattle.encodings.specs.Header.{identifier, HeaderBy}
 use Rattle.encodings.specs.Rules.{Distinguished}
 use Rattle.encodings.specs.Fewest.{shortest_size, shortest_header}
-use Rattle.encodings.specs.Account.{Numbers, Account, header, Inside, leaf_row, wrap_row, seq_row, seqof_row, set_row, setof_row, Rows, HeaderTold, Headed, headed_bare, headed_innermost, headed_outer, Tells, tells, TellsInside, leaf_told, sequence_told, set_told, sequence_of_told, set_of_told, choice_told, TellsMembers, no_member_told, absent_told, absent_default_told, default_told, member_told, TellsElements, no_element_told, element_told}
+use Rattle.encodings.specs.Account.{Numbers, Account, header, Inside, leaf_row, wrap_row, seq_row, seqof_row, set_row, setof_row, Rows, HeaderHasNumbers, Headed, headed_bare, headed_innermost, headed_outer, Describes, describes, ContentsHaveRows, leaf_listed, sequence_listed, set_listed, sequence_of_listed, set_of_listed, choice_listed, MembersHaveRows, no_member_listed, absent_listed, absent_default_listed, default_listed, member_listed, ElementsHaveRows, no_element_listed, element_listed}
 use Rattle.account_checker.specs.Reasons.{to_contents}
-use Rattle.account_checker.specs.Follows.{octets_told, sizes, before, is_built, AreNumbers, BeginsWith, HeaderFollows, SliceAt, Follows, follows, Under, bare, innermost, outer, InsideFollows, leaf_follows, choice_follows, sequence_follows, sequence_of_follows, set_follows, set_of_follows, MembersFollow, none_follows, absent_follows, left_out_follows, default_follows, default_written, member_follows, ElementsFollow, no_element_follows, element_follows}
+use Rattle.account_checker.specs.Follows.{total_octets, sizes, before, is_built, AreNumbers, BeginsWith, HeaderFollows, SliceAt, Follows, follows, Under, bare, innermost, outer, InsideFollows, leaf_follows, choice_follows, sequence_follows, sequence_of_follows, set_follows, set_of_follows, MembersFollow, none_follows, absent_follows, left_out_follows, default_follows, default_written, member_follows, ElementsFollow, no_element_follows, element_follows}
 use Rattle.account_checker.proofs.Headers.{Only}
-use Rattle.account_checker.proofs.Standing.{lens, next_slice, drop_all, one_some, stand_up}
+use Rattle.account_checker.proofs.Placement.{lens, next_slice, drop_all, one_some, stand_up}
 use Rattle.account_checker.proofs.Members.{take_front, sum_append, append_nil}
 
 -- ---- headers
@@ -22,31 +22,31 @@ pub shortest_length : (t : Tag) (c : Bool) (n : ℕ) → length (shortest_header
 unfolding shortest_header
 shortest_length t c n = length-append (identifier t.class t.number c) (shortest_size n)
 
-record Behind (t : Tag) (c : Bool) (z : Numbers) (o x : List ℕ) : Type 0 where
+record AfterHeader (t : Tag) (c : Bool) (z : Numbers) (o x : List ℕ) : Type 0 where
   head : List ℕ
   whole : o ≡ head ++ x
-  told : HeaderTold t c (length x) head z
+  listed : HeaderHasNumbers t c (length x) head z
   contents : length x ≡ z.contents
 
-behind : Only → {t : Tag} {c : Bool} {z : Numbers} {o x : List ℕ} → HeaderFollows to_contents t c z o x → length o ≡ z.identifier + z.size + z.contents → Behind t c z o x
-behind only {t} {c} {z} {o} {x} h l =
-    let b : BeginsWith t c z.contents o x = h.stands in
+following : Only → {t : Tag} {c : Bool} {z : Numbers} {o x : List ℕ} → HeaderFollows to_contents t c z o x → length o ≡ z.identifier + z.size + z.contents → AfterHeader t c z o x
+following only {t} {c} {z} {o} {x} h l =
+    let b : BeginsWith t c z.contents o x = h.is_at in
     let n : AreNumbers t c z = h.numbers in
     let e = only t c z.contents b.header b.is_header in
     let f = ap length e ∙ shortest_length t c z.contents in
     let g = ap length b.whole ∙ length-append b.header x in
-    let i = n.identifier_told in
-    let j = n.size_told in
+    let i = n.identifier_counted in
+    let j = n.size_counted in
     let m : length x ≡ z.contents = omega arith in
     record {
       head = b.header;
       whole = b.whole;
       contents = m;
-      told = record {
+      listed = record {
         is_header = subst (λ k. HeaderBy Distinguished t c k b.header) (sym m) b.is_header;
-        identifier_told = i;
-        size_told = omega arith;
-        contents_told = sym m;
+        identifier_counted = i;
+        size_counted = omega arith;
+        contents_counted = sym m;
       };
     }
 
@@ -83,7 +83,7 @@ further_one {all} {k} {n} {rs} ms e d =
 -- members, each at its place
 record Placed (T : List (List ℕ) → Type 0) (place : ℕ → ℕ) (k : ℕ) (o ns : List ℕ) : Type 0 where
   parts : List (List ℕ)
-  told : T parts
+  listed : T parts
   each : (i : ℕ) (y : List ℕ) → slice_get parts i ≡ Some y → SliceAt o (place (k + i)) (length y) y
   many : ns ≡ lens parts
 
@@ -98,7 +98,7 @@ first_placed place k o x n ys a h (suc i) y e = subst (λ j. SliceAt o (place j)
 
 record Encoded (T : List (List ℕ) → Type 0) (x : List ℕ) (p : ℕ) : Type 0 where
   parts : List (List ℕ)
-  told : T parts
+  listed : T parts
   joined : drop p x ≡ concat parts
 
 -- no octets are left after the last member
@@ -131,76 +131,76 @@ module _ (only : Only) (s : List Resolved) where
     built : Bool
     x : List ℕ
     inside : Inside
-    within : TellsInside s k v built x inside
+    within : ContentsHaveRows s k v built x inside
     headed : Headed tags built x inside o a
 
   mutual
-    tells_of : {t : ℕ} {v : AbstractValue} {o : List ℕ} {a : Account} → Follows s to_contents t v o a → length o ≡ octets_told a → Tells s t v o a
-    tells_of (follows i d) l = let r = under_of d l in tells i r.within r.headed
+    right_of : {t : ℕ} {v : AbstractValue} {o : List ℕ} {a : Account} → Follows s to_contents t v o a → length o ≡ total_octets a → Describes s t v o a
+    right_of (follows i d) l = let r = under_of d l in describes i r.within r.headed
 
-    under_of : {tags : List Tag} {k : Kind} {v : AbstractValue} {o : List ℕ} {a : Account} → Under s to_contents tags k v o a → length o ≡ octets_told a → Inner tags k v o a
-    under_of (bare {o = o} {a = a} g d) l = record { built = true; x = o; inside = wrap_row a; within = choice_told g (tells_of d l); headed = headed_bare }
+    under_of : {tags : List Tag} {k : Kind} {v : AbstractValue} {o : List ℕ} {a : Account} → Under s to_contents tags k v o a → length o ≡ total_octets a → Inner tags k v o a
+    under_of (bare {o = o} {a = a} g d) l = record { built = true; x = o; inside = wrap_row a; within = choice_listed g (right_of d l); headed = headed_bare }
     under_of (innermost {t = t} {k = k} {v = v} {o = o} {x = x} {z = z} {i = i} h d) l =
-        let b = behind only h l in
-        record { built = is_built k; x = x; inside = i; within = inside_of d b.contents; headed = subst (λ w. Headed (t ∷ []) (is_built k) x i w (header z i)) (sym b.whole) (headed_innermost b.told) }
+        let b = following only h l in
+        record { built = is_built k; x = x; inside = i; within = inside_of d b.contents; headed = subst (λ w. Headed (t ∷ []) (is_built k) x i w (header z i)) (sym b.whole) (headed_innermost b.listed) }
     under_of (outer {t = t} {u = u} {ts = ts} {o = o} {x = x} {z = z} {a = a} h n d) l =
-        let b = behind only h l in
+        let b = following only h l in
         let r = under_of d (b.contents ∙ n) in
-        record { built = r.built; x = r.x; inside = r.inside; within = r.within; headed = subst (λ w. Headed (t ∷ u ∷ ts) r.built r.x r.inside w (header z (wrap_row a))) (sym b.whole) (headed_outer r.headed b.told) }
+        record { built = r.built; x = r.x; inside = r.inside; within = r.within; headed = subst (λ w. Headed (t ∷ u ∷ ts) r.built r.x r.inside w (header z (wrap_row a))) (sym b.whole) (headed_outer r.headed b.listed) }
 
-    inside_of : {k : Kind} {v : AbstractValue} {n : ℕ} {x : List ℕ} {i : Inside} → InsideFollows s to_contents k v n x i → length x ≡ n → TellsInside s k v (is_built k) x i
-    inside_of (leaf_follows {k = k} {v = v} {x = x} l m b) e = subst (λ w. TellsInside s k v w x leaf_row) (sym (leaf_not_built k l)) (leaf_told l b.1 b.2)
-    inside_of (choice_follows {a = a} g n d) e = choice_told g (tells_of d (e ∙ n))
+    inside_of : {k : Kind} {v : AbstractValue} {n : ℕ} {x : List ℕ} {i : Inside} → InsideFollows s to_contents k v n x i → length x ≡ n → ContentsHaveRows s k v (is_built k) x i
+    inside_of (leaf_follows {k = k} {v = v} {x = x} l m b) e = subst (λ w. ContentsHaveRows s k v w x leaf_row) (sym (leaf_not_built k l)) (leaf_listed l b.1 b.2)
+    inside_of (choice_follows {a = a} g n d) e = choice_listed g (right_of d (e ∙ n))
     inside_of (sequence_follows {e = c} {cs = cs} {vs = vs} {x = x} {rs = rs} n d) e =
         let r = members_of d refl (record { front = []; split = refl; many = refl }) (e ∙ n) in
-        subst (λ w. TellsInside s (a_sequence c cs) (fields vs) true w (seq_row rs)) (sym r.joined) (sequence_told r.told)
+        subst (λ w. ContentsHaveRows s (a_sequence c cs) (fields vs) true w (seq_row rs)) (sym r.joined) (sequence_listed r.listed)
     inside_of (sequence_of_follows {u = u} {c = c} {vs = vs} {x = x} {rs = rs} n d) e =
         let r = elements_of d refl (record { front = []; split = refl; many = refl }) (e ∙ n) in
-        subst (λ w. TellsInside s (a_sequence_of c u) (list vs) true w (seqof_row rs)) (sym r.joined) (sequence_of_told r.told)
+        subst (λ w. ContentsHaveRows s (a_sequence_of c u) (list vs) true w (seqof_row rs)) (sym r.joined) (sequence_of_listed r.listed)
     inside_of (set_follows {e = c} {cs = cs} {vs = vs} {x = x} {rs = rs} {p = p} {i = i} n a d) e =
         let r = parts_of d in
         let z = stand_up p i r.parts (sizes rs) x a r.many r.each (e ∙ n) in
-        subst (λ w. TellsInside s (a_set c cs) (fields vs) true w (set_row rs p i)) (sym z.2) (set_told r.told z.1)
+        subst (λ w. ContentsHaveRows s (a_set c cs) (fields vs) true w (set_row rs p i)) (sym z.2) (set_listed r.listed z.1)
     inside_of (set_of_follows {u = u} {c = c} {vs = vs} {x = x} {rs = rs} {p = p} {i = i} n a d) e =
         let r = element_parts d in
         let z = stand_up p i r.parts (sizes rs) x a r.many r.each (e ∙ n) in
-        subst (λ w. TellsInside s (a_set_of c u) (list vs) true w (setof_row rs p i)) (sym z.2) (set_of_told r.told z.1)
+        subst (λ w. ContentsHaveRows s (a_set_of c u) (list vs) true w (setof_row rs p i)) (sym z.2) (set_of_listed r.listed z.1)
 
-    parts_of : {place : ℕ → ℕ} {cs : List Component} {vs : Row} {k : ℕ} {x : List ℕ} {rs : Rows} → MembersFollow s to_contents place cs vs k x rs → Placed (λ xs. TellsMembers s cs vs xs rs) place k x (sizes rs)
-    parts_of {place} {k = k} {x = x} none_follows = record { parts = []; told = no_member_told; each = none_placed x (λ i. place (k + i)); many = refl }
-    parts_of (absent_follows n m) = let r = parts_of m in record { parts = r.parts; told = absent_told n r.told; each = r.each; many = r.many }
-    parts_of (left_out_follows w f m) = let r = parts_of m in record { parts = r.parts; told = absent_default_told w f r.told; each = r.each; many = r.many }
-    parts_of (default_follows w f n m) = let r = parts_of m in record { parts = r.parts; told = default_told n r.told; each = r.each; many = r.many }
+    parts_of : {place : ℕ → ℕ} {cs : List Component} {vs : Row} {k : ℕ} {x : List ℕ} {rs : Rows} → MembersFollow s to_contents place cs vs k x rs → Placed (λ xs. MembersHaveRows s cs vs xs rs) place k x (sizes rs)
+    parts_of {place} {k = k} {x = x} none_follows = record { parts = []; listed = no_member_listed; each = none_placed x (λ i. place (k + i)); many = refl }
+    parts_of (absent_follows n m) = let r = parts_of m in record { parts = r.parts; listed = absent_listed n r.listed; each = r.each; many = r.many }
+    parts_of (left_out_follows w f m) = let r = parts_of m in record { parts = r.parts; listed = absent_default_listed w f r.listed; each = r.each; many = r.many }
+    parts_of (default_follows w f n m) = let r = parts_of m in record { parts = r.parts; listed = default_listed n r.listed; each = r.each; many = r.many }
     parts_of (default_written w f n p g m) = absurd n
     parts_of {place} {k = k} {x = x} (member_follows {y = y} {a = a} {rs = ms} n p g m) =
         let r = parts_of m in
-        let q : SliceAt x (place k) (octets_told a) y = p in
-        record { parts = y ∷ r.parts; told = member_told n (tells_of g q.as_many) r.told; each = first_placed place k x y (octets_told a) r.parts q r.each; many = ap (λ j. j ∷ sizes ms) (sym q.as_many) ∙ ap (λ js. length y ∷ js) r.many }
+        let q : SliceAt x (place k) (total_octets a) y = p in
+        record { parts = y ∷ r.parts; listed = member_listed n (right_of g q.as_many) r.listed; each = first_placed place k x y (total_octets a) r.parts q r.each; many = ap (λ j. j ∷ sizes ms) (sym q.as_many) ∙ ap (λ js. length y ∷ js) r.many }
 
-    element_parts : {place : ℕ → ℕ} {u : ℕ} {vs : Row} {k : ℕ} {x : List ℕ} {rs : Rows} → ElementsFollow s to_contents place u vs k x rs → Placed (λ xs. TellsElements s u vs xs rs) place k x (sizes rs)
-    element_parts {place} {k = k} {x = x} no_element_follows = record { parts = []; told = no_element_told; each = none_placed x (λ i. place (k + i)); many = refl }
+    element_parts : {place : ℕ → ℕ} {u : ℕ} {vs : Row} {k : ℕ} {x : List ℕ} {rs : Rows} → ElementsFollow s to_contents place u vs k x rs → Placed (λ xs. ElementsHaveRows s u vs xs rs) place k x (sizes rs)
+    element_parts {place} {k = k} {x = x} no_element_follows = record { parts = []; listed = no_element_listed; each = none_placed x (λ i. place (k + i)); many = refl }
     element_parts {place} {k = k} {x = x} (element_follows {y = y} {a = a} {rs = ms} p g m) =
         let r = element_parts m in
-        let q : SliceAt x (place k) (octets_told a) y = p in
-        record { parts = y ∷ r.parts; told = element_told (tells_of g q.as_many) r.told; each = first_placed place k x y (octets_told a) r.parts q r.each; many = ap (λ j. j ∷ sizes ms) (sym q.as_many) ∙ ap (λ js. length y ∷ js) r.many }
+        let q : SliceAt x (place k) (total_octets a) y = p in
+        record { parts = y ∷ r.parts; listed = element_listed (right_of g q.as_many) r.listed; each = first_placed place k x y (total_octets a) r.parts q r.each; many = ap (λ j. j ∷ sizes ms) (sym q.as_many) ∙ ap (λ js. length y ∷ js) r.many }
 
-    members_of : {all : List ℕ} {place : ℕ → ℕ} {cs : List Component} {vs : Row} {k : ℕ} {x : List ℕ} {rs : Rows} → MembersFollow s to_contents place cs vs k x rs → place ≡ before all → Done all k rs → length x ≡ sum all → Encoded (λ xs. TellsMembers s cs vs xs rs) x (before all k)
-    members_of {all} {k = k} {x = x} {rs = rs} none_follows pl d l = record { parts = []; told = no_member_told; joined = at_last all k rs x d refl l }
-    members_of (absent_follows n m) pl d l = let r = members_of m pl (record { front = d.front; split = d.split; many = d.many }) l in record { parts = r.parts; told = absent_told n r.told; joined = r.joined }
-    members_of (left_out_follows w f m) pl d l = let r = members_of m pl (record { front = d.front; split = d.split; many = d.many }) l in record { parts = r.parts; told = absent_default_told w f r.told; joined = r.joined }
-    members_of (default_follows w f n m) pl d l = let r = members_of m pl (record { front = d.front; split = d.split; many = d.many }) l in record { parts = r.parts; told = default_told n r.told; joined = r.joined }
+    members_of : {all : List ℕ} {place : ℕ → ℕ} {cs : List Component} {vs : Row} {k : ℕ} {x : List ℕ} {rs : Rows} → MembersFollow s to_contents place cs vs k x rs → place ≡ before all → Done all k rs → length x ≡ sum all → Encoded (λ xs. MembersHaveRows s cs vs xs rs) x (before all k)
+    members_of {all} {k = k} {x = x} {rs = rs} none_follows pl d l = record { parts = []; listed = no_member_listed; joined = at_last all k rs x d refl l }
+    members_of (absent_follows n m) pl d l = let r = members_of m pl (record { front = d.front; split = d.split; many = d.many }) l in record { parts = r.parts; listed = absent_listed n r.listed; joined = r.joined }
+    members_of (left_out_follows w f m) pl d l = let r = members_of m pl (record { front = d.front; split = d.split; many = d.many }) l in record { parts = r.parts; listed = absent_default_listed w f r.listed; joined = r.joined }
+    members_of (default_follows w f n m) pl d l = let r = members_of m pl (record { front = d.front; split = d.split; many = d.many }) l in record { parts = r.parts; listed = default_listed n r.listed; joined = r.joined }
     members_of (default_written w f n p g m) pl d l = absurd n
     members_of {all} {k = k} {x = x} (member_follows {y = y} {a = a} {rs = ms} n p g m) pl d l =
         let r = members_of m pl (one_more refl d) l in
-        let q : SliceAt x (before all k) (octets_told a) y = subst (λ j. SliceAt x j (octets_told a) y) (ap (λ f. f k) pl) p in
-        record { parts = y ∷ r.parts; told = member_told n (tells_of g q.as_many) r.told; joined = next_slice x (before all k) (octets_told a) y q ∙ ap (λ z. y ++ drop z x) (further_one ms refl d) ∙ ap (λ z. y ++ z) r.joined }
+        let q : SliceAt x (before all k) (total_octets a) y = subst (λ j. SliceAt x j (total_octets a) y) (ap (λ f. f k) pl) p in
+        record { parts = y ∷ r.parts; listed = member_listed n (right_of g q.as_many) r.listed; joined = next_slice x (before all k) (total_octets a) y q ∙ ap (λ z. y ++ drop z x) (further_one ms refl d) ∙ ap (λ z. y ++ z) r.joined }
 
-    elements_of : {all : List ℕ} {place : ℕ → ℕ} {u : ℕ} {vs : Row} {k : ℕ} {x : List ℕ} {rs : Rows} → ElementsFollow s to_contents place u vs k x rs → place ≡ before all → Done all k rs → length x ≡ sum all → Encoded (λ xs. TellsElements s u vs xs rs) x (before all k)
-    elements_of {all} {k = k} {x = x} {rs = rs} no_element_follows pl d l = record { parts = []; told = no_element_told; joined = at_last all k rs x d refl l }
+    elements_of : {all : List ℕ} {place : ℕ → ℕ} {u : ℕ} {vs : Row} {k : ℕ} {x : List ℕ} {rs : Rows} → ElementsFollow s to_contents place u vs k x rs → place ≡ before all → Done all k rs → length x ≡ sum all → Encoded (λ xs. ElementsHaveRows s u vs xs rs) x (before all k)
+    elements_of {all} {k = k} {x = x} {rs = rs} no_element_follows pl d l = record { parts = []; listed = no_element_listed; joined = at_last all k rs x d refl l }
     elements_of {all} {k = k} {x = x} (element_follows {y = y} {a = a} {rs = ms} p g m) pl d l =
         let r = elements_of m pl (one_more refl d) l in
-        let q : SliceAt x (before all k) (octets_told a) y = subst (λ j. SliceAt x j (octets_told a) y) (ap (λ f. f k) pl) p in
-        record { parts = y ∷ r.parts; told = element_told (tells_of g q.as_many) r.told; joined = next_slice x (before all k) (octets_told a) y q ∙ ap (λ z. y ++ drop z x) (further_one ms refl d) ∙ ap (λ z. y ++ z) r.joined }
+        let q : SliceAt x (before all k) (total_octets a) y = subst (λ j. SliceAt x j (total_octets a) y) (ap (λ f. f k) pl) p in
+        record { parts = y ∷ r.parts; listed = element_listed (right_of g q.as_many) r.listed; joined = next_slice x (before all k) (total_octets a) y q ∙ ap (λ z. y ++ drop z x) (further_one ms refl d) ∙ ap (λ z. y ++ z) r.joined }
 
-pub follows_tell : Only → (s : List Resolved) (t : ℕ) (v : AbstractValue) (o : List ℕ) (a : Account) → length o ≡ octets_told a → Follows s to_contents t v o a → Tells s t v o a
-follows_tell only s t v o a l d = tells_of only s d l
+pub follows_right : Only → (s : List Resolved) (t : ℕ) (v : AbstractValue) (o : List ℕ) (a : Account) → length o ≡ total_octets a → Follows s to_contents t v o a → Describes s t v o a
+follows_right only s t v o a l d = right_of only s d l

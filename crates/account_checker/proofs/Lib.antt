@@ -6,12 +6,11 @@ pub mod Laws
 pub mod Leaves
 pub mod Lists
 pub mod Members
-pub mod Placing
 pub mod Rows
 pub mod SentBack
 pub mod Sets
 pub mod Skipping
-pub mod Standing
+pub mod Placement
 pub mod Steps
-pub mod Told
+pub mod RowLayout
 pub mod Weaker

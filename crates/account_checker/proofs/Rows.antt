@@ -1,9 +1,9 @@
 -- The first row of an account.
 use Rattle.std.proofs.Common.{◌≡◌, List, [], ◌∷◌, ◌++◌, refl, sym, ap, subst, ◌∙◌}
 use Rattle.encodings.specs.Account.{Account, header, leaf_row, wrap_row, seq_row, seqof_row, set_row, setof_row, Rows}
-use Rattle.octet_account.specs.declared.row.Told.{Told}
+use Rattle.octet_account.specs.declared.row.RowLayout.{RowLayout}
 use Rattle.octet_account.specs.declared.row.Row.{Row}
-use Rattle.octet_account.specs.Seen.{flat, told_of}
+use Rattle.octet_account.specs.Seen.{flat, flat_row}
 use Rattle.octet_account.specs.Flat.{FlatRow, a_leaf, a_wrap, a_seq, a_seqof, a_set, a_setof, an_absent, a_default, count, rows_of, member_rows, AreRows}
 
 -- The account that begins with this row. Rows q come after the row, and rows rest after the account.
@@ -46,14 +46,14 @@ some_row (header z (set_row rs p i)) rest e = cc
 some_row (header z (setof_row rs p i)) rest e = cc
 
 -- rows in memory whose first row is t
-pub row_eq : (rows : List Row) (row : Row) (behind : List Row) (t : Told) (a : Account) (rest : List FlatRow) → rows ≡ row ∷ behind → row.told ≡ t → flat rows ≡ rows_of a ++ rest → told_of t ∷ flat behind ≡ rows_of a ++ rest
-row_eq rows row behind t a rest e f g = sym (ap (λ w. told_of w ∷ flat behind) f) ∙ sym (ap flat e) ∙ g
+pub row_eq : (rows : List Row) (row : Row) (following : List Row) (t : RowLayout) (a : Account) (rest : List FlatRow) → rows ≡ row ∷ following → row.listed ≡ t → flat rows ≡ rows_of a ++ rest → flat_row t ∷ flat following ≡ rows_of a ++ rest
+row_eq rows row following t a rest e f g = sym (ap (λ w. flat_row w ∷ flat following) f) ∙ sym (ap flat e) ∙ g
 
-pub row_at : (rows : List Row) (row : Row) (behind : List Row) (t : Told) (a : Account) (rest : List FlatRow) → rows ≡ row ∷ behind → row.told ≡ t → flat rows ≡ rows_of a ++ rest → Opened a (told_of t) (flat behind) rest
-row_at rows row behind t a rest e f g = opened a (told_of t) (flat behind) rest (row_eq rows row behind t a rest e f g)
+pub row_at : (rows : List Row) (row : Row) (following : List Row) (t : RowLayout) (a : Account) (rest : List FlatRow) → rows ≡ row ∷ following → row.listed ≡ t → flat rows ≡ rows_of a ++ rest → Opened a (flat_row t) (flat following) rest
+row_at rows row following t a rest e f g = opened a (flat_row t) (flat following) rest (row_eq rows row following t a rest e f g)
 
-pub row_eq_any : (rows : List Row) (row : Row) (behind : List Row) (all : List FlatRow) → rows ≡ row ∷ behind → flat rows ≡ all → told_of row.told ∷ flat behind ≡ all
-row_eq_any rows row behind all e g = sym (ap flat e) ∙ g
+pub row_eq_any : (rows : List Row) (row : Row) (following : List Row) (all : List FlatRow) → rows ≡ row ∷ following → flat rows ≡ all → flat_row row.listed ∷ flat following ≡ all
+row_eq_any rows row following all e g = sym (ap flat e) ∙ g
 
 append_nil : (rs : List FlatRow) → rs ++ [] ≡ rs
 append_nil [] = refl

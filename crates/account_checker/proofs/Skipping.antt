@@ -146,29 +146,29 @@ module _ {rs : Rows} {left rest : List FlatRow} {n j k : ℕ} (h : SizesLeft rs 
   next_is = first_of h.rows (let e = h.many in omega arith)
 
   -- the rows of the next member
-  pub next_rows : left ≡ rows_in next_is.member ++ (member_rows next_is.behind ++ rest)
-  next_rows = h.are ∙ ap (λ r. member_rows r ++ rest) next_is.is ∙ rows_put next_is.member next_is.behind rest
+  pub next_rows : left ≡ rows_in next_is.member ++ (member_rows next_is.following ++ rest)
+  next_rows = h.are ∙ ap (λ r. member_rows r ++ rest) next_is.is ∙ rows_put next_is.member next_is.following rest
 
-  fewer : {n' : ℕ} → suc n' ≡ n → count next_is.behind ≡ n'
-  fewer e = let c = h.many in let d = ap count next_is.is ∙ count_put next_is.member next_is.behind in omega arith
+  fewer : {n' : ℕ} → suc n' ≡ n → count next_is.following ≡ n'
+  fewer e = let c = h.many in let d = ap count next_is.is ∙ count_put next_is.member next_is.following in omega arith
 
   pub size_found : {size : ℕ} → Some size ≡ size_in next_is.member → k ≡ 0 → size ≡ get_or (sizes rs) j 0
-  size_found {size} e f = sym (h.same ∙ ap (λ i. get_or (sizes h.rows) i 0) f ∙ ap (λ r. get_or (sizes r) 0 0) next_is.is ∙ first_put next_is.member next_is.behind size (sym e))
+  size_found {size} e f = sym (h.same ∙ ap (λ i. get_or (sizes h.rows) i 0) f ∙ ap (λ r. get_or (sizes r) 0 0) next_is.is ∙ first_put next_is.member next_is.following size (sym e))
 
-  pub size_further : {left' : List FlatRow} {n' k' size : ℕ} → Some size ≡ size_in next_is.member → (k ≡ 0 → ⊥) → left' ≡ member_rows next_is.behind ++ rest → suc n' ≡ n → k' ≡ k - 1 → SizesLeft rs left' rest n' j k'
+  pub size_further : {left' : List FlatRow} {n' k' size : ℕ} → Some size ≡ size_in next_is.member → (k ≡ 0 → ⊥) → left' ≡ member_rows next_is.following ++ rest → suc n' ≡ n → k' ≡ k - 1 → SizesLeft rs left' rest n' j k'
   size_further {size = size} e f g m i = record {
-    rows = next_is.behind;
+    rows = next_is.following;
     are = g;
     many = fewer m;
-    same = h.same ∙ ap (λ r. get_or (sizes r) k 0) next_is.is ∙ further_put next_is.member next_is.behind size k (sym e) f ∙ ap (λ l. get_or (sizes next_is.behind) l 0) (sym i);
+    same = h.same ∙ ap (λ r. get_or (sizes r) k 0) next_is.is ∙ further_put next_is.member next_is.following size k (sym e) f ∙ ap (λ l. get_or (sizes next_is.following) l 0) (sym i);
   }
 
-  pub size_passed : {left' : List FlatRow} {n' k' : ℕ} → None ≡ size_in next_is.member → left' ≡ member_rows next_is.behind ++ rest → suc n' ≡ n → k' ≡ k → SizesLeft rs left' rest n' j k'
+  pub size_passed : {left' : List FlatRow} {n' k' : ℕ} → None ≡ size_in next_is.member → left' ≡ member_rows next_is.following ++ rest → suc n' ≡ n → k' ≡ k → SizesLeft rs left' rest n' j k'
   size_passed e g m i = record {
-    rows = next_is.behind;
+    rows = next_is.following;
     are = g;
     many = fewer m;
-    same = h.same ∙ ap (λ r. get_or (sizes r) k 0) next_is.is ∙ same_put next_is.member next_is.behind k (sym e) ∙ ap (λ l. get_or (sizes next_is.behind) l 0) (sym i);
+    same = h.same ∙ ap (λ r. get_or (sizes r) k 0) next_is.is ∙ same_put next_is.member next_is.following k (sym e) ∙ ap (λ l. get_or (sizes next_is.following) l 0) (sym i);
   }
 
 abbrev none : List ℕ

@@ -9,10 +9,10 @@ use Rattle.encodings.specs.Encoding.{IsDefault}
 use Rattle.encodings.specs.Account.{Account, Rows, absent_row, default_row, written, ArePlaces}
 use Rattle.octet_account.specs.Flat.{FlatRow, a_leaf, a_wrap, a_seq, a_seqof, a_set, a_setof, an_absent, a_default}
 use Rattle.octet_account.specs.Flat.{rows_of}
-use Rattle.account_checker.specs.declared.asked.Asked.{Asked}
+use Rattle.account_checker.specs.declared.checks.Checks.{Checks}
 use Rattle.account_checker.specs.declared.order.Order.{Order}
 use Rattle.account_checker.specs.declared.order.Order.TheVariants.{InOrder, Placed}
-use Rattle.account_checker.specs.Follows.{Where, Part, HasNoDefault, octets_told, sizes, before, by_place, Follows}
+use Rattle.account_checker.specs.Follows.{Checked, Slice, HasNoDefault, total_octets, sizes, before, by_place, Follows}
 use Rattle.account_checker.specs.Follows.{Under}
 use Rattle.account_checker.specs.Follows.{MembersFollow, ElementsFollow}
 
@@ -37,7 +37,7 @@ rows_in (is_written a) = rows_of a
 abbrev pub size_in : Member → Option ℕ
 size_in is_absent = None
 size_in is_default = None
-size_in (is_written a) = Some (octets_told a)
+size_in (is_written a) = Some (total_octets a)
 
 -- this number of octets, or 0 for None
 abbrev pub size_or : Option ℕ → ℕ
@@ -54,32 +54,32 @@ abbrev pub HasDefault : Component → Type 0
 HasDefault c = (d : AbstractValue) × (c.presence ≡ default d)
 
 -- the account follows the value, and the octets of the account are at the place
-abbrev pub WrittenAt : List Resolved → Asked → ℕ → ℕ → AbstractValue → Octets → Account → Type 0
-WrittenAt s q place t v x a = (y : Octets) × Part q.headers x place (octets_told a) y × Follows s q t v y a
+abbrev pub WrittenAt : List Resolved → Checks → ℕ → ℕ → AbstractValue → Octets → Account → Type 0
+WrittenAt s q place t v x a = (y : Octets) × Slice q.headers x place (total_octets a) y × Follows s q t v y a
 
 -- the member follows a component and its value, and the octets of an encoded member are at the place
-abbrev pub MemberAt : List Resolved → Asked → ℕ → Component → Option AbstractValue → Octets → Member → Type 0
+abbrev pub MemberAt : List Resolved → Checks → ℕ → Component → Option AbstractValue → Octets → Member → Type 0
 MemberAt s q place c None x is_absent = HasNoDefault c
 MemberAt s q place c None x is_default = HasDefault c
 MemberAt s q place c None x (is_written a) =
-    (d : AbstractValue) × (c.presence ≡ default d) × Where q.omitted ⊥ × WrittenAt s q place c.type d x a
+    (d : AbstractValue) × (c.presence ≡ default d) × Checked q.omitted ⊥ × WrittenAt s q place c.type d x a
 MemberAt s q place c (Some v) x is_absent = ⊥
-MemberAt s q place c (Some v) x is_default = HasDefault c × Where q.omitted (IsDefault s c v)
+MemberAt s q place c (Some v) x is_default = HasDefault c × Checked q.omitted (IsDefault s c v)
 MemberAt s q place c (Some v) x (is_written a) =
-    Where q.omitted (IsDefault s c v → ⊥) × WrittenAt s q place c.type v x a
+    Checked q.omitted (IsDefault s c v → ⊥) × WrittenAt s q place c.type v x a
 
 -- the member follows an element of type u, and its octets are at the place
-abbrev pub ElementAt : List Resolved → Asked → ℕ → ℕ → AbstractValue → Octets → Member → Type 0
+abbrev pub ElementAt : List Resolved → Checks → ℕ → ℕ → AbstractValue → Octets → Member → Type 0
 ElementAt s q place u v x (is_written a) = WrittenAt s q place u v x a
 ElementAt s q place u v x m = ⊥
 
 -- the account follows the value of the alternative with number i
-abbrev pub ChosenFollows : List Resolved → Asked → List Alternative → ℕ → AbstractValue → Octets → Account → Type 0
+abbrev pub ChosenFollows : List Resolved → Checks → List Alternative → ℕ → AbstractValue → Octets → Account → Type 0
 ChosenFollows s q as' i v o a = (b : Alternative) × (slice_get as' i ≡ Some b) × Follows s q b.type v o a
 
 -- Whether account a follows tags is the same as whether account b follows the tag g alone. The rows of b are those of a
 -- within the outer headers.
-pub record IsOuterOf (q : Asked) (tags : List Tag) (o : Octets) (a : Account) (g : Tag) (x : Octets)
+pub record IsOuterOf (q : Checks) (tags : List Tag) (o : Octets) (a : Account) (g : Tag) (x : Octets)
     (b : Account) : Type 0 where
   pub inward : (s : List Resolved) (k : Kind) (v : AbstractValue) → Under s q tags k v o a → Under s q (g ∷ []) k v x b
   pub outward : (s : List Resolved) (k : Kind) (v : AbstractValue) → Under s q (g ∷ []) k v x b → Under s q tags k v o a
@@ -101,9 +101,9 @@ place_in InOrder ns k = before ns k
 place_in (Placed b) ns k = before (by_place ns b.now.inverse.items) (get_or b.now.places.items k 0)
 
 -- the places are those of n members, if places are checked
-abbrev pub AreInOrder : Asked → Order → ℕ → Type 0
+abbrev pub AreInOrder : Checks → Order → ℕ → Type 0
 AreInOrder q InOrder n = Unit {0}
-AreInOrder q (Placed b) n = Where q.places (ArePlaces n b.now.places.items b.now.inverse.items)
+AreInOrder q (Placed b) n = Checked q.places (ArePlaces n b.now.places.items b.now.inverse.items)
 
 -- how many octets are before place j, if es has the offset at which each place ends
 abbrev pub end_before : List ℕ → ℕ → ℕ
@@ -126,21 +126,21 @@ AreEnds (Placed b) ns =
     (k : ℕ) → place_in (Placed b) ns k ≡ end_before b.now.ends.items (get_or b.now.places.items k 0)
 
 -- the members of a SEQUENCE or SET follow its components, and their rows give n octets
-abbrev pub FieldsFollow : List Resolved → Asked → Order → List Component → AbstractValue → ℕ → Octets → Rows → Type 0
+abbrev pub FieldsFollow : List Resolved → Checks → Order → List Component → AbstractValue → ℕ → Octets → Rows → Type 0
 FieldsFollow s q order cs v n x rs =
-    (vs : Row) × (v ≡ fields vs) × Where q.numbers (n ≡ sum (sizes rs))
+    (vs : Row) × (v ≡ fields vs) × Checked q.numbers (n ≡ sum (sizes rs))
     × AreInOrder q order (length (sizes rs))
     × MembersFollow s q (place_in order (sizes rs)) cs vs 0 x rs
 
 -- the members of a SEQUENCE OF or SET OF follow its elements, and their rows give n octets
-abbrev pub ListFollows : List Resolved → Asked → Order → ℕ → AbstractValue → ℕ → Octets → Rows → Type 0
+abbrev pub ListFollows : List Resolved → Checks → Order → ℕ → AbstractValue → ℕ → Octets → Rows → Type 0
 ListFollows s q order u v n x rs =
-    (vs : Row) × (v ≡ list vs) × Where q.numbers (n ≡ sum (sizes rs))
+    (vs : Row) × (v ≡ list vs) × Checked q.numbers (n ≡ sum (sizes rs))
     × AreInOrder q order (length (sizes rs))
     × ElementsFollow s q (place_in order (sizes rs)) u vs 0 x rs
 
 -- an account follows the value of an alternative, for any alternative
-abbrev pub ChoiceFollows : List Resolved → Asked → List Alternative → AbstractValue → Octets → Account → Type 0
+abbrev pub ChoiceFollows : List Resolved → Checks → List Alternative → AbstractValue → Octets → Account → Type 0
 ChoiceFollows s q as' v o a = (i : ℕ) × (w : AbstractValue) × (v ≡ alternative i w) × ChosenFollows s q as' i w o a
 
 -- if the first list has j at place i, the second list has i at place j

@@ -1,8 +1,8 @@
 //! Whether the rows of an account follow a type and a value (X.690, 8.1 and 8.9 to 8.14).
 
-ghost use Rattle.account_checker.specs.Follows.{ElementsFollow, Follows, InsideFollows, MembersFollow, Under, Where};
+ghost use Rattle.account_checker.specs.Follows.{ElementsFollow, Follows, InsideFollows, MembersFollow, Under, Checked};
 ghost use Rattle.account_checker.specs.Follows.{AreContents, HasContents, before, is_built, sizes};
-ghost use Rattle.account_checker.specs.Follows.{octets_told as octets_in};
+ghost use Rattle.account_checker.specs.Follows.{total_octets as octets_in};
 ghost use Rattle.account_checker.specs.Parts.{AreEnds, ChoiceFollows, FieldsFollow, HasDefault, IsOuterOf, ListFollows};
 ghost use Rattle.account_checker.specs.Parts.{ElementAt, Member, MemberAt, WrittenAt};
 ghost use Rattle.account_checker.specs.Parts.{is_absent, is_default as left_out};
@@ -15,31 +15,31 @@ ghost use Rattle.asn_base.specs.Typed.{AreComponents, AreElements, ValueIn, Valu
 ghost use Rattle.asn_base.specs.Same.{IsLeaf};
 ghost use Rattle.asn_base.specs.Schemas.{HasValue, IsSound};
 ghost use Rattle.asn_base.specs.Types.{Alternative, Kind, Resolved};
-ghost use Rattle.account_checker.specs.declared.asked.Asked.{Asked as Asked'};
+ghost use Rattle.account_checker.specs.declared.checks.Checks.{Checks as Checks'};
 ghost use Rattle.encodings.specs.Encoding.{IsDefault};
 ghost use Rattle.encodings.specs.Header.{Octets};
 ghost use Rattle.std.specs.List.{AllByRecursion};
 ghost use Rattle.encodings.specs.Account.{Account, Inside, Numbers as Numbers', Rows, header};
 ghost use Rattle.octet_account.specs.Flat.{FlatRow, count, member_rows, rows_of};
-ghost use Rattle.octet_account.specs.Seen.{flat, numbers_of, told_of};
+ghost use Rattle.octet_account.specs.Seen.{flat, numbers_of, flat_row};
 ghost use Rattle.std.specs.List.{sum};
 ghost use Rattle.std.specs.Prelude.{◌+◌, ◌^◌, ◌≡◌, ◌≤◌, ◌<◌, ◌++◌, ◌∷◌, ◌↔◌, []};
 ghost use Rattle.std.specs.Prelude.{ℕ, List, length, map, option_map, slice_get};
 ghost use Rattle.std.specs.Prelude.{IsTrue, MatchOption, None, Some};
 
-use crate::asked::Asked;
-use crate::header::{behind_header, part};
+use crate::checks::Checks;
+use crate::header::{after_header, part};
 use crate::order::{Order, are_in_order, are_known, start, written_to};
 use crate::walk::{
-    Counted, Passed, chosen_type, further, has_count, has_octets, innermost, is_constructed,
-    is_leaf, is_to_be_written, may_be_absent, may_be_left_out, numbers_in, octets_told,
+    AfterMember, Counted, chosen_type, has_count, has_octets, innermost, is_constructed, is_leaf,
+    is_to_be_written, may_be_absent, may_be_left_out, numbers_in, offset_after, total_octets,
 };
-use asn_base::law::abstract_values;
+use asn_base::law::lemma_abstract_values;
 use asn_base::schema::{Alternatives, Component, Core, Presence, Schema, TypeId};
 use asn_base::tag::Tag;
 use asn_base::value::Value;
 use encodings::header_laws;
-use octet_account::row::{Row, Told};
+use octet_account::row::{Row, RowLayout};
 
 /// Whether the account follows a type and a value in the properties that are checked. The result is the rows after
 /// those of the account, or None if it doesn't follow. The value is one of the type with at most this many levels. The
@@ -47,7 +47,7 @@ use octet_account::row::{Row, Told};
 #[cycle(follow)]
 pub(crate) fn follows<'r>(
     schema: &Schema,
-    asked: Asked,
+    checks: Checks,
     levels: u8,
     id: TypeId,
     value: &Value,
@@ -59,8 +59,8 @@ pub(crate) fn follows<'r>(
     ensures { (a : Account) (rest : List FlatRow)
         → flat rows.now ≡ rows_of a ++ rest
         → MatchOption result
-        (Follows schema.now asked id.index (abstract value.now) octets.now a → ⊥)
-        (λ r. Follows schema.now asked id.index (abstract value.now) octets.now a × (flat r.now ≡ rest)) }
+        (Follows schema.now checks id.index (abstract value.now) octets.now a → ⊥)
+        (λ r. Follows schema.now checks id.index (abstract value.now) octets.now a × (flat r.now ≡ rest)) }
 {
     if levels == 0 || !schema.has(id) {
         return None;
@@ -68,7 +68,7 @@ pub(crate) fn follows<'r>(
     let resolved = schema.get(id);
     match under(
         schema,
-        asked,
+        checks,
         levels - 1,
         resolved.tags.as_slice(),
         &resolved.core,
@@ -76,7 +76,7 @@ pub(crate) fn follows<'r>(
         octets,
         rows,
     ) {
-        Some(behind) => Some(behind),
+        Some(following) => Some(following),
         None => None,
     }
 }
@@ -85,7 +85,7 @@ pub(crate) fn follows<'r>(
 #[cycle(follow)]
 fn under<'r>(
     schema: &Schema,
-    asked: Asked,
+    checks: Checks,
     levels: u8,
     tags: &[Tag],
     core: &Core,
@@ -99,21 +99,21 @@ fn under<'r>(
     ensures { (a : Account) (rest : List FlatRow)
         → flat rows.now ≡ rows_of a ++ rest
         → MatchOption result
-        (Under schema.now asked tags.now (kind_of core.now) (abstract value.now) octets.now a → ⊥)
-        (λ r. Under schema.now asked tags.now (kind_of core.now) (abstract value.now) octets.now a
+        (Under schema.now checks tags.now (kind_of core.now) (abstract value.now) octets.now a → ⊥)
+        (λ r. Under schema.now checks tags.now (kind_of core.now) (abstract value.now) octets.now a
         × (flat r.now ≡ rest)) }
 {
     if tags.len() == 0 {
-        return match bare(schema, asked, levels, core, value, octets, rows) {
-            Some(behind) => Some(behind),
+        return match bare(schema, checks, levels, core, value, octets, rows) {
+            Some(following) => Some(following),
             None => None,
         };
     }
-    match innermost(asked, tags, octets, rows) {
+    match innermost(checks, tags, octets, rows) {
         Some(at) => match headed(
-            schema, asked, levels, at.tag, core, value, at.octets, at.rows,
+            schema, checks, levels, at.tag, core, value, at.octets, at.rows,
         ) {
-            Some(behind) => Some(behind),
+            Some(following) => Some(following),
             None => None,
         },
         None => None,
@@ -124,7 +124,7 @@ fn under<'r>(
 #[cycle(follow)]
 fn bare<'r>(
     schema: &Schema,
-    asked: Asked,
+    checks: Checks,
     levels: u8,
     core: &Core,
     value: &Value,
@@ -136,20 +136,20 @@ fn bare<'r>(
     ensures { (a : Account) (rest : List FlatRow)
         → flat rows.now ≡ rows_of a ++ rest
         → MatchOption result
-        (Under schema.now asked [] (kind_of core.now) (abstract value.now) octets.now a → ⊥)
-        (λ r. Under schema.now asked [] (kind_of core.now) (abstract value.now) octets.now a × (flat r.now ≡ rest)) }
+        (Under schema.now checks [] (kind_of core.now) (abstract value.now) octets.now a → ⊥)
+        (λ r. Under schema.now checks [] (kind_of core.now) (abstract value.now) octets.now a × (flat r.now ≡ rest)) }
 {
     match core {
         Core::Choice(alternatives) => match chosen(
             schema,
-            asked,
+            checks,
             levels,
             alternatives,
             value,
             octets,
             rows,
         ) {
-            Some(behind) => Some(behind),
+            Some(following) => Some(following),
             None => None,
         },
         _ => None,
@@ -160,7 +160,7 @@ fn bare<'r>(
 #[cycle(follow)]
 fn headed<'r>(
     schema: &Schema,
-    asked: Asked,
+    checks: Checks,
     levels: u8,
     tag: Tag,
     core: &Core,
@@ -174,19 +174,28 @@ fn headed<'r>(
     ensures { (a : Account) (rest : List FlatRow)
         → flat rows.now ≡ rows_of a ++ rest
         → MatchOption result
-        (Under schema.now asked (tag ∷ []) (kind_of core.now) (abstract value.now) octets.now a → ⊥)
-        (λ r. Under schema.now asked (tag ∷ []) (kind_of core.now) (abstract value.now) octets.now a
+        (Under schema.now checks (tag ∷ []) (kind_of core.now) (abstract value.now) octets.now a → ⊥)
+        (λ r. Under schema.now checks (tag ∷ []) (kind_of core.now) (abstract value.now) octets.now a
         × (flat r.now ≡ rest)) }
 {
     header_laws();
-    let Some((row, behind)) = rows.split_first() else {
+    let Some((row, following)) = rows.split_first() else {
         return None;
     };
-    let Some(numbers) = numbers_in(&row.told) else {
+    let Some(numbers) = numbers_in(&row.listed) else {
         return None;
     };
-    match behind_header(asked, tag, is_constructed(core), numbers, octets) {
-        Some(x) => match inside(schema, asked, levels, core, value, x, &row.told, behind) {
+    match after_header(checks, tag, is_constructed(core), numbers, octets) {
+        Some(x) => match inside(
+            schema,
+            checks,
+            levels,
+            core,
+            value,
+            x,
+            &row.listed,
+            following,
+        ) {
             Some(rest) => Some(rest),
             None => None,
         },
@@ -194,34 +203,34 @@ fn headed<'r>(
     }
 }
 
-/// Whether the rows within a header follow a value of this kind. `told` is the row of the header, and `rows` are the
+/// Whether the rows within a header follow a value of this kind. `listed` is the row of the header, and `rows` are the
 /// rows after it.
 #[cycle(follow)]
 fn inside<'r>(
     schema: &Schema,
-    asked: Asked,
+    checks: Checks,
     levels: u8,
     core: &Core,
     value: &Value,
     octets: &[u8],
-    told: &'r Told,
+    listed: &'r RowLayout,
     rows: &'r [Row],
 ) -> Option<&'r [Row]>
     requires value { ValueOf schema.now levels (kind_of core.now) (abstract value.now) }
     requires few { levels ≤ 64 }
     requires sound { IsSound schema.now (kind_of core.now) }
     ensures { (z : Numbers') (i : Inside) (rest : List FlatRow)
-        → told_of told.now ∷ flat rows.now ≡ rows_of (header z i) ++ rest
+        → flat_row listed.now ∷ flat rows.now ≡ rows_of (header z i) ++ rest
         → MatchOption result
-        (InsideFollows schema.now asked (kind_of core.now) (abstract value.now) z.contents octets.now i → ⊥)
-        (λ r. InsideFollows schema.now asked (kind_of core.now) (abstract value.now) z.contents octets.now i
+        (InsideFollows schema.now checks (kind_of core.now) (abstract value.now) z.contents octets.now i → ⊥)
+        (λ r. InsideFollows schema.now checks (kind_of core.now) (abstract value.now) z.contents octets.now i
         × (flat r.now ≡ rest)) }
 {
     match core {
-        Core::Sequence(_, components) => match told {
-            Told::Seq(z, count) => match structure(
+        Core::Sequence(_, components) => match listed {
+            RowLayout::Seq(z, count) => match structure(
                 schema,
-                asked,
+                checks,
                 levels,
                 components.as_slice(),
                 value,
@@ -231,15 +240,15 @@ fn inside<'r>(
                 Order::InOrder,
                 rows,
             ) {
-                Some(behind) => Some(behind),
+                Some(following) => Some(following),
                 None => None,
             },
             _ => None,
         },
-        Core::SequenceOf(_, element) => match told {
-            Told::SeqOf(z, count) => match series(
+        Core::SequenceOf(_, element) => match listed {
+            RowLayout::SeqOf(z, count) => match series(
                 schema,
-                asked,
+                checks,
                 levels,
                 *element,
                 value,
@@ -249,15 +258,15 @@ fn inside<'r>(
                 Order::InOrder,
                 rows,
             ) {
-                Some(behind) => Some(behind),
+                Some(following) => Some(following),
                 None => None,
             },
             _ => None,
         },
-        Core::Choice(alternatives) => match told {
-            Told::Wrap(z) => match held(
+        Core::Choice(alternatives) => match listed {
+            RowLayout::Wrap(z) => match held(
                 schema,
-                asked,
+                checks,
                 levels,
                 alternatives,
                 value,
@@ -265,15 +274,15 @@ fn inside<'r>(
                 octets,
                 rows,
             ) {
-                Some(behind) => Some(behind),
+                Some(following) => Some(following),
                 None => None,
             },
             _ => None,
         },
-        Core::Set(_, components) => match told {
-            Told::Set(z, places) => match structure(
+        Core::Set(_, components) => match listed {
+            RowLayout::Set(z, places) => match structure(
                 schema,
-                asked,
+                checks,
                 levels,
                 components.as_slice(),
                 value,
@@ -283,15 +292,15 @@ fn inside<'r>(
                 Order::Placed(&**places),
                 rows,
             ) {
-                Some(behind) => Some(behind),
+                Some(following) => Some(following),
                 None => None,
             },
             _ => None,
         },
-        Core::SetOf(_, element) => match told {
-            Told::SetOf(z, places) => match series(
+        Core::SetOf(_, element) => match listed {
+            RowLayout::SetOf(z, places) => match series(
                 schema,
-                asked,
+                checks,
                 levels,
                 *element,
                 value,
@@ -301,14 +310,14 @@ fn inside<'r>(
                 Order::Placed(&**places),
                 rows,
             ) {
-                Some(behind) => Some(behind),
+                Some(following) => Some(following),
                 None => None,
             },
             _ => None,
         },
-        _ => match told {
-            Told::Leaf(z) => {
-                if is_leaf(asked, core, value, z.contents, octets) {
+        _ => match listed {
+            RowLayout::Leaf(z) => {
+                if is_leaf(checks, core, value, z.contents, octets) {
                     Some(rows)
                 } else {
                     None
@@ -323,7 +332,7 @@ fn inside<'r>(
 #[cycle(follow)]
 fn held<'r>(
     schema: &Schema,
-    asked: Asked,
+    checks: Checks,
     levels: u8,
     alternatives: &Alternatives,
     value: &Value,
@@ -337,22 +346,22 @@ fn held<'r>(
     ensures { (a : Account) (rest : List FlatRow)
         → flat rows.now ≡ rows_of a ++ rest
         → MatchOption result
-        (Where asked.numbers (contents ≡ octets_in a)
-        → ChoiceFollows schema.now asked
+        (Checked checks.numbers (contents ≡ octets_in a)
+        → ChoiceFollows schema.now checks
         (map alternative_of alternatives.now.root.items ++ map alternative_of alternatives.now.additions.items)
         (abstract value.now) octets.now a
         → ⊥)
-        (λ r. Where asked.numbers (contents ≡ octets_in a)
-        × ChoiceFollows schema.now asked
+        (λ r. Checked checks.numbers (contents ≡ octets_in a)
+        × ChoiceFollows schema.now checks
         (map alternative_of alternatives.now.root.items ++ map alternative_of alternatives.now.additions.items)
         (abstract value.now) octets.now a
         × (flat r.now ≡ rest)) }
 {
-    if !has_octets(asked, contents, rows) {
+    if !has_octets(checks, contents, rows) {
         return None;
     }
-    match chosen(schema, asked, levels, alternatives, value, octets, rows) {
-        Some(behind) => Some(behind),
+    match chosen(schema, checks, levels, alternatives, value, octets, rows) {
+        Some(following) => Some(following),
         None => None,
     }
 }
@@ -361,7 +370,7 @@ fn held<'r>(
 #[cycle(follow)]
 fn chosen<'r>(
     schema: &Schema,
-    asked: Asked,
+    checks: Checks,
     levels: u8,
     alternatives: &Alternatives,
     value: &Value,
@@ -374,20 +383,20 @@ fn chosen<'r>(
     ensures { (a : Account) (rest : List FlatRow)
         → flat rows.now ≡ rows_of a ++ rest
         → MatchOption result
-        (ChoiceFollows schema.now asked
+        (ChoiceFollows schema.now checks
         (map alternative_of alternatives.now.root.items ++ map alternative_of alternatives.now.additions.items)
         (abstract value.now) octets.now a
         → ⊥)
-        (λ r. ChoiceFollows schema.now asked
+        (λ r. ChoiceFollows schema.now checks
         (map alternative_of alternatives.now.root.items ++ map alternative_of alternatives.now.additions.items)
         (abstract value.now) octets.now a
         × (flat r.now ≡ rest)) }
 {
-    abstract_values();
+    lemma_abstract_values();
     match value {
         Value::Alt(index, inner) => match chosen_type(alternatives, *index) {
-            Some(id) => match follows(schema, asked, levels, id, inner, octets, rows) {
-                Some(behind) => Some(behind),
+            Some(id) => match follows(schema, checks, levels, id, inner, octets, rows) {
+                Some(following) => Some(following),
                 None => None,
             },
             None => None,
@@ -396,18 +405,18 @@ fn chosen<'r>(
     }
 }
 
-/// Whether the rows follow the components of a SEQUENCE or SET. `told` is the number of members that the row of the
+/// Whether the rows follow the components of a SEQUENCE or SET. `listed` is the number of members that the row of the
 /// header gives.
 #[cycle(follow)]
 fn structure<'r>(
     schema: &Schema,
-    asked: Asked,
+    checks: Checks,
     levels: u8,
     components: &[Component],
     value: &Value,
     contents: u32,
     octets: &[u8],
-    told: u32,
+    listed: u32,
     order: Order<'r>,
     rows: &'r [Row],
 ) -> Option<&'r [Row]>
@@ -417,34 +426,34 @@ fn structure<'r>(
     requires defaults { AllByRecursion (HasValue schema.now) (map component_of components.now) }
     ensures { (rs : Rows) (rest : List FlatRow)
         → flat rows.now ≡ member_rows rs ++ rest
-        → count rs ≡ told
+        → count rs ≡ listed
         → MatchOption result
-        (FieldsFollow schema.now asked order.entry (map component_of components.now) (abstract value.now)
+        (FieldsFollow schema.now checks order.entry (map component_of components.now) (abstract value.now)
         contents octets.now rs → ⊥)
-        (λ r. FieldsFollow schema.now asked order.entry (map component_of components.now) (abstract value.now)
+        (λ r. FieldsFollow schema.now checks order.entry (map component_of components.now) (abstract value.now)
         contents octets.now rs
         × (flat r.now ≡ rest)) }
 {
-    abstract_values();
+    lemma_abstract_values();
     let Value::Fields(items) = value else {
         return None;
     };
     let values = items.as_slice();
-    if told as usize != components.len() {
+    if listed as usize != components.len() {
         return None;
     }
     if values.len() != components.len() {
         return None;
     }
-    let Some(known) = are_known(asked, order, contents, rows, components.len()) else {
+    let Some(known) = are_known(checks, order, contents, rows, components.len()) else {
         return None;
     };
     match members(
-        schema, asked, levels, components, values, order, known, octets, rows,
+        schema, checks, levels, components, values, order, known, octets, rows,
     ) {
         Some(counted) => {
-            if has_count(asked, contents, counted.octets)
-                && are_in_order(asked, order, counted.written)
+            if has_count(checks, contents, counted.octets)
+                && are_in_order(checks, order, counted.written)
             {
                 Some(counted.rows)
             } else {
@@ -460,7 +469,7 @@ fn structure<'r>(
 #[cycle(follow)]
 fn members<'r>(
     schema: &Schema,
-    asked: Asked,
+    checks: Checks,
     levels: u8,
     components: &[Component],
     values: &[Option<Value>],
@@ -483,10 +492,10 @@ fn members<'r>(
         → flat rows.now ≡ member_rows rs ++ rest
         → count rs ≡ length components.now
         → MatchOption result
-        (MembersFollow schema.now asked (place_in order.entry (sizes rs)) (map component_of components.now)
+        (MembersFollow schema.now checks (place_in order.entry (sizes rs)) (map component_of components.now)
         (row_of_options (map (option_map abstract) values.now)) 0 octets.now rs
         → ⊥)
-        (λ r. MembersFollow schema.now asked (place_in order.entry (sizes rs)) (map component_of components.now)
+        (λ r. MembersFollow schema.now checks (place_in order.entry (sizes rs)) (map component_of components.now)
         (row_of_options (map (option_map abstract) values.now)) 0 octets.now rs
         × (flat r.rows.now ≡ rest)
         × (r.octets ≡ sum (sizes rs))
@@ -496,10 +505,10 @@ fn members<'r>(
     let mut place: u128 = 0;
     let mut number: usize = 0;
     for i in 0..components.len() {
-        let at = start(asked, order, known, rows, components.len(), number, place);
+        let at = start(checks, order, known, rows, components.len(), number, place);
         match member(
             schema,
-            asked,
+            checks,
             levels,
             &components[i],
             &values[i],
@@ -509,7 +518,7 @@ fn members<'r>(
         ) {
             Some(passed) => {
                 left = passed.rows;
-                place = further(place, passed.size, i);
+                place = offset_after(place, passed.size, i);
                 number = written_to(number, passed.size, components.len());
             }
             None => return None,
@@ -526,43 +535,43 @@ fn members<'r>(
 #[cycle(follow)]
 fn member<'r>(
     schema: &Schema,
-    asked: Asked,
+    checks: Checks,
     levels: u8,
     component: &Component,
     value: &Option<Value>,
     place: u128,
     octets: &[u8],
     rows: &'r [Row],
-) -> Option<Passed<'r>>
+) -> Option<AfterMember<'r>>
     requires value { IsComponent schema.now levels (component_of component.now) (option_map abstract value.now) }
     requires few { levels ≤ 64 }
     requires default { HasValue schema.now (component_of component.now) }
     ensures { (m : Member) (rest : List FlatRow)
         → flat rows.now ≡ rows_in m ++ rest
         → MatchOption result
-        (MemberAt schema.now asked place (component_of component.now) (option_map abstract value.now) octets.now m → ⊥)
-        (λ r. MemberAt schema.now asked place (component_of component.now) (option_map abstract value.now) octets.now m
+        (MemberAt schema.now checks place (component_of component.now) (option_map abstract value.now) octets.now m → ⊥)
+        (λ r. MemberAt schema.now checks place (component_of component.now) (option_map abstract value.now) octets.now m
         × (flat r.rows.now ≡ rest)
         × (r.size ≡ size_in m)) }
 {
-    let Some((row, behind)) = rows.split_first() else {
+    let Some((row, following)) = rows.split_first() else {
         return None;
     };
-    match &row.told {
-        Told::Absent => {
+    match &row.listed {
+        RowLayout::Absent => {
             if may_be_absent(component, value) {
-                Some(Passed {
-                    rows: behind,
+                Some(AfterMember {
+                    rows: following,
                     size: None,
                 })
             } else {
                 None
             }
         }
-        Told::Default => {
-            if may_be_left_out(schema, asked, levels, component, value) {
-                Some(Passed {
-                    rows: behind,
+        RowLayout::Default => {
+            if may_be_left_out(schema, checks, levels, component, value) {
+                Some(AfterMember {
+                    rows: following,
                     size: None,
                 })
             } else {
@@ -571,12 +580,12 @@ fn member<'r>(
         }
         _ => match value {
             Some(value) => {
-                if !is_to_be_written(schema, asked, levels, component, value) {
+                if !is_to_be_written(schema, checks, levels, component, value) {
                     return None;
                 }
                 match written(
                     schema,
-                    asked,
+                    checks,
                     levels,
                     component.ty,
                     value,
@@ -590,12 +599,12 @@ fn member<'r>(
             }
             None => match &component.presence {
                 Presence::Default(default) => {
-                    if asked.omitted {
+                    if checks.omitted {
                         return None;
                     }
                     match written(
                         schema,
-                        asked,
+                        checks,
                         levels,
                         component.ty,
                         default,
@@ -617,54 +626,54 @@ fn member<'r>(
 #[cycle(follow)]
 fn written<'r>(
     schema: &Schema,
-    asked: Asked,
+    checks: Checks,
     levels: u8,
     id: TypeId,
     value: &Value,
     place: u128,
     octets: &[u8],
     rows: &'r [Row],
-) -> Option<Passed<'r>>
+) -> Option<AfterMember<'r>>
     requires value { ValueIn schema.now levels id.index (abstract value.now) }
     requires few { levels ≤ 64 }
     ensures { (a : Account) (rest : List FlatRow)
         → flat rows.now ≡ rows_of a ++ rest
         → MatchOption result
-        (WrittenAt schema.now asked place id.index (abstract value.now) octets.now a → ⊥)
-        (λ r. WrittenAt schema.now asked place id.index (abstract value.now) octets.now a
+        (WrittenAt schema.now checks place id.index (abstract value.now) octets.now a → ⊥)
+        (λ r. WrittenAt schema.now checks place id.index (abstract value.now) octets.now a
         × (flat r.rows.now ≡ rest)
         × (r.size ≡ Some (octets_in a))) }
 {
     let Some((row, _)) = rows.split_first() else {
         return None;
     };
-    let Some(size) = octets_told(&row.told) else {
+    let Some(size) = total_octets(&row.listed) else {
         return None;
     };
-    let Some(here) = part(asked, octets, place, size) else {
+    let Some(here) = part(checks, octets, place, size) else {
         return None;
     };
-    match follows(schema, asked, levels, id, value, here, rows) {
-        Some(behind) => Some(Passed {
-            rows: behind,
+    match follows(schema, checks, levels, id, value, here, rows) {
+        Some(following) => Some(AfterMember {
+            rows: following,
             size: Some(size),
         }),
         None => None,
     }
 }
 
-/// Whether the rows follow the elements of a SEQUENCE OF or SET OF. `told` is the number of members that the row of the
+/// Whether the rows follow the elements of a SEQUENCE OF or SET OF. `listed` is the number of members that the row of the
 /// header gives.
 #[cycle(follow)]
 fn series<'r>(
     schema: &Schema,
-    asked: Asked,
+    checks: Checks,
     levels: u8,
     element: TypeId,
     value: &Value,
     contents: u32,
     octets: &[u8],
-    told: u32,
+    listed: u32,
     order: Order<'r>,
     rows: &'r [Row],
 ) -> Option<&'r [Row]>
@@ -672,29 +681,29 @@ fn series<'r>(
     requires few { levels ≤ 64 }
     ensures { (rs : Rows) (rest : List FlatRow)
         → flat rows.now ≡ member_rows rs ++ rest
-        → count rs ≡ told
+        → count rs ≡ listed
         → MatchOption result
-        (ListFollows schema.now asked order.entry element.index (abstract value.now) contents octets.now rs → ⊥)
-        (λ r. ListFollows schema.now asked order.entry element.index (abstract value.now) contents octets.now rs
+        (ListFollows schema.now checks order.entry element.index (abstract value.now) contents octets.now rs → ⊥)
+        (λ r. ListFollows schema.now checks order.entry element.index (abstract value.now) contents octets.now rs
         × (flat r.now ≡ rest)) }
 {
-    abstract_values();
+    lemma_abstract_values();
     let Value::List(items) = value else {
         return None;
     };
     let values = items.as_slice();
-    if told as usize != values.len() {
+    if listed as usize != values.len() {
         return None;
     }
-    let Some(known) = are_known(asked, order, contents, rows, values.len()) else {
+    let Some(known) = are_known(checks, order, contents, rows, values.len()) else {
         return None;
     };
     match elements(
-        schema, asked, levels, element, values, order, known, octets, rows,
+        schema, checks, levels, element, values, order, known, octets, rows,
     ) {
         Some(counted) => {
-            if has_count(asked, contents, counted.octets)
-                && are_in_order(asked, order, counted.written)
+            if has_count(checks, contents, counted.octets)
+                && are_in_order(checks, order, counted.written)
             {
                 Some(counted.rows)
             } else {
@@ -709,7 +718,7 @@ fn series<'r>(
 #[cycle(follow)]
 fn elements<'r>(
     schema: &Schema,
-    asked: Asked,
+    checks: Checks,
     levels: u8,
     element: TypeId,
     values: &[Value],
@@ -729,10 +738,10 @@ fn elements<'r>(
         → flat rows.now ≡ member_rows rs ++ rest
         → count rs ≡ length values.now
         → MatchOption result
-        (ElementsFollow schema.now asked (place_in order.entry (sizes rs)) element.index
+        (ElementsFollow schema.now checks (place_in order.entry (sizes rs)) element.index
         (row_of_list (map abstract values.now)) 0 octets.now rs
         → ⊥)
-        (λ r. ElementsFollow schema.now asked (place_in order.entry (sizes rs)) element.index
+        (λ r. ElementsFollow schema.now checks (place_in order.entry (sizes rs)) element.index
         (row_of_list (map abstract values.now)) 0 octets.now rs
         × (flat r.rows.now ≡ rest)
         × (r.octets ≡ sum (sizes rs))
@@ -742,11 +751,13 @@ fn elements<'r>(
     let mut place: u128 = 0;
     let mut number: usize = 0;
     for i in 0..values.len() {
-        let at = start(asked, order, known, rows, values.len(), number, place);
-        match one_element(schema, asked, levels, element, &values[i], at, octets, left) {
+        let at = start(checks, order, known, rows, values.len(), number, place);
+        match one_element(
+            schema, checks, levels, element, &values[i], at, octets, left,
+        ) {
             Some(passed) => {
                 left = passed.rows;
-                place = further(place, passed.size, i);
+                place = offset_after(place, passed.size, i);
                 number = written_to(number, passed.size, values.len());
             }
             None => return None,
@@ -763,31 +774,31 @@ fn elements<'r>(
 #[cycle(follow)]
 fn one_element<'r>(
     schema: &Schema,
-    asked: Asked,
+    checks: Checks,
     levels: u8,
     element: TypeId,
     value: &Value,
     place: u128,
     octets: &[u8],
     rows: &'r [Row],
-) -> Option<Passed<'r>>
+) -> Option<AfterMember<'r>>
     requires value { ValueIn schema.now levels element.index (abstract value.now) }
     requires few { levels ≤ 64 }
     ensures { (m : Member) (rest : List FlatRow)
         → flat rows.now ≡ rows_in m ++ rest
         → MatchOption result
-        (ElementAt schema.now asked place element.index (abstract value.now) octets.now m → ⊥)
-        (λ r. ElementAt schema.now asked place element.index (abstract value.now) octets.now m
+        (ElementAt schema.now checks place element.index (abstract value.now) octets.now m → ⊥)
+        (λ r. ElementAt schema.now checks place element.index (abstract value.now) octets.now m
         × (flat r.rows.now ≡ rest)
         × (r.size ≡ size_in m)) }
 {
     let Some((row, _)) = rows.split_first() else {
         return None;
     };
-    match &row.told {
-        Told::Absent => None,
-        Told::Default => None,
-        _ => match written(schema, asked, levels, element, value, place, octets, rows) {
+    match &row.listed {
+        RowLayout::Absent => None,
+        RowLayout::Default => None,
+        _ => match written(schema, checks, levels, element, value, place, octets, rows) {
             Some(passed) => Some(passed),
             None => None,
         },

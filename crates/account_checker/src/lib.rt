@@ -1,8 +1,8 @@
 //! The check that an account describes how octets encode a value (X.690, 8.1, 8.9 to 8.14, 10 and 11).
 #![tactic(auto)]
 
-pub mod asked;
 mod checking;
+pub mod checks;
 mod follow;
 mod header;
 pub mod law;

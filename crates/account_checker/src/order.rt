@@ -1,6 +1,6 @@
 //! The places of members in contents octets.
 
-ghost use Rattle.account_checker.specs.Follows.{Where, before, by_place, sizes};
+ghost use Rattle.account_checker.specs.Follows.{Checked, before, by_place, sizes};
 ghost use Rattle.account_checker.specs.Parts.{AreEnds, AreInOrder, EndsAt, EndsFrom};
 ghost use Rattle.account_checker.specs.Parts.{count_or, end_before as octets_in_front, place_in};
 ghost use Rattle.encodings.specs.Account.{Rows};
@@ -10,10 +10,10 @@ ghost use Rattle.std.specs.List.{sum};
 ghost use Rattle.std.specs.Prelude.{◌≡◌, ◌+◌, ◌<◌, ◌≤◌, ◌++◌, ◌↔◌, ℕ, List, get_or, length};
 ghost use Rattle.std.specs.Prelude.{IsTrue, MatchOption, Some, None};
 
-use crate::asked::Asked;
+use crate::checks::Checks;
 use crate::places::are_places;
 use crate::skipped::{after_member, first_size, size_at};
-use crate::walk::{further, has_count};
+use crate::walk::{has_count, offset_after};
 use octet_account::row::{Places, Row};
 
 /// The order of members in contents octets.
@@ -26,13 +26,13 @@ pub(crate) enum Order<'r> {
 }
 
 /// Whether the places are those of this number of members, if places are checked.
-pub(crate) fn are_in_order(asked: Asked, order: Order, count: usize) -> bool
-    ensures { IsTrue result ↔ AreInOrder asked order.entry count }
+pub(crate) fn are_in_order(checks: Checks, order: Order, count: usize) -> bool
+    ensures { IsTrue result ↔ AreInOrder checks order.entry count }
 {
     match order {
         Order::InOrder => true,
         Order::Placed(set) => {
-            if asked.places {
+            if checks.places {
                 are_places(count, set.places.as_slice(), set.inverse.as_slice())
             } else {
                 true
@@ -131,7 +131,7 @@ fn measure(rows: &[Row], members: usize, set: &Places) -> Measured
     for i in 0..members {
         let size = first_size(left);
         known = still_known(known, set, written, size);
-        octets = further(octets, size, i);
+        octets = offset_after(octets, size, i);
         written = written_to(written, size, members);
         left = after_member(left);
     }
@@ -146,7 +146,7 @@ fn measure(rows: &[Row], members: usize, set: &Places) -> Measured
 /// if the check already fails: the members have another number of octets, or the places aren't those of this number of
 /// members.
 pub(crate) fn are_known(
-    asked: Asked,
+    checks: Checks,
     order: Order,
     contents: u32,
     rows: &[Row],
@@ -156,8 +156,8 @@ pub(crate) fn are_known(
         ((rs : Rows) (rest : List FlatRow)
         → flat rows.now ≡ member_rows rs ++ rest
         → count rs ≡ members
-        → Where asked.numbers (contents ≡ sum (sizes rs))
-        → AreInOrder asked order.entry (length (sizes rs))
+        → Checked checks.numbers (contents ≡ sum (sizes rs))
+        → AreInOrder checks order.entry (length (sizes rs))
         → ⊥)
         (λ known. IsTrue known
         → (rs : Rows) (rest : List FlatRow)
@@ -168,14 +168,14 @@ pub(crate) fn are_known(
     match order {
         Order::InOrder => Some(false),
         Order::Placed(set) => {
-            if !asked.places {
+            if !checks.places {
                 return Some(false);
             }
             let measured = measure(rows, members, set);
-            if !has_count(asked, contents, measured.octets) {
+            if !has_count(checks, contents, measured.octets) {
                 return None;
             }
-            if !are_in_order(asked, order, measured.written) {
+            if !are_in_order(checks, order, measured.written) {
                 return None;
             }
             Some(measured.known)
@@ -186,7 +186,7 @@ pub(crate) fn are_known(
 /// The offset of the encoded member with this number in the contents octets, if headers are checked. In the order of
 /// rows `offset` octets are before it. If the ends of places aren't known, the function looks at the rows once more.
 pub(crate) fn start(
-    asked: Asked,
+    checks: Checks,
     order: Order,
     known: bool,
     rows: &[Row],
@@ -203,13 +203,13 @@ pub(crate) fn start(
         → flat rows.now ≡ member_rows rs ++ rest
         → count rs ≡ members
         → before (sizes rs) number ≡ offset
-        → Where asked.headers (place_in order.entry (sizes rs) number ≡ result) }
+        → Checked checks.headers (place_in order.entry (sizes rs) number ≡ result) }
 {
     match order {
         Order::InOrder => offset,
         Order::Placed(set) => {
             let place = number_at(set.places.as_slice(), number);
-            if !asked.headers {
+            if !checks.headers {
                 0
             } else if known {
                 end_before(set.ends.as_slice(), place)

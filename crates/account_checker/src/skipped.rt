@@ -4,22 +4,22 @@ ghost use Rattle.account_checker.specs.Follows.{sizes};
 ghost use Rattle.account_checker.specs.Parts.{Member, members_in, rows_in, size_in};
 ghost use Rattle.encodings.specs.Account.{Rows};
 ghost use Rattle.octet_account.specs.Flat.{FlatRow, count, member_rows};
-ghost use Rattle.octet_account.specs.Seen.{flat, told_of};
+ghost use Rattle.octet_account.specs.Seen.{flat, flat_row};
 ghost use Rattle.std.specs.Prelude.{◌≡◌, ◌≤◌, ◌++◌, ◌∷◌, get_or, List, ℕ};
 
-use crate::walk::octets_told;
-use octet_account::row::{Row, Told};
+use crate::walk::total_octets;
+use octet_account::row::{Row, RowLayout};
 
 /// How many members or rows are directly in this row.
-fn rows_below(told: &Told) -> u32
-    ensures is { result ≡ members_in (told_of told.now) }
+fn rows_below(listed: &RowLayout) -> u32
+    ensures is { result ≡ members_in (flat_row listed.now) }
     ensures few { result ≤ 4294967295 }
 {
-    match told {
-        Told::Leaf(_) | Told::Absent | Told::Default => 0,
-        Told::Wrap(_) => 1,
-        Told::Seq(_, count) | Told::SeqOf(_, count) => *count,
-        Told::Set(_, places) | Told::SetOf(_, places) => places.members,
+    match listed {
+        RowLayout::Leaf(_) | RowLayout::Absent | RowLayout::Default => 0,
+        RowLayout::Wrap(_) => 1,
+        RowLayout::Seq(_, count) | RowLayout::SeqOf(_, count) => *count,
+        RowLayout::Set(_, places) | RowLayout::SetOf(_, places) => places.members,
     }
 }
 
@@ -32,7 +32,7 @@ pub(crate) fn after_member(rows: &[Row]) -> &[Row]
         if left == 0 {
             return &rows[i..];
         }
-        left = left - 1 + rows_below(&rows[i].told) as u128;
+        left = left - 1 + rows_below(&rows[i].listed) as u128;
     }
     &[]
 }
@@ -44,10 +44,10 @@ pub(crate) fn first_size(rows: &[Row]) -> Option<u64>
     let Some((row, _)) = rows.split_first() else {
         return None;
     };
-    match &row.told {
-        Told::Absent => None,
-        Told::Default => None,
-        _ => octets_told(&row.told),
+    match &row.listed {
+        RowLayout::Absent => None,
+        RowLayout::Default => None,
+        _ => total_octets(&row.listed),
     }
 }
 

@@ -1,8 +1,8 @@
 //! Whether the rows of an account follow a type and a value, row by row.
 
-ghost use Rattle.account_checker.specs.Follows.{ElementsFollow, Follows, InsideFollows, MembersFollow, Under, Where};
+ghost use Rattle.account_checker.specs.Follows.{ElementsFollow, Follows, InsideFollows, MembersFollow, Under, Checked};
 ghost use Rattle.account_checker.specs.Follows.{AreContents, HasContents, before, is_built, sizes};
-ghost use Rattle.account_checker.specs.Follows.{octets_told as octets_in};
+ghost use Rattle.account_checker.specs.Follows.{total_octets as octets_in};
 ghost use Rattle.account_checker.specs.Parts.{ChoiceFollows, FieldsFollow, HasDefault, IsOuterOf, ListFollows};
 ghost use Rattle.account_checker.specs.Parts.{ElementAt, Member, MemberAt, WrittenAt};
 ghost use Rattle.account_checker.specs.Parts.{is_absent, is_default as left_out};
@@ -15,28 +15,28 @@ ghost use Rattle.asn_base.specs.Typed.{AreComponents, AreElements, ValueIn, Valu
 ghost use Rattle.asn_base.specs.Same.{IsLeaf};
 ghost use Rattle.asn_base.specs.Schemas.{HasValue, IsSound};
 ghost use Rattle.asn_base.specs.Types.{Alternative, Kind, Resolved};
-ghost use Rattle.account_checker.specs.declared.asked.Asked.{Asked as Asked'};
+ghost use Rattle.account_checker.specs.declared.checks.Checks.{Checks as Checks'};
 ghost use Rattle.encodings.specs.Encoding.{IsDefault};
 ghost use Rattle.encodings.specs.Header.{Octets};
 ghost use Rattle.std.specs.List.{AllByRecursion};
 ghost use Rattle.encodings.specs.Account.{Account, Inside, Numbers as Numbers', Rows, header};
 ghost use Rattle.octet_account.specs.Flat.{FlatRow, count, member_rows, rows_of};
-ghost use Rattle.octet_account.specs.Seen.{flat, numbers_of, told_of};
+ghost use Rattle.octet_account.specs.Seen.{flat, numbers_of, flat_row};
 ghost use Rattle.std.specs.List.{sum};
 ghost use Rattle.std.specs.Prelude.{◌*◌, ◌+◌, ◌^◌, ◌≡◌, ◌≤◌, ◌<◌, ◌++◌, ◌∷◌, ◌↔◌};
 ghost use Rattle.std.specs.Prelude.{[], ℕ, List, length, map, option_map, slice_get};
 ghost use Rattle.std.specs.Prelude.{IsTrue, MatchOption, None, Some};
 
-use crate::asked::Asked;
-use crate::header::{behind_header, part};
+use crate::checks::Checks;
+use crate::header::{after_header, part};
 use crate::leaf::{are_contents, has_contents};
-use asn_base::law::{abstract_values, levels_grow};
+use asn_base::law::{lemma_abstract_values, lemma_levels_grow};
 use asn_base::same::same_values;
 use asn_base::schema::{Alternatives, Component, Core, Presence, Schema, TypeId};
 use asn_base::tag::Tag;
 use asn_base::value::Value;
 use encodings::header_laws;
-use octet_account::row::{Numbers, Row, Told};
+use octet_account::row::{Numbers, Row, RowLayout};
 
 /// The octets and rows that begin at the innermost header.
 #[derive(Clone, Copy)]
@@ -48,7 +48,7 @@ pub(crate) struct At<'r, 'o> {
 
 /// The rows after those of a member, and how many octets its rows give, if it is encoded.
 #[derive(Clone, Copy)]
-pub(crate) struct Passed<'r> {
+pub(crate) struct AfterMember<'r> {
     pub rows: &'r [Row],
     pub size: Option<u64>,
 }
@@ -62,52 +62,52 @@ pub(crate) struct Counted<'r> {
 }
 
 /// The numbers of the header in a row, or None if the row has no header.
-pub(crate) fn numbers_in(told: &Told) -> Option<Numbers>
-    ensures { (a : Account) (behind rest : List FlatRow)
-        → told_of told.now ∷ behind ≡ rows_of a ++ rest
+pub(crate) fn numbers_in(listed: &RowLayout) -> Option<Numbers>
+    ensures { (a : Account) (following rest : List FlatRow)
+        → flat_row listed.now ∷ following ≡ rows_of a ++ rest
         → MatchOption result ⊥ (λ z. (i : Inside) × (a ≡ header (numbers_of z) i)) }
 {
-    match told {
-        Told::Leaf(numbers) | Told::Wrap(numbers) => Some(*numbers),
-        Told::Seq(numbers, _) | Told::SeqOf(numbers, _) => Some(*numbers),
-        Told::Set(numbers, _) | Told::SetOf(numbers, _) => Some(*numbers),
-        Told::Absent | Told::Default => None,
+    match listed {
+        RowLayout::Leaf(numbers) | RowLayout::Wrap(numbers) => Some(*numbers),
+        RowLayout::Seq(numbers, _) | RowLayout::SeqOf(numbers, _) => Some(*numbers),
+        RowLayout::Set(numbers, _) | RowLayout::SetOf(numbers, _) => Some(*numbers),
+        RowLayout::Absent | RowLayout::Default => None,
     }
 }
 
 /// How many octets the first row gives, those of its header included.
-pub(crate) fn octets_told(told: &Told) -> Option<u64>
-    ensures told { (a : Account) (behind rest : List FlatRow)
-        → told_of told.now ∷ behind ≡ rows_of a ++ rest
+pub(crate) fn total_octets(listed: &RowLayout) -> Option<u64>
+    ensures listed { (a : Account) (following rest : List FlatRow)
+        → flat_row listed.now ∷ following ≡ rows_of a ++ rest
         → MatchOption result ⊥ (λ n. octets_in a ≡ n) }
 {
-    match numbers_in(told) {
+    match numbers_in(listed) {
         Some(z) => Some(z.identifier as u64 + z.size as u64 + z.contents as u64),
         None => None,
     }
 }
 
 /// Whether the number of contents octets is the one that the row within the header gives, if numbers are checked.
-pub(crate) fn has_octets(asked: Asked, contents: u32, rows: &[Row]) -> bool
+pub(crate) fn has_octets(checks: Checks, contents: u32, rows: &[Row]) -> bool
     ensures { (a : Account) (rest : List FlatRow)
         → flat rows.now ≡ rows_of a ++ rest
-        → (IsTrue result ↔ Where asked.numbers (contents ≡ octets_in a)) }
+        → (IsTrue result ↔ Checked checks.numbers (contents ≡ octets_in a)) }
 {
-    if !asked.numbers {
+    if !checks.numbers {
         return true;
     }
     let Some((row, _)) = rows.split_first() else {
         return false;
     };
-    match octets_told(&row.told) {
-        Some(told) => told == contents as u64,
+    match total_octets(&row.listed) {
+        Some(listed) => listed == contents as u64,
         None => false,
     }
 }
 
 /// The octets and rows within the outer headers. Each tag but the last has such a header, which holds one row.
 pub(crate) fn innermost<'r, 'o>(
-    asked: Asked,
+    checks: Checks,
     tags: &[Tag],
     octets: &'o [u8],
     rows: &'r [Row],
@@ -116,10 +116,10 @@ pub(crate) fn innermost<'r, 'o>(
         → flat rows.now ≡ rows_of a ++ rest
         → 0 < length tags.now
         → MatchOption result
-        ((s : List Resolved) (k : Kind) (v : AbstractValue) → Under s asked tags.now k v octets.now a → ⊥)
+        ((s : List Resolved) (k : Kind) (v : AbstractValue) → Under s checks tags.now k v octets.now a → ⊥)
         (λ r. (b : Account)
         × (flat r.rows.now ≡ rows_of b ++ rest)
-        × IsOuterOf asked tags.now octets.now a r.tag r.octets.now b) }
+        × IsOuterOf checks tags.now octets.now a r.tag r.octets.now b) }
 {
     header_laws();
     let Some((tag, inner)) = tags.split_first() else {
@@ -132,16 +132,16 @@ pub(crate) fn innermost<'r, 'o>(
             rows,
         });
     }
-    let Some((row, behind)) = rows.split_first() else {
+    let Some((row, following)) = rows.split_first() else {
         return None;
     };
-    match &row.told {
-        Told::Wrap(z) => {
-            if !has_octets(asked, z.contents, behind) {
+    match &row.listed {
+        RowLayout::Wrap(z) => {
+            if !has_octets(checks, z.contents, following) {
                 return None;
             }
-            match behind_header(asked, *tag, true, *z, octets) {
-                Some(x) => match innermost(asked, inner, x, behind) {
+            match after_header(checks, *tag, true, *z, octets) {
+                Some(x) => match innermost(checks, inner, x, following) {
                     Some(at) => Some(at),
                     None => None,
                 },
@@ -164,10 +164,10 @@ pub(crate) fn is_constructed(core: &Core) -> bool
 }
 
 /// Whether members have this number of contents octets, if numbers are checked.
-pub(crate) fn has_count(asked: Asked, contents: u32, octets: u128) -> bool
-    ensures { IsTrue result ↔ Where asked.numbers (contents ≡ octets) }
+pub(crate) fn has_count(checks: Checks, contents: u32, octets: u128) -> bool
+    ensures { IsTrue result ↔ Checked checks.numbers (contents ≡ octets) }
 {
-    if asked.numbers {
+    if checks.numbers {
         contents as u128 == octets
     } else {
         true
@@ -175,7 +175,7 @@ pub(crate) fn has_count(asked: Asked, contents: u32, octets: u128) -> bool
 }
 
 /// The place after a member that begins at `place`. `before` members come before it.
-pub(crate) fn further(place: u128, size: Option<u64>, before: usize) -> u128
+pub(crate) fn offset_after(place: u128, size: Option<u64>, before: usize) -> u128
     requires { place ≤ 18446744073709551615 * before }
     ensures is { result ≡ place + size_or size }
     ensures most { result ≤ place + 18446744073709551615 }
@@ -188,7 +188,7 @@ pub(crate) fn further(place: u128, size: Option<u64>, before: usize) -> u128
 
 /// Whether the component is absent and has no DEFAULT.
 pub(crate) fn may_be_absent(component: &Component, value: &Option<Value>) -> bool
-    ensures { (s : List Resolved) (q : Asked') (n : ℕ) (x : Octets)
+    ensures { (s : List Resolved) (q : Checks') (n : ℕ) (x : Octets)
         → (IsTrue result ↔ MemberAt s q n (component_of component.now) (option_map abstract value.now) x is_absent) }
 {
     match value {
@@ -203,7 +203,7 @@ pub(crate) fn may_be_absent(component: &Component, value: &Option<Value>) -> boo
 /// Whether the component has a DEFAULT and, if left-out components are checked, its value is the same as that DEFAULT.
 pub(crate) fn may_be_left_out(
     schema: &Schema,
-    asked: Asked,
+    checks: Checks,
     levels: u8,
     component: &Component,
     value: &Option<Value>,
@@ -213,12 +213,12 @@ pub(crate) fn may_be_left_out(
     requires default { HasValue schema.now (component_of component.now) }
     ensures { (n : ℕ) (x : Octets)
         → (IsTrue result
-        ↔ MemberAt schema.now asked n (component_of component.now) (option_map abstract value.now) x left_out) }
+        ↔ MemberAt schema.now checks n (component_of component.now) (option_map abstract value.now) x left_out) }
 {
     match value {
         Some(value) => {
             has_default(component)
-                && (!asked.omitted || is_default(schema, levels, component, value))
+                && (!checks.omitted || is_default(schema, levels, component, value))
         }
         None => has_default(component),
     }
@@ -241,7 +241,7 @@ pub(crate) fn is_default(schema: &Schema, levels: u8, component: &Component, val
     requires default { HasValue schema.now (component_of component.now) }
     ensures { IsTrue result ↔ IsDefault schema.now (component_of component.now) (abstract value.now) }
 {
-    levels_grow();
+    lemma_levels_grow();
     match &component.presence {
         Presence::Default(default) => same_values(value, default, schema, component.ty),
         _ => false,
@@ -251,7 +251,7 @@ pub(crate) fn is_default(schema: &Schema, levels: u8, component: &Component, val
 /// Whether the value isn't the same as the component's DEFAULT, if left-out components are checked.
 pub(crate) fn is_to_be_written(
     schema: &Schema,
-    asked: Asked,
+    checks: Checks,
     levels: u8,
     component: &Component,
     value: &Value,
@@ -260,9 +260,9 @@ pub(crate) fn is_to_be_written(
     requires few { levels ≤ 64 }
     requires default { HasValue schema.now (component_of component.now) }
     ensures { IsTrue result
-        ↔ Where asked.omitted (IsDefault schema.now (component_of component.now) (abstract value.now) → ⊥) }
+        ↔ Checked checks.omitted (IsDefault schema.now (component_of component.now) (abstract value.now) → ⊥) }
 {
-    if asked.omitted {
+    if checks.omitted {
         !is_default(schema, levels, component, value)
     } else {
         true
@@ -270,12 +270,12 @@ pub(crate) fn is_to_be_written(
 }
 
 /// Whether the value has this number of contents octets, if numbers are checked.
-pub(crate) fn tells_contents(asked: Asked, core: &Core, value: &Value, contents: u32) -> bool
+pub(crate) fn has_contents_count(checks: Checks, core: &Core, value: &Value, contents: u32) -> bool
     requires { IsLeaf (kind_of core.now) }
     ensures { (s : List Resolved)
-        → (IsTrue result ↔ Where asked.numbers (HasContents s (kind_of core.now) (abstract value.now) contents)) }
+        → (IsTrue result ↔ Checked checks.numbers (HasContents s (kind_of core.now) (abstract value.now) contents)) }
 {
-    if asked.numbers {
+    if checks.numbers {
         has_contents(core, value, contents)
     } else {
         true
@@ -283,12 +283,12 @@ pub(crate) fn tells_contents(asked: Asked, core: &Core, value: &Value, contents:
 }
 
 /// Whether the octets are the contents of the value, if contents are checked.
-pub(crate) fn stands(asked: Asked, core: &Core, value: &Value, octets: &[u8]) -> bool
+pub(crate) fn is_at(checks: Checks, core: &Core, value: &Value, octets: &[u8]) -> bool
     requires { IsLeaf (kind_of core.now) }
     ensures { (s : List Resolved)
-        → (IsTrue result ↔ Where asked.contents (AreContents s (kind_of core.now) (abstract value.now) octets.now)) }
+        → (IsTrue result ↔ Checked checks.contents (AreContents s (kind_of core.now) (abstract value.now) octets.now)) }
 {
-    if asked.contents {
+    if checks.contents {
         are_contents(core, value, octets)
     } else {
         true
@@ -298,7 +298,7 @@ pub(crate) fn stands(asked: Asked, core: &Core, value: &Value, octets: &[u8]) ->
 /// Whether the row of a value without other values in it is right: its number of contents octets if numbers are
 /// checked, and the octets themselves if contents are checked.
 pub(crate) fn is_leaf(
-    asked: Asked,
+    checks: Checks,
     core: &Core,
     value: &Value,
     contents: u32,
@@ -307,13 +307,13 @@ pub(crate) fn is_leaf(
     requires { IsLeaf (kind_of core.now) }
     ensures { (s : List Resolved)
         → (IsTrue result
-        ↔ Where asked.numbers (HasContents s (kind_of core.now) (abstract value.now) contents)
-        × Where asked.contents (AreContents s (kind_of core.now) (abstract value.now) octets.now)) }
+        ↔ Checked checks.numbers (HasContents s (kind_of core.now) (abstract value.now) contents)
+        × Checked checks.contents (AreContents s (kind_of core.now) (abstract value.now) octets.now)) }
 {
-    if !tells_contents(asked, core, value, contents) {
+    if !has_contents_count(checks, core, value, contents) {
         return false;
     }
-    stands(asked, core, value, octets)
+    is_at(checks, core, value, octets)
 }
 
 /// The type of the alternative with this number, or None if there is no such alternative.

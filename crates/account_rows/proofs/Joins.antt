@@ -1,10 +1,10 @@
 -- Trees one after the other, with their rows.
 use Rattle.std.proofs.Common.{◌≡◌, ℕ, ◌+◌, true, List, [], ◌∷◌, ◌++◌, length, refl, sym, ap, ◌∙◌, arith, append_assoc}
 use Rattle.encodings.specs.Fewest.{shortest_header}
-use Rattle.codec_code.specs.Events.{opens, puts, closes, leaves_out, row_of_order, Tree, done, piece, lacking, within, ordered, Members, no_member, no_component, member, flat, flats, Part, StandsFor, PartsOf}
+use Rattle.codec_code.specs.Events.{opens, puts, closes, leaves_out, row_of_order, Tree, done, piece, lacking, within, ordered, Members, no_member, no_component, member, flat, flats, SetMember, HasOctets, PartsOf}
 use Rattle.octet_account.specs.Flat.{FlatRow}
 use Rattle.account_rows.specs.Lengths.{octets_in}
-use Rattle.account_rows.specs.Told.{header_numbers, header_row, left_row, rows_in, rows_among, Told, PartsTold}
+use Rattle.account_rows.specs.RowLayout.{header_numbers, header_row, left_row, rows_in, rows_among, RowLayout, MemberRows}
 
 abbrev pub join : Tree → Tree → Tree
 join done u = u
@@ -39,15 +39,15 @@ pub record Joined (t u : Tree) (o : List ℕ) (rs : List FlatRow) : Type 0 where
   pub second : List ℕ
   pub first_rows : List FlatRow
   pub second_rows : List FlatRow
-  pub one : Told t first first_rows
-  pub two : Told u second second_rows
+  pub one : RowLayout t first first_rows
+  pub two : RowLayout u second second_rows
   pub whole : o ≡ first ++ second
   pub rows : rs ≡ first_rows ++ second_rows
 
-behind_header : (d x y z : List ℕ) → d ++ (x ++ (y ++ z)) ≡ (d ++ (x ++ y)) ++ z
-behind_header d x y z = ap (λ q. d ++ q) (sym (append_assoc x y z)) ∙ sym (append_assoc d (x ++ y) z)
+after_header : (d x y z : List ℕ) → d ++ (x ++ (y ++ z)) ≡ (d ++ (x ++ y)) ++ z
+after_header d x y z = ap (λ q. d ++ q) (sym (append_assoc x y z)) ∙ sym (append_assoc d (x ++ y) z)
 
-pub joined : (t u : Tree) (o : List ℕ) (rs : List FlatRow) → Told (join t u) o rs → Joined t u o rs
+pub joined : (t u : Tree) (o : List ℕ) (rs : List FlatRow) → RowLayout (join t u) o rs → Joined t u o rs
 joined done u o rs h = record { first = []; second = o; first_rows = []; second_rows = rs; one = (refl, refl); two = h; whole = refl; rows = refl }
 joined (piece x t) u o rs h =
     let p = joined t u h.0 rs h.1 in
@@ -66,7 +66,7 @@ joined (within g c k i t) u o rs h =
       second_rows = p.second_rows;
       one = (h.0, p.first, h.2, p.first_rows, h.4, p.one, refl, refl);
       two = p.two;
-      whole = h.6 ∙ ap (λ q. d ++ (h.0 ++ q)) p.whole ∙ behind_header d h.0 p.first p.second;
+      whole = h.6 ∙ ap (λ q. d ++ (h.0 ++ q)) p.whole ∙ after_header d h.0 p.first p.second;
       rows = h.7 ∙ ap (λ q. r ∷ (h.2 ++ q)) p.rows ∙ ap (λ q. r ∷ q) (sym (append_assoc h.2 p.first_rows p.second_rows));
     }
 joined (ordered g o' ms t) u o rs h =
@@ -80,20 +80,20 @@ joined (ordered g o' ms t) u o rs h =
       second_rows = p.second_rows;
       one = (h.0, h.1, h.2, p.first, h.4, p.first_rows, h.6, h.7, h.8, h.9, h.10, h.11, p.one, refl, refl);
       two = p.two;
-      whole = h.13 ∙ ap (λ q. d ++ (h.2 ++ q)) p.whole ∙ behind_header d h.2 p.first p.second;
+      whole = h.13 ∙ ap (λ q. d ++ (h.2 ++ q)) p.whole ∙ after_header d h.2 p.first p.second;
       rows = h.14 ∙ ap (λ q. r ∷ (h.4 ++ q)) p.rows ∙ ap (λ q. r ∷ q) (sym (append_assoc h.4 p.first_rows p.second_rows));
     }
 
 -- octets with rows are octets of the tree
 mutual
-  pub stands : (t : Tree) (o : List ℕ) (rs : List FlatRow) → Told t o rs → StandsFor t o
-  stands done o rs h = h.0
-  stands (piece x t) o rs h = (h.0, stands t h.0 rs h.1, h.2)
-  stands (lacking d t) o rs h = stands t o h.0 h.1
-  stands (within g c k i t) o rs h = (h.0, h.1, stands i h.0 h.2 h.4, stands t h.1 h.3 h.5, h.6)
-  stands (ordered g a ms t) o rs h = (h.0, h.1, h.2, h.3, parts_stand ms h.0 h.4 h.8, h.9, h.11, stands t h.3 h.5 h.12, h.13)
+  pub is_at : (t : Tree) (o : List ℕ) (rs : List FlatRow) → RowLayout t o rs → HasOctets t o
+  is_at done o rs h = h.0
+  is_at (piece x t) o rs h = (h.0, is_at t h.0 rs h.1, h.2)
+  is_at (lacking d t) o rs h = is_at t o h.0 h.1
+  is_at (within g c k i t) o rs h = (h.0, h.1, is_at i h.0 h.2 h.4, is_at t h.1 h.3 h.5, h.6)
+  is_at (ordered g a ms t) o rs h = (h.0, h.1, h.2, h.3, parts_stand ms h.0 h.4 h.8, h.9, h.11, is_at t h.3 h.5 h.12, h.13)
 
-  parts_stand : (ms : Members) (ps : List Part) (rs : List FlatRow) → PartsTold ms ps rs → PartsOf ms ps
+  parts_stand : (ms : Members) (ps : List SetMember) (rs : List FlatRow) → MemberRows ms ps rs → PartsOf ms ps
   parts_stand no_member ps rs h = h.0
   parts_stand (no_component d ms) ps rs h = parts_stand ms ps h.0 h.1
-  parts_stand (member r i ms) ps rs h = (h.0, h.1, stands i h.0 h.2 h.4, parts_stand ms h.1 h.3 h.5, h.6)
+  parts_stand (member r i ms) ps rs h = (h.0, h.1, is_at i h.0 h.2 h.4, parts_stand ms h.1 h.3 h.5, h.6)

@@ -1,3 +1,3 @@
 pub mod Lengths
-pub mod Told
+pub mod RowLayout
 pub mod Meaning

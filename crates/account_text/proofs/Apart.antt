@@ -3,7 +3,7 @@ use Rattle.std.proofs.Common.{◌≡◌, ℕ, List, [], ◌∷◌, ◌++◌, ref
 use Rattle.std.specs.Prelude.{Result, Ok, Err, OnOk}
 use Rattle.json.specs.Token.{Token, begin_array, end_array, string}
 use Rattle.octet_account.specs.Flat.{FlatRow, a_leaf, a_wrap, a_seq, a_seqof, a_set, a_setof, an_absent, a_default}
-use Rattle.account_text.specs.proving.Tokens.{number_first, numbers_first, all_first, each_first, list_first, kind_name, kind_of, told_first, row_first, rows_first}
+use Rattle.account_text.specs.proving.Tokens.{number_first, numbers_first, all_first, each_first, list_first, kind_name, kind_of, listed_first, row_first, rows_first}
 use Rattle.account_text.proofs.Reading.{all_more}
 
 module _ {A : Type 0} (first : A → List Token → List Token) (apart : (x : A) (us ts : List Token) → first x us ++ ts ≡ first x (us ++ ts)) where
@@ -29,18 +29,18 @@ list_apart ns us ts = ap (λ xs. begin_array ∷ xs) (each_apart ns (end_array �
 lists_apart : (p q : List ℕ) (us ts : List Token) → list_first p (list_first q us) ++ ts ≡ list_first p (list_first q (us ++ ts))
 lists_apart p q us ts = list_apart p (list_first q us) ts ∙ ap (list_first p) (list_apart q us ts)
 
-pub told_apart : (r : FlatRow) (us ts : List Token) → told_first r us ++ ts ≡ told_first r (us ++ ts)
-told_apart (a_leaf z) us ts = refl
-told_apart (a_wrap z) us ts = refl
-told_apart (a_seq z n) us ts = refl
-told_apart (a_seqof z n) us ts = refl
-told_apart (a_set z n p q) us ts = ap (λ xs. numbers_first z (number_first n xs)) (lists_apart p q us ts)
-told_apart (a_setof z n p q) us ts = ap (λ xs. numbers_first z (number_first n xs)) (lists_apart p q us ts)
-told_apart an_absent us ts = refl
-told_apart a_default us ts = refl
+pub listed_apart : (r : FlatRow) (us ts : List Token) → listed_first r us ++ ts ≡ listed_first r (us ++ ts)
+listed_apart (a_leaf z) us ts = refl
+listed_apart (a_wrap z) us ts = refl
+listed_apart (a_seq z n) us ts = refl
+listed_apart (a_seqof z n) us ts = refl
+listed_apart (a_set z n p q) us ts = ap (λ xs. numbers_first z (number_first n xs)) (lists_apart p q us ts)
+listed_apart (a_setof z n p q) us ts = ap (λ xs. numbers_first z (number_first n xs)) (lists_apart p q us ts)
+listed_apart an_absent us ts = refl
+listed_apart a_default us ts = refl
 
 row_apart : (r : FlatRow) (us ts : List Token) → row_first r us ++ ts ≡ row_first r (us ++ ts)
-row_apart r us ts = ap (λ xs. begin_array ∷ string (kind_name (kind_of r)) ∷ xs) (told_apart r (end_array ∷ us) ts)
+row_apart r us ts = ap (λ xs. begin_array ∷ string (kind_name (kind_of r)) ∷ xs) (listed_apart r (end_array ∷ us) ts)
 
 pub row_after : (rs : List FlatRow) (r : FlatRow) → rows_first rs [] ++ row_first r [] ≡ rows_first (rs ++ r ∷ []) []
 row_after rs r = one_after row_first row_apart rs r

@@ -9,7 +9,7 @@ use Rattle.encodings.specs.Account.{Numbers}
 use Rattle.octet_account.specs.Flat.{FlatRow, a_leaf, a_wrap, a_seq, a_seqof, a_set, a_setof, an_absent, a_default, IsSmall, AreSmall}
 use Rattle.account_text.specs.declared.kind.Kind.{Kind}
 use Rattle.account_text.specs.declared.kind.Kind.TheVariants.{Leaf, Wrap, Seq, SeqOf, Set, SetOf, Absent, Default}
-use Rattle.account_text.specs.proving.Tokens.{kind_name, kind_of, number_first, numbers_first, each_first, list_first, told_first, row_first, rows_first, IsSmallRow}
+use Rattle.account_text.specs.proving.Tokens.{kind_name, kind_of, number_first, numbers_first, each_first, list_first, listed_first, row_first, rows_first, IsSmallRow}
 
 abbrev rest : List Token → List Token
 rest [] = []
@@ -63,8 +63,8 @@ each_at (boolean b ∷ ts) = ([], ts)
 each_at (null ∷ ts) = ([], ts)
 each_at (bad ∷ ts) = ([], ts)
 
-abbrev behind_numbers : List Token → List Token
-behind_numbers ts = rest (rest (rest ts))
+abbrev after_numbers : List Token → List Token
+after_numbers ts = rest (rest (rest ts))
 
 -- the count and the lists of a set, before what makes a row of them
 abbrev placed_at : (ℕ → List ℕ → List ℕ → FlatRow) → List Token → FlatRow × List Token
@@ -73,15 +73,15 @@ placed_at row ts =
     let q = each_at (rest p.1) in
     (row (number_at ts) p.0 q.0, q.1)
 
-abbrev told_at : Kind → List Token → FlatRow × List Token
-told_at Leaf ts = (a_leaf (numbers_at ts), behind_numbers ts)
-told_at Wrap ts = (a_wrap (numbers_at ts), behind_numbers ts)
-told_at Seq ts = (a_seq (numbers_at ts) (number_at (behind_numbers ts)), rest (behind_numbers ts))
-told_at SeqOf ts = (a_seqof (numbers_at ts) (number_at (behind_numbers ts)), rest (behind_numbers ts))
-told_at Set ts = placed_at (a_set (numbers_at ts)) (behind_numbers ts)
-told_at SetOf ts = placed_at (a_setof (numbers_at ts)) (behind_numbers ts)
-told_at Absent ts = (an_absent, ts)
-told_at Default ts = (a_default, ts)
+abbrev listed_at : Kind → List Token → FlatRow × List Token
+listed_at Leaf ts = (a_leaf (numbers_at ts), after_numbers ts)
+listed_at Wrap ts = (a_wrap (numbers_at ts), after_numbers ts)
+listed_at Seq ts = (a_seq (numbers_at ts) (number_at (after_numbers ts)), rest (after_numbers ts))
+listed_at SeqOf ts = (a_seqof (numbers_at ts) (number_at (after_numbers ts)), rest (after_numbers ts))
+listed_at Set ts = placed_at (a_set (numbers_at ts)) (after_numbers ts)
+listed_at SetOf ts = placed_at (a_setof (numbers_at ts)) (after_numbers ts)
+listed_at Absent ts = (an_absent, ts)
+listed_at Default ts = (a_default, ts)
 
 abbrev kind_with : List ℕ → Kind
 kind_with s =
@@ -123,29 +123,29 @@ placed_back row n p q ts hn hp hq =
     ∙ ap (λ x. (row (digits_value 10 (decimal n)) p x.0, x.1)) (each_back q ts hq)
     ∙ ap (λ m. (row m p q, ts)) (number_back n hn)
 
-told_back : (r : FlatRow) (ts : List Token) → IsSmallRow r → told_at (kind_of r) (told_first r ts) ≡ (r, ts)
-told_back (a_leaf z) ts h = ap (λ y. (a_leaf y, ts)) (numbers_back z ts h)
-told_back (a_wrap z) ts h = ap (λ y. (a_wrap y, ts)) (numbers_back z ts h)
-told_back (a_seq z n) ts h =
+listed_back : (r : FlatRow) (ts : List Token) → IsSmallRow r → listed_at (kind_of r) (listed_first r ts) ≡ (r, ts)
+listed_back (a_leaf z) ts h = ap (λ y. (a_leaf y, ts)) (numbers_back z ts h)
+listed_back (a_wrap z) ts h = ap (λ y. (a_wrap y, ts)) (numbers_back z ts h)
+listed_back (a_seq z n) ts h =
     ap (λ y. (a_seq y (digits_value 10 (decimal n)), ts)) (numbers_back z (number_first n ts) h.0)
     ∙ ap (λ m. (a_seq z m, ts)) (number_back n h.1)
-told_back (a_seqof z n) ts h =
+listed_back (a_seqof z n) ts h =
     ap (λ y. (a_seqof y (digits_value 10 (decimal n)), ts)) (numbers_back z (number_first n ts) h.0)
     ∙ ap (λ m. (a_seqof z m, ts)) (number_back n h.1)
-told_back (a_set z n p q) ts h =
+listed_back (a_set z n p q) ts h =
     let us = number_first n (list_first p (list_first q ts)) in
     ap (λ y. placed_at (a_set y) us) (numbers_back z us h.0) ∙ placed_back (a_set z) n p q ts h.1.0 h.1.1.0 h.1.1.1
-told_back (a_setof z n p q) ts h =
+listed_back (a_setof z n p q) ts h =
     let us = number_first n (list_first p (list_first q ts)) in
     ap (λ y. placed_at (a_setof y) us) (numbers_back z us h.0) ∙ placed_back (a_setof z) n p q ts h.1.0 h.1.1.0 h.1.1.1
-told_back an_absent ts h = refl
-told_back a_default ts h = refl
+listed_back an_absent ts h = refl
+listed_back a_default ts h = refl
 
 abbrev row_at : List Token → FlatRow × List Token
-row_at ts = told_at (kind_with (text_at (rest ts))) (rest (rest ts))
+row_at ts = listed_at (kind_with (text_at (rest ts))) (rest (rest ts))
 
 row_back : (r : FlatRow) (ts : List Token) → IsSmallRow r → row_at (row_first r ts) ≡ (r, end_array ∷ ts)
-row_back r ts h = ap (λ k. told_at k (told_first r (end_array ∷ ts))) (kind_back (kind_of r)) ∙ told_back r (end_array ∷ ts) h
+row_back r ts h = ap (λ k. listed_at k (listed_first r (end_array ∷ ts))) (kind_back (kind_of r)) ∙ listed_back r (end_array ∷ ts) h
 
 pub one_row : (r s : FlatRow) (ts us : List Token) → IsSmallRow r → IsSmallRow s → row_first r ts ≡ row_first s us → (r ≡ s) × (ts ≡ us)
 one_row r s ts us h k e =
@@ -162,17 +162,17 @@ one_list_of_rows (r ∷ rs) (s ∷ ss) ts us h k e =
     let b = one_list_of_rows rs ss ts us h.1 k.1 a.1 in
     (ap (λ x. x ∷ rs) a.0 ∙ ap (λ xs. s ∷ xs) b.0, b.1)
 
-pub behind_list : (p q : List ℕ) (ts us : List Token) → AllByRecursion IsSmall p → AllByRecursion IsSmall q → list_first p ts ≡ list_first q us → ts ≡ us
-behind_list p q ts us h k e = ap (λ x. x.1) (sym (each_back p ts h) ∙ ap (λ xs. each_at (rest xs)) e ∙ each_back q us k)
+pub after_list : (p q : List ℕ) (ts us : List Token) → AllByRecursion IsSmall p → AllByRecursion IsSmall q → list_first p ts ≡ list_first q us → ts ≡ us
+after_list p q ts us h k e = ap (λ x. x.1) (sym (each_back p ts h) ∙ ap (λ xs. each_at (rest xs)) e ∙ each_back q us k)
 
 -- ---- the parts of a row
 
 pub row_parts : (now next ts : List Token) (k : Kind) (r : FlatRow) → now ≡ begin_array ∷ string (kind_name k) ∷ next → now ≡ row_first r ts
-    → (kind_of r ≡ k) × (next ≡ told_first r (end_array ∷ ts))
+    → (kind_of r ≡ k) × (next ≡ listed_first r (end_array ∷ ts))
 row_parts now next ts k r e f =
     let g = sym e ∙ f in
     (sym (kind_back (kind_of r)) ∙ ap (λ xs. kind_with (text_at (rest xs))) (sym g) ∙ kind_back k, ap (λ xs. rest (rest xs)) g)
 
-pub behind_told : (r s : FlatRow) (ts us : List Token) → IsSmallRow r → IsSmallRow s → kind_of r ≡ kind_of s → told_first r ts ≡ told_first s us → ts ≡ us
-behind_told r s ts us h k same e =
-    ap (λ x. x.1) (sym (told_back r ts h) ∙ ap (λ xs. told_at (kind_of r) xs) e ∙ ap (λ l. told_at l (told_first s us)) same ∙ told_back s us k)
+pub after_listed : (r s : FlatRow) (ts us : List Token) → IsSmallRow r → IsSmallRow s → kind_of r ≡ kind_of s → listed_first r ts ≡ listed_first s us → ts ≡ us
+after_listed r s ts us h k same e =
+    ap (λ x. x.1) (sym (listed_back r ts h) ∙ ap (λ xs. listed_at (kind_of r) xs) e ∙ ap (λ l. listed_at l (listed_first s us)) same ∙ listed_back s us k)

@@ -35,10 +35,10 @@ module _ (m k : ℕ) (w : Bool) (fs : List Open) where
   before = record { left = k; all_written = w }
 
   -- the members after the first
-  behind_first : (ms : Rows) (rest : List FlatRow) → count ms ≡ k → AreRowsWithin (suc m) ms → AsAsked w ms → Left (suc (suc m)) fs rest
+  after_first : (ms : Rows) (rest : List FlatRow) → count ms ≡ k → AreRowsWithin (suc m) ms → AsAsked w ms → Left (suc (suc m)) fs rest
       → Left (suc m) (before ∷ fs) (member_rows ms ++ rest)
-  behind_first ms rest n within asked others =
-      record { members = ms; rest = rest; as_many = n; within = within; as_asked = asked; are = refl; behind = others }
+  after_first ms rest n within asked others =
+      record { members = ms; rest = rest; as_many = n; within = within; as_asked = asked; are = refl; after = others }
 
   taken_list : (left : Open) (rs ms : Rows) (rest : List FlatRow) → count rs ≡ left.left → AreRowsWithin m rs → AsAsked left.all_written rs
       → Left (suc m) (before ∷ fs) (member_rows ms ++ rest)
@@ -51,7 +51,7 @@ module _ (m k : ℕ) (w : Bool) (fs : List Open) where
         within = within;
         as_asked = asked;
         are = append_assoc (member_rows rs) (member_rows ms) rest;
-        behind = others;
+        after = others;
       }
 
   never_left_out : false ≡ true → w ≡ false
@@ -61,7 +61,7 @@ module _ (m k : ℕ) (w : Bool) (fs : List Open) where
       → Taken m before fs (member_rows ms ++ rest)
   taken_from no_row rest n within asked others = absurd (omega arith)
   taken_from (absent_row ms) rest n within asked others =
-      (λ e. out w asked, behind_first ms rest (one_less _ _ n) within.1 (still w asked) others)
+      (λ e. out w asked, after_first ms rest (one_less _ _ n) within.1 (still w asked) others)
     where
       out : (x : Bool) → AsAsked x (absent_row ms) → x ≡ false
       out true h = absurd h
@@ -71,7 +71,7 @@ module _ (m k : ℕ) (w : Bool) (fs : List Open) where
       still true h = absurd h
       still false h = tt
   taken_from (default_row ms) rest n within asked others =
-      (λ e. out w asked, behind_first ms rest (one_less _ _ n) within.1 (still w asked) others)
+      (λ e. out w asked, after_first ms rest (one_less _ _ n) within.1 (still w asked) others)
     where
       out : (x : Bool) → AsAsked x (default_row ms) → x ≡ false
       out true h = absurd h
@@ -81,40 +81,40 @@ module _ (m k : ℕ) (w : Bool) (fs : List Open) where
       still true h = absurd h
       still false h = tt
   taken_from (written (header z leaf_row) ms) rest n within asked others =
-      (never_left_out, behind_first ms rest (one_less _ _ n) within.1 (written_asked w (header z leaf_row) ms asked) others)
+      (never_left_out, after_first ms rest (one_less _ _ n) within.1 (written_asked w (header z leaf_row) ms asked) others)
   taken_from (written (header z (wrap_row a)) ms) rest n within asked others = (
     never_left_out,
     subst (Left m (record { left = 1; all_written = true } ∷ before ∷ fs))
         (ap (λ xs. (xs ++ member_rows ms) ++ rest) (append-nil (rows_of a)))
         (taken_list (record { left = 1; all_written = true }) (written a no_row) ms rest refl (within.0.1, tt) tt
-        (behind_first ms rest (one_less _ _ n) within.1 (written_asked w (header z (wrap_row a)) ms asked) others)),
+        (after_first ms rest (one_less _ _ n) within.1 (written_asked w (header z (wrap_row a)) ms asked) others)),
   )
   taken_from (written (header z (seq_row rs)) ms) rest n within asked others = (
     never_left_out,
     taken_list (record { left = count rs; all_written = false }) rs ms rest refl within.0.1.1 tt
-        (behind_first ms rest (one_less _ _ n) within.1 (written_asked w (header z (seq_row rs)) ms asked) others),
+        (after_first ms rest (one_less _ _ n) within.1 (written_asked w (header z (seq_row rs)) ms asked) others),
   )
   taken_from (written (header z (seqof_row rs)) ms) rest n within asked others = (
     never_left_out,
     taken_list (record { left = count rs; all_written = true }) rs ms rest refl within.0.1.1 within.0.1.2
-        (behind_first ms rest (one_less _ _ n) within.1 (written_asked w (header z (seqof_row rs)) ms asked) others),
+        (after_first ms rest (one_less _ _ n) within.1 (written_asked w (header z (seqof_row rs)) ms asked) others),
   )
   taken_from (written (header z (set_row rs p q)) ms) rest n within asked others = (
     never_left_out,
     taken_list (record { left = count rs; all_written = false }) rs ms rest refl within.0.1.1 tt
-        (behind_first ms rest (one_less _ _ n) within.1 (written_asked w (header z (set_row rs p q)) ms asked) others),
+        (after_first ms rest (one_less _ _ n) within.1 (written_asked w (header z (set_row rs p q)) ms asked) others),
   )
   taken_from (written (header z (setof_row rs p q)) ms) rest n within asked others = (
     never_left_out,
     taken_list (record { left = count rs; all_written = true }) rs ms rest refl within.0.1.1 within.0.1.2
-        (behind_first ms rest (one_less _ _ n) within.1 (written_asked w (header z (setof_row rs p q)) ms asked) others),
+        (after_first ms rest (one_less _ _ n) within.1 (written_asked w (header z (setof_row rs p q)) ms asked) others),
   )
 
   abbrev whole : Open
   whole = record { left = suc k; all_written = w }
 
   pub taken : (rs : List FlatRow) → Left (suc m) (whole ∷ fs) rs → Taken m before fs rs
-  taken rs h = subst (Taken m before fs) (sym h.are) (taken_from h.members h.rest h.as_many h.within h.as_asked h.behind)
+  taken rs h = subst (Taken m before fs) (sym h.are) (taken_from h.members h.rest h.as_many h.within h.as_asked h.after)
 
   -- ---- and back
 
@@ -141,7 +141,7 @@ module _ (m k : ℕ) (w : Bool) (fs : List Open) where
         are = ap (λ xs. r ∷ (inside ++ xs)) h.are
             ∙ ap (λ xs. r ∷ xs) (sym (append_assoc inside (member_rows h.members) h.rest))
             ∙ ap (λ xs. (xs ++ member_rows h.members) ++ h.rest) (sym e);
-        behind = h.behind;
+        after = h.after;
       }
 
   back_left_out : (ms : Rows) (r : FlatRow) (rs : List FlatRow) (h : Left (suc m) (before ∷ fs) rs) → count ms ≡ suc (count h.members) → AreRowsWithin (suc m) ms
@@ -154,7 +154,7 @@ module _ (m k : ℕ) (w : Bool) (fs : List Open) where
         within = within;
         as_asked = asked;
         are = ap (λ xs. r ∷ xs) h.are ∙ ap (λ xs. xs ++ h.rest) (sym e);
-        behind = h.behind;
+        after = h.after;
       }
 
   asks_nothing : (x : Bool) (ms : Rows) → x ≡ false → AsAsked x ms
@@ -172,19 +172,19 @@ module _ (m k : ℕ) (w : Bool) (fs : List Open) where
       let within : AreRowsWithin m (written a.0 no_row) = subst (AreRowsWithin m) a.1 h.within in
       within_by (a_wrap z) (wrap_row a.0) z (rows_of a.0) rs h.rest
       (h.are ∙ ap (λ ms. member_rows ms ++ h.rest) a.1 ∙ ap (λ xs. xs ++ h.rest) (append-nil (rows_of a.0)))
-      (small, within.0) refl h.behind
+      (small, within.0) refl h.after
   put_back (a_seq z n) rs small may h =
       within_by (a_seq z n) (seq_row h.members) z (member_rows h.members) rs h.rest h.are
-      (small.0, (subst IsSmall (sym h.as_many) small.1, h.within)) (ap (λ k. a_seq z k ∷ member_rows h.members) h.as_many) h.behind
+      (small.0, (subst IsSmall (sym h.as_many) small.1, h.within)) (ap (λ k. a_seq z k ∷ member_rows h.members) h.as_many) h.after
   put_back (a_seqof z n) rs small may h =
       within_by (a_seqof z n) (seqof_row h.members) z (member_rows h.members) rs h.rest h.are
-      (small.0, (subst IsSmall (sym h.as_many) small.1, h.within, h.as_asked)) (ap (λ k. a_seqof z k ∷ member_rows h.members) h.as_many) h.behind
+      (small.0, (subst IsSmall (sym h.as_many) small.1, h.within, h.as_asked)) (ap (λ k. a_seqof z k ∷ member_rows h.members) h.as_many) h.after
   put_back (a_set z n p q) rs small may h =
       within_by (a_set z n p q) (set_row h.members p q) z (member_rows h.members) rs h.rest h.are
-      (small.0, (subst IsSmall (sym h.as_many) small.1.0, h.within, small.1.1.0, small.1.1.1)) (ap (λ k. a_set z k p q ∷ member_rows h.members) h.as_many) h.behind
+      (small.0, (subst IsSmall (sym h.as_many) small.1.0, h.within, small.1.1.0, small.1.1.1)) (ap (λ k. a_set z k p q ∷ member_rows h.members) h.as_many) h.after
   put_back (a_setof z n p q) rs small may h =
       within_by (a_setof z n p q) (setof_row h.members p q) z (member_rows h.members) rs h.rest h.are
-      (small.0, (subst IsSmall (sym h.as_many) small.1.0, h.within, h.as_asked, small.1.1.0, small.1.1.1)) (ap (λ k. a_setof z k p q ∷ member_rows h.members) h.as_many) h.behind
+      (small.0, (subst IsSmall (sym h.as_many) small.1.0, h.within, h.as_asked, small.1.1.0, small.1.1.1)) (ap (λ k. a_setof z k p q ∷ member_rows h.members) h.as_many) h.after
   put_back an_absent rs small may h =
       back_left_out (absent_row h.members) an_absent rs h refl ((omega arith), h.within) (asks_nothing w (absent_row h.members) (may refl)) refl
   put_back a_default rs small may h =
@@ -219,7 +219,7 @@ none_in n k w fs h = no_rows h.members h.as_many h.are
     no_rows (written a ms) e x = some_row a (member_rows ms ++ h.rest) (x ∙ append_assoc (rows_of a) (member_rows ms) h.rest)
 
 pub all_read : (n : ℕ) (w : Bool) (fs : List Open) (rs : List FlatRow) → Left n (record { left = 0; all_written = w } ∷ fs) rs → Left (suc n) fs rs
-all_read n w fs rs h = subst (Left (suc n) fs) (sym (none_left h.members h.as_many h.are)) h.behind
+all_read n w fs rs h = subst (Left (suc n) fs) (sym (none_left h.members h.as_many h.are)) h.after
   where
     none_left : (ms : Rows) → count ms ≡ 0 → rs ≡ member_rows ms ++ h.rest → rs ≡ h.rest
     none_left no_row e x = x
@@ -233,7 +233,7 @@ nothing_asked false = tt
 
 pub none_to_read : (n : ℕ) (w : Bool) (fs : List Open) (rs : List FlatRow) → Left (suc n) fs rs → Left n (record { left = 0; all_written = w } ∷ fs) rs
 none_to_read n w fs rs h =
-    record { members = no_row; rest = rs; as_many = refl; within = tt; as_asked = nothing_asked w; are = refl; behind = h }
+    record { members = no_row; rest = rs; as_many = refl; within = tt; as_asked = nothing_asked w; are = refl; after = h }
 
 -- ---- the root
 
@@ -244,7 +244,7 @@ an_account rs h =
       a.0,
       record {
         within = within.0;
-        are = h.are ∙ ap (λ ms. member_rows ms ++ h.rest) a.1 ∙ ap (λ xs. (rows_of a.0 ++ []) ++ xs) h.behind
+        are = h.are ∙ ap (λ ms. member_rows ms ++ h.rest) a.1 ∙ ap (λ xs. (rows_of a.0 ++ []) ++ xs) h.after
             ∙ append-nil (rows_of a.0 ++ []) ∙ append-nil (rows_of a.0);
       },
     )
@@ -258,5 +258,5 @@ from_account a rs h =
       within = (h.within, tt);
       as_asked = tt;
       are = h.are ∙ sym (append-nil (rows_of a)) ∙ sym (append-nil (rows_of a ++ []));
-      behind = refl;
+      after = refl;
     }

@@ -14,19 +14,19 @@ use Rattle.account_text.proofs.Json.{to_tokens}
 use Rattle.account_text.proofs.Injective.{one_list_of_rows}
 use Rattle.account_text.proofs.Small.{small}
 
-abbrev behind : List Token → List Token
-behind [] = []
-behind (t ∷ ts) = ts
+abbrev after : List Token → List Token
+after [] = []
+after (t ∷ ts) = ts
 
 pub one_account_of : ((a b : Account) (rs : List FlatRow) → AreRows a rs → AreRows b rs → a ≡ b) → (text : List ℕ) (a b : Account) → IsTextOf text a → IsTextOf text b → a ≡ b
 one_account_of one text a b h k =
-    let e = ap behind (sym (to_tokens text h.rows h.read) ∙ to_tokens text k.rows k.read) in
+    let e = ap after (sym (to_tokens text h.rows h.read) ∙ to_tokens text k.rows k.read) in
     let f = one_list_of_rows h.rows k.rows [] [] (small h.are) (small k.are) e in
     one a b h.rows h.are (subst (AreRows b) (sym f.0) k.are)
 
 pub same_rows : (text : List ℕ) (rs ss : List FlatRow) → AllByRecursion IsSmallRow rs → AllByRecursion IsSmallRow ss
     → document text ≡ Some (rows_json rs) → document text ≡ Some (rows_json ss) → rs ≡ ss
-same_rows text rs ss h k e f = (one_list_of_rows rs ss [] [] h k (ap behind (sym (to_tokens text rs e) ∙ to_tokens text ss f))).0
+same_rows text rs ss h k e f = (one_list_of_rows rs ss [] [] h k (ap after (sym (to_tokens text rs e) ∙ to_tokens text ss f))).0
 
 -- ---- the end of the text
 

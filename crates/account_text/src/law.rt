@@ -4,11 +4,11 @@ ghost use Rattle.std.specs.Prelude.{◌≡◌, ℕ, List};
 ghost use Rattle.encodings.specs.Account.{Account};
 ghost use Rattle.account_text.specs.Text.{IsTextOf};
 
-use octet_account::law::one_account;
+use octet_account::law::lemma_one_account;
 
 /// A text is the text of at most one account.
-pub fn one_account_of_a_text()
+pub fn lemma_one_account_of_a_text()
     ensures { (text : List ℕ) (a b : Account) → IsTextOf text a → IsTextOf text b → a ≡ b }
 {
-    one_account();
+    lemma_one_account();
 }

@@ -6,20 +6,20 @@ ghost use Rattle.std.specs.Bool.{MatchBool};
 ghost use Rattle.json.specs.Token.{Token as Token', begin_array, end_array, string};
 ghost use Rattle.encodings.specs.Account.{Account as Account', Numbers as Numbers'};
 ghost use Rattle.octet_account.specs.Flat.{FlatRow, IsSmall, AreSmall};
-ghost use Rattle.octet_account.specs.Seen.{numbers_of, told_of, flat};
+ghost use Rattle.octet_account.specs.Seen.{numbers_of, flat_row, flat};
 ghost use Rattle.account_text.specs.Text.{IsTextOf, rows_json};
 ghost use Rattle.json.specs.Json.{document};
 ghost use Rattle.account_text.specs.proving.Tokens.{number_first, numbers_first, list_first, row_first, rows_first};
 ghost use Rattle.account_text.specs.proving.Sets.{IsSet};
-ghost use Rattle.account_text.specs.proving.Tokens.{kind_name, kind_of, told_first, IsSmallRow};
+ghost use Rattle.account_text.specs.proving.Tokens.{kind_name, kind_of, listed_first, IsSmallRow};
 
-use crate::fault::AccountFault;
+use crate::account_fault::AccountFault;
 use crate::kind::{Kind, kind_named};
 use crate::stack::are_rows;
 use json::{Reader, Scratch, Token};
 use limits::MAX_MESSAGE;
 use octet_account::account::Account;
-use octet_account::row::{Numbers, Places, Row, Told};
+use octet_account::row::{Numbers, Places, Row, RowLayout};
 use std::alloc::Global;
 
 /// The number of this text, or None if the text isn't a number in digits alone.
@@ -137,48 +137,48 @@ fn set(alloc: Global, reader: &mut Reader<'_>) -> Result<(Numbers, Box<Places>),
 }
 
 /// Takes the items of a row of this kind, after its name.
-fn told(alloc: Global, kind: Kind, reader: &mut Reader<'_>) -> Result<Told, AccountFault>
-    ensures read { IfOk result (λ t. (kind_of (told_of t) ≡ kind) × IsSmallRow (told_of t)
-        × (reader.old ≡ told_first (told_of t) reader.new)) }
+fn listed(alloc: Global, kind: Kind, reader: &mut Reader<'_>) -> Result<RowLayout, AccountFault>
+    ensures read { IfOk result (λ t. (kind_of (flat_row t) ≡ kind) × IsSmallRow (flat_row t)
+        × (reader.old ≡ listed_first (flat_row t) reader.new)) }
     ensures refused { result ≡ Err AccountFault.NotAccount → (r : FlatRow) (ts : List Token')
         → kind_of r ≡ kind → IsSmallRow r
-        → reader.old ≡ told_first r ts
+        → reader.old ≡ listed_first r ts
         → ⊥ }
 {
     match kind {
         Kind::Leaf => match numbers(reader) {
-            Some(numbers) => Ok(Told::Leaf(numbers)),
+            Some(numbers) => Ok(RowLayout::Leaf(numbers)),
             None => Err(AccountFault::NotAccount),
         },
         Kind::Wrap => match numbers(reader) {
-            Some(numbers) => Ok(Told::Wrap(numbers)),
+            Some(numbers) => Ok(RowLayout::Wrap(numbers)),
             None => Err(AccountFault::NotAccount),
         },
         Kind::Seq => match list(reader) {
-            Some((numbers, members)) => Ok(Told::Seq(numbers, members)),
+            Some((numbers, members)) => Ok(RowLayout::Seq(numbers, members)),
             None => Err(AccountFault::NotAccount),
         },
         Kind::SeqOf => match list(reader) {
-            Some((numbers, members)) => Ok(Told::SeqOf(numbers, members)),
+            Some((numbers, members)) => Ok(RowLayout::SeqOf(numbers, members)),
             None => Err(AccountFault::NotAccount),
         },
         Kind::Set => match set(alloc, reader) {
-            Ok((numbers, set)) => Ok(Told::Set(numbers, set)),
+            Ok((numbers, set)) => Ok(RowLayout::Set(numbers, set)),
             Err(fault) => Err(fault),
         },
         Kind::SetOf => match set(alloc, reader) {
-            Ok((numbers, set)) => Ok(Told::SetOf(numbers, set)),
+            Ok((numbers, set)) => Ok(RowLayout::SetOf(numbers, set)),
             Err(fault) => Err(fault),
         },
-        Kind::Absent => Ok(Told::Absent),
-        Kind::Default => Ok(Told::Default),
+        Kind::Absent => Ok(RowLayout::Absent),
+        Kind::Default => Ok(RowLayout::Default),
     }
 }
 
 /// Takes one row.
 pub(crate) fn row(alloc: Global, reader: &mut Reader<'_>) -> Result<Row, AccountFault>
-    ensures read { IfOk result (λ r. IsSmallRow (told_of r.told)
-        × (reader.old ≡ row_first (told_of r.told) reader.new)) }
+    ensures read { IfOk result (λ r. IsSmallRow (flat_row r.listed)
+        × (reader.old ≡ row_first (flat_row r.listed) reader.new)) }
     ensures refused { result ≡ Err AccountFault.NotAccount → (r : FlatRow) (ts : List Token')
         → IsSmallRow r
         → reader.old ≡ row_first r ts
@@ -190,14 +190,14 @@ pub(crate) fn row(alloc: Global, reader: &mut Reader<'_>) -> Result<Row, Account
     let Some(kind) = take_kind(reader) else {
         return Err(AccountFault::NotAccount);
     };
-    let told = match told(alloc, kind, reader) {
-        Ok(told) => told,
+    let listed = match listed(alloc, kind, reader) {
+        Ok(listed) => listed,
         Err(fault) => return Err(fault),
     };
     if !reader.take_end_array() {
         return Err(AccountFault::NotAccount);
     }
-    Ok(Row::of(told))
+    Ok(Row::of(listed))
 }
 
 /// Takes the name of a kind.

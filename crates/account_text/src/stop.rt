@@ -1,6 +1,6 @@
 //! The octet at which octets stop being the text of an account.
 
-use crate::fault::AccountFault;
+use crate::account_fault::AccountFault;
 use crate::read::row;
 use json::{Reader, Scratch, Token};
 use std::alloc::{AllocError, Global};
@@ -17,11 +17,11 @@ pub enum Stop {
     #[error("at octet 0: found no JSON array, expected an array of rows")]
     NotArray,
     /// Rows were read, and what comes next isn't a row.
-    #[error("at octet {octet}, in row {row}: found no row, expected a kind and its numbers in an array")]
+    #[error("at octet {offset}, in row {row}: found no row, expected a kind and its numbers in an array")]
     NotRow {
         /// The number of rows before it.
         row: usize,
-        octet: usize,
+        offset: usize,
     },
     /// More text follows the rows.
     #[error("at octet {0}: found more text after the rows, expected its end")]
@@ -49,8 +49,8 @@ fn in_rows(alloc: Global, reader: &mut Reader<'_>, most: usize) -> Result<Stop, 
             Ok(_) => {}
             Err(AccountFault::Memory) => return Err(AllocError),
             Err(AccountFault::NotAccount) => {
-                let octet = reader.offset();
-                return Ok(Stop::NotRow { row: rows, octet });
+                let offset = reader.offset();
+                return Ok(Stop::NotRow { row: rows, offset });
             }
         }
     }

@@ -3,16 +3,16 @@
 ghost use Rattle.std.specs.Prelude.{◌≡◌, ◌∷◌, ◌++◌, [], List, IfOk, string_bytes};
 ghost use Rattle.json.specs.Token.{begin_array, end_array, string};
 ghost use Rattle.octet_account.specs.Flat.{FlatRow, AreRows};
-ghost use Rattle.octet_account.specs.Seen.{numbers_of, told_of, flat};
+ghost use Rattle.octet_account.specs.Seen.{numbers_of, flat_row, flat};
 ghost use Rattle.account_text.specs.Text.{IsTextOf, compact_text};
 ghost use Rattle.account_text.specs.proving.Tokens.{number_first, numbers_first, list_first, row_first, rows_first};
-ghost use Rattle.account_text.specs.proving.Tokens.{kind_name, kind_of, told_first};
+ghost use Rattle.account_text.specs.proving.Tokens.{kind_name, kind_of, listed_first};
 ghost use Rattle.account_text.specs.proving.Writing.{Appends};
 
 use crate::kind::Kind;
 use json::Writer;
 use octet_account::account::Account;
-use octet_account::row::{Numbers, Places, Row, Told};
+use octet_account::row::{Numbers, Places, Row, RowLayout};
 use std::alloc::{AllocError, Global};
 
 /// Writes a number.
@@ -70,33 +70,33 @@ fn set(
 }
 
 /// Writes a row, except the bracket that closes it.
-fn told(out: &mut Writer<Global>, row: &Row) -> Result<(), AllocError>
+fn listed(out: &mut Writer<Global>, row: &Row) -> Result<(), AllocError>
     ensures { Appends result out.old out.new
-        (begin_array ∷ string (kind_name (kind_of (told_of row.now.told))) ∷ told_first (told_of row.now.told) []) }
+        (begin_array ∷ string (kind_name (kind_of (flat_row row.now.listed))) ∷ listed_first (flat_row row.now.listed) []) }
 {
-    match &row.told {
-        Told::Leaf(numbers) => header(out, Kind::Leaf, numbers),
-        Told::Wrap(numbers) => header(out, Kind::Wrap, numbers),
-        Told::Seq(numbers, members) => {
+    match &row.listed {
+        RowLayout::Leaf(numbers) => header(out, Kind::Leaf, numbers),
+        RowLayout::Wrap(numbers) => header(out, Kind::Wrap, numbers),
+        RowLayout::Seq(numbers, members) => {
             header(out, Kind::Seq, numbers)?;
             number(out, *members)
         }
-        Told::SeqOf(numbers, members) => {
+        RowLayout::SeqOf(numbers, members) => {
             header(out, Kind::SeqOf, numbers)?;
             number(out, *members)
         }
-        Told::Set(numbers, places) => set(out, Kind::Set, numbers, places),
-        Told::SetOf(numbers, places) => set(out, Kind::SetOf, numbers, places),
-        Told::Absent => begin(out, Kind::Absent),
-        Told::Default => begin(out, Kind::Default),
+        RowLayout::Set(numbers, places) => set(out, Kind::Set, numbers, places),
+        RowLayout::SetOf(numbers, places) => set(out, Kind::SetOf, numbers, places),
+        RowLayout::Absent => begin(out, Kind::Absent),
+        RowLayout::Default => begin(out, Kind::Default),
     }
 }
 
 /// Writes a row.
 fn row(out: &mut Writer<Global>, row: &Row) -> Result<(), AllocError>
-    ensures { Appends result out.old out.new (row_first (told_of row.now.told) []) }
+    ensures { Appends result out.old out.new (row_first (flat_row row.now.listed) []) }
 {
-    told(out, row)?;
+    listed(out, row)?;
     out.end_array()
 }
 

@@ -13,7 +13,7 @@ use Rattle.trees.specs.declared.types.EnumeratedSyntax.{EnumeratedSyntax}
 use Rattle.trees.specs.Types.{an_enumerated, plain_of}
 use Rattle.names.specs.Sources.{place_of}
 use Rattle.resolve.specs.Program.{Program}
-use Rattle.type_table.specs.declared.table.Written.{Written}
+use Rattle.type_table.specs.declared.table.TypeNode.{TypeNode}
 use Rattle.type_table.specs.Items.{Item, additions_of, addition_numbers}
 use Rattle.type_table.specs.Lists.{AreSound, IsSoundKind, IsSoundEnumeration}
 use Rattle.type_table.specs.Seen.{type_of, kind_of}
@@ -23,8 +23,8 @@ use Rattle.additions.specs.declared.check.Rule.TheVariants.{MarkerPlace, Additio
 use Rattle.additions.specs.declared.check.Broken.{Broken}
 use Rattle.additions.specs.declared.fault.ExtFault.{ExtFault}
 use Rattle.additions.specs.declared.fault.ExtFault.TheVariants as faults
-use Rattle.additions.specs.Additions.{Keeps, KeepsAt, KeepAdditions, IsAboveEarlier, unmarked, behind_addition, out_of_brackets, Breaks, in_list, in_items}
-use Rattle.additions.specs.Faults.{Stands}
+use Rattle.additions.specs.Additions.{Keeps, KeepsAt, KeepAdditions, IsAboveEarlier, unmarked, after_addition, out_of_brackets, Breaks, in_list, in_items}
+use Rattle.additions.specs.Faults.{IsRightFault}
 use Rattle.additions.specs.proving.Checks.{KeepBefore, AscendBefore, FallsFirst, BreaksFirst, BreaksListFirst}
 use Rattle.additions.proofs.Rising.{additions_long}
 
@@ -48,7 +48,7 @@ keeps_at ts i n t e x = record {
   item = λ root more d p h. subst (KeepsKind ts n) (kind_at ts i t (simple (an_enumerated root more)) d p e h) x;
 }
 
-pub keeps_shape : (ts : List Type') (i : ℕ) (w : Written) (k : Kind) → slice_get ts i ≡ Some (type_of w) →
+pub keeps_shape : (ts : List Type') (i : ℕ) (w : TypeNode) (k : Kind) → slice_get ts i ≡ Some (type_of w) →
     kind_of w.shape ≡ k → ((n : ℕ) → KeepsKind ts n k) → (n : ℕ) → KeepsAt ts i n
 keeps_shape ts i w k e q x n = keeps_at ts i n (type_of w) e (subst (KeepsKind ts n) (sym q) (x n))
 
@@ -79,16 +79,16 @@ ascend_all ts root more h n = λ m y z l a b.
 
 -- ---- what breaks
 
-is_kind : (ts : List Type') (i : ℕ) (w : Written) (k : Kind) → slice_get ts i ≡ Some (type_of w) → kind_of w.shape ≡ k →
+is_kind : (ts : List Type') (i : ℕ) (w : TypeNode) (k : Kind) → slice_get ts i ≡ Some (type_of w) → kind_of w.shape ≡ k →
     Is ts i k w.default (place_of w.place)
 is_kind ts i w k e q = subst (λ m. Is ts i m w.default (place_of w.place)) q (record { constraints = _; assignment = _; found = e })
 
-pub list_at : (ts : List Type') (i : ℕ) (w : Written) (k : ListKind) (m : Bool) (cs : List Part) →
+pub list_at : (ts : List Type') (i : ℕ) (w : TypeNode) (k : ListKind) (m : Bool) (cs : List Part) →
     slice_get ts i ≡ Some (type_of w) → kind_of w.shape ≡ members k m cs →
     Is ts i (members k m cs) w.default (place_of w.place)
 list_at ts i w k m cs e q = is_kind ts i w (members k m cs) e q
 
-pub breaks_list : (ts : List Type') (i : ℕ) (w : Written) (k : ListKind) (m : Bool) (cs : List Part) (b : Broken) →
+pub breaks_list : (ts : List Type') (i : ℕ) (w : TypeNode) (k : ListKind) (m : Bool) (cs : List Part) (b : Broken) →
     slice_get ts i ≡ Some (type_of w) → kind_of w.shape ≡ members k m cs → BreaksListFirst ts k m cs b →
     BreaksFirst ts i b
 breaks_list ts i w k m cs b e q h = record {
@@ -96,7 +96,7 @@ breaks_list ts i w k m cs b e q h = record {
   before = λ n l. keeps_at ts i n (type_of w) e (subst (KeepsKind ts n) (sym q) (λ c f. h.before n c l f));
 }
 
-pub breaks_items : (ts : List Type') (i : ℕ) (w : Written) (root : List Item) (more : Option (List Item)) (n : ℕ) (b : Broken) →
+pub breaks_items : (ts : List Type') (i : ℕ) (w : TypeNode) (root : List Item) (more : Option (List Item)) (n : ℕ) (b : Broken) →
     slice_get ts i ≡ Some (type_of w) → kind_of w.shape ≡ simple (an_enumerated root more) →
     b.rule ≡ AdditionOrder → b.place ≡ n →
     FallsFirst (addition_numbers root (additions_of more)) n → BreaksFirst ts i b
@@ -105,7 +105,7 @@ breaks_items ts i w root more n b e q r p h = record {
   before = λ j l. keeps_at ts i j (type_of w) e (subst (KeepsKind ts j) (sym q) (h.before j (omega (arith, l, p))));
 }
 
-pub sound_items : (ts : List Type') (i : ℕ) (w : Written) (root : List Item) (more : Option (List Item)) → AreSound ts →
+pub sound_items : (ts : List Type') (i : ℕ) (w : TypeNode) (root : List Item) (more : Option (List Item)) → AreSound ts →
     slice_get ts i ≡ Some (type_of w) → kind_of w.shape ≡ simple (an_enumerated root more) →
     IsSoundEnumeration root (additions_of more)
 sound_items ts i w root more s e q = subst IsSoundKind q (s i (type_of w) e)
@@ -121,8 +121,8 @@ all_keep ts f = λ i n. record {
 pub no_break : (ts : List Type') (r : Rule) (i n : ℕ) → Breaks ts r i n → KeepsAt ts i n → ⊥
 no_break ts MarkerPlace i n (in_list k m cs d p h (unmarked c e a f)) g =
     let x = (g.member k m cs d p c h e).placed.marked a in absurd cc
-no_break ts MarkerPlace i n (in_list k m cs d p h (behind_addition q c x e l f a nay)) g =
-    nay ((g.member k m cs d p c h e).placed.behind q x l f a)
+no_break ts MarkerPlace i n (in_list k m cs d p h (after_addition q c x e l f a nay)) g =
+    nay ((g.member k m cs d p c h e).placed.following q x l f a)
 no_break ts MarkerPlace i n (in_list k m cs d p h (out_of_brackets s)) g =
     s.left ((g.member k m cs d p s.member h s.there).placed.together s.one s.other s.group s.within s.outside s.in_turn s.before s.at_one s.at_other s.within_group s.of_group)
 no_break ts DefaultAddition i n (in_list k m cs d p h s) g =
@@ -138,7 +138,7 @@ no_break ts AdditionOrder i n (in_items root more d p h s) g =
     let y = s.falls in
     absurd (omega (arith, ints, x, y))
 
-pub no_other_fault : (p : Program) (e : ExtFault) → (e ≡ faults.Memory → ⊥) → Stands p e → KeepAdditions p.types → ⊥
+pub no_other_fault : (p : Program) (e : ExtFault) → (e ≡ faults.Memory → ⊥) → IsRightFault p e → KeepAdditions p.types → ⊥
 no_other_fault p faults.Memory n s k = n refl
 no_other_fault p (faults.MarkerPlace x) n s k = no_break p.types MarkerPlace s.ty s.first.first.number s.first.first.breaks (k s.ty s.first.first.number)
 no_other_fault p (faults.AdditionOrder x) n s k = no_break p.types AdditionOrder s.ty s.first.first.number s.first.first.breaks (k s.ty s.first.first.number)

@@ -3,11 +3,11 @@ use Rattle.std.proofs.Common.{◌≡◌, ◌<◌, ℕ, Bool, true, false, inl, i
 use Rattle.std.specs.Prelude.{slice_get}
 use Rattle.std.proofs.lemmas.Bool.{cases_order}
 use Rattle.trees.specs.declared.module.TagDefault.{TagDefault}
-use Rattle.trees.specs.declared.place.Spot.{Spot}
+use Rattle.trees.specs.declared.location.SourceLocation.{SourceLocation}
 use Rattle.trees.specs.declared.types.ListKind.{ListKind}
 use Rattle.trees.specs.Types.{an_enumerated}
 use Rattle.trees.specs.Values.{Name}
-use Rattle.names.specs.Faults.{module_told, name_told}
+use Rattle.names.specs.Faults.{fault_module, fault_name}
 use Rattle.resolve.specs.Program.{Program, IsAssignment}
 use Rattle.tagging.specs.Faults.{IsWrittenIn}
 use Rattle.type_table.specs.Items.{Item, additions_of, addition_numbers}
@@ -16,9 +16,9 @@ use Rattle.additions.specs.declared.check.Rule.{Rule}
 use Rattle.additions.specs.declared.check.Rule.TheVariants.{MarkerPlace, AdditionOrder, DefaultAddition}
 use Rattle.additions.specs.declared.fault.ExtFault.{ExtFault}
 use Rattle.additions.specs.declared.fault.ExtFault.TheVariants as faults
-use Rattle.additions.specs.Additions.{IsDefaultAddition, IsFirstBreak, IsMisplaced, IsPlacedAt, HasNoDefaultAt, BreaksIn, unmarked, behind_addition, out_of_brackets, Breaks, in_list, in_items}
-use Rattle.additions.specs.Faults.{Stands}
-use Rattle.additions.specs.First.{IsAlike, IsFirstAt, SaysAlike}
+use Rattle.additions.specs.Additions.{IsDefaultAddition, IsFirstBreak, IsMisplaced, IsPlacedAt, HasNoDefaultAt, BreaksIn, unmarked, after_addition, out_of_brackets, Breaks, in_list, in_items}
+use Rattle.additions.specs.Faults.{IsRightFault}
+use Rattle.additions.specs.First.{IsAlike, IsFirstAt, ReportsAlike}
 use Rattle.additions.proofs.Breaking.{no_break}
 
 same : {X : Type 0} {a b : X} → Some a ≡ Some b → a ≡ b
@@ -26,7 +26,7 @@ same h = cc
 
 misplaced : (marker : Bool) (cs : List Part) (n : ℕ) → IsMisplaced marker cs n → IsPlacedAt marker cs n → ⊥
 misplaced marker cs n (unmarked c e a f) g = let x = (g c e).marked a in absurd cc
-misplaced marker cs n (behind_addition q c x e l f a nay) g = nay ((g c e).behind q x l f a)
+misplaced marker cs n (after_addition q c x e l f a nay) g = nay ((g c e).following q x l f a)
 misplaced marker cs n (out_of_brackets s) g =
     s.left ((g s.member s.there).together s.one s.other s.group s.within s.outside s.in_turn s.before s.at_one s.at_other s.within_group s.of_group)
 
@@ -103,12 +103,12 @@ one_home p i j M x N y e a b =
     let h = same (sym a.assigned.header ∙ ap (λ z. slice_get p.headers z.0) s ∙ b.assigned.header) in
     (ap (λ z. z.0) h, ap (λ z. z.1) s)
 
-alike : (p : Program) (r q : Rule) (s t : Spot) → IsFirstAt p r s → IsFirstAt p q t → (r ≡ q) × IsAlike s t
+alike : (p : Program) (r q : Rule) (s t : SourceLocation) → IsFirstAt p r s → IsFirstAt p q t → (r ≡ q) × IsAlike s t
 alike p r q s t a b =
     let o = one_break p.types r q a.ty b.ty a.first.first b.first.first in
-    (o.0, one_home p a.ty b.ty (module_told s) (name_told s) (module_told t) (name_told t) o.1 a.stands b.stands)
+    (o.0, one_home p a.ty b.ty (fault_module s) (fault_name s) (fault_module t) (fault_name t) o.1 a.stands b.stands)
 
-pub one_fault : (p : Program) (e f : ExtFault) → Stands p e → Stands p f → SaysAlike e f
+pub one_fault : (p : Program) (e f : ExtFault) → IsRightFault p e → IsRightFault p f → ReportsAlike e f
 one_fault p faults.Memory f a b = tt
 one_fault p (faults.MarkerPlace s) faults.Memory a b = tt
 one_fault p (faults.MarkerPlace s) (faults.MarkerPlace t) a b = (alike p MarkerPlace MarkerPlace s t a b).1

@@ -18,7 +18,7 @@ use Rattle.tagging.specs.declared.path.TagForm.{TagForm}
 use Rattle.tagging.specs.Tags.{Label, Path, path_of, label, Tags}
 use Rattle.tagging.specs.First.{First, outermost, is_addition}
 use Rattle.tagging.specs.Tagged.{IsTagged, HaveOneFirst}
-use Rattle.additions.specs.Additions.{IsAdded, IsOfGroup, IsTogether, IsPlaced, IsParted, IsMisplaced, behind_addition, LabelBefore, IsInOrder, IsOutOfOrder, Keeps}
+use Rattle.additions.specs.Additions.{IsAdded, IsOfGroup, IsTogether, IsPlaced, IsParted, IsMisplaced, after_addition, LabelBefore, IsInOrder, IsOutOfOrder, Keeps}
 use Rattle.additions.specs.proving.Checks.{IsChecked, IsSeenBefore, FollowsAddition, ArePlacedBefore, AreTogetherBefore, KeepBefore}
 
 some_one : {X : Type 0} {a b : X} → Some a ≡ Some b → a ≡ b
@@ -175,7 +175,7 @@ none_before marker cs (suc n) c e nay h m d l f a =
     let b = there_before cs n c e in
     let s : suc n - 1 ≡ n = omega arith in
     elim (cases_lt m n) [
-      | inl q ↦ nay (record { positive = omega arith; member = b.0; there = ap (slice_get cs) s ∙ b.1; added = (h n b.0 (omega arith) b.1).behind m d q f a })
+      | inl q ↦ nay (record { positive = omega arith; member = b.0; there = ap (slice_get cs) s ∙ b.1; added = (h n b.0 (omega arith) b.1).following m d q f a })
       | inr q ↦ (
           let p : m ≡ n = omega (arith, q, l) in
           nay (record { positive = omega arith; member = d; there = ap (slice_get cs) (s ∙ sym p) ∙ f; added = a })
@@ -186,19 +186,19 @@ pub placed_root : (marker : Bool) (cs : List Part) (n : ℕ) (c : Part) → slic
     is_addition c.standing ≡ false → (FollowsAddition cs n → ⊥) → ArePlacedBefore marker cs n → IsPlaced marker cs n c
 placed_root marker cs n c e r nay h = record {
   marked = λ a. absurd cc;
-  behind = λ m d l f a. absurd (none_before marker cs n c e nay h m d l f a);
+  following = λ m d l f a. absurd (none_before marker cs n c e nay h m d l f a);
   together = λ l m g d x ll lm a f i j. absurd (not_of_group g c.standing r j);
 }
 
 pub placed_added : (marker : Bool) (cs : List Part) (n : ℕ) (c : Part) → marker ≡ true → IsAdded c →
     IsTogether cs n c → IsPlaced marker cs n c
-placed_added marker cs n c m a t = record { marked = λ x. m; behind = λ k d l f x. a; together = t }
+placed_added marker cs n c m a t = record { marked = λ x. m; following = λ k d l f x. a; together = t }
 
 pub misplaced_root : (marker : Bool) (cs : List Part) (n : ℕ) (c : Part) → slice_get cs n ≡ Some c →
     is_addition c.standing ≡ false → FollowsAddition cs n → IsMisplaced marker cs n
 misplaced_root marker cs n c e r f =
     let p = f.positive in
-    behind_addition (n - 1) c f.member e (omega (arith, p)) f.there f.added (λ a. absurd cc)
+    after_addition (n - 1) c f.member e (omega (arith, p)) f.there f.added (λ a. absurd cc)
 
 pub are_placed : (ts : List Type') (k : ListKind) (marker : Bool) (cs : List Part) (n : ℕ) →
     KeepBefore ts k marker cs n → ArePlacedBefore marker cs n

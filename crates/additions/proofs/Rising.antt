@@ -29,9 +29,9 @@ pub rises_first : (numbers : List ℤ) (from : ℕ) → Rises numbers from (from
 rises_first numbers from = λ root more e l m lm k y z lk a b. absurd (omega (arith, lm, lk))
 
 -- a number after those of the root
-behind_at : (numbers root more : List ℤ) (from at : ℕ) → numbers ≡ root ++ more → length root ≡ from → from ≤ at →
+after_at : (numbers root more : List ℤ) (from at : ℕ) → numbers ≡ root ++ more → length root ≡ from → from ≤ at →
     slice_get numbers at ≡ slice_get more (at - from)
-behind_at numbers root more from at e l f =
+after_at numbers root more from at e l f =
     let s : at ≡ length root + (at - from) = omega (arith, l, f) in
     ap (λ xs. slice_get xs at) e ∙ ap (slice_get (root ++ more)) s ∙ back_get root more (at - from)
 
@@ -43,9 +43,9 @@ pub rises_more : (numbers : List ℤ) (from at : ℕ) (x w : ℤ) → from + 1 �
     Rises numbers from at → Rises numbers from (at + 1)
 rises_more numbers from at x w f ex ew lt r = λ root more e l m lm k y z lk a b.
     let ax : slice_get more (at - 1 - from) ≡ Some x =
-    sym (behind_at numbers root more from (at - 1) e l (omega (arith, f))) ∙ ex in
+    sym (after_at numbers root more from (at - 1) e l (omega (arith, f))) ∙ ex in
     let aw : slice_get more (at - from) ≡ Some w =
-    sym (behind_at numbers root more from at e l (omega (arith, f))) ∙ ew in
+    sym (after_at numbers root more from at e l (omega (arith, f))) ∙ ew in
     elim (cases_lt m (at - from)) [
       | inl n ↦ r root more e l m n k y z lk a b
       | inr n ↦ (
@@ -68,9 +68,9 @@ pub falls_here : (numbers : List ℤ) (from at : ℕ) (x w : ℤ) → from + 1 �
     FallsFirst more (at - from) × ((at - from) < length more)
 falls_here numbers from at x w f ex ew lt r root more e l =
     let ax : slice_get more (at - 1 - from) ≡ Some x =
-    sym (behind_at numbers root more from (at - 1) e l (omega (arith, f))) ∙ ex in
+    sym (after_at numbers root more from (at - 1) e l (omega (arith, f))) ∙ ex in
     let aw : slice_get more (at - from) ≡ Some w =
-    sym (behind_at numbers root more from at e l (omega (arith, f))) ∙ ew in (
+    sym (after_at numbers root more from at e l (omega (arith, f))) ∙ ew in (
       record {
         falls = record { place = at - 1 - from; before = omega (arith, f); earlier = x; number = w; stands = ax; there = aw; falls = lt };
         before = r root more e l;

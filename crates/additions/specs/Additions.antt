@@ -51,7 +51,7 @@ pub record IsPlaced (marker : Bool) (cs : List Part) (n : ℕ) (c : Part) : Type
   -- an addition is in a list with an extension marker
   pub marked : IsAdded c → marker ≡ true
   -- after an addition there are only additions: they end the list
-  pub behind : (m : ℕ) (d : Part) → m < n → slice_get cs m ≡ Some d → IsAdded d → IsAdded c
+  pub following : (m : ℕ) (d : Part) → m < n → slice_get cs m ≡ Some d → IsAdded d → IsAdded c
   -- the members of version brackets are adjacent
   pub together : IsTogether cs n c
 
@@ -120,7 +120,7 @@ pub data IsMisplaced (marker : Bool) (cs : List Part) (n : ℕ) : Type 0 where
   -- the member is an addition, and the list has no marker
   unmarked : (c : Part) → slice_get cs n ≡ Some c → IsAdded c → marker ≡ false → IsMisplaced marker cs n
   -- the member is one of the root, and comes after an addition
-  behind_addition : (m : ℕ) (c d : Part) →
+  after_addition : (m : ℕ) (c d : Part) →
       slice_get cs n ≡ Some c →
       m < n →
       slice_get cs m ≡ Some d →

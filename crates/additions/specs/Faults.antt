@@ -8,8 +8,8 @@ use Rattle.additions.specs.declared.fault.ExtFault.TheVariants.{Memory, MarkerPl
 
 -- The fault is the first one of this program, by the numbers of its types. It has the module, the name of the
 -- assignment and the place. `Memory` says nothing.
-abbrev pub Stands : Program → ExtFault → Type 0
-Stands p Memory = Unit {0}
-Stands p (MarkerPlace s) = IsFirstAt p rules.MarkerPlace s
-Stands p (AdditionOrder s) = IsFirstAt p rules.AdditionOrder s
-Stands p (DefaultAddition s) = IsFirstAt p rules.DefaultAddition s
+abbrev pub IsRightFault : Program → ExtFault → Type 0
+IsRightFault p Memory = Unit {0}
+IsRightFault p (MarkerPlace s) = IsFirstAt p rules.MarkerPlace s
+IsRightFault p (AdditionOrder s) = IsFirstAt p rules.AdditionOrder s
+IsRightFault p (DefaultAddition s) = IsFirstAt p rules.DefaultAddition s

@@ -8,7 +8,7 @@ ghost use Rattle.type_table.specs.Lists.{AreSound, IsSoundEnumeration};
 ghost use Rattle.type_table.specs.Seen.{part_of, type_of, types_of, root_of, more_of};
 ghost use Rattle.additions.specs.declared.check.Rule.TheVariants.{AdditionOrder as AdditionOrder'};
 ghost use Rattle.additions.specs.Additions.{KeepAdditions, KeepsAt};
-ghost use Rattle.additions.specs.proving.Told.{TellsAt, TellsOf};
+ghost use Rattle.additions.specs.proving.Reported.{ReportsAt, ReportsOf};
 ghost use Rattle.additions.specs.proving.Checks.{IsListAt, KeepBefore, BreaksListFirst, AscendBefore, FallsFirst};
 ghost use Rattle.additions.specs.proving.Checks.{BreaksFirst, IsItemAt, IsMemberAt, IsNamedAt};
 
@@ -17,7 +17,7 @@ use crate::members::list_breaks;
 use std::alloc::{AllocError, Global};
 use tagging::Tagged;
 use trees::{EnumeratedItem, EnumeratedSyntax, ListKind, Simple};
-use type_table::{ListMember, Shape, Written};
+use type_table::{ListMember, Shape, TypeNode};
 
 /// The rules that a member or an item can break.
 #[derive(Clone, Copy, Debug, PartialEq)]
@@ -134,7 +134,7 @@ fn type_breaks(
     alloc: Global,
     tagged: &Tagged<'_>,
     ty: usize,
-    written: &Written,
+    written: &TypeNode,
 ) -> Result<Option<(Broken, usize)>, AllocError>
     requires is { slice_get tagged.now.types ty ≡ Some (type_of written.now) }
     requires sound { AreSound tagged.now.types }
@@ -157,10 +157,10 @@ fn type_breaks(
 }
 
 /// Whether all of these types are as extension markers require; if not, the fault is the first broken rule.
-fn check_all(alloc: Global, tagged: &Tagged<'_>, types: &[Written]) -> Result<(), Fault>
+fn check_all(alloc: Global, tagged: &Tagged<'_>, types: &[TypeNode]) -> Result<(), Fault>
     requires types { types_of types.now ≡ tagged.now.types }
     requires sound { AreSound tagged.now.types }
-    ensures { MatchResult result (λ _. KeepAdditions tagged.now.types) (TellsOf tagged.now.types types.now) }
+    ensures { MatchResult result (λ _. KeepAdditions tagged.now.types) (ReportsOf tagged.now.types types.now) }
 {
     for ty in 0..types.len() {
         match type_breaks(alloc, tagged, ty, &types[ty]) {
@@ -175,7 +175,7 @@ fn check_all(alloc: Global, tagged: &Tagged<'_>, types: &[Written]) -> Result<()
 /// Whether all types are as extension markers require; if not, the fault is the first broken rule.
 pub(crate) fn check(alloc: Global, tagged: &Tagged<'_>) -> Result<(), Fault>
     requires sound { AreSound tagged.now.types }
-    ensures { MatchResult result (λ _. KeepAdditions tagged.now.types) (TellsAt tagged.now.types) }
+    ensures { MatchResult result (λ _. KeepAdditions tagged.now.types) (ReportsAt tagged.now.types) }
 {
     check_all(alloc, tagged, tagged.linked().types())
 }

@@ -1,15 +1,15 @@
 //! What can be wrong with extension markers, and with additions after them.
 
 ghost use Rattle.std.specs.Prelude.{ℕ};
-ghost use Rattle.names.specs.Faults.{module_told, name_told};
+ghost use Rattle.names.specs.Faults.{fault_module, fault_name};
 ghost use Rattle.resolve.specs.Program.{Program};
 ghost use Rattle.tagging.specs.Faults.{IsWrittenIn};
-ghost use Rattle.additions.specs.Faults.{Stands};
+ghost use Rattle.additions.specs.Faults.{IsRightFault};
 ghost use Rattle.additions.specs.First.{IsFirstNamed};
 
 use crate::check::Rule;
 use thiserror::Error;
-use trees::Spot;
+use trees::SourceLocation;
 
 /// What is wrong, with the module, the name of the assignment, and the place in the module's text.
 #[derive(Debug, Drop, Error)]
@@ -21,27 +21,27 @@ pub enum ExtFault {
     /// 29.1). It is an addition in a list without a marker, a member of the root after an addition, or a member of
     /// version brackets that ended before it. No text gives such a list.
     #[error("55 MarkerPlace: {0}")]
-    MarkerPlace(Spot),
+    MarkerPlace(SourceLocation),
     /// The addition at the place doesn't ascend. In an enumeration its number must (X.680, clause 20). In a CHOICE its
     /// tags must in the canonical order (X.680, clauses 8.6 and 29).
     #[error("56 AdditionOrder: {0}")]
-    AdditionOrder(Spot),
+    AdditionOrder(SourceLocation),
     /// The addition at the place, in version brackets or not, has a DEFAULT. X.680 allows it, but this compiler doesn't
     /// support it.
     #[error("57 DefaultAddition: {0}")]
-    DefaultAddition(Spot),
+    DefaultAddition(SourceLocation),
 }
 
 /// The fault that a type breaks a rule at a spot.
-pub(crate) fn fault_of(rule: Rule, spot: Spot) -> ExtFault
+pub(crate) fn fault_of(rule: Rule, source_location: SourceLocation) -> ExtFault
     ensures { (p : Program) (i : ℕ) →
-        IsFirstNamed p.types rule i spot.at →
-        IsWrittenIn p i (module_told spot) (name_told spot) →
-        Stands p result }
+        IsFirstNamed p.types rule i source_location.at →
+        IsWrittenIn p i (fault_module source_location) (fault_name source_location) →
+        IsRightFault p result }
 {
     match rule {
-        Rule::MarkerPlace => ExtFault::MarkerPlace(spot),
-        Rule::AdditionOrder => ExtFault::AdditionOrder(spot),
-        Rule::DefaultAddition => ExtFault::DefaultAddition(spot),
+        Rule::MarkerPlace => ExtFault::MarkerPlace(source_location),
+        Rule::AdditionOrder => ExtFault::AdditionOrder(source_location),
+        Rule::DefaultAddition => ExtFault::DefaultAddition(source_location),
     }
 }

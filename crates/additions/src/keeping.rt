@@ -4,20 +4,20 @@ ghost use Rattle.std.specs.Prelude.{◌≡◌, ◌<◌, Some, length, slice_get,
 ghost use Rattle.type_table.specs.Seen.{type_of};
 ghost use Rattle.type_table.specs.Lists.{AreSound};
 ghost use Rattle.additions.specs.Additions.{KeepAdditions};
-ghost use Rattle.additions.specs.Faults.{Stands};
+ghost use Rattle.additions.specs.Faults.{IsRightFault};
 ghost use Rattle.additions.specs.First.{IsFirstNamed};
 
 use crate::check::{Fault, Rule, check};
 use crate::fault::{ExtFault, fault_of};
 use asn_base::schema::TypeId;
 use constraints::Bounded;
-use names::fault::spot;
+use names::fault::source_location;
 use resolve::Linked;
 use std::alloc::Global;
-use type_table::Written;
+use type_table::TypeNode;
 
 /// A type as it is written in a text.
-fn written_at(linked: &Linked, ty: usize) -> &Written
+fn written_at(linked: &Linked, ty: usize) -> &TypeNode
     requires { ty < length linked.now.types }
     ensures { slice_get linked.now.types ty ≡ Some (type_of result.now) }
 {
@@ -25,15 +25,15 @@ fn written_at(linked: &Linked, ty: usize) -> &Written
 }
 
 /// The fault that a type breaks a rule, with the names of its module and of the assignment in which it is written.
-fn told(alloc: Global, linked: &Linked, rule: Rule, ty: usize, at: usize) -> ExtFault
+fn reported(alloc: Global, linked: &Linked, rule: Rule, ty: usize, at: usize) -> ExtFault
     requires there { ty < length linked.now.types }
     requires breaks { IsFirstNamed linked.now.types rule ty at }
-    ensures { Stands linked.now result }
+    ensures { IsRightFault linked.now result }
 {
     let home = linked.home(TypeId { index: ty });
     let _written = written_at(linked, ty);
-    match spot(alloc, home.module, home.name, at) {
-        Ok(spot) => fault_of(rule, spot),
+    match source_location(alloc, home.module, home.name, at) {
+        Ok(source_location) => fault_of(rule, source_location),
         Err(_) => ExtFault::Memory,
     }
 }
@@ -44,12 +44,12 @@ fn told(alloc: Global, linked: &Linked, rule: Rule, ty: usize, at: usize) -> Ext
 /// The modules' lists are sound, as linking guarantees.
 pub fn additions(alloc: Global, bounded: &Bounded<'_>) -> Result<(), ExtFault>
     requires sound { AreSound bounded.now.types }
-    ensures { MatchResult result (λ _. KeepAdditions bounded.now.types) (Stands bounded.now) }
+    ensures { MatchResult result (λ _. KeepAdditions bounded.now.types) (IsRightFault bounded.now) }
 {
     let tagged = bounded.tagged();
     match check(alloc, tagged) {
         Ok(()) => Ok(()),
         Err(Fault::Memory) => Err(ExtFault::Memory),
-        Err(Fault::At(rule, ty, at)) => Err(told(alloc, tagged.linked(), rule, ty, at)),
+        Err(Fault::At(rule, ty, at)) => Err(reported(alloc, tagged.linked(), rule, ty, at)),
     }
 }

@@ -4,19 +4,19 @@
 ghost use Rattle.std.specs.Prelude.{◌≡◌};
 ghost use Rattle.resolve.specs.Program.{Program};
 ghost use Rattle.additions.specs.Additions.{KeepAdditions};
-ghost use Rattle.additions.specs.Faults.{Stands};
-ghost use Rattle.additions.specs.First.{SaysAlike};
+ghost use Rattle.additions.specs.Faults.{IsRightFault};
+ghost use Rattle.additions.specs.First.{ReportsAlike};
 ghost use Rattle.additions.specs.declared.fault.ExtFault.{ExtFault};
 ghost use Rattle.additions.specs.declared.fault.ExtFault.TheVariants.{Memory};
 
 /// If a fault of modules other than `Memory` is true, they aren't as extension markers require. So `additions` succeeds
 /// if and only if they are, unless an allocation fails.
-pub fn no_other()
-    ensures { (p : Program) (e : ExtFault) → (e ≡ Memory → ⊥) → Stands p e → KeepAdditions p.types → ⊥ }
+pub fn lemma_fault_excludes()
+    ensures { (p : Program) (e : ExtFault) → (e ≡ Memory → ⊥) → IsRightFault p e → KeepAdditions p.types → ⊥ }
 {}
 
 /// At most one fault is the first: two faults that are true of a program are of one rule, module and assignment, unless
 /// one is `Memory`.
 pub fn one_fault()
-    ensures { (p : Program) (e f : ExtFault) → Stands p e → Stands p f → SaysAlike e f }
+    ensures { (p : Program) (e f : ExtFault) → IsRightFault p e → IsRightFault p f → ReportsAlike e f }
 {}

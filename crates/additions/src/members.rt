@@ -10,7 +10,7 @@ ghost use Rattle.additions.specs.Additions.{has_default as has_default', IsAdded
 ghost use Rattle.additions.specs.proving.Checks.{IsListAt, IsChecked, FollowsAddition, IsSeenBefore, AreTogetherBefore, ArePlacedBefore, KeepBefore, BreaksListFirst};
 
 use crate::check::{Broken, Rule};
-use crate::order::{comes_before, facts, first_tag};
+use crate::order::{comes_before, first_tag, lemma_tagged_facts};
 use asn_base::tag::Tag;
 use std::alloc::{AllocError, Global};
 use tagging::Tagged;
@@ -135,7 +135,7 @@ fn tag_at(
     ensures { IfOk result (λ t. (c : Part) → slice_get (map part_of components.now) at ≡ Some c →
         First tagged.now.types c.ty (label t)) }
 {
-    facts(tagged);
+    lemma_tagged_facts(tagged);
     match first_tag(alloc, tagged, components[at].ty) {
         Ok(tag) => Ok(tag),
         Err(fault) => Err(fault),
@@ -155,7 +155,7 @@ fn is_disordered(
     ensures ordered { IfOk result (λ b. IsFalse b → (c : Part) → slice_get (map part_of components.now) at ≡ Some c →
         IsInOrder tagged.now.types (map part_of components.now) at c) }
 {
-    facts(tagged);
+    lemma_tagged_facts(tagged);
     if !is_addition(&components[at]) {
         return Ok(false);
     }

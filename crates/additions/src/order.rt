@@ -35,7 +35,7 @@ pub(crate) fn comes_before(earlier: Tag, later: Tag) -> bool
 }
 
 /// What is known of linked modules with their tags.
-pub(crate) fn facts(tagged: &Tagged<'_>)
+pub(crate) fn lemma_tagged_facts(tagged: &Tagged<'_>)
     ensures linked { IsLinked tagged.now.types }
     ensures tagged { IsTagged tagged.now.types }
     ensures one_first { HaveOneFirst tagged.now.types }

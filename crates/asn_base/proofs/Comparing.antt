@@ -9,7 +9,7 @@ use Rattle.asn_base.specs.Abstract.{AbstractValue, bits, fields, list, alternati
 use Rattle.asn_base.specs.Decided.{IsFlat, AreAlikeBits, HasDefaultAlike, AlikeChosen, IsChosen, AlikeAt, Count, counted, passed, no_more, IsAsOften, AreAsOften, IsComponent}
 use Rattle.asn_base.specs.Seen.{kind_of}
 use Rattle.asn_base.specs.Types.{Constraint, NamedBit, Alternative, Kind, a_named_bit_string, a_sequence, a_set, a_sequence_of, a_set_of, a_choice, Presence, default, Component, Resolved, Is}
-use Rattle.asn_base.specs.Typed.{Fits, fits_boolean, fits_integer, fits_enumerated, fits_bits, fits_named_bits, fits_octets, fits_null, fits_oid, fits_relative_oid, fits_utf8, fits_restricted, ValueIn, ValueOf, of_leaf, of_sequence, of_set, of_sequence_of, of_set_of, of_choice, MayBeAbsent, AreComponents, AreElements}
+use Rattle.asn_base.specs.Typed.{IsPrimitive, fits_boolean, fits_integer, fits_enumerated, fits_bits, fits_named_bits, fits_octets, fits_null, fits_oid, fits_relative_oid, fits_utf8, fits_restricted, ValueIn, ValueOf, of_leaf, of_sequence, of_set, of_sequence_of, of_set_of, of_choice, MayBeAbsent, AreComponents, AreElements}
 use Rattle.asn_base.specs.Same.{IsLeaf, Alike, alike, AlikeBy, equal, zeros, alike_sequence, alike_set, alike_sequence_of, alike_set_of, alike_choice, AlikeComponents, no_components, both_absent, both_present, first_default, second_default, AlikeElements, no_elements, alike_element, AlikeInAnyOrder}
 use Rattle.asn_base.proofs.AlikeOrNot.{back, un_sequence, un_set, un_sequence_of, un_set_of, un_choice, un_element}
 use Rattle.asn_base.proofs.Counts.{one_count, all_often, all_paired, as_many_members}
@@ -20,7 +20,7 @@ use Rattle.asn_base.proofs.Sameness.{alike_sym}
 
 -- ---- values that hold no others
 
-fits_flat : {k : Kind} {v : AbstractValue} → Fits k v → IsFlat v
+fits_flat : {k : Kind} {v : AbstractValue} → IsPrimitive k v → IsFlat v
 fits_flat fits_boolean = tt
 fits_flat (fits_integer l a) = tt
 fits_flat (fits_enumerated l a) = tt
@@ -33,7 +33,7 @@ fits_flat (fits_relative_oid a) = tt
 fits_flat (fits_utf8 a z) = tt
 fits_flat (fits_restricted a z) = tt
 
-fits_leaf : {k : Kind} {v : AbstractValue} → Fits k v → IsLeaf k
+fits_leaf : {k : Kind} {v : AbstractValue} → IsPrimitive k v → IsLeaf k
 fits_leaf fits_boolean = tt
 fits_leaf (fits_integer l a) = tt
 fits_leaf (fits_enumerated l a) = tt
@@ -59,7 +59,7 @@ alike_equal n l (alike_sequence_of a) = absurd l
 alike_equal n l (alike_set_of a) = absurd l
 alike_equal n l (alike_choice g a) = absurd l
 
-pub plain : (s : List Resolved) {k : Kind} {v w : AbstractValue} {r : Bool} → (IsNamed k → ⊥) → (IsFlat v → IsTrue r ↔ (v ≡ w)) → Fits k v → IsTrue r ↔ AlikeBy s k v w
+pub plain : (s : List Resolved) {k : Kind} {v w : AbstractValue} {r : Bool} → (IsNamed k → ⊥) → (IsFlat v → IsTrue r ↔ (v ≡ w)) → IsPrimitive k v → IsTrue r ↔ AlikeBy s k v w
 plain s {k} {v} n f x = onward (f (fits_flat x)) (λ e. subst (AlikeBy s k v) e (equal (fits_leaf x))) (alike_equal n (fits_leaf x))
 
 pub not_named : (core : Core) → ((bs : _) → core ≡ cores.NamedBits bs → ⊥) → IsNamed (kind_of core) → ⊥

@@ -10,7 +10,7 @@ use Rattle.asn_base.specs.declared.strings.StringKind.{StringKind}
 use Rattle.asn_base.specs.Abstract.{AbstractValue, boolean, integer, enumerated, bits, octets, text, null, oid, relative_oid, bits_of_octet}
 use Rattle.asn_base.specs.Names.{IsMember, is_first, is_later}
 use Rattle.asn_base.specs.Types.{Constraint, Item, NamedBit, Kind, a_boolean, an_integer, an_enumerated, a_bit_string, a_named_bit_string, an_octet_string, a_null, an_object_identifier, a_relative_oid, a_utf8_string, a_restricted_string}
-use Rattle.asn_base.specs.Typed.{Fits, fits_boolean, fits_integer, fits_enumerated, fits_bits, fits_named_bits, fits_octets, fits_null, fits_oid, fits_relative_oid, fits_utf8, fits_restricted, HasNumber, IsAllowed, IsAllowedSize, IsWithinLimit, IsObjectIdentifier, arcs, IsRelativeOid}
+use Rattle.asn_base.specs.Typed.{IsPrimitive, fits_boolean, fits_integer, fits_enumerated, fits_bits, fits_named_bits, fits_octets, fits_null, fits_oid, fits_relative_oid, fits_utf8, fits_restricted, HasNumber, IsAllowed, IsAllowedSize, IsWithinLimit, IsObjectIdentifier, arcs, IsRelativeOid}
 
 -- ---- lists from a place on
 
@@ -100,67 +100,67 @@ no_member m = elim m [ ]
 
 -- ---- kinds
 
-moved : {k m : Kind} {v w : AbstractValue} {r : Bool} → k ≡ m → v ≡ w → IsTrue r ↔ Fits m w → IsTrue r ↔ Fits k v
-moved {k} {m} {v} {w} {r} e f a = subst (λ q. IsTrue r ↔ Fits q v) (sym e) (subst (λ q. IsTrue r ↔ Fits m q) (sym f) a)
+moved : {k m : Kind} {v w : AbstractValue} {r : Bool} → k ≡ m → v ≡ w → IsTrue r ↔ IsPrimitive m w → IsTrue r ↔ IsPrimitive k v
+moved {k} {m} {v} {w} {r} e f a = subst (λ q. IsTrue r ↔ IsPrimitive q v) (sym e) (subst (λ q. IsTrue r ↔ IsPrimitive m q) (sym f) a)
 
-pub boolean_fits : {k : Kind} {v : AbstractValue} {b : Bool} → k ≡ a_boolean → v ≡ boolean b → IsTrue Bool.true ↔ Fits k v
+pub boolean_fits : {k : Kind} {v : AbstractValue} {b : Bool} → k ≡ a_boolean → v ≡ boolean b → IsTrue Bool.true ↔ IsPrimitive k v
 boolean_fits e f = moved e f (yes fits_boolean)
 
-pub null_fits : {k : Kind} {v : AbstractValue} → k ≡ a_null → v ≡ null → IsTrue Bool.true ↔ Fits k v
+pub null_fits : {k : Kind} {v : AbstractValue} → k ≡ a_null → v ≡ null → IsTrue Bool.true ↔ IsPrimitive k v
 null_fits e f = moved e f (yes fits_null)
 
-pub named_fits : {k : Kind} {v : AbstractValue} {ns : List NamedBit} {s : List Bool} → k ≡ a_named_bit_string ns → v ≡ bits s → IsTrue Bool.true ↔ Fits k v
+pub named_fits : {k : Kind} {v : AbstractValue} {ns : List NamedBit} {s : List Bool} → k ≡ a_named_bit_string ns → v ≡ bits s → IsTrue Bool.true ↔ IsPrimitive k v
 named_fits e f = moved e f (yes fits_named_bits)
 
-in_integer : {c : Constraint} {z : ℤ} → Fits (an_integer c) (integer z) → IsAllowed c z
+in_integer : {c : Constraint} {z : ℤ} → IsPrimitive (an_integer c) (integer z) → IsAllowed c z
 in_integer (fits_integer l a) = a
 
-pub integer_fits : {k : Kind} {v : AbstractValue} {c : Constraint} {z : ℤ} {r : Bool} → k ≡ an_integer c → v ≡ integer z → IsWithinLimit z → IsTrue r ↔ IsAllowed c z → IsTrue r ↔ Fits k v
+pub integer_fits : {k : Kind} {v : AbstractValue} {c : Constraint} {z : ℤ} {r : Bool} → k ≡ an_integer c → v ≡ integer z → IsWithinLimit z → IsTrue r ↔ IsAllowed c z → IsTrue r ↔ IsPrimitive k v
 integer_fits e f l a = moved e f (onward a (fits_integer l) in_integer)
 
-pub integer_fits_if : {k : Kind} {v : AbstractValue} {c : Constraint} {z : ℤ} → k ≡ an_integer c → v ≡ integer z → IsWithinLimit z → IsAllowed c z → Fits k v
+pub integer_fits_if : {k : Kind} {v : AbstractValue} {c : Constraint} {z : ℤ} → k ≡ an_integer c → v ≡ integer z → IsWithinLimit z → IsAllowed c z → IsPrimitive k v
 integer_fits_if e f l a = (moved e f (yes (fits_integer l a))).0 refl
 
-in_enumerated : {root more : List Item} {e : Bool} {z : ℤ} → Fits (an_enumerated root e more) (enumerated z) → HasNumber (root ++ more) z
+in_enumerated : {root more : List Item} {e : Bool} {z : ℤ} → IsPrimitive (an_enumerated root e more) (enumerated z) → HasNumber (root ++ more) z
 in_enumerated (fits_enumerated l a) = a
 
-pub enumerated_fits : {k : Kind} {v : AbstractValue} {root more : List Item} {b : Bool} {z : ℤ} {r : Bool} → k ≡ an_enumerated root b more → v ≡ enumerated z → IsWithinLimit z → IsTrue r ↔ HasNumber (root ++ more) z → IsTrue r ↔ Fits k v
+pub enumerated_fits : {k : Kind} {v : AbstractValue} {root more : List Item} {b : Bool} {z : ℤ} {r : Bool} → k ≡ an_enumerated root b more → v ≡ enumerated z → IsWithinLimit z → IsTrue r ↔ HasNumber (root ++ more) z → IsTrue r ↔ IsPrimitive k v
 enumerated_fits e f l a = moved e f (onward a (fits_enumerated l) in_enumerated)
 
-in_bits : {c : Constraint} {s : List Bool} → Fits (a_bit_string c) (bits s) → IsAllowedSize c (length s)
+in_bits : {c : Constraint} {s : List Bool} → IsPrimitive (a_bit_string c) (bits s) → IsAllowedSize c (length s)
 in_bits (fits_bits a) = a
 
-pub bits_fits : {k : Kind} {v : AbstractValue} {c : Constraint} {s : List Bool} {r : Bool} → k ≡ a_bit_string c → v ≡ bits s → IsTrue r ↔ IsAllowedSize c (length s) → IsTrue r ↔ Fits k v
+pub bits_fits : {k : Kind} {v : AbstractValue} {c : Constraint} {s : List Bool} {r : Bool} → k ≡ a_bit_string c → v ≡ bits s → IsTrue r ↔ IsAllowedSize c (length s) → IsTrue r ↔ IsPrimitive k v
 bits_fits e f a = moved e f (onward a fits_bits in_bits)
 
-in_octets : {c : Constraint} {s : List ℕ} → Fits (an_octet_string c) (octets s) → IsAllowedSize c (length s)
+in_octets : {c : Constraint} {s : List ℕ} → IsPrimitive (an_octet_string c) (octets s) → IsAllowedSize c (length s)
 in_octets (fits_octets b a) = a
 
-pub octets_fits : {k : Kind} {v : AbstractValue} {c : Constraint} {s : List ℕ} {r : Bool} → k ≡ an_octet_string c → v ≡ octets s → AllBelowBase 256 s → IsTrue r ↔ IsAllowedSize c (length s) → IsTrue r ↔ Fits k v
+pub octets_fits : {k : Kind} {v : AbstractValue} {c : Constraint} {s : List ℕ} {r : Bool} → k ≡ an_octet_string c → v ≡ octets s → AllBelowBase 256 s → IsTrue r ↔ IsAllowedSize c (length s) → IsTrue r ↔ IsPrimitive k v
 octets_fits e f b a = moved e f (onward a (fits_octets b) in_octets)
 
-in_oid : {s : List ℕ} → Fits an_object_identifier (oid s) → IsObjectIdentifier s
+in_oid : {s : List ℕ} → IsPrimitive an_object_identifier (oid s) → IsObjectIdentifier s
 in_oid (fits_oid a) = a
 
-pub oid_fits : {k : Kind} {v : AbstractValue} {s : List ℕ} {r : Bool} → k ≡ an_object_identifier → v ≡ oid s → IsTrue r ↔ IsObjectIdentifier s → IsTrue r ↔ Fits k v
+pub oid_fits : {k : Kind} {v : AbstractValue} {s : List ℕ} {r : Bool} → k ≡ an_object_identifier → v ≡ oid s → IsTrue r ↔ IsObjectIdentifier s → IsTrue r ↔ IsPrimitive k v
 oid_fits e f a = moved e f (onward a fits_oid in_oid)
 
-in_relative : {s : List ℕ} → Fits a_relative_oid (relative_oid s) → IsRelativeOid s
+in_relative : {s : List ℕ} → IsPrimitive a_relative_oid (relative_oid s) → IsRelativeOid s
 in_relative (fits_relative_oid a) = a
 
-pub relative_fits : {k : Kind} {v : AbstractValue} {s : List ℕ} {r : Bool} → k ≡ a_relative_oid → v ≡ relative_oid s → IsTrue r ↔ IsRelativeOid s → IsTrue r ↔ Fits k v
+pub relative_fits : {k : Kind} {v : AbstractValue} {s : List ℕ} {r : Bool} → k ≡ a_relative_oid → v ≡ relative_oid s → IsTrue r ↔ IsRelativeOid s → IsTrue r ↔ IsPrimitive k v
 relative_fits e f a = moved e f (onward a fits_relative_oid in_relative)
 
-in_utf8 : {c : Constraint} {s : List ℕ} → Fits (a_utf8_string c) (text s) → IsAllowedSize c (length (chars s))
+in_utf8 : {c : Constraint} {s : List ℕ} → IsPrimitive (a_utf8_string c) (text s) → IsAllowedSize c (length (chars s))
 in_utf8 (fits_utf8 u a) = a
 
-pub utf8_fits : {k : Kind} {v : AbstractValue} {c : Constraint} {s : List ℕ} {r : Bool} → k ≡ a_utf8_string c → v ≡ text s → IsUtf8 s → IsTrue r ↔ IsAllowedSize c (length (chars s)) → IsTrue r ↔ Fits k v
+pub utf8_fits : {k : Kind} {v : AbstractValue} {c : Constraint} {s : List ℕ} {r : Bool} → k ≡ a_utf8_string c → v ≡ text s → IsUtf8 s → IsTrue r ↔ IsAllowedSize c (length (chars s)) → IsTrue r ↔ IsPrimitive k v
 utf8_fits e f u a = moved e f (onward a (fits_utf8 u) in_utf8)
 
-in_restricted : {j : StringKind} {alphabet : List ℕ} {c : Constraint} {s : List ℕ} → Fits (a_restricted_string j alphabet c) (text s) → AllByRecursion (λ x. IsMember x alphabet) s × IsAllowedSize c (length s)
+in_restricted : {j : StringKind} {alphabet : List ℕ} {c : Constraint} {s : List ℕ} → IsPrimitive (a_restricted_string j alphabet c) (text s) → AllByRecursion (λ x. IsMember x alphabet) s × IsAllowedSize c (length s)
 in_restricted (fits_restricted m a) = (m, a)
 
-pub restricted_fits : {k : Kind} {v : AbstractValue} {j : StringKind} {alphabet : List ℕ} {c : Constraint} {s : List ℕ} {r : Bool} → k ≡ a_restricted_string j alphabet c → v ≡ text s → IsTrue r ↔ (AllByRecursion (λ x. IsMember x alphabet) s × IsAllowedSize c (length s)) → IsTrue r ↔ Fits k v
+pub restricted_fits : {k : Kind} {v : AbstractValue} {j : StringKind} {alphabet : List ℕ} {c : Constraint} {s : List ℕ} {r : Bool} → k ≡ a_restricted_string j alphabet c → v ≡ text s → IsTrue r ↔ (AllByRecursion (λ x. IsMember x alphabet) s × IsAllowedSize c (length s)) → IsTrue r ↔ IsPrimitive k v
 restricted_fits e f a = moved e f (onward a (λ p. fits_restricted p.0 p.1) in_restricted)
 
 -- ---- octets, bits and numbers

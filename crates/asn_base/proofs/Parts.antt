@@ -2,19 +2,19 @@
 use Rattle.std.proofs.Common.{arith, ◌≡◌, ℕ, zero, suc, ◌+◌, ◌-◌, ◌<◌, ◌≤◌, Bool, true, false, not, List, [], ◌∷◌, ◌++◌, length, map, drop, get_or, inl, inr, refl, sym, subst, ap, ◌∙◌}
 use Rattle.std.specs.Prelude.{◌↔◌, ◌⊎◌, IsTrue, Option, Some, None, slice_get}
 use Rattle.asn_base.specs.Abstract.{AbstractValue, boolean, integer, enumerated, bits, octets, text, null, oid, relative_oid, fields, list, alternative, Row, absent, present, row_of_options, row_of_list}
-use Rattle.asn_base.specs.Decided.{Holds, IsChosen, IsComponent, GroupsOfAreWhole, IsDue, IsPresentOf, nodes_of}
+use Rattle.asn_base.specs.Decided.{HoldsMembers, IsChosen, IsComponent, GroupsOfAreWhole, IsDue, IsPresentOf, nodes_of}
 use Rattle.asn_base.specs.declared.schema.Core.{Core}
 use Rattle.asn_base.specs.declared.schema.Resolved.{Resolved as Resolved'}
 use Rattle.asn_base.specs.Seen.{kind_of, resolved_of}
 use Rattle.asn_base.specs.Types.{Alternative, Kind, a_sequence, a_set, a_sequence_of, a_set_of, a_choice, Presence, mandatory, optional, default, addition, Component, Resolved, Is}
-use Rattle.asn_base.specs.Typed.{members, nodes, row_nodes, Fits, fits_boolean, fits_integer, fits_enumerated, fits_bits, fits_named_bits, fits_octets, fits_null, fits_oid, fits_relative_oid, fits_utf8, fits_restricted, HasOfGroup, LacksOfGroup, GroupsAreWhole, ValueIn, value_in, ValueOf, of_leaf, of_sequence, of_set, of_sequence_of, of_set_of, of_choice, MayBeAbsent, where_optional, where_default, where_addition, AreComponents, no_component, component_absent, component_present, AreElements, no_element, one_element}
+use Rattle.asn_base.specs.Typed.{members, nodes, row_nodes, IsPrimitive, fits_boolean, fits_integer, fits_enumerated, fits_bits, fits_named_bits, fits_octets, fits_null, fits_oid, fits_relative_oid, fits_utf8, fits_restricted, HasOfGroup, LacksOfGroup, GroupsAreWhole, ValueIn, value_in, ValueOf, of_leaf, of_sequence, of_set, of_sequence_of, of_set_of, of_choice, MayBeAbsent, where_optional, where_default, where_addition, AreComponents, no_component, component_absent, component_present, AreElements, no_element, one_element}
 use Rattle.asn_base.proofs.Leaves.{onward, without}
 use Rattle.asn_base.proofs.Sameness.{same_kind}
 use Rattle.asn_base.proofs.Levels.{value_of_at}
 
 -- ---- the kind of the type
 
-pub to_parts : {s : List Resolved} {n : ℕ} {k : Kind} {v : AbstractValue} → ValueOf s n k v → Fits k v ⊎ Holds s n k v
+pub to_parts : {s : List Resolved} {n : ℕ} {k : Kind} {v : AbstractValue} → ValueOf s n k v → IsPrimitive k v ⊎ HoldsMembers s n k v
 to_parts (of_leaf f) = inl f
 to_parts (of_sequence a g) = inr (a, g)
 to_parts (of_set a g) = inr (a, g)
@@ -22,7 +22,7 @@ to_parts (of_sequence_of a z) = inr (a, z)
 to_parts (of_set_of a z) = inr (a, z)
 to_parts (of_choice {a = b} g a) = inr (b, g, a)
 
-from_parts : {s : List Resolved} {n : ℕ} (k : Kind) (v : AbstractValue) → Holds s n k v → ValueOf s n k v
+from_parts : {s : List Resolved} {n : ℕ} (k : Kind) (v : AbstractValue) → HoldsMembers s n k v → ValueOf s n k v
 from_parts (a_sequence e cs) (fields vs) h = of_sequence h.0 h.1
 from_parts (a_set e cs) (fields vs) h = of_set h.0 h.1
 from_parts (a_sequence_of c u) (list vs) h = of_sequence_of h.0 h.1
@@ -60,20 +60,20 @@ with_core s t r {k} e h = e ∙ ap (λ (c : Core). Some (record { tags = r.tags.
 one_more : (n : ℕ) → 0 < n → suc (n - 1) ≡ n
 one_more n l = omega arith
 
-pub in_leaf : {s : List Resolved} {t : ℕ} {r : Resolved} {v : AbstractValue} {b : Bool} (n : ℕ) → 0 < n → slice_get s t ≡ Some r → IsTrue b ↔ Fits r.kind v → b ≡ Bool.true → IsTrue b ↔ ValueIn s n t v
+pub in_leaf : {s : List Resolved} {t : ℕ} {r : Resolved} {v : AbstractValue} {b : Bool} (n : ℕ) → 0 < n → slice_get s t ≡ Some r → IsTrue b ↔ IsPrimitive r.kind v → b ≡ Bool.true → IsTrue b ↔ ValueIn s n t v
 in_leaf {s} {t} {v = v} n l e f is = (λ x. subst (λ q. ValueIn s q t v) (one_more n l) (of_kind e (of_leaf (f.0 x))), λ y. is)
 
-pub in_leaf_yes : {s : List Resolved} {t : ℕ} {r : Resolved} {v : AbstractValue} (n : ℕ) → 0 < n → slice_get s t ≡ Some r → Fits r.kind v → ValueIn s n t v
+pub in_leaf_yes : {s : List Resolved} {t : ℕ} {r : Resolved} {v : AbstractValue} (n : ℕ) → 0 < n → slice_get s t ≡ Some r → IsPrimitive r.kind v → ValueIn s n t v
 in_leaf_yes {s} {t} {v = v} n l e f = subst (λ q. ValueIn s q t v) (one_more n l) (of_kind e (of_leaf f))
 
-pub in_holder : {s : List Resolved} {t : ℕ} {r : Resolved} {v : AbstractValue} {b : Bool} (n : ℕ) → 0 < n → slice_get s t ≡ Some r → (Fits r.kind v → ⊥) → IsTrue b ↔ Holds s (n - 1) r.kind v → IsTrue b ↔ ValueIn s n t v
+pub in_holder : {s : List Resolved} {t : ℕ} {r : Resolved} {v : AbstractValue} {b : Bool} (n : ℕ) → 0 < n → slice_get s t ≡ Some r → (IsPrimitive r.kind v → ⊥) → IsTrue b ↔ HoldsMembers s (n - 1) r.kind v → IsTrue b ↔ ValueIn s n t v
 in_holder {s} {t} {r} {v} n l e f h = (
   λ x. subst (λ q. ValueIn s q t v) (one_more n l) (of_kind e (from_parts r.kind v (h.0 x))),
   λ y. h.1 (without f (to_parts (in_kind e (subst (λ q. ValueIn s q t v) (sym (one_more n l)) y)))),
 )
 
-pub held : (s : List Resolved) (n : ℕ) {k m : Kind} {v w : AbstractValue} {r : Bool} → k ≡ m → v ≡ w → IsTrue r ↔ Holds s n m w → IsTrue r ↔ Holds s n k v
-held s n {k = k} {m = m} {v = v} {w = w} {r = r} e f a = subst (λ q. IsTrue r ↔ Holds s n q v) (sym e) (subst (λ q. IsTrue r ↔ Holds s n m q) (sym f) a)
+pub held : (s : List Resolved) (n : ℕ) {k m : Kind} {v w : AbstractValue} {r : Bool} → k ≡ m → v ≡ w → IsTrue r ↔ HoldsMembers s n m w → IsTrue r ↔ HoldsMembers s n k v
+held s n {k = k} {m = m} {v = v} {w = w} {r = r} e f a = subst (λ q. IsTrue r ↔ HoldsMembers s n q v) (sym e) (subst (λ q. IsTrue r ↔ HoldsMembers s n m q) (sym f) a)
 
 -- ---- components
 
@@ -271,7 +271,7 @@ some_nodes (list vs) = omega arith
 some_nodes (alternative i v) = omega arith
 
 -- a value that holds no others is one node
-pub one_node : {k : Kind} {v : AbstractValue} → Fits k v → nodes v ≡ 1
+pub one_node : {k : Kind} {v : AbstractValue} → IsPrimitive k v → nodes v ≡ 1
 one_node fits_boolean = refl
 one_node (fits_integer w a) = refl
 one_node (fits_enumerated w a) = refl
@@ -295,5 +295,5 @@ pub list_at : (vs : List AbstractValue) (i : ℕ) {v : AbstractValue} {vs' : Lis
 list_at vs i e = ap (λ q. row_nodes (row_of_list q)) e
 
 -- what is left after one more of them
-pub left_behind : (before after one rest all : ℕ) → after ≡ before - one → before - (one + rest) ≡ all → after - rest ≡ all
-left_behind before after one rest all e f = omega arith
+pub left_after : (before after one rest all : ℕ) → after ≡ before - one → before - (one + rest) ≡ all → after - rest ≡ all
+left_after before after one rest all e f = omega arith

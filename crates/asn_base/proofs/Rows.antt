@@ -10,7 +10,7 @@ use Rattle.asn_base.specs.declared.tag.Tag.{Tag}
 use Rattle.asn_base.specs.Abstract.{AbstractValue, boolean, integer, octets, text, null, oid, fields, list, alternative, end, absent, present}
 use Rattle.asn_base.specs.Names.{IsMember, is_first, is_later}
 use Rattle.asn_base.specs.Types.{Bounds, Constraint, Presence, mandatory, optional, default, addition, Component, Kind, a_boolean, an_integer, an_octet_string, an_object_identifier, a_utf8_string, a_sequence, a_sequence_of, a_choice, Resolved}
-use Rattle.asn_base.specs.Typed.{IsWithinLimit, IsAllowed, HasNumber, IsObjectIdentifier, arcs, Fits, fits_boolean, fits_integer, fits_octets, fits_oid, fits_utf8, ValueIn, value_in, of_leaf, of_sequence, of_sequence_of, of_choice, ValueOf, members, one_element, MayBeAbsent, where_optional, where_default, where_addition, no_component, component_absent, component_present, no_element, nodes}
+use Rattle.asn_base.specs.Typed.{IsWithinLimit, IsAllowed, HasNumber, IsObjectIdentifier, arcs, IsPrimitive, fits_boolean, fits_integer, fits_octets, fits_oid, fits_utf8, ValueIn, value_in, of_leaf, of_sequence, of_sequence_of, of_choice, ValueOf, members, one_element, MayBeAbsent, where_optional, where_default, where_addition, no_component, component_absent, component_present, no_element, nodes}
 use Rattle.asn_base.specs.Same.{Alike, alike, AlikeBy, alike_sequence, alike_sequence_of, alike_choice, equal, no_components, both_absent, first_default, no_elements, alike_element}
 use Rattle.asn_base.proofs.Sameness.{by_at, same_kind}
 use Rattle.asn_base.proofs.NoGroups.{no_groups}
@@ -95,14 +95,14 @@ one_arc : {ns : List ℕ} → IsObjectIdentifier ns → ns ≡ 2 ∷ [] → ⊥
 one_arc (arcs a b c d f) e = let l = ap length e in omega arith
 
 -- octets are below 256; a size of UTF8String is in characters; characters are those of the alphabet
-no_octet : Fits (an_octet_string free) (octets (256 ∷ [])) → ⊥
+no_octet : IsPrimitive (an_octet_string free) (octets (256 ∷ [])) → ⊥
 no_octet f = by f refl
   where
     octet_of : AbstractValue → List ℕ
     octet_of (octets o) = o
     octet_of v = []
 
-    by : {v : AbstractValue} → Fits (an_octet_string free) v → v ≡ octets (256 ∷ []) → ⊥
+    by : {v : AbstractValue} → IsPrimitive (an_octet_string free) v → v ≡ octets (256 ∷ []) → ⊥
     by (fits_octets {o = o} b a) e = let h = (subst (AllBelowBase 256) (ap octet_of e) b).0 in omega arith
 
 one_character : length (chars (195 ∷ 169 ∷ [])) ≡ 1
@@ -216,13 +216,13 @@ absent_alike : Alike s 3 (fields (absent (absent end))) (fields (absent (absent 
 absent_alike = alike (record { found = refl }) (alike_sequence (both_absent (both_absent no_components)))
 
 -- values of kinds that hold no others
-a_truth : Fits a_boolean (boolean true)
+a_truth : IsPrimitive a_boolean (boolean true)
 a_truth = fits_boolean
 
-an_identifier : Fits an_object_identifier (oid (2 ∷ 999 ∷ 3 ∷ []))
+an_identifier : IsPrimitive an_object_identifier (oid (2 ∷ 999 ∷ 3 ∷ []))
 an_identifier = fits_oid an_oid
 
 -- U+00E9 has one character
-a_letter : Fits (a_utf8_string to_7) (text (195 ∷ 169 ∷ []))
+a_letter : IsPrimitive (a_utf8_string to_7) (text (195 ∷ 169 ∷ []))
 unfolding encode
 a_letter = fits_utf8 (233 ∷ [], (refl, refl)) (inl (omega (arith, ints), omega (arith, ints, one_character)))

@@ -11,7 +11,7 @@ use Rattle.asn_base.specs.Abstract.{AbstractValue, integer, null}
 use Rattle.asn_base.specs.Names.{IsMember, is_first, is_later, AreNames}
 use Rattle.asn_base.specs.Types.{Range, Bounds, Constraint, Item, NamedBit, Alternative, Presence, mandatory, optional, default, addition, Component, Kind, a_null, a_choice, Resolved}
 use Rattle.asn_base.specs.Tags.{First, first_tag, first_of_choice, class_rank, TagBefore, HasFewTags, AllTagged, AllApart}
-use Rattle.asn_base.specs.Typed.{IsInRange, IsInSome, IsWithinLimit, Fits, fits_null, ValueIn, value_in, ValueOf, of_leaf, of_sequence, of_set, of_sequence_of, of_set_of, of_choice}
+use Rattle.asn_base.specs.Typed.{IsInRange, IsInSome, IsWithinLimit, IsPrimitive, fits_null, ValueIn, value_in, ValueOf, of_leaf, of_sequence, of_set, of_sequence_of, of_set_of, of_choice}
 use Rattle.asn_base.specs.Schemas.{AreBounds, IsNumber, IsSize, IsAlphabet, AreItems, AreNamedBits, is_addition, GroupsTogether, AreListed, AreAlternatives, AreElementsOf}
 use Rattle.asn_base.proofs.Rows.{to_7, row}
 use Rattle.asn_base.proofs.Sameness.{same_kind}
@@ -176,9 +176,9 @@ abbrev item : List ℕ → ℤ → Item
 item x z = record { name = x; number = z }
 
 -- ENUMERATED {b(0), ..., a(2)}
-pub an_item_behind : AreItems true (item b_name (pos 0) ∷ []) (item a_name (pos 2) ∷ [])
+pub an_item_after : AreItems true (item b_name (pos 0) ∷ []) (item a_name (pos 2) ∷ [])
 unfolding head_or_0
-an_item_behind = record {
+an_item_after = record {
   some = omega arith;
   names = record { identifiers = (refl, (refl, tt)); distinct = ((λ m. apart m refl), ((λ m. elim m [ ]), tt)) };
   limits = (lit< tt, (lit< tt, tt));
@@ -267,13 +267,13 @@ before_private g f n d = by g.class refl
 pub not_before_itself : (g : Tag) → TagBefore g g → ⊥
 not_before_itself g h = ⊎_elim (λ l. omega arith) (λ p. (let l = p.1 in omega arith)) h
 
-pub context_behind_application : (g f : Tag) → g.class ≡ Context → f.class ≡ Application → TagBefore g f → ⊥
-context_behind_application g f e d h =
+pub context_after_application : (g f : Tag) → g.class ≡ Context → f.class ≡ Application → TagBefore g f → ⊥
+context_after_application g f e d h =
     let x = ap class_rank e in let y = ap class_rank d in
     ⊎_elim (λ l. omega arith) (λ p. (let l = p.0 in omega arith)) h
 
-pub one_behind_zero : (g f : Tag) → g.class ≡ Context → f.class ≡ Context → g.number ≡ 1 → f.number ≡ 0 → TagBefore g f → ⊥
-one_behind_zero g f e d i j h =
+pub one_after_zero : (g f : Tag) → g.class ≡ Context → f.class ≡ Context → g.number ≡ 1 → f.number ≡ 0 → TagBefore g f → ⊥
+one_after_zero g f e d i j h =
     let x = ap class_rank e in let y = ap class_rank d in
     ⊎_elim (λ l. omega arith) (λ p. (let l = p.1 in omega arith)) h
 
@@ -303,8 +303,8 @@ begins_with_the_new g f = first_of_choice 1 (record { found = refl }) refl (firs
 pub not_apart : (g f : Tag) → AllApart (choices g f) (0 ∷ 2 ∷ []) → ⊥
 not_apart g f h = h.0.0 g (first_tag (record { found = refl })) (begins_with_the_first g f)
 
-pub not_apart_behind : (g f : Tag) → AllApart (choices g f) (2 ∷ 0 ∷ 1 ∷ []) → ⊥
-not_apart_behind g f h = h.0.1.0 f (begins_with_the_new g f) (first_tag (record { found = refl }))
+pub not_apart_after : (g f : Tag) → AllApart (choices g f) (2 ∷ 0 ∷ 1 ∷ []) → ⊥
+not_apart_after g f h = h.0.1.0 f (begins_with_the_new g f) (first_tag (record { found = refl }))
 
 -- ---- components and alternatives
 
@@ -359,11 +359,11 @@ abbrev IsNull : AbstractValue → Type 0
 IsNull null = Unit {0}
 IsNull v = ⊥
 
-null_alone : {v : AbstractValue} → Fits a_null v → IsNull v
+null_alone : {v : AbstractValue} → IsPrimitive a_null v → IsNull v
 null_alone fits_null = tt
 
 kind_alone : {n : ℕ} {k : Kind} {v : AbstractValue} → k ≡ a_null → ValueOf nulls n k v → IsNull v
-kind_alone {v = v} e (of_leaf f) = null_alone (subst (λ q. Fits q v) e f)
+kind_alone {v = v} e (of_leaf f) = null_alone (subst (λ q. IsPrimitive q v) e f)
 kind_alone e (of_sequence a g) = absurd (cc)
 kind_alone e (of_set a g) = absurd (cc)
 kind_alone e (of_sequence_of a z) = absurd (cc)

@@ -11,13 +11,13 @@ use Rattle.asn_base.specs.declared.strings.StringKind.TheVariants.{Numeric}
 use Rattle.asn_base.specs.Abstract.{AbstractValue, integer, fields, null, end, absent}
 use Rattle.asn_base.specs.Names.{IsMember, is_first, is_later}
 use Rattle.asn_base.specs.Types.{Constraint, any_size, Alternative, Presence, mandatory, optional, default, addition, Component, Kind, a_boolean, an_integer, an_enumerated, a_bit_string, a_named_bit_string, an_octet_string, a_null, an_object_identifier, a_relative_oid, a_utf8_string, a_restricted_string, a_sequence, a_set, a_sequence_of, a_set_of, a_choice, Resolved, Is}
-use Rattle.asn_base.specs.Tags.{First, first_tag, first_of_choice, AreApart, IsTellable, IsChoice}
+use Rattle.asn_base.specs.Tags.{First, first_tag, first_of_choice, AreApart, HasDistinctTags, IsChoice}
 use Rattle.asn_base.specs.Typed.{fits_integer, value_in, of_leaf, IsValue}
-use Rattle.asn_base.specs.Schemas.{HasValue, AreListed, AreAlternatives, IsSound, components, types_in, LeadsTo, leads_itself, leads_onward, IsSchema}
+use Rattle.asn_base.specs.Schemas.{HasValue, AreListed, AreAlternatives, IsSound, components, types_in, PathLeadsTo, leads_itself, leads_onward, IsSchema}
 use Rattle.asn_base.proofs.Lists.{at_place}
 use Rattle.asn_base.proofs.Rows.{to_7}
 use Rattle.asn_base.proofs.Schemas.{all_sizes}
-use Rattle.asn_base.proofs.RowsOfBounds.{bounds_of_0_to_7, sizes_to_7, digits_and_space, two_names, an_item_behind, two_bits}
+use Rattle.asn_base.proofs.RowsOfBounds.{bounds_of_0_to_7, sizes_to_7, digits_and_space, two_names, an_item_after, two_bits}
 
 abbrev universal : (n : ℕ) → n < 2147483648 → 0 < n → Tag
 universal n h k = record { class = Universal; number = n; in_range = h; not_reserved = λ e. k }
@@ -161,13 +161,13 @@ Defaults k = AllByRecursion (λ c. (d : AbstractValue) → c.presence ≡ defaul
 record Fine (r : Resolved) : Type 0 where
   tagged : r.tags ≡ [] → IsChoice r.kind
   few : length r.tags ≤ 6
-  tellable : IsTellable every r.kind
+  distinct_tags : HasDistinctTags every r.kind
   sound : IsSound every r.kind
   defaults : Defaults r.kind
 
 -- one that holds no others, or elements
-plain : (n : ℕ) (h : n < 2147483648) (l : 0 < n) (k : Kind) → IsTellable every k → IsSound every k → Defaults k → Fine (of_tag n h l k)
-plain n h l k t a d = record { tagged = λ e. absurd (let m = ap length e in omega arith); few = omega arith; tellable = t; sound = a; defaults = d }
+plain : (n : ℕ) (h : n < 2147483648) (l : 0 < n) (k : Kind) → HasDistinctTags every k → IsSound every k → Defaults k → Fine (of_tag n h l k)
+plain n h l k t a d = record { tagged = λ e. absurd (let m = ap length e in omega arith); few = omega arith; distinct_tags = t; sound = a; defaults = d }
 
 all_fine : AllByRecursion Fine every
 all_fine = (
@@ -175,7 +175,7 @@ all_fine = (
   (
     plain 2 (lit< tt) (lit< tt) (an_integer to_7) tt bounds_of_0_to_7 tt,
     (
-      plain 10 (lit< tt) (lit< tt) _ tt an_item_behind tt,
+      plain 10 (lit< tt) (lit< tt) _ tt an_item_after tt,
       (
         plain 3 (lit< tt) (lit< tt) (a_bit_string any_size) tt all_sizes tt,
         (
@@ -201,9 +201,9 @@ all_fine = (
                             (
                               plain 17 (lit< tt) (lit< tt) (a_set_of any_size 15) tt (record { bounds = all_sizes; type = omega arith }) tt,
                               (
-                                record { tagged = λ e. tt; few = omega arith; tellable = ((by_number {t = 6} {u = 0} refl refl (λ e. omega arith), tt), (tt, tt)); sound = choice_is; defaults = tt },
+                                record { tagged = λ e. tt; few = omega arith; distinct_tags = ((by_number {t = 6} {u = 0} refl refl (λ e. omega arith), tt), (tt, tt)); sound = choice_is; defaults = tt },
                                 (
-                                  record { tagged = λ e. absurd (let m = ap length e in omega arith); few = omega arith; tellable = tt; sound = tt; defaults = tt },
+                                  record { tagged = λ e. absurd (let m = ap length e in omega arith); few = omega arith; distinct_tags = tt; sound = tt; defaults = tt },
                                   tt,
                                 ),
                               ),
@@ -234,7 +234,7 @@ member_of_none e m = by (subst (IsMember _) e m)
 integer_there : {t : ℕ} {tags : List Tag} {k : Kind} → t ≡ 1 → Is every t tags k → k ≡ an_integer to_7
 integer_there e i = ap kind_at (sym i.found) ∙ ap (λ q. kind_at (slice_get every q)) e
 
-leads_to_integer : {k : Kind} {t : ℕ} → t ≡ 1 → LeadsTo every k t → k ≡ an_integer to_7
+leads_to_integer : {k : Kind} {t : ℕ} → t ≡ 1 → PathLeadsTo every k t → k ≡ an_integer to_7
 leads_to_integer e (leads_itself i) = integer_there e i
 leads_to_integer e (leads_onward i m l) = absurd (member_of_none (ap types_in (integer_there e i)) m)
 
@@ -247,7 +247,7 @@ default_before (b ∷ bs) d a (is_later m) e = default_before bs d a.1 m e
 pub every_kind : IsSchema every
 every_kind = record {
   tagged = λ t k i. (at_place Fine every t _ i.found all_fine).tagged refl;
-  tellable = λ t tags k i. (at_place Fine every t _ i.found all_fine).tellable;
+  distinct_tags = λ t tags k i. (at_place Fine every t _ i.found all_fine).distinct_tags;
   few_tags = λ t tags k i. (at_place Fine every t _ i.found all_fine).few;
   sound = λ t tags k i. (at_place Fine every t _ i.found all_fine).sound;
   no_circle = λ t q. (let f = (at_place Fine every t _ q.is.found all_fine).defaults in

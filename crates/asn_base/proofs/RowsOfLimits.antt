@@ -10,7 +10,7 @@ use Rattle.asn_base.specs.declared.tag.Tag.{Tag}
 use Rattle.asn_base.specs.Abstract.{AbstractValue, list, null, Row, end, present}
 use Rattle.asn_base.specs.Names.{goes_on, IsIdentifier, IsMember, is_first, is_later, AreDistinct, AreNames}
 use Rattle.asn_base.specs.Types.{any_size, Item, NamedBit, Alternative, Presence, mandatory, default, addition, Component, Kind, a_null, a_sequence_of, Resolved, Is}
-use Rattle.asn_base.specs.Typed.{HasNumber, IsWithinLimit, IsObjectIdentifier, arcs, IsRelativeOid, Fits, ValueIn, value_in, ValueOf, of_leaf, of_sequence, of_set, of_sequence_of, of_set_of, of_choice, AreElements, no_element, one_element, fits_null, row_nodes, IsValue}
+use Rattle.asn_base.specs.Typed.{HasNumber, IsWithinLimit, IsObjectIdentifier, arcs, IsRelativeOid, IsPrimitive, ValueIn, value_in, ValueOf, of_leaf, of_sequence, of_set, of_sequence_of, of_set_of, of_choice, AreElements, no_element, one_element, fits_null, row_nodes, IsValue}
 use Rattle.asn_base.specs.Tags.{First, first_tag, first_of_choice, class_rank, TagBefore}
 use Rattle.asn_base.specs.Schemas.{IsAlphabet, NumbersAscend, AreItems, AreNamedBits, HasTag, TagsAscend, is_addition, HasValue, GroupsTogether, AreListed, AreAlternatives}
 use Rattle.asn_base.proofs.Rows.{row}
@@ -115,24 +115,24 @@ additions_64 = record {
 pub components_256 : AreListed one false (several mandatory 256)
 components_256 = in_root 256 (lit< tt)
 
-none_behind : (root more : List Component) → AllByRecursion (λ c. is_addition c ≡ false) (root ++ more) → AllByRecursion (λ c. is_addition c ≡ true) more → length (root ++ more) ≡ length root
-none_behind [] [] a b = refl
-none_behind [] (c ∷ cs) a b = absurd (let e : false ≡ true = sym a.0 ∙ b.0 in cc)
-none_behind (c ∷ root) more a b = ap suc (none_behind root more a.1 b)
+none_after : (root more : List Component) → AllByRecursion (λ c. is_addition c ≡ false) (root ++ more) → AllByRecursion (λ c. is_addition c ≡ true) more → length (root ++ more) ≡ length root
+none_after [] [] a b = refl
+none_after [] (c ∷ cs) a b = absurd (let e : false ≡ true = sym a.0 ∙ b.0 in cc)
+none_after (c ∷ root) more a b = ap suc (none_after root more a.1 b)
 
-all_behind : (root more : List Component) → AllByRecursion (λ c. is_addition c ≡ true) (root ++ more) → AllByRecursion (λ c. is_addition c ≡ false) root → length (root ++ more) ≡ length more
-all_behind [] more a b = refl
-all_behind (c ∷ root) more a b = absurd (let e : true ≡ false = sym a.0 ∙ b.0 in cc)
+all_after : (root more : List Component) → AllByRecursion (λ c. is_addition c ≡ true) (root ++ more) → AllByRecursion (λ c. is_addition c ≡ false) root → length (root ++ more) ≡ length more
+all_after [] more a b = refl
+all_after (c ∷ root) more a b = absurd (let e : true ≡ false = sym a.0 ∙ b.0 in cc)
 
 pub components_257 : {s : List Resolved} {e : Bool} → AreListed s e (several mandatory 257) → ⊥
 components_257 a =
-    let l = none_behind a.root a.more (subst (AllByRecursion (λ c. is_addition c ≡ false)) a.parts (all_several (λ c. is_addition c ≡ false) mandatory 257 (λ x. refl))) a.behind in
+    let l = none_after a.root a.more (subst (AllByRecursion (λ c. is_addition c ≡ false)) a.parts (all_several (λ c. is_addition c ≡ false) mandatory 257 (λ x. refl))) a.behind in
     let m = ap length a.parts in
     omega (arith, l, m, a.few_root, several_long mandatory 257)
 
 pub additions_65 : {s : List Resolved} {e : Bool} → AreListed s e (several (addition false None) 65) → ⊥
 additions_65 a =
-    let l = all_behind a.root a.more (subst (AllByRecursion (λ c. is_addition c ≡ true)) a.parts (all_several (λ c. is_addition c ≡ true) (addition false None) 65 (λ x. refl))) a.in_root in
+    let l = all_after a.root a.more (subst (AllByRecursion (λ c. is_addition c ≡ true)) a.parts (all_several (λ c. is_addition c ≡ true) (addition false None) 65 (λ x. refl))) a.in_root in
     let m = ap length a.parts in
     omega (arith, l, m, a.few_more, several_long (addition false None) 65)
 
@@ -191,8 +191,8 @@ not_b zero m e = elim m [ ]
 not_b (suc n) is_first e = let h = ap first_of e in omega arith
 not_b (suc n) (is_later m) e = not_b n m e
 
-pub items_64_behind : AreItems true (record { name = 98 ∷ []; number = pos 0 } ∷ []) (items 64)
-items_64_behind = record {
+pub items_64_after : AreItems true (record { name = 98 ∷ []; number = pos 0 } ∷ []) (items 64)
+items_64_after = record {
   some = omega arith;
   names = record { identifiers = (refl, subst (AllByRecursion IsIdentifier) (items_names 64) (all_identifiers 64)); distinct = ((λ m. not_b 64 (subst (IsMember (98 ∷ [])) (sym (items_names 64)) m) refl), subst AreDistinct (items_names 64) (all_distinct 64)) };
   limits = (lit< tt, items_within 64 (omega arith));
@@ -204,8 +204,8 @@ items_64_behind = record {
   few_more = omega (arith, items_long 64);
 }
 
-pub items_65_behind : {e : Bool} {root : List Item} → AreItems e root (items 65) → ⊥
-items_65_behind a = omega (arith, a.few_more, items_long 65)
+pub items_65_after : {e : Bool} {root : List Item} → AreItems e root (items 65) → ⊥
+items_65_after a = omega (arith, a.few_more, items_long 65)
 
 -- ---- 256 alternatives in a root
 
@@ -257,13 +257,13 @@ abbrev behind : ℕ → List Alternative
 behind zero = []
 behind (suc n) = record { name = 97 ∷ letters n; type = n } ∷ behind n
 
-behind_long : (n : ℕ) → length (behind n) ≡ n
-behind_long zero = refl
-behind_long (suc n) = ap suc (behind_long n)
+after_long : (n : ℕ) → length (behind n) ≡ n
+after_long zero = refl
+after_long (suc n) = ap suc (after_long n)
 
-behind_names : (n : ℕ) → names n ≡ map (λ a. a.name) (behind n)
-behind_names zero = refl
-behind_names (suc n) = ap (λ q. (97 ∷ letters n) ∷ q) (behind_names n)
+after_names : (n : ℕ) → names n ≡ map (λ a. a.name) (behind n)
+after_names zero = refl
+after_names (suc n) = ap (λ q. (97 ∷ letters n) ∷ q) (after_names n)
 
 abbrev IsTagOnly : ℕ → List Tag → Type 0
 IsTagOnly n [] = ⊥
@@ -305,19 +305,19 @@ all_there : (n : ℕ) → n ≤ 64 → AllByRecursion (λ a. HasTag (tagged 64) 
 all_there zero h = tt
 all_there (suc n) h = (tag_there 64 n (omega arith), all_there n (omega arith))
 
-pub alternatives_64_behind : AreAlternatives (tagged 64) true (record { name = 98 ∷ []; type = 0 } ∷ []) (behind 64)
-alternatives_64_behind = record {
+pub alternatives_64_after : AreAlternatives (tagged 64) true (record { name = 98 ∷ []; type = 0 } ∷ []) (behind 64)
+alternatives_64_after = record {
   some = omega arith;
-  names = record { identifiers = (refl, subst (AllByRecursion IsIdentifier) (behind_names 64) (all_identifiers 64)); distinct = ((λ m. not_b 64 (subst (IsMember (98 ∷ [])) (sym (behind_names 64)) m) refl), subst AreDistinct (behind_names 64) (all_distinct 64)) };
+  names = record { identifiers = (refl, subst (AllByRecursion IsIdentifier) (after_names 64) (all_identifiers 64)); distinct = ((λ m. not_b 64 (subst (IsMember (98 ∷ [])) (sym (after_names 64)) m) refl), subst AreDistinct (after_names 64) (all_distinct 64)) };
   types = (tag_there 64 0 (omega arith), all_there 64 (omega arith));
   more_ascend = all_ascend 64 (omega arith);
   marked = λ e. absurd (cc);
   few_root = omega arith;
-  few_more = omega (arith, behind_long 64);
+  few_more = omega (arith, after_long 64);
 }
 
-pub alternatives_65_behind : {s : List Resolved} {e : Bool} {root : List Alternative} → AreAlternatives s e root (alternatives 65) → ⊥
-alternatives_65_behind a = omega (arith, a.few_more, alternatives_long 65)
+pub alternatives_65_after : {s : List Resolved} {e : Bool} {root : List Alternative} → AreAlternatives s e root (alternatives 65) → ⊥
+alternatives_65_after a = omega (arith, a.few_more, alternatives_long 65)
 
 -- ---- a named bit at 65,535, a character 127
 
@@ -397,10 +397,10 @@ abbrev element_in : Kind → ℕ
 element_in (a_sequence_of c u) = u
 element_in k = 0
 
-no_leaf : {k : Kind} {v : AbstractValue} → k ≡ a_sequence_of any_size 0 → Fits k v → ⊥
-no_leaf {v = v} e f = by (subst (λ q. Fits q v) e f)
+no_leaf : {k : Kind} {v : AbstractValue} → k ≡ a_sequence_of any_size 0 → IsPrimitive k v → ⊥
+no_leaf {v = v} e f = by (subst (λ q. IsPrimitive q v) e f)
   where
-    by : Fits (a_sequence_of any_size 0) v → ⊥
+    by : IsPrimitive (a_sequence_of any_size 0) v → ⊥
     by f = elim f [ ]
 
 abbrev kind_in : Option Resolved → Kind

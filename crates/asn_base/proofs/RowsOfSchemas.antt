@@ -11,7 +11,7 @@ use Rattle.asn_base.specs.Abstract.{bits, octets, text, relative_oid, fields, li
 use Rattle.asn_base.specs.Names.{IsIdentifier, is_identifier, is_first, AreNames}
 use Rattle.asn_base.specs.Types.{Constraint, Item, NamedBit, Alternative, a_bit_string, a_named_bit_string, an_octet_string, a_null, a_relative_oid, a_restricted_string, a_set, a_set_of, Presence, mandatory, optional, addition, default, Component, Resolved}
 use Rattle.asn_base.specs.Tags.{First, class_rank, TagBefore}
-use Rattle.asn_base.specs.Typed.{HasNumber, GroupsAreWhole, IsRelativeOid, Fits, fits_bits, fits_named_bits, fits_octets, fits_relative_oid, fits_restricted, ValueIn, value_in, of_leaf, of_set, of_set_of, no_element, one_element, no_component, fits_null}
+use Rattle.asn_base.specs.Typed.{HasNumber, GroupsAreWhole, IsRelativeOid, IsPrimitive, fits_bits, fits_named_bits, fits_octets, fits_relative_oid, fits_restricted, ValueIn, value_in, of_leaf, of_set, of_set_of, no_element, one_element, no_component, fits_null}
 use Rattle.asn_base.specs.Same.{AlikeBy, alike_set, zeros, no_components}
 use Rattle.asn_base.specs.Schemas.{IsAlphabet, is_character, NumbersAscend, AreItems, AreNamedBits, HasTag, is_addition, AreListed, TagsAscend, AreAlternatives, AreElementsOf, IsSound, IsDefaultCircle, IsSchema}
 use Rattle.asn_base.proofs.Rows.{to_7}
@@ -24,8 +24,8 @@ components_256 a = a.few_root
 additions_64 : {s : List Resolved} {e : Bool} {cs : List Component} (a : AreListed s e cs) → length a.more ≤ 64
 additions_64 a = a.few_more
 
-additions_behind : {s : List Resolved} {e : Bool} {cs : List Component} (a : AreListed s e cs) → AllByRecursion (λ c. is_addition c ≡ true) a.more
-additions_behind a = a.behind
+additions_after : {s : List Resolved} {e : Bool} {cs : List Component} (a : AreListed s e cs) → AllByRecursion (λ c. is_addition c ≡ true) a.more
+additions_after a = a.behind
 
 none_in_root : {s : List Resolved} {e : Bool} {cs : List Component} (a : AreListed s e cs) → AllByRecursion (λ c. is_addition c ≡ false) a.root
 none_in_root a = a.in_root
@@ -106,13 +106,13 @@ by_number_within g f e l = inr (ap class_rank e, l)
 
 -- ---- sizes at the greatest: seven bits, octets, characters and elements of at most seven
 
-seven_bits : Fits (a_bit_string to_7) (bits (true ∷ true ∷ true ∷ true ∷ true ∷ true ∷ true ∷ []))
+seven_bits : IsPrimitive (a_bit_string to_7) (bits (true ∷ true ∷ true ∷ true ∷ true ∷ true ∷ true ∷ []))
 seven_bits = fits_bits (inl (omega (arith, ints), omega (arith, ints)))
 
-seven_octets : Fits (an_octet_string to_7) (octets (1 ∷ 2 ∷ 3 ∷ 4 ∷ 5 ∷ 6 ∷ 7 ∷ []))
+seven_octets : IsPrimitive (an_octet_string to_7) (octets (1 ∷ 2 ∷ 3 ∷ 4 ∷ 5 ∷ 6 ∷ 7 ∷ []))
 seven_octets = fits_octets (lit< tt, (lit< tt, (lit< tt, (lit< tt, (lit< tt, (lit< tt, (lit< tt, tt))))))) (inl (omega (arith, ints), omega (arith, ints)))
 
-seven_characters : Fits (a_restricted_string Numeric (48 ∷ []) to_7) (text (48 ∷ 48 ∷ 48 ∷ 48 ∷ 48 ∷ 48 ∷ 48 ∷ []))
+seven_characters : IsPrimitive (a_restricted_string Numeric (48 ∷ []) to_7) (text (48 ∷ 48 ∷ 48 ∷ 48 ∷ 48 ∷ 48 ∷ 48 ∷ []))
 seven_characters = fits_restricted (is_first, (is_first, (is_first, (is_first, (is_first, (is_first, (is_first, tt))))))) (inl (omega (arith, ints), omega (arith, ints)))
 
 abbrev nulls : List Resolved
@@ -133,14 +133,14 @@ extensible_set = value_in (record { found = refl }) (of_set no_component (λ g h
 extensible_alike : AlikeBy nulls (a_set true []) (fields end) (fields end)
 extensible_alike = alike_set no_components
 
-no_named_bits : Fits (a_named_bit_string []) (bits [])
+no_named_bits : IsPrimitive (a_named_bit_string []) (bits [])
 no_named_bits = fits_named_bits
 
 zeros_without_names : AlikeBy nulls (a_named_bit_string []) (bits (false ∷ [])) (bits [])
 zeros_without_names = zeros 0 1 refl
 
 -- RELATIVE-OID has at least one number, and the greatest is 2^64 - 1
-one_number : Fits a_relative_oid (relative_oid (18446744073709551615 ∷ []))
+one_number : IsPrimitive a_relative_oid (relative_oid (18446744073709551615 ∷ []))
 one_number = fits_relative_oid (record { some = lit< tt; at_most = lit< tt; small = (lit< tt, tt) })
 
 no_number : IsRelativeOid [] → ⊥

@@ -17,7 +17,7 @@ use Rattle.asn_base.specs.declared.schema.Core.TheVariants as cores
 use Rattle.asn_base.specs.declared.schema.Resolved.{Resolved as Resolved'}
 use Rattle.asn_base.specs.Abstract.{AbstractValue, abstract, enumerated, text, bits_of_octet, bits_of}
 use Rattle.asn_base.specs.Types.{Constraint, any_number, optional, default, addition, Component, an_enumerated, a_null, a_utf8_string, an_octet_string, a_sequence, a_set, a_set_of, a_choice, Resolved}
-use Rattle.asn_base.specs.Typed.{IsAllowedSize, IsObjectIdentifier, arcs, Fits, fits_enumerated, fits_utf8, IsValue, nodes}
+use Rattle.asn_base.specs.Typed.{IsAllowedSize, IsObjectIdentifier, arcs, IsPrimitive, fits_enumerated, fits_utf8, IsValue, nodes}
 use Rattle.asn_base.specs.Tags.{HasFewTags}
 use Rattle.asn_base.specs.Same.{IsLeaf}
 use Rattle.asn_base.specs.Seen.{range_of, bounds_of, constraint_of, presence_of, component_of, alternative_of, item_of, named_bit_of, kind_of, resolved_of}
@@ -51,7 +51,7 @@ four_bits : (b : BitString) → b.octets.items ≡ 160 ∷ [] → b.unused ≡ 4
 four_bits b e f = ap (λ o. take (8 * length o - b.unused) (flat_map bits_of_octet o)) e ∙ ap (λ n. take (8 - n) (bits_of_octet 160)) f
 
 -- the size of a UTF8String is in characters
-size_in_characters : {c : Constraint} {o : List ℕ} → Fits (a_utf8_string c) (text o) → IsAllowedSize c (length (chars o))
+size_in_characters : {c : Constraint} {o : List ℕ} → IsPrimitive (a_utf8_string c) (text o) → IsAllowedSize c (length (chars o))
 size_in_characters (fits_utf8 u a) = a
 
 -- an object identifier has at most 64 numbers, each below 2^64 and the first at most 2
@@ -68,7 +68,7 @@ below_2_64 : {x y z : ℕ} {zs : List ℕ} → IsObjectIdentifier (x ∷ y ∷ z
 below_2_64 (arcs a b c d e) = d.0
 
 -- an item after the marker is an item
-new_item : Fits (an_enumerated (record { name = []; number = pos 0 } ∷ []) true (record { name = []; number = pos 2 } ∷ [])) (enumerated (pos 2))
+new_item : IsPrimitive (an_enumerated (record { name = []; number = pos 0 } ∷ []) true (record { name = []; number = pos 2 } ∷ [])) (enumerated (pos 2))
 new_item = fits_enumerated (lit< tt) (inr (inl refl))
 
 -- a value has at most 2^24 nodes

@@ -6,27 +6,27 @@ use Rattle.asn_base.specs.declared.strings.StringKind.TheVariants.{Numeric}
 use Rattle.asn_base.specs.Abstract.{AbstractValue, integer, enumerated, bits, octets, text, null, fields, list, alternative, Row, end, absent, present}
 use Rattle.asn_base.specs.Names.{IsMember, is_first, is_later}
 use Rattle.asn_base.specs.Types.{Constraint, NamedBit, Alternative, Presence, mandatory, optional, default, addition, Component, Kind, a_boolean, an_integer, an_enumerated, a_bit_string, a_named_bit_string, an_octet_string, a_null, a_utf8_string, a_restricted_string, a_sequence, a_set, a_sequence_of, a_set_of, a_choice, Resolved}
-use Rattle.asn_base.specs.Typed.{Fits, fits_integer, fits_enumerated, fits_bits, fits_octets, fits_utf8, fits_restricted, ValueOf, of_leaf, of_sequence, of_set, of_sequence_of, of_set_of, of_choice, members, component_absent, component_present}
+use Rattle.asn_base.specs.Typed.{IsPrimitive, fits_integer, fits_enumerated, fits_bits, fits_octets, fits_utf8, fits_restricted, ValueOf, of_leaf, of_sequence, of_set, of_sequence_of, of_set_of, of_choice, members, component_absent, component_present}
 use Rattle.asn_base.specs.Same.{Alike, alike, AlikeBy, equal, zeros, alike_choice, AlikeComponents, first_default, AlikeElements, alike_element, AlikeInAnyOrder, none_left, pair, Inserted, here, there}
-use Rattle.asn_base.specs.Tags.{first_tag, AllTellable}
+use Rattle.asn_base.specs.Tags.{first_tag, AllHaveDistinctTags}
 use Rattle.asn_base.proofs.Rows.{to_7, row}
 use Rattle.asn_base.proofs.Sameness.{by_at, same_kind}
 
 -- ---- sizes and ranges: eight if at most seven are allowed
 
-pub nine : Fits (an_integer to_7) (integer (pos 9)) → ⊥
+pub nine : IsPrimitive (an_integer to_7) (integer (pos 9)) → ⊥
 nine (fits_integer l a) = ⊎_elim (λ h. (let g = h.1 in omega (arith, ints))) (λ b. b) a
 
-pub eight_bits : (s : List Bool) → length s ≡ 8 → Fits (a_bit_string to_7) (bits s) → ⊥
+pub eight_bits : (s : List Bool) → length s ≡ 8 → IsPrimitive (a_bit_string to_7) (bits s) → ⊥
 eight_bits s e (fits_bits a) = ⊎_elim (λ h. (let g = h.1 in omega (arith, ints))) (λ b. b) a
 
-pub eight_octets : (o : List ℕ) → length o ≡ 8 → Fits (an_octet_string to_7) (octets o) → ⊥
+pub eight_octets : (o : List ℕ) → length o ≡ 8 → IsPrimitive (an_octet_string to_7) (octets o) → ⊥
 eight_octets o e (fits_octets b a) = ⊎_elim (λ h. (let g = h.1 in omega (arith, ints))) (λ b. b) a
 
-pub eight_characters : (o : List ℕ) → length o ≡ 8 → Fits (a_restricted_string Numeric (48 ∷ []) to_7) (text o) → ⊥
+pub eight_characters : (o : List ℕ) → length o ≡ 8 → IsPrimitive (a_restricted_string Numeric (48 ∷ []) to_7) (text o) → ⊥
 eight_characters o e (fits_restricted m a) = ⊎_elim (λ h. (let g = h.1 in omega (arith, ints))) (λ b. b) a
 
-pub eight_of_utf8 : (o : List ℕ) → length (chars o) ≡ 8 → Fits (a_utf8_string to_7) (text o) → ⊥
+pub eight_of_utf8 : (o : List ℕ) → length (chars o) ≡ 8 → IsPrimitive (a_utf8_string to_7) (text o) → ⊥
 eight_of_utf8 o e (fits_utf8 u a) = ⊎_elim (λ h. (let g = h.1 in omega (arith, ints))) (λ b. b) a
 
 pub eight_in_list : (s : List Resolved) (n u : ℕ) (vs : Row) → members vs ≡ 8 → ValueOf s n (a_sequence_of to_7 u) (list vs) → ⊥
@@ -42,18 +42,18 @@ one_of_zero : {x : ℕ} → IsMember x (48 ∷ []) → x ≡ 49 → ⊥
 one_of_zero is_first e = omega arith
 one_of_zero (is_later m) e = elim m [ ]
 
-pub other_character : (c : Constraint) → Fits (a_restricted_string Numeric (48 ∷ []) c) (text (48 ∷ 49 ∷ [])) → ⊥
+pub other_character : (c : Constraint) → IsPrimitive (a_restricted_string Numeric (48 ∷ []) c) (text (48 ∷ 49 ∷ [])) → ⊥
 other_character c (fits_restricted m a) = one_of_zero m.1.0 refl
 
 -- an item that an enumeration lacks
-pub other_item : Fits (an_enumerated (record { name = []; number = pos 0 } ∷ []) false []) (enumerated (pos 1)) → ⊥
+pub other_item : IsPrimitive (an_enumerated (record { name = []; number = pos 0 } ∷ []) false []) (enumerated (pos 1)) → ⊥
 other_item (fits_enumerated l h) = ⊎_elim (λ e. omega (arith, ints)) (λ b. b) h
 
 -- a number isn't a value of a BOOLEAN, nor is a text one of an OCTET STRING
-pub number_of_boolean : Fits a_boolean (integer (pos 1)) → ⊥
+pub number_of_boolean : IsPrimitive a_boolean (integer (pos 1)) → ⊥
 number_of_boolean f = elim f [ ]
 
-pub text_of_octets : (c : Constraint) → Fits (an_octet_string c) (text []) → ⊥
+pub text_of_octets : (c : Constraint) → IsPrimitive (an_octet_string c) (text []) → ⊥
 text_of_octets c f = elim f [ ]
 
 -- ---- components and alternatives
@@ -177,11 +177,11 @@ half_a_group_of_set (of_leaf f) = elim f [ ]
 abbrev twice : Kind → List Resolved
 twice k = row a_null ∷ row k ∷ []
 
-pub twice_in_set : AllTellable (twice (a_set false (part mandatory ∷ part mandatory ∷ []))) → ⊥
+pub twice_in_set : AllHaveDistinctTags (twice (a_set false (part mandatory ∷ part mandatory ∷ []))) → ⊥
 twice_in_set a = (a 1 _ _ (record { found = refl })).0.0 _ (first_tag (record { found = refl })) (first_tag (record { found = refl }))
 
-pub twice_in_choice : AllTellable (twice (a_choice (an_alternative 0 ∷ []) true (an_alternative 0 ∷ []))) → ⊥
+pub twice_in_choice : AllHaveDistinctTags (twice (a_choice (an_alternative 0 ∷ []) true (an_alternative 0 ∷ []))) → ⊥
 twice_in_choice a = (a 1 _ _ (record { found = refl })).0.0 _ (first_tag (record { found = refl })) (first_tag (record { found = refl }))
 
-pub twice_in_sequence : AllTellable (twice (a_sequence true (part optional ∷ part (addition false None) ∷ []))) → ⊥
+pub twice_in_sequence : AllHaveDistinctTags (twice (a_sequence true (part optional ∷ part (addition false None) ∷ []))) → ⊥
 twice_in_sequence a = ((a 1 _ _ (record { found = refl })).0 refl).0 _ (first_tag (record { found = refl })) (first_tag (record { found = refl }))

@@ -6,11 +6,11 @@ use Rattle.std.specs.List.{AllByRecursion}
 use Rattle.asn_base.specs.declared.tag.Tag.{Tag}
 use Rattle.asn_base.specs.Abstract.{AbstractValue, Row}
 use Rattle.asn_base.specs.Types.{any_number, any_size, Kind, a_boolean, an_integer, an_enumerated, a_bit_string, a_named_bit_string, an_octet_string, a_null, an_object_identifier, a_relative_oid, a_utf8_string, a_restricted_string, a_sequence, a_set, a_sequence_of, a_set_of, a_choice, Presence, mandatory, optional, default, addition, Component, Resolved, Is}
-use Rattle.asn_base.specs.Typed.{Fits, fits_boolean, fits_integer, fits_octets, ValueIn, value_in, ValueOf, of_leaf, of_sequence, of_set, of_sequence_of, of_set_of, of_choice, AreComponents, no_component, component_absent, component_present, nodes, row_nodes, IsValue}
-use Rattle.asn_base.specs.Accepted.{IsSimple, IsSimpleMember, AreSimpleMembers, IsOfFirstStage, IsAcceptedType, IsAccepted}
+use Rattle.asn_base.specs.Typed.{IsPrimitive, fits_boolean, fits_integer, fits_octets, ValueIn, value_in, ValueOf, of_leaf, of_sequence, of_set, of_sequence_of, of_set_of, of_choice, AreComponents, no_component, component_absent, component_present, nodes, row_nodes, IsValue}
+use Rattle.asn_base.specs.Accepted.{IsSimple, IsSimpleMember, AreSimpleMembers, IsOfFirstStage, IsSimpleType, AllSimple}
 use Rattle.asn_base.specs.Schemas.{AreBounds, IsNumber, IsSize, is_addition, HasValue, AreListed, IsSound, components, IsSchema}
 use Rattle.asn_base.specs.Names.{IsMember, is_first, is_later}
-use Rattle.asn_base.specs.Tags.{is_mandatory, RunsApart, IsTellable, AllTellable, AllTagged}
+use Rattle.asn_base.specs.Tags.{is_mandatory, RunsApart, HasDistinctTags, AllHaveDistinctTags, AllTagged}
 use Rattle.asn_base.proofs.Lists.{at_place, all_mapped, all_append, found_still}
 
 member_still : (s : List Resolved) (r : Resolved) (c : Component) → IsSimpleMember s c → IsSimpleMember (s ++ (r ∷ [])) c
@@ -34,20 +34,20 @@ kind_still s r (a_sequence_of c u) a = a
 kind_still s r (a_set_of c u) a = a
 kind_still s r (a_choice root e more) a = a
 
-pub type_still : (s : List Resolved) (r q : Resolved) → IsAcceptedType s q → IsAcceptedType (s ++ (r ∷ [])) q
+pub type_still : (s : List Resolved) (r q : Resolved) → IsSimpleType s q → IsSimpleType (s ++ (r ∷ [])) q
 type_still s r q a = record { tagged = a.tagged; few_tags = a.few_tags; kind = kind_still s r q.kind a.kind }
 
-pub grows : (s : List Resolved) (r : Resolved) → IsAccepted s → IsAcceptedType s r → IsAccepted (s ++ (r ∷ []))
-grows s r a b = all_append (IsAcceptedType (s ++ (r ∷ []))) s r (all_mapped (IsAcceptedType s) (IsAcceptedType (s ++ (r ∷ []))) (type_still s r) s a) (type_still s r r b)
+pub grows : (s : List Resolved) (r : Resolved) → AllSimple s → IsSimpleType s r → AllSimple (s ++ (r ∷ []))
+grows s r a b = all_append (IsSimpleType (s ++ (r ∷ []))) s r (all_mapped (IsSimpleType s) (IsSimpleType (s ++ (r ∷ []))) (type_still s r) s a) (type_still s r r b)
 
 -- the kind of a type that is found
-pub kind_of_type : {s : List Resolved} {t : ℕ} {tags : List Tag} {k : Kind} → IsAccepted s → Is s t tags k → IsOfFirstStage s k
-kind_of_type {s} {t} a i = (at_place (IsAcceptedType s) s t _ i.found a).kind
+pub kind_of_type : {s : List Resolved} {t : ℕ} {tags : List Tag} {k : Kind} → AllSimple s → Is s t tags k → IsOfFirstStage s k
+kind_of_type {s} {t} a i = (at_place (IsSimpleType s) s t _ i.found a).kind
 
 kind_found : {o : Option Resolved} {r : Resolved} → o ≡ Some r → IsSomeAnd o (λ q. IsSimple q.kind) → IsSimple r.kind
 kind_found {o} {r} e h = subst (λ q. IsSomeAnd q (λ p. IsSimple p.kind)) e h
 
-leaf_nodes : {k : Kind} {v : AbstractValue} → Fits k v → IsSimple k → nodes v ≡ 1
+leaf_nodes : {k : Kind} {v : AbstractValue} → IsPrimitive k v → IsSimple k → nodes v ≡ 1
 leaf_nodes fits_boolean s = refl
 leaf_nodes (fits_integer l a) s = refl
 leaf_nodes (fits_octets l a) s = refl
@@ -77,15 +77,15 @@ kind_nodes {k = a_sequence e cs} (of_sequence a g) m = let r = rows_nodes a m.1.
 kind_nodes {k = a_sequence e cs} (of_leaf f) m = elim f [ ]
 kind_nodes {k = k} a m = absurd m
 
-pub few_nodes : (s : List Resolved) (n t : ℕ) (v : AbstractValue) → IsAccepted s → ValueIn s n t v → nodes v ≤ 257
+pub few_nodes : (s : List Resolved) (n t : ℕ) (v : AbstractValue) → AllSimple s → ValueIn s n t v → nodes v ≤ 257
 few_nodes s n t v a (value_in i b) = kind_nodes b (kind_of_type a i)
 
-pub is_value : (s : List Resolved) (t : ℕ) (v : AbstractValue) → IsAccepted s → ValueIn s 64 t v → IsValue s t v
+pub is_value : (s : List Resolved) (t : ℕ) (v : AbstractValue) → AllSimple s → ValueIn s 64 t v → IsValue s t v
 is_value s t v a b = record { shaped = b; few_nodes = let l = few_nodes s 64 t v a b in omega arith }
 
-pub all_tagged : (s : List Resolved) → IsAccepted s → AllTagged s
+pub all_tagged : (s : List Resolved) → AllSimple s → AllTagged s
 all_tagged s a t k i =
-    let some = (at_place (IsAcceptedType s) s t _ i.found a).tagged in absurd (omega arith)
+    let some = (at_place (IsSimpleType s) s t _ i.found a).tagged in absurd (omega arith)
 
 must_stand : (c : Component) → c.presence ≡ mandatory → is_mandatory c ≡ false → ⊥
 must_stand c e f = let g : true ≡ false = ap mandatory_is (sym e) ∙ f in cc
@@ -100,14 +100,14 @@ runs_apart : (s : List Resolved) (cs : List Component) → AllByRecursion (IsSim
 runs_apart s [] a = tt
 runs_apart s (c ∷ cs) a = ((λ f. absurd (must_stand c a.0.0 f)), runs_apart s cs a.1)
 
-kind_tellable : (s : List Resolved) (k : Kind) → IsOfFirstStage s k → IsTellable s k
-kind_tellable s (a_sequence e cs) a = runs_apart s cs a.1.members
-kind_tellable s (a_set e cs) a = absurd a
-kind_tellable s (a_choice root e more) a = absurd a
-kind_tellable s k a = tt
+kind_distinct : (s : List Resolved) (k : Kind) → IsOfFirstStage s k → HasDistinctTags s k
+kind_distinct s (a_sequence e cs) a = runs_apart s cs a.1.members
+kind_distinct s (a_set e cs) a = absurd a
+kind_distinct s (a_choice root e more) a = absurd a
+kind_distinct s k a = tt
 
-pub all_tellable : (s : List Resolved) → IsAccepted s → AllTellable s
-all_tellable s a t tags k i = kind_tellable s k (kind_of_type a i)
+pub all_tags_distinct : (s : List Resolved) → AllSimple s → AllHaveDistinctTags s
+all_tags_distinct s a t tags k i = kind_distinct s k (kind_of_type a i)
 
 -- ---- what today's types keep is what a schema keeps
 
@@ -207,11 +207,11 @@ kind_circle s (an_integer n) a m = elim m [ ]
 kind_circle s (an_octet_string n) a m = elim m [ ]
 kind_circle s k a m = absurd a
 
-pub is_schema : (s : List Resolved) → IsAccepted s → IsSchema s
+pub is_schema : (s : List Resolved) → AllSimple s → IsSchema s
 is_schema s a = record {
   tagged = all_tagged s a;
-  tellable = all_tellable s a;
-  few_tags = λ t tags k i. (at_place (IsAcceptedType s) s t _ i.found a).few_tags;
+  distinct_tags = all_tags_distinct s a;
+  few_tags = λ t tags k i. (at_place (IsSimpleType s) s t _ i.found a).few_tags;
   sound = λ t tags k i. kind_sound s k (kind_of_type a i);
   no_circle = λ t i. no_default (kind_circle s i.kind (kind_of_type a i.is) i.stands) i.has_default;
 }

@@ -28,11 +28,11 @@ IsOfFirstStage s (a_sequence e cs) = (e ≡ false) × AreSimpleMembers s cs
 IsOfFirstStage s k = IsSimple k
 
 -- a type of a simple kind, or of such a SEQUENCE, with one to six tags
-pub record IsAcceptedType (s : List Resolved) (r : Resolved) : Type 0 where
+pub record IsSimpleType (s : List Resolved) (r : Resolved) : Type 0 where
   pub tagged : 0 < length r.tags
   pub few_tags : length r.tags ≤ 6
   pub kind : IsOfFirstStage s r.kind
 
 -- each type of the schema is an accepted type
-abbrev pub IsAccepted : List Resolved → Type 0
-IsAccepted s = AllByRecursion (IsAcceptedType s) s
+abbrev pub AllSimple : List Resolved → Type 0
+AllSimple s = AllByRecursion (IsSimpleType s) s

@@ -14,13 +14,13 @@ abbrev pub IsChosen : List Resolved → ℕ → List Alternative → ℕ → Abs
 IsChosen s n as' i v = (a : Alternative) × (slice_get as' i ≡ Some a) × ValueIn s n a.type v
 
 -- a value of this kind that holds other values, each of which has at most n levels
-abbrev pub Holds : List Resolved → ℕ → Kind → AbstractValue → Type 0
-Holds s n (a_sequence e cs) (fields vs) = AreComponents s n cs vs × GroupsAreWhole cs vs
-Holds s n (a_set e cs) (fields vs) = AreComponents s n cs vs × GroupsAreWhole cs vs
-Holds s n (a_sequence_of c u) (list vs) = AreElements s n u vs × IsAllowedSize c (members vs)
-Holds s n (a_set_of c u) (list vs) = AreElements s n u vs × IsAllowedSize c (members vs)
-Holds s n (a_choice root e more) (alternative i v) = IsChosen s n (root ++ more) i v
-Holds s n k v = ⊥
+abbrev pub HoldsMembers : List Resolved → ℕ → Kind → AbstractValue → Type 0
+HoldsMembers s n (a_sequence e cs) (fields vs) = AreComponents s n cs vs × GroupsAreWhole cs vs
+HoldsMembers s n (a_set e cs) (fields vs) = AreComponents s n cs vs × GroupsAreWhole cs vs
+HoldsMembers s n (a_sequence_of c u) (list vs) = AreElements s n u vs × IsAllowedSize c (members vs)
+HoldsMembers s n (a_set_of c u) (list vs) = AreElements s n u vs × IsAllowedSize c (members vs)
+HoldsMembers s n (a_choice root e more) (alternative i v) = IsChosen s n (root ++ more) i v
+HoldsMembers s n k v = ⊥
 
 -- a value of the component, or its absence, if the component may be absent
 abbrev pub IsComponent : List Resolved → ℕ → Component → Option AbstractValue → Type 0

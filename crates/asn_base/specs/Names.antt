@@ -5,7 +5,7 @@ use Rattle.std.specs.List.{AllByRecursion}
 
 -- whether octets can follow the first one of an identifier (X.680, clause 12.3): letters, digits and hyphens, of which
 -- none is last or comes after another. The flag says that a hyphen came directly before.
-abbrev pub goes_on : (behind_hyphen : Bool) → List ℕ → Bool
+abbrev pub goes_on : (after_hyphen : Bool) → List ℕ → Bool
 goes_on true [] = false
 goes_on false [] = true
 goes_on true (x ∷ xs) = is_ascii_alphanumeric x && goes_on false xs

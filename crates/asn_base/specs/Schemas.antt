@@ -13,7 +13,7 @@ use Rattle.asn_base.specs.Types.{Range, Constraint, Item, NamedBit, Alternative,
 use Rattle.asn_base.specs.Types.{a_bit_string, a_named_bit_string, an_octet_string, a_utf8_string, a_restricted_string}
 use Rattle.asn_base.specs.Types.{a_sequence, a_set, a_sequence_of, a_set_of, a_choice, mandatory, optional, default}
 use Rattle.asn_base.specs.Types.{addition, Component, Resolved, Is}
-use Rattle.asn_base.specs.Tags.{First, TagBefore, AllTagged, AllTellable, HasFewTags}
+use Rattle.asn_base.specs.Tags.{First, TagBefore, AllTagged, AllHaveDistinctTags, HasFewTags}
 use Rattle.asn_base.specs.Typed.{HasNumber, IsInSome, IsOfGroup, IsWithinLimit, IsValue}
 
 -- ---- constraints
@@ -202,15 +202,15 @@ types_in (a_choice root e more) = map (λ a. a.type) (root ++ more)
 types_in k = []
 
 -- type t of schema s is of kind k, or contains a type of kind k at any depth
-pub data LeadsTo (s : List Resolved) (k : Kind) : ℕ → Type 0 where
+pub data PathLeadsTo (s : List Resolved) (k : Kind) : ℕ → Type 0 where
   leads_itself : {t : ℕ} {tags : List Tag}
       → Is s t tags k
-      → LeadsTo s k t
+      → PathLeadsTo s k t
   leads_onward : {t u : ℕ} {tags : List Tag} {m : Kind}
       → Is s t tags m
       → IsMember u (types_in m)
-      → LeadsTo s k u
-      → LeadsTo s k t
+      → PathLeadsTo s k u
+      → PathLeadsTo s k t
 
 -- Type t of schema s has a component with a DEFAULT whose type leads back to the kind that contains the component (own
 -- rule). The meaning of the DEFAULT would depend on itself.
@@ -222,13 +222,13 @@ pub record IsDefaultCircle (s : List Resolved) (t : ℕ) : Type 0 where
   pub stands : IsMember component (components kind)
   pub value : AbstractValue
   pub has_default : component.presence ≡ default value
-  pub back : LeadsTo s kind component.type
+  pub back : PathLeadsTo s kind component.type
 
 -- The list of types is an accepted schema: each type is sound and has few tags, first tags are distinct where they must
 -- be, and no DEFAULT depends on itself.
 pub record IsSchema (s : List Resolved) : Type 0 where
   pub tagged : AllTagged s
-  pub tellable : AllTellable s
+  pub distinct_tags : AllHaveDistinctTags s
   pub few_tags : HasFewTags s
   pub sound : (t : ℕ) (tags : List Tag) (k : Kind) → Is s t tags k → IsSound s k
   pub no_circle : (t : ℕ) → IsDefaultCircle s t → ⊥

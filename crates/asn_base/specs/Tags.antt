@@ -50,16 +50,16 @@ RunsApart s (c ∷ cs) =
 
 -- First tags are distinct where this kind needs it, which is in each run of a SEQUENCE, in a SET, and in a CHOICE
 -- (X.680, clauses 25.6.1, 27.3 and 29.3).
-abbrev pub IsTellable : List Resolved → Kind → Type 0
-IsTellable s (a_sequence e cs) = RunsApart s cs
-IsTellable s (a_set e cs) = AllApart s (map (λ c. c.type) cs)
-IsTellable s (a_choice root e more) = AllApart s (map (λ a. a.type) (root ++ more))
-IsTellable s k = Unit {0}
+abbrev pub HasDistinctTags : List Resolved → Kind → Type 0
+HasDistinctTags s (a_sequence e cs) = RunsApart s cs
+HasDistinctTags s (a_set e cs) = AllApart s (map (λ c. c.type) cs)
+HasDistinctTags s (a_choice root e more) = AllApart s (map (λ a. a.type) (root ++ more))
+HasDistinctTags s k = Unit {0}
 
 -- first tags are distinct in each SET and CHOICE of the schema, and in each SEQUENCE within its runs (X.680, clauses
 -- 25.6.1, 27.3 and 29.3)
-abbrev pub AllTellable : List Resolved → Type 0
-AllTellable s = (t : ℕ) (tags : List Tag) (k : Kind) → Is s t tags k → IsTellable s k
+abbrev pub AllHaveDistinctTags : List Resolved → Type 0
+AllHaveDistinctTags s = (t : ℕ) (tags : List Tag) (k : Kind) → Is s t tags k → HasDistinctTags s k
 
 -- the kind of resolved type is a CHOICE
 abbrev pub IsChoice : Kind → Type 0

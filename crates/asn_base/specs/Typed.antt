@@ -61,39 +61,39 @@ pub record IsRelativeOid (ns : List ℕ) : Type 0 where
 
 -- Value v, in its form, number, size, characters and items, is one that kind k allows; k is a kind whose values hold no
 -- others.
-pub data Fits : Kind → AbstractValue → Type 0 where
-  fits_boolean : {b : Bool} → Fits a_boolean (boolean b)
+pub data IsPrimitive : Kind → AbstractValue → Type 0 where
+  fits_boolean : {b : Bool} → IsPrimitive a_boolean (boolean b)
   fits_integer : {c : Constraint} {z : ℤ}
       → IsWithinLimit z
       → IsAllowed c z
-      → Fits (an_integer c) (integer z)
+      → IsPrimitive (an_integer c) (integer z)
   -- an item of the root or an addition has the number
   fits_enumerated : {root more : List Item} {e : Bool} {z : ℤ}
       → IsWithinLimit z
       → HasNumber (root ++ more) z
-      → Fits (an_enumerated root e more) (enumerated z)
+      → IsPrimitive (an_enumerated root e more) (enumerated z)
   fits_bits : {c : Constraint} {s : List Bool}
       → IsAllowedSize c (length s)
-      → Fits (a_bit_string c) (bits s)
+      → IsPrimitive (a_bit_string c) (bits s)
   -- any bits are allowed: a BIT STRING with named bits takes no SIZE (own rule)
-  fits_named_bits : {ns : List NamedBit} {s : List Bool} → Fits (a_named_bit_string ns) (bits s)
+  fits_named_bits : {ns : List NamedBit} {s : List Bool} → IsPrimitive (a_named_bit_string ns) (bits s)
   fits_octets : {c : Constraint} {o : List ℕ}
       → AllBelowBase 256 o
       → IsAllowedSize c (length o)
-      → Fits (an_octet_string c) (octets o)
-  fits_null : Fits a_null null
-  fits_oid : {ns : List ℕ} → IsObjectIdentifier ns → Fits an_object_identifier (oid ns)
-  fits_relative_oid : {ns : List ℕ} → IsRelativeOid ns → Fits a_relative_oid (relative_oid ns)
+      → IsPrimitive (an_octet_string c) (octets o)
+  fits_null : IsPrimitive a_null null
+  fits_oid : {ns : List ℕ} → IsObjectIdentifier ns → IsPrimitive an_object_identifier (oid ns)
+  fits_relative_oid : {ns : List ℕ} → IsRelativeOid ns → IsPrimitive a_relative_oid (relative_oid ns)
   -- the size is the number of characters
   fits_utf8 : {c : Constraint} {o : List ℕ}
       → IsUtf8 o
       → IsAllowedSize c (length (chars o))
-      → Fits (a_utf8_string c) (text o)
+      → IsPrimitive (a_utf8_string c) (text o)
   -- each octet is the code of a character of the alphabet
   fits_restricted : {k : StringKind} {alphabet : List ℕ} {c : Constraint} {o : List ℕ}
       → AllByRecursion (λ x. IsMember x alphabet) o
       → IsAllowedSize c (length o)
-      → Fits (a_restricted_string k alphabet c) (text o)
+      → IsPrimitive (a_restricted_string k alphabet c) (text o)
 
 -- the number of places in a row, those of absent components included
 abbrev pub members : Row → ℕ
@@ -139,7 +139,7 @@ mutual
 
   -- v is a value of kind k of schema s, and its members have at most n levels
   pub data ValueOf (s : List Resolved) : ℕ → Kind → AbstractValue → Type 0 where
-    of_leaf : {n : ℕ} {k : Kind} {v : AbstractValue} → Fits k v → ValueOf s n k v
+    of_leaf : {n : ℕ} {k : Kind} {v : AbstractValue} → IsPrimitive k v → ValueOf s n k v
     of_sequence : {n : ℕ} {e : Bool} {cs : List Component} {vs : Row}
         → AreComponents s n cs vs
         → GroupsAreWhole cs vs

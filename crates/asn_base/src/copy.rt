@@ -3,7 +3,7 @@
 ghost use Rattle.asn_base.specs.Abstract.{abstract, bits_of};
 ghost use Rattle.std.specs.Prelude.{◌≡◌, ◌++◌, ◌∷◌, [], IfOk, OnOk, map, option_map};
 
-use crate::law::abstract_values;
+use crate::law::lemma_abstract_values;
 use crate::value::{BitString, Value};
 use std::alloc::{AllocError, Global};
 
@@ -39,7 +39,7 @@ pub(crate) fn add<T: Drop>(list: &mut Vec<T>, one: T) -> Result<(), AllocError>
 fn copied(alloc: Global, value: &Value) -> Result<Value, AllocError>
     ensures { IfOk result (λ v. abstract v ≡ abstract value.now) }
 {
-    abstract_values();
+    lemma_abstract_values();
     match value {
         Value::Bool(truth) => Ok(Value::Bool(*truth)),
         Value::Int(number) => Ok(Value::Int(*number)),

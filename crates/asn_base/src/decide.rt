@@ -1,7 +1,7 @@
 //! Whether a value is one of the values of a type.
 
 ghost use Rattle.asn_base.specs.Abstract.{abstract, row_of_list, row_of_options};
-ghost use Rattle.asn_base.specs.Decided.{HasComponent, Holds, IsChosen, IsComponent, nodes_of};
+ghost use Rattle.asn_base.specs.Decided.{HasComponent, HoldsMembers, IsChosen, IsComponent, nodes_of};
 ghost use Rattle.asn_base.specs.Depths.{AreKnown, AreOf, IsDepth, IsOf, depth_at, rows_of};
 ghost use Rattle.asn_base.specs.Seen.{alternative_of, component_of, constraint_of, kind_of};
 ghost use Rattle.asn_base.specs.Typed.{AreComponents, AreElements, GroupsAreWhole, IsAllowedSize, IsValue, IsValueWithoutNodes, ValueIn, members, nodes, row_nodes};
@@ -12,7 +12,7 @@ ghost use Rattle.std.specs.Prelude.{length, map, option_map, slice_get};
 use crate::constraint::Constraint;
 use crate::depths::{components_of, depth_of};
 use crate::groups::is_kept;
-use crate::law::abstract_values;
+use crate::law::lemma_abstract_values;
 use crate::leaf::{fits, fits_at_once, is_allowed_size};
 use crate::schema::{Alternatives, Component, Core, Presence, Schema, TypeId};
 use crate::value::Value;
@@ -38,7 +38,7 @@ pub fn is_value_without_nodes(value: &Value, schema: &Schema, id: TypeId) -> boo
 
 /// Whether the component at this place of the type may be absent from a value whose parts have at most `levels` levels:
 /// it is not mandatory, and its DEFAULT, if it has one, has at most so many levels. The function takes constant time
-/// once `Schema::measure` has found the levels of the defaults.
+/// once `Schema::cache_default_depths` has found the levels of the defaults.
 pub fn may_be_absent(schema: &Schema, id: TypeId, place: usize, levels: u8) -> bool
     requires there { (c : Component') × HasComponent schema.now id.index place c }
     requires few { levels ≤ 63 }
@@ -138,10 +138,10 @@ fn holds(
 ) -> bool
     requires known { AreKnown schema.now levels depths.now }
     requires of { IsOf schema.now id.index (kind_of core.now) }
-    ensures is { IsTrue result ↔ Holds schema.now levels (kind_of core.now) (abstract value.now) }
+    ensures is { IsTrue result ↔ HoldsMembers schema.now levels (kind_of core.now) (abstract value.now) }
     ensures nodes { IsTrue result → left.new ≡ left.old - (nodes (abstract value.now) - 1) }
 {
-    abstract_values();
+    lemma_abstract_values();
     match core {
         Core::Sequence(_, components) => match value {
             Value::Fields(values) => are_fields(

@@ -10,7 +10,7 @@ ghost use Rattle.std.specs.Prelude.{◌≡◌, ◌↔◌, IsTrue, map, option_ma
 
 use crate::bits::are_equal_bits;
 use crate::flat::are_equal;
-use crate::law::abstract_values;
+use crate::law::lemma_abstract_values;
 use crate::value::{BitString, Value};
 use std::fmt;
 
@@ -41,7 +41,7 @@ impl Eq for Value {
 fn equal(first: &Value, second: &Value) -> bool
     ensures { IsTrue result ↔ (abstract first.now ≡ abstract second.now) }
 {
-    abstract_values();
+    lemma_abstract_values();
     match first {
         Value::Fields(some) => match second {
             Value::Fields(others) => equal_fields(some.as_slice(), others.as_slice()),

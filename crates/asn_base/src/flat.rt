@@ -4,12 +4,12 @@ ghost use Rattle.asn_base.specs.Abstract.{abstract};
 ghost use Rattle.asn_base.specs.Decided.{IsFlat};
 ghost use Rattle.asn_base.specs.Same.{AlikeBy};
 ghost use Rattle.asn_base.specs.Seen.{kind_of};
-ghost use Rattle.asn_base.specs.Typed.{Fits};
+ghost use Rattle.asn_base.specs.Typed.{IsPrimitive};
 ghost use Rattle.asn_base.specs.Types.{Resolved};
 ghost use Rattle.std.specs.Prelude.{◌≡◌, ◌↔◌, IsTrue, List};
 
 use crate::bits::{are_alike_bits, are_equal_bits};
-use crate::law::abstract_values;
+use crate::law::lemma_abstract_values;
 use crate::schema::Core;
 use crate::value::Value;
 
@@ -17,7 +17,7 @@ use crate::value::Value;
 pub(crate) fn are_equal(first: &Value, second: &Value) -> bool
     ensures { IsFlat (abstract first.now) → (IsTrue result ↔ (abstract first.now ≡ abstract second.now)) }
 {
-    abstract_values();
+    lemma_abstract_values();
     match first {
         Value::Bool(one) => match second {
             Value::Bool(other) => one == other,
@@ -62,11 +62,11 @@ pub(crate) fn are_equal(first: &Value, second: &Value) -> bool
 /// Whether two values of a kind that holds no others are alike.
 pub(crate) fn are_alike_leaves(core: &Core, first: &Value, second: &Value) -> bool
     ensures { (s : List Resolved)
-        → Fits (kind_of core.now) (abstract first.now)
-        → Fits (kind_of core.now) (abstract second.now)
+        → IsPrimitive (kind_of core.now) (abstract first.now)
+        → IsPrimitive (kind_of core.now) (abstract second.now)
         → (IsTrue result ↔ AlikeBy s (kind_of core.now) (abstract first.now) (abstract second.now)) }
 {
-    abstract_values();
+    lemma_abstract_values();
     match core {
         Core::NamedBits(_) => match first {
             Value::Bits(one) => match second {

@@ -10,12 +10,12 @@ ghost use Rattle.asn_base.specs.Abstract.{AbstractValue, Row, boolean, integer, 
 ghost use Rattle.asn_base.specs.Types.{Component, Resolved};
 ghost use Rattle.asn_base.specs.Typed.{group_of, GroupsAreWhole, ValueIn, IsValueWithoutNodes, IsValue, IsWithinLimit, nodes};
 ghost use Rattle.asn_base.specs.Same.{Alike, AlikeComponents, Same};
-ghost use Rattle.asn_base.specs.Accepted.{IsAccepted, IsAcceptedType};
+ghost use Rattle.asn_base.specs.Accepted.{AllSimple, IsSimpleType};
 ghost use Rattle.asn_base.specs.Schemas.{IsSchema};
-ghost use Rattle.asn_base.specs.Tags.{AllTagged, AllTellable};
+ghost use Rattle.asn_base.specs.Tags.{AllTagged, AllHaveDistinctTags};
 
 /// Gives the abstract value of each variant of a value.
-pub fn abstract_values()
+pub fn lemma_abstract_values()
     ensures bool { (b : 𝔹) → abstract (Bool b) ≡ boolean b }
     ensures int { (z : ℤ) → abstract (Int z) ≡ integer z }
     ensures enum_ { (z : ℤ) → abstract (Enum z) ≡ enumerated z }
@@ -32,53 +32,53 @@ pub fn abstract_values()
 {}
 
 /// Every number of 128 bits is within the limit of INTEGER.
-pub fn integer_within_limit(number: i128)
+pub fn lemma_integer_within_limit(number: i128)
     ensures { IsWithinLimit number }
 {}
 
 /// Each type of a schema of simple types is an accepted one. The schema without types is accepted, and an accepted
 /// schema stays accepted if an accepted type is added to it.
-pub fn schemas_grow()
+pub fn lemma_schemas_grow()
     ensures each { (s : List Resolved) (t : ℕ) (r : Resolved)
         → slice_get s t ≡ Some r
-        → IsAccepted s
-        → IsAcceptedType s r }
-    ensures empty { IsAccepted [] }
+        → AllSimple s
+        → IsSimpleType s r }
+    ensures empty { AllSimple [] }
     ensures grows { (s : List Resolved) (r : Resolved)
-        → IsAccepted s
-        → IsAcceptedType s r
-        → IsAccepted (s ++ (r ∷ [])) }
+        → AllSimple s
+        → IsSimpleType s r
+        → AllSimple (s ++ (r ∷ [])) }
 {}
 
 /// Each schema of simple types is a schema.
-pub fn accepted_are_schemas()
-    ensures { (s : List Resolved) → IsAccepted s → IsSchema s }
+pub fn lemma_simple_schemas_are_schemas()
+    ensures { (s : List Resolved) → AllSimple s → IsSchema s }
 {}
 
 /// Each type of an accepted schema, except a CHOICE, has a tag, and first tags are distinct where they must be.
-pub fn accepted_are_told_apart()
-    ensures tagged { (s : List Resolved) → IsAccepted s → AllTagged s }
-    ensures tellable { (s : List Resolved) → IsAccepted s → AllTellable s }
+pub fn lemma_simple_types_have_distinct_tags()
+    ensures tagged { (s : List Resolved) → AllSimple s → AllTagged s }
+    ensures distinct_tags { (s : List Resolved) → AllSimple s → AllHaveDistinctTags s }
 {}
 
 /// A value of an accepted schema is within the limit on nodes: it has at most 256 members, which hold no others.
 pub fn few_nodes()
-    ensures nodes { (s : List Resolved) (n t : ℕ) (v : AbstractValue) → IsAccepted s → ValueIn s n t v → nodes v ≤ 257 }
+    ensures nodes { (s : List Resolved) (n t : ℕ) (v : AbstractValue) → AllSimple s → ValueIn s n t v → nodes v ≤ 257 }
     ensures value { (s : List Resolved) (t : ℕ) (v : AbstractValue)
-        → IsAccepted s
+        → AllSimple s
         → IsValueWithoutNodes s t v
         → IsValue s t v }
 {}
 
 /// If no component is written in version brackets, all groups are whole.
-pub fn without_groups()
+pub fn lemma_without_groups()
     ensures { (cs : List Component) (vs : Row)
         → AllByRecursion (λ c. group_of c.presence ≡ None) cs
         → GroupsAreWhole cs vs }
 {}
 
 /// Values that are alike have the same whole groups, and the same number of levels.
-pub fn alike_values()
+pub fn lemma_alike_values()
     ensures groups { (s : List Resolved) (cs : List Component) (vs ws : Row)
         → AlikeComponents s cs vs ws
         → GroupsAreWhole cs vs
@@ -96,12 +96,12 @@ pub fn alike_values()
 {}
 
 /// A value with at most m levels is also one with at most n levels, if m is at most n.
-pub fn levels_grow()
+pub fn lemma_levels_grow()
     ensures { (s : List Resolved) (t m n : ℕ) (v : AbstractValue) → m ≤ n → ValueIn s m t v → ValueIn s n t v }
 {}
 
 /// Being the same is an equivalence relation on the values of a type; the limit on nodes doesn't matter.
-pub fn sameness()
+pub fn lemma_sameness()
     ensures itself { (s : List Resolved) (t : ℕ) (v : AbstractValue) → IsValueWithoutNodes s t v → Same s t v v }
     ensures turned { (s : List Resolved) (t : ℕ) (v w : AbstractValue) → Same s t v w → Same s t w v }
     ensures joined { (s : List Resolved) (t : ℕ) (v w x : AbstractValue) → Same s t v w → Same s t w x → Same s t v x }

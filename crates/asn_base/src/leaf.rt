@@ -3,14 +3,14 @@
 ghost use Rattle.asn_base.specs.Abstract.{abstract};
 ghost use Rattle.asn_base.specs.Names.{IsMember};
 ghost use Rattle.asn_base.specs.Seen.{constraint_of, item_of, kind_of, range_of};
-ghost use Rattle.asn_base.specs.Typed.{Fits, HasNumber, IsAllowed, IsAllowedSize, IsInRange, IsInSome, IsObjectIdentifier, IsRelativeOid};
+ghost use Rattle.asn_base.specs.Typed.{IsPrimitive, HasNumber, IsAllowed, IsAllowedSize, IsInRange, IsInSome, IsObjectIdentifier, IsRelativeOid};
 ghost use Rattle.std.specs.Int.Digits.{AllBelowBase};
 ghost use Rattle.std.specs.List.{AllByRecursion};
 ghost use Rattle.std.specs.Prelude.{◌≡◌, ◌≤◌, ◌<◌, ◌↔◌, ◌++◌, IsTrue, IsUtf8, chars, ◌^◌, length, map};
 
 use crate::bits::bit_count;
 use crate::constraint::{Constraint, Range};
-use crate::law::{abstract_values, integer_within_limit};
+use crate::law::{lemma_abstract_values, lemma_integer_within_limit};
 use crate::schema::{Core, Item, Items};
 use crate::value::Value;
 use limits::MAX_ARCS;
@@ -243,9 +243,9 @@ fn is_in_first(constraint: &Constraint, number: i128) -> bool
 /// the constraint's first range allows. For most values that hold no others this test is enough. False decides nothing.
 #[inline(always)]
 pub(crate) fn fits_at_once(core: &Core, value: &Value) -> bool
-    ensures { IsTrue result → Fits (kind_of core.now) (abstract value.now) }
+    ensures { IsTrue result → IsPrimitive (kind_of core.now) (abstract value.now) }
 {
-    abstract_values();
+    lemma_abstract_values();
     match core {
         Core::Boolean => match value {
             Value::Bool(_) => true,
@@ -253,7 +253,7 @@ pub(crate) fn fits_at_once(core: &Core, value: &Value) -> bool
         },
         Core::Integer(constraint) => match value {
             Value::Int(number) => {
-                integer_within_limit(*number);
+                lemma_integer_within_limit(*number);
                 is_in_first(constraint, *number)
             }
             _ => false,
@@ -268,9 +268,9 @@ pub(crate) fn fits_at_once(core: &Core, value: &Value) -> bool
 
 /// Whether the value is one of a kind that holds no other values.
 pub(crate) fn fits(core: &Core, value: &Value) -> bool
-    ensures { IsTrue result ↔ Fits (kind_of core.now) (abstract value.now) }
+    ensures { IsTrue result ↔ IsPrimitive (kind_of core.now) (abstract value.now) }
 {
-    abstract_values();
+    lemma_abstract_values();
     match core {
         Core::Boolean => match value {
             Value::Bool(_) => true,
@@ -278,14 +278,14 @@ pub(crate) fn fits(core: &Core, value: &Value) -> bool
         },
         Core::Integer(constraint) => match value {
             Value::Int(number) => {
-                integer_within_limit(*number);
+                lemma_integer_within_limit(*number);
                 is_allowed(constraint, *number)
             }
             _ => false,
         },
         Core::Enumerated(items) => match value {
             Value::Enum(number) => {
-                integer_within_limit(*number);
+                lemma_integer_within_limit(*number);
                 is_item(items, *number)
             }
             _ => false,

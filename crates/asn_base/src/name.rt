@@ -7,18 +7,18 @@ ghost use Rattle.asn_base.specs.Names.{goes_on, is_identifier as is_name};
 fn goes_on(octets: &[u8]) -> bool
     ensures { result ≡ goes_on false octets.now }
 {
-    let mut behind_hyphen = false;
+    let mut after_hyphen = false;
     for i in 0..octets.len() {
         let octet = octets[i];
-        if octet == b'-' && !behind_hyphen {
-            behind_hyphen = true;
+        if octet == b'-' && !after_hyphen {
+            after_hyphen = true;
         } else if octet.is_ascii_alphanumeric() {
-            behind_hyphen = false;
+            after_hyphen = false;
         } else {
             return false;
         }
     }
-    !behind_hyphen
+    !after_hyphen
 }
 
 /// Whether the name is an identifier: a small letter, then letters, digits and single hyphens, of which none is last.

@@ -9,7 +9,7 @@ ghost use Rattle.std.specs.Prelude.{◌≡◌, ◌↔◌, ◌++◌, ℕ, IsTrue,
 
 use crate::decide::{chosen_type, is_value_without_nodes};
 use crate::flat::are_alike_leaves;
-use crate::law::abstract_values;
+use crate::law::lemma_abstract_values;
 use crate::schema::{Alternatives, Component, Core, Presence, Schema, TypeId};
 use crate::value::Value;
 use limits::MAX_LEVELS;
@@ -102,7 +102,7 @@ fn are_alike_rows(
         → AreComponents schema.now levels (map component_of components.now) ws
         → (IsTrue result ↔ AlikeComponents schema.now (map component_of components.now) vs ws) }
 {
-    abstract_values();
+    lemma_abstract_values();
     match first {
         Value::Fields(some) => match second {
             Value::Fields(others) => are_alike_fields(
@@ -134,7 +134,7 @@ fn are_alike_lists(
         → AreElements schema.now levels element.index ws
         → (IsTrue result ↔ AlikeElements schema.now element.index vs ws) }
 {
-    abstract_values();
+    lemma_abstract_values();
     match first {
         Value::List(some) => match second {
             Value::List(others) => are_alike_in_order(
@@ -166,7 +166,7 @@ fn are_alike_bags(
         → AreElements schema.now levels element.index ws
         → (IsTrue result ↔ AlikeInAnyOrder schema.now element.index vs ws) }
 {
-    abstract_values();
+    lemma_abstract_values();
     match first {
         Value::List(some) => match second {
             Value::List(others) => are_alike_in_any(
@@ -204,7 +204,7 @@ fn are_alike_choices(
         (map alternative_of alternatives.now.root.items ++ map alternative_of alternatives.now.additions.items)
         i v w) }
 {
-    abstract_values();
+    lemma_abstract_values();
     match first {
         Value::Alt(index, one) => match second {
             Value::Alt(other_index, other) => {

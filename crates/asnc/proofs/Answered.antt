@@ -8,30 +8,30 @@ use Rattle.encodings.specs.Rules.{Rules}
 use Rattle.packed_encodings.specs.Packing.{Packed}
 use Rattle.packed_encodings.specs.Weights.{weight}
 use Rattle.resolve.specs.Program.{Program}
-use Rattle.judging.specs.front_end.Accepted.{AreAccepted, Keeps}
-use Rattle.judging.specs.front_end.Faults.{Stands}
-use Rattle.judging.specs.front_end.declared.fault.FrontFault.{FrontFault}
-use Rattle.judging.specs.front_end.declared.fault.FrontFault.TheVariants as texts
+use Rattle.judging.specs.front_end.Accepted.{AreAccepted, IsCheckedProgram}
+use Rattle.judging.specs.front_end.Faults.{IsRightFault}
+use Rattle.judging.specs.front_end.declared.fault.CompileError.{CompileError}
+use Rattle.judging.specs.front_end.declared.fault.CompileError.TheVariants as texts
 use Rattle.decode_faults.specs.declared.read_fault.ReadFault.{ReadFault}
 use Rattle.judging.specs.messages.declared.fault.Fault.{Fault}
 use Rattle.judging.specs.messages.declared.fault.Fault.TheVariants as faults
 use Rattle.asnc.specs.Kits.{IsNotOpened}
 use Rattle.asnc.specs.Packing.{HasLongBits, IsNotPacked, IsPacked}
-use Rattle.asnc.specs.Reading.{IsNotReadAs, IsReadAs, IsUnread}
-use Rattle.asnc.specs.Writing.{IsEncoded, IsNotEncoded, StandsForLong}
+use Rattle.asnc.specs.Reading.{IsNotReadAs, IsReadAs, IsReadFault}
+use Rattle.asnc.specs.Writing.{IsEncoded, IsNotEncoded, HasLongEncoding}
 use Rattle.judging.specs.named_values.Meant.{IsMeant, IsNotMeant}
 use Rattle.judging.specs.named_values.Given.{Given}
 
 -- ---- texts
 
-pub opened : ((xs : List (List ℕ)) (p : Program) (f : FrontFault) → (f ≡ texts.Memory → ⊥) → Stands xs f →
+pub opened : ((xs : List (List ℕ)) (p : Program) (f : CompileError) → (f ≡ texts.Memory → ⊥) → IsRightFault xs f →
     AreAccepted xs p → ⊥) → (xs : List (List ℕ)) (p : Program) (e : Fault) → AreAccepted xs p → IsNotOpened xs e →
     e ≡ faults.Memory
 opened law xs p faults.Memory a h = refl
 opened law xs p (faults.Front f) a h = absurd (law xs p f h.0 h.1 a)
 opened law xs p (faults.NoType x) a h = absurd h
 opened law xs p (faults.NoValue x) a h = absurd h
-opened law xs p (faults.Unread u) a h = absurd h
+opened law xs p (faults.DecodeError u) a h = absurd h
 opened law xs p (faults.BadWords x) a h = absurd h
 opened law xs p (faults.Help x) a h = absurd h
 opened law xs p (faults.File x) a h = absurd h
@@ -42,7 +42,7 @@ opened law xs p (faults.NoNewerType x) a h = absurd h
 opened law xs p (faults.Value x) a h = absurd h
 opened law xs p (faults.Notation x) a h = absurd h
 opened law xs p faults.TooLong a h = absurd h
-opened law xs p (faults.UnreadBits u) a h = absurd h
+opened law xs p (faults.BitDecodeError u) a h = absurd h
 opened law xs p faults.MessageLimit a h = absurd h
 opened law xs p (faults.Device n) a h = absurd h
 opened law xs p (faults.NotAccount s) a h = absurd h
@@ -50,17 +50,17 @@ opened law xs p (faults.NotAccount s) a h = absurd h
 -- ---- values
 
 abbrev pub OneMeaning : Type 0
-OneMeaning = (p : Program) (first : List ℕ) (second : Given) (t u : ℕ) (v w : AbstractValue) → Keeps p →
+OneMeaning = (p : Program) (first : List ℕ) (second : Given) (t u : ℕ) (v w : AbstractValue) → IsCheckedProgram p →
     IsMeant p first second t v →
     IsMeant p first second u w → (t ≡ u) × (v ≡ w)
 
 abbrev pub Refuses : Type 0
-Refuses = (p : Program) (first : List ℕ) (second : Given) (t : ℕ) (v : AbstractValue) (e : Fault) → Keeps p →
+Refuses = (p : Program) (first : List ℕ) (second : Given) (t : ℕ) (v : AbstractValue) (e : Fault) → IsCheckedProgram p →
     IsMeant p first second t v → IsNotMeant p first second e → e ≡ faults.Memory
 
 not_long : {p : Program} {s : List Resolved} {first : List ℕ} {second : Given} {o : List ℕ} {a : Account} → OneMeaning →
-    Keeps p →
-    IsEncoded p s first second o a → StandsForLong p s first second → ⊥
+    IsCheckedProgram p →
+    IsEncoded p s first second o a → HasLongEncoding p s first second → ⊥
 not_long {p} {s} {first} {second} {o} one kept m n =
     let e = one p first second m.type n.type m.value n.value kept m.meant n.meant in
     let d = subst (λ w. Der s n.type w 0 o) e.1 (subst (λ t. Der s t m.value 0 o) e.0 m.encoding.der) in
@@ -69,13 +69,13 @@ not_long {p} {s} {first} {second} {o} one kept m n =
     absurd (omega (arith, g, z))
 
 pub written : OneMeaning → Refuses → (p : Program) (s : List Resolved) (first : List ℕ) (second : Given) (o : List ℕ)
-    (a : Account) (e : Fault) → Keeps p →
+    (a : Account) (e : Fault) → IsCheckedProgram p →
     IsEncoded p s first second o a → IsNotEncoded p s first second e → e ≡ faults.Memory
 written one refused p s first second o a e kept m (inl h) = refused p first second m.type m.value e kept m.meant h
 written one refused p s first second o a e kept m (inr h) = absurd (not_long one kept m h.1)
 
 not_long_bits : {p : Program} {s : List Resolved} {first : List ℕ} {second : Given} {o : List ℕ} → OneMeaning →
-    Keeps p →
+    IsCheckedProgram p →
     IsPacked p s first second o → HasLongBits p s first second → ⊥
 not_long_bits {p} {s} {first} {second} {o} one kept m n =
     let e = one p first second m.type n.type m.value n.value kept m.meant n.meant in
@@ -90,7 +90,7 @@ not_long_bits {p} {s} {first} {second} {o} one kept m n =
     ]
 
 pub packed : OneMeaning → Refuses → (p : Program) (s : List Resolved) (first : List ℕ) (second : Given) (o : List ℕ)
-    (e : Fault) → Keeps p →
+    (e : Fault) → IsCheckedProgram p →
     IsPacked p s first second o → IsNotPacked p s first second e → e ≡ faults.Memory
 packed one refused p s first second o e kept m (inl h) = refused p first second m.type m.value e kept m.meant h
 packed one refused p s first second o e kept m (inr h) = absurd (not_long_bits one kept m h.1)
@@ -98,15 +98,15 @@ packed one refused p s first second o e kept m (inr h) = absurd (not_long_bits o
 -- ---- octets
 
 none_read : {p : Program} {s : List Resolved} {r : Rules} {name o printed : List ℕ} {k : ℕ} {f : ReadFault} (u : ℕ)
-    (m : IsReadAs p s r name o printed k) → u ≡ m.type → IsUnread s r u o f → ⊥
+    (m : IsReadAs p s r name o printed k) → u ≡ m.type → IsReadFault s r u o f → ⊥
 none_read {s = s} {r = r} {o = o} {k = k} {f = f} u m e h =
-    let n = subst (λ t. IsUnread s r t o f) e h in
+    let n = subst (λ t. IsReadFault s r t o f) e h in
     let q = m.read in
     n.none (record {
       value = q.value;
       count = k;
       is_value = q.encodes.value;
-      is_said = q.encodes.says_it;
+      is_encoded = q.encodes.says_it;
       few = q.few;
       short = q.short;
     }) q.by_rules
@@ -115,7 +115,7 @@ pub read : (p : Program) (s : List Resolved) (r : Rules) (name o printed : List 
     IsReadAs p s r name o printed k → IsNotReadAs p s r name o e → e ≡ faults.Memory
 read p s r name o printed k faults.Memory m h = refl
 read p s r name o printed k (faults.NoType x) m h = absurd (h.1 m.type m.named.is)
-read p s r name o printed k (faults.Unread u) m h =
+read p s r name o printed k (faults.DecodeError u) m h =
     absurd (none_read h.type m (m.named.only h.type h.named.is) h.unread.unread)
 read p s r name o printed k (faults.NoValue x) m h = absurd h
 read p s r name o printed k (faults.BadWords x) m h = absurd h
@@ -129,7 +129,7 @@ read p s r name o printed k (faults.Front x) m h = absurd h
 read p s r name o printed k (faults.Value x) m h = absurd h
 read p s r name o printed k (faults.Notation x) m h = absurd h
 read p s r name o printed k faults.TooLong m h = absurd h
-read p s r name o printed k (faults.UnreadBits u) m h = absurd h
+read p s r name o printed k (faults.BitDecodeError u) m h = absurd h
 read p s r name o printed k faults.MessageLimit m h = absurd h
 read p s r name o printed k (faults.Device n) m h = absurd h
 read p s r name o printed k (faults.NotAccount x) m h = absurd h

@@ -1,5 +1,4 @@
 mod Opening
-mod Weaker
 mod MessagesRead
 mod Paths
 mod Answered
@@ -7,6 +6,7 @@ mod ReadBack
 mod Parts
 mod Rows
 mod RowsOfHeadline
+mod RowsOfAnswers
 mod Versions
 mod PackedVersions
 mod ShownAsRead

@@ -7,7 +7,7 @@ use Rattle.asn_base.specs.Same.{Same}
 use Rattle.asn_base.specs.Typed.{ValueIn, value_in}
 use Rattle.asn_base.specs.Types.{Resolved}
 use Rattle.encodings.specs.Account.{Account}
-use Rattle.encodings.specs.Encoding.{Says}
+use Rattle.encodings.specs.Encoding.{EncodesTo}
 use Rattle.encodings.specs.Levels.{levels}
 use Rattle.encodings.specs.Rules.{Rules, Basic, Distinguished}
 use Rattle.decode_faults.specs.declared.read_fault.ReadFault.{ReadFault}
@@ -20,11 +20,11 @@ use Rattle.codec_code.specs.Routines.{id_of}
 use Rattle.ber_reader.specs.Readings.{IsRefused}
 use Rattle.asnc.specs.Headline.{IsAnswer, IsMessageOf}
 use Rattle.judging.specs.named_values.Named.{TypeNamed}
-use Rattle.asnc.specs.Reading.{IsNotDer, IsNotReadAs, IsRead, IsUnread, rules_of}
+use Rattle.asnc.specs.Reading.{IsNotDer, IsNotReadAs, IsRead, IsReadFault, rules_of}
 use Rattle.asnc.specs.Writing.{IsEncoded}
 use Rattle.asnc.specs.declared.reading.Rules.{Rules as Rules'}
 use Rattle.asnc.specs.declared.reading.Rules.TheVariants as asked
-use Rattle.asnc.proofs.Weaker.{basic_of}
+use Rattle.encodings.specs.proving.Weaker.{basic_of}
 use Rattle.judging.specs.named_values.Given.{Given}
 
 -- a type that has a value is there
@@ -47,9 +47,9 @@ pub unread_by : {Z : Type 0} (s : List Resolved) (l : Rules) (t : ℕ) (o : List
     (e : ReadFault)
     → r ≡ Err e
     → (e ≡ reading.Memory → ⊥)
-    → ((i : IsEncoding s t o) → Says s l t i.value i.count o → IfErr r (λ f. f ≡ reading.Memory))
+    → ((i : IsEncoding s t o) → EncodesTo s l t i.value i.count o → IfErr r (λ f. f ≡ reading.Memory))
     →
-    ((i : IsEncoding s t o) → (Says s l t i.value i.count o → ⊥) → (r ≡ Err reading.NotDer) ⊎ (r ≡ Err reading.Memory))
+    ((i : IsEncoding s t o) → (EncodesTo s l t i.value i.count o → ⊥) → (r ≡ Err reading.NotDer) ⊎ (r ≡ Err reading.Memory))
     → (r ≡ Err reading.NotDer → (l ≡ Distinguished) × IsNotDer s t o)
     → (16777216 < length o → r ≡ Err reading.MessageLimit)
     → (r ≡ Err reading.MessageLimit → 16777216 < length o)
@@ -57,8 +57,8 @@ pub unread_by : {Z : Type 0} (s : List Resolved) (l : Rules) (t : ℕ) (o : List
     → (r ≡ Err reading.Trailing → HasMessageFirst s t o)
     → (BeginsEncoding s t o → r ≡ Err reading.Truncated)
     → IfErr r (λ f. (f ≡ reading.Memory → ⊥) → (f ≡ reading.NotDer → ⊥) → IsRefused s (id_of t) o f)
-    → IsUnread s l t o e
-unread_by s l t o r e q n read basic not_der limit long more trailing less why = record {
+    → IsReadFault s l t o e
+unread_by s l t o r e q n read basic not_der limit long more trailing truncated_value why = record {
   none = λ i a. n (subst (λ x. IfErr x (λ f. f ≡ reading.Memory)) q (read i a));
   basic = λ i a. only_not_der r e q n (basic i a);
   not_der = λ m. not_der (q ∙ ap Err m);
@@ -66,7 +66,7 @@ unread_by s l t o r e q n read basic not_der limit long more trailing less why =
   long = λ m. long (q ∙ ap Err m);
   more = λ h. only_trailing r e q n (more h);
   trailing = λ m. trailing (q ∙ ap Err m);
-  less = λ b. (let g = sym q ∙ less b in cc);
+  truncated_value = λ b. (let g = sym q ∙ truncated_value b in cc);
   why = subst
       (λ x. IfErr x (λ f. (f ≡ reading.Memory → ⊥) → (f ≡ reading.NotDer → ⊥) → IsRefused s (id_of t) o f)) q why n;
 }
@@ -84,7 +84,7 @@ pub answer_of : {p : Program} {s : List Resolved} {l : Rules} {name o printed : 
     → TypeNamed p name t
     → IsRead s l t o printed k
     → Same s t v w
-    → Says s Basic t w 0 o
+    → EncodesTo s Basic t w 0 o
     → IsAnswer p s name printed k v
 answer_of {p} {s} {l} {name} {o} {printed} {k} {t} {v} w n r sm sy =
     let q = r.only w 0 (record { value = sm.second; says_it = sy }) in
@@ -105,27 +105,27 @@ message_is_read m = record {
   value = m.ber.0;
   count = 0;
   is_value = m.ber.1.second;
-  is_said = m.ber.2;
+  is_encoded = m.ber.2;
   few = m.few;
   short = m.short;
 }
 
 none_of : {s : List Resolved} {l : Rules} {o : List ℕ} {e : ReadFault} (t u : ℕ)
-    (i : IsEncoding s t o) → t ≡ u → Says s l t i.value i.count o → IsUnread s l u o e → ⊥
+    (i : IsEncoding s t o) → t ≡ u → EncodesTo s l t i.value i.count o → IsReadFault s l u o e → ⊥
 none_of {s = s} {l = l} {o = o} {e = e} t u i q y r =
-    let n = subst (λ t. IsUnread s l t o e) (sym q) r in
+    let n = subst (λ t. IsReadFault s l t o e) (sym q) r in
     n.none i y
 
 -- octets that encode a value of the named type by these rules have no fault other than `Memory`
 pub encoding_is_read : (p : Program) (s : List Resolved) (l : Rules) (name o : List ℕ) (e : Fault) (t : ℕ)
     (named : TypeNamed p name t)
     (i : IsEncoding s t o)
-    → Says s l t i.value i.count o
+    → EncodesTo s l t i.value i.count o
     → IsNotReadAs p s l name o e
     → e ≡ faults.Memory
 encoding_is_read p s l name o faults.Memory t m i y r = refl
 encoding_is_read p s l name o (faults.NoType x) t m i y r = absurd (r.1 t m)
-encoding_is_read p s l name o (faults.Unread u) t m i y r = absurd
+encoding_is_read p s l name o (faults.DecodeError u) t m i y r = absurd
     (none_of t r.type i (r.named.only t m) y r.unread.unread)
 encoding_is_read p s l name o (faults.NoValue x) t m i y r = absurd r
 encoding_is_read p s l name o (faults.BadWords x) t m i y r = absurd r
@@ -139,7 +139,7 @@ encoding_is_read p s l name o (faults.Front x) t m i y r = absurd r
 encoding_is_read p s l name o (faults.Value x) t m i y r = absurd r
 encoding_is_read p s l name o (faults.Notation x) t m i y r = absurd r
 encoding_is_read p s l name o faults.TooLong t m i y r = absurd r
-encoding_is_read p s l name o (faults.UnreadBits u) t m i y r = absurd r
+encoding_is_read p s l name o (faults.BitDecodeError u) t m i y r = absurd r
 encoding_is_read p s l name o faults.MessageLimit t m i y r = absurd r
 encoding_is_read p s l name o (faults.Device n) t m i y r = absurd r
 encoding_is_read p s l name o (faults.NotAccount x) t m i y r = absurd r
@@ -147,21 +147,21 @@ encoding_is_read p s l name o (faults.NotAccount x) t m i y r = absurd r
 -- an encoding of a value by these rules has no fault other than `Memory`
 pub never_refused : (p : Program) (s : List Resolved) (l : Rules) (name o : List ℕ) (v : AbstractValue) (e : Fault)
     (m : IsMessageOf p s name o v)
-    → Says s l m.type m.ber.0 0 o
+    → EncodesTo s l m.type m.ber.0 0 o
     → IsNotReadAs p s l name o e
     → e ≡ faults.Memory
 unfolding message_is_read
 never_refused p s l name o v e m y r = encoding_is_read p s l name o e m.type m.named (message_is_read m) y r
 
 -- what is written of a value says it by either rules
-says_by : (l : Rules') {s : List Resolved} {t : ℕ} {w : AbstractValue} {o : List ℕ} → Says s Distinguished t w 0 o
-    → Says s (rules_of l) t w 0 o
+says_by : (l : Rules') {s : List Resolved} {t : ℕ} {w : AbstractValue} {o : List ℕ} → EncodesTo s Distinguished t w 0 o
+    → EncodesTo s (rules_of l) t w 0 o
 says_by asked.Ber d = basic_of d
 says_by asked.Der d = d
 
 -- it is a message of the value
 pub written_message : {p : Program} {s : List Resolved} {first : List ℕ} {second : Given} {o : List ℕ} {a : Account}
-    → ((t : ℕ) (w : AbstractValue) (d : Says s Distinguished t w 0 o) (b : Says s Basic t w 0 o) → levels b ≡ levels d)
+    → ((t : ℕ) (w : AbstractValue) (d : EncodesTo s Distinguished t w 0 o) (b : EncodesTo s Basic t w 0 o) → levels b ≡ levels d)
     → (m : IsEncoded p s first second o a)
     → IsMessageOf p s first o m.value
 written_message {p} {s} {first} {second} {o} {a} one m =
@@ -178,7 +178,7 @@ written_message {p} {s} {first} {second} {o} {a} one m =
 -- and is read back, by either rules
 pub written_is_read : {p : Program} {s : List Resolved} {first : List ℕ} {second : Given} {o : List ℕ} {a : Account}
     (l : Rules') (e : Fault)
-    → ((t : ℕ) (w : AbstractValue) (d : Says s Distinguished t w 0 o) (b : Says s Basic t w 0 o) → levels b ≡ levels d)
+    → ((t : ℕ) (w : AbstractValue) (d : EncodesTo s Distinguished t w 0 o) (b : EncodesTo s Basic t w 0 o) → levels b ≡ levels d)
     → IsEncoded p s first second o a
     → IsNotReadAs p s (rules_of l) first o e
     → e ≡ faults.Memory

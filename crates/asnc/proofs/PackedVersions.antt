@@ -3,11 +3,11 @@ use Rattle.std.proofs.Common.{◌≡◌, sym, subst, ℕ, ◌≤◌, List, lengt
 use Rattle.asn_base.specs.Abstract.{AbstractValue}
 use Rattle.asn_base.specs.Same.{Same}
 use Rattle.asn_base.specs.Types.{Resolved}
-use Rattle.later_versions.specs.Kept.{kept}
+use Rattle.later_versions.specs.Projected.{projected}
 use Rattle.packed_encodings.specs.Packing.{Reads}
 use Rattle.packed_writer.specs.Message.{IsMessage}
 use Rattle.version_laws.specs.LeftOut.{left_out_packed}
-use Rattle.version_laws.specs.Widened.{widened}
+use Rattle.version_laws.specs.Lifted.{lifted}
 use Rattle.resolve.specs.Program.{Program}
 use Rattle.judging.specs.messages.declared.fault.Fault.{Fault}
 use Rattle.judging.specs.messages.declared.fault.Fault.TheVariants as faults
@@ -32,7 +32,7 @@ IsReadFrom s t v k o = (w : AbstractValue) × Same s t v w × Reads s t w k o
 
 pub older_packed : {p q : Program} {s r : List Resolved} {name o printed : List ℕ} {k : ℕ} {v : AbstractValue}
     (c : IsCompared p s q r name true)
-    → IsReadFrom s c.older (kept s c.older v) (left_out_packed s c.older r c.newer v) o
+    → IsReadFrom s c.older (projected s c.older v) (left_out_packed s c.older r c.newer v) o
     → IsUnpackedAs p s name o printed k
     → IsPackedKeptAnswer p s r c.newer name printed k v
 older_packed {s = s} {r = r} {v = v} c b a =
@@ -42,14 +42,14 @@ older_packed {s = s} {r = r} {v = v} c b a =
       type = c.older;
       named = c.older_named.is;
       value = q.value;
-      same = subst (Same s c.older (kept s c.older v)) e.0 b.1;
+      same = subst (Same s c.older (projected s c.older v)) e.0 b.1;
       text = q.text;
       skipped = sym e.1;
     }
 
 pub newer_packed : {p q : Program} {s r : List Resolved} {name o printed : List ℕ} {k : ℕ} {v : AbstractValue}
     (c : IsCompared p s q r name true)
-    → IsReadFrom r c.newer (widened r c.newer v) 0 o
+    → IsReadFrom r c.newer (lifted r c.newer v) 0 o
     → IsUnpackedAs q r name o printed k
     → IsWidenedAnswer q r name printed k v
 newer_packed {r = r} {v = v} c b a =
@@ -59,7 +59,7 @@ newer_packed {r = r} {v = v} c b a =
       type = c.newer;
       named = c.newer_named.is;
       value = q.value;
-      same = subst (Same r c.newer (widened r c.newer v)) e.0 b.1;
+      same = subst (Same r c.newer (lifted r c.newer v)) e.0 b.1;
       text = q.text;
       none_skipped = sym e.1;
     }

@@ -3,7 +3,7 @@ use Rattle.std.proofs.Common.{arith, ◌≡◌, ℕ, zero, suc, ◌+◌, List, [
 use Rattle.std.specs.Prelude.{drop, slice_get}
 use Rattle.asn_base.specs.Types.{Resolved}
 use Rattle.packed_reader.specs.declared.part.Part.{Part}
-use Rattle.asnc.specs.Places.{with_part}
+use Rattle.asnc.specs.ErrorSites.{with_part}
 use Rattle.asnc.specs.Unpacking.{part_of, type_in, with_parts}
 use Rattle.asnc.proofs.Paths.{drop_here}
 

@@ -34,15 +34,15 @@ pub refused_by : {Z : Type 0} (s : List Resolved) (t : ℕ) (o : List ℕ) (r : 
     → IfErr r (IsRefusal (message_from s t o))
     → (BeginsMessage s t o → MatchResult r (λ x. ⊥) IsTruncated)
     → IsNotUnpackedBy s t o e
-refused_by s t o r per.Memory q read limit long err less = tt
-refused_by s t o r per.MessageLimit q read limit long err less = long q
-refused_by s t o r (per.Refused u) q read limit long err less =
+refused_by s t o r per.Memory q read limit long err truncated_value = tt
+refused_by s t o r per.MessageLimit q read limit long err truncated_value = long q
+refused_by s t o r (per.Refused u) q read limit long err truncated_value =
     let short = not_above (length o) (λ l. (let g = sym q ∙ limit l in cc)) in
     record {
       short = short;
       none = λ w k m. (let g = subst (λ x. IfErr x (λ f. f ≡ per.Memory)) q (read w k m short) in cc);
       first = subst (λ x. IfErr x (IsRefusal (message_from s t o))) q err;
-      less = λ b. subst (λ x. MatchResult x (λ y. ⊥) IsTruncated) q (less b);
+      truncated_value = λ b. subst (λ x. MatchResult x (λ y. ⊥) IsTruncated) q (truncated_value b);
     }
 
 -- ---- messages
@@ -91,7 +91,7 @@ refused_message : {s : List Resolved} {t u k : ℕ} {v : AbstractValue} {o : Lis
     → e ≡ faults.Memory
 refused_message {e = faults.Memory} q m short h = refl
 refused_message {e = faults.MessageLimit} q m short h = absurd (omega (arith, short, h))
-refused_message {s = s} {k = k} {v = v} {o = o} {e = faults.UnreadBits u} q m short h =
+refused_message {s = s} {k = k} {v = v} {o = o} {e = faults.BitDecodeError u} q m short h =
     absurd (h.fault.none v k (subst (λ t. Reads s t v k o) q m))
 refused_message {e = faults.NoType x} q m short h = absurd h
 refused_message {e = faults.NoValue x} q m short h = absurd h
@@ -107,7 +107,7 @@ refused_message {e = faults.Value x} q m short h = absurd h
 refused_message {e = faults.Notation x} q m short h = absurd h
 refused_message {e = faults.TooLong} q m short h = absurd h
 refused_message {e = faults.Device n} q m short h = absurd h
-refused_message {e = faults.Unread u} q m short h = absurd h
+refused_message {e = faults.DecodeError u} q m short h = absurd h
 refused_message {e = faults.NotAccount x} q m short h = absurd h
 
 -- a message of a value of the named type is refused for want of memory alone
@@ -122,7 +122,7 @@ message_refused p s name o t k v faults.Memory one n m short h = refl
 message_refused p s name o t k v (faults.NoType x) one n m short h = absurd (h.1 t n)
 message_refused p s name o t k v faults.MessageLimit one n m short h = refused_message
     (one h.type h.named) m short h.fault
-message_refused p s name o t k v (faults.UnreadBits u) one n m short h = refused_message
+message_refused p s name o t k v (faults.BitDecodeError u) one n m short h = refused_message
     (one h.type h.named) m short h.fault
 message_refused p s name o t k v (faults.NoValue x) one n m short h = absurd h
 message_refused p s name o t k v (faults.BadWords x) one n m short h = absurd h
@@ -137,7 +137,7 @@ message_refused p s name o t k v (faults.Value x) one n m short h = absurd h
 message_refused p s name o t k v (faults.Notation x) one n m short h = absurd h
 message_refused p s name o t k v faults.TooLong one n m short h = absurd h
 message_refused p s name o t k v (faults.Device n) one n' m short h = absurd h
-message_refused p s name o t k v (faults.Unread u) one n m short h = absurd h
+message_refused p s name o t k v (faults.DecodeError u) one n m short h = absurd h
 message_refused p s name o t k v (faults.NotAccount x) one n m short h = absurd h
 
 -- the message that is written of a value is refused for want of memory alone

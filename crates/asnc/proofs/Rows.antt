@@ -6,7 +6,7 @@ use Rattle.asn_base.specs.declared.schema.TypeId.{TypeId}
 use Rattle.asn_base.specs.Types.{any_size, a_boolean, a_sequence, a_sequence_of, a_choice, mandatory, optional, Resolved}
 use Rattle.encodings.specs.Rules.{Basic, Distinguished}
 use Rattle.ber_message.specs.declared.open.Part.TheVariants.{Component, Alternative, Element}
-use Rattle.asnc.specs.Places.{path_of, with_name, with_number}
+use Rattle.asnc.specs.ErrorSites.{path_of, with_name, with_number}
 use Rattle.asnc.specs.Reading.{rules_of}
 use Rattle.asnc.specs.declared.reading.Rules.TheVariants as asked
 
@@ -23,8 +23,8 @@ distinguished = refl
 first : with_name [] (codes "a") ≡ codes "a"
 first = refl
 
-behind : with_name (codes "a") (codes "b") ≡ codes "a.b"
-behind = refl
+name_after_path : with_name (codes "a") (codes "b") ≡ codes "a.b"
+name_after_path = refl
 
 -- elements are counted from 0
 first_element : with_number (codes "a") 0 ≡ codes "a[0]"

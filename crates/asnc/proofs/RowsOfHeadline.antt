@@ -6,23 +6,23 @@ use Rattle.asn_base.specs.Typed.{IsValue}
 use Rattle.asn_base.specs.Types.{Resolved}
 use Rattle.account_checker.specs.Reasons.{IsRight as IsRightBesideIt}
 use Rattle.account_checker.specs.declared.reason.Verdict.TheVariants.{Yes}
-use Rattle.encodings.specs.Account.{Account, Tells}
-use Rattle.encodings.specs.Encoding.{Ber, Der, EncodesBy, Says}
+use Rattle.encodings.specs.Account.{Account, Describes}
+use Rattle.encodings.specs.Encoding.{Ber, Der, EncodesBy, EncodesTo}
 use Rattle.encodings.specs.Levels.{levels}
 use Rattle.encodings.specs.Reading.{Encodes}
 use Rattle.encodings.specs.Rules.{Rules, Basic}
 use Rattle.packed_encodings.specs.Lengths.{Bits}
 use Rattle.packed_encodings.specs.Packing.{Packed, Reads}
 use Rattle.packed_encodings.specs.Padding.{Padded}
-use Rattle.later_versions.specs.Kept.{kept, left_out}
+use Rattle.later_versions.specs.Projected.{projected, left_out}
 use Rattle.version_laws.specs.LeftOut.{left_out_packed}
-use Rattle.version_laws.specs.Widened.{widened}
+use Rattle.version_laws.specs.Lifted.{lifted}
 use Rattle.value_text.specs.Print.{print}
 use Rattle.resolve.specs.Program.{Program}
 use Rattle.judging.specs.messages.declared.fault.Fault.{Fault}
 use Rattle.judging.specs.messages.declared.fault.Fault.TheVariants.{Memory}
 use Rattle.judging.specs.front_end.Accepted.{Accepted}
-use Rattle.judging.specs.front_end.Untyped.{StandsFor}
+use Rattle.judging.specs.front_end.ValueError.{DenotesValue}
 use Rattle.judging.specs.Judged.{IsAccountIn, IsJudged}
 use Rattle.judging.specs.named_values.Named.{AreGiven, TypeNamed}
 use Rattle.judging.specs.named_values.Given.{Given}
@@ -42,7 +42,7 @@ module _ (xs : List (List ℕ)) (n : List ℕ) (m : Given) (o : List ℕ) (a : A
   der_names : AreGiven r.program n m r.type r.within r.notation
   der_names = r.named
 
-  der_meaning : StandsFor r.program r.within r.type r.notation r.value
+  der_meaning : DenotesValue r.program r.within r.type r.notation r.value
   der_meaning = r.stands
 
   der_value : IsValue r.types r.type r.value
@@ -57,7 +57,7 @@ module _ (xs : List (List ℕ)) (n : List ℕ) (m : Given) (o : List ℕ) (a : A
   der_least : (q : List ℕ) → Ber r.types r.type r.value 0 q → length o ≤ length q
   der_least = r.shortest.least
 
-  der_account : Tells r.types r.type r.value o a
+  der_account : Describes r.types r.type r.value o a
   der_account = r.account
 
   der_checked : IsRightBesideIt r.types r.type r.value o a
@@ -70,7 +70,7 @@ module _ (xs : List (List ℕ)) (n : List ℕ) (m : Given) (o : List ℕ) (r : I
   per_names : AreGiven r.program n m r.type r.within r.notation
   per_names = r.named
 
-  per_meaning : StandsFor r.program r.within r.type r.notation r.value
+  per_meaning : DenotesValue r.program r.within r.type r.notation r.value
   per_meaning = r.stands
 
   per_value : IsValue r.types r.type r.value
@@ -147,7 +147,7 @@ module _ (s : List Resolved) (b : Rules) (t : ℕ) (o x : List ℕ) (k : ℕ) (r
   reading_alone : (w : AbstractValue) (j : ℕ) → Encodes s Basic t w j o → (w ≡ r.value) × (j ≡ k)
   reading_alone = r.only
 
-  reading_by_rules : Says s b t r.value k o
+  reading_by_rules : EncodesTo s b t r.value k o
   reading_by_rules = r.by_rules
 
 module _ (s : List Resolved) (t : ℕ) (o : List ℕ) (w : AbstractValue) (k : ℕ) (r : IsUnpackedBy s t o w k) where
@@ -178,7 +178,7 @@ module _ (p : Program) (s : List Resolved) (n x : List ℕ) (k : ℕ) (v : Abstr
   kept_name : (a : IsKeptAnswer p s n x k v) → TypeNamed p n a.type
   kept_name a = a.named
 
-  kept_same : (a : IsKeptAnswer p s n x k v) → Same s a.type (kept s a.type v) a.value
+  kept_same : (a : IsKeptAnswer p s n x k v) → Same s a.type (projected s a.type v) a.value
   kept_same a = a.same
 
   kept_text : (a : IsKeptAnswer p s n x k v) → x ≡ print s a.type a.value
@@ -190,7 +190,7 @@ module _ (p : Program) (s : List Resolved) (n x : List ℕ) (k : ℕ) (v : Abstr
   widened_name : (a : IsWidenedAnswer p s n x k v) → TypeNamed p n a.type
   widened_name a = a.named
 
-  widened_same : (a : IsWidenedAnswer p s n x k v) → Same s a.type (widened s a.type v) a.value
+  widened_same : (a : IsWidenedAnswer p s n x k v) → Same s a.type (lifted s a.type v) a.value
   widened_same a = a.same
 
   widened_text : (a : IsWidenedAnswer p s n x k v) → x ≡ print s a.type a.value
@@ -204,7 +204,7 @@ module _ (p : Program) (s r : List Resolved) (t : ℕ) (n x : List ℕ) (k : ℕ
   packed_kept_name : TypeNamed p n a.type
   packed_kept_name = a.named
 
-  packed_kept_same : Same s a.type (kept s a.type v) a.value
+  packed_kept_same : Same s a.type (projected s a.type v) a.value
   packed_kept_same = a.same
 
   packed_kept_text : x ≡ print s a.type a.value

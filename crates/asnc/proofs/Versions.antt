@@ -4,12 +4,12 @@ use Rattle.asn_base.specs.Abstract.{AbstractValue}
 use Rattle.asn_base.specs.Same.{Same}
 use Rattle.asn_base.specs.Types.{Resolved}
 use Rattle.encodings.specs.Account.{Account}
-use Rattle.encodings.specs.Encoding.{Der, Says}
+use Rattle.encodings.specs.Encoding.{Der, EncodesTo}
 use Rattle.encodings.specs.Rules.{Rules, Basic}
 use Rattle.ber_message.specs.Messages.{IsEncoding}
-use Rattle.later_versions.specs.Kept.{kept, left_out}
+use Rattle.later_versions.specs.Projected.{projected, left_out}
 use Rattle.version_laws.specs.Versions.{IsReadAs as IsReadable, IsStrictlyReadAs}
-use Rattle.version_laws.specs.Widened.{widened}
+use Rattle.version_laws.specs.Lifted.{lifted}
 use Rattle.resolve.specs.Program.{Program}
 use Rattle.judging.specs.messages.declared.fault.Fault.{Fault}
 use Rattle.judging.specs.messages.declared.fault.Fault.TheVariants as faults
@@ -44,14 +44,14 @@ readable {k = k} m short = record {
   value = m.value;
   count = k;
   is_value = m.same.second;
-  is_said = m.encodes.says_it;
+  is_encoded = m.encodes.says_it;
   few = m.few;
   short = short;
 }
 
 pub older_answer : {p q : Program} {s r : List Resolved} {name o printed : List ℕ} {k : ℕ} {v : AbstractValue}
     (c : IsCompared p s q r name true)
-    → IsReadable s c.older (kept s c.older v) (left_out s c.older v) o
+    → IsReadable s c.older (projected s c.older v) (left_out s c.older v) o
     → IsReadAs p s Basic name o printed k
     → IsKeptAnswer p s name printed k v
 older_answer {s = s} {v = v} c m a =
@@ -61,7 +61,7 @@ older_answer {s = s} {v = v} c m a =
       type = c.older;
       named = c.older_named.is;
       value = d.value;
-      same = subst (Same s c.older (kept s c.older v)) q.0 m.same;
+      same = subst (Same s c.older (projected s c.older v)) q.0 m.same;
       text = d.text;
       skipped = sym q.1;
     }
@@ -69,7 +69,7 @@ older_answer {s = s} {v = v} c m a =
 pub newer_answer : {p q : Program} {s r : List Resolved} {l : Rules} {name o printed : List ℕ} {k : ℕ}
     {v : AbstractValue}
     (c : IsCompared p s q r name true)
-    → IsReadable r c.newer (widened r c.newer v) 0 o
+    → IsReadable r c.newer (lifted r c.newer v) 0 o
     → IsReadAs q r l name o printed k
     → IsWidenedAnswer q r name printed k v
 newer_answer {r = r} {v = v} c m a =
@@ -79,14 +79,14 @@ newer_answer {r = r} {v = v} c m a =
       type = c.newer;
       named = c.newer_named.is;
       value = d.value;
-      same = subst (Same r c.newer (widened r c.newer v)) q.0 m.same;
+      same = subst (Same r c.newer (lifted r c.newer v)) q.0 m.same;
       text = d.text;
       none_skipped = sym q.1;
     }
 
 pub older_refused : {p q : Program} {s r : List Resolved} {name o : List ℕ} {e : Fault} (v : AbstractValue)
     (c : IsCompared p s q r name true)
-    → IsReadable s c.older (kept s c.older v) (left_out s c.older v) o
+    → IsReadable s c.older (projected s c.older v) (left_out s c.older v) o
     → length o ≤ 16777216
     → IsNotReadAs p s Basic name o e
     → e ≡ faults.Memory
@@ -97,13 +97,13 @@ older_refused {p = p} {s = s} {name = name} {o = o} {e = e} v c m short n =
 -- what is said by the distinguished rules is said by either
 says_strictly : (l : Rules') {s : List Resolved} {t : ℕ} {v : AbstractValue} {o : List ℕ}
     (m : IsStrictlyReadAs s t v 0 o)
-    → Says s (rules_of l) t m.is.value 0 o
+    → EncodesTo s (rules_of l) t m.is.value 0 o
 says_strictly asked.Ber m = m.is.encodes.says_it
 says_strictly asked.Der m = m.strict
 
 pub newer_refused : {p q : Program} {s r : List Resolved} {name o : List ℕ} {e : Fault} (v : AbstractValue) (l : Rules')
     (c : IsCompared p s q r name true)
-    → IsStrictlyReadAs r c.newer (widened r c.newer v) 0 o
+    → IsStrictlyReadAs r c.newer (lifted r c.newer v) 0 o
     → length o ≤ 16777216
     → IsNotReadAs q r (rules_of l) name o e
     → e ≡ faults.Memory

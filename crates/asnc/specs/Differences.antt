@@ -3,7 +3,7 @@ use Rattle.std.specs.Prelude.{◌↔◌, ℕ, ◌<◌, List, IsTrue, length}
 use Rattle.asn_base.specs.Types.{Resolved}
 use Rattle.later_versions.specs.Differences.{IsComparison}
 use Rattle.later_versions.specs.Later.{Later}
-use Rattle.later_versions.specs.Told.{IsTold, comparison_of, says_later}
+use Rattle.later_versions.specs.DifferenceText.{HasText, comparison_of, says_later}
 use Rattle.later_versions.specs.declared.reason.Explained.{Explained}
 use Rattle.resolve.specs.Program.{Program}
 use Rattle.judging.specs.named_values.Named.{Names}
@@ -22,4 +22,4 @@ pub record AreCompared (p : Program) (s : List Resolved) (q : Program) (r : List
   -- otherwise the first places at which both differ, and the reason
   pub is : IsComparison s older r newer (comparison_of answer)
   -- and the text that says so
-  pub told : IsTold s older r answer
+  pub text_of : HasText s older r answer

@@ -6,7 +6,7 @@ use Rattle.asn_base.specs.Abstract.{AbstractValue}
 use Rattle.asn_base.specs.Same.{Same}
 use Rattle.asn_base.specs.Typed.{IsValue}
 use Rattle.asn_base.specs.Types.{Resolved}
-use Rattle.encodings.specs.Account.{Account, Tells}
+use Rattle.encodings.specs.Account.{Account, Describes}
 use Rattle.value_text.specs.Print.{print}
 use Rattle.encodings.specs.Encoding.{Ber, Der, EncodesBy, Shortest}
 use Rattle.encodings.specs.Levels.{levels}
@@ -17,7 +17,7 @@ use Rattle.packed_encodings.specs.Padding.{Padded}
 use Rattle.trees.specs.Values.{Name, Tree}
 use Rattle.resolve.specs.Program.{Program}
 use Rattle.judging.specs.front_end.Accepted.{Accepted}
-use Rattle.judging.specs.front_end.Untyped.{StandsFor}
+use Rattle.judging.specs.front_end.ValueError.{DenotesValue}
 use Rattle.account_checker.specs.Reasons.{IsRight as IsRightBesideIt}
 use Rattle.judging.specs.named_values.Named.{AreGiven, TypeNamed}
 use Rattle.judging.specs.named_values.Given.{Given}
@@ -37,7 +37,7 @@ pub record IsRight (texts : List (List ℕ)) (first : List ℕ) (second : Given)
   pub named : AreGiven program first second type within notation
   -- the notation means this value under the type, and the value is one of the type
   pub value : AbstractValue
-  pub stands : StandsFor program within type notation value
+  pub stands : DenotesValue program within type notation value
   pub is : IsValue types type value
   -- the octets are an encoding of the value by the distinguished rules, and the only one
   pub der : Der types type value 0 o
@@ -45,7 +45,7 @@ pub record IsRight (texts : List (List ℕ)) (first : List ℕ) (second : Given)
   -- no encoding of the value by the basic rules, in any definite form of lengths, is shorter
   pub shortest : Shortest types type value o
   -- the account describes how the octets are made up
-  pub account : Tells types type value o a
+  pub account : Describes types type value o a
   -- the checker accepts the account
   pub checked : IsRightBesideIt types type value o a
 
@@ -64,7 +64,7 @@ pub record IsRightlyPacked (texts : List (List ℕ)) (first : List ℕ) (second 
   pub named : AreGiven program first second type within notation
   -- the notation stands for this value under the type, and it is one of the type
   pub value : AbstractValue
-  pub stands : StandsFor program within type notation value
+  pub stands : DenotesValue program within type notation value
   pub is : IsValue types type value
   -- the octets are the bits of the value, filled to octets, and no others are
   pub bits : Bits

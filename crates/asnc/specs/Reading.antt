@@ -5,7 +5,7 @@ use Rattle.asn_base.specs.Types.{Resolved}
 use Rattle.value_text.specs.Print.{print}
 use Rattle.encodings.specs.Levels.{levels}
 use Rattle.encodings.specs.Reading.{Encodes}
-use Rattle.encodings.specs.Encoding.{Says}
+use Rattle.encodings.specs.Encoding.{EncodesTo}
 use Rattle.encodings.specs.Rules.{Rules, Basic, Distinguished}
 use Rattle.decode_faults.specs.declared.read_fault.ReadFault.{ReadFault}
 use Rattle.decode_faults.specs.declared.read_fault.ReadFault.TheVariants as reading
@@ -17,9 +17,9 @@ use Rattle.ber_message.specs.Messages.{IsEncoding, BeginsEncoding, HasEncodingFi
 use Rattle.resolve.specs.Program.{Program}
 use Rattle.judging.specs.messages.declared.fault.Fault.{Fault}
 use Rattle.judging.specs.messages.declared.fault.Fault.TheVariants as faults
-use Rattle.judging.specs.messages.declared.fault.Unread.{Unread}
+use Rattle.judging.specs.messages.declared.fault.DecodeError.{DecodeError}
 use Rattle.judging.specs.named_values.Named.{Names, TypeNamed}
-use Rattle.asnc.specs.Places.{IsStopped}
+use Rattle.asnc.specs.ErrorSites.{IsErrorSite}
 use Rattle.asnc.specs.declared.reading.Rules.{Rules as Rules'}
 use Rattle.asnc.specs.declared.reading.Rules.TheVariants as asked
 
@@ -37,14 +37,14 @@ pub record IsRead (s : List Resolved) (r : Rules) (t : ℕ) (o printed : List �
   pub few : levels encodes.says_it ≤ 400
   pub short : length o ≤ 16777216
   pub only : (w : AbstractValue) (j : ℕ) → Encodes s Basic t w j o → (w ≡ value) × (j ≡ k)
-  pub by_rules : Says s r t value k o
+  pub by_rules : EncodesTo s r t value k o
   pub text : printed ≡ print s t value
 
 -- the same for a view of the value, with the number of additions that were skipped
 pub record IsReadBy (s : List Resolved) (r : Rules) (t : ℕ) (o : List ℕ) (x : Read) : Type 0 where
   pub reading : IsReading s t o x
   pub only : (w : AbstractValue) (j : ℕ) → Encodes s Basic t w j o → (w ≡ value_of reading.tree) × (j ≡ x.skipped)
-  pub by_rules : Says s r t (value_of reading.tree) x.skipped o
+  pub by_rules : EncodesTo s r t (value_of reading.tree) x.skipped o
 
 -- the text names a type, and a value of this type is read and printed
 pub record IsReadAs (p : Program) (s : List Resolved) (r : Rules) (name o printed : List ℕ) (k : ℕ) : Type 0 where
@@ -55,14 +55,14 @@ pub record IsReadAs (p : Program) (s : List Resolved) (r : Rules) (name o printe
 -- The octets encode a value of the type by the basic rules, but not by the distinguished rules.
 pub record IsNotDer (s : List Resolved) (t : ℕ) (o : List ℕ) : Type 0 where
   pub is : IsEncoding s t o
-  pub not_strict : Says s Distinguished t is.value is.count o → ⊥
+  pub not_strict : EncodesTo s Distinguished t is.value is.count o → ⊥
 
 -- The fault that the octets can't be read by these rules as a value of type t is true.
-pub record IsUnread (s : List Resolved) (r : Rules) (t : ℕ) (o : List ℕ) (e : ReadFault) : Type 0 where
+pub record IsReadFault (s : List Resolved) (r : Rules) (t : ℕ) (o : List ℕ) (e : ReadFault) : Type 0 where
   -- by the rules the octets encode no value of the type within the limits
-  pub none : (i : IsEncoding s t o) → Says s r t i.value i.count o → ⊥
+  pub none : (i : IsEncoding s t o) → EncodesTo s r t i.value i.count o → ⊥
   -- `NotDer` if and only if the octets encode a value by the basic rules alone
-  pub basic : (i : IsEncoding s t o) → (Says s r t i.value i.count o → ⊥) → e ≡ reading.NotDer
+  pub basic : (i : IsEncoding s t o) → (EncodesTo s r t i.value i.count o → ⊥) → e ≡ reading.NotDer
   pub not_der : e ≡ reading.NotDer → (r ≡ Distinguished) × IsNotDer s t o
   -- `MessageLimit` if and only if there are more than 16,777,216 octets
   pub limit : 16777216 < length o → e ≡ reading.MessageLimit
@@ -72,31 +72,31 @@ pub record IsUnread (s : List Resolved) (r : Rules) (t : ℕ) (o : List ℕ) (e 
   pub more : HasEncodingFirst s t o → e ≡ reading.Trailing
   pub trailing : e ≡ reading.Trailing → HasMessageFirst s t o
   -- `Truncated` if the octets are the start of a longer encoding of a value
-  pub less : BeginsEncoding s t o → e ≡ reading.Truncated
+  pub truncated_value : BeginsEncoding s t o → e ≡ reading.Truncated
   -- every fault except `NotDer` has its reason
   pub why : (e ≡ reading.NotDer → ⊥) → IsRefused s (id_of t) o e
 
 -- the fault is true, and the octet and the path are those at which reading stops
-pub record IsUnreadAt (s : List Resolved) (r : Rules) (t : ℕ) (o : List ℕ) (u : Unread) : Type 0 where
-  pub unread : IsUnread s r t o u.fault
-  pub stopped : IsStopped s t o u.octet (string_bytes u.path)
+pub record IsLocatedFault (s : List Resolved) (r : Rules) (t : ℕ) (o : List ℕ) (u : DecodeError) : Type 0 where
+  pub unread : IsReadFault s r t o u.fault
+  pub stop_site : IsErrorSite s t o u.offset (string_bytes u.path)
 
 -- the same as a fault; `Memory` says nothing about the octets
 abbrev pub IsNotRead : List Resolved → Rules → ℕ → List ℕ → Fault → Type 0
 IsNotRead s r t o faults.Memory = Unit {0}
-IsNotRead s r t o (faults.Unread u) = IsUnreadAt s r t o u
+IsNotRead s r t o (faults.DecodeError u) = IsLocatedFault s r t o u
 IsNotRead s r t o fault = ⊥
 
 -- the text names a type, and the octets are refused as a value of this type
-pub record IsUnreadAs (p : Program) (s : List Resolved) (r : Rules) (name o : List ℕ) (u : Unread) : Type 0 where
+pub record IsLocatedFaultAs (p : Program) (s : List Resolved) (r : Rules) (name o : List ℕ) (u : DecodeError) : Type 0 where
   pub type : ℕ
   pub named : Names p name type
-  pub unread : IsUnreadAt s r type o u
+  pub unread : IsLocatedFault s r type o u
 
--- Nothing is read, for the reason that the fault gives. `NoType`: the text names no type. `Unread`: the text names a
+-- Nothing is read, for the reason that the fault gives. `NoType`: the text names no type. `DecodeError`: the text names a
 -- type, and the octets are refused. `Memory` says nothing about either.
 abbrev pub IsNotReadAs : Program → List Resolved → Rules → List ℕ → List ℕ → Fault → Type 0
 IsNotReadAs p s r name o faults.Memory = Unit {0}
 IsNotReadAs p s r name o (faults.NoType x) = (string_bytes x ≡ name) × ((t : ℕ) → TypeNamed p name t → ⊥)
-IsNotReadAs p s r name o (faults.Unread u) = IsUnreadAs p s r name o u
+IsNotReadAs p s r name o (faults.DecodeError u) = IsLocatedFaultAs p s r name o u
 IsNotReadAs p s r name o fault = ⊥

@@ -7,25 +7,25 @@ use Rattle.header_listing.specs.Listing.{IsListing}
 use Rattle.resolve.specs.Program.{Program}
 use Rattle.judging.specs.messages.declared.fault.Fault.{Fault}
 use Rattle.judging.specs.messages.declared.fault.Fault.TheVariants as faults
-use Rattle.judging.specs.messages.declared.fault.Unread.{Unread}
+use Rattle.judging.specs.messages.declared.fault.DecodeError.{DecodeError}
 use Rattle.judging.specs.named_values.Named.{Names, TypeNamed}
-use Rattle.asnc.specs.Reading.{IsReadBy, IsUnreadAt}
+use Rattle.asnc.specs.Reading.{IsReadBy, IsLocatedFault}
 use Rattle.asnc.specs.declared.showing.Listing.{Listing}
 
 -- Without a refusal the octets encode a value of type t by the basic rules, and exactly one. A refusal is true, with
 -- the octet and the path at which reading stops.
-abbrev pub IsJudged : List Resolved → ℕ → List ℕ → Option Unread → Type 0
-IsJudged s t o None = (x : Read) × IsReadBy s Basic t o x
-IsJudged s t o (Some u) = IsUnreadAt s Basic t o u
+abbrev pub IsBerVerdict : List Resolved → ℕ → List ℕ → Option DecodeError → Type 0
+IsBerVerdict s t o None = (x : Read) × IsReadBy s Basic t o x
+IsBerVerdict s t o (Some u) = IsLocatedFault s Basic t o u
 
 -- the offset before which headers are shown: the octet of the refusal, or the number of octets
-abbrev pub limit_of : List ℕ → Option Unread → ℕ
+abbrev pub limit_of : List ℕ → Option DecodeError → ℕ
 limit_of o None = length o
-limit_of o (Some u) = u.octet
+limit_of o (Some u) = u.offset
 
 -- The lines are those of the headers of the octets, up to the octet of the refusal if they are refused.
 pub record IsShown (s : List Resolved) (t : ℕ) (o : List ℕ) (l : Listing) : Type 0 where
-  pub judged : IsJudged s t o l.refusal
+  pub judged : IsBerVerdict s t o l.refusal
   pub stop : ℕ
   pub lines : IsListing o (limit_of o l.refusal) stop (string_bytes l.lines)
 

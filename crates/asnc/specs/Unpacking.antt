@@ -19,9 +19,9 @@ use Rattle.packed_reader.specs.declared.part.Part.TheVariants as packed
 use Rattle.resolve.specs.Program.{Program}
 use Rattle.judging.specs.messages.declared.fault.Fault.{Fault}
 use Rattle.judging.specs.messages.declared.fault.Fault.TheVariants as faults
-use Rattle.judging.specs.messages.declared.fault.UnreadBits.{UnreadBits}
+use Rattle.judging.specs.messages.declared.fault.BitDecodeError.{BitDecodeError}
 use Rattle.judging.specs.named_values.Named.{Names, TypeNamed}
-use Rattle.asnc.specs.Places.{with_part}
+use Rattle.asnc.specs.ErrorSites.{with_part}
 
 -- ---- paths
 
@@ -73,7 +73,7 @@ pub record IsFirstFault (s : List Resolved) (t : ℕ) (o : List ℕ) (why : Refu
   pub none : (w : AbstractValue) (k : ℕ) → Reads s t w k o → ⊥
   pub first : message_from s t o ≡ faulty (record { why = why; path = parts }) bit
   -- `Truncated` if the octets are the start of a longer message
-  pub less : BeginsMessage s t o → why ≡ Truncated
+  pub truncated_value : BeginsMessage s t o → why ≡ Truncated
 
 -- The fault of octets is true. `MessageLimit`: there are more than 16,777,216. `Memory` says nothing about the octets.
 abbrev pub IsNotUnpackedBy : List Resolved → ℕ → List ℕ → PerFault → Type 0
@@ -82,7 +82,7 @@ IsNotUnpackedBy s t o per.MessageLimit = 16777216 < length o
 IsNotUnpackedBy s t o (per.Refused u) = IsFirstFault s t o u.refusal u.bit u.path.items
 
 -- the fault is the first one, and the path is that of its parts
-pub record IsUnreadBits (s : List Resolved) (t : ℕ) (o : List ℕ) (u : UnreadBits) : Type 0 where
+pub record IsLocatedBitFault (s : List Resolved) (t : ℕ) (o : List ℕ) (u : BitDecodeError) : Type 0 where
   pub parts : List Part'
   pub fault : IsFirstFault s t o u.refusal u.bit parts
   pub path : string_bytes u.path ≡ with_parts s t [] parts
@@ -91,7 +91,7 @@ pub record IsUnreadBits (s : List Resolved) (t : ℕ) (o : List ℕ) (u : Unread
 abbrev pub IsNotUnpacked : List Resolved → ℕ → List ℕ → Fault → Type 0
 IsNotUnpacked s t o faults.Memory = Unit {0}
 IsNotUnpacked s t o faults.MessageLimit = 16777216 < length o
-IsNotUnpacked s t o (faults.UnreadBits u) = IsUnreadBits s t o u
+IsNotUnpacked s t o (faults.BitDecodeError u) = IsLocatedBitFault s t o u
 IsNotUnpacked s t o fault = ⊥
 
 -- the text names a type, and the octets are refused as a value of this type
@@ -101,10 +101,10 @@ pub record IsRefusedAs (p : Program) (s : List Resolved) (name o : List ℕ) (e 
   pub fault : IsNotUnpacked s type o e
 
 -- Nothing is read, for the reason that the fault gives. `NoType`: the text names no type. `MessageLimit` and
--- `UnreadBits`: the text names a type, and the octets are refused. `Memory` says nothing about either.
+-- `BitDecodeError`: the text names a type, and the octets are refused. `Memory` says nothing about either.
 abbrev pub IsNotUnpackedAs : Program → List Resolved → List ℕ → List ℕ → Fault → Type 0
 IsNotUnpackedAs p s name o faults.Memory = Unit {0}
 IsNotUnpackedAs p s name o (faults.NoType x) = (string_bytes x ≡ name) × ((t : ℕ) → TypeNamed p name t → ⊥)
 IsNotUnpackedAs p s name o faults.MessageLimit = IsRefusedAs p s name o faults.MessageLimit
-IsNotUnpackedAs p s name o (faults.UnreadBits u) = IsRefusedAs p s name o (faults.UnreadBits u)
+IsNotUnpackedAs p s name o (faults.BitDecodeError u) = IsRefusedAs p s name o (faults.BitDecodeError u)
 IsNotUnpackedAs p s name o fault = ⊥

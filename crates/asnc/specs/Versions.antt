@@ -4,10 +4,10 @@ use Rattle.std.specs.Prelude.{◌≡◌, ◌⊎◌, ◌↔◌, ℕ, ◌<◌, Lis
 use Rattle.asn_base.specs.Abstract.{AbstractValue}
 use Rattle.asn_base.specs.Same.{Same}
 use Rattle.asn_base.specs.Types.{Resolved}
-use Rattle.later_versions.specs.Kept.{kept, left_out}
+use Rattle.later_versions.specs.Projected.{projected, left_out}
 use Rattle.later_versions.specs.Later.{Later}
 use Rattle.version_laws.specs.LeftOut.{left_out_packed}
-use Rattle.version_laws.specs.Widened.{widened}
+use Rattle.version_laws.specs.Lifted.{lifted}
 use Rattle.value_text.specs.Print.{print}
 use Rattle.resolve.specs.Program.{Program}
 use Rattle.judging.specs.messages.declared.fault.Fault.{Fault}
@@ -40,7 +40,7 @@ pub record IsKeptAnswer (p : Program) (s : List Resolved) (name printed : List �
   pub type : ℕ
   pub named : TypeNamed p name type
   pub value : AbstractValue
-  pub same : Same s type (kept s type v) value
+  pub same : Same s type (projected s type v) value
   pub text : printed ≡ print s type value
   pub skipped : k ≡ left_out s type v
 
@@ -51,7 +51,7 @@ pub record IsWidenedAnswer (q : Program) (r : List Resolved) (name printed : Lis
   pub type : ℕ
   pub named : TypeNamed q name type
   pub value : AbstractValue
-  pub same : Same r type (widened r type v) value
+  pub same : Same r type (lifted r type v) value
   pub text : printed ≡ print r type value
   pub none_skipped : k ≡ 0
 
@@ -62,6 +62,6 @@ pub record IsPackedKeptAnswer (p : Program) (s r : List Resolved) (newer : ℕ) 
   pub type : ℕ
   pub named : TypeNamed p name type
   pub value : AbstractValue
-  pub same : Same s type (kept s type v) value
+  pub same : Same s type (projected s type v) value
   pub text : printed ≡ print s type value
   pub skipped : k ≡ left_out_packed s type r newer v

@@ -2,7 +2,7 @@
 use Rattle.std.specs.Prelude.{◌≡◌, ◌⊎◌, ℕ, ◌<◌, List, length}
 use Rattle.asn_base.specs.Abstract.{AbstractValue}
 use Rattle.asn_base.specs.Types.{Resolved}
-use Rattle.encodings.specs.Account.{Account, Tells}
+use Rattle.encodings.specs.Account.{Account, Describes}
 use Rattle.encodings.specs.Encoding.{Der}
 use Rattle.octet_account.specs.Flat.{FlatRow, AreRows}
 use Rattle.account_text.specs.Text.{compact_text, IsTextOf}
@@ -22,7 +22,7 @@ pub record IsEncoded (p : Program) (s : List Resolved) (first : List ℕ) (secon
   pub value : AbstractValue
   pub meant : IsMeant p first second type value
   pub encoding : IsEncoding s type value o
-  pub tells : Tells s type value o a
+  pub describes : Describes s type value o a
 
 -- the text is that of the account of such an encoding, without white space
 pub record IsAccountOf (p : Program) (s : List Resolved) (first : List ℕ) (second : Given) (text : List ℕ)
@@ -50,7 +50,7 @@ pub record IsSentInPart (p : Program) (s : List Resolved) (first : List ℕ) (se
   pub went : WentInPart s type value a b n
 
 -- The name is that of a type, and each DER encoding of what the notation of the value that is given means is too long.
-pub record StandsForLong (p : Program) (s : List Resolved) (first : List ℕ) (second : Given) : Type 0 where
+pub record HasLongEncoding (p : Program) (s : List Resolved) (first : List ℕ) (second : Given) : Type 0 where
   pub type : ℕ
   pub value : AbstractValue
   pub meant : IsMeant p first second type value
@@ -59,4 +59,4 @@ pub record StandsForLong (p : Program) (s : List Resolved) (first : List ℕ) (s
 -- The refusal to encode is true: the texts mean no value, or the encoding is too long.
 abbrev pub IsNotEncoded : Program → List Resolved → (first : List ℕ) → (second : Given) → Fault → Type 0
 IsNotEncoded p s first second fault =
-    IsNotMeant p first second fault ⊎ ((fault ≡ faults.TooLong) × StandsForLong p s first second)
+    IsNotMeant p first second fault ⊎ ((fault ≡ faults.TooLong) × HasLongEncoding p s first second)

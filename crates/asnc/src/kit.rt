@@ -1,13 +1,15 @@
 //! Modules that are ready for use.
 
-ghost use Rattle.std.specs.Prelude.{◌≡◌, ◌<◌, ℕ, List, length, map, string_bytes};
+ghost use Rattle.std.specs.Prelude.{◌≡◌, ◌<◌, ◌⊎◌, ℕ, List, [], length, map, string_bytes};
 ghost use Rattle.std.specs.Prelude.{Err, IfOk, IfErr, IfSome, MatchOption, MatchResult};
 ghost use Rattle.asn_base.specs.Abstract.{abstract};
 ghost use Rattle.asn_base.specs.Typed.{IsValue};
 ghost use Rattle.decode_faults.specs.declared.read_fault.ReadFault.TheVariants.{Memory as no_room};
-ghost use Rattle.der_writer.specs.Encoded.{IsEncoding};
+ghost use Rattle.der_writer.specs.Encoded.{IsEncoding, Went, WentInPart};
 ghost use Rattle.der_writer.specs.declared.fault.WriteFault.TheVariants.{NotOfType, TooLong};
-ghost use Rattle.encodings.specs.Account.{Tells};
+ghost use Rattle.der_writer.specs.declared.fault.WriteFault.TheVariants.{Device as write_stopped};
+ghost use Rattle.der_writer.specs.declared.fault.WriteFault.TheVariants.{Memory as not_written};
+ghost use Rattle.encodings.specs.Account.{Describes};
 ghost use Rattle.encodings.specs.Encoding.{Der};
 ghost use Rattle.packed_reader.specs.declared.fault.PerFault.TheVariants.{MessageLimit};
 ghost use Rattle.packed_writer.specs.Message.{IsMessage, IsTooLong};
@@ -18,25 +20,26 @@ ghost use Rattle.views.specs.Seen.{IsView};
 ghost use Rattle.views.specs.Tree.{Tree, value_of};
 ghost use Rattle.resolve.specs.Program.{Program};
 ghost use Rattle.judging.specs.front_end.Accepted.{Accepted, AreAccepted, HasTypes, octets_of};
-ghost use Rattle.judging.specs.front_end.Faults.{Stands};
-ghost use Rattle.judging.specs.front_end.declared.fault.FrontFault.TheVariants.{Memory as no_memory};
+ghost use Rattle.judging.specs.front_end.Faults.{IsRightFault};
+ghost use Rattle.judging.specs.front_end.declared.fault.CompileError.TheVariants.{Memory as no_memory};
 ghost use Rattle.sinks.specs.Sent.{state};
 ghost use Rattle.judging.specs.messages.declared.fault.Fault.TheVariants.{Device, Front, Memory};
 ghost use Rattle.asnc.specs.Differences.{AreCompared};
+ghost use Rattle.asnc.specs.ErrorSites.{IsErrorSite};
 ghost use Rattle.asnc.specs.Kits.{IsNotOpened};
 ghost use Rattle.asnc.specs.Packing.{IsNotPacked, IsPacked};
-ghost use Rattle.asnc.specs.Reading.{IsNotReadAs, IsReadAs, IsReadBy, IsUnread, rules_of};
+ghost use Rattle.asnc.specs.Reading.{IsNotReadAs, IsReadAs, IsReadBy, IsReadFault, rules_of};
 ghost use Rattle.asnc.specs.Showing.{IsNotShownAs, IsShownAs};
-ghost use Rattle.asnc.specs.Unpacking.{IsNotUnpackedAs, IsNotUnpackedBy, IsUnpackedAs, IsUnpackedBy};
+ghost use Rattle.asnc.specs.Unpacking.{IsNotUnpackedAs, IsNotUnpackedBy, IsUnpackedAs, IsUnpackedBy, with_parts};
 ghost use Rattle.asnc.specs.Versions.{IsCompared, IsNotCompared};
 ghost use Rattle.asnc.specs.Writing.{IsAccountOf, IsEncoded, IsNotEncoded, IsSent, IsSentInPart};
 ghost use Rattle.judging.specs.named_values.Given.{as_given};
 ghost use Rattle.judging.specs.named_values.Meant.{IsMeant, IsNotMeant};
 ghost use Rattle.judging.specs.named_values.Named.{Names, TypeNamed};
 
-use crate::reading::{Rules, read_as, read_by};
+use crate::reading::{Rules, locate_fault, read_as, read_by};
 use crate::showing::{Listing, shown_as};
-use crate::unpacking::{unpacked, unpacked_as};
+use crate::unpacking::{locate_bit_fault, unpacked, unpacked_as};
 use account_text::to_json;
 use asn_base::schema::{Schema, TypeId};
 use asn_base::value::Value;
@@ -44,17 +47,17 @@ use ber_reader::Read;
 use codec_code::{Code, compile};
 use decode_faults::ReadFault;
 use der_writer::{WriteFault, write_der, write_der_to};
-use judging::front_end::law::values_of_schema;
-use judging::front_end::{FrontFault, Modules};
-use judging::messages::Fault;
+use judging::front_end::law::lemma_values_of_schema;
+use judging::front_end::{CompileError, Modules};
+use judging::messages::{BitDecodeError, DecodeError, Fault};
 use judging::named_values::{ValueGiven, meant, type_number};
 use later_versions::{Explained, explain, later};
 use octet_account::account::Account;
 use packed_code::{PackedCode, compile_packed};
-use packed_reader::PerFault;
+use packed_reader::{PerFault, RefusedBits};
 use packed_writer::write_uper;
 use sinks::Sink;
-use std::alloc::Global;
+use std::alloc::{AllocError, Global};
 use std::marker::Model;
 use type_listing::list;
 use view_text::print_view;
@@ -87,14 +90,14 @@ impl Model for Kit {
 }
 
 /// A fault of texts, as a user sees it.
-fn refusal(fault: FrontFault) -> Fault
-    ensures stands { (xs : List (List ℕ)) → Stands xs fault → IsNotOpened xs result }
+fn refusal(fault: CompileError) -> Fault
+    ensures valid { (xs : List (List ℕ)) → IsRightFault xs fault → IsNotOpened xs result }
     ensures memory { fault ≡ no_memory → result ≡ Memory }
     // No fault except `Memory` becomes `Memory`.
-    ensures told { (fault ≡ no_memory → ⊥) → result ≡ Front fault }
+    ensures reported { (fault ≡ no_memory → ⊥) → result ≡ Front fault }
 {
     match fault {
-        FrontFault::Memory => Fault::Memory,
+        CompileError::Memory => Fault::Memory,
         fault => Fault::Front(fault),
     }
 }
@@ -175,7 +178,7 @@ impl Kit {
         // A fault is true.
         ensures refused { IfErr result (IsNotMeant self.now.program ty.now (as_given value.entry)) }
     {
-        values_of_schema();
+        lemma_values_of_schema();
         self.modules.kept();
         meant(alloc, &self.modules, ty, value)
     }
@@ -216,7 +219,7 @@ impl Kit {
     /// The faults come as for [`Kit::der`].
     pub fn account(&self, alloc: Global, ty: &str, value: ValueGiven<'_>) -> Result<String, Fault>
         // The text is that of the account of the only DER encoding.
-        ensures told { IfOk result (λ s.
+        ensures reported { IfOk result (λ s.
             IsAccountOf self.now.program self.now.types ty.now (as_given value.entry) (string_bytes s)) }
         // A fault is true.
         ensures refused { IfErr result (IsNotEncoded self.now.program self.now.types ty.now (as_given value.entry)) }
@@ -301,8 +304,8 @@ impl Kit {
     /// text, and the number of skipped additions that the type lacks. The type is named as `Module.Name`, by the module
     /// that assigns or imports it.
     ///
-    /// `NoType`: the name is not that of a type. `Unread`: the octets encode no value of the type by the rules, with at
-    /// most 400 levels of headers, or there are more than 16,777,216. `Memory`: an allocation failed.
+    /// `NoType`: the name is not that of a type. `DecodeError`: the octets encode no value of the type by the rules, with
+    /// at most 400 levels of headers, or there are more than 16,777,216. `Memory`: an allocation failed.
     pub fn ber(
         &self,
         alloc: Global,
@@ -352,7 +355,7 @@ impl Kit {
     /// Decodes the value of a type that octets are a message of in canonical PER, unaligned (X.691, 11.1). Returns its
     /// printed text, and the number of skipped additions that the type lacks. The type is named as for [`Kit::ber`].
     ///
-    /// `NoType`: the name is not that of a type. `UnreadBits`: the octets are a message of no value of the type; the
+    /// `NoType`: the name is not that of a type. `BitDecodeError`: the octets are a message of no value of the type; its
     /// first fault has its bit and its path. `MessageLimit`: there are more than 16,777,216 octets. `Memory`: an
     /// allocation failed.
     pub fn unper(&self, alloc: Global, ty: &str, octets: &[u8]) -> Result<(String, u64), Fault>
@@ -402,7 +405,7 @@ impl Kit {
         // The octets are the value's one encoding, and no encoding by the basic rules is shorter.
         ensures encoding { IfOk result (λ w. IsEncoding self.now.types id.index (abstract value.now) w.0.items) }
         // The account describes them.
-        ensures account { IfOk result (λ w. Tells self.now.types id.index (abstract value.now) w.0.items w.1) }
+        ensures account { IfOk result (λ w. Describes self.now.types id.index (abstract value.now) w.0.items w.1) }
         // `NotOfType` if and only if the value is not one of the type.
         ensures not_of_type { IfErr result (λ e. e ≡ NotOfType
             → IsValue self.now.types id.index (abstract value.now)
@@ -414,6 +417,47 @@ impl Kit {
             → 16777216 < length o) }
     {
         write_der(alloc, &self.code, id, value)
+    }
+
+    /// Encodes a value that a program has made, as [`Kit::encode`] does, and writes the octets to a sink, in order.
+    /// Returns their account, whose first row gives their number.
+    ///
+    /// `NotOfType`, `TooLong` and `Memory` come as for [`Kit::encode`], before the first octet. `Device`: one call of
+    /// the sink failed, which isn't tried again; the fault has the number of octets that went out before.
+    pub fn encode_to<S: Sink>(
+        &self,
+        alloc: Global,
+        id: TypeId,
+        value: &Value,
+        sink: &mut S,
+    ) -> Result<Account, WriteFault>
+        requires room { S.failed sink.old < u64.MAX }
+        // The sink took exactly the value's one encoding, and no call failed. The account is that of the encoding.
+        ensures sent { IfOk result (λ account. Went self.now.types id.index (abstract value.now)
+            (state (S.taken sink.old) (S.failed sink.old))
+            (state (S.taken sink.new) (S.failed sink.new))
+            account) }
+        // The sink took exactly the first n octets of the encoding, fewer than there are, and one call failed.
+        ensures device { IfErr result (λ e. (n : ℕ) →
+            e ≡ write_stopped n →
+            WentInPart self.now.types id.index (abstract value.now)
+            (state (S.taken sink.old) (S.failed sink.old))
+            (state (S.taken sink.new) (S.failed sink.new))
+            n) }
+        // After any other fault no octet went out.
+        ensures refused { IfErr result (λ e. (e ≡ not_written) ⊎ ((e ≡ NotOfType) ⊎ (e ≡ TooLong))
+            → sink.new ≡ sink.old) }
+        // `NotOfType` if and only if the value is not one of the type.
+        ensures not_of_type { IfErr result (λ e. e ≡ NotOfType
+            → IsValue self.now.types id.index (abstract value.now)
+            → ⊥) }
+        ensures no_value { (IsValue self.now.types id.index (abstract value.now) → ⊥) → result ≡ Err NotOfType }
+        // `TooLong` only if each encoding by the distinguished rules is too long.
+        ensures longer { IfErr result (λ e. e ≡ TooLong → (o : List ℕ)
+            → Der self.now.types id.index (abstract value.now) 0 o
+            → 16777216 < length o) }
+    {
+        write_der_to(alloc, &self.code, id, value, sink)
     }
 
     /// Encodes a value that a program has made, in canonical PER, unaligned: its bits, filled to octets (X.691, 11.1).
@@ -472,9 +516,46 @@ impl Kit {
         ensures read { IfOk result (IsReadBy self.now.types (rules_of rules) id.index octets.now) }
         // The reason of a refusal applies.
         ensures refused { IfErr result (λ e. (e ≡ no_room → ⊥)
-            → IsUnread self.now.types (rules_of rules) id.index octets.now e) }
+            → IsReadFault self.now.types (rules_of rules) id.index octets.now e) }
     {
         read_by(alloc, &self.code, id, octets, rules)
+    }
+
+    /// Says where a fault of [`Kit::decode`] is: at which octet, from 0, and in which part of the value. What was found
+    /// there and what was expected is beside it, if more can be said than the fault says. The arguments are those of
+    /// the call that was refused. The error comes only if an allocation fails.
+    pub fn locate(
+        &self,
+        alloc: Global,
+        id: TypeId,
+        octets: &[u8],
+        fault: ReadFault,
+    ) -> Result<DecodeError, AllocError>
+        // It is this fault.
+        ensures fault { IfOk result (λ u. u.fault ≡ fault) }
+        // Reading stops at this octet, within this part.
+        ensures place { IfOk result (λ u.
+            IsErrorSite self.now.types id.index octets.now u.offset (string_bytes u.path)) }
+    {
+        locate_fault(alloc, &self.schema, &self.code, id, octets, fault)
+    }
+
+    /// Says in which part of a value a fault of [`Kit::unpack`] is, by names, and what the constraints allow there if
+    /// they are why the bits are refused. `id` is the type of the call that was refused. The error comes only if an
+    /// allocation fails.
+    pub fn locate_bits(
+        &self,
+        alloc: Global,
+        id: TypeId,
+        refused: RefusedBits,
+    ) -> Result<BitDecodeError, AllocError>
+        ensures refusal { IfOk result (λ u. u.refusal ≡ refused.refusal) }
+        ensures bit { IfOk result (λ u. u.bit ≡ refused.bit) }
+        // The path has the names and numbers of the parts.
+        ensures path { IfOk result (λ u.
+            string_bytes u.path ≡ with_parts self.now.types id.index [] refused.path.items) }
+    {
+        locate_bit_fault(alloc, &self.schema, id, refused)
     }
 
     /// Prints the value that a view shows, in the notation of X.680.

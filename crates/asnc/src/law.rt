@@ -13,9 +13,9 @@ ghost use Rattle.trees.specs.Values.{Name};
 ghost use Rattle.values.specs.Allowing.{Allows, AllowsCode};
 ghost use Rattle.judging.specs.front_end.Accepted.{Accepted, AreAccepted};
 ghost use Rattle.judging.specs.messages.declared.fault.Fault.{Fault};
-ghost use Rattle.judging.specs.messages.declared.fault.Fault.TheVariants.{Memory, MessageLimit, NoType, Unread, UnreadBits};
-ghost use Rattle.judging.specs.messages.declared.fault.Unread.{Unread as Unread'};
-ghost use Rattle.judging.specs.messages.declared.fault.UnreadBits.{UnreadBits as UnreadBits'};
+ghost use Rattle.judging.specs.messages.declared.fault.Fault.TheVariants.{Memory, MessageLimit, NoType, DecodeError, BitDecodeError};
+ghost use Rattle.judging.specs.messages.declared.fault.DecodeError.{DecodeError as DecodeError'};
+ghost use Rattle.judging.specs.messages.declared.fault.BitDecodeError.{BitDecodeError as BitDecodeError'};
 ghost use Rattle.asn_base.specs.Abstract.{AbstractValue};
 ghost use Rattle.asnc.specs.Headline.{IsAnswer, IsMessageOf, IsRight, IsRightlyPacked, IsRightlyRead};
 ghost use Rattle.asnc.specs.Headline.{IsRightlyUnpacked};
@@ -36,16 +36,16 @@ ghost use Rattle.asnc.specs.declared.showing.Listing.{Listing};
 ghost use Rattle.judging.specs.named_values.Given.{Given, written};
 ghost use Rattle.judging.specs.named_values.Meant.{IsMeant};
 
-use asn_base::law::sameness;
+use asn_base::law::lemma_sameness;
 use encodings::{der_laws, level_laws, message_laws};
-use judging::front_end::law::{accepted_keep, faults_exclude};
+use judging::front_end::law::{lemma_accepted_checked, lemma_faults_exclude};
 use judging::named_values::law::one_meaning;
 use packed_encodings::{message_laws as packed_message_laws, writing_laws};
 use packed_writer::law::written_is_read;
-use printed_values::law::printed_is_read_back;
-use version_laws::law::{earlier_reads, later_reads};
-use version_laws::packed_law::{earlier_reads_packed, later_reads_packed};
-use written_values::law::read_is_notation;
+use printed_values::law::lemma_printed_is_read_back;
+use version_laws::law::{lemma_earlier_reads, lemma_later_reads};
+use version_laws::packed_law::{lemma_earlier_reads_packed, lemma_later_reads_packed};
+use written_values::law::lemma_read_is_notation;
 
 /// What [`crate::Kit::der`] returns for texts that [`crate::Kit::open`] took is right, from the texts to the octets.
 pub fn headline()
@@ -133,7 +133,7 @@ pub fn reading()
     der_laws();
     level_laws();
     message_laws();
-    sameness();
+    lemma_sameness();
 }
 
 /// What [`crate::Kit::unper`] returns for texts that [`crate::Kit::open`] took is right. What [`crate::Kit::uper`]
@@ -184,9 +184,9 @@ pub fn printed()
         length printed ≤ 16777216 →
         IsReadBack p (Allows p) (AllowsCode p) M w.type printed w.read.value }
 {
-    accepted_keep();
+    lemma_accepted_checked();
     message_laws();
-    printed_is_read_back();
+    lemma_printed_is_read_back();
 }
 
 /// What [`crate::Kit::ber`] and [`crate::Kit::unper`] print can be given as a text in place of the name of a value. Under
@@ -209,7 +209,7 @@ pub fn given_back()
         IsMeant p name (written printed) w.type w.read.value }
 {
     printed();
-    read_is_notation();
+    lemma_read_is_notation();
 }
 
 /// The whole promise for a value that is given: what [`crate::Kit::der`] and [`crate::Kit::uper`] return for texts that
@@ -279,8 +279,8 @@ pub fn versions()
         IsNotReadAs q r (rules_of l) name o e →
         e ≡ Memory }
 {
-    earlier_reads();
-    later_reads();
+    lemma_earlier_reads();
+    lemma_later_reads();
 }
 
 /// What [`crate::Kit::uper`] returns for one version of a type is decoded by [`crate::Kit::unper`] of another version,
@@ -330,8 +330,8 @@ pub fn packed_versions()
         IsNotUnpackedAs q r name o e →
         e ≡ Memory }
 {
-    earlier_reads_packed();
-    later_reads_packed();
+    lemma_earlier_reads_packed();
+    lemma_later_reads_packed();
 }
 
 /// Whatever has a result has no fault except `Memory`.
@@ -367,8 +367,8 @@ pub fn one_answer()
         IsNotReadAs p s r name o e →
         e ≡ Memory }
 {
-    faults_exclude();
-    accepted_keep();
+    lemma_faults_exclude();
+    lemma_accepted_checked();
     one_meaning();
 }
 
@@ -376,22 +376,22 @@ pub fn one_answer()
 /// faults of names is a law of [`named_values::law`].
 pub fn one_refusal()
     ensures octets { (p : Program) (s : List Resolved) (r : Rules) (name o : List ℕ) (x : String Global)
-        (u : Unread') →
+        (u : DecodeError') →
         IsNotReadAs p s r name o (NoType x) →
-        IsNotReadAs p s r name o (Unread u) →
+        IsNotReadAs p s r name o (DecodeError u) →
         ⊥ }
-    ensures bits { (p : Program) (s : List Resolved) (name o : List ℕ) (x : String Global) (u : UnreadBits') →
+    ensures bits { (p : Program) (s : List Resolved) (name o : List ℕ) (x : String Global) (u : BitDecodeError') →
         IsNotUnpackedAs p s name o (NoType x) →
-        IsNotUnpackedAs p s name o (UnreadBits u) →
+        IsNotUnpackedAs p s name o (BitDecodeError u) →
         ⊥ }
     ensures length { (p : Program) (s : List Resolved) (name o : List ℕ) (x : String Global) →
         IsNotUnpackedAs p s name o (NoType x) →
         IsNotUnpackedAs p s name o MessageLimit →
         ⊥ }
     // Octets are too many, or have a fault at a bit, but not both.
-    ensures limit { (p : Program) (s : List Resolved) (name o : List ℕ) (u : UnreadBits') →
+    ensures limit { (p : Program) (s : List Resolved) (name o : List ℕ) (u : BitDecodeError') →
         IsNotUnpackedAs p s name o MessageLimit →
-        IsNotUnpackedAs p s name o (UnreadBits u) →
+        IsNotUnpackedAs p s name o (BitDecodeError u) →
         ⊥ }
 {}
 
@@ -401,8 +401,8 @@ pub fn shown_as_read()
         IsReadAs p s Basic name o printed k →
         IsShownAs p s name o l →
         l.refusal ≡ None }
-    ensures refused { (p : Program) (s : List Resolved) (name o : List ℕ) (u : Unread') (l : Listing) →
-        IsNotReadAs p s Basic name o (Unread u) →
+    ensures refused { (p : Program) (s : List Resolved) (name o : List ℕ) (u : DecodeError') (l : Listing) →
+        IsNotReadAs p s Basic name o (DecodeError u) →
         IsShownAs p s name o l →
         IsSome l.refusal }
 {}

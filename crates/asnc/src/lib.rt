@@ -2,9 +2,9 @@
 //! type and octets it makes a printed value.
 #![tactic(auto)]
 
+mod error_site;
 mod kit;
 pub mod law;
-mod places;
 mod reading;
 mod showing;
 mod unpacking;
@@ -14,7 +14,7 @@ pub use asn_base::value::Value;
 pub use ber_reader::Read;
 pub use decode_faults::{ReadFault, Refusal};
 pub use der_writer::WriteFault;
-pub use judging::messages::{Fault, NotationFault, Unread, UnreadBits, number, status};
+pub use judging::messages::{BitDecodeError, DecodeError, Fault, NotationFault, number, status};
 pub use judging::named_values::ValueGiven;
 pub use kit::Kit;
 pub use later_versions::{Difference, Explained, Reason};
@@ -23,7 +23,7 @@ pub use packed_reader::{PerFault, RefusedBits};
 pub use reading::Rules;
 pub use showing::Listing;
 pub use sinks::{Counted, InMemory, Sink, Stops, send_all};
-pub use views::{Part, View};
+pub use views::{ValueRef, View};
 
 // Libraries that crates above name through this one.
 pub use judging::{front_end, messages, named_values};

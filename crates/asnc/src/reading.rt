@@ -5,22 +5,22 @@ ghost use Rattle.asn_base.specs.Abstract.{AbstractValue};
 ghost use Rattle.asn_base.specs.Types.{Resolved};
 ghost use Rattle.ber_reader.specs.Readings.{IsReading};
 ghost use Rattle.decode_faults.specs.declared.read_fault.ReadFault.TheVariants.{Memory as no_memory};
-ghost use Rattle.encodings.specs.Encoding.{Says};
+ghost use Rattle.encodings.specs.Encoding.{EncodesTo};
 ghost use Rattle.encodings.specs.Reading.{Encodes};
 ghost use Rattle.encodings.specs.Rules.{Rules as Rules', Basic, Distinguished};
 ghost use Rattle.views.specs.Seen.{IsView};
 ghost use Rattle.views.specs.Tree.{Tree, value_of};
-ghost use Rattle.asnc.specs.Places.{IsStopped};
-ghost use Rattle.asnc.specs.Reading.{IsNotRead, IsNotReadAs, IsRead, IsReadAs, IsReadBy, IsUnread, rules_of};
+ghost use Rattle.asnc.specs.ErrorSites.{IsErrorSite};
+ghost use Rattle.asnc.specs.Reading.{IsNotRead, IsNotReadAs, IsRead, IsReadAs, IsReadBy, IsReadFault, rules_of};
 
-use crate::places::stopped;
+use crate::error_site::stop_site;
 use asn_base::schema::{Schema, TypeId};
 use ber_reader::{Read, read_ber, read_der};
-use broken_rules::{Broken, Encoded, broken_rule};
+use broken_rules::{Encoded, Violation, broken_rule};
 use codec_code::Code;
 use decode_faults::ReadFault;
 use judging::front_end::Modules;
-use judging::messages::{Fault, Finding, Unread};
+use judging::messages::{DecodeError, Fault, Finding};
 use judging::named_values::type_number;
 use octet_findings::{finding, missing};
 use std::alloc::{AllocError, Global};
@@ -45,13 +45,13 @@ fn part_at(path: &str) -> &str {
 }
 
 /// A broken rule of DER as a finding, with its own octet and path.
-fn finding_of(alloc: Global, broken: Broken) -> Result<Finding, AllocError> {
+fn finding_of(alloc: Global, broken: Violation) -> Result<Finding, AllocError> {
     let path = part_at(broken.path.as_str());
     let found = broken.found.as_str();
-    let octet = broken.octet;
+    let offset = broken.offset;
     let kind = broken.kind;
     Ok(Finding {
-        found: format!(in alloc; "{found} at octet {octet}, in {path} ({kind})")?,
+        found: format!(in alloc; "{found} at octet {offset}, in {path} ({kind})")?,
         expected: broken.expected,
     })
 }
@@ -85,27 +85,27 @@ fn not_der(
 
 /// A fault of octets with the octet and the path at which it is, and what was found there. The finding of `NotDer` has
 /// its own octet and path.
-pub(crate) fn unread_at(
+pub(crate) fn locate_fault(
     alloc: Global,
     schema: &Schema,
     code: &Code,
     id: TypeId,
     octets: &[u8],
     fault: ReadFault,
-) -> Result<Unread, AllocError>
+) -> Result<DecodeError, AllocError>
     requires same { schema.now ≡ code.now }
     ensures fault { IfOk result (λ u. u.fault ≡ fault) }
-    ensures place { IfOk result (λ u. IsStopped code.now id.index octets.now u.octet (string_bytes u.path)) }
+    ensures place { IfOk result (λ u. IsErrorSite code.now id.index octets.now u.offset (string_bytes u.path)) }
 {
-    let part = stopped(alloc, schema, code, id, octets)?;
+    let part = stop_site(alloc, schema, code, id, octets)?;
     let finding = match fault {
         ReadFault::Missing => missing(alloc, schema, part.ty, octets, part.gap)?,
         ReadFault::NotDer => not_der(alloc, schema, code, id, octets)?,
-        _ => finding(alloc, schema, part.ty, octets, part.octet, fault)?,
+        _ => finding(alloc, schema, part.ty, octets, part.offset, fault)?,
     };
-    Ok(Unread {
+    Ok(DecodeError {
         fault,
-        octet: part.octet,
+        offset: part.offset,
         path: part.path,
         finding,
     })
@@ -121,15 +121,15 @@ fn refusal(
     fault: ReadFault,
 ) -> Fault
     requires same { schema.now ≡ code.now }
-    ensures stands { (r : Rules')
-        → ((fault ≡ no_memory → ⊥) → IsUnread code.now r id.index octets.now fault)
+    ensures valid { (r : Rules')
+        → ((fault ≡ no_memory → ⊥) → IsReadFault code.now r id.index octets.now fault)
         → IsNotRead code.now r id.index octets.now result }
 {
     if fault == ReadFault::Memory {
         return Fault::Memory;
     }
-    match unread_at(alloc, schema, code, id, octets, fault) {
-        Ok(unread) => Fault::Unread(unread),
+    match locate_fault(alloc, schema, code, id, octets, fault) {
+        Ok(unread) => Fault::DecodeError(unread),
         Err(_) => Fault::Memory,
     }
 }
@@ -142,7 +142,7 @@ fn read_basic<'a>(
     octets: &'a [u8],
 ) -> Result<Read<'a>, ReadFault>
     ensures read { IfOk result (IsReadBy code.now Basic id.index octets.now) }
-    ensures refused { IfErr result (λ e. (e ≡ no_memory → ⊥) → IsUnread code.now Basic id.index octets.now e) }
+    ensures refused { IfErr result (λ e. (e ≡ no_memory → ⊥) → IsReadFault code.now Basic id.index octets.now e) }
 {
     match read_ber(alloc, code, id, octets) {
         Ok(read) => Ok(read),
@@ -158,7 +158,7 @@ fn read_strict<'a>(
     octets: &'a [u8],
 ) -> Result<Read<'a>, ReadFault>
     ensures read { IfOk result (IsReadBy code.now Distinguished id.index octets.now) }
-    ensures refused { IfErr result (λ e. (e ≡ no_memory → ⊥) → IsUnread code.now Distinguished id.index octets.now e) }
+    ensures refused { IfErr result (λ e. (e ≡ no_memory → ⊥) → IsReadFault code.now Distinguished id.index octets.now e) }
 {
     match read_der(alloc, code, id, octets) {
         Ok(read) => Ok(read),
@@ -176,7 +176,7 @@ pub(crate) fn read_by<'a>(
 ) -> Result<Read<'a>, ReadFault>
     ensures read { IfOk result (IsReadBy code.now (rules_of rules) id.index octets.now) }
     ensures refused { IfErr result (λ e. (e ≡ no_memory → ⊥)
-        → IsUnread code.now (rules_of rules) id.index octets.now e) }
+        → IsReadFault code.now (rules_of rules) id.index octets.now e) }
 {
     match rules {
         Rules::Ber => read_basic(alloc, code, id, octets),
@@ -184,7 +184,7 @@ pub(crate) fn read_by<'a>(
     }
 }
 
-/// The printed value of a type that octets encode by the rules, and the number of skipped additions. `Unread`: the
+/// The printed value of a type that octets encode by the rules, and the number of skipped additions. `DecodeError`: the
 /// octets encode no value of the type; the fault has the place. `Memory`: an allocation failed.
 fn read_text(
     alloc: Global,
@@ -206,7 +206,7 @@ fn read_text(
     Ok((text, read.skipped))
 }
 
-/// The printed value of the type that a text names. `NoType`: the text names no type. `Unread`: the octets encode no
+/// The printed value of the type that a text names. `NoType`: the text names no type. `DecodeError`: the octets encode no
 /// value of the type by the rules. `Memory`: an allocation failed.
 pub(crate) fn read_as(
     alloc: Global,

@@ -3,16 +3,16 @@
 ghost use Rattle.std.specs.Prelude.{◌≡◌, IfOk, IfErr, string_bytes};
 ghost use Rattle.header_listing.specs.Listing.{IsListing};
 ghost use Rattle.judging.specs.messages.declared.fault.Fault.TheVariants.{Memory};
-ghost use Rattle.asnc.specs.Showing.{IsJudged, IsNotShownAs, IsShown, IsShownAs, limit_of};
+ghost use Rattle.asnc.specs.Showing.{IsBerVerdict, IsNotShownAs, IsShown, IsShownAs, limit_of};
 ghost use Rattle.std.specs.Prelude.{ℕ, List, Option};
 
-use crate::reading::{Rules, read_by, unread_at};
+use crate::reading::{Rules, locate_fault, read_by};
 use asn_base::schema::{Schema, TypeId};
 use codec_code::Code;
 use decode_faults::ReadFault;
 use header_listing::{Types, list_headers};
 use judging::front_end::Modules;
-use judging::messages::{Fault, Unread};
+use judging::messages::{DecodeError, Fault};
 use judging::named_values::type_number;
 use std::alloc::{AllocError, Global};
 
@@ -22,7 +22,7 @@ pub struct Listing {
     /// A line for each header, with a line end after each line.
     pub lines: String,
     /// Why the octets are refused, and where. None if they are accepted.
-    pub refusal: Option<Unread>,
+    pub refusal: Option<DecodeError>,
 }
 
 /// Why octets are refused by the basic rules, or None if they are accepted. `Memory`: an allocation failed.
@@ -32,9 +32,9 @@ fn judged(
     code: &Code,
     id: TypeId,
     octets: &[u8],
-) -> Result<Option<Unread>, Fault>
+) -> Result<Option<DecodeError>, Fault>
     requires same { schema.now ≡ code.now }
-    ensures judged { IfOk result (IsJudged code.now id.index octets.now) }
+    ensures judged { IfOk result (IsBerVerdict code.now id.index octets.now) }
     ensures memory { IfErr result (λ e. e ≡ Memory) }
 {
     let fault = match read_by(alloc, code, id, octets, Rules::Ber) {
@@ -44,15 +44,15 @@ fn judged(
     if fault == ReadFault::Memory {
         return Err(Fault::Memory);
     }
-    Ok(Some(unread_at(alloc, schema, code, id, octets, fault)?))
+    Ok(Some(locate_fault(alloc, schema, code, id, octets, fault)?))
 }
 
 /// The offset before which headers are shown.
-fn limit_at(octets: &[u8], refusal: &Option<Unread>) -> usize
+fn limit_at(octets: &[u8], refusal: &Option<DecodeError>) -> usize
     ensures { result ≡ limit_of octets.now refusal.now }
 {
     match refusal {
-        Some(unread) => unread.octet,
+        Some(unread) => unread.offset,
         None => octets.len(),
     }
 }
@@ -64,7 +64,7 @@ fn shown(
     schema: &Schema,
     id: TypeId,
     octets: &[u8],
-    refusal: Option<Unread>,
+    refusal: Option<DecodeError>,
 ) -> Result<Listing, AllocError>
     ensures { IfOk result (λ l. (l.refusal ≡ refusal)
         × ((stop : ℕ) × IsListing octets.now (limit_of octets.now refusal) stop (string_bytes l.lines))) }

@@ -6,12 +6,12 @@ ghost use Rattle.packed_reader.specs.declared.fault.PerFault.TheVariants.{Messag
 ghost use Rattle.asnc.specs.Unpacking.{IsNotUnpacked, IsNotUnpackedAs, IsNotUnpackedBy, IsUnpacked, IsUnpackedAs, with_parts};
 ghost use Rattle.asnc.specs.Unpacking.{IsUnpackedBy};
 
-use crate::places::{path_to_part, type_at};
+use crate::error_site::{path_to_part, type_at};
 use asn_base::schema::{Schema, TypeId};
 use asn_base::value::Value;
 use decode_faults::Refusal;
 use judging::front_end::Modules;
-use judging::messages::{Fault, UnreadBits};
+use judging::messages::{BitDecodeError, Fault};
 use judging::named_values::type_number;
 use octet_findings::allowed_in_bits;
 use packed_code::PackedCode;
@@ -54,19 +54,19 @@ fn allowed_at(
 }
 
 /// A fault of bits with the path at which it is, and what is allowed there.
-fn unread_bits(
+pub(crate) fn locate_bit_fault(
     alloc: Global,
     schema: &Schema,
     id: TypeId,
     refused: RefusedBits,
-) -> Result<UnreadBits, AllocError>
+) -> Result<BitDecodeError, AllocError>
     ensures refusal { IfOk result (λ u. u.refusal ≡ refused.refusal) }
     ensures bit { IfOk result (λ u. u.bit ≡ refused.bit) }
     ensures path { IfOk result (λ u. string_bytes u.path ≡ with_parts schema.now id.index [] refused.path.items) }
 {
     let path = path_to_part(alloc, schema, id, refused.path.as_slice())?;
     let allowed = allowed_at(alloc, schema, id, &refused)?;
-    Ok(UnreadBits {
+    Ok(BitDecodeError {
         refusal: refused.refusal,
         bit: refused.bit,
         path,
@@ -76,7 +76,7 @@ fn unread_bits(
 
 /// A fault of bits, as a user sees it, with the path at which it is.
 fn refusal(alloc: Global, schema: &Schema, id: TypeId, fault: PerFault) -> Fault
-    ensures stands { (o : List ℕ)
+    ensures valid { (o : List ℕ)
         → IsNotUnpackedBy schema.now id.index o fault
         → IsNotUnpacked schema.now id.index o result }
 {
@@ -85,13 +85,13 @@ fn refusal(alloc: Global, schema: &Schema, id: TypeId, fault: PerFault) -> Fault
         PerFault::MessageLimit => return Fault::MessageLimit,
         PerFault::Refused(refused) => refused,
     };
-    match unread_bits(alloc, schema, id, refused) {
-        Ok(unread) => Fault::UnreadBits(unread),
+    match locate_bit_fault(alloc, schema, id, refused) {
+        Ok(unread) => Fault::BitDecodeError(unread),
         Err(_) => Fault::Memory,
     }
 }
 
-/// The printed value of a type that octets are a message of, and the number of skipped additions. `UnreadBits`: they
+/// The printed value of a type that octets are a message of, and the number of skipped additions. `BitDecodeError`: they
 /// are a message of no value of the type. `MessageLimit`: there are more than 16,777,216. `Memory`: an allocation
 /// failed.
 fn unpacked_text(
@@ -116,7 +116,7 @@ fn unpacked_text(
     }
 }
 
-/// The printed value of the type that a text names. `NoType`: the text names no type. `UnreadBits` and `MessageLimit`:
+/// The printed value of the type that a text names. `NoType`: the text names no type. `BitDecodeError` and `MessageLimit`:
 /// the octets are a message of no value of the type. `Memory`: an allocation failed.
 pub(crate) fn unpacked_as(
     alloc: Global,

@@ -4,7 +4,7 @@
 use command_line::Job;
 use input_lines::InputLines;
 use jobs::{LineJob, line_command, work, work_lines};
-use programs::{end, end_in, inputs_of, job_of};
+use programs::{exit_with, exit_with_report, inputs_of, job_of};
 use sinks::Counted;
 use std::io;
 use std::process::ExitCode;
@@ -13,7 +13,7 @@ use std::process::ExitCode;
 fn run(rt: &HostRuntime, job: &Job) -> ExitCode {
     let inputs = match inputs_of(rt, job) {
         Ok(inputs) => inputs,
-        Err(fault) => return end_in(rt, job, &[], &[], &fault),
+        Err(fault) => return exit_with_report(rt, job, &[], &[], &fault),
     };
     let mut out = Counted::of(io::writer(rt));
     let done = match line_command(job) {
@@ -31,13 +31,13 @@ fn run(rt: &HostRuntime, job: &Job) -> ExitCode {
     match done {
         Ok(true) => ExitCode::SUCCESS,
         Ok(false) => ExitCode::from(1),
-        Err(fault) => end_in(rt, job, &inputs.files, &inputs.newer, &fault),
+        Err(fault) => exit_with_report(rt, job, &inputs.files, &inputs.newer, &fault),
     }
 }
 
 fn main(rt: HostRuntime) -> ExitCode {
     match job_of(&rt, "asnc") {
         Ok(job) => run(&rt, &job),
-        Err(fault) => end(&rt, &fault),
+        Err(fault) => exit_with(&rt, &fault),
     }
 }

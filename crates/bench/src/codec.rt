@@ -10,8 +10,8 @@ use crate::codes::Codes;
 use crate::named::measure_named;
 use crate::shape::{Made, Shape, value_of};
 use crate::timing::{Subject, measure};
-use sample_types::{schema, type_named};
 use std::io;
+use test_types::{schema, type_named};
 
 /// Measures a value of a shape.
 fn measure_shape(rt: &HostRuntime, codes: &Codes, shape: Shape<'_>) -> io::Result<()> {

@@ -4,10 +4,10 @@
 
 use ber_reader::read_ber;
 use codec_code::{Code, compile};
-use sample_types::{schema, type_named};
 use std::alloc::{AllocError, Global};
 use std::time::{Duration, Instant};
 use std::{env, io};
+use test_types::{schema, type_named};
 
 /// How often a message is decoded. The least time counts.
 const RUNS: usize = 3;

@@ -22,15 +22,15 @@ struct Words {
 }
 
 /// The texts and names on the command line.
-fn asked(rt: &HostRuntime) -> io::Result<Words> {
+fn arguments(rt: &HostRuntime) -> io::Result<Words> {
     let mut texts = Vec::new(rt.alloc());
     let mut names = Vec::new(rt.alloc());
-    let mut behind = false;
+    let mut seen_dashes = false;
     for word in env::args(rt)?.skip(2) {
-        if behind {
+        if seen_dashes {
             names.push(word)?;
         } else if word.as_str() == "--" {
-            behind = true;
+            seen_dashes = true;
         } else {
             texts.push(fs::read(rt, word.as_str())?)?;
         }
@@ -85,15 +85,15 @@ fn measure_one(
 
 /// Measures each value that the command line names.
 pub fn measure_named(rt: &HostRuntime) -> io::Result<()> {
-    let asked = asked(rt)?;
-    let front = match open(rt.alloc(), asked.texts.as_slice()) {
+    let arguments = arguments(rt)?;
+    let front = match open(rt.alloc(), arguments.texts.as_slice()) {
         Ok(front) => front,
         Err(fault) => return println!(rt; "{fault}"),
     };
     let Some(codes) = Codes::of(rt.alloc(), &front.schema) else {
         return println!(rt; "want of memory");
     };
-    for pair in asked.names.as_slice().chunks_exact(2) {
+    for pair in arguments.names.as_slice().chunks_exact(2) {
         measure_one(
             rt,
             &front.modules,

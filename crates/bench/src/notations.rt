@@ -8,11 +8,11 @@ use asn_base::value::Value;
 use constraints::{Bounded, bound};
 use notation::value_at;
 use resolve::{Linked, Referent, link};
-use sample_types::{schema, type_named};
 use std::alloc::{AllocError, Global};
 use std::io;
 use std::time::{Duration, Instant};
 use tagging::tag;
+use test_types::{schema, type_named};
 use trees::ValueSyntax;
 use typed_values::typed;
 use value_text::print;
@@ -25,7 +25,7 @@ const TYPES: &str =
 
 const LISTS_IN_DEFAULT: usize = 2_000;
 
-const BEHIND_DEFAULT: &str = "}, b NULL} END";
+const AFTER_DEFAULT: &str = "}, b NULL} END";
 
 /// How often each notation is read, typed and printed. The least times are written.
 const RUNS: usize = 1;
@@ -125,7 +125,7 @@ fn linked_of(alloc: Global) -> Result<Option<Linked>, AllocError>
     for _ in 0..LISTS_IN_DEFAULT {
         text.extend_from_slice(", {}".as_bytes())?;
     }
-    text.extend_from_slice(BEHIND_DEFAULT.as_bytes())?;
+    text.extend_from_slice(AFTER_DEFAULT.as_bytes())?;
     let text = text.as_slice();
     let Ok(tokens) = text::lex(alloc, text) else {
         return Ok(None);

@@ -1,6 +1,6 @@
 //! The times to encode a value in canonical PER and to decode it.
 
-use crate::timing::{RUNS, Subject, told};
+use crate::timing::{RUNS, Subject, print_time};
 use packed_code::PackedCode;
 use packed_reader::read_uper;
 use packed_writer::write_uper;
@@ -22,7 +22,7 @@ fn write(rt: &HostRuntime, code: &PackedCode, subject: Subject<'_>) -> io::Resul
     }
     let count = octets.len();
     println!(rt; "{}: {count} octets in PER", subject.name)?;
-    told(rt, "written in PER", subject, count, least)?;
+    print_time(rt, "written in PER", subject, count, least)?;
     Ok(octets)
 }
 
@@ -45,7 +45,7 @@ fn read(
     if !is_read {
         println!(rt; "{}: not read from PER", subject.name)?;
     }
-    told(rt, "read from PER", subject, octets.len(), least)
+    print_time(rt, "read from PER", subject, octets.len(), least)
 }
 
 /// Prints whether the decoded value is encoded to the same octets.

@@ -62,7 +62,7 @@ fn to_list(rt: &HostRuntime, code: &Code, subject: Subject<'_>) -> io::Result<Ve
     }
     let count = octets.len();
     println!(rt; "{}: {count} octets, {rows} rows", subject.name)?;
-    told(rt, "written to a list", subject, count, least)?;
+    print_time(rt, "written to a list", subject, count, least)?;
     Ok(octets)
 }
 
@@ -77,7 +77,7 @@ fn to_sink(rt: &HostRuntime, code: &Code, subject: Subject<'_>, count: usize) ->
         }
         least = least.min(start.elapsed(rt)?);
     }
-    told(rt, "written to a sink", subject, count, least)
+    print_time(rt, "written to a sink", subject, count, least)
 }
 
 /// Decodes the octets of the value.
@@ -94,7 +94,7 @@ fn read(rt: &HostRuntime, code: &Code, subject: Subject<'_>, octets: &[u8]) -> i
     if !is_read {
         println!(rt; "{}: not read", subject.name)?;
     }
-    told(rt, "read", subject, octets.len(), least)
+    print_time(rt, "read", subject, octets.len(), least)
 }
 
 /// Prints whether the decoded value is encoded to the same octets.
@@ -112,7 +112,7 @@ fn read_back(rt: &HostRuntime, code: &Code, subject: Subject<'_>, octets: &[u8])
 }
 
 /// Prints a time.
-pub fn told(
+pub fn print_time(
     rt: &HostRuntime,
     what: &str,
     subject: Subject<'_>,

@@ -5,28 +5,28 @@ use Rattle.asn_base.specs.declared.schema.TypeId.{TypeId}
 use Rattle.asn_base.specs.Types.{Resolved}
 use Rattle.codec_code.specs.declared.step.Field.{Field as Field'}
 use Rattle.codec_code.specs.declared.step.Step.{Step}
-use Rattle.codec_source.specs.Events.{Event, begins, ends, opens, closes, holds, skips, stands, more, among, picks}
+use Rattle.codec_source.specs.Events.{Event, begins, ends, opens, closes, holds, skips, comes, more, among, picks}
 use Rattle.codec_source.specs.Reading.{Asks, head, ending, leaf, rest, left_out, field, component, no_component, element, no_element, sorted_element, no_sorted_element, pick, call, Does, finished, goes_on, reads, Reads}
 use Rattle.decode_faults.specs.declared.read_fault.ReadFault.{ReadFault}
 use Rattle.decode_faults.specs.declared.read_fault.ReadFault.TheVariants.{Memory}
 use Rattle.octet_answers.specs.States.{State}
 use Rattle.octet_answers.specs.Found.{Passes, at_end_of_contents, at_component, passes}
-use Rattle.octet_answers.specs.Answers.{Answers, Takes, StandsNext, MoreNext, AmongNext}
+use Rattle.octet_answers.specs.Answers.{Answers, Takes, FieldNext, MoreNext, NextInSet}
 
 passes_schema : {s : List Resolved} {ss : List Step} {e : Bool} {a b : State} {f : Option Field'} → Passes s ss e a f b → b.schema ≡ a.schema
 passes_schema (at_end_of_contents p) = refl
 passes_schema (at_component u i) = refl
 passes_schema (passes m u n l q) = passes_schema q
 
-stands_schema : (a b : State) (f : Field') (there : Bool) → StandsNext a f there b → b.schema ≡ a.schema
-stands_schema a b f true x = ap (λ q. q.schema) x.is
-stands_schema a b f false x = ap (λ q. q.schema) x.is
+comes_schema : (a b : State) (f : Field') (there : Bool) → FieldNext a f there b → b.schema ≡ a.schema
+comes_schema a b f true x = ap (λ q. q.schema) x.is
+comes_schema a b f false x = ap (λ q. q.schema) x.is
 
 more_schema : (a b : State) (there : Bool) → MoreNext a there b → b.schema ≡ a.schema
 more_schema a b true x = ap (λ q. q.schema) x.is
 more_schema a b false x = ap (λ q. q.schema) x.is
 
-among_schema : (a b : State) (ss : List Step) (t : Option TypeId) → AmongNext a ss t b → b.schema ≡ a.schema
+among_schema : (a b : State) (ss : List Step) (t : Option TypeId) → NextInSet a ss t b → b.schema ≡ a.schema
 among_schema a b ss (Some t) x = ap (λ q. q.schema) x.is ∙ passes_schema x.pass
 among_schema a b ss None x = passes_schema x.pass
 
@@ -37,7 +37,7 @@ answer_schema a b (opens h) x = ap (λ q. q.schema) x.is
 answer_schema a b closes x = ap (λ q. q.schema) x.is
 answer_schema a b (holds k) x = ap (λ q. q.schema) x.is
 answer_schema a b skips x = passes_schema x.pass
-answer_schema a b (stands f there) x = stands_schema a b f there x
+answer_schema a b (comes f there) x = comes_schema a b f there x
 answer_schema a b (more t s there) x = more_schema a b there x
 answer_schema a b (among ss t) x = among_schema a b ss t x
 answer_schema a b (picks ss t) x = ap (λ q. q.schema) x.is
@@ -45,7 +45,7 @@ answer_schema a b (picks ss t) x = ap (λ q. q.schema) x.is
 taken_schema : {a b : State} {e : Event} → Takes a e b → b.schema ≡ a.schema
 taken_schema {a} {b} {e} x = answer_schema a b e x.answer
 
-asks_schema : {ss behind : List Step} {t : Option TypeId} {a b : State} → Asks Takes ss a behind t b → b.schema ≡ a.schema
+asks_schema : {ss following : List Step} {t : Option TypeId} {a b : State} → Asks Takes ss a following t b → b.schema ≡ a.schema
 asks_schema (head x) = taken_schema x
 asks_schema (ending x) = taken_schema x
 asks_schema (leaf x) = taken_schema x

@@ -3,11 +3,11 @@ use Rattle.std.proofs.Common.{arith, ◌≡◌, ℕ, zero, suc, ◌<◌, ◌≤�
 use Rattle.asn_base.specs.Abstract.{AbstractValue}
 use Rattle.asn_base.specs.Types.{Resolved}
 use Rattle.encodings.specs.Rules.{Basic}
-use Rattle.encodings.specs.Encoding.{Says, says}
+use Rattle.encodings.specs.Encoding.{EncodesTo, says}
 use Rattle.encodings.specs.Levels.{levels}
 use Rattle.octet_answers.specs.States.{State, Token, front}
-use Rattle.reading_law.specs.Saying.{IsSaid}
-use Rattle.reading_law.specs.Shows.{Shows, passed_in, StandIn}
+use Rattle.laws_reading.specs.Saying.{StartsWithEncoding}
+use Rattle.laws_reading.specs.TokensShow.{TokensShow, skipped_in, AreSlicesOf}
 use Rattle.octets.specs.Fronts.{EndsEarly, in_header, in_contents}
 use Rattle.std.specs.Prelude.{slice_get, Some, None}
 use Rattle.std.proofs.Common.{◌⊎◌, inl, inr, ⊎_elim, append_assoc}
@@ -19,31 +19,31 @@ use Rattle.decode_faults.specs.declared.read_fault.ReadFault.{ReadFault}
 use Rattle.decode_faults.specs.declared.read_fault.ReadFault.TheVariants as faults
 use Rattle.octet_answers.specs.Answers.{Takes}
 use Rattle.octets.specs.Fronts.{HeaderAt}
-use Rattle.reading_law.specs.Saying.{AreUnit, IsReadTo}
+use Rattle.laws_reading.specs.Saying.{AreUnit, IsReadTo}
 use Rattle.ber_message.specs.Messages.{IsMessage, HasMessageFirst, IsEncoding, BeginsEncoding}
 
 record SaidWithin (s : List Resolved) (t : ℕ) (w : AbstractValue) (k : ℕ) (o : List ℕ) : Type 0 where
-  is_said : Says s Basic t w k o
-  few : levels is_said ≤ 400
+  is_encoded : EncodesTo s Basic t w k o
+  few : levels is_encoded ≤ 400
 
 pub whole_message : {s : List Resolved} {t : ℕ} {o : List ℕ} {z : State} (ts : List Token)
-    → IsSaid s t o z
+    → StartsWithEncoding s t o z
     → z.here.octets ≡ []
     → length o ≤ 16777216
-    → ts ≡ z.told
+    → ts ≡ z.emitted
     → IsMessage s t o ts
 whole_message {s} {t} {o} {z} ts i e l f =
     let w : o ≡ i.octets = i.whole ∙ ap (λ q. i.octets ++ q) e ∙ append-nil i.octets in
-    let d : SaidWithin s t i.value i.count o = subst (SaidWithin s t i.value i.count) (sym w) (record { is_said = i.is_said; few = i.few }) in
+    let d : SaidWithin s t i.value i.count o = subst (SaidWithin s t i.value i.count) (sym w) (record { is_encoded = i.is_encoded; few = i.few }) in
     record {
       value = i.value;
       count = i.count;
-      is_said = d.is_said;
+      is_encoded = d.is_encoded;
       few = d.few;
       short = l;
-      shown = subst (Shows s t i.value) (sym f) i.shown;
-      counted = ap passed_in f ∙ i.counted;
-      stand = subst (StandIn o) (sym f) i.stand;
+      shown = subst (TokensShow s t i.value) (sym f) i.shown;
+      counted = ap skipped_in f ∙ i.counted;
+      slices = subst (AreSlicesOf o) (sym f) i.slices;
     }
 
 some_left : (o : List ℕ) → (o ≡ [] → ⊥) → 1 ≤ length o
@@ -51,7 +51,7 @@ some_left [] n = absurd (n refl)
 some_left (x ∷ o) n = omega arith
 
 pub front_message : {s : List Resolved} {t : ℕ} {o : List ℕ} {z : State}
-    → IsSaid s t o z
+    → StartsWithEncoding s t o z
     → (z.here.octets ≡ [] → ⊥)
     → HasMessageFirst s t o
 front_message {z = z} i n = record {
@@ -59,7 +59,7 @@ front_message {z = z} i n = record {
   count = i.count;
   octets = i.octets;
   rest = z.here.octets;
-  is_said = i.is_said;
+  is_encoded = i.is_encoded;
   whole = i.whole;
   some = some_left z.here.octets n;
 }
@@ -82,33 +82,33 @@ below [] i x e = absurd (let f : None ≡ Some x = e in cc)
 below (y ∷ xs) zero x e = omega arith
 below (y ∷ xs) (suc i) x e = let r = below xs i x e in omega arith
 
-said_type : {s : List Resolved} {t k : ℕ} {w : AbstractValue} {o : List ℕ} → Says s Basic t w k o → t < length s
+said_type : {s : List Resolved} {t k : ℕ} {w : AbstractValue} {o : List ℕ} → EncodesTo s Basic t w k o → t < length s
 said_type {s} {t} (says i h f) = below s t _ i.found
 
 pub encoding_type : {s : List Resolved} {t : ℕ} {o : List ℕ} → IsEncoding s t o → t < length s
-encoding_type i = said_type i.is_said
+encoding_type i = said_type i.is_encoded
 
 -- of two lists that begin another one, one begins the other
 data Split (h x o r : List ℕ) : Type 0 where
   within : (m : List ℕ) → h ≡ o ++ m → 1 ≤ length m → Split h x o r
-  behind : (m : List ℕ) → o ≡ h ++ m → x ≡ m ++ r → Split h x o r
+  following : (m : List ℕ) → o ≡ h ++ m → x ≡ m ++ r → Split h x o r
 
 abbrev first_or : ℕ → List ℕ → ℕ
 first_or d [] = d
 first_or d (x ∷ xs) = x
 
-abbrev behind_first : List ℕ → List ℕ
-behind_first [] = []
-behind_first (x ∷ xs) = xs
+abbrev after_first : List ℕ → List ℕ
+after_first [] = []
+after_first (x ∷ xs) = xs
 
 split : (h x o r : List ℕ) → h ++ x ≡ o ++ r → Split h x o r
-split [] x o r e = behind o refl e
+split [] x o r e = following o refl e
 split (a ∷ h) x [] r e = within (a ∷ h) refl (omega arith)
-split (a ∷ h) x (b ∷ o) r e = by (split h x o r (ap behind_first e)) (ap (first_or 0) e)
+split (a ∷ h) x (b ∷ o) r e = by (split h x o r (ap after_first e)) (ap (first_or 0) e)
   where
     by : Split h x o r → a ≡ b → Split (a ∷ h) x (b ∷ o) r
     by (within m f l) g = within m (ap (λ q. a ∷ q) f ∙ ap (λ q. q ∷ (o ++ m)) g) l
-    by (behind m f l) g = behind m (ap (λ q. b ∷ q) f ∙ ap (λ q. q ∷ (h ++ m)) (sym g)) l
+    by (following m f l) g = following m (ap (λ q. b ∷ q) f ∙ ap (λ q. q ∷ (h ++ m)) (sym g)) l
 
 -- a proper front of an encoding ends early
 pub ends_before : {s : List Resolved} {t : ℕ} {o : List ℕ} (b : BeginsEncoding s t o) → AreUnit b.octets → EndsEarly o
@@ -116,7 +116,7 @@ ends_before {o = o} b u = by (split u.header u.contents o b.missing (sym u.whole
   where
     by : Split u.header u.contents o b.missing → EndsEarly o
     by (within m f l) = in_header m u.is_header f l
-    by (behind m f g) =
+    by (following m f g) =
         let a = ap length u.whole in
         let c = length-append u.header u.contents in
         let d = ap length g in
@@ -171,13 +171,13 @@ pub is_memory : {P : Type 0} (f : ReadFault) → P → ((f ≡ faults.Memory →
 is_memory f p h = ⊎_elim (λ e. e) (λ n. absurd (h n p)) (memory_or_not f)
 
 -- what is decoded of octets that others follow
-pub record ReadOf (s : List Resolved) (t : TypeId) (o r : List ℕ) (room : ℕ) : Type 0 where
+pub record ReadOf (s : List Resolved) (t : TypeId) (o r : List ℕ) (budget : ℕ) : Type 0 where
   pub last : State
-  pub reads : Reads (λ u. routine_at s u) Takes t (front s o room) last
-  pub behind : last.here.octets ≡ r
+  pub reads : Reads (λ u. routine_at s u) Takes t (front s o budget) last
+  pub following : last.here.octets ≡ r
 
-pub read_of : {s : List Resolved} {t : TypeId} {p r : List ℕ} {room : ℕ} (o : List ℕ) → IsReadTo s t p r room → o ≡ p ++ r → ReadOf s t o r room
-read_of {s} {t} {p} {r} {room} o i e = record { last = i.last; reads = subst (λ q. Reads (λ u. routine_at s u) Takes t (front s q room) i.last) (sym e) i.reads; behind = i.behind }
+pub read_of : {s : List Resolved} {t : TypeId} {p r : List ℕ} {budget : ℕ} (o : List ℕ) → IsReadTo s t p r budget → o ≡ p ++ r → ReadOf s t o r budget
+read_of {s} {t} {p} {r} {budget} o i e = record { last = i.last; reads = subst (λ q. Reads (λ u. routine_at s u) Takes t (front s q budget) i.last) (sym e) i.reads; following = i.following }
 
 pub true_false : {b : Bool} → b ≡ true → b ≡ false → ⊥
 true_false e f = cc

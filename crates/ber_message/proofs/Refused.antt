@@ -7,16 +7,16 @@ use Rattle.codec_source.specs.Reading.{Reads}
 use Rattle.codec_source.specs.Stopping.{StopsReading}
 use Rattle.decode_faults.specs.declared.read_fault.ReadFault.{ReadFault}
 use Rattle.octet_answers.specs.Answers.{Takes}
-use Rattle.octet_answers.specs.Left.{Leaves}
+use Rattle.octet_answers.specs.Unanswered.{Leaves}
 use Rattle.octet_answers.specs.States.{State, front}
 use Rattle.octets.specs.Fronts.{EndsEarly}
-use Rattle.ber_message.specs.Messages.{IsRead, IsReadBefore, StopsWith, Refuses, too_long, no_type, cut_off, more_behind, stopped, room_of}
+use Rattle.ber_message.specs.Messages.{IsRead, IsReadBefore, StopsWith, Refuses, too_long, no_type, cut_off, trailing_octets, stopped, budget_of}
 
 abbrev pub StopsOnce : Type 0
-StopsOnce = (s : List Resolved) (t : TypeId) (o : List ℕ) (room : ℕ) (y z : State) (e f : ReadFault)
+StopsOnce = (s : List Resolved) (t : TypeId) (o : List ℕ) (budget : ℕ) (y z : State) (e f : ReadFault)
     → length o ≤ 16777216
-    → StopsReading (λ u. routine_at s u) Takes (λ a q b. Leaves a q b e) t (front s o room) y
-    → StopsReading (λ u. routine_at s u) Takes (λ a q b. Leaves a q b f) t (front s o room) z
+    → StopsReading (λ u. routine_at s u) Takes (λ a q b. Leaves a q b e) t (front s o budget) y
+    → StopsReading (λ u. routine_at s u) Takes (λ a q b. Leaves a q b f) t (front s o budget) z
     → (e ≡ f) × (y ≡ z)
 
 abbrev pub StopsOrReads : Type 0
@@ -35,35 +35,35 @@ short_long : {n : ℕ} {A : Type 0} → n ≤ 16777216 → 16777216 < n → A
 short_long l m = absurd (omega (arith, l, m))
 
 never_both : (s : List Resolved) (t : TypeId) (o : List ℕ) (e : ReadFault) {A : Type 0} → StopsOrReads → IsReadBefore s t o → StopsWith s t o e → A
-never_both s t o e either r h = absurd (either s t (front s o (room_of (length o))) h.last r.last e h.stops r.reads)
+never_both s t o e either r h = absurd (either s t (front s o (budget_of (length o))) h.last r.last e h.stops r.reads)
 
 pub refused_once : StopsOnce → StopsOrReads → (s : List Resolved) (t : TypeId) (o : List ℕ) (e f : ReadFault) → Refuses s t o e → Refuses s t o f → e ≡ f
 refused_once once either s t o e f (too_long l) (too_long m) = refl
 refused_once once either s t o e f (too_long l) (no_type m n) = short_long m l
 refused_once once either s t o e f (too_long l) (cut_off m n h) = short_long m l
-refused_once once either s t o e f (too_long l) (more_behind a r) = short_long a.short l
+refused_once once either s t o e f (too_long l) (trailing_octets a r) = short_long a.short l
 refused_once once either s t o e f (too_long l) (stopped a h) = short_long a.short l
 refused_once once either s t o e f (no_type m n) (too_long l) = short_long m l
 refused_once once either s t o e f (no_type m n) (no_type l k) = refl
 refused_once once either s t o e f (no_type m n) (cut_off l k h) = absurd (n k)
-refused_once once either s t o e f (no_type m n) (more_behind a r) = absurd (n a.type)
+refused_once once either s t o e f (no_type m n) (trailing_octets a r) = absurd (n a.type)
 refused_once once either s t o e f (no_type m n) (stopped a h) = absurd (n a.type)
 refused_once once either s t o e f (cut_off m n h) (too_long l) = short_long m l
 refused_once once either s t o e f (cut_off m n h) (no_type l k) = absurd (k n)
 refused_once once either s t o e f (cut_off m n h) (cut_off l k g) = refl
-refused_once once either s t o e f (cut_off m n h) (more_behind a r) = absurd (a.header h)
+refused_once once either s t o e f (cut_off m n h) (trailing_octets a r) = absurd (a.header h)
 refused_once once either s t o e f (cut_off m n h) (stopped a g) = absurd (a.header h)
-refused_once once either s t o e f (more_behind a r) (too_long l) = short_long a.short l
-refused_once once either s t o e f (more_behind a r) (no_type l k) = absurd (k a.type)
-refused_once once either s t o e f (more_behind a r) (cut_off l k h) = absurd (a.header h)
-refused_once once either s t o e f (more_behind a r) (more_behind b q) = refl
-refused_once once either s t o e f (more_behind a r) (stopped b h) = never_both s t o f either r h
+refused_once once either s t o e f (trailing_octets a r) (too_long l) = short_long a.short l
+refused_once once either s t o e f (trailing_octets a r) (no_type l k) = absurd (k a.type)
+refused_once once either s t o e f (trailing_octets a r) (cut_off l k h) = absurd (a.header h)
+refused_once once either s t o e f (trailing_octets a r) (trailing_octets b q) = refl
+refused_once once either s t o e f (trailing_octets a r) (stopped b h) = never_both s t o f either r h
 refused_once once either s t o e f (stopped a h) (too_long l) = short_long a.short l
 refused_once once either s t o e f (stopped a h) (no_type l k) = absurd (k a.type)
 refused_once once either s t o e f (stopped a h) (cut_off l k g) = absurd (a.header g)
-refused_once once either s t o e f (stopped a h) (more_behind b r) = never_both s t o e either r h
+refused_once once either s t o e f (stopped a h) (trailing_octets b r) = never_both s t o e either r h
 refused_once once either s t o e f (stopped a h) (stopped b g) =
-    (once s t o (room_of (length o)) h.last g.last e f a.short h.stops g.stops).0
+    (once s t o (budget_of (length o)) h.last g.last e f a.short h.stops g.stops).0
 
 pub refused_or_read : StopsOrReads → ReadsOnce → (s : List Resolved) (t : TypeId) (o : List ℕ) (e : ReadFault)
     → length o ≤ 16777216
@@ -75,6 +75,6 @@ pub refused_or_read : StopsOrReads → ReadsOnce → (s : List Resolved) (t : Ty
 refused_or_read either one s t o e m n w (too_long l) r = short_long m l
 refused_or_read either one s t o e m n w (no_type l k) r = k n
 refused_or_read either one s t o e m n w (cut_off l k h) r = w h
-refused_or_read either one s t o e m n w (more_behind a q) r =
-    q.left (ap (λ z. z.here.octets) (one s t (front s o (room_of (length o))) q.last r.last q.reads r.reads) ∙ r.at_end)
-refused_or_read either one s t o e m n w (stopped a h) r = either s t (front s o (room_of (length o))) h.last r.last e h.stops r.reads
+refused_or_read either one s t o e m n w (trailing_octets a q) r =
+    q.left (ap (λ z. z.here.octets) (one s t (front s o (budget_of (length o))) q.last r.last q.reads r.reads) ∙ r.at_end)
+refused_or_read either one s t o e m n w (stopped a h) r = either s t (front s o (budget_of (length o))) h.last r.last e h.stops r.reads

@@ -6,7 +6,7 @@ use Rattle.asn_base.specs.Types.{TypeNumber, Resolved}
 use Rattle.asn_base.specs.Typed.{IsValueWithoutNodes}
 use Rattle.encodings.specs.Header.{Octets}
 use Rattle.encodings.specs.Rules.{Basic}
-use Rattle.encodings.specs.Encoding.{Says}
+use Rattle.encodings.specs.Encoding.{EncodesTo}
 use Rattle.encodings.specs.Levels.{levels}
 use Rattle.codec_code.specs.Routines.{id_of, routine_at}
 use Rattle.codec_source.specs.Reading.{Reads}
@@ -16,34 +16,34 @@ use Rattle.decode_faults.specs.declared.read_fault.ReadFault.TheVariants.{Messag
 use Rattle.decode_faults.specs.declared.read_fault.ReadFault.TheVariants.{UnexpectedTag}
 use Rattle.octets.specs.Fronts.{EndsEarly}
 use Rattle.octet_answers.specs.Answers.{Takes}
-use Rattle.octet_answers.specs.Left.{Leaves}
+use Rattle.octet_answers.specs.Unanswered.{Leaves}
 use Rattle.octet_answers.specs.States.{State, Token, front}
-use Rattle.reading_law.specs.Shows.{Shows, passed_in, StandIn}
-use Rattle.ber_views.specs.Telling.{IsBuiltOf}
-use Rattle.ber_views.specs.declared.telling.Built.{Built}
+use Rattle.laws_reading.specs.TokensShow.{TokensShow, skipped_in, AreSlicesOf}
+use Rattle.ber_views.specs.ViewSink.{IsBuiltOf}
+use Rattle.ber_views.specs.declared.view_sink.Built.{Built}
 
 -- The octets encode exactly a value of the type by the basic rules, with `count` unknown additions. They are at most
 -- 16,777,216, with at most 400 levels of headers. The tokens show the value, and as many skipped additions. The
 -- contents octets of a token are in the message at the offset that the token has.
-pub record IsMessage (s : List Resolved) (t : TypeNumber) (o : Octets) (told : List Token) : Type 0 where
+pub record IsMessage (s : List Resolved) (t : TypeNumber) (o : Octets) (emitted : List Token) : Type 0 where
   pub value : AbstractValue
   pub count : ℕ
-  pub is_said : Says s Basic t value count o
-  pub few : levels is_said ≤ 400
+  pub is_encoded : EncodesTo s Basic t value count o
+  pub few : levels is_encoded ≤ 400
   pub short : length o ≤ 16777216
-  pub shown : Shows s t value told
-  pub counted : passed_in told ≡ count
-  pub stand : StandIn o told
+  pub shown : TokensShow s t value emitted
+  pub counted : skipped_in emitted ≡ count
+  pub slices : AreSlicesOf o emitted
 
 -- The most values that can begin in n octets: each octet except the last begins at most one header, and at most 64
 -- values are nested.
-abbrev pub room_of : ℕ → ℕ
-room_of n = n * 64 + 64
+abbrev pub budget_of : ℕ → ℕ
+budget_of n = n * 64 + 64
 
 -- the type's routine reads the octets to their end
 pub record IsRead (s : List Resolved) (t : TypeId) (o : Octets) : Type 0 where
   pub last : State
-  pub reads : Reads (λ u. routine_at s u) Takes t (front s o (room_of (length o))) last
+  pub reads : Reads (λ u. routine_at s u) Takes t (front s o (budget_of (length o))) last
   pub at_end : last.here.octets ≡ []
 
 -- The view of a value, built of the tokens that the type's routine reads of a message to its end, with the number of
@@ -51,8 +51,8 @@ pub record IsRead (s : List Resolved) (t : TypeId) (o : Octets) : Type 0 where
 pub record IsViewed (s : List Resolved) (t : TypeNumber) (o : Octets) (b : Built) : Type 0 where
   pub read : IsRead s (id_of t) o
   pub one : (other : IsRead s (id_of t) o) → other.last ≡ read.last
-  pub message : IsMessage s t o read.last.told
-  pub built : IsBuiltOf s read.last.told b
+  pub message : IsMessage s t o read.last.emitted
+  pub built : IsBuiltOf s read.last.emitted b
 
 -- the octets start with an encoding of a value, and may go on
 pub record HasMessageFirst (s : List Resolved) (t : TypeNumber) (o : Octets) : Type 0 where
@@ -60,7 +60,7 @@ pub record HasMessageFirst (s : List Resolved) (t : TypeNumber) (o : Octets) : T
   pub count : ℕ
   pub octets : Octets
   pub rest : Octets
-  pub is_said : Says s Basic t value count octets
+  pub is_encoded : EncodesTo s Basic t value count octets
   pub whole : o ≡ octets ++ rest
   pub some : 1 ≤ length rest
 
@@ -68,16 +68,16 @@ pub record HasMessageFirst (s : List Resolved) (t : TypeNumber) (o : Octets) : T
 pub record EndsTooSoon (s : List Resolved) (t : TypeId) (o : Octets) : Type 0 where
   pub last : State
   pub stops :
-      StopsReading (λ u. routine_at s u) Takes (λ a q b. Leaves a q b Missing) t (front s o (room_of (length o))) last
+      StopsReading (λ u. routine_at s u) Takes (λ a q b. Leaves a q b Missing) t (front s o (budget_of (length o))) last
   pub at_end : last.here.octets ≡ []
 
 -- The octets encode something of the type's shape that isn't a value of the type. A constraint isn't met, an ENUMERATED
 -- lacks the number, a group isn't whole, or the DEFAULT of an absent component has too many levels.
-pub record SaysNoValue (s : List Resolved) (t : TypeNumber) (o : Octets) : Type 0 where
+pub record EncodesNoValue (s : List Resolved) (t : TypeNumber) (o : Octets) : Type 0 where
   pub value : AbstractValue
   pub count : ℕ
-  pub is_said : Says s Basic t value count o
-  pub few : levels is_said ≤ 400
+  pub is_encoded : EncodesTo s Basic t value count o
+  pub few : levels is_encoded ≤ 400
   pub short : length o ≤ 16777216
   pub is_none : IsValueWithoutNodes s t value → ⊥
 
@@ -87,8 +87,8 @@ pub record IsEncoding (s : List Resolved) (t : TypeNumber) (o : Octets) : Type 0
   pub value : AbstractValue
   pub count : ℕ
   pub is_value : IsValueWithoutNodes s t value
-  pub is_said : Says s Basic t value count o
-  pub few : levels is_said ≤ 400
+  pub is_encoded : EncodesTo s Basic t value count o
+  pub few : levels is_encoded ≤ 400
   pub short : length o ≤ 16777216
 
 -- the octets are the start of a longer encoding of a value of the type
@@ -112,12 +112,12 @@ pub record HasEncodingFirst (s : List Resolved) (t : TypeNumber) (o : Octets) : 
 pub record StopsWith (s : List Resolved) (t : TypeId) (o : Octets) (e : ReadFault) : Type 0 where
   pub last : State
   pub stops :
-      StopsReading (λ u. routine_at s u) Takes (λ a q b. Leaves a q b e) t (front s o (room_of (length o))) last
+      StopsReading (λ u. routine_at s u) Takes (λ a q b. Leaves a q b e) t (front s o (budget_of (length o))) last
 
 -- the type's routine reads a value, and octets are left after it
 pub record IsReadBefore (s : List Resolved) (t : TypeId) (o : Octets) : Type 0 where
   pub last : State
-  pub reads : Reads (λ u. routine_at s u) Takes t (front s o (room_of (length o))) last
+  pub reads : Reads (λ u. routine_at s u) Takes t (front s o (budget_of (length o))) last
   pub left : last.here.octets ≡ [] → ⊥
 
 -- Octets that the routine of the type tries to read. They are at most 16,777,216, the schema has the type, the first
@@ -134,5 +134,5 @@ pub data Refuses (s : List Resolved) (t : TypeId) (o : Octets) : ReadFault → T
   too_long : 16777216 < length o → Refuses s t o MessageLimit
   no_type : length o ≤ 16777216 → (t.index < length s → ⊥) → Refuses s t o UnexpectedTag
   cut_off : length o ≤ 16777216 → t.index < length s → EndsEarly o → Refuses s t o Truncated
-  more_behind : AreTried s t o → IsReadBefore s t o → Refuses s t o Trailing
+  trailing_octets : AreTried s t o → IsReadBefore s t o → Refuses s t o Trailing
   stopped : {e : ReadFault} → AreTried s t o → StopsWith s t o e → Refuses s t o e

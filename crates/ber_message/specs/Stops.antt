@@ -8,23 +8,23 @@ use Rattle.codec_source.specs.Reading.{Reads}
 use Rattle.codec_source.specs.Stopping.{StopsReading}
 use Rattle.decode_faults.specs.declared.read_fault.ReadFault.{ReadFault}
 use Rattle.octet_answers.specs.Answers.{Takes}
-use Rattle.octet_answers.specs.Left.{Leaves}
+use Rattle.octet_answers.specs.Unanswered.{Leaves}
 use Rattle.octet_answers.specs.States.{State, front}
-use Rattle.reading_law.specs.Shows.{IsSliceAt}
+use Rattle.laws_reading.specs.TokensShow.{IsSliceAt}
 use Rattle.ber_message.specs.Opened.{entered, on_last, opens}
-use Rattle.ber_message.specs.declared.stop.Whereabouts.{Whereabouts}
+use Rattle.ber_message.specs.declared.stop.ErrorPosition.{ErrorPosition}
 
 -- the offset of the first octet that isn't read, and the values that are open there; the unread octets are the rest of
 -- the message from that offset
-pub record IsAt (o : Octets) (w : Whereabouts) (z : State) : Type 0 where
+pub record IsAt (o : Octets) (w : ErrorPosition) (z : State) : Type 0 where
   pub place : w.place ≡ z.here.at
   pub unread : IsSliceAt o w.place z.here.octets
-  pub values : w.values.items ≡ opens z.told
+  pub values : w.values.items ≡ opens z.emitted
 
 -- Where reading of the octets stops, if at most `most` values may begin. The type's routine comes to a question that
 -- the octets don't answer, or it reads a value. If there are more than 16,777,216 octets, the place is the first octet
 -- after these.
-pub data IsStop (s : List Resolved) (t : TypeId) (o : Octets) (most : ℕ) (w : Whereabouts) : Type 0 where
+pub data IsStop (s : List Resolved) (t : TypeId) (o : Octets) (most : ℕ) (w : ErrorPosition) : Type 0 where
   stops : (z : State) (e : ReadFault)
       → StopsReading (λ u. routine_at s u) Takes (λ a q b. Leaves a q b e) t (front s o most) z
       → IsAt o w z
@@ -34,13 +34,13 @@ pub data IsStop (s : List Resolved) (t : TypeId) (o : Octets) (most : ℕ) (w : 
 
 -- the same place, at which a part of the innermost open value begins: the one that a token named, or else its next
 -- element
-pub record IsEntered (v w : Whereabouts) : Type 0 where
+pub record IsEntered (v w : ErrorPosition) : Type 0 where
   pub place : w.place ≡ v.place
   pub values : w.values.items ≡ on_last entered v.values.items
 
 -- Reading stops there if only so many values may begin, and what isn't read is a part of the innermost open value.
-pub record IsStopBefore (s : List Resolved) (t : TypeId) (o : Octets) (w : Whereabouts) : Type 0 where
+pub record IsStopBefore (s : List Resolved) (t : TypeId) (o : Octets) (w : ErrorPosition) : Type 0 where
   pub most : ℕ
-  pub stopped : Whereabouts
+  pub stopped : ErrorPosition
   pub stop : IsStop s t o most stopped
   pub part : IsEntered stopped w

@@ -8,12 +8,12 @@ ghost use Rattle.decode_faults.specs.declared.read_fault.ReadFault.{ReadFault};
 ghost use Rattle.std.specs.Int.Digits.{AllBelowBase};
 ghost use Rattle.std.specs.Prelude.{◌≡◌, ◌<◌, ◌≤◌, List, length, ℕ};
 
-use octets::law::one_front;
-use reading_law::law::{read_is_said, said_is_read, stops_once};
+use laws_reading::law::{lemma_encoded_is_read, lemma_read_is_encoded, lemma_stops_once};
+use octets::law::lemma_one_front;
 
 /// Octets have at most one fault as a message of a type, apart from constraints. Octets that the type's routine reads
 /// to their end have none.
-pub fn one_refusal()
+pub fn lemma_one_refusal()
     ensures once { (s : List Resolved) (t : TypeId) (o : List ℕ) (e f : ReadFault)
         → Refuses s t o e
         → Refuses s t o f
@@ -27,8 +27,8 @@ pub fn one_refusal()
         → IsRead s t o
         → ⊥ }
 {
-    one_front();
-    read_is_said();
-    said_is_read();
-    stops_once();
+    lemma_one_front();
+    lemma_read_is_encoded();
+    lemma_encoded_is_read();
+    lemma_stops_once();
 }

@@ -5,13 +5,13 @@
 pub mod law;
 mod message;
 mod open;
+mod path;
 mod stop;
 mod view;
-mod way;
 
 pub use ber_views::Built;
 pub use message::read_message;
-pub use open::{Open, Part};
-pub use stop::{Whereabouts, most_values, stop_of};
+pub use open::{OpenValue, Part};
+pub use path::begun_before;
+pub use stop::{ErrorPosition, most_values, stop_of};
 pub use view::read_view;
-pub use way::begun_before;

@@ -7,7 +7,7 @@ ghost use Rattle.ber_source.specs.Seen.{token_of};
 ghost use Rattle.decode_faults.specs.declared.read_fault.ReadFault.TheVariants.{Memory, MessageLimit, Missing};
 ghost use Rattle.decode_faults.specs.declared.read_fault.ReadFault.TheVariants.{NotDer, OutsideConstraint, Trailing};
 ghost use Rattle.decode_faults.specs.declared.read_fault.ReadFault.TheVariants.{Truncated};
-ghost use Rattle.encodings.specs.Encoding.{Says};
+ghost use Rattle.encodings.specs.Encoding.{EncodesTo};
 ghost use Rattle.encodings.specs.Rules.{Basic};
 ghost use Rattle.octets.specs.Fronts.{EndsEarly, HeaderAt};
 ghost use Rattle.std.specs.Int.Digits.{AllBelowBase};
@@ -19,10 +19,10 @@ use codec_code::Code;
 use codec_source::read;
 use decode_faults::ReadFault;
 use encodings::schema_laws;
+use laws_reading::law::{lemma_encoded_is_read, lemma_read_is_encoded};
 use limits::{MAX_MESSAGE, MAX_OPEN};
-use octets::law::one_front;
+use octets::law::lemma_one_front;
 use octets::{HeaderFault, read_header};
-use reading_law::law::{read_is_said, said_is_read};
 use std::alloc::Global;
 
 /// Reads a message of the type by the basic rules (X.690, 8.1 to 8.14), from its start, and returns its tokens. Strings
@@ -38,11 +38,11 @@ pub fn read_message<'a>(
 ) -> Result<Vec<Token<'a>>, ReadFault>
     ensures ok { IfOk result (λ ts. IsMessage code.now id.index octets.now (map token_of ts.items)) }
     // The type's routine reads exactly these tokens.
-    ensures told { IfOk result (λ ts. (r : IsRead code.now id octets.now) → r.last.told ≡ map token_of ts.items) }
+    ensures emitted { IfOk result (λ ts. (r : IsRead code.now id octets.now) → r.last.emitted ≡ map token_of ts.items) }
     // The octets exactly encode no other value, and have no other number of unknown additions.
     ensures only { IfOk result (λ ts. (m : IsMessage code.now id.index octets.now (map token_of ts.items))
         → (w : AbstractValue) (k : ℕ)
-        → Says code.now Basic id.index w k octets.now
+        → EncodesTo code.now Basic id.index w k octets.now
         → (w ≡ m.value) × (k ≡ m.count)) }
     ensures limit { 16777216 < length octets.now → result ≡ Err MessageLimit }
     ensures long { result ≡ Err MessageLimit → 16777216 < length octets.now }
@@ -51,7 +51,7 @@ pub fn read_message<'a>(
     // a complete encoding and go on; `Truncated` if they are the start of one.
     ensures read { IsEncoding code.now id.index octets.now → IfErr result (λ e. e ≡ Memory) }
     ensures more { HasEncodingFirst code.now id.index octets.now → (result ≡ Err Trailing) ⊎ (result ≡ Err Memory) }
-    ensures less { BeginsEncoding code.now id.index octets.now → result ≡ Err Truncated }
+    ensures truncated_value { BeginsEncoding code.now id.index octets.now → result ≡ Err Truncated }
     // `Missing` comes only at the end of contents. `OutsideConstraint` never comes: constraints aren't judged.
     ensures missing { result ≡ Err Missing → EndsTooSoon code.now id octets.now }
     ensures outside { result ≡ Err OutsideConstraint → ⊥ }
@@ -65,10 +65,10 @@ pub fn read_message<'a>(
     ensures refused { IfErr result (λ e. (e ≡ Memory → ⊥) → Refuses code.now id octets.now e) }
     ensures not_der { result ≡ Err NotDer → ⊥ }
 {
-    code.accepted();
+    code.lemma_invariant();
     schema_laws();
-    read_is_said();
-    said_is_read();
+    lemma_read_is_encoded();
+    lemma_encoded_is_read();
     are_octets(octets);
     if octets.len() > MAX_MESSAGE {
         return Err(ReadFault::MessageLimit);
@@ -104,7 +104,7 @@ pub(crate) fn ends_early(octets: &[u8]) -> bool
     ensures late { EndsEarly octets.now → result ≡ true }
     ensures none { result ≡ true → (g : Tag') (c : Bool) (n k : ℕ) → HeaderAt g c n k octets.now → ⊥ }
 {
-    one_front();
+    lemma_one_front();
     match read_header(octets) {
         Ok(_) => false,
         Err(fault) => match fault {

@@ -1,6 +1,6 @@
 //! Which values are open after some tokens, and which of their parts are being read.
 
-ghost use Rattle.ber_message.specs.Opened.{behind_part, but_last, entered as entered', on_last, opened, opens, opens_after, part_or, with_part};
+ghost use Rattle.ber_message.specs.Opened.{after_part, but_last, entered as entered', on_last, opened, opens, opens_after, part_or, with_part};
 ghost use Rattle.ber_source.specs.Seen.{token_of};
 ghost use Rattle.std.specs.List.{AllByRecursion};
 ghost use Rattle.std.specs.Prelude.{◌≡◌, ◌++◌, ◌∷◌, ◌<◌, ◌≤◌, [], IfOk, map, OnOk, Some, suc, ℕ};
@@ -22,13 +22,13 @@ pub enum Part {
 
 /// A value that is open: its type, the part of it that is being read, if any, and the number of its parts that ended.
 #[derive(Clone, Copy, PartialEq, Eq, Debug)]
-pub struct Open {
+pub struct OpenValue {
     pub ty: TypeId,
     pub part: Option<Part>,
     pub read: usize,
 }
 
-fn push_open(list: &mut Vec<Open>, one: Open) -> Result<(), AllocError>
+fn push_open(list: &mut Vec<OpenValue>, one: OpenValue) -> Result<(), AllocError>
     ensures { OnOk result (list.new.items ≡ list.old.items ++ one ∷ []) }
 {
     list.push(one)?;
@@ -36,7 +36,7 @@ fn push_open(list: &mut Vec<Open>, one: Open) -> Result<(), AllocError>
 }
 
 /// The part that begins: the one that a token named, or else the next element.
-fn part_of(value: Open) -> Option<Part>
+fn part_of(value: OpenValue) -> Option<Part>
     ensures { result ≡ part_or value.part value.read }
 {
     match value.part {
@@ -46,10 +46,10 @@ fn part_of(value: Open) -> Option<Part>
 }
 
 /// The value, with the part of it that begins.
-pub(crate) fn entered(value: Open) -> Open
+pub(crate) fn entered(value: OpenValue) -> OpenValue
     ensures { result ≡ entered' value }
 {
-    Open {
+    OpenValue {
         ty: value.ty,
         part: part_of(value),
         read: value.read,
@@ -57,13 +57,13 @@ pub(crate) fn entered(value: Open) -> Open
 }
 
 /// Sets the part of the innermost open value, as a token named it.
-fn tell(list: &mut Vec<Open>, part: Part) -> Result<(), AllocError>
+fn name_part(list: &mut Vec<OpenValue>, part: Part) -> Result<(), AllocError>
     ensures { OnOk result (list.new.items ≡ on_last (with_part (Some part)) list.old.items) }
 {
     match list.pop() {
         Some(last) => push_open(
             list,
-            Open {
+            OpenValue {
                 ty: last.ty,
                 part: Some(part),
                 read: last.read,
@@ -74,7 +74,7 @@ fn tell(list: &mut Vec<Open>, part: Part) -> Result<(), AllocError>
 }
 
 /// A part of the innermost open value begins: the one that a token named, or else its next element.
-pub(crate) fn enter(list: &mut Vec<Open>) -> Result<(), AllocError>
+pub(crate) fn enter(list: &mut Vec<OpenValue>) -> Result<(), AllocError>
     ensures { OnOk result (list.new.items ≡ on_last entered' list.old.items) }
 {
     match list.pop() {
@@ -84,14 +84,14 @@ pub(crate) fn enter(list: &mut Vec<Open>) -> Result<(), AllocError>
 }
 
 /// Ends the part of the innermost open value that was being read.
-fn pass(list: &mut Vec<Open>) -> Result<(), AllocError>
+fn pass(list: &mut Vec<OpenValue>) -> Result<(), AllocError>
     requires { AllByRecursion (λ o. o.read < 18446744073709551615) list.old.items }
-    ensures { OnOk result (list.new.items ≡ on_last behind_part list.old.items) }
+    ensures { OnOk result (list.new.items ≡ on_last after_part list.old.items) }
 {
     match list.pop() {
         Some(last) => push_open(
             list,
-            Open {
+            OpenValue {
                 ty: last.ty,
                 part: None,
                 read: last.read + 1,
@@ -102,9 +102,9 @@ fn pass(list: &mut Vec<Open>) -> Result<(), AllocError>
 }
 
 /// Ends the innermost open value.
-fn leave(list: &mut Vec<Open>) -> Result<(), AllocError>
+fn leave(list: &mut Vec<OpenValue>) -> Result<(), AllocError>
     requires { AllByRecursion (λ o. o.read < 18446744073709551615) list.old.items }
-    ensures { OnOk result (list.new.items ≡ on_last behind_part (but_last list.old.items)) }
+    ensures { OnOk result (list.new.items ≡ on_last after_part (but_last list.old.items)) }
 {
     match list.pop() {
         Some(_) => pass(list),
@@ -113,13 +113,13 @@ fn leave(list: &mut Vec<Open>) -> Result<(), AllocError>
 }
 
 /// Begins a value of the type, within the innermost open value.
-fn begin(list: &mut Vec<Open>, id: TypeId) -> Result<(), AllocError>
+fn begin(list: &mut Vec<OpenValue>, id: TypeId) -> Result<(), AllocError>
     ensures { OnOk result (list.new.items ≡ on_last entered' list.old.items ++ opened id ∷ []) }
 {
     enter(list)?;
     push_open(
         list,
-        Open {
+        OpenValue {
             ty: id,
             part: None,
             read: 0,
@@ -128,16 +128,16 @@ fn begin(list: &mut Vec<Open>, id: TypeId) -> Result<(), AllocError>
 }
 
 /// Changes the list of open values as one more token requires.
-pub(crate) fn take(list: &mut Vec<Open>, token: Token<'_>) -> Result<(), AllocError>
+pub(crate) fn take(list: &mut Vec<OpenValue>, token: Token<'_>) -> Result<(), AllocError>
     requires { AllByRecursion (λ o. o.read < 18446744073709551615) list.old.items }
     ensures { OnOk result (list.new.items ≡ opens_after list.old.items (token_of token.entry)) }
 {
     match token {
-        Token::Component(place) => tell(list, Part::Component(place)),
-        Token::Chosen(index) => tell(list, Part::Alternative(index)),
+        Token::Component(place) => name_part(list, Part::Component(place)),
+        Token::Chosen(index) => name_part(list, Part::Alternative(index)),
         Token::Begun(id) => begin(list, id),
         Token::Ended => leave(list),
-        Token::Held {
+        Token::PrimitiveToken {
             kind: _,
             form: _,
             octets: _,
@@ -148,7 +148,7 @@ pub(crate) fn take(list: &mut Vec<Open>, token: Token<'_>) -> Result<(), AllocEr
 }
 
 /// The values that are open after the tokens, the outermost first. `AllocError` comes only if an allocation fails.
-pub(crate) fn open_behind(alloc: Global, tokens: &[Token<'_>]) -> Result<Vec<Open>, AllocError>
+pub(crate) fn open_after(alloc: Global, tokens: &[Token<'_>]) -> Result<Vec<OpenValue>, AllocError>
     ensures { IfOk result (λ list. list.items ≡ opens (map token_of tokens.now)) }
 {
     let mut list = Vec::new(alloc);

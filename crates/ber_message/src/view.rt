@@ -2,11 +2,11 @@
 
 ghost use Rattle.asn_base.specs.Abstract.{AbstractValue};
 ghost use Rattle.ber_message.specs.Messages.{BeginsEncoding, EndsTooSoon, HasEncodingFirst, HasMessageFirst, IsEncoding, IsRead, IsViewed, Refuses};
-ghost use Rattle.ber_views.specs.Telling.{IsBuiltOf};
+ghost use Rattle.ber_views.specs.ViewSink.{IsBuiltOf};
 ghost use Rattle.decode_faults.specs.declared.read_fault.ReadFault.TheVariants.{Memory, MessageLimit, Missing};
 ghost use Rattle.decode_faults.specs.declared.read_fault.ReadFault.TheVariants.{NotDer, OutsideConstraint, Trailing};
 ghost use Rattle.decode_faults.specs.declared.read_fault.ReadFault.TheVariants.{Truncated};
-ghost use Rattle.encodings.specs.Encoding.{Says};
+ghost use Rattle.encodings.specs.Encoding.{EncodesTo};
 ghost use Rattle.encodings.specs.Rules.{Basic};
 ghost use Rattle.std.specs.Prelude.{◌≡◌, ◌<◌, ◌⊎◌, Err, IfErr, IfOk, length, ℕ};
 
@@ -17,8 +17,8 @@ use codec_code::Code;
 use codec_source::read;
 use decode_faults::ReadFault;
 use encodings::schema_laws;
+use laws_reading::law::{lemma_encoded_is_read, lemma_read_is_encoded};
 use limits::{MAX_MESSAGE, MAX_OPEN};
-use reading_law::law::{read_is_said, said_is_read};
 use std::alloc::Global;
 
 /// Reads a message of the type by the basic rules (X.690, 8.1 to 8.14), from its start. Returns the view of its value,
@@ -37,7 +37,7 @@ pub fn read_view<'a>(
     // The octets exactly encode no other value, and have no other number of unknown additions.
     ensures only { IfOk result (λ b. (v : IsViewed code.now id.index octets.now b)
         → (w : AbstractValue) (k : ℕ)
-        → Says code.now Basic id.index w k octets.now
+        → EncodesTo code.now Basic id.index w k octets.now
         → (w ≡ v.message.value) × (k ≡ v.message.count)) }
     ensures limit { 16777216 < length octets.now → result ≡ Err MessageLimit }
     ensures long { result ≡ Err MessageLimit → 16777216 < length octets.now }
@@ -46,7 +46,7 @@ pub fn read_view<'a>(
     // a complete encoding and go on; `Truncated` if they are the start of one.
     ensures read { IsEncoding code.now id.index octets.now → IfErr result (λ e. e ≡ Memory) }
     ensures more { HasEncodingFirst code.now id.index octets.now → (result ≡ Err Trailing) ⊎ (result ≡ Err Memory) }
-    ensures less { BeginsEncoding code.now id.index octets.now → result ≡ Err Truncated }
+    ensures truncated_value { BeginsEncoding code.now id.index octets.now → result ≡ Err Truncated }
     // `Missing` comes only at the end of contents. `OutsideConstraint` never comes: constraints aren't judged.
     ensures missing { result ≡ Err Missing → EndsTooSoon code.now id octets.now }
     ensures outside { result ≡ Err OutsideConstraint → ⊥ }
@@ -60,10 +60,10 @@ pub fn read_view<'a>(
     ensures refused { IfErr result (λ e. (e ≡ Memory → ⊥) → Refuses code.now id octets.now e) }
     ensures not_der { result ≡ Err NotDer → ⊥ }
 {
-    code.accepted();
+    code.lemma_invariant();
     schema_laws();
-    read_is_said();
-    said_is_read();
+    lemma_read_is_encoded();
+    lemma_encoded_is_read();
     are_octets(octets);
     if octets.len() > MAX_MESSAGE {
         return Err(ReadFault::MessageLimit);
@@ -90,10 +90,10 @@ pub fn read_view<'a>(
 
 /// What was read, as a view.
 fn finished<'a>(viewer: Viewer<'_, 'a>) -> Result<Built<'a>, ReadFault>
-    ensures ok { IfOk result (λ b. IsBuiltOf viewer.entry.schema viewer.entry.told b) }
+    ensures ok { IfOk result (λ b. IsBuiltOf viewer.entry.schema viewer.entry.emitted b) }
     ensures err { IfErr result (λ e. e ≡ Memory) }
 {
-    match viewer.into_telling().finish() {
+    match viewer.into_sink().finish() {
         Ok(built) => Ok(built),
         Err(_) => Err(ReadFault::Memory),
     }

@@ -10,11 +10,11 @@ use Rattle.asn_base.specs.Types.{TypeNumber, Component, Alternative, Kind, Resol
 use Rattle.decode_faults.specs.declared.read_fault.ReadFault.{ReadFault}
 use Rattle.decode_faults.specs.declared.read_fault.ReadFault.TheVariants as faults
 use Rattle.codec_code.specs.Routines.{id_of}
-use Rattle.ber_message.specs.Ways.{on_way}
-use Rattle.ber_message.specs.declared.open.Open.{Open}
+use Rattle.ber_message.specs.Paths.{on_path}
+use Rattle.ber_message.specs.declared.open.OpenValue.{OpenValue}
 use Rattle.ber_message.specs.declared.open.Part.{Part}
 use Rattle.ber_message.specs.declared.open.Part.TheVariants as a_part
-use Rattle.ber_reader.specs.Judged.{Piece, piece, Placed, placed, kind_at, element_of, alternatives, FirstWrong, none_wrong, wrong_here, right_here, component_piece, component_pieces, element_pieces, parts, IsWrong, Innermost, is_itself, is_within, LeadOn, IsOwn, lacks_number, half_a_group, deep_component, deep_alternative, outside, IsJudged, is_addition_in, in_root, without_additions}
+use Rattle.ber_reader.specs.Judged.{Piece, piece, Placed, placed, kind_at, element_of, alternatives, FirstWrong, none_wrong, wrong_here, right_here, component_piece, component_pieces, element_pieces, parts, IsWrong, Innermost, is_itself, is_within, Extends, IsOwn, lacks_number, half_a_group, deep_component, deep_alternative, outside, IsJudged, is_addition_in, in_root, without_additions}
 
 -- ---- lists that are left
 
@@ -38,9 +38,9 @@ drop_none (suc i) = refl
 -- ---- pieces
 
 -- the first wrong one after pieces that are values of their types
-pub behind : {s : List Resolved} {ps qs : List Placed} {o : Option Placed} → FirstWrong s ps None → FirstWrong s qs o → FirstWrong s (ps ++ qs) o
-behind none_wrong g = g
-behind (right_here r h) g = right_here r (behind h g)
+pub following : {s : List Resolved} {ps qs : List Placed} {o : Option Placed} → FirstWrong s ps None → FirstWrong s qs o → FirstWrong s (ps ++ qs) o
+following none_wrong g = g
+following (right_here r h) g = right_here r (following h g)
 
 -- a first wrong one stays the first if others follow
 pub before : {s : List Resolved} {ps : List Placed} {p : Placed} (qs : List Placed) → FirstWrong s ps (Some p) → FirstWrong s (ps ++ qs) (Some p)
@@ -215,10 +215,10 @@ pub judged_itself : {s : List Resolved} {t : TypeNumber} {v : AbstractValue} {f 
     → FirstWrong s (parts (kind_at s t) v) None
     → IsOwn s t v f
     → IsJudged s t v f
-judged_itself {s} {t} {v} n w o = record { inner = piece t v; way = []; is_innermost = is_itself n w; own = o }
+judged_itself {s} {t} {v} n w o = record { inner = piece t v; path = []; is_innermost = is_itself n w; own = o }
 
 -- the value around a part
-abbrev pub round : TypeNumber → Part → Open
+abbrev pub round : TypeNumber → Part → OpenValue
 round t p = record { ty = id_of t; part = Some p; read = 0 }
 
 -- a value within
@@ -226,7 +226,7 @@ pub judged_within : {s : List Resolved} {t u : TypeNumber} {v w : AbstractValue}
     → FirstWrong s (parts (kind_at s t) v) (Some (placed p u w))
     → IsJudged s u w f
     → IsJudged s t v f
-judged_within {t = t} {p = p} w j = record { inner = j.inner; way = round t p ∷ j.way; is_innermost = is_within w (record { of_type = refl; at_part = refl }) j.is_innermost; own = j.own }
+judged_within {t = t} {p = p} w j = record { inner = j.inner; path = round t p ∷ j.path; is_innermost = is_within w (record { of_type = refl; at_part = refl }) j.is_innermost; own = j.own }
 
 -- ---- the way to it
 
@@ -235,21 +235,21 @@ on_ok (Ok a) f p = f p
 on_ok (Err e) f p = p
 
 -- none to the value itself
-pub lead_itself : {s : List Resolved} {t : TypeNumber} {v : AbstractValue} (os : List Open) → (IsValue s t v → ⊥) → FirstWrong s (parts (kind_at s t) v) None → LeadOn s (piece t v) os os
-lead_itself {t = t} {v = v} os n w = record { way = []; whole = sym (append-nil os); lead = record { inner = piece t v; is_innermost = is_itself n w } }
+pub lead_itself : {s : List Resolved} {t : TypeNumber} {v : AbstractValue} (os : List OpenValue) → (IsValue s t v → ⊥) → FirstWrong s (parts (kind_at s t) v) None → Extends s (piece t v) os os
+lead_itself {t = t} {v = v} os n w = record { path = []; whole = sym (append-nil os); path_to_wrong = record { inner = piece t v; is_innermost = is_itself n w } }
 
 -- the way leads through the part that has it
-pub lead_within : {s : List Resolved} {t u : TypeNumber} {v w : AbstractValue} {p : Part} {os ps all : List Open} (o : Open)
+pub lead_within : {s : List Resolved} {t u : TypeNumber} {v w : AbstractValue} {p : Part} {os ps all : List OpenValue} (o : OpenValue)
     → o.ty.index ≡ t
     → o.part ≡ Some p
     → ps ≡ os ++ o ∷ []
     → FirstWrong s (parts (kind_at s t) v) (Some (placed p u w))
-    → LeadOn s (piece u w) ps all
-    → LeadOn s (piece t v) os all
+    → Extends s (piece u w) ps all
+    → Extends s (piece t v) os all
 lead_within {os = os} o e f g w l = record {
-  way = o ∷ l.way;
-  whole = l.whole ∙ ap (λ q. q ++ l.way) g ∙ append_assoc os (o ∷ []) l.way;
-  lead = record { inner = l.lead.inner; is_innermost = is_within w (record { of_type = e; at_part = f }) l.lead.is_innermost };
+  path = o ∷ l.path;
+  whole = l.whole ∙ ap (λ q. q ++ l.path) g ∙ append_assoc os (o ∷ []) l.path;
+  path_to_wrong = record { inner = l.path_to_wrong.inner; is_innermost = is_within w (record { of_type = e; at_part = f }) l.path_to_wrong.is_innermost };
 }
 
 -- ---- one of each
@@ -267,26 +267,26 @@ none_some e = cc
 some_same : {A : Type 0} {x y : A} → Some x ≡ Some y → x ≡ y
 some_same e = cc
 
-inner_once : {s : List Resolved} {p q r : Piece} {os ps : List Open} → Innermost s p os q → Innermost s p ps r → q ≡ r
+inner_once : {s : List Resolved} {p q r : Piece} {os ps : List OpenValue} → Innermost s p os q → Innermost s p ps r → q ≡ r
 inner_once (is_itself n w) (is_itself m z) = refl
 inner_once (is_itself n w) (is_within x a j) = absurd (none_some (first_once w x))
 inner_once (is_within x a i) (is_itself m z) = absurd (none_some (first_once z x))
 inner_once {s} {r = r} (is_within x a i) (is_within {os = os} y b j) = inner_once i (subst (λ z. Innermost s z.piece os r) (sym (some_same (first_once x y))) j)
 
 -- the parts of it are one list: another way has the same type, and the same part, at each place
-ways_once : {s : List Resolved} {p q r : Piece} {os ps : List Open} → Innermost s p os q → Innermost s p ps r → map on_way os ≡ map on_way ps
-ways_once (is_itself n w) (is_itself m z) = refl
-ways_once (is_itself n w) (is_within x a j) = absurd (none_some (first_once w x))
-ways_once (is_within x a i) (is_itself m z) = absurd (none_some (first_once z x))
-ways_once {s} {r = r} (is_within {o = o} {os = ns} x a i) (is_within {o = u} {os = os} y b j) =
+paths_once : {s : List Resolved} {p q r : Piece} {os ps : List OpenValue} → Innermost s p os q → Innermost s p ps r → map on_path os ≡ map on_path ps
+paths_once (is_itself n w) (is_itself m z) = refl
+paths_once (is_itself n w) (is_within x a j) = absurd (none_some (first_once w x))
+paths_once (is_within x a i) (is_itself m z) = absurd (none_some (first_once z x))
+paths_once {s} {r = r} (is_within {o = o} {os = ns} x a i) (is_within {o = u} {os = os} y b j) =
     let e = some_same (first_once x y) in
     let t : o.ty ≡ u.ty = ap id_of (a.of_type ∙ sym b.of_type) in
     let p : o.part ≡ u.part = a.at_part ∙ ap (λ z. Some z.part) e ∙ sym b.at_part in
-    let h : on_way o ≡ on_way u = ap (λ z. record { ty = z; part = o.part; read = 0 }) t ∙ ap (λ z. record { ty = u.ty; part = z; read = 0 }) p in
-    ap (λ z. z ∷ map on_way ns) h ∙ ap (λ z. on_way u ∷ z) (ways_once i (subst (λ z. Innermost s z.piece os r) (sym e) j))
+    let h : on_path o ≡ on_path u = ap (λ z. record { ty = z; part = o.part; read = 0 }) t ∙ ap (λ z. record { ty = u.ty; part = z; read = 0 }) p in
+    ap (λ z. z ∷ map on_path ns) h ∙ ap (λ z. on_path u ∷ z) (paths_once i (subst (λ z. Innermost s z.piece os r) (sym e) j))
 
-pub one_way : (s : List Resolved) (p q r : Piece) (os ps : List Open) → Innermost s p os q → Innermost s p ps r → (q ≡ r) × (map on_way os ≡ map on_way ps)
-one_way s p q r os ps a b = (inner_once a b, ways_once a b)
+pub lemma_one_path : (s : List Resolved) (p q r : Piece) (os ps : List OpenValue) → Innermost s p os q → Innermost s p ps r → (q ≡ r) × (map on_path os ≡ map on_path ps)
+lemma_one_path s p q r os ps a b = (inner_once a b, paths_once a b)
 
 own_once : {s : List Resolved} {t : TypeNumber} {v : AbstractValue} {e f : ReadFault} → IsOwn s t v e → IsOwn s t v f → e ≡ f
 own_once lacks_number lacks_number = refl

@@ -11,72 +11,72 @@ use Rattle.encodings.specs.declared.leaf_kind.LeafKind.{LeafKind}
 use Rattle.codec_code.specs.declared.step.Step.TheVariants.{Leaf}
 use Rattle.codec_code.specs.Routines.{id_of, body}
 use Rattle.octet_answers.specs.States.{Token, component, chosen, begun, ended, held, passed}
-use Rattle.reading_law.specs.Shows.{Shows, shows, ShowsOf, shows_leaf, shows_sequence, shows_set, shows_sequence_of, shows_set_of, shows_choice, ShowsFields, no_field, absent_field, present_field, ShowsMixed, nothing_mixed, passed_mixed, component_mixed, ShowsElements, no_element_shown, element_shown, with_at}
-use Rattle.ber_message.specs.declared.open.Open.{Open}
+use Rattle.laws_reading.specs.TokensShow.{TokensShow, shows, ShowsOf, shows_leaf, shows_sequence, shows_set, shows_sequence_of, shows_set_of, shows_choice, ShowsFields, no_field, absent_field, present_field, ShowsMixed, nothing_mixed, passed_mixed, component_mixed, ShowsElements, no_element_shown, element_shown, with_at}
+use Rattle.ber_message.specs.declared.open.OpenValue.{OpenValue}
 use Rattle.ber_message.specs.declared.open.Part.{Part}
 use Rattle.ber_message.specs.declared.open.Part.TheVariants as a_part
-use Rattle.ber_message.specs.Opened.{opened, with_part, part_or, entered, behind_part, on_last, but_last, opens, opens_after, opens_from}
-use Rattle.ber_message.specs.Ways.{begun_in, on_way, Leads, BeginsBefore, no_token, leads_here, leads_on, none_begins, AreOpenBefore}
+use Rattle.ber_message.specs.Opened.{opened, with_part, part_or, entered, after_part, on_last, but_last, opens, opens_after, opens_from}
+use Rattle.ber_message.specs.Paths.{begun_in, on_path, Leads, BeginsBefore, no_token, leads_here, leads_on, none_begins, AreOpenBefore}
 use Rattle.ber_message.specs.Stops.{IsEntered, IsStop}
-use Rattle.ber_message.specs.declared.stop.Whereabouts.{Whereabouts}
-use Rattle.ber_reader.specs.Judged.{Piece, piece, Placed, placed, kind_at, element_of, alternatives, component_pieces, element_pieces, parts, FirstWrong, wrong_here, right_here, IsOpenAt, Innermost, is_itself, is_within, LeadToWrong, LeadOn, IsBeforeWrong}
+use Rattle.ber_message.specs.declared.stop.ErrorPosition.{ErrorPosition}
+use Rattle.ber_reader.specs.Judged.{Piece, piece, Placed, placed, kind_at, element_of, alternatives, component_pieces, element_pieces, parts, FirstWrong, wrong_here, right_here, IsOpenAt, Innermost, is_itself, is_within, IsPathToWrong, Extends, IsBeforeWrong}
 use Rattle.ber_reader.specs.Readings.{IsBeforeInnermost}
 use Rattle.ber_reader.proofs.Rows.{at_row, blank_none}
 
 -- ---- the last of the open values
 
-last_is : (f : Open → Open) (os : List Open) (o : Open) → on_last f (os ++ o ∷ []) ≡ os ++ f o ∷ []
+last_is : (f : OpenValue → OpenValue) (os : List OpenValue) (o : OpenValue) → on_last f (os ++ o ∷ []) ≡ os ++ f o ∷ []
 last_is f [] o = refl
 last_is f (p ∷ []) o = refl
 last_is f (p ∷ q ∷ os) o = ap (λ z. p ∷ z) (last_is f (q ∷ os) o)
 
-all_but : (os : List Open) (o : Open) → but_last (os ++ o ∷ []) ≡ os
+all_but : (os : List OpenValue) (o : OpenValue) → but_last (os ++ o ∷ []) ≡ os
 all_but [] o = refl
 all_but (p ∷ []) o = refl
 all_but (p ∷ q ∷ os) o = ap (λ z. p ∷ z) (all_but (q ∷ os) o)
 
-opens_more : (os : List Open) (xs ys : List Token) → opens_from os (xs ++ ys) ≡ opens_from (opens_from os xs) ys
+opens_more : (os : List OpenValue) (xs ys : List Token) → opens_from os (xs ++ ys) ≡ opens_from (opens_from os xs) ys
 opens_more os [] ys = refl
 opens_more os (x ∷ xs) ys = opens_more (opens_after os x) xs ys
 
 -- ---- tokens of whole values
 
 -- the innermost open value stays so
-record Stays (os : List Open) (o : Open) (ts : List Token) : Type 0 where
-  last : Open
+record Stays (os : List OpenValue) (o : OpenValue) (ts : List Token) : Type 0 where
+  last : OpenValue
   same : last.ty ≡ o.ty
   stays : opens_from (os ++ o ∷ []) ts ≡ os ++ last ∷ []
 
-stays_on : {os : List Open} {o : Open} {xs : List Token} (ys : List Token) → (a : Stays os o xs) → Stays os a.last ys → Stays os o (xs ++ ys)
+stays_on : {os : List OpenValue} {o : OpenValue} {xs : List Token} (ys : List Token) → (a : Stays os o xs) → Stays os a.last ys → Stays os o (xs ++ ys)
 stays_on {os} {o} {xs} ys a b = record {
   last = b.last;
   same = b.same ∙ a.same;
   stays = opens_more (os ++ o ∷ []) xs ys ∙ ap (λ q. opens_from q ys) a.stays ∙ b.stays;
 }
 
-stays_as : {os : List Open} {o : Open} {xs ys : List Token} → ys ≡ xs → Stays os o xs → Stays os o ys
+stays_as : {os : List OpenValue} {o : OpenValue} {xs ys : List Token} → ys ≡ xs → Stays os o xs → Stays os o ys
 stays_as {os} {o} e a = subst (Stays os o) (sym e) a
 
-abbrev told_part : (os : List Open) (o : Open) (i : ℕ) → Stays os o (component i ∷ [])
-told_part os o i = record { last = with_part (Some (a_part.Component i)) o; same = refl; stays = last_is (with_part (Some (a_part.Component i))) os o }
+abbrev emitted_part : (os : List OpenValue) (o : OpenValue) (i : ℕ) → Stays os o (component i ∷ [])
+emitted_part os o i = record { last = with_part (Some (a_part.Component i)) o; same = refl; stays = last_is (with_part (Some (a_part.Component i))) os o }
 
-passed_over : (os : List Open) (o : Open) (n : ℕ) → opens_from (os ++ o ∷ []) (replicate n passed) ≡ os ++ o ∷ []
+passed_over : (os : List OpenValue) (o : OpenValue) (n : ℕ) → opens_from (os ++ o ∷ []) (replicate n passed) ≡ os ++ o ∷ []
 passed_over os o zero = refl
 passed_over os o (suc n) = passed_over os o n
 
 mutual
   -- after a whole value the part that it is was decoded
-  through : {s : List Resolved} {t : TypeNumber} {w : AbstractValue} {xs : List Token} → Shows s t w xs → (os : List Open) (o : Open) → opens_from (os ++ o ∷ []) xs ≡ os ++ behind_part o ∷ []
+  through : {s : List Resolved} {t : TypeNumber} {w : AbstractValue} {xs : List Token} → TokensShow s t w xs → (os : List OpenValue) (o : OpenValue) → opens_from (os ++ o ∷ []) xs ≡ os ++ after_part o ∷ []
   through {t = t} (shows {ts = ts} i h e) os o =
       let inner = within h (os ++ entered o ∷ []) (opened (id_of t)) in
       ap (opens_from (os ++ o ∷ [])) e
       ∙ ap (λ q. opens_from (q ++ opened (id_of t) ∷ []) (ts ++ ended ∷ [])) (last_is entered os o)
       ∙ opens_more ((os ++ entered o ∷ []) ++ opened (id_of t) ∷ []) ts (ended ∷ [])
-      ∙ ap (λ q. on_last behind_part (but_last q)) inner.stays
-      ∙ ap (on_last behind_part) (all_but (os ++ entered o ∷ []) inner.last)
-      ∙ last_is behind_part os (entered o)
+      ∙ ap (λ q. on_last after_part (but_last q)) inner.stays
+      ∙ ap (on_last after_part) (all_but (os ++ entered o ∷ []) inner.last)
+      ∙ last_is after_part os (entered o)
 
-  within : {s : List Resolved} {k : Kind} {w : AbstractValue} {ts : List Token} → ShowsOf s k w ts → (os : List Open) (o : Open) → Stays os o ts
+  within : {s : List Resolved} {k : Kind} {w : AbstractValue} {ts : List Token} → ShowsOf s k w ts → (os : List OpenValue) (o : OpenValue) → Stays os o ts
   within (shows_leaf levels l b c) os o = record { last = o; same = refl; stays = refl }
   within (shows_sequence {ts = ts} n f e) os o =
       let a = within_fields f os o in
@@ -85,51 +85,51 @@ mutual
   within (shows_sequence_of m) os o = within_elements m os o
   within (shows_set_of m) os o = within_elements m os o
   within (shows_choice {i = i} {ts = ts} f h) os o =
-      let told = with_part (Some (a_part.Alternative i)) o in
-      record { last = behind_part told; same = refl; stays = ap (λ q. opens_from q ts) (last_is (with_part (Some (a_part.Alternative i))) os o) ∙ through h os told }
+      let emitted = with_part (Some (a_part.Alternative i)) o in
+      record { last = after_part emitted; same = refl; stays = ap (λ q. opens_from q ts) (last_is (with_part (Some (a_part.Alternative i))) os o) ∙ through h os emitted }
 
-  within_fields : {s : List Resolved} {i : ℕ} {cs : List Component} {ws : Row} {ts : List Token} → ShowsFields s i cs ws ts → (os : List Open) (o : Open) → Stays os o ts
+  within_fields : {s : List Resolved} {i : ℕ} {cs : List Component} {ws : Row} {ts : List Token} → ShowsFields s i cs ws ts → (os : List OpenValue) (o : OpenValue) → Stays os o ts
   within_fields no_field os o = record { last = o; same = refl; stays = refl }
   within_fields (absent_field f) os o = within_fields f os o
   within_fields (present_field {i = i} {xs = xs} {ts = ts} x f e) os o =
-      let a = told_part os o i in
-      let b : Stays os a.last xs = record { last = behind_part a.last; same = refl; stays = through x os a.last } in
+      let a = emitted_part os o i in
+      let b : Stays os a.last xs = record { last = after_part a.last; same = refl; stays = through x os a.last } in
       stays_as e (stays_on (xs ++ ts) a (stays_on ts b (within_fields f os b.last)))
 
-  within_mixed : {s : List Resolved} {cs : List Component} {ws : Row} {ts : List Token} → ShowsMixed s cs ws ts → (os : List Open) (o : Open) → Stays os o ts
+  within_mixed : {s : List Resolved} {cs : List Component} {ws : Row} {ts : List Token} → ShowsMixed s cs ws ts → (os : List OpenValue) (o : OpenValue) → Stays os o ts
   within_mixed nothing_mixed os o = record { last = o; same = refl; stays = refl }
   within_mixed (passed_mixed m) os o = let a = within_mixed m os o in record { last = a.last; same = a.same; stays = a.stays }
   within_mixed (component_mixed {i = i} {xs = xs} {ts = ts} f g x m v e) os o =
-      let a = told_part os o i in
-      let b : Stays os a.last xs = record { last = behind_part a.last; same = refl; stays = through x os a.last } in
+      let a = emitted_part os o i in
+      let b : Stays os a.last xs = record { last = after_part a.last; same = refl; stays = through x os a.last } in
       stays_as e (stays_on (xs ++ ts) a (stays_on ts b (within_mixed m os b.last)))
 
-  within_elements : {s : List Resolved} {u : TypeNumber} {ws : Row} {ts : List Token} → ShowsElements s u ws ts → (os : List Open) (o : Open) → Stays os o ts
+  within_elements : {s : List Resolved} {u : TypeNumber} {ws : Row} {ts : List Token} → ShowsElements s u ws ts → (os : List OpenValue) (o : OpenValue) → Stays os o ts
   within_elements no_element_shown os o = record { last = o; same = refl; stays = refl }
   within_elements (element_shown {xs = xs} {ts = ts} x m e) os o =
-      let b : Stays os o xs = record { last = behind_part o; same = refl; stays = through x os o } in
+      let b : Stays os o xs = record { last = after_part o; same = refl; stays = through x os o } in
       stays_as e (stays_on ts b (within_elements m os b.last))
 
 -- ---- a part among them
 
 -- tokens that show a part, and what is open before them
-record HasPart (s : List Resolved) (q : Placed) (os : List Open) (o : Open) (ts : List Token) : Type 0 where
+record HasPart (s : List Resolved) (q : Placed) (os : List OpenValue) (o : OpenValue) (ts : List Token) : Type 0 where
   before : List Token
   inner : List Token
-  behind : List Token
-  whole : ts ≡ before ++ (inner ++ behind)
-  shown : Shows s q.piece.type q.piece.value inner
-  round : Open
+  following : List Token
+  whole : ts ≡ before ++ (inner ++ following)
+  shown : TokensShow s q.piece.type q.piece.value inner
+  round : OpenValue
   same : round.ty ≡ o.ty
   is_part : part_or round.part round.read ≡ Some q.part
   opens_round : opens_from (os ++ o ∷ []) before ≡ os ++ round ∷ []
 
-part_behind : {s : List Resolved} {q : Placed} {os : List Open} {o : Open} {xs ts : List Token} (ys : List Token) → ts ≡ xs ++ ys → (a : Stays os o xs) → HasPart s q os a.last ys → HasPart s q os o ts
-part_behind {os = os} {o = o} {xs = xs} ys e a p = record {
+part_after : {s : List Resolved} {q : Placed} {os : List OpenValue} {o : OpenValue} {xs ts : List Token} (ys : List Token) → ts ≡ xs ++ ys → (a : Stays os o xs) → HasPart s q os a.last ys → HasPart s q os o ts
+part_after {os = os} {o = o} {xs = xs} ys e a p = record {
   before = xs ++ p.before;
   inner = p.inner;
-  behind = p.behind;
-  whole = e ∙ ap (λ z. xs ++ z) p.whole ∙ sym (append_assoc xs p.before (p.inner ++ p.behind));
+  following = p.following;
+  whole = e ∙ ap (λ z. xs ++ z) p.whole ∙ sym (append_assoc xs p.before (p.inner ++ p.following));
   shown = p.shown;
   round = p.round;
   same = p.same ∙ a.same;
@@ -137,12 +137,12 @@ part_behind {os = os} {o = o} {xs = xs} ys e a p = record {
   opens_round = opens_more (os ++ o ∷ []) xs p.before ∙ ap (λ z. opens_from z p.before) a.stays ∙ p.opens_round;
 }
 
-part_before : {s : List Resolved} {q : Placed} {os : List Open} {o : Open} {xs ts : List Token} (ys : List Token) → ts ≡ xs ++ ys → HasPart s q os o xs → HasPart s q os o ts
+part_before : {s : List Resolved} {q : Placed} {os : List OpenValue} {o : OpenValue} {xs ts : List Token} (ys : List Token) → ts ≡ xs ++ ys → HasPart s q os o xs → HasPart s q os o ts
 part_before {xs = xs} ys e p = record {
   before = p.before;
   inner = p.inner;
-  behind = p.behind ++ ys;
-  whole = e ∙ ap (λ z. z ++ ys) p.whole ∙ append_assoc p.before (p.inner ++ p.behind) ys ∙ ap (λ z. p.before ++ z) (append_assoc p.inner p.behind ys);
+  following = p.following ++ ys;
+  whole = e ∙ ap (λ z. z ++ ys) p.whole ∙ append_assoc p.before (p.inner ++ p.following) ys ∙ ap (λ z. p.before ++ z) (append_assoc p.inner p.following ys);
   shown = p.shown;
   round = p.round;
   same = p.same;
@@ -151,8 +151,8 @@ part_before {xs = xs} ys e p = record {
 }
 
 -- the part that begins, and the token before it, if there is one
-part_here : {s : List Resolved} {os : List Open} {o : Open} {p : Part} {t : TypeNumber} {w : AbstractValue} {xs ts : List Token} (ys : List Token) → ts ≡ xs ++ ys → part_or o.part o.read ≡ Some p → Shows s t w xs → HasPart s (placed p t w) os o ts
-part_here {o = o} {xs = xs} ys e f x = record { before = []; inner = xs; behind = ys; whole = e; shown = x; round = o; same = refl; is_part = f; opens_round = refl }
+part_here : {s : List Resolved} {os : List OpenValue} {o : OpenValue} {p : Part} {t : TypeNumber} {w : AbstractValue} {xs ts : List Token} (ys : List Token) → ts ≡ xs ++ ys → part_or o.part o.read ≡ Some p → TokensShow s t w xs → HasPart s (placed p t w) os o ts
+part_here {o = o} {xs = xs} ys e f x = record { before = []; inner = xs; following = ys; whole = e; shown = x; round = o; same = refl; is_part = f; opens_round = refl }
 
 none_first : {A : Type 0} {s : List Resolved} {q : Placed} {ps : List Placed} → ps ≡ [] → FirstWrong s ps (Some q) → A
 none_first {A} {s} {q} e f = by (subst (λ z. FirstWrong s z (Some q)) e f)
@@ -160,22 +160,22 @@ none_first {A} {s} {q} e f = by (subst (λ z. FirstWrong s z (Some q)) e f)
     by : FirstWrong s [] (Some q) → A
     by g = elim g [ ]
 
-field_part : {s : List Resolved} {i : ℕ} {cs : List Component} {ws : Row} {ts : List Token} {q : Placed} → ShowsFields s i cs ws ts → FirstWrong s (component_pieces i cs ws) (Some q) → (os : List Open) (o : Open) → HasPart s q os o ts
+field_part : {s : List Resolved} {i : ℕ} {cs : List Component} {ws : Row} {ts : List Token} {q : Placed} → ShowsFields s i cs ws ts → FirstWrong s (component_pieces i cs ws) (Some q) → (os : List OpenValue) (o : OpenValue) → HasPart s q os o ts
 field_part no_field f os o = elim f [ ]
 field_part (absent_field g) f os o = field_part g f os o
 field_part (present_field {i = i} {xs = xs} {ts = ts} x g e) (wrong_here n) os o =
-    part_behind (xs ++ ts) e (told_part os o i) (part_here ts refl refl x)
+    part_after (xs ++ ts) e (emitted_part os o i) (part_here ts refl refl x)
 field_part (present_field {i = i} {xs = xs} {ts = ts} x g e) (right_here v f) os o =
-    let a = told_part os o i in
-    let b : Stays os a.last xs = record { last = behind_part a.last; same = refl; stays = through x os a.last } in
-    part_behind (xs ++ ts) e a (part_behind ts refl b (field_part g f os b.last))
+    let a = emitted_part os o i in
+    let b : Stays os a.last xs = record { last = after_part a.last; same = refl; stays = through x os a.last } in
+    part_after (xs ++ ts) e a (part_after ts refl b (field_part g f os b.last))
 
-element_part : {s : List Resolved} {i : ℕ} {u : TypeNumber} {ws : Row} {ts : List Token} {q : Placed} → ShowsElements s u ws ts → FirstWrong s (element_pieces i u ws) (Some q) → (os : List Open) (o : Open) → o.part ≡ None → o.read ≡ i → HasPart s q os o ts
+element_part : {s : List Resolved} {i : ℕ} {u : TypeNumber} {ws : Row} {ts : List Token} {q : Placed} → ShowsElements s u ws ts → FirstWrong s (element_pieces i u ws) (Some q) → (os : List OpenValue) (o : OpenValue) → o.part ≡ None → o.read ≡ i → HasPart s q os o ts
 element_part no_element_shown f os o n m = elim f [ ]
 element_part (element_shown {xs = xs} {ts = ts} x g e) (wrong_here w) os o n m = part_here ts e (ap (λ z. part_or z o.read) n ∙ ap (λ z. Some (a_part.Element z)) m) x
 element_part (element_shown {xs = xs} {ts = ts} x g e) (right_here v f) os o n m =
-    let b : Stays os o xs = record { last = behind_part o; same = refl; stays = through x os o } in
-    part_behind ts e b (element_part g f os b.last refl (ap suc m))
+    let b : Stays os o xs = record { last = after_part o; same = refl; stays = through x os o } in
+    part_after ts e b (element_part g f os b.last refl (ap suc m))
 
 -- the component at a place
 record AtPlace (i : ℕ) (cs : List Component) (ws : Row) (q : Placed) : Type 0 where
@@ -183,7 +183,7 @@ record AtPlace (i : ℕ) (cs : List Component) (ws : Row) (q : Placed) : Type 0 
   component : Component
   value : AbstractValue
   has : slice_get cs place ≡ Some component
-  stands : at_row ws place ≡ Some value
+  is_at : at_row ws place ≡ Some value
   is : q ≡ placed (a_part.Component (i + place)) component.type value
 
 placed_later : {i : ℕ} {cs : List Component} {c : Component} {vs ws : Row} {q : Placed} → ((j : ℕ) → at_row vs (suc j) ≡ at_row ws j) → AtPlace (suc i) cs ws q → AtPlace i (c ∷ cs) vs q
@@ -192,7 +192,7 @@ placed_later {i} h a = record {
   component = a.component;
   value = a.value;
   has = a.has;
-  stands = h a.place ∙ a.stands;
+  is_at = h a.place ∙ a.is_at;
   is = a.is ∙ (let e : suc i + a.place ≡ i + suc a.place = omega arith in ap (λ z. placed (a_part.Component z) a.component.type a.value) e);
 }
 
@@ -205,7 +205,7 @@ at_place i (c ∷ cs) (present w ws) (wrong_here n) = record {
   component = c;
   value = w;
   has = refl;
-  stands = refl;
+  is_at = refl;
   is = (let e : i ≡ i + 0 = omega arith in ap (λ z. placed (a_part.Component z) c.type w) e);
 }
 at_place i (c ∷ cs) (present w ws) (right_here v f) = placed_later (λ j. refl) (at_place (suc i) cs ws f)
@@ -236,25 +236,25 @@ at_with {v = v} (present x ws) (suc i) (suc j) w e = later (at_with ws i j w e)
     later (inl p) = inl (ap suc p.0, p.1)
     later (inr p) = inr p
 
-mixed_part : {s : List Resolved} {cs : List Component} {ws : Row} {ts : List Token} (j : ℕ) (c : Component) (v : AbstractValue) → slice_get cs j ≡ Some c → at_row ws j ≡ Some v → ShowsMixed s cs ws ts → (os : List Open) (o : Open) → HasPart s (placed (a_part.Component j) c.type v) os o ts
+mixed_part : {s : List Resolved} {cs : List Component} {ws : Row} {ts : List Token} (j : ℕ) (c : Component) (v : AbstractValue) → slice_get cs j ≡ Some c → at_row ws j ≡ Some v → ShowsMixed s cs ws ts → (os : List OpenValue) (o : OpenValue) → HasPart s (placed (a_part.Component j) c.type v) os o ts
 mixed_part {cs = cs} j c v h r nothing_mixed os o = none_some (sym (blank_none cs j) ∙ r)
 mixed_part j c v h r (passed_mixed {ts = ts} m) os o =
-    part_behind {xs = passed ∷ []} ts refl (record { last = o; same = refl; stays = refl }) (mixed_part j c v h r m os o)
+    part_after {xs = passed ∷ []} ts refl (record { last = o; same = refl; stays = refl }) (mixed_part j c v h r m os o)
 mixed_part {s} {cs} {ts = all} j c v h r (component_mixed {i = i} {c = d} {w = w} {ws = ws} {xs = xs} {ts = ts} f g x m z e) os o =
     by (λ p q. mixed_part j c v h p m os q) (at_with ws i j w (ap (λ q. at_row q j) (sym z) ∙ r))
   where
     here : (i ≡ j) → (w ≡ v) → HasPart s (placed (a_part.Component j) c.type v) os o all
     here p q =
         let same : d ≡ c = some_same (sym f ∙ ap (slice_get cs) p ∙ h) in
-        let y : Shows s c.type v xs = subst (λ k. Shows s k.type v xs) same (subst (λ k. Shows s d.type k xs) q x) in
-        part_behind (xs ++ ts) e (told_part os o i) (part_here ts refl (ap (λ k. Some (a_part.Component k)) p) y)
+        let y : TokensShow s c.type v xs = subst (λ k. TokensShow s k.type v xs) same (subst (λ k. TokensShow s d.type k xs) q x) in
+        part_after (xs ++ ts) e (emitted_part os o i) (part_here ts refl (ap (λ k. Some (a_part.Component k)) p) y)
 
-    by : (at_row ws j ≡ Some v → (q : Open) → HasPart s (placed (a_part.Component j) c.type v) os q ts) → ((i ≡ j) × (w ≡ v)) ⊎ (at_row ws j ≡ Some v) → HasPart s (placed (a_part.Component j) c.type v) os o all
+    by : (at_row ws j ≡ Some v → (q : OpenValue) → HasPart s (placed (a_part.Component j) c.type v) os q ts) → ((i ≡ j) × (w ≡ v)) ⊎ (at_row ws j ≡ Some v) → HasPart s (placed (a_part.Component j) c.type v) os o all
     by rest (inl p) = here p.0 p.1
     by rest (inr p) =
-        let a = told_part os o i in
-        let b : Stays os a.last xs = record { last = behind_part a.last; same = refl; stays = through x os a.last } in
-        part_behind (xs ++ ts) e a (part_behind ts refl b (rest p b.last))
+        let a = emitted_part os o i in
+        let b : Stays os a.last xs = record { last = after_part a.last; same = refl; stays = through x os a.last } in
+        part_after (xs ++ ts) e a (part_after ts refl b (rest p b.last))
 
 -- a kind whose values hold no others
 record IsBare (k : Kind) : Type 0 where
@@ -301,19 +301,19 @@ no_parts k (fields vs) a = no_components_pieces 0 (components k) vs a.no_compone
 no_parts k (list vs) a = ap (λ q. elim q [ None ↦ [] | Some u ↦ element_pieces 0 u vs ]) a.no_elements
 no_parts k (alternative i v) a = ap (λ q. elim (slice_get q i) [ None ↦ [] | Some b ↦ placed (a_part.Alternative i) b.type v ∷ [] ]) a.no_alternatives
 
-choice_part : {s : List Resolved} {q : Placed} {v : AbstractValue} {ts : List Token} (i : ℕ) (b : Alternative) → FirstWrong s (placed (a_part.Alternative i) b.type v ∷ []) (Some q) → Shows s b.type v ts → (os : List Open) (o : Open) → HasPart s q os o (chosen i ∷ ts)
+choice_part : {s : List Resolved} {q : Placed} {v : AbstractValue} {ts : List Token} (i : ℕ) (b : Alternative) → FirstWrong s (placed (a_part.Alternative i) b.type v ∷ []) (Some q) → TokensShow s b.type v ts → (os : List OpenValue) (o : OpenValue) → HasPart s q os o (chosen i ∷ ts)
 choice_part {ts = ts} i b (wrong_here n) x os o =
-    part_behind {xs = chosen i ∷ []} ts refl (record { last = with_part (Some (a_part.Alternative i)) o; same = refl; stays = last_is (with_part (Some (a_part.Alternative i))) os o }) (part_here [] (sym (append-nil ts)) refl x)
+    part_after {xs = chosen i ∷ []} ts refl (record { last = with_part (Some (a_part.Alternative i)) o; same = refl; stays = last_is (with_part (Some (a_part.Alternative i))) os o }) (part_here [] (sym (append-nil ts)) refl x)
 choice_part i b (right_here v f) x os o = elim f [ ]
 
-part_in : {s : List Resolved} {k : Kind} {w : AbstractValue} {ts : List Token} {q : Placed} → ShowsOf s k w ts → FirstWrong s (parts k w) (Some q) → (os : List Open) (o : Open) → o.part ≡ None → o.read ≡ 0 → HasPart s q os o ts
+part_in : {s : List Resolved} {k : Kind} {w : AbstractValue} {ts : List Token} {q : Placed} → ShowsOf s k w ts → FirstWrong s (parts k w) (Some q) → (os : List OpenValue) (o : OpenValue) → o.part ≡ None → o.read ≡ 0 → HasPart s q os o ts
 part_in {s} {k} {w} (shows_leaf {lk = l} levels few b c) f os o n m = none_first (no_parts k w (leaf_bare s k l b)) f
 part_in (shows_sequence {ts = ts} count g e) f os o n m = part_before (replicate count passed) e (field_part g f os o)
 part_in {s} {ts = ts} {q = q} (shows_set {cs = cs} {ws = ws} g) f os o n m =
     let a = at_place 0 cs ws f in
     let z : 0 + a.place ≡ a.place = omega arith in
     subst (λ p. HasPart s p os o ts) (sym (a.is ∙ ap (λ i. placed (a_part.Component i) a.component.type a.value) z))
-    (mixed_part a.place a.component a.value a.has a.stands g os o)
+    (mixed_part a.place a.component a.value a.has a.is_at g os o)
 part_in (shows_sequence_of g) f os o n m = element_part g f os o n m
 part_in (shows_set_of g) f os o n m = element_part g f os o n m
 part_in {s} {q = q} (shows_choice {i = i} {a = b} {w = v} has x) f os o n m =
@@ -322,42 +322,42 @@ part_in {s} {q = q} (shows_choice {i = i} {a = b} {w = v} has x) f os o n m =
 -- ---- the way
 
 -- a value begins among the tokens, and the values of the way are open around it in these tokens
-record Reached (way os : List Open) (ts : List Token) : Type 0 where
+record Reached (path os : List OpenValue) (ts : List Token) : Type 0 where
   before : List Token
   value : TypeId
-  behind : List Token
-  whole : ts ≡ before ++ begun value ∷ behind
-  leads : map on_way (on_last entered (opens_from os before)) ≡ map on_way (on_last entered os) ++ map on_way way
+  following : List Token
+  whole : ts ≡ before ++ begun value ∷ following
+  leads : map on_path (on_last entered (opens_from os before)) ≡ map on_path (on_last entered os) ++ map on_path path
 
 kind_is : {s : List Resolved} {t : TypeNumber} {tags : List Tag} {k : Kind} → Is s t tags k → kind_at s t ≡ k
 kind_is i = ap (λ o. elim o [ None ↦ a_null | Some r ↦ r.kind ]) i.found
 
 -- an open value that is at the part
-on_way_is : {o : Open} {t : TypeNumber} {p : Part} (r : Open) → IsOpenAt o t p → r.ty ≡ id_of t → part_or r.part r.read ≡ Some p → on_way (entered r) ≡ on_way o
-on_way_is {o} {t} {p} r i e f =
+on_path_is : {o : OpenValue} {t : TypeNumber} {p : Part} (r : OpenValue) → IsOpenAt o t p → r.ty ≡ id_of t → part_or r.part r.read ≡ Some p → on_path (entered r) ≡ on_path o
+on_path_is {o} {t} {p} r i e f =
     let a : r.ty ≡ o.ty = e ∙ sym (ap id_of i.of_type) in
     ap (λ z. record { ty = z; part = part_or r.part r.read; read = 0 }) a ∙ ap (λ z. record { ty = o.ty; part = z; read = 0 }) (f ∙ sym i.at_part)
 
-reach : {s : List Resolved} {p r : Piece} {way : List Open} {xs : List Token} → Innermost s p way r → Shows s p.type p.value xs → (os : List Open) → Reached way os xs
-reach (is_itself n f) (shows {t = t} {ts = ts} i h e) os = record { before = []; value = id_of t; behind = ts ++ ended ∷ []; whole = e; leads = sym (append-nil (map on_way (on_last entered os))) }
-reach {s} {p} {way = way} (is_within {q = q} {o = o} {os = rest} f a j) (shows {t = t} {k = k} {w = w} {ts = ts} i h e) os =
+reach : {s : List Resolved} {p r : Piece} {path : List OpenValue} {xs : List Token} → Innermost s p path r → TokensShow s p.type p.value xs → (os : List OpenValue) → Reached path os xs
+reach (is_itself n f) (shows {t = t} {ts = ts} i h e) os = record { before = []; value = id_of t; following = ts ++ ended ∷ []; whole = e; leads = sym (append-nil (map on_path (on_last entered os))) }
+reach {s} {p} {path = path} (is_within {q = q} {o = o} {os = rest} f a j) (shows {t = t} {k = k} {w = w} {ts = ts} i h e) os =
     let outer = on_last entered os in
     let part = part_in h (subst (λ z. FirstWrong s (parts z w) (Some q)) (kind_is i) f) outer (opened (id_of t)) refl refl in
     let inner = reach j part.shown (outer ++ part.round ∷ []) in
     record {
       before = begun (id_of t) ∷ (part.before ++ inner.before);
       value = inner.value;
-      behind = inner.behind ++ (part.behind ++ ended ∷ []);
+      following = inner.following ++ (part.following ++ ended ∷ []);
       whole = e
           ∙ ap (λ z. begun (id_of t) ∷ (z ++ ended ∷ [])) part.whole
-          ∙ ap (λ z. begun (id_of t) ∷ ((part.before ++ (z ++ part.behind)) ++ ended ∷ [])) inner.whole
-          ∙ ap (λ z. begun (id_of t) ∷ z) (regroup part.before inner.before (begun inner.value ∷ inner.behind) part.behind (ended ∷ []));
-      leads = ap (λ z. map on_way (on_last entered z)) (opens_more (outer ++ opened (id_of t) ∷ []) part.before inner.before ∙ ap (λ z. opens_from z inner.before) part.opens_round)
+          ∙ ap (λ z. begun (id_of t) ∷ ((part.before ++ (z ++ part.following)) ++ ended ∷ [])) inner.whole
+          ∙ ap (λ z. begun (id_of t) ∷ z) (regroup part.before inner.before (begun inner.value ∷ inner.following) part.following (ended ∷ []));
+      leads = ap (λ z. map on_path (on_last entered z)) (opens_more (outer ++ opened (id_of t) ∷ []) part.before inner.before ∙ ap (λ z. opens_from z inner.before) part.opens_round)
           ∙ inner.leads
-          ∙ ap (λ z. map on_way z ++ map on_way rest) (last_is entered outer part.round)
-          ∙ ap (λ z. z ++ map on_way rest) (map-append on_way outer (entered part.round ∷ []))
-          ∙ append_assoc (map on_way outer) (on_way (entered part.round) ∷ []) (map on_way rest)
-          ∙ ap (λ z. map on_way outer ++ (z ∷ map on_way rest)) (on_way_is part.round a part.same part.is_part);
+          ∙ ap (λ z. map on_path z ++ map on_path rest) (last_is entered outer part.round)
+          ∙ ap (λ z. z ++ map on_path rest) (map-append on_path outer (entered part.round ∷ []))
+          ∙ append_assoc (map on_path outer) (on_path (entered part.round) ∷ []) (map on_path rest)
+          ∙ ap (λ z. map on_path outer ++ (z ∷ map on_path rest)) (on_path_is part.round a part.same part.is_part);
     }
   where
     regroup : (a b c d e : List Token) → (a ++ ((b ++ c) ++ d)) ++ e ≡ (a ++ b) ++ (c ++ (d ++ e))
@@ -370,19 +370,19 @@ reach {s} {p} {way = way} (is_within {q = q} {o = o} {os = rest} f a j) (shows {
 -- ---- the first value to which it leads
 
 -- n values begin before one to which the way leads
-record Found (way os : List Open) (ts : List Token) (n : ℕ) : Type 0 where
+record Found (path os : List OpenValue) (ts : List Token) (n : ℕ) : Type 0 where
   before : List Token
   value : TypeId
-  behind : List Token
-  whole : ts ≡ before ++ begun value ∷ behind
+  following : List Token
+  whole : ts ≡ before ++ begun value ∷ following
   as_many : begun_in before ≡ n
-  leads : Leads way (opens_from os before)
+  leads : Leads path (opens_from os before)
 
-found_more : {way os : List Open} {ts : List Token} {n : ℕ} (t : Token) (m : ℕ) → begun_in (t ∷ []) + n ≡ m → Found way (opens_after os t) ts n → Found way os (t ∷ ts) m
+found_more : {path os : List OpenValue} {ts : List Token} {n : ℕ} (t : Token) (m : ℕ) → begun_in (t ∷ []) + n ≡ m → Found path (opens_after os t) ts n → Found path os (t ∷ ts) m
 found_more {n = n} t m e f = record {
   before = t ∷ f.before;
   value = f.value;
-  behind = f.behind;
+  following = f.following;
   whole = ap (λ z. t ∷ z) f.whole;
   as_many = begun_first t f.before ∙ ap (λ z. begun_in (t ∷ []) + z) f.as_many ∙ e;
   leads = f.leads;
@@ -408,53 +408,53 @@ abbrev others_of : List Token → List Token
 others_of [] = []
 others_of (x ∷ xs) = xs
 
-find : {way os : List Open} {ts : List Token} {n : ℕ} (before : List Token) (u : TypeId) (behind : List Token) → BeginsBefore way os ts n → ts ≡ before ++ begun u ∷ behind → Leads way (opens_from os before) → Found way os ts n
+find : {path os : List OpenValue} {ts : List Token} {n : ℕ} (before : List Token) (u : TypeId) (following : List Token) → BeginsBefore path os ts n → ts ≡ before ++ begun u ∷ following → Leads path (opens_from os before) → Found path os ts n
 find xs u ys no_token e l = no_front (begun u) xs ys e
-find xs u ys (leads_here {t = t} {ts = ts} h) e l = record { before = []; value = t; behind = ts; whole = refl; as_many = refl; leads = h }
+find xs u ys (leads_here {t = t} {ts = ts} h) e l = record { before = []; value = t; following = ts; whole = refl; as_many = refl; leads = h }
 find [] u ys (leads_on h b) e l = absurd (h l)
-find {way} {os} (x ∷ xs) u ys (leads_on {t = t} {n = n} h b) e l =
-    found_more (begun t) (suc n) (omega arith) (find xs u ys b (ap others_of e) (subst (λ z. Leads way (opens_from (opens_after os z) xs)) (sym (ap (first_or x) e)) l))
-find {way} {os} [] u ys (none_begins {t = t} {ts = ts} h b) e l = absurd (let f = ap (λ z. begun_in (first_or t z ∷ [])) e in omega arith)
-find {way} {os} (x ∷ xs) u ys (none_begins {t = t} {n = n} h b) e l =
-    found_more t n (omega arith) (find xs u ys b (ap others_of e) (subst (λ z. Leads way (opens_from (opens_after os z) xs)) (sym (ap (first_or x) e)) l))
+find {path} {os} (x ∷ xs) u ys (leads_on {t = t} {n = n} h b) e l =
+    found_more (begun t) (suc n) (omega arith) (find xs u ys b (ap others_of e) (subst (λ z. Leads path (opens_from (opens_after os z) xs)) (sym (ap (first_or x) e)) l))
+find {path} {os} [] u ys (none_begins {t = t} {ts = ts} h b) e l = absurd (let f = ap (λ z. begun_in (first_or t z ∷ [])) e in omega arith)
+find {path} {os} (x ∷ xs) u ys (none_begins {t = t} {n = n} h b) e l =
+    found_more t n (omega arith) (find xs u ys b (ap others_of e) (subst (λ z. Leads path (opens_from (opens_after os z) xs)) (sym (ap (first_or x) e)) l))
 
 -- ---- the values that are open there
 
 cons_nil : {A B : Type 0} {x : A} {xs : List A} → x ∷ xs ≡ [] → B
 cons_nil e = absurd (cc)
 
-abbrev front_open : Open → List Open → Open
+abbrev front_open : OpenValue → List OpenValue → OpenValue
 front_open d [] = d
 front_open d (x ∷ xs) = x
 
-abbrev other_opens : List Open → List Open
+abbrev other_opens : List OpenValue → List OpenValue
 other_opens [] = []
 other_opens (x ∷ xs) = xs
 
 -- a way as long, through the same parts, leads there as well
-same_way : {s : List Resolved} {p r : Piece} {way : List Open} (os : List Open) → Innermost s p way r → map on_way os ≡ map on_way way → Innermost s p os r
-same_way [] (is_itself n f) e = is_itself n f
-same_way (x ∷ xs) (is_itself n f) e = cons_nil e
-same_way [] (is_within f a j) e = cons_nil (sym e)
-same_way (x ∷ xs) (is_within {o = o} f a j) e =
-    let h : on_way x ≡ on_way o = ap (front_open (on_way x)) e in
-    is_within f (record { of_type = ap (λ z. z.ty.index) h ∙ a.of_type; at_part = ap (λ z. z.part) h ∙ a.at_part }) (same_way xs j (ap other_opens e))
+same_path : {s : List Resolved} {p r : Piece} {path : List OpenValue} (os : List OpenValue) → Innermost s p path r → map on_path os ≡ map on_path path → Innermost s p os r
+same_path [] (is_itself n f) e = is_itself n f
+same_path (x ∷ xs) (is_itself n f) e = cons_nil e
+same_path [] (is_within f a j) e = cons_nil (sym e)
+same_path (x ∷ xs) (is_within {o = o} f a j) e =
+    let h : on_path x ≡ on_path o = ap (front_open (on_path x)) e in
+    is_within f (record { of_type = ap (λ z. z.ty.index) h ∙ a.of_type; at_part = ap (λ z. z.part) h ∙ a.at_part }) (same_path xs j (ap other_opens e))
 
-pub before_wrong : {s : List Resolved} {p : Piece} {way : List Open} {told : List Token} {n : ℕ} → LeadToWrong s p way → Shows s p.type p.value told → BeginsBefore way [] told n → IsBeforeWrong s p told n
-before_wrong {way = way} l h b =
+pub before_wrong : {s : List Resolved} {p : Piece} {path : List OpenValue} {emitted : List Token} {n : ℕ} → IsPathToWrong s p path → TokensShow s p.type p.value emitted → BeginsBefore path [] emitted n → IsBeforeWrong s p emitted n
+before_wrong {path = path} l h b =
     let r = reach l.is_innermost h [] in
-    let f = find r.before r.value r.behind b r.whole r.leads in
+    let f = find r.before r.value r.following b r.whole r.leads in
     record {
       values = opens f.before;
-      before = record { before = f.before; value = f.value; behind = f.behind; whole = f.whole; as_many = f.as_many; opened = refl };
-      lead = record { inner = l.inner; is_innermost = same_way (on_last entered (opens f.before)) l.is_innermost f.leads };
+      before = record { before = f.before; value = f.value; following = f.following; whole = f.whole; as_many = f.as_many; opened = refl };
+      path_to_wrong = record { inner = l.inner; is_innermost = same_path (on_last entered (opens f.before)) l.is_innermost f.leads };
     }
 
 -- a way after no others
-pub way_alone : {s : List Resolved} {p q : Piece} {os all : List Open} → os ≡ [] → p ≡ q → LeadOn s p os all → LeadToWrong s q all
-way_alone {s} {p} {q} {os} {all} e f l =
-    let g : all ≡ l.way = l.whole ∙ ap (λ z. z ++ l.way) e in
-    subst (λ z. LeadToWrong s z all) f (subst (LeadToWrong s p) (sym g) l.lead)
+pub path_alone : {s : List Resolved} {p q : Piece} {os all : List OpenValue} → os ≡ [] → p ≡ q → Extends s p os all → IsPathToWrong s q all
+path_alone {s} {p} {q} {os} {all} e f l =
+    let g : all ≡ l.path = l.whole ∙ ap (λ z. z ++ l.path) e in
+    subst (λ z. IsPathToWrong s z all) f (subst (IsPathToWrong s p) (sym g) l.path_to_wrong)
 
 pub if_ok : {A E : Type 0} {P Q : A → Type 0} (r : Result A E) → ((a : A) → P a → Q a) → IfOk r P → IfOk r Q
 if_ok (Ok a) f p = f a p
@@ -463,10 +463,10 @@ if_ok (Err e) f p = p
 -- ---- one front before n values
 
 -- one more begins than do before it
-pub fewer_begin : {told : List Token} {n : ℕ} {os : List Open} → AreOpenBefore told n os → n < begun_in told
+pub fewer_begin : {emitted : List Token} {n : ℕ} {os : List OpenValue} → AreOpenBefore emitted n os → n < begun_in emitted
 fewer_begin a =
     let e = ap begun_in a.whole in
-    let f = begun_both a.before (begun a.value ∷ a.behind) in
+    let f = begun_both a.before (begun a.value ∷ a.following) in
     let g = a.as_many in
     omega arith
   where
@@ -499,17 +499,17 @@ fronts_once (x ∷ xs) (y ∷ ys) vs ws t u e n =
     same_rest passed k = k
 
 -- the values that are open before n others are determined
-pub open_once : {told : List Token} {n : ℕ} {os ps : List Open} → AreOpenBefore told n os → AreOpenBefore told n ps → os ≡ ps
+pub open_once : {emitted : List Token} {n : ℕ} {os ps : List OpenValue} → AreOpenBefore emitted n os → AreOpenBefore emitted n ps → os ≡ ps
 open_once a b =
     a.opened
-    ∙ ap opens (fronts_once a.before b.before a.behind b.behind a.value b.value (sym a.whole ∙ b.whole) (a.as_many ∙ sym b.as_many))
+    ∙ ap opens (fronts_once a.before b.before a.following b.following a.value b.value (sym a.whole ∙ b.whole) (a.as_many ∙ sym b.as_many))
     ∙ sym b.opened
 
 -- decoding stops before n values, and the value that isn't decoded is entered
-pub leads_there : {s : List Resolved} {t : TypeId} {o : List ℕ} {v : AbstractValue} {told all : List Token} {n : ℕ} {w : Whereabouts}
-    → told ≡ all
-    → IsBeforeWrong s (piece t.index v) told n
-    → (u : Whereabouts)
+pub leads_there : {s : List Resolved} {t : TypeId} {o : List ℕ} {v : AbstractValue} {emitted all : List Token} {n : ℕ} {w : ErrorPosition}
+    → emitted ≡ all
+    → IsBeforeWrong s (piece t.index v) emitted n
+    → (u : ErrorPosition)
     → IsStop s t o n u
     → (n < begun_in all → AreOpenBefore all n u.values.items)
     → IsEntered u w
@@ -524,8 +524,8 @@ leads_there {s} {t} {v = v} {n = n} {w = w} e b u stop h i =
       stopped = u;
       stop = stop;
       part = i;
-      lead = subst (LeadToWrong s (piece t.index v)) (sym (i.values ∙ ap (on_last entered) same)) c.lead;
+      path_to_wrong = subst (IsPathToWrong s (piece t.index v)) (sym (i.values ∙ ap (on_last entered) same)) c.path_to_wrong;
     }
 
-pub never_leads : {E : Type 0} (s : List Resolved) (t : TypeId) (o : List ℕ) (told : List Token) (v : AbstractValue) (r : Result Whereabouts E) → ⊥ → IfOk r (IsBeforeInnermost s t o told v)
-never_leads s t o told v r e = absurd e
+pub never_leads : {E : Type 0} (s : List Resolved) (t : TypeId) (o : List ℕ) (emitted : List Token) (v : AbstractValue) (r : Result ErrorPosition E) → ⊥ → IfOk r (IsBeforeInnermost s t o emitted v)
+never_leads s t o emitted v r e = absurd e

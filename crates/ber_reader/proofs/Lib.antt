@@ -10,3 +10,4 @@ pub mod Leading
 pub mod Owing
 pub mod Worked
 pub mod Refused
+pub mod RowsOfReadings

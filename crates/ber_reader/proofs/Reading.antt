@@ -8,24 +8,24 @@ use Rattle.asn_base.specs.Types.{Resolved}
 use Rattle.asn_base.specs.Typed.{IsValueWithoutNodes}
 use Rattle.encodings.specs.Rules.{Basic}
 use Rattle.encodings.specs.Rules.{Rules}
-use Rattle.encodings.specs.Encoding.{Says, says}
+use Rattle.encodings.specs.Encoding.{EncodesTo, says}
 use Rattle.encodings.specs.Levels.{levels}
 use Rattle.octet_answers.specs.States.{Token}
 use Rattle.std.specs.Prelude.{Result, Ok, Err, IfOk}
 use Rattle.asn_base.specs.declared.schema.TypeId.{TypeId}
-use Rattle.ber_message.specs.Messages.{IsMessage, IsRead, SaysNoValue}
+use Rattle.ber_message.specs.Messages.{IsMessage, IsRead, EncodesNoValue}
 use Rattle.ber_message.specs.Stops.{IsStop, IsStopBefore}
-use Rattle.ber_message.specs.declared.stop.Whereabouts.{Whereabouts}
+use Rattle.ber_message.specs.declared.stop.ErrorPosition.{ErrorPosition}
 use Rattle.views.specs.Tree.{Tree, value_of, IsBorrowed}
 use Rattle.views.specs.Seen.{IsView}
 use Rattle.ber_reader.specs.declared.read.Read.{Read}
 use Rattle.ber_reader.specs.Judged.{IsJudged}
 use Rattle.ber_reader.proofs.Rows.{found_below}
-use Rattle.ber_reader.specs.Readings.{IsShown, IsReading, IsPlace, unread, IsRefused, no_value}
+use Rattle.ber_reader.specs.Readings.{IsShown, IsReading, IsErrorPosition, unread, IsRefused, no_value}
 
 record SaidWithin (s : List Resolved) (t : ℕ) (w : AbstractValue) (k : ℕ) (o : List ℕ) : Type 0 where
-  is_said : Says s Basic t w k o
-  few : levels is_said ≤ 400
+  is_encoded : EncodesTo s Basic t w k o
+  few : levels is_encoded ≤ 400
 
 pub reading_of : {s : List Resolved} {t : ℕ} {o : List ℕ} {ts : List Token} (r : Read) (m : IsMessage s t o ts) (tree : Tree)
     → IsView r.view tree
@@ -36,8 +36,8 @@ pub reading_of : {s : List Resolved} {t : ℕ} {o : List ℕ} {ts : List Token} 
     → IsValueWithoutNodes s t (value_of tree)
     → IsReading s t o r
 reading_of {s} {t} {o} r m tree v b h e k w =
-    let d : SaidWithin s t (value_of tree) r.skipped o = subst (λ q. SaidWithin s t (value_of tree) q o) (sym k) (subst (λ q. SaidWithin s t q m.count o) (sym e) (record { is_said = m.is_said; few = m.few })) in
-    record { tree = tree; view = v; encodes = record { value = w; says_it = d.is_said }; few = d.few; short = m.short; borrowed = b; shown = h }
+    let d : SaidWithin s t (value_of tree) r.skipped o = subst (λ q. SaidWithin s t (value_of tree) q o) (sym k) (subst (λ q. SaidWithin s t q m.count o) (sym e) (record { is_encoded = m.is_encoded; few = m.few })) in
+    record { tree = tree; view = v; encodes = record { value = w; says_it = d.is_encoded }; few = d.few; short = m.short; borrowed = b; shown = h }
 
 -- a test that holds
 pub holds : {P : Type 0} (b : Bool) → b ≡ true → IsTrue b ↔ P → P
@@ -49,23 +49,23 @@ never_holds true e h p = absurd (let f = e in cc)
 never_holds false e h p = absurd (let f : false ≡ true = h.1 p in cc)
 
 -- the decoded value isn't one of the type
-pub says_none : {s : List Resolved} {t : ℕ} {o : List ℕ} {ts : List Token} (m : IsMessage s t o ts) → (IsValueWithoutNodes s t m.value → ⊥) → SaysNoValue s t o
-says_none m n = record { value = m.value; count = m.count; is_said = m.is_said; few = m.few; short = m.short; is_none = n }
+pub says_none : {s : List Resolved} {t : ℕ} {o : List ℕ} {ts : List Token} (m : IsMessage s t o ts) → (IsValueWithoutNodes s t m.value → ⊥) → EncodesNoValue s t o
+says_none m n = record { value = m.value; count = m.count; is_encoded = m.is_encoded; few = m.few; short = m.short; is_none = n }
 
 -- why that is the fault
 pub refused_as_none : {s : List Resolved} {t : TypeId} {o : List ℕ} {ts : List Token} {e : ReadFault} (m : IsMessage s t.index o ts) → IsRead s t o → (IsValueWithoutNodes s t.index m.value → ⊥) → IsJudged s t.index m.value e → IsRefused s t o e
 unfolding says_none
 refused_as_none m r n j = no_value r (says_none m n) j
 
-pub stop_some : {E : Type 0} (s : List Resolved) (t : TypeId) (o : List ℕ) (m : ℕ) (r : Result Whereabouts E) → IfOk r (λ w. IsStop s t o m w) → IfOk r (λ w. IsPlace s t o w)
+pub stop_some : {E : Type 0} (s : List Resolved) (t : TypeId) (o : List ℕ) (m : ℕ) (r : Result ErrorPosition E) → IfOk r (λ w. IsStop s t o m w) → IfOk r (λ w. IsErrorPosition s t o w)
 stop_some s t o m (Ok w) h = unread m h
 stop_some s t o m (Err e) h = h
 
 -- of what is read to its end nothing else is asked
-pub never_stops : {E : Type 0} (s : List Resolved) (t : TypeId) (o : List ℕ) (r : Result Whereabouts E) → ⊥ → IfOk r (λ w. IsStopBefore s t o w)
+pub never_stops : {E : Type 0} (s : List Resolved) (t : TypeId) (o : List ℕ) (r : Result ErrorPosition E) → ⊥ → IfOk r (λ w. IsStopBefore s t o w)
 never_stops s t o r e = absurd e
 
-pub stop_most : {E : Type 0} (s : List Resolved) (t : TypeId) (o : List ℕ) (m n : ℕ) (r : Result Whereabouts E) → m ≡ n → IfOk r (λ w. IsStop s t o m w) → IfOk r (λ w. IsStop s t o n w)
+pub stop_most : {E : Type 0} (s : List Resolved) (t : TypeId) (o : List ℕ) (m n : ℕ) (r : Result ErrorPosition E) → m ≡ n → IfOk r (λ w. IsStop s t o m w) → IfOk r (λ w. IsStop s t o n w)
 stop_most s t o m n r e h = subst (λ q. IfOk r (λ w. IsStop s t o q w)) e h
 
 -- ---- why a value is refused
@@ -118,9 +118,9 @@ fault_memory f n = ⊎_elim (λ e. e) (λ m. absurd (n m)) (memory_or_not f)
 -- ---- what is no value of its type
 
 -- octets encode a value only of a type that is there
-pub says_type : {s : List Resolved} {r : Rules} {t k : ℕ} {w : AbstractValue} {o : List ℕ} → Says s r t w k o → t < length s
+pub says_type : {s : List Resolved} {r : Rules} {t k : ℕ} {w : AbstractValue} {o : List ℕ} → EncodesTo s r t w k o → t < length s
 says_type {s} {t = t} (says i h f) = found_below s t _ i.found
 
 -- `Memory`, or the fault of the value that was decoded
-pub told_or : {s : List Resolved} {t : ℕ} {v w : AbstractValue} (f : ReadFault) → v ≡ w → ((f ≡ faults.Memory → ⊥) → IsJudged s t v f) → (f ≡ faults.Memory) ⊎ IsJudged s t w f
-told_or {s} {t} f e j = ⊎_elim (λ m. inl m) (λ n. inr (subst (λ q. IsJudged s t q f) e (j n))) (memory_or_not f)
+pub emitted_or : {s : List Resolved} {t : ℕ} {v w : AbstractValue} (f : ReadFault) → v ≡ w → ((f ≡ faults.Memory → ⊥) → IsJudged s t v f) → (f ≡ faults.Memory) ⊎ IsJudged s t w f
+emitted_or {s} {t} f e j = ⊎_elim (λ m. inl m) (λ n. inr (subst (λ q. IsJudged s t q f) e (j n))) (memory_or_not f)

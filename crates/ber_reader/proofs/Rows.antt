@@ -6,7 +6,7 @@ use Rattle.std.proofs.lemmas.Bool.Decides.{nat_tests}
 use Rattle.asn_base.specs.Abstract.{AbstractValue, Row, end, absent, present, row_of_options}
 use Rattle.asn_base.specs.Types.{Component}
 use Rattle.views.specs.Tree.{Tree, Members, no_member, member, value_of, placed, component_value, joined}
-use Rattle.reading_law.specs.Shows.{blank, with_at, IsAbsentAt}
+use Rattle.laws_reading.specs.TokensShow.{blank, with_at, IsAbsentAt}
 
 abbrev pub at_row : Row → ℕ → Option AbstractValue
 at_row end i = None

@@ -11,16 +11,16 @@ use Rattle.codec_code.specs.declared.step.Step.TheVariants.{Leaf}
 use Rattle.codec_code.specs.Routines.{routine_at, routine_of, heads, row_of, body, ends, fields_from, ranked_from, rest_if}
 use Rattle.ber_views.specs.declared.shape.Shape.TheVariants as shapes
 use Rattle.ber_views.specs.Shapes.{shape_of, shape_in}
-use Rattle.codec_code.specs.Briefs.{fields_in}
+use Rattle.codec_code.specs.Summaries.{fields_in}
 
 routine_is : (s : List Resolved) (t : TypeNumber) (tags : List Tag) (k : Kind) → Is s t tags k → routine_at s t ≡ heads tags (row_of k) ++ (body s k ++ ends (length tags))
 unfolding routine_of
 routine_is s t tags k i = ap (λ o. elim o [ None ↦ [] | Some r ↦ routine_of s r ]) i.found
 
-behind_heads : (tags : List Tag) (r : RowKind) (ss : List Step) → shape_in (heads tags r ++ ss) ≡ shape_in ss
-behind_heads [] r ss = refl
-behind_heads (g ∷ []) r ss = refl
-behind_heads (g ∷ f ∷ gs) r ss = behind_heads (f ∷ gs) r ss
+after_heads : (tags : List Tag) (r : RowKind) (ss : List Step) → shape_in (heads tags r ++ ss) ≡ shape_in ss
+after_heads [] r ss = refl
+after_heads (g ∷ []) r ss = refl
+after_heads (g ∷ f ∷ gs) r ss = after_heads (f ∷ gs) r ss
 
 no_ends : (n : ℕ) → fields_in (ends n) ≡ 0
 no_ends zero = refl
@@ -100,7 +100,7 @@ body_shape s [] k c = by k (c refl)
     by (a_choice root e more) i = refl
 
 pub shape_at : (s : List Resolved) (t : TypeNumber) (tags : List Tag) (k : Kind) → Is s t tags k → (tags ≡ [] → IsChoice k) → shape_in (routine_at s t) ≡ shape_of k
-shape_at s t tags k i c = ap shape_in (routine_is s t tags k i) ∙ behind_heads tags (row_of k) (body s k ++ ends (length tags)) ∙ body_shape s tags k c
+shape_at s t tags k i c = ap shape_in (routine_is s t tags k i) ∙ after_heads tags (row_of k) (body s k ++ ends (length tags)) ∙ body_shape s tags k c
 
 -- a value whose steps are a leaf has no node but its own
 pub leaf_shape : (s : List Resolved) (k : Kind) (l : LeafKind) → body s k ≡ Leaf l ∷ [] → shape_of k ≡ shapes.Bare

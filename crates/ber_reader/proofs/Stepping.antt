@@ -10,7 +10,7 @@ use Rattle.codec_code.specs.declared.step.Step.{Step}
 use Rattle.codec_code.specs.Routines.{routine_at, routine_of, heads, row_of, body, ends, fields_from, ranked_from, rest_if, calls, field_of, need_of, id_of}
 use Rattle.octet_answers.specs.Found.{field_in}
 use Rattle.ber_reader.specs.Judged.{kind_at, element_of, alternatives, is_addition_in}
-use Rattle.ber_reader.specs.Stepped.{behind_heads, element_in, called_in, is_of_addition}
+use Rattle.ber_reader.specs.Stepped.{after_heads, element_in, called_in, is_of_addition}
 
 -- the result for a step, if there is one
 abbrev pub then_in : {A : Type 0} → (Step → Option A) → Option Step → Option A
@@ -19,20 +19,20 @@ then_in f (Some p) = f p
 
 -- ---- after the headers
 
-heads_off : (tags : List Tag) (r : RowKind) (ss : List Step) → behind_heads (heads tags r ++ ss) ≡ behind_heads ss
+heads_off : (tags : List Tag) (r : RowKind) (ss : List Step) → after_heads (heads tags r ++ ss) ≡ after_heads ss
 heads_off [] r ss = refl
 heads_off (g ∷ []) r ss = refl
 heads_off (g ∷ f ∷ gs) r ss = heads_off (f ∷ gs) r ss
 
-ends_stay : (n : ℕ) → behind_heads (ends n) ≡ ends n
+ends_stay : (n : ℕ) → after_heads (ends n) ≡ ends n
 ends_stay zero = refl
 ends_stay (suc n) = refl
 
-rest_stays : (e : Bool) (n : ℕ) → behind_heads (rest_if e ++ ends n) ≡ rest_if e ++ ends n
+rest_stays : (e : Bool) (n : ℕ) → after_heads (rest_if e ++ ends n) ≡ rest_if e ++ ends n
 rest_stays true n = refl
 rest_stays false n = ends_stay n
 
-body_stays : (s : List Resolved) (k : Kind) (n : ℕ) → behind_heads (body s k ++ ends n) ≡ body s k ++ ends n
+body_stays : (s : List Resolved) (k : Kind) (n : ℕ) → after_heads (body s k ++ ends n) ≡ body s k ++ ends n
 body_stays s a_boolean n = refl
 body_stays s (an_integer c) n = refl
 body_stays s (an_enumerated r e m) n = refl
@@ -52,7 +52,7 @@ body_stays s (a_sequence_of c u) n = refl
 body_stays s (a_set_of c u) n = refl
 body_stays s (a_choice root e more) n = refl
 
-inner_steps : (s : List Resolved) (r : Resolved) → behind_heads (routine_of s r) ≡ body s r.kind ++ ends (length r.tags)
+inner_steps : (s : List Resolved) (r : Resolved) → after_heads (routine_of s r) ≡ body s r.kind ++ ends (length r.tags)
 unfolding routine_of
 inner_steps s r = heads_off r.tags (row_of r.kind) (body s r.kind ++ ends (length r.tags)) ∙ body_stays s r.kind (length r.tags)
 
@@ -60,9 +60,9 @@ inner_steps s r = heads_off r.tags (row_of r.kind) (body s r.kind ++ ends (lengt
 of_type : (P : Kind → List Step → Type 0) (s : List Resolved) (t : TypeNumber)
     → P a_null []
     → ((k : Kind) (n : ℕ) → P k (body s k ++ ends n))
-    → P (kind_at s t) (behind_heads (routine_at s t))
+    → P (kind_at s t) (after_heads (routine_at s t))
 of_type P s t none each =
-    elim (slice_get s t) as (λ o. P (elim o [ None ↦ a_null | Some r ↦ r.kind ]) (behind_heads (elim o [ None ↦ [] | Some r ↦ routine_of s r ]))) [
+    elim (slice_get s t) as (λ o. P (elim o [ None ↦ a_null | Some r ↦ r.kind ]) (after_heads (elim o [ None ↦ [] | Some r ↦ routine_of s r ]))) [
       | None ↦ none
       | Some r ↦ subst (P r.kind) (sym (inner_steps s r)) (each r.kind (length r.tags))
     ]
@@ -84,9 +84,9 @@ no_field_in_calls [] n i = no_field_in_ends n i
 no_field_in_calls (a ∷ as') n zero = refl
 no_field_in_calls (a ∷ as') n (suc i) = no_field_in_calls as' n i
 
-no_field_behind : (p : Step) (n i : ℕ) → field_in p ≡ None → then_in field_in (slice_get (p ∷ ends n) i) ≡ None
-no_field_behind p n zero e = e
-no_field_behind p n (suc i) e = no_field_in_ends n i
+no_field_after : (p : Step) (n i : ℕ) → field_in p ≡ None → then_in field_in (slice_get (p ∷ ends n) i) ≡ None
+no_field_after p n zero e = e
+no_field_after p n (suc i) e = no_field_in_ends n i
 
 assoc : (a b c : List Step) → (a ++ b) ++ c ≡ a ++ (b ++ c)
 assoc [] b c = refl
@@ -110,17 +110,17 @@ from_zero : (i : ℕ) (o : Option Component) → option_map (field_of (0 + i)) o
 from_zero i o = let e : 0 + i ≡ i = omega arith in ap (λ q. option_map (field_of q) o) e
 
 component_read : (s : List Resolved) (i : ℕ) (k : Kind) (n : ℕ) → then_in field_in (slice_get (body s k ++ ends n) i) ≡ option_map (field_of i) (slice_get (components k) i)
-component_read s i a_boolean n = no_field_behind _ n i refl
-component_read s i (an_integer c) n = no_field_behind _ n i refl
-component_read s i (an_enumerated r e m) n = no_field_behind _ n i refl
-component_read s i (a_bit_string c) n = no_field_behind _ n i refl
-component_read s i (a_named_bit_string bs) n = no_field_behind _ n i refl
-component_read s i (an_octet_string c) n = no_field_behind _ n i refl
-component_read s i a_null n = no_field_behind _ n i refl
-component_read s i an_object_identifier n = no_field_behind _ n i refl
-component_read s i a_relative_oid n = no_field_behind _ n i refl
-component_read s i (a_utf8_string c) n = no_field_behind _ n i refl
-component_read s i (a_restricted_string k codes c) n = no_field_behind _ n i refl
+component_read s i a_boolean n = no_field_after _ n i refl
+component_read s i (an_integer c) n = no_field_after _ n i refl
+component_read s i (an_enumerated r e m) n = no_field_after _ n i refl
+component_read s i (a_bit_string c) n = no_field_after _ n i refl
+component_read s i (a_named_bit_string bs) n = no_field_after _ n i refl
+component_read s i (an_octet_string c) n = no_field_after _ n i refl
+component_read s i a_null n = no_field_after _ n i refl
+component_read s i an_object_identifier n = no_field_after _ n i refl
+component_read s i a_relative_oid n = no_field_after _ n i refl
+component_read s i (a_utf8_string c) n = no_field_after _ n i refl
+component_read s i (a_restricted_string k codes c) n = no_field_after _ n i refl
 component_read s i (a_sequence e cs) n =
     ap (λ q. then_in field_in (slice_get q i)) (assoc (fields_from 0 cs) (rest_if e) (ends n))
     ∙ fields_read cs 0 i (rest_if e ++ ends n) (no_field_in_rest e n)
@@ -129,13 +129,13 @@ component_read s i (a_set e cs) n =
     ap (λ q. then_in field_in (slice_get q i)) (assoc (ranked_from s cs 0 cs) (rest_if e) (ends n))
     ∙ ranked_read s cs cs 0 i (rest_if e ++ ends n) (no_field_in_rest e n)
     ∙ from_zero i (slice_get cs i)
-component_read s i (a_sequence_of c u) n = no_field_behind _ n i refl
-component_read s i (a_set_of c u) n = no_field_behind _ n i refl
+component_read s i (a_sequence_of c u) n = no_field_after _ n i refl
+component_read s i (a_set_of c u) n = no_field_after _ n i refl
 component_read s zero (a_choice root e more) n = refl
 component_read s (suc i) (a_choice root e more) n = no_field_in_calls (root ++ more) n i
 
-pub component_stands : (s : List Resolved) (t : TypeNumber) (i : ℕ) → then_in field_in (slice_get (behind_heads (routine_at s t)) i) ≡ option_map (field_of i) (slice_get (components (kind_at s t)) i)
-component_stands s t i = of_type (λ k ss. then_in field_in (slice_get ss i) ≡ option_map (field_of i) (slice_get (components k) i)) s t refl (component_read s i)
+pub component_in_place : (s : List Resolved) (t : TypeNumber) (i : ℕ) → then_in field_in (slice_get (after_heads (routine_at s t)) i) ≡ option_map (field_of i) (slice_get (components (kind_at s t)) i)
+component_in_place s t i = of_type (λ k ss. then_in field_in (slice_get ss i) ≡ option_map (field_of i) (slice_get (components k) i)) s t refl (component_read s i)
 
 -- ---- elements
 
@@ -167,8 +167,8 @@ element_read s (a_sequence_of c u) n = refl
 element_read s (a_set_of c u) n = refl
 element_read s (a_choice root e more) n = refl
 
-pub element_stands : (s : List Resolved) (t : TypeNumber) → then_in element_in (slice_get (behind_heads (routine_at s t)) 0) ≡ option_map id_of (element_of (kind_at s t))
-element_stands s t = of_type (λ k ss. then_in element_in (slice_get ss 0) ≡ option_map id_of (element_of k)) s t refl (element_read s)
+pub element_in_place : (s : List Resolved) (t : TypeNumber) → then_in element_in (slice_get (after_heads (routine_at s t)) 0) ≡ option_map id_of (element_of (kind_at s t))
+element_in_place s t = of_type (λ k ss. then_in element_in (slice_get ss 0) ≡ option_map id_of (element_of k)) s t refl (element_read s)
 
 -- ---- alternatives
 
@@ -223,8 +223,8 @@ alternative_read s i (a_sequence_of c u) n = no_call_in_ends n i
 alternative_read s i (a_set_of c u) n = no_call_in_ends n i
 alternative_read s i (a_choice root e more) n = calls_read (root ++ more) n i
 
-pub alternative_stands : (s : List Resolved) (t : TypeNumber) (i : ℕ) → then_in called_in (slice_get (behind_heads (routine_at s t)) (suc i)) ≡ option_map (λ a. id_of a.type) (slice_get (alternatives (kind_at s t)) i)
-alternative_stands s t i = of_type (λ k ss. then_in called_in (slice_get ss (suc i)) ≡ option_map (λ a. id_of a.type) (slice_get (alternatives k) i)) s t refl (alternative_read s i)
+pub alternative_in_place : (s : List Resolved) (t : TypeNumber) (i : ℕ) → then_in called_in (slice_get (after_heads (routine_at s t)) (suc i)) ≡ option_map (λ a. id_of a.type) (slice_get (alternatives (kind_at s t)) i)
+alternative_in_place s t i = of_type (λ k ss. then_in called_in (slice_get ss (suc i)) ≡ option_map (λ a. id_of a.type) (slice_get (alternatives k) i)) s t refl (alternative_read s i)
 
 -- ---- what is looked up
 

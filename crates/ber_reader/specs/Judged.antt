@@ -5,11 +5,11 @@ use Rattle.asn_base.specs.Schemas.{components, is_addition}
 use Rattle.asn_base.specs.Typed.{IsValue}
 use Rattle.asn_base.specs.Types.{TypeNumber, Alternative, Component, Kind, a_null, a_sequence_of, a_set_of, a_choice}
 use Rattle.asn_base.specs.Types.{Resolved}
-use Rattle.ber_message.specs.declared.open.Open.{Open}
+use Rattle.ber_message.specs.declared.open.OpenValue.{OpenValue}
 use Rattle.ber_message.specs.declared.open.Part.{Part}
 use Rattle.ber_message.specs.declared.open.Part.TheVariants as a_part
 use Rattle.ber_message.specs.Opened.{entered, on_last}
-use Rattle.ber_message.specs.Ways.{AreOpenBefore}
+use Rattle.ber_message.specs.Paths.{AreOpenBefore}
 use Rattle.decode_faults.specs.declared.read_fault.ReadFault.{ReadFault}
 use Rattle.decode_faults.specs.declared.read_fault.ReadFault.TheVariants.{BadContents, Missing, OutsideConstraint}
 use Rattle.decode_faults.specs.declared.read_fault.ReadFault.TheVariants.{TooDeep}
@@ -97,38 +97,38 @@ pub data FirstWrong (s : List Resolved) : List Placed → Option Placed → Type
       → FirstWrong s (p ∷ ps) o
 
 -- the open value is of the type, and this part of it is being decoded
-pub record IsOpenAt (o : Open) (t : TypeNumber) (p : Part) : Type 0 where
+pub record IsOpenAt (o : OpenValue) (t : TypeNumber) (p : Part) : Type 0 where
   pub of_type : o.ty.index ≡ t
   pub at_part : o.part ≡ Some p
 
 -- The innermost value within a value that isn't one of its type, and the way there. If each part of the value is a
 -- value of its type, it is the value itself, and the way is empty. Otherwise it is within the first part that isn't a
 -- value of its type, and the way starts with this part.
-pub data Innermost (s : List Resolved) : Piece → List Open → Piece → Type 0 where
+pub data Innermost (s : List Resolved) : Piece → List OpenValue → Piece → Type 0 where
   is_itself : {p : Piece} → IsWrong s p → FirstWrong s (parts_of s p) None → Innermost s p [] p
-  is_within : {p r : Piece} {q : Placed} {o : Open} {os : List Open}
+  is_within : {p r : Piece} {q : Placed} {o : OpenValue} {os : List OpenValue}
       → FirstWrong s (parts_of s p) (Some q)
       → IsOpenAt o p.type q.part
       → Innermost s q.piece os r
       → Innermost s p (o ∷ os) r
 
 -- the open values are the way to the innermost value that isn't one of its type
-pub record LeadToWrong (s : List Resolved) (p : Piece) (os : List Open) : Type 0 where
+pub record IsPathToWrong (s : List Resolved) (p : Piece) (os : List OpenValue) : Type 0 where
   pub inner : Piece
   pub is_innermost : Innermost s p os inner
 
 -- the open values are others and, after these, the way to the innermost value that isn't one of its type
-pub record LeadOn (s : List Resolved) (p : Piece) (others all : List Open) : Type 0 where
-  pub way : List Open
-  pub whole : all ≡ others ++ way
-  pub lead : LeadToWrong s p way
+pub record Extends (s : List Resolved) (p : Piece) (others all : List OpenValue) : Type 0 where
+  pub path : List OpenValue
+  pub whole : all ≡ others ++ path
+  pub path_to_wrong : IsPathToWrong s p path
 
 -- Among the tokens, `most` values begin before the innermost value that isn't one of its type. The values that are open
 -- there are the way to it.
-pub record IsBeforeWrong (s : List Resolved) (p : Piece) (told : List Token) (most : ℕ) : Type 0 where
-  pub values : List Open
-  pub before : AreOpenBefore told most values
-  pub lead : LeadToWrong s p (on_last entered values)
+pub record IsBeforeWrong (s : List Resolved) (p : Piece) (emitted : List Token) (most : ℕ) : Type 0 where
+  pub values : List OpenValue
+  pub before : AreOpenBefore emitted most values
+  pub path_to_wrong : IsPathToWrong s p (on_last entered values)
 
 -- ---- the fault of a value
 
@@ -175,6 +175,6 @@ pub data IsOwn (s : List Resolved) (t : TypeNumber) : AbstractValue → ReadFaul
 -- the fault is that of the innermost value in v that isn't one of its type
 pub record IsJudged (s : List Resolved) (t : TypeNumber) (v : AbstractValue) (f : ReadFault) : Type 0 where
   pub inner : Piece
-  pub way : List Open
-  pub is_innermost : Innermost s (piece t v) way inner
+  pub path : List OpenValue
+  pub is_innermost : Innermost s (piece t v) path inner
   pub own : IsOwn s inner.type inner.value f

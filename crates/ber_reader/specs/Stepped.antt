@@ -1,16 +1,16 @@
 -- What the steps of a routine read, after the headers at its start.
 use Rattle.std.specs.Prelude.{Bool, true, false, List, [], ◌∷◌, Option, Some, None}
 use Rattle.asn_base.specs.declared.schema.TypeId.{TypeId}
-use Rattle.codec_code.specs.declared.step.Need.{Need}
-use Rattle.codec_code.specs.declared.step.Need.TheVariants.{Mandatory, Optional, Default, Addition}
+use Rattle.codec_code.specs.declared.step.FieldPresence.{FieldPresence}
+use Rattle.codec_code.specs.declared.step.FieldPresence.TheVariants.{Mandatory, Optional, Default, Addition}
 use Rattle.codec_code.specs.declared.step.Step.{Step}
 use Rattle.codec_code.specs.declared.step.Step.TheVariants.{Head, Each, EachSorted, Call}
 
 -- the steps after the headers with which the steps start
-abbrev pub behind_heads : List Step → List Step
-behind_heads [] = []
-behind_heads (Head h ∷ ss) = behind_heads ss
-behind_heads (p ∷ ss) = p ∷ ss
+abbrev pub after_heads : List Step → List Step
+after_heads [] = []
+after_heads (Head h ∷ ss) = after_heads ss
+after_heads (p ∷ ss) = p ∷ ss
 
 -- the type of the elements that a step reads, if it reads elements
 abbrev pub element_in : Step → Option TypeId
@@ -24,7 +24,7 @@ called_in (Call u) = Some u
 called_in p = None
 
 -- whether the component is an addition
-abbrev pub is_of_addition : Need → Bool
+abbrev pub is_of_addition : FieldPresence → Bool
 is_of_addition Addition = true
 is_of_addition Mandatory = false
 is_of_addition Optional = false

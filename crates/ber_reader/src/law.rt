@@ -8,8 +8,8 @@ ghost use Rattle.asn_base.specs.Schemas.{IsSchema, components};
 ghost use Rattle.asn_base.specs.Typed.{AreComponents, GroupsAreWhole, IsValue, ValueIn, nodes};
 ghost use Rattle.asn_base.specs.Types.{Component, Is, Resolved, a_sequence, a_set};
 ghost use Rattle.ber_message.specs.Messages.{IsEncoding};
-ghost use Rattle.ber_message.specs.Ways.{on_way};
-ghost use Rattle.ber_message.specs.declared.open.Open.{Open};
+ghost use Rattle.ber_message.specs.Paths.{on_path};
+ghost use Rattle.ber_message.specs.declared.open.OpenValue.{OpenValue};
 ghost use Rattle.ber_reader.specs.Judged.{Innermost, IsJudged, IsOwn, Piece, component_pieces, kind_at};
 ghost use Rattle.decode_faults.specs.declared.read_fault.ReadFault.TheVariants.{Missing, TooDeep};
 ghost use Rattle.decode_faults.specs.declared.read_fault.ReadFault.{ReadFault};
@@ -23,7 +23,7 @@ ghost use Rattle.std.specs.Int.Digits.{AllBelowBase};
 ghost use Rattle.std.specs.List.{AllByRecursion};
 ghost use Rattle.std.specs.Prelude.{◌≡◌, ◌≤◌, Bool, length, List, map, ℕ};
 
-use ber_message::law::one_refusal;
+use ber_message::law::lemma_one_refusal;
 use encodings::{der_laws, level_laws, message_laws, reading_laws, schema_laws};
 
 /// A DER encoding of at most 16,777,216 octets is one that `read_ber` refuses only if an allocation fails. Whatever
@@ -48,7 +48,7 @@ pub fn written_is_read()
 }
 
 /// A value that isn't one of its type has at most one fault.
-pub fn judged_once()
+pub fn lemma_judged_once()
     ensures { (s : List Resolved) (t : ℕ) (v : AbstractValue) (e f : ReadFault)
         → IsJudged s t v e
         → IsJudged s t v f
@@ -57,17 +57,17 @@ pub fn judged_once()
 
 /// There is only one innermost value that isn't one of its type. Only one way leads there, through values of the same
 /// types, by the same parts.
-pub fn one_way()
-    ensures { (s : List Resolved) (p q r : Piece) (os ps : List Open)
+pub fn lemma_one_path()
+    ensures { (s : List Resolved) (p q r : Piece) (os ps : List OpenValue)
         → Innermost s p os q
         → Innermost s p ps r
-        → (q ≡ r) × (map on_way os ≡ map on_way ps) }
+        → (q ≡ r) × (map on_path os ≡ map on_path ps) }
 {}
 
 /// What the fault of components means that aren't a value of their type, with at most 16,777,216 nodes. `Missing`: if
 /// each present component is a value of at most 63 levels, a group isn't whole. `TooDeep`: a component isn't a value of
 /// its type with at most 63 levels, or may not be absent, or its DEFAULT, if it is absent, has more levels.
-pub fn faults_of_components()
+pub fn lemma_faults_of_components()
     ensures half_a_group { (s : List Resolved) (t : ℕ) (vs : Row)
         → IsOwn s t (fields vs) Missing
         → (IsValue s t (fields vs) → ⊥)
@@ -90,7 +90,7 @@ pub fn faults_of_components()
 {}
 
 /// A message has at most one fault, apart from `Memory`, and a message that is decoded has none.
-pub fn refused_once()
+pub fn lemma_refused_once()
     ensures once { (s : List Resolved) (t : TypeId) (o : List ℕ) (e f : ReadFault)
         → IsSchema s
         → AllBelowBase 256 o
@@ -104,6 +104,6 @@ pub fn refused_once()
         → IsReading s t.index o r
         → ⊥ }
 {
-    one_refusal();
+    lemma_one_refusal();
     schema_laws();
 }

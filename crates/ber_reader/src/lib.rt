@@ -9,7 +9,7 @@ mod place;
 mod read;
 mod wrong;
 
-pub use ber_message::{Open, Part, Whereabouts};
+pub use ber_message::{ErrorPosition, OpenValue, Part};
 pub use der::read_der;
-pub use place::whereabouts;
+pub use place::locate_error;
 pub use read::{Read, read_ber};

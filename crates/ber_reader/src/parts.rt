@@ -2,13 +2,13 @@
 
 ghost use Rattle.asn_base.specs.Schemas.{components};
 ghost use Rattle.ber_reader.specs.Judged.{alternatives, element_of, is_addition_in, kind_at};
-ghost use Rattle.ber_reader.specs.Stepped.{behind_heads, called_in as called_in', element_in as element_in', is_of_addition as is_of_addition'};
+ghost use Rattle.ber_reader.specs.Stepped.{after_heads, called_in as called_in', element_in as element_in', is_of_addition as is_of_addition'};
 ghost use Rattle.codec_code.specs.Routines.{field_of, id_of, routine_at};
 ghost use Rattle.octet_answers.specs.Found.{field_in as field_in'};
 ghost use Rattle.std.specs.Prelude.{◌≡◌, false, option_map, slice_get, suc, true};
 
 use asn_base::schema::TypeId;
-use codec_code::{Code, Coding, Field, Need, Step};
+use codec_code::{Code, Coding, Field, FieldPresence, Step};
 
 /// The component that a step reads, if it reads one.
 fn field_in(step: Step) -> Option<Field>
@@ -16,7 +16,7 @@ fn field_in(step: Step) -> Option<Field>
 {
     match step {
         Step::Field(field) => Some(field),
-        Step::Ranked(field, _) => Some(field),
+        Step::SetComponent(field, _) => Some(field),
         Step::Head(_) => None,
         Step::Leaf(_) => None,
         Step::Each(_) => None,
@@ -36,7 +36,7 @@ fn element_in(step: Step) -> Option<TypeId>
         Step::Each(id) => Some(id),
         Step::EachSorted(id) => Some(id),
         Step::Field(_) => None,
-        Step::Ranked(_, _) => None,
+        Step::SetComponent(_, _) => None,
         Step::Head(_) => None,
         Step::Leaf(_) => None,
         Step::Pick(_) => None,
@@ -55,7 +55,7 @@ fn called_in(step: Step) -> Option<TypeId>
         Step::Each(_) => None,
         Step::EachSorted(_) => None,
         Step::Field(_) => None,
-        Step::Ranked(_, _) => None,
+        Step::SetComponent(_, _) => None,
         Step::Head(_) => None,
         Step::Leaf(_) => None,
         Step::Pick(_) => None,
@@ -66,18 +66,18 @@ fn called_in(step: Step) -> Option<TypeId>
 
 /// The steps after the headers with which the steps start.
 fn within(steps: &[Step]) -> &[Step]
-    ensures { result.now ≡ behind_heads steps.now }
+    ensures { result.now ≡ after_heads steps.now }
 {
-    let Some((step, behind)) = steps.split_first() else {
+    let Some((step, following)) = steps.split_first() else {
         return steps;
     };
     match *step {
-        Step::Head(_) => within(behind),
+        Step::Head(_) => within(following),
         Step::Call(_) => steps,
         Step::Each(_) => steps,
         Step::EachSorted(_) => steps,
         Step::Field(_) => steps,
-        Step::Ranked(_, _) => steps,
+        Step::SetComponent(_, _) => steps,
         Step::Leaf(_) => steps,
         Step::Pick(_) => steps,
         Step::Rest => steps,
@@ -87,7 +87,7 @@ fn within(steps: &[Step]) -> &[Step]
 
 /// The steps that read the contents of a type.
 fn contents(code: &Code, id: TypeId) -> &[Step]
-    ensures { result.now ≡ behind_heads (routine_at code.now id.index) }
+    ensures { result.now ≡ after_heads (routine_at code.now id.index) }
 {
     within(code.steps(id, Coding::Tagged))
 }
@@ -104,11 +104,11 @@ fn step_at(steps: &[Step], place: usize) -> Option<Step>
 }
 
 /// The step at a place after the first step: place 0 is the second step.
-fn step_behind(steps: &[Step], place: usize) -> Option<Step>
+fn step_after(steps: &[Step], place: usize) -> Option<Step>
     ensures { result ≡ slice_get steps.now (suc place) }
 {
     match steps.split_first() {
-        Some((_, behind)) => step_at(behind, place),
+        Some((_, following)) => step_at(following, place),
         None => None,
     }
 }
@@ -138,7 +138,7 @@ pub(crate) fn alternative_at(code: &Code, id: TypeId, index: usize) -> Option<Ty
     ensures { result
         ≡ option_map (λ a. id_of a.type) (slice_get (alternatives (kind_at code.now id.index)) index) }
 {
-    match step_behind(contents(code, id), index) {
+    match step_after(contents(code, id), index) {
         Some(step) => called_in(step),
         None => None,
     }
@@ -155,14 +155,14 @@ pub(crate) fn component_type(code: &Code, id: TypeId, place: usize) -> Option<Ty
 }
 
 /// Whether the component is an addition.
-fn is_of_addition(need: Need) -> bool
+fn is_of_addition(need: FieldPresence) -> bool
     ensures { result ≡ is_of_addition' need }
 {
     match need {
-        Need::Addition => true,
-        Need::Mandatory => false,
-        Need::Optional => false,
-        Need::Default => false,
+        FieldPresence::Addition => true,
+        FieldPresence::Mandatory => false,
+        FieldPresence::Optional => false,
+        FieldPresence::Default => false,
     }
 }
 

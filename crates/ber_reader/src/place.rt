@@ -1,17 +1,17 @@
 //! The octet at which a message is refused.
 
-ghost use Rattle.ber_message.specs.Messages.{IsMessage, IsRead, SaysNoValue, room_of};
+ghost use Rattle.ber_message.specs.Messages.{IsMessage, IsRead, EncodesNoValue, budget_of};
 ghost use Rattle.ber_message.specs.Stops.{IsStop, IsStopBefore};
 ghost use Rattle.ber_reader.specs.Judged.{IsBeforeWrong, piece};
-ghost use Rattle.ber_reader.specs.Readings.{IsBeforeInnermost, IsPlace};
+ghost use Rattle.ber_reader.specs.Readings.{IsBeforeInnermost, IsErrorPosition};
 ghost use Rattle.ber_source.specs.Seen.{token_of};
 ghost use Rattle.octet_answers.specs.States.{Token as Token'};
 ghost use Rattle.decode_faults.specs.declared.read_fault.ReadFault.TheVariants.{Memory};
 ghost use Rattle.std.specs.Prelude.{◌≡◌, ◌<◌, ◌≤◌, false, IfOk, length, List, map};
 
-use crate::wrong::lead;
+use crate::wrong::path_to_wrong;
 use asn_base::schema::TypeId;
-use ber_message::{Whereabouts, begun_before, most_values, read_message, read_view, stop_of};
+use ber_message::{ErrorPosition, begun_before, most_values, read_message, read_view, stop_of};
 use ber_source::Token;
 use codec_code::Code;
 use decode_faults::ReadFault;
@@ -28,13 +28,13 @@ use std::alloc::{AllocError, Global};
 ///
 /// If all of a message was read, and its value isn't one of the type, the offset is that of a header. It is the header
 /// of the innermost value that isn't one of its type, and this value is the part that was being read.
-pub fn whereabouts(
+pub fn locate_error(
     alloc: Global,
     code: &Code,
     id: TypeId,
     octets: &[u8],
-) -> Result<Whereabouts, AllocError>
-    ensures is { IfOk result (λ w. IsPlace code.now id octets.now w) }
+) -> Result<ErrorPosition, AllocError>
+    ensures is { IfOk result (λ w. IsErrorPosition code.now id octets.now w) }
     // If the message is read as a whole, the place is that of the wrong part; otherwise it is where reading stops.
     ensures judged { IsRead code.now id octets.now
         → id.index < length code.now
@@ -42,13 +42,13 @@ pub fn whereabouts(
         → IfOk result (λ w. IsStopBefore code.now id octets.now w) }
     ensures first { ((ts : List Token') → IsMessage code.now id.index octets.now ts → ⊥)
         → length octets.now ≤ 16777216
-        → IfOk result (λ w. IsStop code.now id octets.now (room_of (length octets.now)) w) }
+        → IfOk result (λ w. IsStop code.now id octets.now (budget_of (length octets.now)) w) }
     ensures place { IfOk result (λ w. w.place ≤ length octets.now) }
     // If the message's value isn't one of the type, the place is that of the innermost value that isn't one of its
     // type.
     ensures innermost { (r : IsRead code.now id octets.now)
-        → (n : SaysNoValue code.now id.index octets.now)
-        → IfOk result (IsBeforeInnermost code.now id octets.now r.last.told n.value) }
+        → (n : EncodesNoValue code.now id.index octets.now)
+        → IfOk result (IsBeforeInnermost code.now id octets.now r.last.emitted n.value) }
 {
     match read_message(alloc, code, id, octets) {
         Ok(tokens) => {
@@ -82,11 +82,11 @@ fn before_wrong(
     tokens: &[Token<'_>],
 ) -> Result<usize, AllocError>
     ensures { IsRead code.now id octets.now
-        → (n : SaysNoValue code.now id.index octets.now)
+        → (n : EncodesNoValue code.now id.index octets.now)
         → IsMessage code.now id.index octets.now (map token_of tokens.now)
         → IfOk result (IsBeforeWrong code.now (piece id.index n.value) (map token_of tokens.now)) }
 {
-    code.accepted();
+    code.lemma_invariant();
     let built = match read_view(alloc, code, id, octets) {
         Ok(built) => built,
         Err(fault) => {
@@ -100,7 +100,7 @@ fn before_wrong(
     if code.is_value(id, &value) {
         return Ok(most_values(octets));
     }
-    let mut way = Vec::new(alloc);
-    lead(code, id, &value, &mut way)?;
-    begun_before(alloc, tokens, way.as_slice())
+    let mut path = Vec::new(alloc);
+    path_to_wrong(code, id, &value, &mut path)?;
+    begun_before(alloc, tokens, path.as_slice())
 }

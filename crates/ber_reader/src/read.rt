@@ -2,7 +2,7 @@
 
 ghost use Rattle.asn_base.specs.Abstract.{AbstractValue};
 ghost use Rattle.asn_base.specs.Typed.{IsValue, IsValueWithoutNodes};
-ghost use Rattle.ber_message.specs.Messages.{BeginsEncoding, EndsTooSoon, HasEncodingFirst, HasMessageFirst, IsEncoding, IsRead, SaysNoValue};
+ghost use Rattle.ber_message.specs.Messages.{BeginsEncoding, EndsTooSoon, HasEncodingFirst, HasMessageFirst, IsEncoding, IsRead, EncodesNoValue};
 ghost use Rattle.ber_reader.specs.Judged.{IsJudged};
 ghost use Rattle.ber_reader.specs.Readings.{IsReading, IsRefused};
 ghost use Rattle.decode_faults.specs.declared.read_fault.ReadFault.TheVariants.{Memory, MessageLimit, Missing};
@@ -59,22 +59,22 @@ pub fn read_ber<'a>(
     // with a complete encoding and go on; `Truncated` if they are the start of one.
     ensures read { IsEncoding code.now id.index octets.now → IfErr result (λ e. e ≡ Memory) }
     ensures more { HasEncodingFirst code.now id.index octets.now → (result ≡ Err Trailing) ⊎ (result ≡ Err Memory) }
-    ensures less { BeginsEncoding code.now id.index octets.now → result ≡ Err Truncated }
+    ensures truncated_value { BeginsEncoding code.now id.index octets.now → result ≡ Err Truncated }
     // `OutsideConstraint` only if the octets encode something that isn't a value of the type; `Missing` only then, or
     // at the end of contents.
-    ensures outside { result ≡ Err OutsideConstraint → SaysNoValue code.now id.index octets.now }
+    ensures outside { result ≡ Err OutsideConstraint → EncodesNoValue code.now id.index octets.now }
     ensures missing { result ≡ Err Missing
-        → EndsTooSoon code.now id octets.now ⊎ SaysNoValue code.now id.index octets.now }
+        → EndsTooSoon code.now id octets.now ⊎ EncodesNoValue code.now id.index octets.now }
     // If the type's routine reads the octets to their end, their value may still not be one of the type. Then the fault
     // is that of the innermost value that isn't one of its type, or `Memory`.
     ensures judged { IsRead code.now id octets.now
-        → (n : SaysNoValue code.now id.index octets.now)
+        → (n : EncodesNoValue code.now id.index octets.now)
         → MatchResult result (λ r. ⊥) (λ e. (e ≡ Memory) ⊎ IsJudged code.now id.index n.value e) }
     // Every fault except `Memory` is a true reason to refuse the octets. None is `NotDer`.
     ensures refused { IfErr result (λ e. (e ≡ Memory → ⊥) → IsRefused code.now id octets.now e) }
     ensures not_der { result ≡ Err NotDer → ⊥ }
 {
-    code.accepted();
+    code.lemma_invariant();
     message_laws();
     let built = match read_view(alloc, code, id, octets) {
         Ok(built) => built,

@@ -3,17 +3,17 @@
 ghost use Rattle.asn_base.specs.Abstract.{abstract, fields, row_of_list, row_of_options};
 ghost use Rattle.asn_base.specs.Schemas.{components};
 ghost use Rattle.asn_base.specs.Typed.{IsValue};
-ghost use Rattle.ber_reader.specs.Judged.{FirstWrong, IsJudged, IsOwn, LeadOn, in_root, kind_at, parts, piece, placed};
+ghost use Rattle.ber_reader.specs.Judged.{FirstWrong, IsJudged, IsOwn, Extends, in_root, kind_at, parts, piece, placed};
 ghost use Rattle.ber_reader.specs.Judged.{component_piece, component_pieces, element_pieces};
 ghost use Rattle.ber_reader.specs.Judged.{without_additions as without_additions'};
 ghost use Rattle.decode_faults.specs.declared.read_fault.ReadFault.TheVariants.{Memory, MessageLimit, Trailing};
 ghost use Rattle.std.specs.Prelude.{◌≡◌, ◌++◌, ◌∷◌, [], IfOk, map, OnOk, option_map, slice_get};
 
 use crate::parts::{alternative_at, component_type, element_at, is_addition};
-use asn_base::law::abstract_values;
+use asn_base::law::lemma_abstract_values;
 use asn_base::schema::TypeId;
 use asn_base::value::Value;
-use ber_message::{Open, Part};
+use ber_message::{OpenValue, Part};
 use codec_code::Code;
 use decode_faults::ReadFault;
 use std::alloc::{AllocError, Global};
@@ -92,7 +92,7 @@ pub(crate) fn wrong_member<'v>(code: &Code, id: TypeId, value: &'v Value) -> Opt
     ensures { FirstWrong code.now (parts (kind_at code.now id.index) (abstract value.now))
         (option_map (λ w. placed w.part w.ty.index (abstract w.value.now)) result) }
 {
-    abstract_values();
+    lemma_abstract_values();
     match value {
         Value::Fields(members) => wrong_field(code, id, members.as_slice()),
         Value::List(members) => match element_at(code, id) {
@@ -153,7 +153,7 @@ fn without_additions(
         ≡ fields (without_additions' (components (kind_at code.now id.index))
         (row_of_options (map (option_map abstract) members.now)))) }
 {
-    abstract_values();
+    lemma_abstract_values();
     let mut root = Vec::new(alloc);
     for i in 0..members.len() {
         let member = without(alloc, is_addition(code, id, i), &members[i])?;
@@ -195,7 +195,7 @@ fn own_fault(alloc: Global, code: &Code, id: TypeId, value: &Value) -> ReadFault
     ensures trailing { result ≡ Trailing → ⊥ }
     ensures own { (result ≡ Memory → ⊥) → IsOwn code.now id.index (abstract value.now) result }
 {
-    abstract_values();
+    lemma_abstract_values();
     match value {
         Value::Enum(_) => ReadFault::BadContents,
         Value::Fields(members) => fault_of_components(alloc, code, id, members.as_slice()),
@@ -229,23 +229,23 @@ pub(crate) fn fault_of(alloc: Global, code: &Code, id: TypeId, value: &Value) ->
 
 /// Appends the way to the innermost value that isn't one of its type. The way has each value around it with the part
 /// that leads on, the outermost first. The function calls itself once for each level of the value.
-pub(crate) fn lead(
+pub(crate) fn path_to_wrong(
     code: &Code,
     id: TypeId,
     value: &Value,
-    way: &mut Vec<Open>,
+    path: &mut Vec<OpenValue>,
 ) -> Result<(), AllocError>
     ensures { (IsValue code.now id.index (abstract value.now) → ⊥)
-        → OnOk result (LeadOn code.now (piece id.index (abstract value.now)) way.old.items way.new.items) }
+        → OnOk result (Extends code.now (piece id.index (abstract value.now)) path.old.items path.new.items) }
 {
     match wrong_member(code, id, value) {
         Some(wrong) => {
-            way.push(Open {
+            path.push(OpenValue {
                 ty: id,
                 part: Some(wrong.part),
                 read: 0,
             })?;
-            lead(code, wrong.ty, wrong.value, way)
+            path_to_wrong(code, wrong.ty, wrong.value, path)
         }
         None => Ok(()),
     }

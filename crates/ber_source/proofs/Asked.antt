@@ -6,7 +6,7 @@ use Rattle.codec_code.specs.declared.step.Field.{Field}
 use Rattle.codec_code.specs.Steps.{may_be_absent}
 use Rattle.octet_answers.specs.Units.{UnitAt}
 use Rattle.octet_answers.specs.States.{State}
-use Rattle.octet_answers.specs.Answers.{StandsNext}
+use Rattle.octet_answers.specs.Answers.{FieldNext}
 use Rattle.ber_source.proofs.Windows.{false_true}
 
 abbrev pub NoUnit : List ℕ → Type 0
@@ -22,13 +22,13 @@ pub not_none : {o : List ℕ} → 0 < length o → o ≡ [] → ⊥
 not_none l e = let m = ap length e in omega arith
 
 -- no encoding comes next, although there are octets
-pub stands_never : (a b : State) (f : Field) (there : Bool)
+pub never_comes : (a b : State) (f : Field) (there : Bool)
     → 0 < length a.here.octets
     → NoUnit a.here.octets
-    → StandsNext a f there b
+    → FieldNext a f there b
     → ⊥
-stands_never a b f true l n x = n x.tag x.constructed x.count x.contents x.rest x.unit
-stands_never a b f false l n x =
+never_comes a b f true l n x = n x.tag x.constructed x.count x.contents x.rest x.unit
+never_comes a b f false l n x =
     ⊎_elim (λ e. not_none l e) (λ o. n o.tag o.constructed o.count o.contents o.rest o.unit) x.next
 
 -- nothing comes next, although the component must be present
@@ -36,7 +36,7 @@ pub missing_never : (a b : State) (f : Field) (there : Bool)
     → NoUnit []
     → a.here.octets ≡ []
     → may_be_absent f.need ≡ false
-    → StandsNext a f there b
+    → FieldNext a f there b
     → ⊥
 missing_never a b f true n e m x =
     n x.tag x.constructed x.count x.contents x.rest (subst (λ q. UnitAt x.tag x.constructed x.count x.contents x.rest q) e x.unit)
@@ -48,7 +48,7 @@ pub other_never : (a b : State) (f : Field) (there : Bool) (g : Tag) (c : Bool) 
     → UnitAt g c k y r a.here.octets
     → (First a.schema f.ty.index g → ⊥)
     → may_be_absent f.need ≡ false
-    → StandsNext a f there b
+    → FieldNext a f there b
     → ⊥
 other_never a b f true g c k y r one u n m x =
     let w = one g x.tag c x.constructed k x.count y x.contents r x.rest a.here.octets u x.unit in

@@ -2,7 +2,6 @@ pub mod Windows
 pub mod Asked
 pub mod Passed
 pub mod Going
-pub mod Taken
-pub mod Bad
+pub mod ContentsFault
 pub mod Skipping
 pub mod Shorts

@@ -80,7 +80,7 @@ no_unit_none none l (passes {g = g} {c = c} {k = k} {x = x} {rest = r} m u n z q
 pub record Behind (s : List Resolved) (ss : List Step) (e : Bool) (a : State) (k : ℕ) (x r : List ℕ) (f : Option Field) (b : State) : Type 0 where
   pub extensible : e ≡ true
   pub few_levels : length a.outer < 400
-  pub behind : Passes s ss e (passing a k x r) f b
+  pub following : Passes s ss e (passing a k x r) f b
 
 pub must_pass : {s : List Resolved} {ss : List Step} {e : Bool} {a b : State} {f : Option Field}
     {g : Tag} {c : Bool} {k : ℕ} {x r : List ℕ}
@@ -99,5 +99,5 @@ must_pass {s} {ss} {e} {a} {b} {f} {g} {c} {k} {x} {r} none one u n (passes {g =
     record {
       extensible = m;
       few_levels = l;
-      behind = subst (λ p. Passes s ss e p f b) (sym (passing_same a z.2 z.3 z.4)) q;
+      following = subst (λ p. Passes s ss e p f b) (sym (passing_same a z.2 z.3 z.4)) q;
     }

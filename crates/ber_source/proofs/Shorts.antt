@@ -8,15 +8,15 @@ use Rattle.codec_code.specs.declared.step.Field.{Field}
 use Rattle.codec_code.specs.declared.step.Head.{Head}
 use Rattle.encodings.specs.Header.{Octets}
 use Rattle.encodings.specs.declared.leaf_kind.LeafKind.{LeafKind}
-use Rattle.codec_source.specs.Events.{begins, ends, opens, closes, holds, stands}
+use Rattle.codec_source.specs.Events.{begins, ends, opens, closes, holds, comes}
 use Rattle.codec_source.specs.Small.{TakesValue, TakesComponent}
 use Rattle.octet_answers.specs.Units.{UnitAt}
-use Rattle.octet_answers.specs.States.{State, Window, component, telling, behind, begun_at, opened_at, held_at, closed_at}
+use Rattle.octet_answers.specs.States.{State, OpenContents, component, with_token, following, begun_at, opened_at, held_at, closed_at}
 use Rattle.octet_answers.specs.Answers.{Takes}
-use Rattle.ber_source.specs.declared.small.Short.{Short}
-use Rattle.ber_source.specs.Seen.{Fits}
-use Rattle.ber_source.specs.Short.{IsShort, short_at}
-use Rattle.ber_source.proofs.Taken.{Law}
+use Rattle.ber_source.specs.declared.small.ShortValue.{ShortValue}
+use Rattle.ber_source.specs.Seen.{FitsMessage}
+use Rattle.ber_source.specs.ShortValue.{IsShortValue, short_at}
+use Rattle.ber_source.specs.proving.Taken.{Law}
 use Rattle.ber_source.proofs.Windows.{false_true}
 
 take_all : (ms : List ℕ) → take (length ms) ms ≡ ms
@@ -31,30 +31,30 @@ with_marks a t k x rest left ms = let z = short_at a t k x rest left in record {
   outer = z.outer;
   values = z.values;
   marks = ms;
-  told = z.told;
-  room = z.room;
+  emitted = z.emitted;
+  budget = z.budget;
 }
 
-pub value_taken : Law → (a : State) (h : Head) (k : LeafKind) (s : Short) (t : TypeId) → IsShort a h k s
-    → TakesValue Takes t h k a (short_at a t k s.contents.now s.rest.now (a.room - 1))
+pub value_taken : Law → (a : State) (h : Head) (k : LeafKind) (s : ShortValue) (t : TypeId) → IsShortValue a h k s
+    → TakesValue Takes t h k a (short_at a t k s.contents.now s.rest.now (a.budget - 1))
 value_taken law a h k s t i =
     let x = s.contents.now in
     let r = s.rest.now in
-    let left = a.room - 1 in
-    let w = behind a.here 2 x r in
+    let left = a.budget - 1 in
+    let w = following a.here 2 x r in
     let b = begun_at a t left in
     let o = opened_at b false 2 x r in
     let d = held_at o k in
     let c = closed_at d w a.outer in
     let z = short_at a t k x r left in
-    let one : a.room ≡ suc left = (let l = i.has_room in omega arith) in
+    let one : a.budget ≡ suc left = (let l = i.has_budget in omega arith) in
     let many : (399 - length a.outer) + length (a.outer ++ w ∷ []) ≡ 400 = (let l = i.few_headers in let m = length_more a.outer w in omega arith) in
     record {
       begun_at = b;
       opened_at = o;
       held_at = d;
       closed_at = c;
-      begun = law a b (begins t) (record { left = left; has_room = one; few_levels = i.few_values; is = refl });
+      begun = law a b (begins t) (record { left = left; has_budget = one; few_levels = i.few_values; is = refl });
       opened = law b o (opens h) (record {
         constructed = false;
         count = 2;
@@ -72,7 +72,7 @@ value_taken law a h k s t i =
         contents = i.read.is_read;
         is = refl;
       });
-      closed = law d c closes (record { window = w; others = a.outer; none_left = refl; is_open = refl; is = refl });
+      closed = law d c closes (record { open_contents = w; others = a.outer; none_left = refl; is_open = refl; is = refl });
       ended = law c z ends (record {
         value = t;
         others = a.values;
@@ -81,29 +81,29 @@ value_taken law a h k s t i =
       });
     }
   where
-    length_more : (ws : List Window) (w : Window) → length (ws ++ w ∷ []) ≡ suc (length ws)
+    length_more : (ws : List OpenContents) (w : OpenContents) → length (ws ++ w ∷ []) ≡ suc (length ws)
     length_more [] w = refl
     length_more (v ∷ ws) w = ap suc (length_more ws w)
 
 -- the same before a component is named
-pub named_short : (a : State) (f : Field) (h : Head) (k : LeafKind) (s : Short) → IsShort a h k s → IsShort (telling a (component f.place)) h k s
+pub named_short : (a : State) (f : Field) (h : Head) (k : LeafKind) (s : ShortValue) → IsShortValue a h k s → IsShortValue (with_token a (component f.place)) h k s
 named_short a f h k s i = record {
   primitive = i.primitive;
   unit = i.unit;
   read = i.read;
-  has_room = i.has_room;
+  has_budget = i.has_budget;
   few_values = i.few_values;
   few_headers = i.few_headers;
 }
 
-pub component_taken : Law → (a b : State) (f : Field) (h : Head) (k : LeafKind) (s : Short) → First a.schema f.ty.index h.tag → IsShort a h k s
-    → b ≡ telling a (component f.place)
-    → TakesComponent Takes f h k a (short_at b f.ty k s.contents.now s.rest.now (b.room - 1))
+pub component_taken : Law → (a b : State) (f : Field) (h : Head) (k : LeafKind) (s : ShortValue) → First a.schema f.ty.index h.tag → IsShortValue a h k s
+    → b ≡ with_token a (component f.place)
+    → TakesComponent Takes f h k a (short_at b f.ty k s.contents.now s.rest.now (b.budget - 1))
 component_taken law a b f h k s first i e =
-    subst (λ q. TakesComponent Takes f h k a (short_at q f.ty k s.contents.now s.rest.now (q.room - 1))) (sym e)
-    (let n = telling a (component f.place) in record {
+    subst (λ q. TakesComponent Takes f h k a (short_at q f.ty k s.contents.now s.rest.now (q.budget - 1))) (sym e)
+    (let n = with_token a (component f.place) in record {
       next_at = n;
-      is_next = law a n (stands f true) (record {
+      is_next = law a n (comes f true) (record {
         tag = h.tag;
         constructed = false;
         count = 2;
@@ -117,11 +117,11 @@ component_taken law a b f h k s first i e =
     })
 
 -- the offsets of contents and of what follows them are within a message
-pub record AreInside (w : Window) (x r : Octets) : Type 0 where
+pub record AreInside (w : OpenContents) (x r : Octets) : Type 0 where
   pub contents : (w.at + 2) + length x ≤ 16777216
-  pub rest : Fits (behind w 2 x r)
+  pub rest : FitsMessage (following w 2 x r)
 
-pub inside : {t : Tag} {x r : Octets} (w : Window) → Fits w → UnitAt t false 2 x r w.octets → AreInside w x r
+pub inside : {t : Tag} {x r : Octets} (w : OpenContents) → FitsMessage w → UnitAt t false 2 x r w.octets → AreInside w x r
 inside {t} {x} {r} w f u =
     let g : w.at + length w.octets ≤ 16777216 = f in
     let l = u.long in

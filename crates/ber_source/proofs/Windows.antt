@@ -3,21 +3,21 @@ use Rattle.std.proofs.Common.{arith, ◌≡◌, ℕ, suc, ◌<◌, Bool, true, f
 use Rattle.std.specs.Prelude.{◌==◌, Option, Some, None, IfSome, IfNone}
 use Rattle.std.proofs.lemmas.Bool.Decides.{nat_tests}
 use Rattle.std.specs.List.{AllByRecursion}
-use Rattle.ber_source.specs.declared.window.Window.{Window}
-use Rattle.ber_source.specs.Seen.{window_of, Fits}
+use Rattle.ber_source.specs.declared.open_contents.OpenContents.{OpenContents}
+use Rattle.ber_source.specs.Seen.{open_contents_of, FitsMessage}
 
-abbrev AllFit : List Window → Type 0
-AllFit ws = AllByRecursion Fits (map window_of ws)
+abbrev AllFit : List OpenContents → Type 0
+AllFit ws = AllByRecursion FitsMessage (map open_contents_of ws)
 
-front_fits : (ws : List Window) (w : Window) → AllFit (ws ++ w ∷ []) → AllFit ws
+front_fits : (ws : List OpenContents) (w : OpenContents) → AllFit (ws ++ w ∷ []) → AllFit ws
 front_fits [] w h = tt
 front_fits (v ∷ ws) w h = (h.0, front_fits ws w h.1)
 
-last_fits : (ws : List Window) (w : Window) → AllFit (ws ++ w ∷ []) → Fits (window_of w)
+last_fits : (ws : List OpenContents) (w : OpenContents) → AllFit (ws ++ w ∷ []) → FitsMessage (open_contents_of w)
 last_fits [] w h = h.0
 last_fits (v ∷ ws) w h = last_fits ws w h.1
 
-pub one_less : (all ws : List Window) (w : Window) → all ≡ ws ++ w ∷ [] → AllFit all → Fits (window_of w) × AllFit ws
+pub one_less : (all ws : List OpenContents) (w : OpenContents) → all ≡ ws ++ w ∷ [] → AllFit all → FitsMessage (open_contents_of w) × AllFit ws
 one_less all ws w e h = let k : AllFit (ws ++ w ∷ []) = subst AllFit e h in (last_fits ws w k, front_fits ws w k)
 
 pub false_true : false ≡ true → ⊥
@@ -41,7 +41,7 @@ pub some_octets : (o : List ℕ) (b : Bool) → b ≡ (length o == 0) → b ≡ 
 some_octets [] b e t = absurd (is_zero (sym e ∙ t))
 some_octets (x ∷ o) b e t = omega arith
 
-pub as_many : (ws : List Window) → length (map window_of ws) ≡ length ws
+pub as_many : (ws : List OpenContents) → length (map open_contents_of ws) ≡ length ws
 as_many [] = refl
 as_many (w ∷ ws) = ap suc (as_many ws)
 

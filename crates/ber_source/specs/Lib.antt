@@ -1,6 +1,7 @@
--- What contents octets mean (`Holding`); a cursor in memory, as the state that it represents (`Seen`); and what a
+-- What contents octets mean (`PrimitiveValue`); a cursor in memory, as the state that it represents (`Seen`); and what a
 -- cursor guarantees as a source (`Laws`).
-pub mod Holding
+pub mod PrimitiveValue
 pub mod Seen
-pub mod Short
+pub mod ShortValue
 pub mod Laws
+pub mod proving

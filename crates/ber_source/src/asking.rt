@@ -1,47 +1,47 @@
 //! Answers about what comes next: components, elements and alternatives.
 
 ghost use Rattle.asn_base.specs.declared.schema.TypeId.{TypeId as TypeId'};
-ghost use Rattle.ber_source.specs.Seen.{IsWithin, mark_of, state_of};
-ghost use Rattle.codec_source.specs.Events.{to_skip, whether_stands, which_picked, which_stands};
+ghost use Rattle.ber_source.specs.Seen.{IsValidState, as_token, state_of};
+ghost use Rattle.codec_source.specs.Events.{to_skip, whether_comes, which_picked, which_comes};
 ghost use Rattle.decode_faults.specs.declared.read_fault.ReadFault.TheVariants.{Memory};
 ghost use Rattle.codec_source.specs.proving.Frames.{IfRefused, IfRefusedWith};
-ghost use Rattle.octet_answers.specs.Answers.{AmongNext, Chooses, MoreNext, Skips, StandsNext};
-ghost use Rattle.octet_answers.specs.Left.{Leaves};
-ghost use Rattle.octet_answers.specs.States.{State, marked, telling};
+ghost use Rattle.octet_answers.specs.Answers.{NextInSet, Chooses, MoreNext, Skips, FieldNext};
+ghost use Rattle.octet_answers.specs.Unanswered.{Leaves};
+ghost use Rattle.octet_answers.specs.States.{State, marked, with_token};
 ghost use Rattle.std.specs.Prelude.{◌≡◌, ◌++◌, ◌∷◌, [], Bool, IfErr, IfNone, IfOk, IfSome, OnOk, Option as Option', drop, length, List};
 
-use crate::moves::told_header;
+use crate::moves::from_header_fault;
 use crate::passing::pass;
-use crate::place::Place;
-use crate::teller::Teller;
-use crate::token::Mark;
+use crate::reader_state::ReaderState;
+use crate::token::StructToken;
+use crate::token_sink::TokenSink;
 use asn_base::schema::TypeId;
 use codec_code::{Coding, Field, Step};
 use decode_faults::ReadFault;
 use next_tags::{
     are_read, can_begin, choose, is_extensible, is_in, last_steps, may_be_absent, next_unit,
 };
-use octet_answers::law::one_unit;
+use octet_answers::law::lemma_one_unit;
 
 /// Gives one more token to the receiver.
 #[inline(always)]
-pub(crate) fn tell<'c, 'a, T: Teller<'a>>(
-    place: &mut Place<'c, 'a, T>,
-    mark: Mark,
+pub(crate) fn emit<'c, 'a, T: TokenSink<'a>>(
+    place: &mut ReaderState<'c, 'a, T>,
+    mark: StructToken,
 ) -> Result<(), ReadFault>
-    requires { IsWithin T.suits place.old }
-    ensures within { IsWithin T.suits place.new }
-    ensures ok { OnOk result (state_of T.tokens place.new ≡ telling (state_of T.tokens place.old) (mark_of mark)) }
+    requires { IsValidState T.suits place.old }
+    ensures within { IsValidState T.suits place.new }
+    ensures ok { OnOk result (state_of T.tokens place.new ≡ with_token (state_of T.tokens place.old) (as_token mark)) }
     ensures err { IfErr result (λ e. e ≡ Memory) }
 {
-    match place.told.tell(mark) {
+    match place.emitted.emit(mark) {
         Ok(()) => Ok(()),
         Err(fault) => Err(fault),
     }
 }
 
 /// Whether an encoding comes next, before the end of the contents.
-pub fn has_more<'c, 'a, T: Teller<'a>>(place: &Place<'c, 'a, T>) -> bool
+pub fn has_more<'c, 'a, T: TokenSink<'a>>(place: &ReaderState<'c, 'a, T>) -> bool
     ensures { MoreNext (state_of T.tokens place.now) result (state_of T.tokens place.now) }
 {
     !place.here.octets.is_empty()
@@ -49,18 +49,18 @@ pub fn has_more<'c, 'a, T: Teller<'a>>(place: &Place<'c, 'a, T>) -> bool
 
 /// Whether the component of a SEQUENCE comes next.
 #[inline(always)]
-pub fn stands_next<'c, 'a, T: Teller<'a>>(
-    place: &mut Place<'c, 'a, T>,
+pub fn is_component_next<'c, 'a, T: TokenSink<'a>>(
+    place: &mut ReaderState<'c, 'a, T>,
     field: Field,
 ) -> Result<bool, ReadFault>
-    requires { IsWithin T.suits place.old }
-    ensures within { IsWithin T.suits place.new }
-    ensures ok { IfOk result (λ yes. StandsNext (state_of T.tokens place.old) field yes (state_of T.tokens place.new)) }
+    requires { IsValidState T.suits place.old }
+    ensures within { IsValidState T.suits place.new }
+    ensures ok { IfOk result (λ yes. FieldNext (state_of T.tokens place.old) field yes (state_of T.tokens place.new)) }
     ensures err { IfRefused result ((yes : Bool) (b : State)
-        → StandsNext (state_of T.tokens place.old) field yes b → ⊥) }
-    ensures left { IfRefusedWith result (Leaves (state_of T.tokens place.old) (whether_stands field) (state_of T.tokens place.new)) }
+        → FieldNext (state_of T.tokens place.old) field yes b → ⊥) }
+    ensures left { IfRefusedWith result (Leaves (state_of T.tokens place.old) (whether_comes field) (state_of T.tokens place.new)) }
 {
-    one_unit();
+    lemma_one_unit();
     if place.here.octets.is_empty() {
         if may_be_absent(field.need) {
             return Ok(false);
@@ -69,10 +69,10 @@ pub fn stands_next<'c, 'a, T: Teller<'a>>(
     }
     let unit = match next_unit(place.here.octets) {
         Ok(unit) => unit,
-        Err(fault) => return Err(told_header(fault)),
+        Err(fault) => return Err(from_header_fault(fault)),
     };
     if can_begin(place.code, field.ty, unit.tag) {
-        tell(place, Mark::Component(field.place))?;
+        emit(place, StructToken::Component(field.place))?;
         return Ok(true);
     }
     if may_be_absent(field.need) {
@@ -82,25 +82,25 @@ pub fn stands_next<'c, 'a, T: Teller<'a>>(
 }
 
 /// The alternative whose encoding comes next.
-pub fn choose_next<'c, 'a, T: Teller<'a>>(
-    place: &mut Place<'c, 'a, T>,
+pub fn choose_next<'c, 'a, T: TokenSink<'a>>(
+    place: &mut ReaderState<'c, 'a, T>,
     calls: &[Step],
 ) -> Result<TypeId, ReadFault>
-    requires { IsWithin T.suits place.old }
-    ensures within { IsWithin T.suits place.new }
+    requires { IsValidState T.suits place.old }
+    ensures within { IsValidState T.suits place.new }
     ensures ok { IfOk result (λ id. Chooses (state_of T.tokens place.old) calls.now id (state_of T.tokens place.new)) }
     ensures err { IfRefused result ((id : TypeId') (b : State)
         → Chooses (state_of T.tokens place.old) calls.now id b → ⊥) }
     ensures left { IfRefusedWith result (Leaves (state_of T.tokens place.old) (which_picked calls.now) (state_of T.tokens place.new)) }
 {
-    one_unit();
+    lemma_one_unit();
     let unit = match next_unit(place.here.octets) {
         Ok(unit) => unit,
-        Err(fault) => return Err(told_header(fault)),
+        Err(fault) => return Err(from_header_fault(fault)),
     };
     match choose(place.code, calls, unit.tag) {
         Some((index, id)) => {
-            tell(place, Mark::Chosen(index))?;
+            emit(place, StructToken::Chosen(index))?;
             Ok(id)
         }
         None => Err(ReadFault::UnexpectedTag),
@@ -108,9 +108,9 @@ pub fn choose_next<'c, 'a, T: Teller<'a>>(
 }
 
 /// Skips additions after the last mandatory component, to the end of the contents.
-pub fn skip<'c, 'a, T: Teller<'a>>(place: &mut Place<'c, 'a, T>) -> Result<(), ReadFault>
-    requires { IsWithin T.suits place.old }
-    ensures within { IsWithin T.suits place.new }
+pub fn skip<'c, 'a, T: TokenSink<'a>>(place: &mut ReaderState<'c, 'a, T>) -> Result<(), ReadFault>
+    requires { IsValidState T.suits place.old }
+    ensures within { IsValidState T.suits place.new }
     ensures ok { OnOk result (Skips (state_of T.tokens place.old) (state_of T.tokens place.new)) }
     ensures err { IfRefused result ((b : State) → Skips (state_of T.tokens place.old) b → ⊥) }
     ensures left { IfRefusedWith result (Leaves (state_of T.tokens place.old) to_skip (state_of T.tokens place.new)) }
@@ -152,17 +152,17 @@ fn marks_from(marks: &[usize], from: usize) -> &[usize]
 
 /// Skips additions, and returns the component of a SET that comes next, of those with which the steps start. The result
 /// is None at the end of the contents, if all mandatory ones were read; if not, `Missing`.
-pub fn among_next<'c, 'a, T: Teller<'a>>(
-    place: &mut Place<'c, 'a, T>,
+pub fn next_in_set<'c, 'a, T: TokenSink<'a>>(
+    place: &mut ReaderState<'c, 'a, T>,
     steps: &[Step],
 ) -> Result<Option<TypeId>, ReadFault>
-    requires { IsWithin T.suits place.old }
-    ensures within { IsWithin T.suits place.new }
+    requires { IsValidState T.suits place.old }
+    ensures within { IsValidState T.suits place.new }
     ensures ok { IfOk result (λ id.
-        AmongNext (state_of T.tokens place.old) steps.now id (state_of T.tokens place.new)) }
+        NextInSet (state_of T.tokens place.old) steps.now id (state_of T.tokens place.new)) }
     ensures err { IfRefused result ((id : Option' TypeId') (b : State)
-        → AmongNext (state_of T.tokens place.old) steps.now id b → ⊥) }
-    ensures left { IfRefusedWith result (Leaves (state_of T.tokens place.old) (which_stands steps.now) (state_of T.tokens place.new)) }
+        → NextInSet (state_of T.tokens place.old) steps.now id b → ⊥) }
+    ensures left { IfRefusedWith result (Leaves (state_of T.tokens place.old) (which_comes steps.now) (state_of T.tokens place.new)) }
 {
     let found = match pass(place, steps, is_extensible(steps)) {
         Ok(found) => found,
@@ -189,14 +189,17 @@ pub fn among_next<'c, 'a, T: Teller<'a>>(
 }
 
 /// Notes that the component at a place of a SET was read.
-fn mark<'c, 'a, T: Teller<'a>>(place: &mut Place<'c, 'a, T>, at: usize) -> Result<(), ReadFault>
-    requires { IsWithin T.suits place.old }
-    ensures within { IsWithin T.suits place.new }
+fn mark<'c, 'a, T: TokenSink<'a>>(
+    place: &mut ReaderState<'c, 'a, T>,
+    at: usize,
+) -> Result<(), ReadFault>
+    requires { IsValidState T.suits place.old }
+    ensures within { IsValidState T.suits place.new }
     ensures ok { OnOk result (state_of T.tokens place.new ≡ marked (state_of T.tokens place.old) at) }
     ensures err { IfErr result (λ e. e ≡ Memory) }
 {
     push_mark(&mut place.marks, at)?;
-    match place.told.tell(Mark::Component(at)) {
+    match place.emitted.emit(StructToken::Component(at)) {
         Ok(()) => Ok(()),
         Err(fault) => Err(fault),
     }

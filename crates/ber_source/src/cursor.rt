@@ -5,9 +5,9 @@ ghost use Rattle.ber_source.specs.Seen.{token_of};
 ghost use Rattle.octet_answers.specs.States.{front};
 ghost use Rattle.std.specs.Prelude.{◌≡◌, ◌<◌, ◌≤◌, IfErr, IfOk, IsTrue, [], ◌↔◌, length, map};
 
-use crate::asking::{among_next, choose_next, has_more, skip, stands_next};
+use crate::asking::{choose_next, has_more, is_component_next, next_in_set, skip};
 use crate::moves::{begin, close, end, hold, open};
-use crate::place::{Place, at_front};
+use crate::reader_state::{ReaderState, at_front};
 use crate::token::Token;
 use asn_base::schema::TypeId;
 use codec_code::{Code, Field, Head, Step};
@@ -15,19 +15,19 @@ use codec_source::Source;
 use decode_faults::ReadFault;
 use encodings::LeafKind;
 use limits::MAX_MESSAGE;
-use octet_answers::law::one_answer;
+use octet_answers::law::lemma_one_answer;
 use std::alloc::Global;
 use std::marker::Model;
 
 /// A message while it is read, from its start, by the basic rules.
 #[derive(Drop)]
 pub struct Cursor<'c, 'a> {
-    place: Place<'c, 'a, Vec<Token<'a>>>,
+    place: ReaderState<'c, 'a, Vec<Token<'a>>>,
 }
 
 impl<'c, 'a> Model for Cursor<'c, 'a> {
     ghost use Rattle.octet_answers.specs.States.{State};
-    ghost use Rattle.ber_source.specs.Seen.{IsWithin, listed, state_of};
+    ghost use Rattle.ber_source.specs.Seen.{IsValidState, listed, state_of};
     ghost use Rattle.std.specs.Coded.{codes};
     ghost use Rattle.asn_base.specs.Codes.{abstract_value_code};
 
@@ -37,19 +37,19 @@ impl<'c, 'a> Model for Cursor<'c, 'a> {
 
     ghost view = { λ c. state_of listed c.place };
 
-    ghost invariant = { λ c. IsWithin (λ v s. Unit {0}) c.place };
+    ghost invariant = { λ c. IsValidState (λ v s. Unit {0}) c.place };
 }
 
 impl<'c, 'a> Cursor<'c, 'a> {
-    /// A cursor at the start of a message, in which at most `room` values may begin. `MessageLimit`: the message has
+    /// A cursor at the start of a message, in which at most `budget` values may begin. `MessageLimit`: the message has
     /// more than 16,777,216 octets.
     pub fn new(
         alloc: Global,
         code: &'c Code,
         octets: &'a [u8],
-        room: usize,
+        budget: usize,
     ) -> Result<Self, ReadFault>
-        ensures ok { IfOk result (λ c. c ≡ front code.now octets.now room) }
+        ensures ok { IfOk result (λ c. c ≡ front code.now octets.now budget) }
         ensures few { IfOk result (λ c. length octets.now ≤ 16777216) }
         ensures err { IfErr result (λ e. (e ≡ MessageLimit) × (16777216 < length octets.now)) }
     {
@@ -57,7 +57,7 @@ impl<'c, 'a> Cursor<'c, 'a> {
             return Err(ReadFault::MessageLimit);
         }
         Ok(Cursor {
-            place: at_front(alloc, code, octets, room, Vec::new(alloc)),
+            place: at_front(alloc, code, octets, budget, Vec::new(alloc)),
         })
     }
 
@@ -77,16 +77,16 @@ impl<'c, 'a> Cursor<'c, 'a> {
 
     /// The tokens that were read so far.
     pub fn tokens(&self) -> &[Token<'a>]
-        ensures { map token_of result.now ≡ self.now.told }
+        ensures { map token_of result.now ≡ self.now.emitted }
     {
-        self.place.told.as_slice()
+        self.place.emitted.as_slice()
     }
 
     /// The tokens that were read.
     pub fn into_tokens(self) -> Vec<Token<'a>>
-        ensures { map token_of result.items ≡ self.entry.told }
+        ensures { map token_of result.items ≡ self.entry.emitted }
     {
-        self.place.told
+        self.place.emitted
     }
 }
 
@@ -95,59 +95,59 @@ impl<'c, 'a> Source for Cursor<'c, 'a> {
 
     ghost takes = { Takes };
 
-    ghost use Rattle.octet_answers.specs.Left.{Leaves};
+    ghost use Rattle.octet_answers.specs.Unanswered.{Leaves};
 
-    ghost leaves = { Leaves };
+    ghost refuses = { Leaves };
 
-    ghost room = { λ a. a.room };
+    ghost budget = { λ a. a.budget };
 
     fn begin(&mut self, id: TypeId) -> Result<(), ReadFault> {
-        one_answer();
+        lemma_one_answer();
         begin(&mut self.place, id)
     }
 
     fn end(&mut self) -> Result<(), ReadFault> {
-        one_answer();
+        lemma_one_answer();
         end(&mut self.place)
     }
 
     fn open(&mut self, head: Head) -> Result<(), ReadFault> {
-        one_answer();
+        lemma_one_answer();
         open(&mut self.place, head)
     }
 
     fn close(&mut self) -> Result<(), ReadFault> {
-        one_answer();
+        lemma_one_answer();
         close(&mut self.place)
     }
 
     fn leaf(&mut self, kind: LeafKind) -> Result<(), ReadFault> {
-        one_answer();
+        lemma_one_answer();
         hold(&mut self.place, kind)
     }
 
     fn skip(&mut self) -> Result<(), ReadFault> {
-        one_answer();
+        lemma_one_answer();
         skip(&mut self.place)
     }
 
     fn has_component(&mut self, field: Field) -> Result<bool, ReadFault> {
-        one_answer();
-        stands_next(&mut self.place, field)
+        lemma_one_answer();
+        is_component_next(&mut self.place, field)
     }
 
     fn has_element(&mut self, id: TypeId, sorted: bool) -> Result<bool, ReadFault> {
-        one_answer();
+        lemma_one_answer();
         Ok(has_more(&self.place))
     }
 
     fn next_component(&mut self, steps: &[Step]) -> Result<Option<TypeId>, ReadFault> {
-        one_answer();
-        among_next(&mut self.place, steps)
+        lemma_one_answer();
+        next_in_set(&mut self.place, steps)
     }
 
     fn alternative(&mut self, calls: &[Step]) -> Result<TypeId, ReadFault> {
-        one_answer();
+        lemma_one_answer();
         choose_next(&mut self.place, calls)
     }
 
@@ -164,9 +164,9 @@ impl<'c, 'a> Source for Cursor<'c, 'a> {
         Ok(false)
     }
 
-    ghost use Rattle.ber_source.specs.Laws.{begins_less, never_more, one_answer as one_answer'};
+    ghost use Rattle.ber_source.specs.Laws.{begins_less, never_more, lemma_one_answer as lemma_one_answer'};
 
-    ghost one_answer = { one_answer' };
+    ghost lemma_one_answer = { lemma_one_answer' };
 
     ghost spends = { begins_less };
 

@@ -6,16 +6,16 @@
 pub mod asking;
 mod cursor;
 pub mod moves;
+mod open_contents;
 mod outer;
 mod passing;
-pub mod place;
+pub mod reader_state;
 pub mod small;
-mod teller;
 mod token;
-mod window;
+mod token_sink;
 
 pub use cursor::Cursor;
-pub use outer::Outer;
-pub use teller::Teller;
-pub use token::{Held, Holding, Mark, Token};
-pub use window::Window;
+pub use open_contents::OpenContents;
+pub use outer::OuterContents;
+pub use token::{PrimitiveToken, PrimitiveValue, StructToken, Token};
+pub use token_sink::TokenSink;

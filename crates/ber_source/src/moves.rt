@@ -1,38 +1,38 @@
 //! Answers that move on: values begin and end, headers open and close, and contents are read.
 
 ghost use Rattle.asn_base.specs.Abstract.{AbstractValue};
-ghost use Rattle.ber_source.specs.Holding.{AreBad, AreReadAs};
-ghost use Rattle.ber_source.specs.Seen.{IsWithin, state_of};
+ghost use Rattle.ber_source.specs.PrimitiveValue.{AreBad, AreReadAs};
+ghost use Rattle.ber_source.specs.Seen.{IsValidState, state_of};
 ghost use Rattle.codec_source.specs.Events.{to_begin, to_close, to_end, to_hold, to_open};
 ghost use Rattle.decode_faults.specs.declared.read_fault.ReadFault.TheVariants.{Memory};
 ghost use Rattle.codec_source.specs.proving.Frames.{IfRefused, IfRefusedWith};
 ghost use Rattle.octet_answers.specs.Answers.{AreContents, Begins, Closes, Ends, Holds, Opens};
-ghost use Rattle.octet_answers.specs.Left.{Leaves, of_header, of_leaf, of_segments, standing};
+ghost use Rattle.octet_answers.specs.Unanswered.{Leaves, of_header, of_leaf, of_segments, advanced};
 ghost use Rattle.octet_answers.specs.States.{State, held_at, opened_at};
 ghost use Rattle.octet_answers.specs.Units.{UnitAt};
 ghost use Rattle.octets.specs.Forms.{is_constructed};
 ghost use Rattle.segmented_strings.specs.declared.fault.SegmentsFault.TheVariants.{At, Memory as NoMemory};
-ghost use Rattle.segmented_strings.specs.declared.fault.Why.{Why as Why'};
+ghost use Rattle.segmented_strings.specs.declared.fault.SegmentError.{SegmentError as SegmentError'};
 ghost use Rattle.std.specs.Prelude.{◌≡◌, ◌++◌, ◌∷◌, ◌<◌, ◌≤◌, [], IfErr, IfOk, OnOk, drop, length, ℕ};
 
-use crate::place::Place;
-use crate::teller::Teller;
-use crate::token::{Held, Holding, Mark};
-use crate::window::Window;
+use crate::open_contents::OpenContents;
+use crate::reader_state::ReaderState;
+use crate::token::{PrimitiveToken, PrimitiveValue, StructToken};
+use crate::token_sink::TokenSink;
 use asn_base::schema::TypeId;
 use codec_code::Head;
 use decode_faults::ReadFault;
 use encodings::LeafKind;
-use leaf_readings::{LeafFault, read_leaf};
 use limits::{MAX_HEADERS, MAX_OPEN};
 use next_tags::{Unit, next_unit, same_tag};
-use octet_answers::law::one_unit;
+use octet_answers::law::lemma_one_unit;
 use octets::{Form, HeaderFault};
-use segmented_strings::{SegmentsFault, Why, read_segments};
+use primitive_reader::{LeafFault, read_leaf};
+use segmented_strings::{SegmentError, SegmentsFault, read_segments};
 use std::alloc::Global;
 
 /// The fault of a header, as that of a decoder.
-pub(crate) fn told_header(fault: HeaderFault) -> ReadFault
+pub(crate) fn from_header_fault(fault: HeaderFault) -> ReadFault
     ensures { result ≡ of_header fault }
 {
     match fault {
@@ -44,7 +44,7 @@ pub(crate) fn told_header(fault: HeaderFault) -> ReadFault
 }
 
 /// The fault of primitive contents, as that of a decoder.
-fn told_leaf(fault: LeafFault) -> ReadFault
+fn from_leaf_fault(fault: LeafFault) -> ReadFault
     ensures { result ≡ of_leaf fault }
 {
     match fault {
@@ -55,37 +55,37 @@ fn told_leaf(fault: LeafFault) -> ReadFault
 }
 
 /// The fault of segments, as that of a decoder.
-fn told_why(why: Why) -> ReadFault
+fn from_segment_fault(why: SegmentError) -> ReadFault
     ensures { result ≡ of_segments why }
 {
     match why {
-        Why::Header(header) => told_header(header),
-        Why::UnexpectedTag => ReadFault::UnexpectedTag,
-        Why::BadContents => ReadFault::BadContents,
-        Why::EmptySegments => ReadFault::EmptySegments,
-        Why::TooDeep => ReadFault::TooDeep,
+        SegmentError::Header(header) => from_header_fault(header),
+        SegmentError::UnexpectedTag => ReadFault::UnexpectedTag,
+        SegmentError::BadContents => ReadFault::BadContents,
+        SegmentError::EmptySegments => ReadFault::EmptySegments,
+        SegmentError::TooDeep => ReadFault::TooDeep,
     }
 }
 
 /// Why contents octets aren't those of a kind, and the offset in them, from 0, of the octet that fails.
 #[derive(Clone, Copy)]
-struct Bad {
+struct ContentsFault {
     fault: ReadFault,
     at: usize,
 }
 
 /// The fault and the offset of segments that are refused.
-fn told_segments(fault: SegmentsFault) -> Bad
+fn from_segments_fault(fault: SegmentsFault) -> ContentsFault
     ensures memory { fault ≡ NoMemory → result.fault ≡ Memory }
-    ensures at { (n : ℕ) (e : Why') → fault ≡ At n e → (result.fault ≡ of_segments e) × (result.at ≡ n) }
+    ensures at { (n : ℕ) (e : SegmentError') → fault ≡ At n e → (result.fault ≡ of_segments e) × (result.at ≡ n) }
 {
     match fault {
-        SegmentsFault::Memory => Bad {
+        SegmentsFault::Memory => ContentsFault {
             fault: ReadFault::Memory,
             at: 0,
         },
-        SegmentsFault::At(at, why) => Bad {
-            fault: told_why(why),
+        SegmentsFault::At(at, why) => ContentsFault {
+            fault: from_segment_fault(why),
             at,
         },
     }
@@ -102,42 +102,42 @@ fn push_value(list: &mut Vec<TypeId>, one: TypeId) -> Result<(), ReadFault>
 
 /// Begins a value of the type.
 #[inline(always)]
-pub fn begin<'c, 'a, T: Teller<'a>>(
-    place: &mut Place<'c, 'a, T>,
+pub fn begin<'c, 'a, T: TokenSink<'a>>(
+    place: &mut ReaderState<'c, 'a, T>,
     id: TypeId,
 ) -> Result<(), ReadFault>
-    requires { IsWithin T.suits place.old }
-    ensures within { IsWithin T.suits place.new }
+    requires { IsValidState T.suits place.old }
+    ensures within { IsValidState T.suits place.new }
     ensures ok { OnOk result (Begins (state_of T.tokens place.old) id (state_of T.tokens place.new)) }
     ensures err { IfRefused result ((b : State) → Begins (state_of T.tokens place.old) id b → ⊥) }
     ensures left { IfRefusedWith result (Leaves (state_of T.tokens place.old) (to_begin id) (state_of T.tokens place.new)) }
 {
-    if place.room == 0 {
+    if place.budget == 0 {
         return Err(ReadFault::TooDeep);
     }
     if place.values.len() >= MAX_OPEN {
         return Err(ReadFault::TooDeep);
     }
     push_value(&mut place.values, id)?;
-    match place.told.tell(Mark::Begun(id)) {
+    match place.emitted.emit(StructToken::Begun(id)) {
         Ok(()) => {}
         Err(fault) => return Err(fault),
     }
-    place.room -= 1;
+    place.budget -= 1;
     Ok(())
 }
 
 /// Ends the value that began last, of those that are open.
 #[inline(always)]
-pub fn end<'c, 'a, T: Teller<'a>>(place: &mut Place<'c, 'a, T>) -> Result<(), ReadFault>
-    requires { IsWithin T.suits place.old }
-    ensures within { IsWithin T.suits place.new }
+pub fn end<'c, 'a, T: TokenSink<'a>>(place: &mut ReaderState<'c, 'a, T>) -> Result<(), ReadFault>
+    requires { IsValidState T.suits place.old }
+    ensures within { IsValidState T.suits place.new }
     ensures ok { OnOk result (Ends (state_of T.tokens place.old) (state_of T.tokens place.new)) }
     ensures err { IfRefused result ((b : State) → Ends (state_of T.tokens place.old) b → ⊥) }
     ensures left { IfRefusedWith result (Leaves (state_of T.tokens place.old) to_end (state_of T.tokens place.new)) }
 {
     match place.values.pop() {
-        Some(_) => match place.told.tell(Mark::Ended) {
+        Some(_) => match place.emitted.emit(StructToken::Ended) {
             Ok(()) => Ok(()),
             Err(fault) => Err(fault),
         },
@@ -147,20 +147,20 @@ pub fn end<'c, 'a, T: Teller<'a>>(place: &mut Place<'c, 'a, T>) -> Result<(), Re
 
 /// Opens the header that comes next. It must have this tag, and must be constructed if the step requires it.
 #[inline(always)]
-pub fn open<'c, 'a, T: Teller<'a>>(
-    place: &mut Place<'c, 'a, T>,
+pub fn open<'c, 'a, T: TokenSink<'a>>(
+    place: &mut ReaderState<'c, 'a, T>,
     head: Head,
 ) -> Result<(), ReadFault>
-    requires { IsWithin T.suits place.old }
-    ensures within { IsWithin T.suits place.new }
+    requires { IsValidState T.suits place.old }
+    ensures within { IsValidState T.suits place.new }
     ensures ok { OnOk result (Opens (state_of T.tokens place.old) head (state_of T.tokens place.new)) }
     ensures err { IfRefused result ((b : State) → Opens (state_of T.tokens place.old) head b → ⊥) }
     ensures left { IfRefusedWith result (Leaves (state_of T.tokens place.old) (to_open head) (state_of T.tokens place.new)) }
 {
-    one_unit();
+    lemma_one_unit();
     let unit = match next_unit(place.here.octets) {
         Ok(unit) => unit,
-        Err(fault) => return Err(told_header(fault)),
+        Err(fault) => return Err(from_header_fault(fault)),
     };
     if place.outer.len() >= MAX_HEADERS {
         return Err(ReadFault::TooDeep);
@@ -177,27 +177,27 @@ pub fn open<'c, 'a, T: Teller<'a>>(
 
 /// Goes into the contents of the encoding that comes next.
 #[inline(always)]
-fn enter<'c, 'a, T: Teller<'a>>(
-    place: &mut Place<'c, 'a, T>,
+fn enter<'c, 'a, T: TokenSink<'a>>(
+    place: &mut ReaderState<'c, 'a, T>,
     unit: Unit<'a>,
 ) -> Result<(), ReadFault>
-    requires within { IsWithin T.suits place.old }
+    requires within { IsValidState T.suits place.old }
     requires unit { UnitAt unit.tag (is_constructed unit.form) unit.count unit.contents.now unit.rest.now
         place.old.here.octets.now }
-    ensures within { IsWithin T.suits place.new }
+    ensures within { IsValidState T.suits place.new }
     ensures ok { OnOk result (state_of T.tokens place.new
         ≡ opened_at (state_of T.tokens place.old) (is_constructed unit.entry.form)
         unit.entry.count unit.entry.contents.now unit.entry.rest.now) }
     ensures err { IfErr result (λ e. e ≡ Memory) }
 {
     let at = place.here.at + unit.count;
-    place.outer.push(Window {
+    place.outer.push(OpenContents {
         form: place.here.form,
         octets: unit.rest,
         at: at + unit.contents.len(),
         from: place.here.from,
     })?;
-    place.here = Window {
+    place.here = OpenContents {
         form: unit.form,
         octets: unit.contents,
         at,
@@ -208,9 +208,9 @@ fn enter<'c, 'a, T: Teller<'a>>(
 
 /// Closes the nearest open header, whose contents were read to their end.
 #[inline(always)]
-pub fn close<'c, 'a, T: Teller<'a>>(place: &mut Place<'c, 'a, T>) -> Result<(), ReadFault>
-    requires { IsWithin T.suits place.old }
-    ensures within { IsWithin T.suits place.new }
+pub fn close<'c, 'a, T: TokenSink<'a>>(place: &mut ReaderState<'c, 'a, T>) -> Result<(), ReadFault>
+    requires { IsValidState T.suits place.old }
+    ensures within { IsValidState T.suits place.new }
     ensures ok { OnOk result (Closes (state_of T.tokens place.old) (state_of T.tokens place.new)) }
     ensures err { IfRefused result ((b : State) → Closes (state_of T.tokens place.old) b → ⊥) }
     ensures left { IfRefusedWith result (Leaves (state_of T.tokens place.old) to_close (state_of T.tokens place.new)) }
@@ -219,9 +219,9 @@ pub fn close<'c, 'a, T: Teller<'a>>(place: &mut Place<'c, 'a, T>) -> Result<(), 
         return Err(ReadFault::UnexpectedTag);
     }
     match place.outer.pop() {
-        Some(window) => {
+        Some(open_contents) => {
             place.marks.truncate(place.here.from);
-            place.here = window;
+            place.here = open_contents;
             Ok(())
         }
         None => Err(ReadFault::UnexpectedTag),
@@ -230,12 +230,12 @@ pub fn close<'c, 'a, T: Teller<'a>>(place: &mut Place<'c, 'a, T>) -> Result<(), 
 
 /// Reads the contents octets of a value that holds no others.
 #[inline(always)]
-pub fn hold<'c, 'a, T: Teller<'a>>(
-    place: &mut Place<'c, 'a, T>,
+pub fn hold<'c, 'a, T: TokenSink<'a>>(
+    place: &mut ReaderState<'c, 'a, T>,
     kind: LeafKind,
 ) -> Result<(), ReadFault>
-    requires { IsWithin T.suits place.old }
-    ensures within { IsWithin T.suits place.new }
+    requires { IsValidState T.suits place.old }
+    ensures within { IsValidState T.suits place.new }
     ensures ok { OnOk result (Holds (state_of T.tokens place.old) kind (state_of T.tokens place.new)) }
     ensures err { IfRefused result ((b : State) → Holds (state_of T.tokens place.old) kind b → ⊥) }
     ensures left { IfRefusedWith result (Leaves (state_of T.tokens place.old) (to_hold kind) (state_of T.tokens place.new)) }
@@ -243,18 +243,24 @@ pub fn hold<'c, 'a, T: Teller<'a>>(
     if place.outer.len() > MAX_HEADERS {
         return Err(ReadFault::TooDeep);
     }
-    let room = MAX_HEADERS - place.outer.len();
-    match judge(place.alloc, kind, place.here.form, place.here.octets, room) {
-        Ok(holding) => pass_contents(place, kind, holding),
+    let budget = MAX_HEADERS - place.outer.len();
+    match judge(
+        place.alloc,
+        kind,
+        place.here.form,
+        place.here.octets,
+        budget,
+    ) {
+        Ok(decoded) => pass_contents(place, kind, decoded),
         Err(bad) => {
-            stand_at(place, bad.at);
+            advance(place, bad.at);
             Err(bad.fault)
         }
     }
 }
 
 /// The octets after the first `count` ones.
-fn behind(octets: &[u8], count: usize) -> &[u8]
+fn following(octets: &[u8], count: usize) -> &[u8]
     ensures { result.now ≡ drop count octets.now }
 {
     if count < octets.len() {
@@ -265,83 +271,83 @@ fn behind(octets: &[u8], count: usize) -> &[u8]
 }
 
 /// Moves over `count` octets, if there are as many.
-fn stand_at<'c, 'a, T: Teller<'a>>(place: &mut Place<'c, 'a, T>, count: usize)
-    requires { IsWithin T.suits place.old }
-    ensures within { IsWithin T.suits place.new }
+fn advance<'c, 'a, T: TokenSink<'a>>(place: &mut ReaderState<'c, 'a, T>, count: usize)
+    requires { IsValidState T.suits place.old }
+    ensures within { IsValidState T.suits place.new }
     ensures at { count ≤ length place.old.here.octets.now
-        → state_of T.tokens place.new ≡ standing (state_of T.tokens place.old) count }
+        → state_of T.tokens place.new ≡ advanced (state_of T.tokens place.old) count }
 {
     let here = place.here;
     if count <= here.octets.len() {
-        place.here = Window {
+        place.here = OpenContents {
             form: here.form,
-            octets: behind(here.octets, count),
+            octets: following(here.octets, count),
             at: here.at + count,
             from: here.from,
         };
     }
 }
 
-/// What the octets mean as contents of this kind, with at most `room` levels of headers in them.
+/// What the octets mean as contents of this kind, with at most `budget` levels of headers in them.
 #[inline(always)]
 fn judge<'a>(
     alloc: Global,
     kind: LeafKind,
     form: Form,
     octets: &'a [u8],
-    room: usize,
-) -> Result<Holding<'a>, Bad>
+    budget: usize,
+) -> Result<PrimitiveValue<'a>, ContentsFault>
     requires short { length octets.now ≤ 16777216 }
-    requires few { room ≤ 400 }
-    ensures ok { IfOk result (λ h. (v : AbstractValue) × AreContents (is_constructed form) kind v room octets.now) }
+    requires few { budget ≤ 400 }
+    ensures ok { IfOk result (λ h. (v : AbstractValue) × AreContents (is_constructed form) kind v budget octets.now) }
     ensures read { IfOk result (λ h. AreReadAs (is_constructed form) kind octets.now h) }
     ensures err { IfErr result (λ e. (e.fault ≡ Memory → ⊥)
         → (v : AbstractValue)
-        → AreContents (is_constructed form) kind v room octets.now
+        → AreContents (is_constructed form) kind v budget octets.now
         → ⊥) }
     ensures why { IfErr result (λ e. (e.fault ≡ Memory → ⊥)
-        → AreBad kind room octets.now (is_constructed form) e.fault e.at) }
+        → AreBad kind budget octets.now (is_constructed form) e.fault e.at) }
 {
     match form {
         Form::Primitive => match read_leaf(kind, octets) {
-            Ok(leaf) => Ok(Holding::Whole(leaf)),
-            Err(fault) => Err(Bad {
-                fault: told_leaf(fault),
+            Ok(leaf) => Ok(PrimitiveValue::Whole(leaf)),
+            Err(fault) => Err(ContentsFault {
+                fault: from_leaf_fault(fault),
                 at: 0,
             }),
         },
-        Form::Constructed => match read_segments(alloc, kind, octets, room) {
-            Ok(joined) => Ok(Holding::Joined(joined)),
-            Err(fault) => Err(told_segments(fault)),
+        Form::Constructed => match read_segments(alloc, kind, octets, budget) {
+            Ok(joined) => Ok(PrimitiveValue::Reassembled(joined)),
+            Err(fault) => Err(from_segments_fault(fault)),
         },
     }
 }
 
 /// Moves over the contents octets, and gives them to the receiver.
 #[inline(always)]
-fn pass_contents<'c, 'a, T: Teller<'a>>(
-    place: &mut Place<'c, 'a, T>,
+fn pass_contents<'c, 'a, T: TokenSink<'a>>(
+    place: &mut ReaderState<'c, 'a, T>,
     kind: LeafKind,
-    holding: Holding<'a>,
+    decoded: PrimitiveValue<'a>,
 ) -> Result<(), ReadFault>
-    requires within { IsWithin T.suits place.old }
-    requires read { AreReadAs (is_constructed place.old.here.form) kind place.old.here.octets.now holding }
-    ensures within { IsWithin T.suits place.new }
+    requires within { IsValidState T.suits place.old }
+    requires read { AreReadAs (is_constructed place.old.here.form) kind place.old.here.octets.now decoded }
+    ensures within { IsValidState T.suits place.new }
     ensures ok { OnOk result (state_of T.tokens place.new ≡ held_at (state_of T.tokens place.old) kind) }
     ensures err { IfErr result (λ e. e ≡ Memory) }
 {
     let here = place.here;
-    let held = Held {
+    let held = PrimitiveToken {
         kind,
         form: here.form,
         octets: here.octets,
         at: here.at,
     };
-    match place.told.hold(held, holding) {
+    match place.emitted.hold(held, decoded) {
         Ok(()) => {}
         Err(fault) => return Err(fault),
     }
-    place.here = Window {
+    place.here = OpenContents {
         form: here.form,
         octets: &[],
         at: here.at + here.octets.len(),

@@ -1,10 +1,10 @@
 //! What comes after each open header.
 
-ghost use Rattle.ber_source.specs.Seen.{windows};
+ghost use Rattle.ber_source.specs.Seen.{outer_contents};
 ghost use Rattle.decode_faults.specs.declared.read_fault.ReadFault.TheVariants.{Memory};
 ghost use Rattle.std.specs.Prelude.{◌≡◌, ◌++◌, ◌∷◌, [], IfErr, MatchOption, OnErr, OnOk, length};
 
-use crate::window::Window;
+use crate::open_contents::OpenContents;
 use decode_faults::ReadFault;
 use octets::Form;
 use std::alloc::Global;
@@ -12,14 +12,17 @@ use std::alloc::Global;
 /// The contents after each open header, the outermost first. If `is_apart`, the last of them is kept in `last`, apart
 /// from the list: most headers are closed before another one opens.
 #[derive(Drop)]
-pub struct Outer<'a> {
-    pub(crate) list: Vec<Window<'a>>,
-    pub(crate) last: Window<'a>,
+pub struct OuterContents<'a> {
+    pub(crate) list: Vec<OpenContents<'a>>,
+    pub(crate) last: OpenContents<'a>,
     pub(crate) is_apart: bool,
 }
 
 #[inline(always)]
-fn push_window<'a>(list: &mut Vec<Window<'a>>, one: Window<'a>) -> Result<(), ReadFault>
+fn push_contents<'a>(
+    list: &mut Vec<OpenContents<'a>>,
+    one: OpenContents<'a>,
+) -> Result<(), ReadFault>
     ensures ok { OnOk result (list.new.items ≡ list.old.items ++ one.entry ∷ []) }
     ensures err { IfErr result (λ e. e ≡ Memory) }
     ensures same { OnErr result (list.new.items ≡ list.old.items) }
@@ -28,14 +31,14 @@ fn push_window<'a>(list: &mut Vec<Window<'a>>, one: Window<'a>) -> Result<(), Re
     Ok(())
 }
 
-impl<'a> Outer<'a> {
+impl<'a> OuterContents<'a> {
     /// No open header.
     pub(crate) fn new(alloc: Global) -> Self
-        ensures { windows result ≡ [] }
+        ensures { outer_contents result ≡ [] }
     {
-        Outer {
+        OuterContents {
             list: Vec::new(alloc),
-            last: Window {
+            last: OpenContents {
                 form: Form::Constructed,
                 octets: &[],
                 at: 0,
@@ -48,7 +51,7 @@ impl<'a> Outer<'a> {
     /// How many headers are open.
     #[inline(always)]
     pub(crate) fn len(&self) -> usize
-        ensures { result ≡ length (windows self.now) }
+        ensures { result ≡ length (outer_contents self.now) }
     {
         if self.is_apart {
             self.list.len() + 1
@@ -59,13 +62,13 @@ impl<'a> Outer<'a> {
 
     /// Adds the contents after one more header.
     #[inline(always)]
-    pub(crate) fn push(&mut self, one: Window<'a>) -> Result<(), ReadFault>
-        ensures ok { OnOk result (windows self.new ≡ windows self.old ++ one.entry ∷ []) }
+    pub(crate) fn push(&mut self, one: OpenContents<'a>) -> Result<(), ReadFault>
+        ensures ok { OnOk result (outer_contents self.new ≡ outer_contents self.old ++ one.entry ∷ []) }
         ensures err { IfErr result (λ e. e ≡ Memory) }
-        ensures same { OnErr result (windows self.new ≡ windows self.old) }
+        ensures same { OnErr result (outer_contents self.new ≡ outer_contents self.old) }
     {
         if self.is_apart {
-            push_window(&mut self.list, self.last)?;
+            push_contents(&mut self.list, self.last)?;
         }
         self.last = one;
         self.is_apart = true;
@@ -74,10 +77,10 @@ impl<'a> Outer<'a> {
 
     /// Removes the contents after the innermost header, if one is open.
     #[inline(always)]
-    pub(crate) fn pop(&mut self) -> Option<Window<'a>>
+    pub(crate) fn pop(&mut self) -> Option<OpenContents<'a>>
         ensures items { MatchOption result
-            ((windows self.old ≡ []) × (windows self.new ≡ []))
-            (λ w. windows self.old ≡ windows self.new ++ w ∷ []) }
+            ((outer_contents self.old ≡ []) × (outer_contents self.new ≡ []))
+            (λ w. outer_contents self.old ≡ outer_contents self.new ++ w ∷ []) }
     {
         if self.is_apart {
             self.is_apart = false;

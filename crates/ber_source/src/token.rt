@@ -2,9 +2,9 @@
 
 use asn_base::schema::TypeId;
 use encodings::LeafKind;
-use leaf_readings::Leaf;
 use octets::Form;
-use segmented_strings::Joined;
+use primitive_reader::Leaf;
+use segmented_strings::Reassembled;
 
 /// A part of what was read. The tokens of a message are in order of its values, each value with all that is in it.
 #[derive(Clone, Copy)]
@@ -19,7 +19,7 @@ pub enum Token<'a> {
     Ended,
     /// The contents octets of a value that holds no others, and the offset in the message, from 0, of the first of
     /// them.
-    Held {
+    PrimitiveToken {
         kind: LeafKind,
         form: Form,
         octets: &'a [u8],
@@ -31,7 +31,7 @@ pub enum Token<'a> {
 
 /// A token that has no contents octets.
 #[derive(Clone, Copy)]
-pub enum Mark {
+pub enum StructToken {
     /// The component at this place in order of definition, from 0, follows.
     Component(usize),
     /// The alternative with this number, from 0, follows.
@@ -46,7 +46,7 @@ pub enum Mark {
 
 /// The contents octets of a value that holds no others, and the offset in the message, from 0, of the first of them.
 #[derive(Clone, Copy)]
-pub struct Held<'a> {
+pub struct PrimitiveToken<'a> {
     pub kind: LeafKind,
     pub form: Form,
     pub octets: &'a [u8],
@@ -55,7 +55,7 @@ pub struct Held<'a> {
 
 /// The meaning of contents octets: of primitive ones, or of those of a string in segments, which are joined.
 #[derive(Drop)]
-pub enum Holding<'a> {
+pub enum PrimitiveValue<'a> {
     Whole(Leaf<'a>),
-    Joined(Joined),
+    Reassembled(Reassembled),
 }

@@ -7,32 +7,32 @@ use Rattle.octet_answers.specs.States.{Token, component, chosen, begun, ended, h
 use Rattle.views.specs.Building.{begun as begun'}
 use Rattle.ber_views.specs.declared.build.Build.{Build}
 use Rattle.ber_views.specs.Log.{passes}
-use Rattle.ber_views.specs.Telling.{IsFaithful}
+use Rattle.ber_views.specs.ViewSink.{IsFaithful}
 use Rattle.ber_views.specs.Wants.{Reading, IsBefore, Wants}
 
 -- one token more, which is built
-pub faithful_more : (s r : List Resolved) (told all : List Token) (t : Token) (b c : Build)
+pub faithful_more : (s r : List Resolved) (emitted all : List Token) (t : Token) (b c : Build)
     → r ≡ s
-    → all ≡ told ++ t ∷ []
+    → all ≡ emitted ++ t ∷ []
     → ((m : Reading) (w : AbstractValue) (ts : List Token) → IsBefore r m w (t ∷ ts) b → IsBefore r m w ts c)
-    → IsFaithful s told b
+    → IsFaithful s emitted b
     → IsFaithful s all c
-faithful_more s r told all t b c i e step f m w ts q =
+faithful_more s r emitted all t b c i e step f m w ts q =
     subst (λ z. IsBefore z m w ts c) i (step m w ts (subst (λ z. IsBefore z m w (t ∷ ts) b) (sym i)
-    (f m w (t ∷ ts) (subst (λ z. Wants s m w z 0 false begun') (ap (λ z. z ++ ts) e ∙ append_assoc told (t ∷ []) ts) q))))
+    (f m w (t ∷ ts) (subst (λ z. Wants s m w z 0 false begun') (ap (λ z. z ++ ts) e ∙ append_assoc emitted (t ∷ []) ts) q))))
 
 -- there are no tokens yet
-pub faithful_first : (s : List Resolved) (told : List Token) (b : Build)
-    → told ≡ []
+pub faithful_first : (s : List Resolved) (emitted : List Token) (b : Build)
+    → emitted ≡ []
     → ((m : Reading) (w : AbstractValue) (ts : List Token) → Wants s m w ts 0 false begun' → IsBefore s m w ts b)
-    → IsFaithful s told b
-faithful_first s told b e f m w ts q = f m w ts (subst (λ z. Wants s m w (z ++ ts) 0 false begun') e q)
+    → IsFaithful s emitted b
+faithful_first s emitted b e f m w ts q = f m w ts (subst (λ z. Wants s m w (z ++ ts) 0 false begun') e q)
 
-pub all_told : (s : List Resolved) (told : List Token) (b : Build) (m : Reading) (w : AbstractValue)
-    → IsFaithful s told b
-    → Wants s m w told 0 false begun'
+pub all_emitted : (s : List Resolved) (emitted : List Token) (b : Build) (m : Reading) (w : AbstractValue)
+    → IsFaithful s emitted b
+    → Wants s m w emitted 0 false begun'
     → IsBefore s m w [] b
-all_told s told b m w f q = f m w [] (subst (λ z. Wants s m w z 0 false begun') (sym (append-nil told)) q)
+all_emitted s emitted b m w f q = f m w [] (subst (λ z. Wants s m w z 0 false begun') (sym (append-nil emitted)) q)
 
 passes_last : (ts : List Token) (t : Token) → passes (ts ++ t ∷ []) ≡ passes ts + passes (t ∷ [])
 passes_last [] t = let e : passes (t ∷ []) ≡ 0 + passes (t ∷ []) = omega arith in e
@@ -44,14 +44,14 @@ passes_last (ended ∷ ts) t = passes_last ts t
 passes_last (held k c x at ∷ ts) t = passes_last ts t
 
 -- additions that were skipped are counted on
-pub counted_more : (n o k : ℕ) (told all : List Token) (t : Token)
+pub counted_more : (n o k : ℕ) (emitted all : List Token) (t : Token)
     → k ≡ passes (t ∷ [])
     → n ≡ o + k
-    → all ≡ told ++ t ∷ []
-    → o ≡ passes told
+    → all ≡ emitted ++ t ∷ []
+    → o ≡ passes emitted
     → n ≡ passes all
-counted_more n o k told all t a b e f =
-    let g = ap passes e ∙ passes_last told t in
+counted_more n o k emitted all t a b e f =
+    let g = ap passes e ∙ passes_last emitted t in
     omega (arith, a, b, f, g)
 
 pub never : {P : Type 0} → true ≡ false → P

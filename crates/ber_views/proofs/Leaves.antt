@@ -8,12 +8,12 @@ use Rattle.encodings.specs.Rules.{Basic}
 use Rattle.encodings.specs.Strings.{WholeBits, whole, whole_bits}
 use Rattle.encodings.specs.Contents.{Contents, of_bits, of_named_bits, of_octets, of_utf8, of_restricted}
 use Rattle.encodings.specs.declared.leaf_kind.LeafKind.{LeafKind}
-use Rattle.leaf_readings.specs.Leaves.{IsReadAs, Tells, Reads}
-use Rattle.leaf_readings.specs.declared.leaf.Leaf.{Leaf}
-use Rattle.segmented_strings.specs.Joining.{IsJoinedAs, Tells as TellsJoined, Reads as Joins}
-use Rattle.segmented_strings.specs.declared.read.Joined.{Joined as Joined'}
-use Rattle.ber_source.specs.Holding.{AreReadAs}
-use Rattle.ber_source.specs.declared.token.Holding.TheVariants.{Whole, Joined}
+use Rattle.primitive_reader.specs.Leaves.{IsReadAs, Denotes, ReadsContents}
+use Rattle.primitive_reader.specs.declared.leaf.Leaf.{Leaf}
+use Rattle.segmented_strings.specs.Joining.{IsJoinedAs, Denotes as DenotesJoined, ReadsContents as Joins}
+use Rattle.segmented_strings.specs.declared.read.Reassembled.{Reassembled as Reassembled'}
+use Rattle.ber_source.specs.PrimitiveValue.{AreReadAs}
+use Rattle.ber_source.specs.declared.token.PrimitiveValue.TheVariants.{Whole, Reassembled}
 use Rattle.views.specs.Tree.{bits_in}
 use Rattle.ber_views.specs.Wants.{AreHeld}
 
@@ -80,36 +80,36 @@ no_bits w e = let l = ap length w.is in let m = ap length e in omega arith
 
 -- ---- the value that was read is the one that is held
 
-pub told_of : {k : LeafKind} {x : List ℕ} {at : ℕ} {v : AbstractValue} {l : Leaf}
+pub denotes_of : {k : LeafKind} {x : List ℕ} {at : ℕ} {v : AbstractValue} {l : Leaf}
     → ((w u : AbstractValue) → IsReadAs k w x → IsReadAs k u x → w ≡ u)
     → AreHeld k false x at v
-    → Reads k x l
-    → Tells l v
-told_of {v = v} {l = l} one h r = subst (Tells l) (one r.value v r.is_read h.contents) r.told
+    → ReadsContents k x l
+    → Denotes l v
+denotes_of {v = v} {l = l} one h r = subst (Denotes l) (one r.value v r.is_read h.contents) r.means
 
 pub within : {k : LeafKind} {x : List ℕ} {at : ℕ} {v : AbstractValue} → AreHeld k true x at v → IsJoinedAs k v 400 x
 within h = let a = h.contents in let f = a.few in let g = h.few in record { contents = a.contents; suits = a.suits; few = omega arith }
 
-pub joined_of : {k : LeafKind} {x : List ℕ} {at : ℕ} {v : AbstractValue} {j : Joined'}
+pub joined_of : {k : LeafKind} {x : List ℕ} {at : ℕ} {v : AbstractValue} {j : Reassembled'}
     → ((w u : AbstractValue) → IsJoinedAs k w 400 x → IsJoinedAs k u 400 x → w ≡ u)
     → AreHeld k true x at v
     → Joins k 400 x j
-    → TellsJoined j v
-joined_of {v = v} {j = j} one h r = subst (TellsJoined j) (one r.value v r.is_joined (within h)) r.told
+    → DenotesJoined j v
+joined_of {v = v} {j = j} one h r = subst (DenotesJoined j) (one r.value v r.is_joined (within h)) r.means
 
 -- primitive contents octets are read whole, constructed ones joined
-pub whole_of : {k : LeafKind} {x : List ℕ} {l : Leaf} (c : Bool) → AreReadAs c k x (Whole l) → (c ≡ false) × Reads k x l
+pub whole_of : {k : LeafKind} {x : List ℕ} {l : Leaf} (c : Bool) → AreReadAs c k x (Whole l) → (c ≡ false) × ReadsContents k x l
 whole_of false h = (refl, h)
 whole_of true h = absurd h
 
-pub joined_in : {k : LeafKind} {x : List ℕ} {j : Joined'} (c : Bool) → AreReadAs c k x (Joined j) → (c ≡ true) × AreReadAs true k x (Joined j)
+pub joined_in : {k : LeafKind} {x : List ℕ} {j : Reassembled'} (c : Bool) → AreReadAs c k x (Reassembled j) → (c ≡ true) × AreReadAs true k x (Reassembled j)
 joined_in true h = (refl, h)
 joined_in false h = absurd h
 
-pub widened : {k : LeafKind} {x : List ℕ} {j : Joined'} {room : ℕ} → room ≤ 400 → Joins k room x j → Joins k 400 x j
+pub widened : {k : LeafKind} {x : List ℕ} {j : Reassembled'} {room : ℕ} → room ≤ 400 → Joins k room x j → Joins k 400 x j
 widened l r = record {
   value = r.value;
-  told = r.told;
+  means = r.means;
   is_joined = (let a = r.is_joined in let f = a.few in record { contents = a.contents; suits = a.suits; few = omega arith });
 }
 

@@ -1,5 +1,4 @@
-pub mod Numbers
 pub mod Leaves
 pub mod Faithful
 pub mod Taken
-pub mod Brief
+pub mod Summary

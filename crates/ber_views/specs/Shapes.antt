@@ -2,9 +2,9 @@
 use Rattle.std.specs.Prelude.{suc, List, [], ◌∷◌, length}
 use Rattle.asn_base.specs.Types.{Kind, a_sequence, a_set, a_sequence_of, a_set_of}
 use Rattle.codec_code.specs.declared.step.Step.{Step}
-use Rattle.codec_code.specs.declared.step.Step.TheVariants.{Head, Leaf, Field, Ranked, Each, EachSorted, Pick}
+use Rattle.codec_code.specs.declared.step.Step.TheVariants.{Head, Leaf, Field, SetComponent, Each, EachSorted, Pick}
 use Rattle.codec_code.specs.declared.step.Step.TheVariants.{Call, Rest, End}
-use Rattle.codec_code.specs.Briefs.{fields_in}
+use Rattle.codec_code.specs.Summaries.{fields_in}
 use Rattle.ber_views.specs.declared.shape.Shape.{Shape}
 use Rattle.ber_views.specs.declared.shape.Shape.TheVariants as shapes
 
@@ -26,6 +26,6 @@ shape_in (Call t ∷ ss) = shapes.Bare
 shape_in (Each t ∷ ss) = shapes.List
 shape_in (EachSorted t ∷ ss) = shapes.List
 shape_in (Field f ∷ ss) = shapes.Row (suc (fields_in ss))
-shape_in (Ranked f r ∷ ss) = shapes.Row (suc (fields_in ss))
+shape_in (SetComponent f r ∷ ss) = shapes.Row (suc (fields_in ss))
 shape_in (Rest ∷ ss) = shapes.Row 0
 shape_in (End ∷ ss) = shapes.Row 0

@@ -9,7 +9,7 @@ use Rattle.octet_answers.specs.States.{Token, component, chosen, begun, ended, h
 use Rattle.octet_answers.specs.Answers.{AreContents}
 use Rattle.views.specs.Building.{Building, Waiting, begun as begun', opened, open_fields, open_list, open_alternative}
 use Rattle.views.specs.Building.{with_leaf, with_tree, IsClosed}
-use Rattle.views.specs.Seen.{Holds}
+use Rattle.views.specs.Seen.{HasBuilt}
 use Rattle.views.specs.Tree.{Leaf, leaf_value, Tree, value_of, IsBorrowed}
 use Rattle.ber_views.specs.declared.shape.Shape.{Shape}
 use Rattle.ber_views.specs.declared.shape.Shape.TheVariants as shapes
@@ -25,7 +25,7 @@ pub record AreHeld (k : LeafKind) (c : Bool) (x : Octets) (at : ℕ) (v : Abstra
   pub contents : AreContents c k v levels x
 
 -- `Then` holds for each leaf that shows the value of these contents octets
-pub record Held (k : LeafKind) (c : Bool) (x : Octets) (at : ℕ) (Then : Leaf → Type 0) : Type 0 where
+pub record ForEachLeaf (k : LeafKind) (c : Bool) (x : Octets) (at : ℕ) (Then : Leaf → Type 0) : Type 0 where
   pub value : AbstractValue
   pub held : AreHeld k c x at value
   pub then : (l : Leaf) → leaf_value l ≡ value → IsShownAs c x at l → Then l
@@ -78,11 +78,11 @@ Wants s m w (begun t ∷ ts) n h b =
     (begun_as (shape_in (routine_at s t.index)) n b)
 Wants s m w (ended ∷ ts) n true b = Wants s m w ts 0 false b
 Wants s m w (ended ∷ ts) n false b = Closed b (λ c. Wants s m w ts 0 false c)
-Wants s m w (held k c x at ∷ ts) n h b = Held k c x at (λ l. Wants s m w ts 0 true (with_leaf n l b))
+Wants s m w (held k c x at ∷ ts) n h b = ForEachLeaf k c x at (λ l. Wants s m w ts 0 true (with_leaf n l b))
 Wants s m w (passed ∷ ts) n h b = Wants s m w ts n h b
 
 -- a builder before it gets these tokens
 pub record IsBefore (s : List Resolved) (m : Reading) (w : AbstractValue) (ts : List Token) (b : Build) : Type 0 where
   pub building : Building
-  pub holds : Holds b.builder building
+  pub holds : HasBuilt b.builder building
   pub wants : Wants s m w ts b.number b.held building

@@ -6,7 +6,7 @@ ghost use Rattle.encodings.specs.Header.{septets};
 ghost use Rattle.std.specs.List.{AllByRecursion};
 ghost use Rattle.std.specs.Prelude.{◌≡◌, ◌+◌, ◌*◌, ◌++◌, ◌^◌, ◌<◌, ◌≤◌, [], List, OnOk, flat_map, ℕ};
 
-use leaf_readings::read_arc;
+use primitive_reader::read_arc;
 use std::alloc::AllocError;
 
 /// Appends numbers, each below 2^64.
@@ -21,9 +21,9 @@ fn push_arcs(arcs: &mut Vec<u64>, octets: &[u8]) -> Result<(), AllocError>
     let mut rest = octets;
     while !rest.is_empty() {
         match read_arc(rest) {
-            Some((Some(number), behind)) => {
+            Some((Some(number), following)) => {
                 arcs.push(number as u64)?;
-                rest = behind;
+                rest = following;
             }
             Some((None, _)) => return Ok(()),
             None => return Ok(()),
@@ -66,11 +66,11 @@ pub(crate) fn object_arcs(arcs: &mut Vec<u64>, octets: &[u8]) -> Result<(), Allo
 {
     empty(arcs, octets.len().saturating_add(1))?;
     match read_arc(octets) {
-        Some((Some(number), behind)) => {
-            let (first, second) = parted(number);
+        Some((Some(number), following)) => {
+            let (first, second) = first_two_arcs(number);
             arcs.push(first)?;
             arcs.push(second)?;
-            push_arcs(arcs, behind)?;
+            push_arcs(arcs, following)?;
             Ok(())
         }
         Some((None, _)) => Ok(()),
@@ -80,7 +80,7 @@ pub(crate) fn object_arcs(arcs: &mut Vec<u64>, octets: &[u8]) -> Result<(), Allo
 
 /// The two numbers that were joined into one (8.19.4).
 #[inline(always)]
-fn parted(number: u128) -> (u64, u64)
+fn first_two_arcs(number: u128) -> (u64, u64)
     requires { number < 2 ^ 64 + 80 }
     ensures { (x y : ℕ)
         → x ≤ 2

@@ -1,18 +1,18 @@
 //! Builds a view of tokens, one by one.
 
 ghost use Rattle.asn_base.specs.Abstract.{AbstractValue};
-ghost use Rattle.ber_source.specs.Holding.{IsHolding};
-ghost use Rattle.ber_source.specs.Seen.{held_of, mark_of};
+ghost use Rattle.ber_source.specs.PrimitiveValue.{IsValueOfToken};
+ghost use Rattle.ber_source.specs.Seen.{value_token, as_token};
 ghost use Rattle.ber_views.specs.Wants.{IsBefore, Reading};
 ghost use Rattle.std.specs.Prelude.{◌≡◌, ◌∷◌, ◌^◌, ◌<◌, false, List, OnOk};
 ghost use Rattle.octet_answers.specs.States.{Token as Token', begun as begun', chosen, component, ended};
 ghost use Rattle.views.specs.Building.{begun};
-ghost use Rattle.views.specs.Seen.{Holds};
+ghost use Rattle.views.specs.Seen.{HasBuilt};
 
 use crate::leaf::push_held;
 use crate::shape::{Shape, shape_at};
 use asn_base::schema::TypeId;
-use ber_source::{Held, Holding, Mark};
+use ber_source::{PrimitiveToken, PrimitiveValue, StructToken};
 use codec_code::Code;
 use std::alloc::{AllocError, Global};
 use views::Builder;
@@ -105,12 +105,12 @@ fn number_of(place: usize) -> u32
 pub(crate) fn hold<'a>(
     code: &Code,
     build: &mut Build<'a>,
-    held: Held<'a>,
-    holding: Holding<'a>,
+    held: PrimitiveToken<'a>,
+    decoded: PrimitiveValue<'a>,
 ) -> Result<(), AllocError>
-    requires { IsHolding held holding }
+    requires { IsValueOfToken held decoded }
     ensures { (m : Reading) (w : AbstractValue) (ts : List Token')
-        → IsBefore code.now m w (held_of held.entry ∷ ts) build.old
+        → IsBefore code.now m w (value_token held.entry ∷ ts) build.old
         → OnOk result (IsBefore code.now m w ts build.new) }
 {
     push_held(
@@ -118,7 +118,7 @@ pub(crate) fn hold<'a>(
         &mut build.builder,
         build.number,
         held,
-        holding,
+        decoded,
     )?;
     build.number = 0;
     build.held = true;
@@ -127,29 +127,29 @@ pub(crate) fn hold<'a>(
 
 /// Takes one more token, which has no contents octets.
 #[inline(always)]
-pub(crate) fn take(code: &Code, build: &mut Build<'_>, mark: Mark) -> Result<(), AllocError>
+pub(crate) fn take(code: &Code, build: &mut Build<'_>, mark: StructToken) -> Result<(), AllocError>
     ensures { (m : Reading) (w : AbstractValue) (ts : List Token')
-        → IsBefore code.now m w (mark_of mark ∷ ts) build.old
+        → IsBefore code.now m w (as_token mark ∷ ts) build.old
         → OnOk result (IsBefore code.now m w ts build.new) }
 {
     match mark {
-        Mark::Component(place) => {
+        StructToken::Component(place) => {
             name(code, build, place);
             Ok(())
         }
-        Mark::Chosen(index) => choose(code, build, index),
-        Mark::Begun(id) => begin(code, build, id),
-        Mark::Ended => {
+        StructToken::Chosen(index) => choose(code, build, index),
+        StructToken::Begun(id) => begin(code, build, id),
+        StructToken::Ended => {
             end(build, code);
             Ok(())
         }
-        Mark::Passed => Ok(()),
+        StructToken::Passed => Ok(()),
     }
 }
 
 /// The empty view.
 pub(crate) fn nothing<'a>(alloc: Global) -> Build<'a>
-    ensures holds { Holds result.builder begun }
+    ensures holds { HasBuilt result.builder begun }
     ensures number { result.number ≡ 0 }
     ensures held { result.held ≡ false }
 {

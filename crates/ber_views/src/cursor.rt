@@ -2,36 +2,36 @@
 
 ghost use Rattle.decode_faults.specs.declared.read_fault.ReadFault.TheVariants.{MessageLimit};
 ghost use Rattle.ber_views.specs.Log.{logged};
-ghost use Rattle.ber_views.specs.Telling.{IsTelling};
+ghost use Rattle.ber_views.specs.ViewSink.{IsViewSink};
 ghost use Rattle.octet_answers.specs.States.{front};
 ghost use Rattle.std.specs.Prelude.{◌≡◌, ◌<◌, ◌≤◌, IfErr, IfOk, IsTrue, [], ◌↔◌, length};
 
-use crate::telling::Telling;
+use crate::view_sink::ViewSink;
 use asn_base::schema::TypeId;
-use ber_source::asking::{among_next, choose_next, has_more, skip, stands_next};
+use ber_source::asking::{choose_next, has_more, is_component_next, next_in_set, skip};
 use ber_source::moves::{begin, close, end, hold, open};
-use ber_source::place::{Place, at_front};
+use ber_source::reader_state::{ReaderState, at_front};
 use ber_source::small::{small_component, small_value};
 use codec_code::{Code, Field, Head, Step};
 use codec_source::Source;
 use decode_faults::ReadFault;
 use encodings::LeafKind;
 use limits::MAX_MESSAGE;
-use octet_answers::law::one_answer;
+use octet_answers::law::lemma_one_answer;
 use std::alloc::Global;
 use std::marker::Model;
 
 /// A message while it is read from its start by the basic rules, and the view of what was read.
 #[derive(Drop)]
 pub struct Viewer<'c, 'a> {
-    place: Place<'c, 'a, Telling<'c, 'a>>,
+    place: ReaderState<'c, 'a, ViewSink<'c, 'a>>,
 }
 
 impl<'c, 'a> Model for Viewer<'c, 'a> {
     ghost use Rattle.octet_answers.specs.States.{State};
-    ghost use Rattle.ber_source.specs.Seen.{IsWithin, state_of};
+    ghost use Rattle.ber_source.specs.Seen.{IsValidState, state_of};
     ghost use Rattle.ber_views.specs.Log.{logged};
-    ghost use Rattle.ber_views.specs.Telling.{IsTelling};
+    ghost use Rattle.ber_views.specs.ViewSink.{IsViewSink};
     ghost use Rattle.std.specs.Coded.{codes};
     ghost use Rattle.asn_base.specs.Codes.{abstract_value_code};
 
@@ -41,19 +41,19 @@ impl<'c, 'a> Model for Viewer<'c, 'a> {
 
     ghost view = { λ c. state_of (λ t. logged t.log) c.place };
 
-    ghost invariant = { λ c. IsWithin IsTelling c.place };
+    ghost invariant = { λ c. IsValidState IsViewSink c.place };
 }
 
 impl<'c, 'a> Viewer<'c, 'a> {
-    /// A cursor at the start of a message, in which at most `room` values may begin. `MessageLimit`: the message has
+    /// A cursor at the start of a message, in which at most `budget` values may begin. `MessageLimit`: the message has
     /// more than 16,777,216 octets.
     pub fn new(
         alloc: Global,
         code: &'c Code,
         octets: &'a [u8],
-        room: usize,
+        budget: usize,
     ) -> Result<Self, ReadFault>
-        ensures ok { IfOk result (λ c. c ≡ front code.now octets.now room) }
+        ensures ok { IfOk result (λ c. c ≡ front code.now octets.now budget) }
         ensures few { IfOk result (λ c. length octets.now ≤ 16777216) }
         ensures err { IfErr result (λ e. (e ≡ MessageLimit) × (16777216 < length octets.now)) }
     {
@@ -61,7 +61,7 @@ impl<'c, 'a> Viewer<'c, 'a> {
             return Err(ReadFault::MessageLimit);
         }
         Ok(Viewer {
-            place: at_front(alloc, code, octets, room, Telling::new(alloc, code)),
+            place: at_front(alloc, code, octets, budget, ViewSink::new(alloc, code)),
         })
     }
 
@@ -73,11 +73,11 @@ impl<'c, 'a> Viewer<'c, 'a> {
     }
 
     /// The view of what was read.
-    pub fn into_telling(self) -> Telling<'c, 'a>
-        ensures tokens { logged result.log ≡ self.entry.told }
-        ensures suits { IsTelling result self.entry.schema }
+    pub fn into_sink(self) -> ViewSink<'c, 'a>
+        ensures tokens { logged result.log ≡ self.entry.emitted }
+        ensures suits { IsViewSink result self.entry.schema }
     {
-        self.place.told
+        self.place.emitted
     }
 }
 
@@ -86,65 +86,65 @@ impl<'c, 'a> Source for Viewer<'c, 'a> {
 
     ghost takes = { Takes };
 
-    ghost use Rattle.octet_answers.specs.Left.{Leaves};
+    ghost use Rattle.octet_answers.specs.Unanswered.{Leaves};
 
-    ghost leaves = { Leaves };
+    ghost refuses = { Leaves };
 
-    ghost room = { λ a. a.room };
+    ghost budget = { λ a. a.budget };
 
     #[inline(always)]
     fn begin(&mut self, id: TypeId) -> Result<(), ReadFault> {
-        one_answer();
+        lemma_one_answer();
         begin(&mut self.place, id)
     }
 
     #[inline(always)]
     fn end(&mut self) -> Result<(), ReadFault> {
-        one_answer();
+        lemma_one_answer();
         end(&mut self.place)
     }
 
     #[inline(always)]
     fn open(&mut self, head: Head) -> Result<(), ReadFault> {
-        one_answer();
+        lemma_one_answer();
         open(&mut self.place, head)
     }
 
     #[inline(always)]
     fn close(&mut self) -> Result<(), ReadFault> {
-        one_answer();
+        lemma_one_answer();
         close(&mut self.place)
     }
 
     #[inline(always)]
     fn leaf(&mut self, kind: LeafKind) -> Result<(), ReadFault> {
-        one_answer();
+        lemma_one_answer();
         hold(&mut self.place, kind)
     }
 
     fn skip(&mut self) -> Result<(), ReadFault> {
-        one_answer();
+        lemma_one_answer();
         skip(&mut self.place)
     }
 
     #[inline(always)]
     fn has_component(&mut self, field: Field) -> Result<bool, ReadFault> {
-        one_answer();
-        stands_next(&mut self.place, field)
+        lemma_one_answer();
+        is_component_next(&mut self.place, field)
     }
 
     fn has_element(&mut self, id: TypeId, sorted: bool) -> Result<bool, ReadFault> {
-        one_answer();
+        lemma_one_answer();
         Ok(has_more(&self.place))
     }
 
     fn next_component(&mut self, steps: &[Step]) -> Result<Option<TypeId>, ReadFault> {
-        one_answer();
-        among_next(&mut self.place, steps)
+        lemma_one_answer();
+        next_in_set(&mut self.place, steps)
     }
 
     fn alternative(&mut self, calls: &[Step]) -> Result<TypeId, ReadFault> {
-        one_answer();
+        lemma_one_answer();
         choose_next(&mut self.place, calls)
     }
 
@@ -163,9 +163,9 @@ impl<'c, 'a> Source for Viewer<'c, 'a> {
         small_component(&mut self.place, field, head, kind)
     }
 
-    ghost use Rattle.ber_source.specs.Laws.{begins_less, never_more, one_answer as one_answer'};
+    ghost use Rattle.ber_source.specs.Laws.{begins_less, never_more, lemma_one_answer as lemma_one_answer'};
 
-    ghost one_answer = { one_answer' };
+    ghost lemma_one_answer = { lemma_one_answer' };
 
     ghost spends = { begins_less };
 

@@ -8,7 +8,7 @@ mod cursor;
 mod leaf;
 mod log;
 mod shape;
-mod telling;
+mod view_sink;
 
 pub use cursor::Viewer;
-pub use telling::{Built, Telling};
+pub use view_sink::{Built, ViewSink};

@@ -4,7 +4,7 @@ ghost use Rattle.ber_source.specs.Seen.{token_of};
 ghost use Rattle.ber_views.specs.Log.{logged};
 ghost use Rattle.std.specs.Prelude.{◌≡◌, ◌++◌, ◌∷◌, []};
 
-use ber_source::{Held, Mark, Token};
+use ber_source::{PrimitiveToken, StructToken, Token};
 use std::snapshot::Snapshot;
 
 /// The tokens that were received, in order. They take no memory: contracts see them, and no code does.

@@ -1,12 +1,12 @@
 //! Which node a view has for a value of each type.
 
 ghost use Rattle.ber_views.specs.Shapes.{shape_in};
-ghost use Rattle.codec_code.specs.Briefs.{fields_in as fields_in'};
+ghost use Rattle.codec_code.specs.Summaries.{fields_in as fields_in'};
 ghost use Rattle.codec_code.specs.Routines.{routine_at};
 ghost use Rattle.std.specs.Prelude.{◌≡◌, ◌≤◌, length};
 
 use asn_base::schema::TypeId;
-use codec_code::{Brief, Code, Coding, Step};
+use codec_code::{Code, Coding, Step, Summary};
 
 /// A row with the number of its components, a list of elements, or no node of its own. The last is for a value that
 /// holds no others, and for a CHOICE, whose node opens when the number of the alternative comes.
@@ -23,9 +23,9 @@ fn fields_in(steps: &[Step]) -> usize
     ensures as_many { result ≡ fields_in' steps.now }
 {
     match steps.split_first() {
-        Some((Step::Field(_), behind)) => 1 + fields_in(behind),
-        Some((Step::Ranked(_, _), behind)) => 1 + fields_in(behind),
-        Some((_, behind)) => fields_in(behind),
+        Some((Step::Field(_), following)) => 1 + fields_in(following),
+        Some((Step::SetComponent(_, _), following)) => 1 + fields_in(following),
+        Some((_, following)) => fields_in(following),
         None => 0,
     }
 }
@@ -34,18 +34,18 @@ fn fields_in(steps: &[Step]) -> usize
 pub(crate) fn shape_of(steps: &[Step]) -> Shape
     ensures { result ≡ shape_in steps.now }
 {
-    let Some((step, behind)) = steps.split_first() else {
+    let Some((step, following)) = steps.split_first() else {
         return Shape::Bare;
     };
     match *step {
-        Step::Head(_) => shape_of(behind),
+        Step::Head(_) => shape_of(following),
         Step::Leaf(_) => Shape::Bare,
         Step::Pick(_) => Shape::Bare,
         Step::Call(_) => Shape::Bare,
         Step::Each(_) => Shape::List,
         Step::EachSorted(_) => Shape::List,
         Step::Field(_) => Shape::Row(fields_in(steps)),
-        Step::Ranked(_, _) => Shape::Row(fields_in(steps)),
+        Step::SetComponent(_, _) => Shape::Row(fields_in(steps)),
         Step::Rest => Shape::Row(0),
         Step::End => Shape::Row(0),
     }
@@ -56,10 +56,10 @@ pub(crate) fn shape_of(steps: &[Step]) -> Shape
 pub(crate) fn shape_at(code: &Code, id: TypeId) -> Shape
     ensures { result ≡ shape_in (routine_at code.now id.index) }
 {
-    match code.brief(id) {
-        Brief::Leaf(_, _) => Shape::Bare,
-        Brief::Components(_, count) => Shape::Row(count),
-        Brief::Elements(_) => Shape::List,
-        Brief::Any => shape_of(code.steps(id, Coding::Tagged)),
+    match code.summary(id) {
+        Summary::Leaf(_, _) => Shape::Bare,
+        Summary::Components(_, count) => Shape::Row(count),
+        Summary::Elements(_) => Shape::List,
+        Summary::Any => shape_of(code.steps(id, Coding::Tagged)),
     }
 }

@@ -1,18 +1,18 @@
 //! The rules of DER that one encoding breaks, and where.
 
-use crate::parts::{Part, type_at};
+use crate::parts::{EncodedPart, type_at};
 use crate::rule::Rule;
 use asn_base::schema::{Core, Schema};
 use encodings::LeafKind;
 use header_listing::Encoding;
-use leaf_readings::is_distinguished;
 use octets::{Form, header_len};
+use primitive_reader::is_distinguished;
 
 /// A rule that is broken at an octet of a message. Its offset counts from 0.
 #[derive(Clone, Copy)]
 pub(crate) struct Breach<'a> {
     pub rule: Rule<'a>,
-    pub octet: usize,
+    pub offset: usize,
 }
 
 /// The offset at some distance.
@@ -33,7 +33,7 @@ fn holds_others(core: &Core) -> bool {
 }
 
 /// Whether an encoding is that of a string in segments.
-pub(crate) fn is_segmented(schema: &Schema, part: Part<'_>, encoding: Encoding<'_>) -> bool {
+pub(crate) fn is_segmented(schema: &Schema, part: EncodedPart<'_>, encoding: Encoding<'_>) -> bool {
     let Some(resolved) = type_at(schema, part.ty) else {
         return false;
     };
@@ -60,8 +60,8 @@ fn of_contents<'a>(core: &Core, contents: &[u8]) -> Option<(Rule<'a>, usize)> {
     let last = contents.len().saturating_sub(1);
     match core {
         Core::Boolean => match contents.first() {
-            Some(octet) if !is_distinguished(LeafKind::Boolean, contents) => {
-                Some((Rule::Truth(*octet), 0))
+            Some(offset) if !is_distinguished(LeafKind::Boolean, contents) => {
+                Some((Rule::Truth(*offset), 0))
             }
             _ => None,
         },
@@ -80,22 +80,28 @@ fn of_contents<'a>(core: &Core, contents: &[u8]) -> Option<(Rule<'a>, usize)> {
 /// encoding starts at an offset.
 pub(crate) fn of_encoding<'a>(
     schema: &Schema,
-    part: Part<'a>,
+    part: EncodedPart<'a>,
     encoding: Encoding<'a>,
     start: usize,
 ) -> Option<Breach<'a>> {
     if let Some(rule) = part.order {
-        return Some(Breach { rule, octet: start });
+        return Some(Breach {
+            rule,
+            offset: start,
+        });
     }
     if is_segmented(schema, part, encoding) {
         return Some(Breach {
             rule: Rule::Form,
-            octet: start,
+            offset: start,
         });
     }
     let sized = offset(start, encoding.identifier.len());
     if let Some(rule) = of_length(encoding) {
-        return Some(Breach { rule, octet: sized });
+        return Some(Breach {
+            rule,
+            offset: sized,
+        });
     }
     let (Form::Primitive, Some(resolved)) = (encoding.form, type_at(schema, part.ty)) else {
         return None;
@@ -103,7 +109,7 @@ pub(crate) fn of_encoding<'a>(
     match of_contents(&*resolved.core, encoding.contents) {
         Some((rule, distance)) => Some(Breach {
             rule,
-            octet: offset(offset(sized, encoding.size.len()), distance),
+            offset: offset(offset(sized, encoding.size.len()), distance),
         }),
         None => None,
     }

@@ -4,7 +4,7 @@ ghost use Rattle.std.specs.Prelude.{◌≡◌, ◌<◌, IfOk, IfSome, length};
 
 use crate::breach::{Breach, is_segmented, of_encoding, offset};
 use crate::label::named;
-use crate::parts::{Inside, Part, Unit, next_part, type_at, within};
+use crate::parts::{EncodedPart, Inside, Unit, next_part, type_at, within};
 use crate::rule::Rule;
 use asn_base::schema::{Schema, TypeId};
 use asn_base::value::Value;
@@ -27,8 +27,8 @@ pub struct Encoded<'a> {
 /// offset counts from 0, by a part of the value, whose type is of this kind, as `BOOLEAN`. The path of the part is as
 /// `a.b[2].c`, cut off after 60 characters; it is empty if it is the whole value.
 #[derive(Debug, Drop)]
-pub struct Broken {
-    pub octet: usize,
+pub struct Violation {
+    pub offset: usize,
     pub path: String,
     pub kind: &'static str,
     pub found: String,
@@ -39,7 +39,7 @@ pub struct Broken {
 /// in them other parts. No additions were skipped before it if `whole` is true.
 #[derive(Clone, Copy)]
 struct Outer<'a> {
-    part: Part<'a>,
+    part: EncodedPart<'a>,
     start: usize,
     rest: &'a [u8],
     next: Inside<'a>,
@@ -49,7 +49,7 @@ struct Outer<'a> {
 /// The octets that are left of contents, their offset, and what comes next in them. No additions were skipped before
 /// them if `whole` is true.
 #[derive(Clone, Copy)]
-struct Place<'a> {
+struct ReadPoint<'a> {
     left: &'a [u8],
     start: usize,
     inside: Inside<'a>,
@@ -72,7 +72,11 @@ struct Walk<'a> {
 }
 
 /// The path of a part of a value, which is within the parts of other encodings.
-fn path_to(alloc: Global, outer: &[Outer<'_>], part: Part<'_>) -> Result<String, AllocError> {
+fn path_to(
+    alloc: Global,
+    outer: &[Outer<'_>],
+    part: EncodedPart<'_>,
+) -> Result<String, AllocError> {
     let mut path = String::new(alloc);
     for place in 0..outer.len() {
         outer[place].part.label.push_to(alloc, &mut path)?;
@@ -85,11 +89,11 @@ fn path_to(alloc: Global, outer: &[Outer<'_>], part: Part<'_>) -> Result<String,
 fn note<'a>(
     alloc: Global,
     walk: &mut Walk<'a>,
-    part: Part<'a>,
+    part: EncodedPart<'a>,
     breach: Breach<'a>,
 ) -> Result<(), AllocError> {
     if let Some(first) = &walk.first {
-        if first.breach.octet <= breach.octet {
+        if first.breach.offset <= breach.offset {
             return Ok(());
         }
     }
@@ -107,7 +111,7 @@ fn note_default<'a>(
     alloc: Global,
     walk: &mut Walk<'a>,
     code: &Code,
-    part: Part<'a>,
+    part: EncodedPart<'a>,
     start: usize,
 ) -> Result<(), AllocError> {
     match part.member {
@@ -116,7 +120,15 @@ fn note_default<'a>(
             let mut whole = part;
             whole.ty = member.ty;
             whole.label = named(part.label.name);
-            note(alloc, walk, whole, Breach { rule, octet: start })
+            note(
+                alloc,
+                walk,
+                whole,
+                Breach {
+                    rule,
+                    offset: start,
+                },
+            )
         }
         _ => Ok(()),
     }
@@ -128,12 +140,12 @@ fn after<'a>(
     walk: &mut Walk<'a>,
     code: &Code,
     outer: Outer<'a>,
-    place: Place<'a>,
-) -> Result<Place<'a>, AllocError> {
+    place: ReadPoint<'a>,
+) -> Result<ReadPoint<'a>, AllocError> {
     if place.whole {
         note_default(alloc, walk, code, outer.part, outer.start)?;
     }
-    Ok(Place {
+    Ok(ReadPoint {
         left: outer.rest,
         start: place.start,
         inside: outer.next,
@@ -142,9 +154,9 @@ fn after<'a>(
 }
 
 /// The place after an encoding that holds no other parts.
-fn past<'a>(place: Place<'a>, encoding: Encoding<'a>) -> Place<'a> {
+fn past<'a>(place: ReadPoint<'a>, encoding: Encoding<'a>) -> ReadPoint<'a> {
     let count = place.left.len().saturating_sub(encoding.rest.len());
-    Place {
+    ReadPoint {
         left: encoding.rest,
         start: offset(place.start, count),
         inside: place.inside,
@@ -155,12 +167,12 @@ fn past<'a>(place: Place<'a>, encoding: Encoding<'a>) -> Place<'a> {
 /// The place within the contents octets of a part.
 fn inside_of<'a>(
     schema: &'a Schema,
-    part: Part<'a>,
-    place: Place<'a>,
+    part: EncodedPart<'a>,
+    place: ReadPoint<'a>,
     encoding: Encoding<'a>,
-) -> Place<'a> {
+) -> ReadPoint<'a> {
     let sized = offset(place.start, encoding.identifier.len());
-    Place {
+    ReadPoint {
         left: encoding.contents,
         start: offset(sized, encoding.size.len()),
         inside: within(schema, part),
@@ -186,9 +198,9 @@ fn step<'a>(
     alloc: Global,
     walk: &mut Walk<'a>,
     encoded: Encoded<'a>,
-    place: Place<'a>,
+    place: ReadPoint<'a>,
     encoding: Encoding<'a>,
-) -> Result<Place<'a>, AllocError> {
+) -> Result<ReadPoint<'a>, AllocError> {
     let schema = encoded.schema;
     let unit = unit_of(place.left, encoding);
     let Some((part, next)) = next_part(schema, place.inside, unit) else {
@@ -222,7 +234,7 @@ fn first_broken<'a>(alloc: Global, encoded: Encoded<'a>) -> Result<Option<First<
         outer: Vec::new(alloc),
         first: None,
     };
-    let mut place = Place {
+    let mut place = ReadPoint {
         left: encoded.octets,
         start: 0,
         inside: Inside::Value(encoded.ty, encoded.value, ""),
@@ -250,12 +262,12 @@ fn kind_of(schema: &Schema, ty: TypeId) -> &'static str {
 }
 
 /// The words for a broken rule.
-fn told(alloc: Global, schema: &Schema, first: First<'_>) -> Result<Broken, AllocError>
-    ensures { IfOk result (λ b. b.octet ≡ first.entry.breach.octet) }
+fn describe(alloc: Global, schema: &Schema, first: First<'_>) -> Result<Violation, AllocError>
+    ensures { IfOk result (λ b. b.offset ≡ first.entry.breach.offset) }
 {
     let rule = first.breach.rule;
-    Ok(Broken {
-        octet: first.breach.octet,
+    Ok(Violation {
+        offset: first.breach.offset,
         path: first.path,
         kind: kind_of(schema, first.ty),
         found: rule.found(alloc)?,
@@ -264,19 +276,19 @@ fn told(alloc: Global, schema: &Schema, first: First<'_>) -> Result<Broken, Allo
 }
 
 /// Returns which rule of DER octets break that encode a value by BER, and where. Of several it is the first one in the
-/// order of the octets. The rules are those of `strict_rules`: fewest length octets, strings in primitive form, TRUE as
+/// order of the octets. The rules are those of `der_check`: fewest length octets, strings in primitive form, TRUE as
 /// `FF`, zeros as unused bits, no zero at the end of named bits, the order of SET and SET OF, and no encoding of a
 /// DEFAULT. An addition that the type lacks isn't judged.
 ///
 /// The result is None if no rule is found broken. `AllocError`: an allocation failed. Each header is read once. A
 /// component with a DEFAULT is compared with it once, which is the only work that grows with the number of levels.
-pub fn broken_rule(alloc: Global, encoded: Encoded<'_>) -> Result<Option<Broken>, AllocError>
+pub fn broken_rule(alloc: Global, encoded: Encoded<'_>) -> Result<Option<Violation>, AllocError>
     // The offset is that of an octet.
-    ensures { IfOk result (λ o. IfSome o (λ b. b.octet < length encoded.entry.octets.now)) }
+    ensures { IfOk result (λ o. IfSome o (λ b. b.offset < length encoded.entry.octets.now)) }
 {
     match first_broken(alloc, encoded)? {
-        Some(first) if first.breach.octet < encoded.octets.len() => {
-            Ok(Some(told(alloc, encoded.schema, first)?))
+        Some(first) if first.breach.offset < encoded.octets.len() => {
+            Ok(Some(describe(alloc, encoded.schema, first)?))
         }
         _ => Ok(None),
     }

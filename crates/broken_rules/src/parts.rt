@@ -19,7 +19,7 @@ pub(crate) struct Member<'a> {
 
 /// A part of a value that an encoding is of: its type, and the place of the encoding's tag in the tags of that type.
 #[derive(Clone, Copy)]
-pub(crate) struct Part<'a> {
+pub(crate) struct EncodedPart<'a> {
     pub ty: TypeId,
     pub level: usize,
     pub value: &'a Value,
@@ -82,7 +82,12 @@ fn chosen<'a>(
 }
 
 /// A value as a part. If its type is an untagged CHOICE, the part is the chosen alternative.
-fn part_of<'a>(schema: &'a Schema, ty: TypeId, value: &'a Value, label: Label<'a>) -> Part<'a> {
+fn part_of<'a>(
+    schema: &'a Schema,
+    ty: TypeId,
+    value: &'a Value,
+    label: Label<'a>,
+) -> EncodedPart<'a> {
     let (ty, value, label) = match chosen(schema, ty, value) {
         Some((alternative, inner)) => (
             alternative.ty,
@@ -91,7 +96,7 @@ fn part_of<'a>(schema: &'a Schema, ty: TypeId, value: &'a Value, label: Label<'a
         ),
         None => (ty, value, label),
     };
-    Part {
+    EncodedPart {
         ty,
         level: 0,
         value,
@@ -115,7 +120,7 @@ fn component_at<'a>(
     holder: TypeId,
     values: &'a [Option<Value>],
     place: usize,
-) -> Option<Part<'a>> {
+) -> Option<EncodedPart<'a>> {
     let Some(Some(value)) = values.get(place) else {
         return None;
     };
@@ -139,7 +144,7 @@ fn next_component<'a>(
     holder: TypeId,
     values: &'a [Option<Value>],
     from: usize,
-) -> Option<(Part<'a>, Inside<'a>)> {
+) -> Option<(EncodedPart<'a>, Inside<'a>)> {
     for place in from..values.len() {
         if let Some(part) = component_at(schema, holder, values, place) {
             let next = Inside::Components(holder, values, place.saturating_add(1));
@@ -168,7 +173,7 @@ fn next_member<'a>(
     values: &'a [Option<Value>],
     last: Option<Tag>,
     tag: Tag,
-) -> Option<(Part<'a>, Inside<'a>)> {
+) -> Option<(EncodedPart<'a>, Inside<'a>)> {
     let Some(place) = place_of(schema, components_of(schema, holder), tag) else {
         return None;
     };
@@ -191,7 +196,7 @@ fn next_element<'a>(
     index: usize,
     last: Option<&'a [u8]>,
     octets: &'a [u8],
-) -> Option<(Part<'a>, Inside<'a>)> {
+) -> Option<(EncodedPart<'a>, Inside<'a>)> {
     let Some(value) = values.get(index) else {
         return None;
     };
@@ -213,7 +218,7 @@ pub(crate) fn next_part<'a>(
     schema: &'a Schema,
     inside: Inside<'a>,
     unit: Unit<'a>,
-) -> Option<(Part<'a>, Inside<'a>)> {
+) -> Option<(EncodedPart<'a>, Inside<'a>)> {
     match inside {
         Inside::Value(ty, value, name) => {
             Some((part_of(schema, ty, value, named(name)), Inside::Nothing))
@@ -242,7 +247,7 @@ fn elements<'a>(core: &Core, values: &'a [Value]) -> Inside<'a> {
 }
 
 /// What comes within the contents octets of a part.
-pub(crate) fn within<'a>(schema: &'a Schema, part: Part<'a>) -> Inside<'a> {
+pub(crate) fn within<'a>(schema: &'a Schema, part: EncodedPart<'a>) -> Inside<'a> {
     let Some(resolved) = type_at(schema, part.ty) else {
         return Inside::Nothing;
     };

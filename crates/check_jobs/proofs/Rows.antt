@@ -1,17 +1,18 @@
 -- Worked rows: the line of a verdict, the octets that a job gives, and what each part of a conclusion says, in full.
-use Rattle.std.proofs.Common.{◌≡◌, ℕ, List, [], Bool, true, false, Option, Some, None, Vec, map, refl}
-use Rattle.std.specs.Prelude.{codes, string_bytes}
+use Rattle.std.proofs.Common.{◌≡◌, ℕ, List, [], Bool, true, false, Option, Some, None, Vec, length, map, refl}
+use Rattle.std.specs.Prelude.{IsSome, String, codes, string_bytes}
 use Rattle.std.specs.declared.alloc.Global.{Global}
 use Rattle.account_checker.specs.declared.reason.Reason.TheVariants as reasons
 use Rattle.account_checker.specs.declared.reason.Verdict.TheVariants.{Yes, No}
 use Rattle.command_line.specs.declared.request.Given.TheVariants as given
 use Rattle.command_line.specs.declared.request.Job.{Job}
+use Rattle.command_line.specs.declared.request.Verb.TheVariants as verbs
 use Rattle.judging.specs.front_end.Accepted.{octets_of}
 use Rattle.judging.specs.Judged.{IsJudged, answer_of}
 use Rattle.sinks.specs.Sent.{SinkState, SentAll, SentFront}
 use Rattle.check_jobs.specs.declared.inputs.Inputs.{Inputs}
 use Rattle.check_jobs.specs.Checks.{IsChecked, IsCheckedInPart, IsVerdictLine, is_yes}
-use Rattle.check_jobs.specs.Inputs.{contents, given_in, line_of, octets_given}
+use Rattle.check_jobs.specs.Inputs.{AreInputsOf, HasFile, contents, given_in, line_of, octets_given}
 
 -- ---- lines
 
@@ -64,3 +65,17 @@ module _ (job : Job) (inputs : Inputs) (a b : SinkState) (n : ℕ) (r : IsChecke
 
   part_sent : SentFront a b r.output n
   part_sent = r.sent
+
+-- ---- inputs
+
+inputs_are : (job : Job) (inputs : Inputs)
+    → length inputs.files.items ≡ length job.files.items
+    → length inputs.newer.items ≡ length job.newer.items
+    → HasFile job.octets inputs.octets
+    → (job.verb ≡ verbs.Check → IsSome inputs.account)
+    → ((job.verb ≡ verbs.Check → ⊥) → inputs.account ≡ None)
+    → AreInputsOf job inputs
+inputs_are job inputs f n o a e = record { files = f; newer = n; octets = o; account = a; no_account = e }
+
+no_file : HasFile given.Nothing None
+no_file = refl

@@ -7,7 +7,7 @@ ghost use Rattle.judging.specs.Judged.{answer_of};
 ghost use Rattle.judging.specs.messages.declared.fault.Fault.TheVariants.{Device, Memory};
 ghost use Rattle.sinks.specs.Sent.{state};
 
-use crate::inputs::{Inputs, Output, ended, value_of};
+use crate::inputs::{Inputs, Output, value_of, with_line_end};
 use command_line::Job;
 use judging::messages::Fault;
 use judging::{Verdict, answer, judge};
@@ -21,7 +21,7 @@ fn line(alloc: Global, verdict: Verdict) -> Result<Output, Fault>
     ensures memory { IfErr result (λ e. e ≡ Memory) }
 {
     let text = String::from_str(alloc, answer(verdict))?;
-    let octets = match ended(text) {
+    let octets = match with_line_end(text) {
         Ok(octets) => octets,
         Err(fault) => return Err(fault),
     };

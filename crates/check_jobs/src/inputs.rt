@@ -74,7 +74,7 @@ pub struct Output {
 }
 
 /// A text as a line of output. `Memory`: an allocation failed.
-pub fn ended(mut text: String) -> Result<Vec<u8>, Fault>
+pub fn with_line_end(mut text: String) -> Result<Vec<u8>, Fault>
     ensures line { IfOk result (λ v. v.items ≡ line_of (string_bytes text)) }
     ensures memory { IfErr result (λ e. e ≡ Memory) }
 {

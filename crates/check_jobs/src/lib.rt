@@ -7,7 +7,7 @@ mod inputs;
 mod words;
 
 pub use checks::{check, check_output};
-pub use inputs::{Inputs, Output, ended, value_of};
+pub use inputs::{Inputs, Output, value_of, with_line_end};
 pub use words::refusal;
 
 // Libraries that crates above name through this one.

@@ -10,9 +10,9 @@ use Rattle.type_table.specs.declared.table.Shape.{Shape}
 use Rattle.type_table.specs.declared.table.Shape.TheVariants as shapes
 use Rattle.type_table.specs.declared.table.ListMember.{ListMember}
 use Rattle.type_table.specs.Seen.{kind_of}
-use Rattle.type_table.specs.Table.{Part, Kind, simple, reference, tagged, members, elements, Type', behind, behind_of, Is, IsClosed, HasMembers, HasElements}
-use Rattle.circles.specs.Circles.{IsPart, referred, behind_tag, member, element, Reaches, IsDefaultCircle}
-use Rattle.circles.specs.proving.Reach.{HasParts, IsDefault, LeadsTo}
+use Rattle.type_table.specs.Table.{Part, Kind, simple, reference, tagged, members, elements, Type', target, target_of, Is, IsClosed, HasMembers, HasElements}
+use Rattle.circles.specs.Circles.{IsPart, referred, target_tag, member, element, Reaches, IsDefaultCircle}
+use Rattle.circles.specs.proving.Reach.{HasParts, IsDefault, DefaultPath}
 
 is_default : (o : PresenceTree) → IsDefault o → (v : Tree) × (o ≡ default v)
 is_default mandatory h = absurd h
@@ -20,7 +20,7 @@ is_default optional h = absurd h
 is_default (default v) h = (v, refl)
 
 pub circle_of_leads : (ts : List Type') (i : ℕ) (t : Type') (l : ListKind) (marker : Bool) (cs : List Part) →
-    slice_get ts i ≡ Some t → t.kind ≡ members l marker cs → LeadsTo ts cs i → IsDefaultCircle ts i
+    slice_get ts i ≡ Some t → t.kind ≡ members l marker cs → DefaultPath ts cs i → IsDefaultCircle ts i
 circle_of_leads ts i t l marker cs e k h =
     let v = is_default h.defaulted.component.presence h.defaulted.defaulted in
     record {
@@ -42,7 +42,7 @@ same_members : (l k : ListKind) (m n : Bool) (cs ds : List Part) → members l m
 same_members l k m n cs ds e = cc
 
 pub leads_of_circle : (ts : List Type') (i : ℕ) (t : Type') (l : ListKind) (marker : Bool) (cs : List Part) →
-    slice_get ts i ≡ Some t → t.kind ≡ members l marker cs → IsDefaultCircle ts i → LeadsTo ts cs i
+    slice_get ts i ≡ Some t → t.kind ≡ members l marker cs → IsDefaultCircle ts i → DefaultPath ts cs i
 leads_of_circle ts i t l marker cs e k h =
     let w : h.written ≡ t = same_at ts i h.written t h.there e in
     let c : h.components ≡ cs = same_members h.list l h.marker marker h.components cs (sym h.is ∙ ap (λ (z : Type'). z.kind) w ∙ k) in
@@ -72,8 +72,8 @@ is_of ts i t k e q = record { constraints = t.constraints; assignment = t.assign
 part_below : (ts : List Type') (i j : ℕ) (t : Type') (k : Kind) → IsClosed ts → HasMembers ts → HasElements ts →
     slice_get ts i ≡ Some t → t.kind ≡ k → IsPart j k → j < length ts
 part_below ts i j t (simple s) closed parts inner e q h = elim h [ ]
-part_below ts i j t (reference k) closed parts inner e q referred = closed i k (ap behind_of e ∙ ap behind q)
-part_below ts i j t (tagged g w k) closed parts inner e q behind_tag = closed i k (ap behind_of e ∙ ap behind q)
+part_below ts i j t (reference k) closed parts inner e q referred = closed i k (ap target_of e ∙ ap target q)
+part_below ts i j t (tagged g w k) closed parts inner e q target_tag = closed i k (ap target_of e ∙ ap target q)
 part_below ts i j t (members l m cs) closed parts inner e q (member n c h y) =
     let all = parts i l m cs t.default t.place (is_of ts i t (members l m cs) e q) n c (slice_get_within cs n c h) in
     subst (λ z. z < length ts) (ap (λ (p : Part). p.ty) (get_or_from_slice_get cs n c c h) ∙ y) all

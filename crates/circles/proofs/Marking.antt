@@ -9,14 +9,14 @@ use Rattle.type_table.specs.trees.declared.types.Keyword.{Keyword}
 use Rattle.type_table.specs.declared.table.ListMember.{ListMember}
 use Rattle.type_table.specs.trees.declared.types.ElementsKind.{ElementsKind}
 use Rattle.type_table.specs.trees.declared.types.ListKind.{ListKind}
-use Rattle.type_table.specs.names.Modules.{StandsIn}
+use Rattle.type_table.specs.names.Modules.{OccursIn}
 use Rattle.type_table.specs.trees.Types.{Plain}
 use Rattle.type_table.specs.Seen.{part_of}
 use Rattle.type_table.specs.Table.{Part, simple, reference, tagged, members, elements, Type'}
-use Rattle.circles.specs.Circles.{IsPart, referred, behind_tag, member, element, Reaches, itself, onward}
+use Rattle.circles.specs.Circles.{IsPart, referred, target_tag, member, element, Reaches, itself, onward}
 use Rattle.type_table.specs.proving.Notes.{set_kept, set_here, set_only}
 use Rattle.type_table.specs.proving.Tables.{alike}
-use Rattle.circles.specs.proving.Reach.{HasDefault, IsDefaulted, LeadsTo, IsMarked, AreUpTo, unmarked, Marks, MarksReached}
+use Rattle.circles.specs.proving.Reach.{HasDefault, IsDefaulted, DefaultPath, IsMarked, AreUpTo, unmarked, Marks, MarksReached}
 
 self : (s : ℕ) → (s == s) ≡ true
 self s = search (arith, refl)
@@ -51,7 +51,7 @@ stays (x ∷ xs) ys zero j e = e
 stays (x ∷ xs) ys (suc k) j e = stays xs ys k j e
 
 -- an element of a list with one item more was in the list before, or is that item
-either : (xs : List ℕ) (x k j : ℕ) → slice_get (xs ++ x ∷ []) k ≡ Some j → StandsIn xs j ⊎ (x ≡ j)
+either : (xs : List ℕ) (x k j : ℕ) → slice_get (xs ++ x ∷ []) k ≡ Some j → OccursIn xs j ⊎ (x ≡ j)
 either [] x zero j e = let q : x ≡ j = cc in inr q
 either [] x (suc k) j e = absurd cc
 either (y ∷ xs) x zero j e = inl (zero, e)
@@ -135,7 +135,7 @@ reference_part : (i j : ℕ) → IsPart i (reference j) → i ≡ j
 reference_part i j referred = refl
 
 tagged_part : (g : Tag) (w : Keyword) (i j : ℕ) → IsPart i (tagged g w j) → i ≡ j
-tagged_part g w i j behind_tag = refl
+tagged_part g w i j target_tag = refl
 
 elements_part : (e : ElementsKind) (i j : ℕ) → IsPart i (elements e j) → i ≡ j
 elements_part e i j element = refl
@@ -152,7 +152,7 @@ marks_reference s j m m' w w' a = marks_alike s (λ i. i ≡ j) (λ i. IsPart i 
 
 pub marks_tagged : (s j : ℕ) (g : Tag) (k : Keyword) (m m' w w' : List ℕ) → Marks s (λ i. i ≡ j) m m' w w' →
     Marks s (λ i. IsPart i (tagged g k j)) m m' w w'
-marks_tagged s j g k m m' w w' a = marks_alike s (λ i. i ≡ j) (λ i. IsPart i (tagged g k j)) m m' w w' a (λ i h. tagged_part g k i j h) (λ i q. subst (λ z. IsPart z (tagged g k j)) (sym q) behind_tag)
+marks_tagged s j g k m m' w w' a = marks_alike s (λ i. i ≡ j) (λ i. IsPart i (tagged g k j)) m m' w w' a (λ i h. tagged_part g k i j h) (λ i q. subst (λ z. IsPart z (tagged g k j)) (sym q) target_tag)
 
 pub marks_elements : (s j : ℕ) (e : ElementsKind) (m m' w w' : List ℕ) → Marks s (λ i. i ≡ j) m m' w w' →
     Marks s (λ i. IsPart i (elements e j)) m m' w w'
@@ -259,14 +259,14 @@ defaults_all s cs m m' w w' a = marks_alike s (λ j. IsDefaultedBelow cs (length
 pub record IsSearching (ts : List Type') (s : ℕ) (first marks waiting : List ℕ) : Type 0 where
   pub long : length marks ≡ length first
   pub kept : (j : ℕ) → IsMarked s first j → IsMarked s marks j
-  pub marked : (j : ℕ) → StandsIn waiting j → IsMarked s marks j
+  pub marked : (j : ℕ) → OccursIn waiting j → IsMarked s marks j
   pub closed : (i : ℕ) → IsMarked s marks i →
-      StandsIn waiting i ⊎ ((k : ℕ) (t : Type') → slice_get ts i ≡ Some t → IsPart k t.kind → IsMarked s marks k)
+      OccursIn waiting i ⊎ ((k : ℕ) (t : Type') → slice_get ts i ≡ Some t → IsPart k t.kind → IsMarked s marks k)
   pub only : (j : ℕ) → IsMarked s marks j → (i : ℕ) × IsMarked s first i × Reaches ts i j
   pub others : (j n : ℕ) → slice_get marks j ≡ Some n → slice_get first j ≡ Some n ⊎ (n ≡ s)
 
 pub searching_first : (ts : List Type') (s : ℕ) (marks waiting : List ℕ) →
-    ((j : ℕ) → IsMarked s marks j → StandsIn waiting j) → ((j : ℕ) → StandsIn waiting j → IsMarked s marks j) →
+    ((j : ℕ) → IsMarked s marks j → OccursIn waiting j) → ((j : ℕ) → OccursIn waiting j → IsMarked s marks j) →
     IsSearching ts s marks marks waiting
 searching_first ts s marks waiting wait marked = record {
   long = refl;
@@ -339,11 +339,11 @@ reached_marked ts s i j first marks m h (onward k t e p r) = reached_marked ts s
 
 -- one search: no type has its mark before
 pub first_wait : (s : ℕ) (Q : ℕ → Type 0) (m m' w w' : List ℕ) → ((j : ℕ) → IsMarked s m j → ⊥) →
-    Marks s Q m m' w w' → (j : ℕ) → IsMarked s m' j → StandsIn w' j
+    Marks s Q m m' w w' → (j : ℕ) → IsMarked s m' j → OccursIn w' j
 first_wait s Q m m' w w' fresh a j h = elim (a.only j h) [ inl g ↦ absurd (fresh j g) | inr g ↦ g.1 ]
 
 pub first_marked : (s : ℕ) (Q : ℕ → Type 0) (m m' w w' : List ℕ) → w ≡ [] → Marks s Q m m' w w' → (j : ℕ) →
-    StandsIn w' j → IsMarked s m' j
+    OccursIn w' j → IsMarked s m' j
 first_marked s Q m m' w w' e a = a.marked (λ j h. absurd (none w e h.0 j h.1))
   where
     none : (xs : List ℕ) → xs ≡ [] → (k i : ℕ) → slice_get xs k ≡ Some i → ⊥
@@ -352,14 +352,14 @@ first_marked s Q m m' w w' e a = a.marked (λ j h. absurd (none w e h.0 j h.1))
 
 pub found : (ts : List Type') (cs : List Part) (s j : ℕ) (m m' m'' w w' : List ℕ) → ((j : ℕ) → IsMarked s m j → ⊥) →
     Marks s (IsDefaulted cs) m m' w w' → MarksReached ts s m' m'' → j < length m'' → IsTrue (eqb (get_or m'' j 0) s) →
-    LeadsTo ts cs j
+    DefaultPath ts cs j
 found ts cs s j m m' m'' w w' fresh a b l t =
     let e : get_or m'' j 0 ≡ s = eqb-true (get_or m'' j 0) s t in
     let o = b.only j (slice_get-get_or m'' j 0 l ∙ ap Some e) in
     elim (a.only o.0 o.1) [ inl g ↦ absurd (fresh o.0 g) | inr g ↦ record { from = o.0; defaulted = g.0; reaches = o.2 } ]
 
 pub finds : (ts : List Type') (cs : List Part) (s j : ℕ) (m m' m'' w w' : List ℕ) →
-    Marks s (IsDefaulted cs) m m' w w' → MarksReached ts s m' m'' → LeadsTo ts cs j → IsTrue (eqb (get_or m'' j 0) s)
+    Marks s (IsDefaulted cs) m m' w w' → MarksReached ts s m' m'' → DefaultPath ts cs j → IsTrue (eqb (get_or m'' j 0) s)
 finds ts cs s j m m' m'' w w' a b h = eq-eqb (get_or m'' j 0) s (get_or_from_slice_get m'' j s 0 (reached_marked ts s h.from j m' m'' b (b.kept h.from (a.all h.from h.defaulted)) h.reaches))
 
 pub up_to : (ts : List Type') (Q : ℕ → Type 0) (s : ℕ) (m m' m'' w w' : List ℕ) →

@@ -4,21 +4,21 @@ use Rattle.std.specs.Prelude.{slice_get, slice_index, Bool}
 use Rattle.std.proofs.lemmas.Option.{slice_get_within, same_Some}
 use Rattle.type_table.specs.declared.table.ListMember.{ListMember}
 use Rattle.type_table.specs.trees.declared.types.ListKind.{ListKind}
-use Rattle.type_table.specs.names.Modules.{StandsIn}
+use Rattle.type_table.specs.names.Modules.{OccursIn}
 use Rattle.circles.specs.proving.Ranks.{parts, AreFrom, Rise, DefaultsAbove}
 use Rattle.circles.specs.proving.Reach.{HasDefault}
 use Rattle.type_table.specs.Seen.{part_of}
-use Rattle.circles.specs.Circles.{IsPart, referred, behind_tag, member, element, Reaches, itself, onward, IsDefaultCircle}
+use Rattle.circles.specs.Circles.{IsPart, referred, target_tag, member, element, Reaches, itself, onward, IsDefaultCircle}
 use Rattle.type_table.specs.Table.{Part, Kind, simple, reference, tagged, members, elements, Type'}
 use Rattle.circles.proofs.Circling.{leads_of_circle}
-use Rattle.type_table.specs.names.proving.Distinct.{stands_map as map_get, item_at}
+use Rattle.type_table.specs.names.proving.Distinct.{occurs_map as map_get, item_at}
 use Rattle.circles.proofs.Marking.{IsDefaultedBelow, last_or, same_at}
 
 -- what is a part is among the parts
-pub among : (j : ℕ) (k : Kind) → IsPart j k → StandsIn (parts k) j
+pub among : (j : ℕ) (k : Kind) → IsPart j k → OccursIn (parts k) j
 among j (simple p) h = elim h [ ]
 among j (reference k) referred = (0, refl)
-among j (tagged t w k) behind_tag = (0, refl)
+among j (tagged t w k) target_tag = (0, refl)
 among j (members l m cs) (member n c e q) = (n, map_get (λ (c : Part). c.ty) cs n c e ∙ ap Some q)
 among j (elements e k) element = (0, refl)
 

@@ -12,7 +12,7 @@ use Rattle.type_table.specs.Table.{Part, Kind, reference, tagged, members, eleme
 -- type k is one that a type of this kind refers to, tags or directly contains
 pub data IsPart (k : ℕ) : Kind → Type 0 where
   referred : IsPart k (reference k)
-  behind_tag : {g : Tag} {w : Keyword} → IsPart k (tagged g w k)
+  target_tag : {g : Tag} {w : Keyword} → IsPart k (tagged g w k)
   member : {l : ListKind} {m : Bool} {cs : List Part} (n : ℕ) (c : Part) →
       slice_get cs n ≡ Some c →
       c.ty ≡ k →

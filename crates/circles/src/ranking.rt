@@ -4,7 +4,7 @@
 
 use crate::ranks::{part, rank_at};
 use std::alloc::{AllocError, Global};
-use type_table::Written;
+use type_table::TypeNode;
 
 /// A type on the way, with the number of its next part, and its own number in the order in which the search came to it.
 #[derive(Clone, Copy, Drop)]
@@ -94,7 +94,7 @@ impl Ranking {
         Ok(())
     }
 
-    fn step(&mut self, types: &[Written], visit: Visit) -> Result<(), AllocError> {
+    fn step(&mut self, types: &[TypeNode], visit: Visit) -> Result<(), AllocError> {
         match types.get(visit.ty) {
             None => Ok(()),
             Some(written) => match part(written, visit.part) {
@@ -105,7 +105,7 @@ impl Ranking {
     }
 
     /// Visits all types that a type leads to.
-    fn search(&mut self, types: &[Written], start: usize) -> Result<(), AllocError> {
+    fn search(&mut self, types: &[TypeNode], start: usize) -> Result<(), AllocError> {
         self.come_to(start)?;
         for _turn in 0..u64::MAX {
             match self.way.pop() {
@@ -118,7 +118,7 @@ impl Ranking {
 }
 
 /// The ranks of all types. `AllocError` comes only if an allocation fails.
-pub(crate) fn ranks_of(alloc: Global, types: &[Written]) -> Result<Vec<usize>, AllocError> {
+pub(crate) fn ranks_of(alloc: Global, types: &[TypeNode]) -> Result<Vec<usize>, AllocError> {
     let mut ranking = Ranking {
         numbers: vec![in alloc; 0; types.len()]?,
         way: Vec::new(alloc),

@@ -6,7 +6,7 @@ ghost use Rattle.circles.specs.proving.Reach.{HasDefault};
 ghost use Rattle.type_table.specs.Seen.{part_of, type_of, types_of};
 
 use crate::reach::has_default;
-use type_table::{ListMember, Shape, Written};
+use type_table::{ListMember, Shape, TypeNode};
 
 /// The rank of a type.
 pub(crate) fn rank_at(ranks: &[usize], ty: usize) -> usize
@@ -35,7 +35,7 @@ fn member_type(components: &[ListMember], number: usize) -> Option<usize>
 
 /// A part of a type: a type that it directly contains or refers to, by its number among the parts, or None if it has
 /// fewer.
-pub(crate) fn part(written: &Written, number: usize) -> Option<usize>
+pub(crate) fn part(written: &TypeNode, number: usize) -> Option<usize>
     ensures { result ≡ slice_get (parts (type_of written.now).kind) number }
 {
     match &written.shape {
@@ -47,7 +47,7 @@ pub(crate) fn part(written: &Written, number: usize) -> Option<usize>
     }
 }
 
-fn part_count(written: &Written) -> usize
+fn part_count(written: &TypeNode) -> usize
     ensures { result ≡ length (parts (type_of written.now).kind) }
 {
     match &written.shape {
@@ -60,7 +60,7 @@ fn part_count(written: &Written) -> usize
 }
 
 /// Whether the part with this number, if there is one, has a rank of at least `rank`.
-fn rises(written: &Written, number: usize, rank: usize, ranks: &[usize]) -> bool
+fn rises(written: &TypeNode, number: usize, rank: usize, ranks: &[usize]) -> bool
     ensures { IsTrue result →
         (j : ℕ) →
         slice_get (parts (type_of written.now).kind) number ≡ Some j →
@@ -73,7 +73,7 @@ fn rises(written: &Written, number: usize, rank: usize, ranks: &[usize]) -> bool
 }
 
 /// Whether no part of a type has a rank below `rank`.
-fn parts_rise(written: &Written, rank: usize, ranks: &[usize]) -> bool
+fn parts_rise(written: &TypeNode, rank: usize, ranks: &[usize]) -> bool
     ensures { IsTrue result → AreFrom rank ranks.now (type_of written.now).kind }
 {
     for number in 0..part_count(written) {
@@ -85,7 +85,7 @@ fn parts_rise(written: &Written, rank: usize, ranks: &[usize]) -> bool
 }
 
 /// Whether no part of any type has a lower rank than the type.
-pub(crate) fn all_rise(types: &[Written], ranks: &[usize]) -> bool
+pub(crate) fn all_rise(types: &[TypeNode], ranks: &[usize]) -> bool
     ensures { IsTrue result → Rise (types_of types.now) ranks.now }
 {
     for ty in 0..types.len() {

@@ -1,15 +1,15 @@
 //! Searches for the types that a type leads to, through references, tags, members and elements.
 
 ghost use Rattle.std.specs.Prelude.{ℕ, Bool, ◌≡◌, ◌<◌, ◌≤◌, ◌↔◌, length, slice_get, map, IfOk, OnOk, IsTrue};
-ghost use Rattle.type_table.specs.names.Modules.{StandsIn};
+ghost use Rattle.type_table.specs.names.Modules.{OccursIn};
 ghost use Rattle.type_table.specs.Table.{Part, members};
 ghost use Rattle.type_table.specs.Seen.{part_of, type_of, types_of};
 ghost use Rattle.circles.specs.Circles.{IsPart};
-ghost use Rattle.circles.specs.proving.Reach.{HasParts, HasDefault, IsDefaulted, LeadsTo, IsMarked, AreUpTo, Marks, MarksReached};
+ghost use Rattle.circles.specs.proving.Reach.{HasParts, HasDefault, IsDefaulted, DefaultPath, IsMarked, AreUpTo, Marks, MarksReached};
 
 use std::alloc::{AllocError, Global};
 use type_table::trees::{ListKind, PresenceSyntax};
-use type_table::{ListMember, Shape, Written};
+use type_table::{ListMember, Shape, TypeNode};
 
 /// Marks a type and adds it to the waiting types, unless this search has marked it before.
 fn mark(
@@ -97,7 +97,7 @@ fn mark_defaults(
 
 /// Marks the types that a type directly contains or refers to.
 fn mark_parts(
-    written: &Written,
+    written: &TypeNode,
     search: usize,
     marks: &mut [usize],
     waiting: &mut Vec<usize>,
@@ -130,15 +130,15 @@ fn mark_parts(
 /// Marks all types that the marked types lead to. Each type waits at most once, so the time is linear in the types that
 /// are reached.
 fn mark_reached(
-    types: &[Written],
+    types: &[TypeNode],
     search: usize,
     marks: &mut [usize],
     waiting: &mut Vec<usize>,
 ) -> Result<(), AllocError>
     requires parts { HasParts (types_of types.now) }
     requires long { length marks.old ≡ length types.now }
-    requires wait { (j : ℕ) → IsMarked search marks.old j → StandsIn waiting.old.items j }
-    requires marked { (j : ℕ) → StandsIn waiting.old.items j → IsMarked search marks.old j }
+    requires wait { (j : ℕ) → IsMarked search marks.old j → OccursIn waiting.old.items j }
+    requires marked { (j : ℕ) → OccursIn waiting.old.items j → IsMarked search marks.old j }
     ensures { OnOk result (MarksReached (types_of types.now) search marks.old marks.new) }
 {
     while let Some(at) = waiting.pop() {
@@ -150,7 +150,7 @@ fn mark_reached(
 /// Whether a component with a DEFAULT leads to this type.
 pub(crate) fn lead_to(
     alloc: Global,
-    types: &[Written],
+    types: &[TypeNode],
     components: &[ListMember],
     ty: usize,
     search: usize,
@@ -161,7 +161,7 @@ pub(crate) fn lead_to(
     requires there { ty < length types.now }
     requires inside { (k : ℕ) → IsDefaulted (map part_of components.now) k → k < length types.now }
     requires earlier { (j n : ℕ) → slice_get marks.old j ≡ Some n → n < search }
-    ensures found { IfOk result (λ b. IsTrue b ↔ LeadsTo (types_of types.now) (map part_of components.now) ty) }
+    ensures found { IfOk result (λ b. IsTrue b ↔ DefaultPath (types_of types.now) (map part_of components.now) ty) }
     ensures marks { OnOk result (AreUpTo search marks.new) }
 {
     let mut waiting = Vec::new(alloc);

@@ -11,7 +11,7 @@ use crate::ranking::ranks_of;
 use crate::ranks::{all_rise, defaults_rise, rank_at};
 use crate::reach::lead_to;
 use std::alloc::{AllocError, Global};
-use type_table::{ListMember, Shape, Written};
+use type_table::{ListMember, Shape, TypeNode};
 
 /// Whether ranks rise, and the types of a list's components with a DEFAULT have higher ranks than the list.
 fn is_above(ranks: &[usize], rise: bool, list: usize, components: &[ListMember]) -> bool
@@ -25,7 +25,7 @@ fn is_above(ranks: &[usize], rise: bool, list: usize, components: &[ListMember])
 /// have higher ones, they don't. Otherwise the function searches what they lead to for the list.
 fn is_in_circle(
     alloc: Global,
-    types: &[Written],
+    types: &[TypeNode],
     ranks: &[usize],
     rise: bool,
     list: usize,
@@ -54,7 +54,7 @@ fn is_in_circle(
 /// The first list in a circle, or None if there is none.
 fn first_circle(
     alloc: Global,
-    types: &[Written],
+    types: &[TypeNode],
     ranks: &[usize],
     rise: bool,
     marks: &mut [usize],
@@ -78,7 +78,7 @@ fn first_circle(
 /// Returns the number of the first list in a circle, or None. The list has a component with a DEFAULT whose type leads
 /// back to it (X.680, clause 25.7). Types in a circle have one rank, so only one list needs a search. `AllocError`
 /// comes only if an allocation fails.
-pub fn circle_of(alloc: Global, types: &[Written]) -> Result<Option<usize>, AllocError>
+pub fn circle_of(alloc: Global, types: &[TypeNode]) -> Result<Option<usize>, AllocError>
     requires closed { IsClosed (types_of types.now) }
     requires parts { HasMembers (types_of types.now) }
     requires inner { HasElements (types_of types.now) }

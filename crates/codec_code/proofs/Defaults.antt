@@ -6,7 +6,7 @@ use Rattle.asn_base.specs.Abstract.{AbstractValue, null}
 use Rattle.asn_base.specs.Types.{Presence, mandatory, optional, default, addition, Component, Resolved, Kind, a_sequence, a_set}
 use Rattle.asn_base.specs.Same.{Same, IsLeaf, Alike, alike, AlikeBy, equal, zeros, alike_sequence, alike_set, alike_sequence_of, alike_set_of, alike_choice}
 use Rattle.asn_base.specs.Schemas.{HasValue, IsSchema, IsSound, components}
-use Rattle.asn_base.specs.Typed.{IsValueWithoutNodes, Fits, fits_boolean, fits_integer, ValueIn, value_in as in_type, ValueOf, of_leaf, of_sequence, of_set, of_sequence_of, of_set_of, of_choice}
+use Rattle.asn_base.specs.Typed.{IsValueWithoutNodes, IsPrimitive, fits_boolean, fits_integer, ValueIn, value_in as in_type, ValueOf, of_leaf, of_sequence, of_set, of_sequence_of, of_set_of, of_choice}
 use Rattle.codec_code.specs.Plain.{IsPlain}
 use Rattle.codec_code.specs.Routines.{component_in}
 use Rattle.codec_code.specs.Steps.{IsDefaultAt, IsTheDefault}
@@ -31,7 +31,7 @@ never : IsTrue false → ⊥
 never e = cc
 
 component_is : {s : List Resolved} {t i : ℕ} {w : AbstractValue} → (a : IsDefaultAt s t i w) → component_in s t i ≡ Some a.component
-component_is {i = i} a = ap (of_type i) a.is.found ∙ a.stands
+component_is {i = i} a = ap (of_type i) a.is.found ∙ a.is_at
 
 pub of_none : (s : List Resolved) (t i : ℕ) (w : AbstractValue) → component_in s t i ≡ None → IsTrue false ↔ IsDefaultAt s t i w
 of_none s t i w e = ((λ z. absurd (never z)), λ a. absurd (none_some (sym e ∙ component_is a)))
@@ -44,7 +44,7 @@ type_there i (Some r) c e = (r, refl, e)
 pub of_component : (b : Bool) (s : List Resolved) (t i : ℕ) (c : Component) (w : AbstractValue) → component_in s t i ≡ Some c → IsTrue b ↔ IsTheDefault s c w → IsTrue b ↔ IsDefaultAt s t i w
 of_component b s t i c w e h =
     let r = type_there i (slice_get s t) c e in (
-      (λ z. record { tags = r.0.tags; kind = r.0.kind; is = record { found = r.1 }; component = c; stands = r.2; is_the_default = h.0 z }),
+      (λ z. record { tags = r.0.tags; kind = r.0.kind; is = record { found = r.1 }; component = c; is_at = r.2; is_the_default = h.0 z }),
       λ a. h.1 (subst (λ q. IsTheDefault s q w) (some_same (sym (component_is a) ∙ e)) a.is_the_default),
     )
 
@@ -88,7 +88,7 @@ not_of_type b s t v w e h = ((λ z. absurd (never z)), λ a. absurd (never (subs
 
 -- ---- a truth or a number is the same as an equal one alone
 
-plain_leaf : {k : Kind} {w : AbstractValue} → IsPlain w → Fits k w → IsLeaf k
+plain_leaf : {k : Kind} {w : AbstractValue} → IsPlain w → IsPrimitive k w → IsLeaf k
 plain_leaf p fits_boolean = tt
 plain_leaf p (fits_integer l a) = tt
 plain_leaf p f = absurd p

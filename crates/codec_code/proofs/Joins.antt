@@ -1,7 +1,7 @@
 -- Trees one after the other.
 use Rattle.std.proofs.Common.{◌≡◌, ℕ, true, List, [], ◌∷◌, ◌++◌, length, refl, sym, ap, ◌∙◌, append_assoc}
 use Rattle.encodings.specs.Fewest.{shortest_header}
-use Rattle.codec_code.specs.Events.{opens, puts, closes, leaves_out, row_of_order, Tree, done, piece, lacking, within, ordered, flat, flats, StandsFor}
+use Rattle.codec_code.specs.Events.{opens, puts, closes, leaves_out, row_of_order, Tree, done, piece, lacking, within, ordered, flat, flats, HasOctets}
 
 abbrev pub join : Tree → Tree → Tree
 join done u = u
@@ -20,14 +20,14 @@ flat_join (ordered g o ms t) u = ap (λ q. opens g true (row_of_order o) ∷ q) 
 pub record Joined (t u : Tree) (o : List ℕ) : Type 0 where
   pub first : List ℕ
   pub second : List ℕ
-  pub one : StandsFor t first
-  pub two : StandsFor u second
+  pub one : HasOctets t first
+  pub two : HasOctets u second
   pub whole : o ≡ first ++ second
 
-behind_header : (d x y z : List ℕ) → d ++ (x ++ (y ++ z)) ≡ (d ++ (x ++ y)) ++ z
-behind_header d x y z = ap (λ q. d ++ q) (sym (append_assoc x y z)) ∙ sym (append_assoc d (x ++ y) z)
+rest_after_header : (d x y z : List ℕ) → d ++ (x ++ (y ++ z)) ≡ (d ++ (x ++ y)) ++ z
+rest_after_header d x y z = ap (λ q. d ++ q) (sym (append_assoc x y z)) ∙ sym (append_assoc d (x ++ y) z)
 
-pub joined : (t u : Tree) (o : List ℕ) → StandsFor (join t u) o → Joined t u o
+pub joined : (t u : Tree) (o : List ℕ) → HasOctets (join t u) o → Joined t u o
 joined done u o h = record { first = []; second = o; one = refl; two = h; whole = refl }
 joined (piece x t) u o h =
     let p = joined t u h.0 h.1 in
@@ -43,7 +43,7 @@ joined (within g c k i t) u o h =
       second = p.second;
       one = (h.0, p.first, h.2, p.one, refl);
       two = p.two;
-      whole = h.4 ∙ ap (λ q. d ++ (h.0 ++ q)) p.whole ∙ behind_header d h.0 p.first p.second;
+      whole = h.4 ∙ ap (λ q. d ++ (h.0 ++ q)) p.whole ∙ rest_after_header d h.0 p.first p.second;
     }
 joined (ordered g o' ms t) u o h =
     let p = joined t u h.3 h.7 in
@@ -53,5 +53,5 @@ joined (ordered g o' ms t) u o h =
       second = p.second;
       one = (h.0, h.1, h.2, p.first, h.4, h.5, h.6, p.one, refl);
       two = p.two;
-      whole = h.8 ∙ ap (λ q. d ++ (h.2 ++ q)) p.whole ∙ behind_header d h.2 p.first p.second;
+      whole = h.8 ∙ ap (λ q. d ++ (h.2 ++ q)) p.whole ∙ rest_after_header d h.2 p.first p.second;
     }

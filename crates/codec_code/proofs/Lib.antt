@@ -1,12 +1,10 @@
 pub mod Table
-pub mod Wrapped
 pub mod Joins
-pub mod Inversion
 pub mod Leaves
 pub mod Permuted
 pub mod Ranks
-pub mod Told
-pub mod Stands
+pub mod EventsEncode
+pub mod RoutineEncodes
 pub mod Some
 pub mod Defaults
 pub mod BriefLists

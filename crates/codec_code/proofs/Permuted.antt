@@ -6,7 +6,7 @@ use Rattle.std.specs.List.Sorted.{IsPermutation}
 use Rattle.std.proofs.lemmas.List.Sorted.{IsPermutation-keeps, IsPermutation-map, All-permutation}
 use Rattle.std.proofs.lemmas.List.Elements.{All-from_recursion, recursion_from_All}
 use Rattle.encodings.specs.Orders.{Permutes, permutes_none, permutes_more, Inserted, here, there}
-use Rattle.codec_code.specs.Events.{Part, encodings_of}
+use Rattle.codec_code.specs.Events.{SetMember, encodings_of}
 
 record Both (P Q : List (List ℕ) → Type 0) : Type 0 where
   it : List (List ℕ)
@@ -52,10 +52,10 @@ swap_permutes : (l : List (List ℕ)) (i j : ℕ) → i < length l → j < lengt
 swap_permutes [] i j g h = absurd (omega arith)
 swap_permutes (d ∷ l) i j g h = swapped d (d ∷ l) i j g h
 
-pub permutes_from : (ps qs : List Part) → IsPermutation ps qs → Permutes (encodings_of ps) (encodings_of qs)
+pub permutes_from : (ps qs : List SetMember) → IsPermutation ps qs → Permutes (encodings_of ps) (encodings_of qs)
 permutes_from ps qs h = IsPermutation-keeps (encodings_of ps) (λ l. Permutes (encodings_of ps) l) (permutes_same (encodings_of ps)) (λ l i j g k p. permutes_both p (swap_permutes l i j g k)) (encodings_of qs) (IsPermutation-map (λ p. p.octets) ps qs h)
 
-pub all_from : (P : Part → Type 0) (ps qs : List Part) → IsPermutation ps qs → AllByRecursion P ps → AllByRecursion P qs
+pub all_from : (P : SetMember → Type 0) (ps qs : List SetMember) → IsPermutation ps qs → AllByRecursion P ps → AllByRecursion P qs
 all_from P ps qs h a = recursion_from_All P qs (All-permutation P ps qs h (All-from_recursion P ps a))
 
 inserted_length : {x : List ℕ} {ys zs : List (List ℕ)} → Inserted x ys zs → length (concat zs) ≡ length x + length (concat ys)

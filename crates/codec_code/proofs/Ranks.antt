@@ -16,7 +16,7 @@ use Rattle.asn_base.specs.Types.{Component, Resolved}
 use Rattle.encodings.specs.Rules.{Distinguished}
 use Rattle.encodings.specs.Orders.{Ascending, ascending_none, ascending_one, ascending_more, BeginsWith, InTagOrder}
 use Rattle.encodings.specs.Encoding.{Framed, innermost, outer}
-use Rattle.codec_code.specs.Events.{Part, encodings_of, RanksAscend}
+use Rattle.codec_code.specs.Events.{SetMember, encodings_of, RanksAscend}
 use Rattle.codec_code.specs.Routines.{before, both_before, outermost, tags_at, rank}
 
 bool_cases : (b : Bool) → (b ≡ true) ⊎ (b ≡ false)
@@ -121,20 +121,20 @@ in_tag_order : (s : List Resolved) (cs : List Component) (g f : Tag) → rank_at
 in_tag_order s cs g f lt = ⊎_elim (λ e. before_is g f e) (λ e. absurd (let l = no_less s cs f g (not_before g f e) in omega arith)) (bool_cases (before g f))
 
 -- an encoding that begins with the tag of its rank
-pub record HasRank (s : List Resolved) (cs : List Component) (p : Part) : Type 0 where
+pub record HasRank (s : List Resolved) (cs : List Component) (p : SetMember) : Type 0 where
   pub tag : Tag
   pub begins : BeginsWith tag p.octets
   pub rank_is : p.rank ≡ rank_at s cs tag
 
-ordered_two : (s : List Resolved) (cs : List Component) (p q : Part) → HasRank s cs p → HasRank s cs q → p.rank < q.rank → InTagOrder p.octets q.octets
+ordered_two : (s : List Resolved) (cs : List Component) (p q : SetMember) → HasRank s cs p → HasRank s cs q → p.rank < q.rank → InTagOrder p.octets q.octets
 ordered_two s cs p q a b lt = record { former = a.tag; latter = b.tag; begins_former = a.begins; begins_latter = b.begins; before = in_tag_order s cs a.tag b.tag (let e = a.rank_is in let f = b.rank_is in omega arith) }
 
 -- each rank is less than those after it
-abbrev pub RanksRise : List Part → Type 0
+abbrev pub RanksRise : List SetMember → Type 0
 RanksRise [] = Unit {0}
 RanksRise (p ∷ ps) = AllByRecursion (λ q. p.rank < q.rank) ps × RanksRise ps
 
-pub ordered_all : (s : List Resolved) (cs : List Component) (ps : List Part) → AllByRecursion (HasRank s cs) ps → RanksRise ps → Ascending InTagOrder (encodings_of ps)
+pub ordered_all : (s : List Resolved) (cs : List Component) (ps : List SetMember) → AllByRecursion (HasRank s cs) ps → RanksRise ps → Ascending InTagOrder (encodings_of ps)
 ordered_all s cs [] a r = ascending_none
 ordered_all s cs (p ∷ []) a r = ascending_one
 ordered_all s cs (p ∷ q ∷ ps) a r = ascending_more (ordered_two s cs p q a.0 a.1.0 r.0.0) (ordered_all s cs (q ∷ ps) a.1 r.1)
@@ -145,15 +145,15 @@ abbrev pub one_at : ℕ → ℕ → ℕ
 one_at r n = one_if (n == r)
 
 -- how many parts have this rank
-abbrev pub times : ℕ → List Part → ℕ
+abbrev pub times : ℕ → List SetMember → ℕ
 times r [] = 0
 times r (p ∷ ps) = one_at r p.rank + times r ps
 
-times_sum : (r : ℕ) (ps : List Part) → times r ps ≡ sum_by (λ p. one_at r p.rank) ps
+times_sum : (r : ℕ) (ps : List SetMember) → times r ps ≡ sum_by (λ p. one_at r p.rank) ps
 times_sum r [] = refl
 times_sum r (p ∷ ps) = ap (λ n. one_at r p.rank + n) (times_sum r ps) ∙ sym (sum_by-cons (λ p. one_at r p.rank) p ps)
 
-pub times_same : (r : ℕ) (ps qs : List Part) → IsPermutation ps qs → times r qs ≡ times r ps
+pub times_same : (r : ℕ) (ps qs : List SetMember) → IsPermutation ps qs → times r qs ≡ times r ps
 times_same r ps qs h = times_sum r qs ∙ sum_by-IsPermutation (λ p. one_at r p.rank) ps qs h ∙ sym (times_sum r ps)
 
 one_itself : (r n : ℕ) → n ≡ r → one_at r n ≡ 1
@@ -162,12 +162,12 @@ one_itself r n e = ap one_if (eq-eqb n r e)
 less_from : (m n : ℕ) → m ≤ n → (n ≡ m → ⊥) → m < n
 less_from m n h d = ⊎_elim (λ l. l) (λ e. absurd (d e)) (less_or_equal m n h)
 
-all_less : (n : ℕ) (ps : List Part) → AllByRecursion (λ q. n ≤ q.rank) ps → times n ps ≡ 0 → AllByRecursion (λ q. n < q.rank) ps
+all_less : (n : ℕ) (ps : List SetMember) → AllByRecursion (λ q. n ≤ q.rank) ps → times n ps ≡ 0 → AllByRecursion (λ q. n < q.rank) ps
 all_less n [] a h = tt
 all_less n (q ∷ ps) a h =
     (less_from n q.rank a.0 (λ e. let k = one_itself n q.rank e in omega (arith, h, k)), all_less n ps a.1 (omega (arith, h)))
 
-pub rising : (ps : List Part) → ((r : ℕ) → times r ps ≤ 1) → RanksAscend ps → RanksRise ps
+pub rising : (ps : List SetMember) → ((r : ℕ) → times r ps ≤ 1) → RanksAscend ps → RanksRise ps
 rising [] o a = tt
 rising (p ∷ ps) o a =
     let i = one_itself p.rank p.rank refl in
@@ -181,9 +181,9 @@ abbrev IsAmong : List Resolved → List Component → Tag → Type 0
 IsAmong s [] g = ⊥
 IsAmong s (c ∷ cs) g = (tags_at s c.type ≡ Some g) ⊎ IsAmong s cs g
 
-behind : (g f : Tag) → TagBefore g f → NotBefore f g
-behind g f (inl l) = record { classes = omega (arith, l); numbers = λ q. absurd (omega (arith, l, q)) }
-behind g f (inr r) = let a = r.0 in let b = r.1 in record { classes = omega (arith, a); numbers = λ q. omega (arith, b) }
+following : (g f : Tag) → TagBefore g f → NotBefore f g
+following g f (inl l) = record { classes = omega (arith, l); numbers = λ q. absurd (omega (arith, l, q)) }
+following g f (inr r) = let a = r.0 in let b = r.1 in record { classes = omega (arith, a); numbers = λ q. omega (arith, b) }
 
 not_itself : (g : Tag) → before g g ≡ false
 not_itself g = ⊎_elim (λ e. absurd (⊎_elim (λ l. omega (arith, l)) (λ r. let l = r.1 in omega (arith, l)) (before_is g g e))) (λ e. e) (bool_cases (before g g))
@@ -193,10 +193,10 @@ rank_less s [] g f b i = absurd i
 rank_less s (c ∷ cs) g f b (inl e) =
     let x : one_if (both_before (tags_at s c.type) (Some g)) ≡ 0 = ap (λ o. one_if (both_before o (Some g))) e ∙ ap one_if (not_itself g) in
     let y : one_if (both_before (tags_at s c.type) (Some f)) ≡ 1 = ap (λ o. one_if (both_before o (Some f))) e ∙ ap one_if (is_before g f b) in
-    let z = no_less s cs g f (behind g f b) in
+    let z = no_less s cs g f (following g f b) in
     omega (arith, x, y, z)
 rank_less s (c ∷ cs) g f b (inr i) =
-    let x = as_many (tags_at s c.type) g f (behind g f b) in
+    let x = as_many (tags_at s c.type) g f (following g f b) in
     let z = rank_less s cs g f b i in
     omega (arith, x, z)
 

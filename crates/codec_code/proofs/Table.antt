@@ -17,10 +17,10 @@ drop_front [] ys = refl
 drop_front (x ∷ xs) ys = drop_front xs ys
 
 -- the steps before a routine, the routine, and the steps after it
-pub record RoutineStands (s : List Resolved) (n : ℕ) (rs : List Resolved) (t : ℕ) (r : Resolved) : Type 0 where
+pub record RoutineAt (s : List Resolved) (n : ℕ) (rs : List Resolved) (t : ℕ) (r : Resolved) : Type 0 where
   pub front : List Step
-  pub behind : List Step
-  pub whole : flat_map (routine_of s) rs ≡ front ++ (routine_of s r ++ behind)
+  pub following : List Step
+  pub whole : flat_map (routine_of s) rs ≡ front ++ (routine_of s r ++ following)
   pub from : slice_get (starts_from s n rs) t ≡ Some (n + length front)
   pub to : slice_get (starts_from s n rs) (suc t) ≡ Some (n + length front + length (routine_of s r))
 
@@ -28,24 +28,24 @@ starts_first : (s : List Resolved) (n : ℕ) (rs : List Resolved) → slice_get 
 starts_first s n [] = refl
 starts_first s n (r ∷ rs) = refl
 
-pub stands : (s : List Resolved) (n : ℕ) (rs : List Resolved) (t : ℕ) (r : Resolved) → slice_get rs t ≡ Some r → RoutineStands s n rs t r
-stands s n [] t r e = absurd (cc)
-stands s n (q ∷ rs) zero r e =
+pub is_at : (s : List Resolved) (n : ℕ) (rs : List Resolved) (t : ℕ) (r : Resolved) → slice_get rs t ≡ Some r → RoutineAt s n rs t r
+is_at s n [] t r e = absurd (cc)
+is_at s n (q ∷ rs) zero r e =
     let same : q ≡ r = some_same e in
     record {
       front = [];
-      behind = flat_map (routine_of s) rs;
+      following = flat_map (routine_of s) rs;
       whole = ap (λ k. routine_of s k ++ flat_map (routine_of s) rs) same;
       from = ap Some (let z : n ≡ n + 0 = omega arith in z);
       to = starts_first s (n + length (routine_of s q)) rs ∙ ap (λ k. Some (n + length (routine_of s k))) same ∙ ap Some (let z : n + length (routine_of s r) ≡ n + 0 + length (routine_of s r) = omega arith in z);
     }
-stands s n (q ∷ rs) (suc t) r e =
-    let p = stands s (n + length (routine_of s q)) rs t r e in
+is_at s n (q ∷ rs) (suc t) r e =
+    let p = is_at s (n + length (routine_of s q)) rs t r e in
     let l = length-append (routine_of s q) p.front in
     record {
       front = routine_of s q ++ p.front;
-      behind = p.behind;
-      whole = ap (λ k. routine_of s q ++ k) p.whole ∙ sym (append_assoc (routine_of s q) p.front (routine_of s r ++ p.behind));
+      following = p.following;
+      whole = ap (λ k. routine_of s q ++ k) p.whole ∙ sym (append_assoc (routine_of s q) p.front (routine_of s r ++ p.following));
       from = p.from ∙ ap Some (omega (arith, l));
       to = p.to ∙ ap Some (omega (arith, l));
     }
@@ -95,18 +95,18 @@ between_there s t a b h f g' =
     let q = found s t h in
     let r = q.0 in
     let g : slice_get (starts_of s) (suc t) ≡ Some b = ap (slice_get (starts_of s)) (sym (next t)) ∙ g' in
-    let p = stands s 0 s t r q.1 in
+    let p = is_at s 0 s t r q.1 in
     let i : a ≡ length p.front = some_same (sym f ∙ p.from) ∙ (let z : 0 + length p.front ≡ length p.front = omega arith in z) in
     let j : b ≡ length p.front + length (routine_of s r) = some_same (sym g ∙ p.to) ∙ (let z : 0 + length p.front + length (routine_of s r) ≡ length p.front + length (routine_of s r) = omega arith in z) in
     let w = ap length p.whole in
-    let l = length-append p.front (routine_of s r ++ p.behind) in
-    let m = length-append (routine_of s r) p.behind in
-    let d : drop a (table_of s) ≡ routine_of s r ++ p.behind = ap (λ k. drop k (table_of s)) i ∙ ap (drop (length p.front)) p.whole ∙ drop_front p.front (routine_of s r ++ p.behind) in
+    let l = length-append p.front (routine_of s r ++ p.following) in
+    let m = length-append (routine_of s r) p.following in
+    let d : drop a (table_of s) ≡ routine_of s r ++ p.following = ap (λ k. drop k (table_of s)) i ∙ ap (drop (length p.front)) p.whole ∙ drop_front p.front (routine_of s r ++ p.following) in
     let n : b - a ≡ length (routine_of s r) = omega (arith, i, j) in
     record {
       order = omega (arith, i, j);
       within = omega (arith, j, w, l, m);
-      is = ap (λ k. take k (drop a (table_of s))) n ∙ ap (take (length (routine_of s r))) d ∙ take_front (routine_of s r) p.behind
+      is = ap (λ k. take k (drop a (table_of s))) n ∙ ap (take (length (routine_of s r))) d ∙ take_front (routine_of s r) p.following
           ∙ sym (ap (λ o. elim o [ None ↦ [] | Some k ↦ routine_of s k ]) q.1);
     }
 
@@ -129,12 +129,12 @@ is_routine steps starts s t a b d e f g = (between steps starts s t a b d e f g)
 
 pub no_start : (starts : List ℕ) (s : List Resolved) (t : ℕ) → starts ≡ starts_of s → slice_get starts t ≡ None → [] ≡ routine_at s t
 no_start starts s t d e = ⊎_elim
-    (λ l. let q = found s t l in absurd (none_some (sym (stands s 0 s t q.0 q.1).from ∙ ap (λ k. slice_get k t) (sym d) ∙ e)))
+    (λ l. let q = found s t l in absurd (none_some (sym (is_at s 0 s t q.0 q.1).from ∙ ap (λ k. slice_get k t) (sym d) ∙ e)))
     (λ g. sym (no_routine s t g))
     (less t (length s))
 
 pub no_end : (starts : List ℕ) (s : List Resolved) (t : ℕ) → starts ≡ starts_of s → slice_get starts (t + 1) ≡ None → [] ≡ routine_at s t
 no_end starts s t d e = ⊎_elim
-    (λ l. let q = found s t l in absurd (none_some (sym (stands s 0 s t q.0 q.1).to ∙ ap (slice_get (starts_of s)) (sym (next t)) ∙ ap (λ k. slice_get k (t + 1)) (sym d) ∙ e)))
+    (λ l. let q = found s t l in absurd (none_some (sym (is_at s 0 s t q.0 q.1).to ∙ ap (slice_get (starts_of s)) (sym (next t)) ∙ ap (λ k. slice_get k (t + 1)) (sym d) ∙ e)))
     (λ g. sym (no_routine s t g))
     (less t (length s))

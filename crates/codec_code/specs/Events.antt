@@ -18,7 +18,7 @@ pub data Event : Type 0 where
   -- a component isn't written: it is the same as its DEFAULT, or it is absent and has none
   leaves_out : (with_default : Bool) → Event
   -- a member of a SET OF ends, or a component of a SET that is written ends, which has this rank
-  parts : (rank : ℕ) → Event
+  ends_member : (rank : ℕ) → Event
 
 -- the order of the members: of a SET OF by their octets, of a SET by the ranks of the components
 pub data Order : Type 0 where
@@ -57,48 +57,48 @@ abbrev mutual
   pub flats : Members → List Event
   flats no_member = []
   flats (no_component d ms) = leaves_out d ∷ flats ms
-  flats (member r i ms) = flat i ++ parts r ∷ flats ms
+  flats (member r i ms) = flat i ++ ends_member r ∷ flats ms
 
 -- an encoding of a member, and the rank of its component
-pub record Part : Type 0 where
+pub record SetMember : Type 0 where
   pub rank : ℕ
   pub octets : Octets
 
 -- the ranks ascend
-abbrev pub RanksAscend : List Part → Type 0
+abbrev pub RanksAscend : List SetMember → Type 0
 RanksAscend [] = Unit {0}
 RanksAscend (p ∷ ps) = AllByRecursion (λ q. p.rank ≤ q.rank) ps × RanksAscend ps
 
-abbrev pub encodings_of : List Part → Encodings
+abbrev pub encodings_of : List SetMember → Encodings
 encodings_of = map (λ p. p.octets)
 
 -- Encodings of a SET OF ascend, compared as octets (X.690, 11.6). Encodings of a SET are in the order of their tags
 -- (10.3).
-abbrev pub InOrder : Order → List Part → Type 0
+abbrev pub InOrder : Order → List SetMember → Type 0
 InOrder by_octets ps = Ascending AtMost (encodings_of ps)
 InOrder by_rank ps = RanksAscend ps
 
 -- qs are the parts ps, put in order
-pub record Arranged (o : Order) (ps qs : List Part) : Type 0 where
+pub record Arranged (o : Order) (ps qs : List SetMember) : Type 0 where
   pub same : IsPermutation ps qs
   pub in_order : InOrder o qs
 
 abbrev mutual
   -- the octets that a tree means: each header has the fewest octets, and members of a SET or SET OF are in order
-  pub StandsFor : Tree → Octets → Type 0
-  StandsFor done o = o ≡ []
-  StandsFor (piece x t) o = (y : Octets) × StandsFor t y × (o ≡ x ++ y)
-  StandsFor (lacking d t) o = StandsFor t o
-  StandsFor (within g c k i t) o =
-      (x : Octets) × (y : Octets) × StandsFor i x × StandsFor t y × (o ≡ shortest_header g c (length x) ++ (x ++ y))
-  StandsFor (ordered g a ms t) o =
-      (ps : List Part) × (qs : List Part) × (x : Octets) × (y : Octets)
-      × PartsOf ms ps × Arranged a ps qs × (x ≡ concat (encodings_of qs)) × StandsFor t y
+  pub HasOctets : Tree → Octets → Type 0
+  HasOctets done o = o ≡ []
+  HasOctets (piece x t) o = (y : Octets) × HasOctets t y × (o ≡ x ++ y)
+  HasOctets (lacking d t) o = HasOctets t o
+  HasOctets (within g c k i t) o =
+      (x : Octets) × (y : Octets) × HasOctets i x × HasOctets t y × (o ≡ shortest_header g c (length x) ++ (x ++ y))
+  HasOctets (ordered g a ms t) o =
+      (ps : List SetMember) × (qs : List SetMember) × (x : Octets) × (y : Octets)
+      × PartsOf ms ps × Arranged a ps qs × (x ≡ concat (encodings_of qs)) × HasOctets t y
       × (o ≡ shortest_header g true (length x) ++ (x ++ y))
 
   -- the parts of the members that are written
-  pub PartsOf : Members → List Part → Type 0
+  pub PartsOf : Members → List SetMember → Type 0
   PartsOf no_member ps = ps ≡ []
   PartsOf (no_component d ms) ps = PartsOf ms ps
   PartsOf (member r i ms) ps =
-      (x : Octets) × (qs : List Part) × StandsFor i x × PartsOf ms qs × (ps ≡ record { rank = r; octets = x } ∷ qs)
+      (x : Octets) × (qs : List SetMember) × HasOctets i x × PartsOf ms qs × (ps ≡ record { rank = r; octets = x } ∷ qs)

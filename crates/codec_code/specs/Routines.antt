@@ -12,13 +12,13 @@ use Rattle.asn_base.specs.Types.{a_restricted_string, a_sequence, a_set, a_seque
 use Rattle.codec_code.specs.declared.step.RowKind.{RowKind}
 use Rattle.codec_code.specs.declared.step.RowKind.TheVariants as rows
 use Rattle.encodings.specs.declared.leaf_kind.LeafKind.TheVariants as leaves
-use Rattle.codec_code.specs.declared.step.Need.{Need}
-use Rattle.codec_code.specs.declared.step.Need.TheVariants.{Mandatory, Optional, Default, Addition}
+use Rattle.codec_code.specs.declared.step.FieldPresence.{FieldPresence}
+use Rattle.codec_code.specs.declared.step.FieldPresence.TheVariants.{Mandatory, Optional, Default, Addition}
 use Rattle.codec_code.specs.declared.step.Coding.{Coding}
 use Rattle.codec_code.specs.declared.step.Coding.TheVariants.{Tagged, Per}
 use Rattle.codec_code.specs.declared.step.Field.{Field as Field'}
 use Rattle.codec_code.specs.declared.step.Step.{Step}
-use Rattle.codec_code.specs.declared.step.Step.TheVariants.{Head, Leaf, Field, Ranked, Each, EachSorted, Pick}
+use Rattle.codec_code.specs.declared.step.Step.TheVariants.{Head, Leaf, Field, SetComponent, Each, EachSorted, Pick}
 use Rattle.codec_code.specs.declared.step.Step.TheVariants.{Call, Rest, End}
 
 abbrev pub id_of : TypeNumber → TypeId
@@ -50,7 +50,7 @@ ends n = replicate n End
 
 -- ---- components
 
-abbrev pub need_of : Presence → Need
+abbrev pub need_of : Presence → FieldPresence
 need_of mandatory = Mandatory
 need_of optional = Optional
 need_of (default d) = Default
@@ -74,13 +74,13 @@ both_before (Some g) (Some f) = before g f
 both_before g f = false
 
 -- the outermost tag of the first type comes before that of the second in the canonical order
-abbrev pub stands_before : List Resolved → TypeNumber → TypeNumber → Bool
-stands_before s t u = both_before (tags_at s t) (tags_at s u)
+abbrev pub precedes : List Resolved → TypeNumber → TypeNumber → Bool
+precedes s t u = both_before (tags_at s t) (tags_at s u)
 
 -- the number of components that come before type t in the canonical order of their tags
 abbrev pub rank : List Resolved → List Component → TypeNumber → ℕ
 rank s [] t = 0
-rank s (c ∷ cs) t = (if stands_before s c.type t then 1 else 0) + rank s cs t
+rank s (c ∷ cs) t = (if precedes s c.type t then 1 else 0) + rank s cs t
 
 abbrev pub field_of : ℕ → Component → Field'
 field_of i c = record { place = i; need = need_of c.presence; ty = id_of c.type }
@@ -93,7 +93,7 @@ fields_from i (c ∷ cs) = Field (field_of i c) ∷ fields_from (suc i) cs
 -- the steps of components of a SET, of which `all` are the components; the first step has place i
 abbrev pub ranked_from : List Resolved → (all : List Component) → ℕ → List Component → List Step
 ranked_from s all i [] = []
-ranked_from s all i (c ∷ cs) = Ranked (field_of i c) (rank s all c.type) ∷ ranked_from s all (suc i) cs
+ranked_from s all i (c ∷ cs) = SetComponent (field_of i c) (rank s all c.type) ∷ ranked_from s all (suc i) cs
 
 abbrev pub rest_if : Bool → List Step
 rest_if extensible = if extensible then Rest ∷ [] else []

@@ -10,14 +10,14 @@ use Rattle.asn_base.specs.Schemas.{components}
 use Rattle.encodings.specs.Header.{Octets}
 use Rattle.encodings.specs.Leaves.{HasContents}
 use Rattle.encodings.specs.declared.leaf_kind.LeafKind.{LeafKind}
-use Rattle.codec_code.specs.declared.step.Need.{Need}
-use Rattle.codec_code.specs.declared.step.Need.TheVariants.{Mandatory, Default}
+use Rattle.codec_code.specs.declared.step.FieldPresence.{FieldPresence}
+use Rattle.codec_code.specs.declared.step.FieldPresence.TheVariants.{Mandatory, Default}
 use Rattle.codec_code.specs.declared.step.Head.{Head as Head'}
 use Rattle.codec_code.specs.declared.step.Field.{Field as Field'}
 use Rattle.codec_code.specs.declared.step.Step.{Step}
-use Rattle.codec_code.specs.declared.step.Step.TheVariants.{Head, Leaf, Field, Ranked, Each, EachSorted, Pick}
+use Rattle.codec_code.specs.declared.step.Step.TheVariants.{Head, Leaf, Field, SetComponent, Each, EachSorted, Pick}
 use Rattle.codec_code.specs.declared.step.Step.TheVariants.{Call, Rest, End}
-use Rattle.codec_code.specs.Events.{Event, opens, puts, closes, leaves_out, parts}
+use Rattle.codec_code.specs.Events.{Event, opens, puts, closes, leaves_out, ends_member}
 use Rattle.codec_code.specs.Routines.{routine_at}
 
 -- the component at a place: None if there is no such place, or else a value or its absence
@@ -40,14 +40,14 @@ pub record IsDefaultAt (s : List Resolved) (t : TypeNumber) (i : ℕ) (w : Abstr
   pub kind : Kind
   pub is : Is s t tags kind
   pub component : Component
-  pub stands : slice_get (components kind) i ≡ Some component
+  pub is_at : slice_get (components kind) i ≡ Some component
   pub is_the_default : IsTheDefault s component w
 
-abbrev pub may_be_absent : Need → Bool
+abbrev pub may_be_absent : FieldPresence → Bool
 may_be_absent Mandatory = false
 may_be_absent n = true
 
-abbrev pub has_default : Need → Bool
+abbrev pub has_default : FieldPresence → Bool
 has_default Default = true
 has_default n = false
 
@@ -62,7 +62,7 @@ pub data IsLeftOut (s : List Resolved) (t : TypeNumber) (f : Field') (ws : Row) 
 
 -- the component is present with the value w, and is written
 pub record IsWritten (s : List Resolved) (t : TypeNumber) (f : Field') (ws : Row) (w : AbstractValue) : Type 0 where
-  pub stands : component_at ws f.place ≡ Some (Some w)
+  pub is_at : component_at ws f.place ≡ Some (Some w)
   pub no_default : has_default f.need ≡ true → IsDefaultAt s t f.place w → ⊥
 
 mutual
@@ -95,21 +95,21 @@ mutual
     ranked_left_out : {t : TypeNumber} {f : Field'} {r : ℕ} {ss : List Step} {ws : Row} {es : List Event}
         → IsLeftOut s t f ws
         → Steps s t ss (fields ws) es
-        → Steps s t (Ranked f r ∷ ss) (fields ws) (leaves_out (has_default f.need) ∷ es)
+        → Steps s t (SetComponent f r ∷ ss) (fields ws) (leaves_out (has_default f.need) ∷ es)
     ranked_written : {t : TypeNumber} {f : Field'} {r : ℕ} {ss : List Step} {ws : Row} {w : AbstractValue}
         {xs es all : List Event}
         → IsWritten s t f ws w
         → Steps s f.ty.index (routine_at s f.ty.index) w xs
         → Steps s t ss (fields ws) es
-        → all ≡ xs ++ parts r ∷ es
-        → Steps s t (Ranked f r ∷ ss) (fields ws) all
+        → all ≡ xs ++ ends_member r ∷ es
+        → Steps s t (SetComponent f r ∷ ss) (fields ws) all
     each : {t : TypeNumber} {u : TypeId} {ss : List Step} {ws : Row} {xs es all : List Event}
         → Elements s u.index ws xs
         → Steps s t ss (list ws) es
         → all ≡ xs ++ es
         → Steps s t (Each u ∷ ss) (list ws) all
     each_sorted : {t : TypeNumber} {u : TypeId} {ss : List Step} {ws : Row} {xs es all : List Event}
-        → Parts s u.index ws xs
+        → SortedElements s u.index ws xs
         → Steps s t ss (list ws) es
         → all ≡ xs ++ es
         → Steps s t (EachSorted u ∷ ss) (list ws) all
@@ -132,10 +132,10 @@ mutual
         → Elements s u (present w ws) all
 
   -- a type's routine emits these events for the elements, each of which is a part
-  pub data Parts (s : List Resolved) : TypeNumber → Row → List Event → Type 0 where
-    no_part : {u : TypeNumber} → Parts s u end []
+  pub data SortedElements (s : List Resolved) : TypeNumber → Row → List Event → Type 0 where
+    no_part : {u : TypeNumber} → SortedElements s u end []
     part : {u : TypeNumber} {w : AbstractValue} {ws : Row} {xs es all : List Event}
         → Steps s u (routine_at s u) w xs
-        → Parts s u ws es
-        → all ≡ xs ++ parts 0 ∷ es
-        → Parts s u (present w ws) all
+        → SortedElements s u ws es
+        → all ≡ xs ++ ends_member 0 ∷ es
+        → SortedElements s u (present w ws) all

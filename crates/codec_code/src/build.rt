@@ -1,15 +1,15 @@
 //! Compiles a schema to its routines.
 
 ghost use Rattle.asn_base.specs.Seen.{types_of};
-ghost use Rattle.codec_code.specs.Briefs.{AreBriefs};
+ghost use Rattle.codec_code.specs.Summaries.{AreSummaries};
 ghost use Rattle.codec_code.specs.Routines.{starts_of, table_of};
 ghost use Rattle.std.specs.Prelude.{◌≡◌, IfOk};
 
-use crate::brief::{Brief, brief_of};
 use crate::code::{Code, routine};
 use crate::fault::Fault;
 use crate::routine::push_routine;
 use crate::step::Step;
+use crate::summary::{Summary, summary_of};
 use asn_base::schema::{Resolved, Schema, TypeId};
 use std::alloc::Global;
 
@@ -25,32 +25,32 @@ pub fn compile(alloc: Global, schema: &Schema) -> Result<Code, Fault>
     ensures { IfOk result (λ code. code ≡ schema.now) }
 {
     let table = all_routines(alloc, schema.types())?;
-    let briefs = all_briefs(
+    let summaries = all_summaries(
         alloc,
         schema,
         table.steps.as_slice(),
         table.starts.as_slice(),
     )?;
-    Ok(Code::of(schema.copy(alloc)?, table, briefs))
+    Ok(Code::of(schema.copy(alloc)?, table, summaries))
 }
 
 /// The description of the routine of each type.
-fn all_briefs(
+fn all_summaries(
     alloc: Global,
     schema: &Schema,
     steps: &[Step],
     starts: &[usize],
-) -> Result<Vec<Brief>, Fault>
+) -> Result<Vec<Summary>, Fault>
     requires steps { steps.now ≡ table_of schema.now }
     requires starts { starts.now ≡ starts_of schema.now }
-    ensures { IfOk result (λ bs. AreBriefs schema.now bs.items) }
+    ensures { IfOk result (λ bs. AreSummaries schema.now bs.items) }
 {
-    let mut briefs = Vec::new(alloc);
+    let mut summaries = Vec::new(alloc);
     for i in 0..schema.types().len() {
         let id = TypeId { index: i };
-        briefs.push(brief_of(routine(schema, steps, starts, id)))?;
+        summaries.push(summary_of(routine(schema, steps, starts, id)))?;
     }
-    Ok(briefs)
+    Ok(summaries)
 }
 
 fn all_routines(alloc: Global, types: &[Resolved]) -> Result<Table, Fault>

@@ -3,23 +3,22 @@
 ghost use Rattle.asn_base.specs.Abstract.{abstract};
 ghost use Rattle.asn_base.specs.Schemas.{IsSchema};
 ghost use Rattle.asn_base.specs.Typed.{IsValue, IsValueWithoutNodes};
-ghost use Rattle.codec_code.specs.Briefs.{AreBriefs, IsBrief};
+ghost use Rattle.codec_code.specs.Summaries.{AreSummaries, IsSummary};
 ghost use Rattle.codec_code.specs.Routines.{routine_at, starts_of, steps_at, table_of};
 ghost use Rattle.codec_code.specs.Steps.{IsDefaultAt};
 ghost use Rattle.std.specs.Prelude.{◌≡◌, ◌-◌, ◌<◌, ◌≤◌, ◌↔◌, IsTrue, drop, length, slice_get, take};
-ghost use Rattle.views.specs.Seen.{IsPart};
-ghost use Rattle.views.specs.Tree.{Tree, value_of};
+ghost use Rattle.views.specs.Tree.{value_of};
 
-use crate::brief::{Brief, brief_in};
 use crate::build::Table;
 use crate::default::is_default_at;
 use crate::step::{Coding, Step};
+use crate::summary::{Summary, summary_in};
 use asn_base::decide::is_value;
 use asn_base::schema::{Schema, TypeId};
 use asn_base::value::Value;
 use std::marker::Model;
 use view_values::is_surely_value;
-use views::Part;
+use views::ValueRef;
 
 /// The routines of a schema's types. The code keeps a copy of the schema, by which contracts name its types, and
 /// doesn't lend it.
@@ -27,7 +26,7 @@ pub struct Code {
     schema: Schema,
     steps: Vec<Step>,
     starts: Vec<usize>,
-    briefs: Vec<Brief>,
+    summaries: Vec<Summary>,
 }
 
 impl Model for Code {
@@ -42,33 +41,33 @@ impl Model for Code {
 
     ghost view = { λ c. c.schema };
 
-    ghost use Rattle.codec_code.specs.Briefs.{AreBriefs};
+    ghost use Rattle.codec_code.specs.Summaries.{AreSummaries};
     ghost use Rattle.codec_code.specs.Routines.{starts_of, table_of};
 
     ghost invariant = { λ c. (c.steps.items ≡ table_of c.schema) × (c.starts.items ≡ starts_of c.schema)
-        × AreBriefs c.schema c.briefs.items };
+        × AreSummaries c.schema c.summaries.items };
 }
 
 impl Code {
-    pub(crate) fn of(schema: Schema, table: Table, briefs: Vec<Brief>) -> Self
+    pub(crate) fn of(schema: Schema, table: Table, summaries: Vec<Summary>) -> Self
         requires steps { table.steps.items ≡ table_of schema }
         requires starts { table.starts.items ≡ starts_of schema }
-        requires briefs { AreBriefs schema briefs.items }
+        requires summaries { AreSummaries schema summaries.items }
         ensures { result ≡ schema }
     {
         Code {
             schema,
             steps: table.steps,
             starts: table.starts,
-            briefs,
+            summaries,
         }
     }
 
     /// Each type of the code's schema keeps what `IsSchema` says.
-    pub fn accepted(&self)
+    pub fn lemma_invariant(&self)
         ensures { IsSchema self.now }
     {
-        self.schema.accepted();
+        self.schema.lemma_invariant();
     }
 
     /// Whether the code has the type.
@@ -92,14 +91,10 @@ impl Code {
         is_value(value, &self.schema, id)
     }
 
-    /// Whether a quick test shows that the value of a part of a view is one of the type, except for the limit on nodes.
+    /// Whether a quick test shows that the value that a view or a part of it holds is one of the type, except for the limit on nodes.
     /// True is always right. False decides nothing: a copy of the value must be asked. The test takes no memory.
-    pub fn is_surely_value(&self, id: TypeId, part: &Part<'_, '_>) -> bool
-        requires { (t : Tree) × IsPart part.now t }
-        ensures { (t : Tree)
-            → IsPart part.now t
-            → IsTrue result
-            → IsValueWithoutNodes self.now id.index (value_of t) }
+    pub fn is_surely_value(&self, id: TypeId, part: &ValueRef<'_, '_>) -> bool
+        ensures { IsTrue result → IsValueWithoutNodes self.now id.index (value_of part.now) }
     {
         is_surely_value(part, &self.schema, id)
     }
@@ -116,10 +111,10 @@ impl Code {
     /// A short description of the routine of the type for encodings with tags. Unless it is `Any`, the steps needn't be
     /// read.
     #[inline(always)]
-    pub fn brief(&self, id: TypeId) -> Brief
-        ensures { IsBrief result (routine_at self.now id.index) }
+    pub fn summary(&self, id: TypeId) -> Summary
+        ensures { IsSummary result (routine_at self.now id.index) }
     {
-        brief_in(&self.schema, self.briefs.as_slice(), id)
+        summary_in(&self.schema, self.summaries.as_slice(), id)
     }
 
     /// The routine of the type. It has no steps if there is no such type, or for packed encodings.
@@ -183,7 +178,7 @@ impl Drop for Code {
             schema: _,
             steps: _,
             starts: _,
-            briefs: _,
+            summaries: _,
         } = self;
     }
 }

@@ -11,7 +11,7 @@ ghost use Rattle.codec_code.specs.Steps.{IsDefaultAt, IsTheDefault};
 ghost use Rattle.std.specs.Prelude.{◌≡◌, ◌↔◌, IfSome, IsTrue, MatchOption, None, Some, map};
 
 use asn_base::decide::is_value_without_nodes;
-use asn_base::law::abstract_values;
+use asn_base::law::lemma_abstract_values;
 use asn_base::same::same_values;
 use asn_base::schema::{Component, Core, Presence, Schema, TypeId};
 use asn_base::value::Value;
@@ -23,7 +23,7 @@ pub(crate) fn is_default_at(schema: &Schema, id: TypeId, place: usize, value: &V
 {
     match component_at(schema, id, place) {
         Some(component) => {
-            schema.accepted();
+            schema.lemma_invariant();
             is_the_default(schema, component, value)
         }
         None => false,
@@ -80,7 +80,7 @@ fn equal_at_once(value: &Value, known: &Value) -> Option<bool>
     ensures plain { IfSome result (λ equal. IsPlain (abstract known.now)) }
     ensures equal { IfSome result (λ equal. IsTrue equal ↔ (abstract value.now ≡ abstract known.now)) }
 {
-    abstract_values();
+    lemma_abstract_values();
     match value {
         Value::Bool(one) => match known {
             Value::Bool(other) => Some(one == other),

@@ -1,7 +1,6 @@
 //! Codec programs: for each type of a schema a routine of steps, which encoders and decoders run.
 #![tactic(auto)]
 
-mod brief;
 mod build;
 mod code;
 mod default;
@@ -11,10 +10,11 @@ mod lines;
 mod order;
 mod routine;
 mod step;
+mod summary;
 
-pub use brief::Brief;
 pub use build::compile;
 pub use code::Code;
 pub use fault::Fault;
 pub use lines::listing;
-pub use step::{Coding, Field, Head, Need, RowKind, Step};
+pub use step::{Coding, Field, FieldPresence, Head, RowKind, Step};
+pub use summary::Summary;

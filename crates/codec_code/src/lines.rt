@@ -32,7 +32,7 @@ fn push_step(out: &mut String, step: Step) -> Result<(), AllocError> {
             push_field(out, "Field", field)?;
             out.push_str("\n")?;
         }
-        Step::Ranked(field, rank) => {
+        Step::SetComponent(field, rank) => {
             push_field(out, "Ranked", field)?;
             write!(out, " {rank}\n")?;
         }

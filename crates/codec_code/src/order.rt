@@ -2,7 +2,7 @@
 
 ghost use Rattle.asn_base.specs.Seen.{component_of, types_of};
 ghost use Rattle.asn_base.specs.Tags.{class_rank};
-ghost use Rattle.codec_code.specs.Routines.{before, outermost, rank, stands_before, tags_at};
+ghost use Rattle.codec_code.specs.Routines.{before, outermost, rank, precedes, tags_at};
 ghost use Rattle.std.specs.Prelude.{◌≡◌, length, map};
 
 use asn_base::schema::{Component, Resolved, TypeId};
@@ -48,7 +48,7 @@ fn first_of(tags: &[Tag]) -> Option<Tag>
 
 /// Whether the outermost tag of the first type comes before that of the second in the canonical order.
 fn type_before(types: &[Resolved], first: TypeId, second: TypeId) -> bool
-    ensures { result ≡ stands_before (types_of types.now) first.index second.index }
+    ensures { result ≡ precedes (types_of types.now) first.index second.index }
 {
     match outermost_of(types, first) {
         Some(one) => match outermost_of(types, second) {

@@ -7,7 +7,7 @@ ghost use Rattle.std.specs.Prelude.{◌≡◌, ◌+◌, ◌++◌, ◌∷◌, [],
 
 use crate::fault::Fault;
 use crate::order::rank_of;
-use crate::step::{Field, Head, Need, RowKind, Step};
+use crate::step::{Field, FieldPresence, Head, RowKind, Step};
 use asn_base::schema::{Alternative, Alternatives, Component, Core, Presence, Resolved};
 use asn_base::tag::Tag;
 use encodings::LeafKind;
@@ -104,7 +104,7 @@ fn push_body(out: &mut Vec<Step>, types: &[Resolved], core: &Core) -> Result<(),
             push_rest(out, *extensible)
         }
         Core::Set(extensible, components) => {
-            push_ranked(out, types, components.as_slice())?;
+            push_set_component(out, types, components.as_slice())?;
             push_rest(out, *extensible)
         }
         Core::SequenceOf(_, element) => push_one(out, Step::Each(*element)),
@@ -144,14 +144,14 @@ fn push_rest(out: &mut Vec<Step>, extensible: bool) -> Result<(), Fault>
     Ok(())
 }
 
-fn need_for(presence: &Presence) -> Need
+fn need_for(presence: &Presence) -> FieldPresence
     ensures { result ≡ need_of (presence_of presence.now) }
 {
     match presence {
-        Presence::Mandatory => Need::Mandatory,
-        Presence::Optional => Need::Optional,
-        Presence::Default(_) => Need::Default,
-        Presence::Addition(_) => Need::Addition,
+        Presence::Mandatory => FieldPresence::Mandatory,
+        Presence::Optional => FieldPresence::Optional,
+        Presence::Default(_) => FieldPresence::Default,
+        Presence::Addition(_) => FieldPresence::Addition,
     }
 }
 
@@ -177,7 +177,7 @@ fn push_fields(out: &mut Vec<Step>, components: &[Component]) -> Result<(), Faul
 
 /// Appends the components of a SET. They are at most 320, so counting those before each one takes at most as many
 /// comparisons for each.
-fn push_ranked(
+fn push_set_component(
     out: &mut Vec<Step>,
     types: &[Resolved],
     components: &[Component],
@@ -187,7 +187,7 @@ fn push_ranked(
 {
     for i in 0..components.len() {
         let rank = rank_of(types, components, components[i].ty);
-        out.push(Step::Ranked(component(i, &components[i]), rank))?;
+        out.push(Step::SetComponent(component(i, &components[i]), rank))?;
     }
     Ok(())
 }

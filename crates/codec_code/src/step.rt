@@ -17,7 +17,7 @@ pub enum RowKind {
 
 /// Whether a component may be absent, and whether it has a DEFAULT.
 #[derive(Clone, Copy, PartialEq, Eq, Debug)]
-pub enum Need {
+pub enum FieldPresence {
     Mandatory,
     Optional,
     Default,
@@ -36,7 +36,7 @@ pub struct Head {
 #[derive(Clone, Copy, PartialEq, Eq, Debug)]
 pub struct Field {
     pub place: usize,
-    pub need: Need,
+    pub need: FieldPresence,
     pub ty: TypeId,
 }
 
@@ -50,7 +50,7 @@ pub enum Step {
     /// A component of a SEQUENCE.
     Field(Field),
     /// A component of a SET, and the number of components that come before it in the canonical order of their tags.
-    Ranked(Field, usize),
+    SetComponent(Field, usize),
     /// The elements in order, each by the routine of this type.
     Each(TypeId),
     /// The elements in ascending order of their encodings, each by the routine of this type.

@@ -61,30 +61,30 @@ pub written_of : {s : List Resolved} {t : ℕ} {f : Field'} {v w : AbstractValue
     → component_at row f.place ≡ Some (Some w)
     → (has_default f.need ≡ true → IsDefaultAt s t f.place w → ⊥)
     → WritesIt s t f v w
-written_of row e at d = record { row = row; is = e; written = record { stands = at; no_default = d } }
+written_of row e at d = record { row = row; is = e; written = record { is_at = at; no_default = d } }
 
 -- ---- a component that is neither left out nor written
 
-stands_in : {v : AbstractValue} {row other : Row} {o : Option (Option AbstractValue)} (i : ℕ)
+found_in : {v : AbstractValue} {row other : Row} {o : Option (Option AbstractValue)} (i : ℕ)
     → v ≡ fields row
     → component_at row i ≡ o
     → v ≡ fields other
     → component_at other i ≡ o
-stands_in i e at h = ap (λ q. component_at q i) (same_row (sym h ∙ e)) ∙ at
+found_in i e at h = ap (λ q. component_at q i) (same_row (sym h ∙ e)) ∙ at
 
-left_out_stands : {s : List Resolved} {t : ℕ} {f : Field'} {row : Row}
+left_out_found : {s : List Resolved} {t : ℕ} {f : Field'} {row : Row}
     → component_at row f.place ≡ None
     → IsLeftOut s t f row
     → ⊥
-left_out_stands n (is_absent m a) = (let e : None ≡ Some None = sym n ∙ a in cc)
-left_out_stands n (is_default {w = w} h a d) = (let e : None ≡ Some (Some w) = sym n ∙ a in cc)
+left_out_found n (is_absent m a) = (let e : None ≡ Some None = sym n ∙ a in cc)
+left_out_found n (is_default {w = w} h a d) = (let e : None ≡ Some (Some w) = sym n ∙ a in cc)
 
 -- no such place
 pub no_field_there : {s : List Resolved} {t : ℕ} {f : Field'} {v : AbstractValue} {row : Row}
     → v ≡ fields row
     → component_at row f.place ≡ None
     → HasNoField s t f v
-no_field_there {f = f} e at = (λ l. left_out_stands (stands_in f.place e at l.is) l.left_out, λ w o. (let h : None ≡ Some (Some w) = sym (stands_in f.place e at o.is) ∙ o.written.stands in cc))
+no_field_there {f = f} e at = (λ l. left_out_found (found_in f.place e at l.is) l.left_out, λ w o. (let h : None ≡ Some (Some w) = sym (found_in f.place e at o.is) ∙ o.written.is_at in cc))
 
 needed : {s : List Resolved} {t : ℕ} {f : Field'} {row : Row}
     → component_at row f.place ≡ Some None
@@ -100,4 +100,4 @@ pub needed_field : {s : List Resolved} {t : ℕ} {f : Field'} {v : AbstractValue
     → component_at row f.place ≡ Some None
     → false ≡ may_be_absent f.need
     → HasNoField s t f v
-needed_field {f = f} e at m = (λ l. needed (stands_in f.place e at l.is) m l.left_out, λ w o. (let h : None ≡ Some w = some_same (sym (stands_in f.place e at o.is) ∙ o.written.stands) in cc))
+needed_field {f = f} e at m = (λ l. needed (found_in f.place e at l.is) m l.left_out, λ w o. (let h : None ≡ Some w = some_same (sym (found_in f.place e at o.is) ∙ o.written.is_at) in cc))

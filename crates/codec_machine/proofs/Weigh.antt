@@ -46,7 +46,7 @@ by_option s t (Some r) e = part_most s s t r e
 pub routine_most : (s : List Resolved) (t : ℕ) → length (routine_at s t) ≤ total s
 routine_most s t = by_option s t (slice_get s t) refl
 
-product_most : (n l k : ℕ) → n ≤ l → n * k ≤ l * k
+pub product_most : (n l k : ℕ) → n ≤ l → n * k ≤ l * k
 product_most n l k h = let m : k * n ≤ k * l = mul-le-mul_left k h in omega arith
 
 -- the steps of a routine for a value weigh at most what the value does

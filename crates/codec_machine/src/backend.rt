@@ -1,7 +1,7 @@
 //! The backend of a machine: it receives the events of a routine.
 
 ghost use Rattle.asn_base.specs.Abstract.{abstract};
-ghost use Rattle.codec_code.specs.Events.{Event, opens, closes, leaves_out, parts};
+ghost use Rattle.codec_code.specs.Events.{Event, opens, closes, leaves_out, ends_member};
 ghost use Rattle.codec_code.specs.declared.step.RowKind.TheVariants.{Leaf as LeafRow};
 ghost use Rattle.codec_machine.specs.Frames.{AddsLeaf, AddsWhole, HasNoContents};
 ghost use Rattle.codec_machine.specs.declared.fault.RunFault.TheVariants.{NotOfType};
@@ -47,7 +47,7 @@ pub trait Backend<'a> {
 
     /// Ends a member of a SET OF, whose rank is 0, or a component of a SET. `AllocError` only if an allocation fails.
     fn part(&mut self, rank: usize) -> Result<(), AllocError>
-        ensures { OnOk result (adds self.old (parts rank ∷ []) self.new) };
+        ensures { OnOk result (adds self.old (ends_member rank ∷ []) self.new) };
 
     /// A state to which no events are added is the same state.
     ghost nothing: { (a : Self) → adds a [] a };

@@ -10,6 +10,6 @@ use codec_code::Step;
 pub(crate) enum Frame<'a> {
     Routine(TypeId, &'a [Step], &'a Value),
     Elements(TypeId, &'a [Value]),
-    Parts(TypeId, &'a [Value]),
-    Part(usize),
+    SortedElements(TypeId, &'a [Value]),
+    MemberEnd(usize),
 }

@@ -1,13 +1,14 @@
 //! A machine of frames, which runs a routine over a value.
 #![tactic(auto)]
 
-mod act;
 mod backend;
 mod fault;
 mod frame;
+mod in_place;
 mod machine;
-mod part;
 mod push;
+mod run_step;
+mod value_parts;
 
 pub use backend::Backend;
 pub use fault::RunFault;

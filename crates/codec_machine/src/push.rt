@@ -3,13 +3,13 @@
 ghost use Rattle.asn_base.specs.Abstract.{abstract, row_of_list};
 ghost use Rattle.codec_code.specs.Steps as steps;
 ghost use Rattle.codec_code.specs.declared.step.Step.TheVariants.{Each, EachSorted, Pick};
-ghost use Rattle.codec_machine.specs.Frames.{IsUntold, Replaced, ReplacedBy, and_next};
+ghost use Rattle.codec_machine.specs.Frames.{NoEvents, Replaced, ReplacedBy, and_next};
 ghost use Rattle.codec_machine.specs.Weights.{total, weights};
 ghost use Rattle.std.specs.Prelude.{◌≡◌, ◌++◌, ◌∷◌, [], IfErr, IfOk, None, OnOk, map, suc};
 
 use crate::fault::RunFault;
 use crate::frame::Frame;
-use crate::part::{behind, called, chosen, elements_of, first_value};
+use crate::value_parts::{called, chosen, elements_of, first_value, steps_after};
 use asn_base::schema::TypeId;
 use asn_base::value::Value;
 use codec_code::{Code, Coding, Step};
@@ -34,47 +34,24 @@ pub(crate) fn add<'a>(frames: &mut Vec<Frame<'a>>, frame: Frame<'a>) -> Result<(
     Ok(())
 }
 
-/// Adds the frame for the elements after the first one. The result is the frame for the first element, or None if there
-/// are no elements.
-pub(crate) fn push_elements<'a>(
-    code: &'a Code,
-    id: TypeId,
-    values: &'a [Value],
-    frames: &mut Vec<Frame<'a>>,
-) -> Result<Option<Frame<'a>>, AllocError>
-    ensures { IfOk result (λ o. Replaced code.now
-        (steps.Elements code.now id.index (row_of_list (map abstract values.now)))
-        (suc (weights (total code.now) (row_of_list (map abstract values.now)))) [] frames.old.items
-        (and_next frames.new.items o)) }
-{
-    match first_value(values) {
-        None => Ok(None),
-        Some((first, others)) => {
-            add(frames, Frame::Elements(id, others))?;
-            let steps = code.steps(id, Coding::Tagged);
-            Ok(Some(Frame::Routine(id, steps, first)))
-        }
-    }
-}
-
 /// Adds the frames for the members of a SET OF after the first one, and for the end of the first one. The result is the
 /// frame for the first member, or None if there are no members.
-pub(crate) fn push_parts<'a>(
+pub(crate) fn push_sorted_elements<'a>(
     code: &'a Code,
     id: TypeId,
     values: &'a [Value],
     frames: &mut Vec<Frame<'a>>,
 ) -> Result<Option<Frame<'a>>, AllocError>
     ensures { IfOk result (λ o. Replaced code.now
-        (steps.Parts code.now id.index (row_of_list (map abstract values.now)))
+        (steps.SortedElements code.now id.index (row_of_list (map abstract values.now)))
         (suc (weights (total code.now) (row_of_list (map abstract values.now)))) [] frames.old.items
         (and_next frames.new.items o)) }
 {
     match first_value(values) {
         None => Ok(None),
         Some((first, others)) => {
-            add(frames, Frame::Parts(id, others))?;
-            add(frames, Frame::Part(0))?;
+            add(frames, Frame::SortedElements(id, others))?;
+            add(frames, Frame::MemberEnd(0))?;
             let steps = code.steps(id, Coding::Tagged);
             Ok(Some(Frame::Routine(id, steps, first)))
         }
@@ -92,7 +69,7 @@ pub(crate) fn push_each<'a>(
 ) -> Result<Frame<'a>, RunFault>
     ensures ok { IfOk result (λ f. ReplacedBy code.now id.index (Each of ∷ rest.now) (abstract value.now) []
         frames.old.items (frames.new.items ++ f ∷ [])) }
-    ensures refused { IfErr result (IsUntold code.now id.index (Each of ∷ rest.now) (abstract value.now)) }
+    ensures refused { IfErr result (NoEvents code.now id.index (Each of ∷ rest.now) (abstract value.now)) }
 {
     match elements_of(value) {
         None => Err(RunFault::NotOfType),
@@ -114,13 +91,13 @@ pub(crate) fn push_sorted<'a>(
 ) -> Result<Frame<'a>, RunFault>
     ensures ok { IfOk result (λ f. ReplacedBy code.now id.index (EachSorted of ∷ rest.now) (abstract value.now) []
         frames.old.items (frames.new.items ++ f ∷ [])) }
-    ensures refused { IfErr result (IsUntold code.now id.index (EachSorted of ∷ rest.now) (abstract value.now)) }
+    ensures refused { IfErr result (NoEvents code.now id.index (EachSorted of ∷ rest.now) (abstract value.now)) }
 {
     match elements_of(value) {
         None => Err(RunFault::NotOfType),
         Some(values) => {
             add(frames, Frame::Routine(id, rest, value))?;
-            Ok(Frame::Parts(of, values))
+            Ok(Frame::SortedElements(of, values))
         }
     }
 }
@@ -136,7 +113,7 @@ pub(crate) fn push_choice<'a>(
 ) -> Result<Frame<'a>, RunFault>
     ensures ok { IfOk result (λ f. ReplacedBy code.now id.index (Pick alternatives ∷ rest.now) (abstract value.now) []
         frames.old.items (frames.new.items ++ f ∷ [])) }
-    ensures refused { IfErr result (IsUntold code.now id.index (Pick alternatives ∷ rest.now) (abstract value.now)) }
+    ensures refused { IfErr result (NoEvents code.now id.index (Pick alternatives ∷ rest.now) (abstract value.now)) }
 {
     let (number, held) = match chosen(value, alternatives) {
         Ok(found) => found,
@@ -148,7 +125,7 @@ pub(crate) fn push_choice<'a>(
     };
     add(
         frames,
-        Frame::Routine(id, behind(rest, alternatives), value),
+        Frame::Routine(id, steps_after(rest, alternatives), value),
     )?;
     let steps = code.steps(of, Coding::Tagged);
     Ok(Frame::Routine(of, steps, held))

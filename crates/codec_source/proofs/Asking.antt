@@ -6,14 +6,14 @@ use Rattle.codec_code.specs.declared.step.Head.{Head as Head'}
 use Rattle.encodings.specs.declared.leaf_kind.LeafKind.{LeafKind}
 use Rattle.codec_code.specs.declared.step.Field.{Field as Field'}
 use Rattle.codec_code.specs.declared.step.Step.{Step}
-use Rattle.codec_code.specs.declared.step.Step.TheVariants.{Head, Leaf, Field, Ranked, Each, EachSorted, Pick, Call, Rest, End}
-use Rattle.codec_source.specs.Events.{Event, opens, closes, holds, skips, stands, more, among, picks, both_open, both_close, both_hold, both_skip, both_stand, both_more, both_among, both_pick, IsOneAnswer}
-use Rattle.codec_source.specs.Reading.{behind_components, Asks, head, ending, leaf, rest, left_out, field, component, no_component, element, no_element, sorted_element, no_sorted_element, pick, call}
+use Rattle.codec_code.specs.declared.step.Step.TheVariants.{Head, Leaf, Field, SetComponent, Each, EachSorted, Pick, Call, Rest, End}
+use Rattle.codec_source.specs.Events.{Event, opens, closes, holds, skips, comes, more, among, picks, both_open, both_close, both_hold, both_skip, both_come, both_more, both_among, both_pick, IsOneAnswer}
+use Rattle.codec_source.specs.Reading.{past_components, Asks, head, ending, leaf, rest, left_out, field, component, no_component, element, no_element, sorted_element, no_sorted_element, pick, call}
 use Rattle.codec_source.specs.Stopping.{AsksNothing}
 use Rattle.codec_source.specs.proving.Frames.{is_ranked}
 
 abbrev answer : Event → Bool
-answer (stands f b) = b
+answer (comes f b) = b
 answer (more t s b) = b
 answer e = false
 
@@ -30,34 +30,34 @@ none_some e = absurd (cc)
 
 -- what a step asks for: the steps after it, the value before them, and the state
 pub record One {S : Type 0} (b c : List Step) (t u : Option TypeId) (y z : S) : Type 0 where
-  pub behind : b ≡ c
+  pub following : b ≡ c
   pub value : t ≡ u
   pub state : y ≡ z
 
 module _ {S : Type 0} (takes : S → Event → S → Type 0) (one : IsOneAnswer takes) where
   pub one_ask : {ss b c : List Step} {t u : Option TypeId} {x y z : S} → Asks takes ss x b t y → Asks takes ss x c u z → One b c t u y z
-  one_ask {x = x} {y = y} {z = z} (head a) (head b) = record { behind = refl; value = refl; state = (one x y z _ _ both_open a b).1 }
-  one_ask {x = x} {y = y} {z = z} (ending a) (ending b) = record { behind = refl; value = refl; state = (one x y z _ _ both_close a b).1 }
-  one_ask {x = x} {y = y} {z = z} (leaf a) (leaf b) = record { behind = refl; value = refl; state = (one x y z _ _ both_hold a b).1 }
-  one_ask {x = x} {y = y} {z = z} (rest a) (rest b) = record { behind = refl; value = refl; state = (one x y z _ _ both_skip a b).1 }
-  one_ask {x = x} {y = y} {z = z} (left_out a) (left_out b) = record { behind = refl; value = refl; state = (one x y z _ _ both_stand a b).1 }
-  one_ask {x = x} {y = y} {z = z} (left_out a) (field b) = not_both (ap answer (one x z y _ _ both_stand b a).0)
-  one_ask {x = x} {y = y} {z = z} (field a) (left_out b) = not_both (ap answer (one x y z _ _ both_stand a b).0)
-  one_ask {x = x} {y = y} {z = z} (field a) (field b) = record { behind = refl; value = refl; state = (one x y z _ _ both_stand a b).1 }
-  one_ask {x = x} {y = y} {z = z} (component a) (component b) = let o = one x y z _ _ both_among a b in record { behind = refl; value = ap type_of o.0; state = o.1 }
+  one_ask {x = x} {y = y} {z = z} (head a) (head b) = record { following = refl; value = refl; state = (one x y z _ _ both_open a b).1 }
+  one_ask {x = x} {y = y} {z = z} (ending a) (ending b) = record { following = refl; value = refl; state = (one x y z _ _ both_close a b).1 }
+  one_ask {x = x} {y = y} {z = z} (leaf a) (leaf b) = record { following = refl; value = refl; state = (one x y z _ _ both_hold a b).1 }
+  one_ask {x = x} {y = y} {z = z} (rest a) (rest b) = record { following = refl; value = refl; state = (one x y z _ _ both_skip a b).1 }
+  one_ask {x = x} {y = y} {z = z} (left_out a) (left_out b) = record { following = refl; value = refl; state = (one x y z _ _ both_come a b).1 }
+  one_ask {x = x} {y = y} {z = z} (left_out a) (field b) = not_both (ap answer (one x z y _ _ both_come b a).0)
+  one_ask {x = x} {y = y} {z = z} (field a) (left_out b) = not_both (ap answer (one x y z _ _ both_come a b).0)
+  one_ask {x = x} {y = y} {z = z} (field a) (field b) = record { following = refl; value = refl; state = (one x y z _ _ both_come a b).1 }
+  one_ask {x = x} {y = y} {z = z} (component a) (component b) = let o = one x y z _ _ both_among a b in record { following = refl; value = ap type_of o.0; state = o.1 }
   one_ask {x = x} {y = y} {z = z} (component a) (no_component b) = none_some (ap type_of (one x z y _ _ both_among b a).0)
   one_ask {x = x} {y = y} {z = z} (no_component a) (component b) = none_some (ap type_of (one x y z _ _ both_among a b).0)
-  one_ask {x = x} {y = y} {z = z} (no_component a) (no_component b) = record { behind = refl; value = refl; state = (one x y z _ _ both_among a b).1 }
-  one_ask {x = x} {y = y} {z = z} (element a) (element b) = record { behind = refl; value = refl; state = (one x y z _ _ both_more a b).1 }
+  one_ask {x = x} {y = y} {z = z} (no_component a) (no_component b) = record { following = refl; value = refl; state = (one x y z _ _ both_among a b).1 }
+  one_ask {x = x} {y = y} {z = z} (element a) (element b) = record { following = refl; value = refl; state = (one x y z _ _ both_more a b).1 }
   one_ask {x = x} {y = y} {z = z} (element a) (no_element b) = not_both (ap answer (one x y z _ _ both_more a b).0)
   one_ask {x = x} {y = y} {z = z} (no_element a) (element b) = not_both (ap answer (one x z y _ _ both_more b a).0)
-  one_ask {x = x} {y = y} {z = z} (no_element a) (no_element b) = record { behind = refl; value = refl; state = (one x y z _ _ both_more a b).1 }
-  one_ask {x = x} {y = y} {z = z} (sorted_element a) (sorted_element b) = record { behind = refl; value = refl; state = (one x y z _ _ both_more a b).1 }
+  one_ask {x = x} {y = y} {z = z} (no_element a) (no_element b) = record { following = refl; value = refl; state = (one x y z _ _ both_more a b).1 }
+  one_ask {x = x} {y = y} {z = z} (sorted_element a) (sorted_element b) = record { following = refl; value = refl; state = (one x y z _ _ both_more a b).1 }
   one_ask {x = x} {y = y} {z = z} (sorted_element a) (no_sorted_element b) = not_both (ap answer (one x y z _ _ both_more a b).0)
   one_ask {x = x} {y = y} {z = z} (no_sorted_element a) (sorted_element b) = not_both (ap answer (one x z y _ _ both_more b a).0)
-  one_ask {x = x} {y = y} {z = z} (no_sorted_element a) (no_sorted_element b) = record { behind = refl; value = refl; state = (one x y z _ _ both_more a b).1 }
-  one_ask {x = x} {y = y} {z = z} (pick a) (pick b) = let o = one x y z _ _ both_pick a b in record { behind = refl; value = ap type_of o.0; state = o.1 }
-  one_ask (call) (call) = record { behind = refl; value = refl; state = refl }
+  one_ask {x = x} {y = y} {z = z} (no_sorted_element a) (no_sorted_element b) = record { following = refl; value = refl; state = (one x y z _ _ both_more a b).1 }
+  one_ask {x = x} {y = y} {z = z} (pick a) (pick b) = let o = one x y z _ _ both_pick a b in record { following = refl; value = ap type_of o.0; state = o.1 }
+  one_ask (call) (call) = record { following = refl; value = refl; state = refl }
 
 module _ {S : Type 0} (takes : S → Event → S → Type 0) where
   -- nothing is asked of no steps
@@ -76,11 +76,11 @@ module _ {S : Type 0} (takes : S → Event → S → Type 0) where
   pub no_rest : (ss : List Step) (x : S) → ((y : S) → takes x skips y → ⊥) → AsksNothing takes (Rest ∷ ss) x
   no_rest ss x n b t y (rest a) = n y a
 
-  pub no_field : (f : Field') (ss : List Step) (x : S) → ((yes : Bool) (y : S) → takes x (stands f yes) y → ⊥) → AsksNothing takes (Field f ∷ ss) x
+  pub no_field : (f : Field') (ss : List Step) (x : S) → ((yes : Bool) (y : S) → takes x (comes f yes) y → ⊥) → AsksNothing takes (Field f ∷ ss) x
   no_field f ss x n b t y (left_out a) = n false y a
   no_field f ss x n b t y (field a) = n true y a
 
-  pub no_ranked : (f : Field') (r : ℕ) (ss : List Step) (x : S) → ((t : Option TypeId) (y : S) → takes x (among (Ranked f r ∷ ss) t) y → ⊥) → AsksNothing takes (Ranked f r ∷ ss) x
+  pub no_ranked : (f : Field') (r : ℕ) (ss : List Step) (x : S) → ((t : Option TypeId) (y : S) → takes x (among (SetComponent f r ∷ ss) t) y → ⊥) → AsksNothing takes (SetComponent f r ∷ ss) x
   no_ranked f r ss x n b t y (component a) = n _ y a
   no_ranked f r ss x n b t y (no_component a) = n None y a
 
@@ -97,18 +97,18 @@ module _ {S : Type 0} (takes : S → Event → S → Type 0) where
 
 -- ---- lengths
 
-behind_length : (ss : List Step) → length (behind_components ss) ≤ length ss
-behind_length [] = omega arith
-behind_length (Ranked f r ∷ ss) = let h = behind_length ss in omega (arith, h)
-behind_length (Head h ∷ ss) = omega arith
-behind_length (Leaf k ∷ ss) = omega arith
-behind_length (Field f ∷ ss) = omega arith
-behind_length (Each t ∷ ss) = omega arith
-behind_length (EachSorted t ∷ ss) = omega arith
-behind_length (Pick n ∷ ss) = omega arith
-behind_length (Call t ∷ ss) = omega arith
-behind_length (Rest ∷ ss) = omega arith
-behind_length (End ∷ ss) = omega arith
+after_length : (ss : List Step) → length (past_components ss) ≤ length ss
+after_length [] = omega arith
+after_length (SetComponent f r ∷ ss) = let h = after_length ss in omega (arith, h)
+after_length (Head h ∷ ss) = omega arith
+after_length (Leaf k ∷ ss) = omega arith
+after_length (Field f ∷ ss) = omega arith
+after_length (Each t ∷ ss) = omega arith
+after_length (EachSorted t ∷ ss) = omega arith
+after_length (Pick n ∷ ss) = omega arith
+after_length (Call t ∷ ss) = omega arith
+after_length (Rest ∷ ss) = omega arith
+after_length (End ∷ ss) = omega arith
 
 drop_length : (n : ℕ) (ss : List Step) → length (drop n ss) ≤ length ss
 drop_length zero ss = omega arith
@@ -129,7 +129,7 @@ module _ {S : Type 0} (takes : S → Event → S → Type 0) where
   shorter (left_out a) = omega arith
   shorter (field a) = omega arith
   shorter (component a) = omega arith
-  shorter (no_component {ss = ss} a) = let h = behind_length ss in omega (arith, h)
+  shorter (no_component {ss = ss} a) = let h = after_length ss in omega (arith, h)
   shorter (element a) = omega arith
   shorter (no_element a) = omega arith
   shorter (sorted_element a) = omega arith
@@ -137,21 +137,21 @@ module _ {S : Type 0} (takes : S → Event → S → Type 0) where
   shorter (pick {n = n} {ss = ss} a) = let h = drop_length n ss in omega (arith, h)
   shorter call = omega arith
 
-  pub no_more_room : (room : S → ℕ) → ((a b : S) (e : Event) → takes a e b → room b ≤ room a) → {ss b : List Step} {t : Option TypeId} {x y : S} → Asks takes ss x b t y → room y ≤ room x
-  no_more_room room keeps {x = x} {y = y} (head a) = keeps x y _ a
-  no_more_room room keeps {x = x} {y = y} (ending a) = keeps x y _ a
-  no_more_room room keeps {x = x} {y = y} (leaf a) = keeps x y _ a
-  no_more_room room keeps {x = x} {y = y} (rest a) = keeps x y _ a
-  no_more_room room keeps {x = x} {y = y} (left_out a) = keeps x y _ a
-  no_more_room room keeps {x = x} {y = y} (field a) = keeps x y _ a
-  no_more_room room keeps {x = x} {y = y} (component a) = keeps x y _ a
-  no_more_room room keeps {x = x} {y = y} (no_component a) = keeps x y _ a
-  no_more_room room keeps {x = x} {y = y} (element a) = keeps x y _ a
-  no_more_room room keeps {x = x} {y = y} (no_element a) = keeps x y _ a
-  no_more_room room keeps {x = x} {y = y} (sorted_element a) = keeps x y _ a
-  no_more_room room keeps {x = x} {y = y} (no_sorted_element a) = keeps x y _ a
-  no_more_room room keeps {x = x} {y = y} (pick a) = keeps x y _ a
-  no_more_room room keeps call = omega arith
+  pub no_more_budget : (budget : S → ℕ) → ((a b : S) (e : Event) → takes a e b → budget b ≤ budget a) → {ss b : List Step} {t : Option TypeId} {x y : S} → Asks takes ss x b t y → budget y ≤ budget x
+  no_more_budget budget keeps {x = x} {y = y} (head a) = keeps x y _ a
+  no_more_budget budget keeps {x = x} {y = y} (ending a) = keeps x y _ a
+  no_more_budget budget keeps {x = x} {y = y} (leaf a) = keeps x y _ a
+  no_more_budget budget keeps {x = x} {y = y} (rest a) = keeps x y _ a
+  no_more_budget budget keeps {x = x} {y = y} (left_out a) = keeps x y _ a
+  no_more_budget budget keeps {x = x} {y = y} (field a) = keeps x y _ a
+  no_more_budget budget keeps {x = x} {y = y} (component a) = keeps x y _ a
+  no_more_budget budget keeps {x = x} {y = y} (no_component a) = keeps x y _ a
+  no_more_budget budget keeps {x = x} {y = y} (element a) = keeps x y _ a
+  no_more_budget budget keeps {x = x} {y = y} (no_element a) = keeps x y _ a
+  no_more_budget budget keeps {x = x} {y = y} (sorted_element a) = keeps x y _ a
+  no_more_budget budget keeps {x = x} {y = y} (no_sorted_element a) = keeps x y _ a
+  no_more_budget budget keeps {x = x} {y = y} (pick a) = keeps x y _ a
+  no_more_budget budget keeps call = omega arith
 
 -- ---- parts of steps
 
@@ -175,11 +175,11 @@ drop_count (suc n) (s ∷ ss) = let h = drop_count n ss in omega (arith, h)
 pub rest_is : (n : ℕ) (ss : List Step) → take (length ss - n) (drop n ss) ≡ drop n ss
 rest_is n ss = let h = drop_count n ss in sym (take_all (length ss - n) (drop n ss) (omega (arith, h)))
 
-pub one_component : (s : Step) (ss all : List Step) → all ≡ s ∷ ss → is_ranked s ≡ true → behind_components all ≡ behind_components ss
-one_component s ss all e i = ap behind_components e ∙ skip s i
+pub one_component : (s : Step) (ss all : List Step) → all ≡ s ∷ ss → is_ranked s ≡ true → past_components all ≡ past_components ss
+one_component s ss all e i = ap past_components e ∙ skip s i
   where
-    skip : (s : Step) → is_ranked s ≡ true → behind_components (s ∷ ss) ≡ behind_components ss
-    skip (Ranked f r) i = refl
+    skip : (s : Step) → is_ranked s ≡ true → past_components (s ∷ ss) ≡ past_components ss
+    skip (SetComponent f r) i = refl
     skip (Head h) i = not_both (sym i)
     skip (Leaf k) i = not_both (sym i)
     skip (Field f) i = not_both (sym i)
@@ -190,11 +190,11 @@ one_component s ss all e i = ap behind_components e ∙ skip s i
     skip Rest i = not_both (sym i)
     skip End i = not_both (sym i)
 
-pub other_step : (s : Step) (ss all : List Step) → all ≡ s ∷ ss → is_ranked s ≡ false → all ≡ behind_components all
-other_step s ss all e i = e ∙ stay s i ∙ ap behind_components (sym e)
+pub other_step : (s : Step) (ss all : List Step) → all ≡ s ∷ ss → is_ranked s ≡ false → all ≡ past_components all
+other_step s ss all e i = e ∙ stay s i ∙ ap past_components (sym e)
   where
-    stay : (s : Step) → is_ranked s ≡ false → s ∷ ss ≡ behind_components (s ∷ ss)
-    stay (Ranked f r) i = not_both i
+    stay : (s : Step) → is_ranked s ≡ false → s ∷ ss ≡ past_components (s ∷ ss)
+    stay (SetComponent f r) i = not_both i
     stay (Head h) i = refl
     stay (Leaf k) i = refl
     stay (Field f) i = refl
@@ -205,22 +205,22 @@ other_step s ss all e i = e ∙ stay s i ∙ ap behind_components (sym e)
     stay Rest i = refl
     stay End i = refl
 
-pub no_step : (ss : List Step) → length ss ≡ 0 → ss ≡ behind_components ss
+pub no_step : (ss : List Step) → length ss ≡ 0 → ss ≡ past_components ss
 no_step [] l = refl
 no_step (s ∷ ss) l = absurd (omega arith)
 
 -- ---- components of a SET
 
 module _ {S : Type 0} (takes : S → Event → S → Type 0) where
-  pub ranked_some : (f : Field') (r : ℕ) (ss all : List Step) (x y : S) (q : Option TypeId) (t : TypeId) → all ≡ Ranked f r ∷ ss → takes x (among all q) y → q ≡ Some t → Asks takes (Ranked f r ∷ ss) x all (Some t) y
+  pub ranked_some : (f : Field') (r : ℕ) (ss all : List Step) (x y : S) (q : Option TypeId) (t : TypeId) → all ≡ SetComponent f r ∷ ss → takes x (among all q) y → q ≡ Some t → Asks takes (SetComponent f r ∷ ss) x all (Some t) y
   ranked_some f r ss all x y q t e a i =
-      subst (λ k. Asks takes (Ranked f r ∷ ss) x k (Some t) y) (sym e)
-      (component (subst (λ k. takes x (among (Ranked f r ∷ ss) k) y) i (subst (λ k. takes x (among k q) y) e a)))
+      subst (λ k. Asks takes (SetComponent f r ∷ ss) x k (Some t) y) (sym e)
+      (component (subst (λ k. takes x (among (SetComponent f r ∷ ss) k) y) i (subst (λ k. takes x (among k q) y) e a)))
 
-  pub ranked_none : (f : Field') (r : ℕ) (ss all b : List Step) (x y : S) (q : Option TypeId) → all ≡ Ranked f r ∷ ss → takes x (among all q) y → q ≡ None → b ≡ behind_components ss → Asks takes (Ranked f r ∷ ss) x b None y
+  pub ranked_none : (f : Field') (r : ℕ) (ss all b : List Step) (x y : S) (q : Option TypeId) → all ≡ SetComponent f r ∷ ss → takes x (among all q) y → q ≡ None → b ≡ past_components ss → Asks takes (SetComponent f r ∷ ss) x b None y
   ranked_none f r ss all b x y q e a i h =
-      subst (λ k. Asks takes (Ranked f r ∷ ss) x k None y) (sym h)
-      (no_component (subst (λ k. takes x (among (Ranked f r ∷ ss) k) y) i (subst (λ k. takes x (among k q) y) e a)))
+      subst (λ k. Asks takes (SetComponent f r ∷ ss) x k None y) (sym h)
+      (no_component (subst (λ k. takes x (among (SetComponent f r ∷ ss) k) y) i (subst (λ k. takes x (among k q) y) e a)))
 
-  pub ranked_never : (f : Field') (r : ℕ) (ss all : List Step) (x : S) → all ≡ Ranked f r ∷ ss → ((t : Option TypeId) (y : S) → takes x (among all t) y → ⊥) → AsksNothing takes (Ranked f r ∷ ss) x
+  pub ranked_never : (f : Field') (r : ℕ) (ss all : List Step) (x : S) → all ≡ SetComponent f r ∷ ss → ((t : Option TypeId) (y : S) → takes x (among all t) y → ⊥) → AsksNothing takes (SetComponent f r ∷ ss) x
   ranked_never f r ss all x e n = no_ranked takes f r ss x (λ t y a. n t y (subst (λ k. takes x (among k t) y) (sym e) a))

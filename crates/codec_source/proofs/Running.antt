@@ -35,7 +35,7 @@ module _ {S : Type 0} (r : ℕ → List Step) (takes : S → Event → S → Typ
 
   asked_on : {ss b : List Step} {x y z : S} → Does r takes ss x z → Asks takes ss x b None y → Does r takes b y z
   asked_on finished a = absurd (none_asked takes _ _ _ _ a)
-  asked_on (goes_on h d) a = let o = one_ask takes one h a in moved d o.behind o.state
+  asked_on (goes_on h d) a = let o = one_ask takes one h a in moved d o.following o.state
   asked_on (reads h p d e k) a = let o = one_ask takes one a h in none_some o.value
 
   asked_value : {ss b : List Step} {t : TypeId} {x y z : S} → Does r takes ss x z → Asks takes ss x b (Some t) y → Then r takes (Some t) b y z
@@ -50,7 +50,7 @@ module _ {S : Type 0} (r : ℕ → List Step) (takes : S → Event → S → Typ
         subst (λ q. takes q (begins t) a') o.state (subst (λ q. takes w (begins q) a') same p),
         subst (λ (q : TypeId). Does r takes (r q.index) a' b') same d,
         e,
-        subst (λ q. Does r takes q c' z) o.behind k,
+        subst (λ q. Does r takes q c' z) o.following k,
       )
 
   asked : (ss b : List Step) (t : Option TypeId) (x y : S) → Asks takes ss x b t y → Same (Does r takes ss x) (Then r takes t b y)

@@ -54,30 +54,30 @@ module _ {S : Type 0} (r : ℕ → List Step) (takes : S → Event → S → Typ
   pub none_left : (x a b c : S) → takes x (opens h) a → takes a (holds k) b → takes b closes c → ((y : S) → takes c ends y → ⊥) → Never (Before r takes (at_header h k) fs x)
   none_left x a b c o l e n z p = never_ended r takes one [] fs c refl n z ((through_end x a b c o l e).to z p)
 
-module _ {S : Type 0} (r : ℕ → List Step) (takes : S → Event → S → Type 0) (leaves : S → Question → S → Type 0) (h : Head') (k : LeafKind) (fs : List Frame) where
-  behind_header : (x a z : S) → takes x (opens h) a → BeforeStops r takes leaves (at_contents k) fs a z → BeforeStops r takes leaves (at_header h k) fs x z
-  behind_header x a z o s = asked_stops r takes leaves (at_header h k) (at_contents k) None fs x a z (head o) (before_none r takes leaves (at_contents k) fs a z s)
+module _ {S : Type 0} (r : ℕ → List Step) (takes : S → Event → S → Type 0) (refuses : S → Question → S → Type 0) (h : Head') (k : LeafKind) (fs : List Frame) where
+  after_header : (x a z : S) → takes x (opens h) a → BeforeStops r takes refuses (at_contents k) fs a z → BeforeStops r takes refuses (at_header h k) fs x z
+  after_header x a z o s = asked_stops r takes refuses (at_header h k) (at_contents k) None fs x a z (head o) (before_none r takes refuses (at_contents k) fs a z s)
 
-  behind_contents : (a b z : S) → takes a (holds k) b → BeforeStops r takes leaves at_close fs b z → BeforeStops r takes leaves (at_contents k) fs a z
-  behind_contents a b z l s = asked_stops r takes leaves (at_contents k) at_close None fs a b z (leaf l) (before_none r takes leaves at_close fs b z s)
+  after_contents : (a b z : S) → takes a (holds k) b → BeforeStops r takes refuses at_close fs b z → BeforeStops r takes refuses (at_contents k) fs a z
+  after_contents a b z l s = asked_stops r takes refuses (at_contents k) at_close None fs a b z (leaf l) (before_none r takes refuses at_close fs b z s)
 
-  behind_close : (b c z : S) → takes b closes c → BeforeStops r takes leaves [] fs c z → BeforeStops r takes leaves at_close fs b z
-  behind_close b c z e s = asked_stops r takes leaves at_close [] None fs b c z (ending e) (before_none r takes leaves [] fs c z s)
+  after_close : (b c z : S) → takes b closes c → BeforeStops r takes refuses [] fs c z → BeforeStops r takes refuses at_close fs b z
+  after_close b c z e s = asked_stops r takes refuses at_close [] None fs b c z (ending e) (before_none r takes refuses [] fs c z s)
 
-  behind_all : (x a b c z : S) → takes x (opens h) a → takes a (holds k) b → takes b closes c → BeforeStops r takes leaves [] fs c z → BeforeStops r takes leaves (at_header h k) fs x z
-  behind_all x a b c z o l e s = behind_header x a z o (behind_contents a b z l (behind_close b c z e s))
+  after_all : (x a b c z : S) → takes x (opens h) a → takes a (holds k) b → takes b closes c → BeforeStops r takes refuses [] fs c z → BeforeStops r takes refuses (at_header h k) fs x z
+  after_all x a b c z o l e s = after_header x a z o (after_contents a b z l (after_close b c z e s))
 
-  pub stops_behind : (x a b c y z : S) → takes x (opens h) a → takes a (holds k) b → takes b closes c → takes c ends y → GoesStop r takes leaves fs y z → BeforeStops r takes leaves (at_header h k) fs x z
-  stops_behind x a b c y z o l e d s = behind_all x a b c z o l e (ended_stops r takes leaves [] fs c y z refl d s)
+  pub stops_after : (x a b c y z : S) → takes x (opens h) a → takes a (holds k) b → takes b closes c → takes c ends y → GoesStop r takes refuses fs y z → BeforeStops r takes refuses (at_header h k) fs x z
+  stops_after x a b c y z o l e d s = after_all x a b c z o l e (ended_stops r takes refuses [] fs c y z refl d s)
 
-  pub stops_at_header : (x z : S) → ((y : S) → takes x (opens h) y → ⊥) → leaves x (to_open h) z → BeforeStops r takes leaves (at_header h k) fs x z
-  stops_at_header x z n l = nothing_asked r takes leaves (at_header h k) fs x z (omega arith) (no_head takes h (at_contents k) x n) l
+  pub stops_at_header : (x z : S) → ((y : S) → takes x (opens h) y → ⊥) → refuses x (to_open h) z → BeforeStops r takes refuses (at_header h k) fs x z
+  stops_at_header x z n l = nothing_asked r takes refuses (at_header h k) fs x z (omega arith) (no_head takes h (at_contents k) x n) l
 
-  pub stops_at_contents : (x a z : S) → takes x (opens h) a → ((y : S) → takes a (holds k) y → ⊥) → leaves a (to_hold k) z → BeforeStops r takes leaves (at_header h k) fs x z
-  stops_at_contents x a z o n l = behind_header x a z o (nothing_asked r takes leaves (at_contents k) fs a z (omega arith) (no_leaf takes k at_close a n) l)
+  pub stops_at_contents : (x a z : S) → takes x (opens h) a → ((y : S) → takes a (holds k) y → ⊥) → refuses a (to_hold k) z → BeforeStops r takes refuses (at_header h k) fs x z
+  stops_at_contents x a z o n l = after_header x a z o (nothing_asked r takes refuses (at_contents k) fs a z (omega arith) (no_leaf takes k at_close a n) l)
 
-  pub stops_at_close : (x a b z : S) → takes x (opens h) a → takes a (holds k) b → ((y : S) → takes b closes y → ⊥) → leaves b to_close z → BeforeStops r takes leaves (at_header h k) fs x z
-  stops_at_close x a b z o i n l = behind_header x a z o (behind_contents a b z i (nothing_asked r takes leaves at_close fs b z (omega arith) (no_end takes [] b n) l))
+  pub stops_at_close : (x a b z : S) → takes x (opens h) a → takes a (holds k) b → ((y : S) → takes b closes y → ⊥) → refuses b to_close z → BeforeStops r takes refuses (at_header h k) fs x z
+  stops_at_close x a b z o i n l = after_header x a z o (after_contents a b z i (nothing_asked r takes refuses at_close fs b z (omega arith) (no_end takes [] b n) l))
 
-  pub stops_at_end : (x a b c z : S) → takes x (opens h) a → takes a (holds k) b → takes b closes c → ((y : S) → takes c ends y → ⊥) → leaves c to_end z → BeforeStops r takes leaves (at_header h k) fs x z
-  stops_at_end x a b c z o i e n l = behind_all x a b c z o i e (none_ended r takes leaves [] fs c z refl n l)
+  pub stops_at_end : (x a b c z : S) → takes x (opens h) a → takes a (holds k) b → takes b closes c → ((y : S) → takes c ends y → ⊥) → refuses c to_end z → BeforeStops r takes refuses (at_header h k) fs x z
+  stops_at_end x a b c z o i e n l = after_all x a b c z o i e (none_ended r takes refuses [] fs c z refl n l)

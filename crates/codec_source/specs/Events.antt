@@ -18,7 +18,7 @@ pub data Event : Type 0 where
   -- additions that the type lacks are skipped
   skips : Event
   -- whether a component of a SEQUENCE comes next
-  stands : Field → (yes : Bool) → Event
+  comes : Field → (yes : Bool) → Event
   -- whether one more element of a list comes next; the elements of a SET OF are sorted by their encodings
   more : TypeId → (sorted : Bool) → (yes : Bool) → Event
   -- which component of a SET comes next, by its type, of those with which these steps start; None if there is none
@@ -35,10 +35,10 @@ pub data Question : Type 0 where
   to_hold : LeafKind → Question
   to_skip : Question
   -- whether a component of a SEQUENCE comes next, and whether one more element does
-  whether_stands : Field → Question
+  whether_comes : Field → Question
   whether_more : TypeId → (sorted : Bool) → Question
   -- which component of a SET comes next, and which alternative
-  which_stands : List Step → Question
+  which_comes : List Step → Question
   which_picked : List Step → Question
 
 -- two answers to one question
@@ -49,7 +49,7 @@ pub data Alike : Event → Event → Type 0 where
   both_close : Alike closes closes
   both_hold : {k : LeafKind} → Alike (holds k) (holds k)
   both_skip : Alike skips skips
-  both_stand : {f : Field} {b c : Bool} → Alike (stands f b) (stands f c)
+  both_come : {f : Field} {b c : Bool} → Alike (comes f b) (comes f c)
   both_more : {t : TypeId} {s b c : Bool} → Alike (more t s b) (more t s c)
   both_among : {ss : List Step} {t u : Option TypeId} → Alike (among ss t) (among ss u)
   both_pick : {ss : List Step} {t u : TypeId} → Alike (picks ss t) (picks ss u)

@@ -6,15 +6,15 @@ use Rattle.codec_code.specs.declared.step.Head.{Head as Head'}
 use Rattle.encodings.specs.declared.leaf_kind.LeafKind.{LeafKind}
 use Rattle.codec_code.specs.declared.step.Field.{Field as Field'}
 use Rattle.codec_code.specs.declared.step.Step.{Step}
-use Rattle.codec_code.specs.declared.step.Step.TheVariants.{Head, Leaf, Field, Ranked, Each, EachSorted, Pick}
+use Rattle.codec_code.specs.declared.step.Step.TheVariants.{Head, Leaf, Field, SetComponent, Each, EachSorted, Pick}
 use Rattle.codec_code.specs.declared.step.Step.TheVariants.{Call, Rest, End}
-use Rattle.codec_source.specs.Events.{Event, begins, ends, opens, closes, holds, skips, stands, more, among, picks}
+use Rattle.codec_source.specs.Events.{Event, begins, ends, opens, closes, holds, skips, comes, more, among, picks}
 
 -- the steps after the components of a SET
-abbrev pub behind_components : List Step → List Step
-behind_components [] = []
-behind_components (Ranked f r ∷ ss) = behind_components ss
-behind_components (s ∷ ss) = s ∷ ss
+abbrev pub past_components : List Step → List Step
+past_components [] = []
+past_components (SetComponent f r ∷ ss) = past_components ss
+past_components (s ∷ ss) = s ∷ ss
 
 -- The answer that the first of these steps takes, and the steps that go on after it. If there is a type, a value of it
 -- is read before they do.
@@ -25,18 +25,18 @@ pub data Asks {S : Type 0} (takes : S → Event → S → Type 0)
   leaf : {k : LeafKind} {ss : List Step} {x y : S} → takes x (holds k) y → Asks takes (Leaf k ∷ ss) x ss None y
   rest : {ss : List Step} {x y : S} → takes x skips y → Asks takes (Rest ∷ ss) x ss None y
   left_out : {f : Field'} {ss : List Step} {x y : S}
-      → takes x (stands f false) y
+      → takes x (comes f false) y
       → Asks takes (Field f ∷ ss) x ss None y
   field : {f : Field'} {ss : List Step} {x y : S}
-      → takes x (stands f true) y
+      → takes x (comes f true) y
       → Asks takes (Field f ∷ ss) x ss (Some f.ty) y
   -- the components of a SET in any order, until none comes next
   component : {f : Field'} {r : ℕ} {t : TypeId} {ss : List Step} {x y : S}
-      → takes x (among (Ranked f r ∷ ss) (Some t)) y
-      → Asks takes (Ranked f r ∷ ss) x (Ranked f r ∷ ss) (Some t) y
+      → takes x (among (SetComponent f r ∷ ss) (Some t)) y
+      → Asks takes (SetComponent f r ∷ ss) x (SetComponent f r ∷ ss) (Some t) y
   no_component : {f : Field'} {r : ℕ} {ss : List Step} {x y : S}
-      → takes x (among (Ranked f r ∷ ss) None) y
-      → Asks takes (Ranked f r ∷ ss) x (behind_components ss) None y
+      → takes x (among (SetComponent f r ∷ ss) None) y
+      → Asks takes (SetComponent f r ∷ ss) x (past_components ss) None y
   element : {t : TypeId} {ss : List Step} {x y : S}
       → takes x (more t false true) y
       → Asks takes (Each t ∷ ss) x (Each t ∷ ss) (Some t) y
@@ -59,16 +59,16 @@ pub data Asks {S : Type 0} (takes : S → Event → S → Type 0)
 pub data Does {S : Type 0} (routine : ℕ → List Step) (takes : S → Event → S → Type 0)
     : List Step → S → S → Type 0 where
   finished : {x : S} → Does routine takes [] x x
-  goes_on : {ss behind : List Step} {x y z : S}
-      → Asks takes ss x behind None y
-      → Does routine takes behind y z
+  goes_on : {ss following : List Step} {x y z : S}
+      → Asks takes ss x following None y
+      → Does routine takes following y z
       → Does routine takes ss x z
-  reads : {ss behind : List Step} {t : TypeId} {x y a b c z : S}
-      → Asks takes ss x behind (Some t) y
+  reads : {ss following : List Step} {t : TypeId} {x y a b c z : S}
+      → Asks takes ss x following (Some t) y
       → takes y (begins t) a
       → Does routine takes (routine t.index) a b
       → takes b ends c
-      → Does routine takes behind c z
+      → Does routine takes following c z
       → Does routine takes ss x z
 
 -- the type's routine reads a value

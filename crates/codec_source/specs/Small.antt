@@ -4,7 +4,7 @@ use Rattle.asn_base.specs.declared.schema.TypeId.{TypeId}
 use Rattle.codec_code.specs.declared.step.Head.{Head}
 use Rattle.codec_code.specs.declared.step.Field.{Field}
 use Rattle.encodings.specs.declared.leaf_kind.LeafKind.{LeafKind}
-use Rattle.codec_source.specs.Events.{Event, begins, ends, opens, closes, holds, stands}
+use Rattle.codec_source.specs.Events.{Event, begins, ends, opens, closes, holds, comes}
 
 -- a value of the type begins, its header and its contents are read, and it ends
 pub record TakesValue {S : Type 0} (takes : S → Event → S → Type 0) (t : TypeId) (h : Head) (k : LeafKind) (x z : S)
@@ -23,5 +23,5 @@ pub record TakesValue {S : Type 0} (takes : S → Event → S → Type 0) (t : T
 pub record TakesComponent {S : Type 0} (takes : S → Event → S → Type 0) (f : Field) (h : Head) (k : LeafKind) (x z : S)
     : Type 0 where
   pub next_at : S
-  pub is_next : takes x (stands f true) next_at
+  pub is_next : takes x (comes f true) next_at
   pub value : TakesValue takes f.ty h k next_at z

@@ -1,7 +1,7 @@
 //! One step over a source.
 
-ghost use Rattle.codec_code.specs.declared.step.Step.TheVariants.{Call, Each, EachSorted, End, Field as Field', Head as Head', Leaf, Pick, Ranked, Rest};
-ghost use Rattle.codec_source.specs.Reading.{Asks, behind_components};
+ghost use Rattle.codec_code.specs.declared.step.Step.TheVariants.{Call, Each, EachSorted, End, Field as Field', Head as Head', Leaf, Pick, SetComponent, Rest};
+ghost use Rattle.codec_source.specs.Reading.{Asks, past_components};
 ghost use Rattle.codec_source.specs.Stopping.{AsksNothing, asked};
 ghost use Rattle.codec_source.specs.proving.Frames.{IfRefused, IfRefusedWith, is_ranked};
 ghost use Rattle.std.specs.Prelude.{◌≡◌, ◌∷◌, IfOk, drop, take};
@@ -15,7 +15,7 @@ use encodings::LeafKind;
 /// The steps that go on, and the type of the value that is read before they do, if there is one.
 #[derive(Drop)]
 pub(crate) struct Answer<'a> {
-    pub(crate) behind: &'a [Step],
+    pub(crate) following: &'a [Step],
     pub(crate) value: Option<TypeId>,
 }
 
@@ -28,9 +28,9 @@ pub(crate) fn ask<'a, S: Source>(
     source: &mut S,
 ) -> Result<Answer<'a>, ReadFault>
     requires { all.now ≡ step ∷ rest.now }
-    ensures ok { IfOk result (λ a. Asks S.takes (step ∷ rest.now) source.old a.behind.now a.value source.new) }
+    ensures ok { IfOk result (λ a. Asks S.takes (step ∷ rest.now) source.old a.following.now a.value source.new) }
     ensures err { IfRefused result (AsksNothing S.takes (step ∷ rest.now) source.old) }
-    ensures left { IfRefusedWith result (S.leaves source.old (asked (step ∷ rest.now)) source.new) }
+    ensures left { IfRefusedWith result (S.refuses source.old (asked (step ∷ rest.now)) source.new) }
 {
     match step {
         Step::Head(head) => ask_head(head, rest, source),
@@ -38,12 +38,12 @@ pub(crate) fn ask<'a, S: Source>(
         Step::Leaf(kind) => ask_leaf(kind, rest, source),
         Step::Rest => ask_rest(rest, source),
         Step::Field(field) => ask_field(field, rest, source),
-        Step::Ranked(field, rank) => ask_ranked(field, rank, rest, all, source),
+        Step::SetComponent(field, rank) => ask_ranked(field, rank, rest, all, source),
         Step::Each(id) => ask_each(id, rest, all, source),
         Step::EachSorted(id) => ask_sorted(id, rest, all, source),
         Step::Pick(count) => ask_pick(count, rest, source),
         Step::Call(id) => Ok(Answer {
-            behind: rest,
+            following: rest,
             value: Some(id),
         }),
     }
@@ -55,13 +55,13 @@ fn ask_head<'a, S: Source>(
     rest: &'a [Step],
     source: &mut S,
 ) -> Result<Answer<'a>, ReadFault>
-    ensures ok { IfOk result (λ a. Asks S.takes (Head' head ∷ rest.now) source.old a.behind.now a.value source.new) }
+    ensures ok { IfOk result (λ a. Asks S.takes (Head' head ∷ rest.now) source.old a.following.now a.value source.new) }
     ensures err { IfRefused result (AsksNothing S.takes (Head' head ∷ rest.now) source.old) }
-    ensures left { IfRefusedWith result (S.leaves source.old (asked (Head' head ∷ rest.now)) source.new) }
+    ensures left { IfRefusedWith result (S.refuses source.old (asked (Head' head ∷ rest.now)) source.new) }
 {
     match source.open(head) {
         Ok(()) => Ok(Answer {
-            behind: rest,
+            following: rest,
             value: None,
         }),
         Err(fault) => Err(fault),
@@ -70,13 +70,13 @@ fn ask_head<'a, S: Source>(
 
 #[inline(always)]
 fn ask_end<'a, S: Source>(rest: &'a [Step], source: &mut S) -> Result<Answer<'a>, ReadFault>
-    ensures ok { IfOk result (λ a. Asks S.takes (End ∷ rest.now) source.old a.behind.now a.value source.new) }
+    ensures ok { IfOk result (λ a. Asks S.takes (End ∷ rest.now) source.old a.following.now a.value source.new) }
     ensures err { IfRefused result (AsksNothing S.takes (End ∷ rest.now) source.old) }
-    ensures left { IfRefusedWith result (S.leaves source.old (asked (End ∷ rest.now)) source.new) }
+    ensures left { IfRefusedWith result (S.refuses source.old (asked (End ∷ rest.now)) source.new) }
 {
     match source.close() {
         Ok(()) => Ok(Answer {
-            behind: rest,
+            following: rest,
             value: None,
         }),
         Err(fault) => Err(fault),
@@ -88,13 +88,13 @@ fn ask_leaf<'a, S: Source>(
     rest: &'a [Step],
     source: &mut S,
 ) -> Result<Answer<'a>, ReadFault>
-    ensures ok { IfOk result (λ a. Asks S.takes (Leaf kind ∷ rest.now) source.old a.behind.now a.value source.new) }
+    ensures ok { IfOk result (λ a. Asks S.takes (Leaf kind ∷ rest.now) source.old a.following.now a.value source.new) }
     ensures err { IfRefused result (AsksNothing S.takes (Leaf kind ∷ rest.now) source.old) }
-    ensures left { IfRefusedWith result (S.leaves source.old (asked (Leaf kind ∷ rest.now)) source.new) }
+    ensures left { IfRefusedWith result (S.refuses source.old (asked (Leaf kind ∷ rest.now)) source.new) }
 {
     match source.leaf(kind) {
         Ok(()) => Ok(Answer {
-            behind: rest,
+            following: rest,
             value: None,
         }),
         Err(fault) => Err(fault),
@@ -102,13 +102,13 @@ fn ask_leaf<'a, S: Source>(
 }
 
 fn ask_rest<'a, S: Source>(rest: &'a [Step], source: &mut S) -> Result<Answer<'a>, ReadFault>
-    ensures ok { IfOk result (λ a. Asks S.takes (Rest ∷ rest.now) source.old a.behind.now a.value source.new) }
+    ensures ok { IfOk result (λ a. Asks S.takes (Rest ∷ rest.now) source.old a.following.now a.value source.new) }
     ensures err { IfRefused result (AsksNothing S.takes (Rest ∷ rest.now) source.old) }
-    ensures left { IfRefusedWith result (S.leaves source.old (asked (Rest ∷ rest.now)) source.new) }
+    ensures left { IfRefusedWith result (S.refuses source.old (asked (Rest ∷ rest.now)) source.new) }
 {
     match source.skip() {
         Ok(()) => Ok(Answer {
-            behind: rest,
+            following: rest,
             value: None,
         }),
         Err(fault) => Err(fault),
@@ -121,17 +121,17 @@ fn ask_field<'a, S: Source>(
     rest: &'a [Step],
     source: &mut S,
 ) -> Result<Answer<'a>, ReadFault>
-    ensures ok { IfOk result (λ a. Asks S.takes (Field' field ∷ rest.now) source.old a.behind.now a.value source.new) }
+    ensures ok { IfOk result (λ a. Asks S.takes (Field' field ∷ rest.now) source.old a.following.now a.value source.new) }
     ensures err { IfRefused result (AsksNothing S.takes (Field' field ∷ rest.now) source.old) }
-    ensures left { IfRefusedWith result (S.leaves source.old (asked (Field' field ∷ rest.now)) source.new) }
+    ensures left { IfRefusedWith result (S.refuses source.old (asked (Field' field ∷ rest.now)) source.new) }
 {
     match source.has_component(field) {
         Ok(true) => Ok(Answer {
-            behind: rest,
+            following: rest,
             value: Some(field.ty),
         }),
         Ok(false) => Ok(Answer {
-            behind: rest,
+            following: rest,
             value: None,
         }),
         Err(fault) => Err(fault),
@@ -145,19 +145,19 @@ fn ask_ranked<'a, S: Source>(
     all: &'a [Step],
     source: &mut S,
 ) -> Result<Answer<'a>, ReadFault>
-    requires { all.now ≡ Ranked field rank ∷ rest.now }
+    requires { all.now ≡ SetComponent field rank ∷ rest.now }
     ensures ok { IfOk result (λ a.
-        Asks S.takes (Ranked field rank ∷ rest.now) source.old a.behind.now a.value source.new) }
-    ensures err { IfRefused result (AsksNothing S.takes (Ranked field rank ∷ rest.now) source.old) }
-    ensures left { IfRefusedWith result (S.leaves source.old (asked (Ranked field rank ∷ rest.now)) source.new) }
+        Asks S.takes (SetComponent field rank ∷ rest.now) source.old a.following.now a.value source.new) }
+    ensures err { IfRefused result (AsksNothing S.takes (SetComponent field rank ∷ rest.now) source.old) }
+    ensures left { IfRefusedWith result (S.refuses source.old (asked (SetComponent field rank ∷ rest.now)) source.new) }
 {
     match source.next_component(all) {
         Ok(Some(id)) => Ok(Answer {
-            behind: all,
+            following: all,
             value: Some(id),
         }),
         Ok(None) => Ok(Answer {
-            behind: after_components(rest),
+            following: after_components(rest),
             value: None,
         }),
         Err(fault) => Err(fault),
@@ -171,17 +171,17 @@ fn ask_each<'a, S: Source>(
     source: &mut S,
 ) -> Result<Answer<'a>, ReadFault>
     requires { all.now ≡ Each id ∷ rest.now }
-    ensures ok { IfOk result (λ a. Asks S.takes (Each id ∷ rest.now) source.old a.behind.now a.value source.new) }
+    ensures ok { IfOk result (λ a. Asks S.takes (Each id ∷ rest.now) source.old a.following.now a.value source.new) }
     ensures err { IfRefused result (AsksNothing S.takes (Each id ∷ rest.now) source.old) }
-    ensures left { IfRefusedWith result (S.leaves source.old (asked (Each id ∷ rest.now)) source.new) }
+    ensures left { IfRefusedWith result (S.refuses source.old (asked (Each id ∷ rest.now)) source.new) }
 {
     match source.has_element(id, false) {
         Ok(true) => Ok(Answer {
-            behind: all,
+            following: all,
             value: Some(id),
         }),
         Ok(false) => Ok(Answer {
-            behind: rest,
+            following: rest,
             value: None,
         }),
         Err(fault) => Err(fault),
@@ -195,17 +195,17 @@ fn ask_sorted<'a, S: Source>(
     source: &mut S,
 ) -> Result<Answer<'a>, ReadFault>
     requires { all.now ≡ EachSorted id ∷ rest.now }
-    ensures ok { IfOk result (λ a. Asks S.takes (EachSorted id ∷ rest.now) source.old a.behind.now a.value source.new) }
+    ensures ok { IfOk result (λ a. Asks S.takes (EachSorted id ∷ rest.now) source.old a.following.now a.value source.new) }
     ensures err { IfRefused result (AsksNothing S.takes (EachSorted id ∷ rest.now) source.old) }
-    ensures left { IfRefusedWith result (S.leaves source.old (asked (EachSorted id ∷ rest.now)) source.new) }
+    ensures left { IfRefusedWith result (S.refuses source.old (asked (EachSorted id ∷ rest.now)) source.new) }
 {
     match source.has_element(id, true) {
         Ok(true) => Ok(Answer {
-            behind: all,
+            following: all,
             value: Some(id),
         }),
         Ok(false) => Ok(Answer {
-            behind: rest,
+            following: rest,
             value: None,
         }),
         Err(fault) => Err(fault),
@@ -217,14 +217,14 @@ fn ask_pick<'a, S: Source>(
     rest: &'a [Step],
     source: &mut S,
 ) -> Result<Answer<'a>, ReadFault>
-    ensures ok { IfOk result (λ a. Asks S.takes (Pick count ∷ rest.now) source.old a.behind.now a.value source.new) }
+    ensures ok { IfOk result (λ a. Asks S.takes (Pick count ∷ rest.now) source.old a.following.now a.value source.new) }
     ensures err { IfRefused result (AsksNothing S.takes (Pick count ∷ rest.now) source.old) }
-    ensures left { IfRefusedWith result (S.leaves source.old (asked (Pick count ∷ rest.now)) source.new) }
+    ensures left { IfRefusedWith result (S.refuses source.old (asked (Pick count ∷ rest.now)) source.new) }
 {
     let calls = first_steps(count, rest);
     match source.alternative(calls) {
         Ok(id) => Ok(Answer {
-            behind: later_steps(count, rest),
+            following: later_steps(count, rest),
             value: Some(id),
         }),
         Err(fault) => Err(fault),
@@ -258,14 +258,14 @@ fn later_steps(count: usize, steps: &[Step]) -> &[Step]
 /// The steps after the components of a SET.
 #[tactic(auto, using(crate::proofs::Asking::one_component, crate::proofs::Asking::other_step, crate::proofs::Asking::no_step))]
 fn after_components(steps: &[Step]) -> &[Step]
-    ensures { result.now ≡ behind_components steps.now }
+    ensures { result.now ≡ past_components steps.now }
 {
     let mut rest = steps;
-    while let Some((step, behind)) = rest.split_first() {
+    while let Some((step, following)) = rest.split_first() {
         if !is_component(*step) {
             return rest;
         }
-        rest = behind;
+        rest = following;
     }
     rest
 }
@@ -275,7 +275,7 @@ fn is_component(step: Step) -> bool
     ensures { result ≡ is_ranked step }
 {
     match step {
-        Step::Ranked(_, _) => true,
+        Step::SetComponent(_, _) => true,
         Step::Head(_) => false,
         Step::Leaf(_) => false,
         Step::Field(_) => false,

@@ -32,7 +32,7 @@ pub fn read<S: Source>(
     ensures err { IfRefused result ((b : S) → Reads (routine_at code.now) S.takes id source.old b → ⊥) }
     // The routine came to a question without an answer, and the source is left there.
     ensures stopped { IfRefusedWith result (λ e.
-        StopsReading (routine_at code.now) S.takes (λ a q b. S.leaves a q b e) id source.old source.new) }
+        StopsReading (routine_at code.now) S.takes (λ a q b. S.refuses a q b e) id source.old source.new) }
 {
     match source.begin(id) {
         Ok(()) => {}
@@ -83,15 +83,15 @@ fn turn<'a, S: Source>(
         (Before (routine_at code.now) S.takes frame.entry.steps.now frames.old.items source.old)
         (Goes (routine_at code.now) S.takes (and_next frames.new.items o) source.new)) }
     ensures less { IfOk result (λ o.
-        weighs (length (table_of code.now)) (S.room source.new) (and_next frames.new.items o)
-        < weighs (length (table_of code.now)) (S.room source.old) (frames.old.items ++ frame.entry ∷ [])) }
+        weighs (length (table_of code.now)) (S.budget source.new) (and_next frames.new.items o)
+        < weighs (length (table_of code.now)) (S.budget source.old) (frames.old.items ++ frame.entry ∷ [])) }
     ensures err { IfRefused result
         (Never (Before (routine_at code.now) S.takes frame.entry.steps.now frames.old.items source.old)) }
     ensures on { IfOk result (λ o. (e : ReadFault') (z : S)
-        → GoesStop (routine_at code.now) S.takes (λ a q b. S.leaves a q b e) (and_next frames.new.items o) source.new z
-        → BeforeStops (routine_at code.now) S.takes (λ a q b. S.leaves a q b e) frame.entry.steps.now frames.old.items
+        → GoesStop (routine_at code.now) S.takes (λ a q b. S.refuses a q b e) (and_next frames.new.items o) source.new z
+        → BeforeStops (routine_at code.now) S.takes (λ a q b. S.refuses a q b e) frame.entry.steps.now frames.old.items
         source.old z) }
-    ensures stopped { IfRefusedWith result (λ e. BeforeStops (routine_at code.now) S.takes (λ a q b. S.leaves a q b e)
+    ensures stopped { IfRefusedWith result (λ e. BeforeStops (routine_at code.now) S.takes (λ a q b. S.refuses a q b e)
         frame.entry.steps.now frames.old.items source.old source.new) }
 {
     match read_component(code, frame, source) {
@@ -113,15 +113,15 @@ fn turn_by_questions<'a, S: Source>(
         (Before (routine_at code.now) S.takes frame.entry.steps.now frames.old.items source.old)
         (Goes (routine_at code.now) S.takes (and_next frames.new.items o) source.new)) }
     ensures less { IfOk result (λ o.
-        weighs (length (table_of code.now)) (S.room source.new) (and_next frames.new.items o)
-        < weighs (length (table_of code.now)) (S.room source.old) (frames.old.items ++ frame.entry ∷ [])) }
+        weighs (length (table_of code.now)) (S.budget source.new) (and_next frames.new.items o)
+        < weighs (length (table_of code.now)) (S.budget source.old) (frames.old.items ++ frame.entry ∷ [])) }
     ensures err { IfRefused result
         (Never (Before (routine_at code.now) S.takes frame.entry.steps.now frames.old.items source.old)) }
     ensures on { IfOk result (λ o. (e : ReadFault') (z : S)
-        → GoesStop (routine_at code.now) S.takes (λ a q b. S.leaves a q b e) (and_next frames.new.items o) source.new z
-        → BeforeStops (routine_at code.now) S.takes (λ a q b. S.leaves a q b e) frame.entry.steps.now frames.old.items
+        → GoesStop (routine_at code.now) S.takes (λ a q b. S.refuses a q b e) (and_next frames.new.items o) source.new z
+        → BeforeStops (routine_at code.now) S.takes (λ a q b. S.refuses a q b e) frame.entry.steps.now frames.old.items
         source.old z) }
-    ensures stopped { IfRefusedWith result (λ e. BeforeStops (routine_at code.now) S.takes (λ a q b. S.leaves a q b e)
+    ensures stopped { IfRefusedWith result (λ e. BeforeStops (routine_at code.now) S.takes (λ a q b. S.refuses a q b e)
         frame.entry.steps.now frames.old.items source.old source.new) }
 {
     match frame.steps.split_first() {
@@ -136,9 +136,9 @@ fn turn_by_questions<'a, S: Source>(
             };
             match answer.value {
                 None => Ok(Some(Frame {
-                    steps: answer.behind,
+                    steps: answer.following,
                 })),
-                Some(id) => match call(code, id, answer.behind, frames, source) {
+                Some(id) => match call(code, id, answer.following, frames, source) {
                     Ok(next) => Ok(Some(next)),
                     Err(fault) => Err(fault),
                 },
@@ -152,29 +152,29 @@ fn turn_by_questions<'a, S: Source>(
 fn call<'a, S: Source>(
     code: &'a Code,
     id: TypeId,
-    behind: &'a [Step],
+    following: &'a [Step],
     frames: &mut Vec<Frame<'a>>,
     source: &mut S,
 ) -> Result<Frame<'a>, ReadFault>
     ensures ok { IfOk result (λ f. Same
-        (ThenBefore (routine_at code.now) S.takes (Some id) behind.now frames.old.items source.old)
+        (ThenBefore (routine_at code.now) S.takes (Some id) following.now frames.old.items source.old)
         (Goes (routine_at code.now) S.takes (frames.new.items ++ f ∷ []) source.new)) }
     ensures less { IfOk result (λ f.
-        weighs (length (table_of code.now)) (S.room source.new) (frames.new.items ++ f ∷ [])
-        < weighs (length (table_of code.now)) (S.room source.old) frames.old.items + (1 + length behind.now)) }
+        weighs (length (table_of code.now)) (S.budget source.new) (frames.new.items ++ f ∷ [])
+        < weighs (length (table_of code.now)) (S.budget source.old) frames.old.items + (1 + length following.now)) }
     ensures err { IfRefused result
-        (Never (ThenBefore (routine_at code.now) S.takes (Some id) behind.now frames.old.items source.old)) }
+        (Never (ThenBefore (routine_at code.now) S.takes (Some id) following.now frames.old.items source.old)) }
     ensures on { IfOk result (λ f. (e : ReadFault') (z : S)
-        → GoesStop (routine_at code.now) S.takes (λ a q b. S.leaves a q b e) (frames.new.items ++ f ∷ []) source.new z
-        → ThenBeforeStops (routine_at code.now) S.takes (λ a q b. S.leaves a q b e)
-        (Some id) behind.now frames.old.items source.old z) }
+        → GoesStop (routine_at code.now) S.takes (λ a q b. S.refuses a q b e) (frames.new.items ++ f ∷ []) source.new z
+        → ThenBeforeStops (routine_at code.now) S.takes (λ a q b. S.refuses a q b e)
+        (Some id) following.now frames.old.items source.old z) }
     ensures stopped { IfRefusedWith result (λ e.
-        ThenBeforeStops (routine_at code.now) S.takes (λ a q b. S.leaves a q b e)
-        (Some id) behind.now frames.old.items source.old source.new) }
+        ThenBeforeStops (routine_at code.now) S.takes (λ a q b. S.refuses a q b e)
+        (Some id) following.now frames.old.items source.old source.new) }
 {
     match read_value(code, id, source) {
-        Ok(true) => Ok(Frame { steps: behind }),
-        Ok(false) => call_by_questions(code, id, behind, frames, source),
+        Ok(true) => Ok(Frame { steps: following }),
+        Ok(false) => call_by_questions(code, id, following, frames, source),
         Err(fault) => Err(fault),
     }
 }
@@ -184,25 +184,25 @@ fn call<'a, S: Source>(
 fn call_by_questions<'a, S: Source>(
     code: &'a Code,
     id: TypeId,
-    behind: &'a [Step],
+    following: &'a [Step],
     frames: &mut Vec<Frame<'a>>,
     source: &mut S,
 ) -> Result<Frame<'a>, ReadFault>
     ensures ok { IfOk result (λ f. Same
-        (ThenBefore (routine_at code.now) S.takes (Some id) behind.now frames.old.items source.old)
+        (ThenBefore (routine_at code.now) S.takes (Some id) following.now frames.old.items source.old)
         (Goes (routine_at code.now) S.takes (frames.new.items ++ f ∷ []) source.new)) }
     ensures less { IfOk result (λ f.
-        weighs (length (table_of code.now)) (S.room source.new) (frames.new.items ++ f ∷ [])
-        < weighs (length (table_of code.now)) (S.room source.old) frames.old.items + (1 + length behind.now)) }
+        weighs (length (table_of code.now)) (S.budget source.new) (frames.new.items ++ f ∷ [])
+        < weighs (length (table_of code.now)) (S.budget source.old) frames.old.items + (1 + length following.now)) }
     ensures err { IfRefused result
-        (Never (ThenBefore (routine_at code.now) S.takes (Some id) behind.now frames.old.items source.old)) }
+        (Never (ThenBefore (routine_at code.now) S.takes (Some id) following.now frames.old.items source.old)) }
     ensures on { IfOk result (λ f. (e : ReadFault') (z : S)
-        → GoesStop (routine_at code.now) S.takes (λ a q b. S.leaves a q b e) (frames.new.items ++ f ∷ []) source.new z
-        → ThenBeforeStops (routine_at code.now) S.takes (λ a q b. S.leaves a q b e)
-        (Some id) behind.now frames.old.items source.old z) }
+        → GoesStop (routine_at code.now) S.takes (λ a q b. S.refuses a q b e) (frames.new.items ++ f ∷ []) source.new z
+        → ThenBeforeStops (routine_at code.now) S.takes (λ a q b. S.refuses a q b e)
+        (Some id) following.now frames.old.items source.old z) }
     ensures stopped { IfRefusedWith result (λ e.
-        ThenBeforeStops (routine_at code.now) S.takes (λ a q b. S.leaves a q b e)
-        (Some id) behind.now frames.old.items source.old source.new) }
+        ThenBeforeStops (routine_at code.now) S.takes (λ a q b. S.refuses a q b e)
+        (Some id) following.now frames.old.items source.old source.new) }
 {
     match source.begin(id) {
         Ok(()) => {}
@@ -210,12 +210,12 @@ fn call_by_questions<'a, S: Source>(
     }
     match leaf_routine(code, id) {
         Some((head, kind)) => match read_whole(head, kind, source) {
-            Ok(()) => Ok(Frame { steps: behind }),
+            Ok(()) => Ok(Frame { steps: following }),
             Err(fault) => Err(fault),
         },
         None => {
             let steps = code.steps(id, Coding::Tagged);
-            add(frames, Frame { steps: behind })?;
+            add(frames, Frame { steps: following })?;
             Ok(Frame { steps })
         }
     }

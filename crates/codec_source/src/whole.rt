@@ -13,7 +13,7 @@ ghost use Rattle.std.specs.Prelude.{◌≡◌, ◌≤◌, ◌∷◌, [], false, 
 use crate::frame::Frame;
 use crate::source::Source;
 use asn_base::schema::TypeId;
-use codec_code::{Brief, Code, Head, Step};
+use codec_code::{Code, Head, Step, Summary};
 use decode_faults::ReadFault;
 use encodings::LeafKind;
 
@@ -23,9 +23,9 @@ use encodings::LeafKind;
 pub(crate) fn leaf_routine(code: &Code, id: TypeId) -> Option<(Head, LeafKind)>
     ensures { IfSome result (λ p. routine_at code.now id.index ≡ Head' p.0 ∷ Leaf p.1 ∷ End ∷ []) }
 {
-    match code.brief(id) {
-        Brief::Leaf(head, kind) => Some((head, kind)),
-        Brief::Components(_, _) | Brief::Elements(_) | Brief::Any => None,
+    match code.summary(id) {
+        Summary::Leaf(head, kind) => Some((head, kind)),
+        Summary::Components(_, _) | Summary::Elements(_) | Summary::Any => None,
     }
 }
 
@@ -40,14 +40,14 @@ pub(crate) fn read_whole<S: Source>(
     ensures ok { OnOk result ((r : ℕ → List Step') (fs : List Frame') → Same
         (Before r S.takes (Head' head ∷ Leaf kind ∷ End ∷ []) fs source.old)
         (Goes r S.takes fs source.new)) }
-    ensures room { OnOk result (S.room source.new ≤ S.room source.old) }
+    ensures budget { OnOk result (S.budget source.new ≤ S.budget source.old) }
     ensures err { IfRefused result ((r : ℕ → List Step') (fs : List Frame')
         → Never (Before r S.takes (Head' head ∷ Leaf kind ∷ End ∷ []) fs source.old)) }
     ensures on { OnOk result ((r : ℕ → List Step') (fs : List Frame') (e : ReadFault') (z : S)
-        → GoesStop r S.takes (λ a q b. S.leaves a q b e) fs source.new z
-        → BeforeStops r S.takes (λ a q b. S.leaves a q b e) (Head' head ∷ Leaf kind ∷ End ∷ []) fs source.old z) }
+        → GoesStop r S.takes (λ a q b. S.refuses a q b e) fs source.new z
+        → BeforeStops r S.takes (λ a q b. S.refuses a q b e) (Head' head ∷ Leaf kind ∷ End ∷ []) fs source.old z) }
     ensures stopped { IfRefusedWith result (λ e. (r : ℕ → List Step') (fs : List Frame')
-        → BeforeStops r S.takes (λ a q b. S.leaves a q b e) (Head' head ∷ Leaf kind ∷ End ∷ []) fs source.old source.new) }
+        → BeforeStops r S.takes (λ a q b. S.refuses a q b e) (Head' head ∷ Leaf kind ∷ End ∷ []) fs source.old source.new) }
 {
     match source.open(head) {
         Ok(()) => {}
@@ -98,9 +98,9 @@ pub(crate) fn read_component<'a, S: Source>(
     ensures err { IfErr result (λ e. e ≡ Memory) }
 {
     match frame.steps.split_first() {
-        Some((Step::Field(field), behind)) => match leaf_routine(code, field.ty) {
+        Some((Step::Field(field), following)) => match leaf_routine(code, field.ty) {
             Some((head, kind)) => match source.small_component(*field, head, kind) {
-                Ok(true) => Ok(Some(Frame { steps: behind })),
+                Ok(true) => Ok(Some(Frame { steps: following })),
                 Ok(false) => Ok(None),
                 Err(fault) => Err(fault),
             },

@@ -5,7 +5,7 @@ use Rattle.clap.specs.declared.error.kind.ErrorKind.{ErrorKind}
 use Rattle.clap.specs.declared.error.kind.ErrorKind.TheVariants as kinds
 use Rattle.command_line.specs.declared.fault.WordsFault.{WordsFault}
 use Rattle.command_line.specs.declared.fault.WordsFault.TheVariants as faults
-use Rattle.command_line.specs.CommandLine.{asnc_app, octcheck_app, text_in, AsksLines, ChecksNothing, GivesNoOctets}
+use Rattle.command_line.specs.CommandLine.{asnc_app, octcheck_app, text_in, AsksLines, LacksCheckInput, GivesNoOctets}
 use Rattle.command_line.specs.CommandLine.{HasNoCheck, HasNoJob, IsFaultOf, IsMixed, IsNoCheckOf, IsNoJobOf}
 use Rattle.command_line.specs.CommandLine.{IsNoOctetsOrLines, IsNotGiven, IsNoValueIn, IsNoValueOrLines, IsRefusedBy}
 use Rattle.command_line.specs.CommandLine.{TakesOctets, TakesValue}
@@ -127,5 +127,5 @@ pub not_given : (words : List Text) (rows : List Row) (fault : WordsFault) → f
     IsRefusedBy octcheck_app (HasNoCheck words) words fault
 not_given words rows faults.Memory t r n = tt
 not_given words rows (faults.BadWords b) t r n =
-    inr (record { taken = t; lacks = subst (λ (q : List Row). ChecksNothing q) r n })
+    inr (record { taken = t; lacks = subst (λ (q : List Row). LacksCheckInput q) r n })
 not_given words rows (faults.Help b) t r n = absurd n

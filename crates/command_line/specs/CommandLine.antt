@@ -11,13 +11,15 @@ use Rattle.clap.specs.declared.error.kind.ErrorKind.TheVariants as kinds
 use Rattle.hex.specs.Hex.{decode_of}
 use Rattle.command_line.specs.declared.fault.WordsFault.{WordsFault}
 use Rattle.command_line.specs.declared.fault.WordsFault.TheVariants as faults
+use Rattle.command_line.specs.declared.request.Command.{Command}
+use Rattle.command_line.specs.declared.request.Command.TheVariants as commands
 use Rattle.command_line.specs.declared.request.Job.{Job}
+use Rattle.command_line.specs.declared.request.ModuleTexts.{ModuleTexts}
 use Rattle.command_line.specs.declared.request.ValueWords.{ValueWords}
 use Rattle.command_line.specs.declared.request.ValueWords.TheVariants as value_words
-use Rattle.command_line.specs.declared.request.Verb.{Verb}
-use Rattle.command_line.specs.declared.request.Verb.TheVariants as verbs
 use Rattle.command_line.specs.declared.request.Given.{Given}
 use Rattle.command_line.specs.declared.request.Given.TheVariants as given
+use Rattle.command_line.specs.Commands.{face, face_of}
 
 -- `--ID TEXT`, which is required
 abbrev pub text_rule : Text → Rule
@@ -273,45 +275,41 @@ IsNoValueOrLines rows faults.Memory = ⊤
 IsNoValueOrLines rows (faults.BadWords t) = LacksValueOrLines rows
 IsNoValueOrLines rows (faults.Help t) = ⊥
 
--- The job has what was found for the arguments of `der`. Fields that `der` doesn't take are empty.
-pub record IsDerOf (rows : List Row) (job : Job) : Type 0 where
-  pub verb : job.verb ≡ verbs.Der
-  pub type : string_bytes job.ty ≡ text_in rows (codes "type")
-  pub value : IsValueOrLines rows job.value
-  pub raw : (one_of (codes "raw") rows ≡ Some (codes "true")) → job.raw ≡ true
-  pub not_raw : (one_of (codes "raw") rows ≡ Some (codes "false")) → job.raw ≡ false
-  pub context : (one_of (codes "context") rows ≡ Some (codes "true")) → job.context ≡ true
-  pub no_context : (one_of (codes "context") rows ≡ Some (codes "false")) → job.context ≡ false
-  pub files : map string_bytes job.files.items ≡ texts_in rows (codes "FILE")
-  pub no_newer : job.newer.items ≡ []
-  pub no_account : string_bytes job.account ≡ []
-  pub no_octets : job.octets ≡ given.Nothing
-  pub not_strict : job.strict ≡ false
+-- a flag is true if it was given, and false if it wasn't
+pub record IsFlag (rows : List Row) (id : Text) (flag : Bool) : Type 0 where
+  pub set : (one_of id rows ≡ Some (codes "true")) → flag ≡ true
+  pub not_set : (one_of id rows ≡ Some (codes "false")) → flag ≡ false
 
--- The job has this verb, this value, and what was found for the name of a type. Fields that the verb doesn't take are
--- empty.
-pub record IsValueJobOf (verb : Verb) (value : ValueWords) (rows : List Row) (job : Job) : Type 0 where
-  pub verb_is : job.verb ≡ verb
-  pub value_is : job.value ≡ value
-  pub type : string_bytes job.ty ≡ text_in rows (codes "type")
-  pub context : (one_of (codes "context") rows ≡ Some (codes "true")) → job.context ≡ true
-  pub no_context : (one_of (codes "context") rows ≡ Some (codes "false")) → job.context ≡ false
-  pub files : map string_bytes job.files.items ≡ texts_in rows (codes "FILE")
-  pub no_newer : job.newer.items ≡ []
-  pub no_account : string_bytes job.account ≡ []
-  pub no_octets : job.octets ≡ given.Nothing
-  pub not_raw : job.raw ≡ false
-  pub not_strict : job.strict ≡ false
+-- the text that was given as the name of a type
+abbrev pub IsTypeName : List Row → Text → Type 0
+IsTypeName rows name = name ≡ text_in rows (codes "type")
 
--- the job has what was found for the arguments of `uper`
-pub record IsUperOf (rows : List Row) (job : Job) : Type 0 where
-  pub plain : IsValueJobOf verbs.Uper job.value rows job
-  pub value : IsValueOrLines rows job.value
+-- the files that were named at the end of the words, and the flag `--context`
+pub record AreTexts (rows : List Row) (texts : ModuleTexts) : Type 0 where
+  pub files : map string_bytes texts.files.items ≡ texts_in rows (codes "FILE")
+  pub context : IsFlag rows (codes "context") texts.context
 
--- the job has what was found for the arguments of `account`
-pub record IsAccountOf (rows : List Row) (job : Job) : Type 0 where
-  pub plain : IsValueJobOf verbs.Account job.value rows job
-  pub value : IsValueOf (first_of (codes "value") rows) (first_of (codes "notation") rows) job.value
+-- the command is `der`, with what was found for its arguments
+abbrev pub IsDer : List Row → Command → Type 0
+IsDer rows (commands.Der ty value raw texts) = IsTypeName rows (string_bytes ty)
+    × IsValueOrLines rows value
+    × IsFlag rows (codes "raw") raw
+    × AreTexts rows texts
+IsDer rows command = ⊥
+
+-- the command is `uper`, with what was found for its arguments
+abbrev pub IsUper : List Row → Command → Type 0
+IsUper rows (commands.Uper ty value texts) = IsTypeName rows (string_bytes ty)
+    × IsValueOrLines rows value
+    × AreTexts rows texts
+IsUper rows command = ⊥
+
+-- the command is `account`, with what was found for its arguments
+abbrev pub IsAccount : List Row → Command → Type 0
+IsAccount rows (commands.Account ty value texts) = IsTypeName rows (string_bytes ty)
+    × IsValueOf (first_of (codes "value") rows) (first_of (codes "notation") rows) value
+    × AreTexts rows texts
+IsAccount rows command = ⊥
 
 -- The octets that a text gives. After an `@` the text is the name of the file that has the octets; otherwise its digits
 -- are the octets, two for each.
@@ -322,7 +320,7 @@ IsGiven text given.Nothing = ⊥
 IsGiven text given.Lines = ⊥
 
 -- the text gives no octets
-pub record TellsNone (text : Text) : Type 0 where
+pub record IsNoOctets (text : Text) : Type 0 where
   pub no_file : (name : List ℕ) → text ≡ 64 ∷ name → ⊥
   pub no_digits : (o : List ℕ) → decode_of text ≡ Ok o → ⊥
 
@@ -332,14 +330,14 @@ IsGivenBy (Some text) octets = IsGiven text octets
 IsGivenBy None octets = ⊥
 
 -- there is no text, or it gives no octets
-abbrev pub TellsNoOctets : Option Text → Type 0
-TellsNoOctets (Some text) = TellsNone text
-TellsNoOctets None = ⊤
+abbrev pub AreNoOctets : Option Text → Type 0
+AreNoOctets (Some text) = IsNoOctets text
+AreNoOctets None = ⊤
 
 -- the same as a fault; `Memory` says nothing of the text
 abbrev pub GivesNoOctets : Option Text → WordsFault → Type 0
 GivesNoOctets text faults.Memory = ⊤
-GivesNoOctets text (faults.BadWords t) = TellsNoOctets text
+GivesNoOctets text (faults.BadWords t) = AreNoOctets text
 GivesNoOctets text (faults.Help t) = ⊥
 
 -- The octets of a command that takes lines. With `--lines` they are those of each line of standard input, and no words
@@ -353,7 +351,7 @@ pub record IsOctetsOrLines (rows : List Row) (octets : Given) : Type 0 where
 -- given and there is no text of `--hex` that gives octets
 abbrev pub LacksOctetsOrLines : List Row → Type 0
 LacksOctetsOrLines rows =
-    MixesLines rows ⊎ ((IsSet rows (codes "lines") → ⊥) × TellsNoOctets (first_of (codes "hex") rows))
+    MixesLines rows ⊎ ((IsSet rows (codes "lines") → ⊥) × AreNoOctets (first_of (codes "hex") rows))
 
 -- the same as a fault; `Memory` says nothing of the words
 abbrev pub IsNoOctetsOrLines : List Row → WordsFault → Type 0
@@ -361,118 +359,72 @@ IsNoOctetsOrLines rows faults.Memory = ⊤
 IsNoOctetsOrLines rows (faults.BadWords t) = LacksOctetsOrLines rows
 IsNoOctetsOrLines rows (faults.Help t) = ⊥
 
--- The job has what was found for the arguments of `ber`, and the octets of its words or of lines. Fields that
--- `ber` doesn't take are empty.
-pub record IsBerOf (rows : List Row) (job : Job) : Type 0 where
-  pub verb : job.verb ≡ verbs.Ber
-  pub type : string_bytes job.ty ≡ text_in rows (codes "type")
-  pub octets : IsOctetsOrLines rows job.octets
-  pub strict : (one_of (codes "strict") rows ≡ Some (codes "true")) → job.strict ≡ true
-  pub not_strict : (one_of (codes "strict") rows ≡ Some (codes "false")) → job.strict ≡ false
-  pub context : (one_of (codes "context") rows ≡ Some (codes "true")) → job.context ≡ true
-  pub no_context : (one_of (codes "context") rows ≡ Some (codes "false")) → job.context ≡ false
-  pub files : map string_bytes job.files.items ≡ texts_in rows (codes "FILE")
-  pub no_newer : job.newer.items ≡ []
-  pub no_value : job.value ≡ value_words.Nothing
-  pub no_account : string_bytes job.account ≡ []
-  pub not_raw : job.raw ≡ false
+-- the command is `ber`, with what was found for its arguments, and the octets of its words or of lines
+abbrev pub IsBer : List Row → Command → Type 0
+IsBer rows (commands.Ber ty octets strict texts) = IsTypeName rows (string_bytes ty)
+    × IsOctetsOrLines rows octets
+    × IsFlag rows (codes "strict") strict
+    × AreTexts rows texts
+IsBer rows command = ⊥
 
--- The job has what was found for the arguments of `unper`, and the octets of its words or of lines. Fields that
--- `unper` doesn't take are empty.
-pub record IsUnperOf (rows : List Row) (job : Job) : Type 0 where
-  pub verb : job.verb ≡ verbs.Unper
-  pub type : string_bytes job.ty ≡ text_in rows (codes "type")
-  pub octets : IsOctetsOrLines rows job.octets
-  pub context : (one_of (codes "context") rows ≡ Some (codes "true")) → job.context ≡ true
-  pub no_context : (one_of (codes "context") rows ≡ Some (codes "false")) → job.context ≡ false
-  pub files : map string_bytes job.files.items ≡ texts_in rows (codes "FILE")
-  pub no_newer : job.newer.items ≡ []
-  pub no_value : job.value ≡ value_words.Nothing
-  pub no_account : string_bytes job.account ≡ []
-  pub not_raw : job.raw ≡ false
-  pub not_strict : job.strict ≡ false
+-- the command is `unper`, with what was found for its arguments, and the octets of its words or of lines
+abbrev pub IsUnper : List Row → Command → Type 0
+IsUnper rows (commands.Unper ty octets texts) = IsTypeName rows (string_bytes ty)
+    × IsOctetsOrLines rows octets
+    × AreTexts rows texts
+IsUnper rows command = ⊥
 
--- The job has what was found for the arguments of `list`. Fields that `list` doesn't take are empty.
-pub record IsListOf (rows : List Row) (job : Job) : Type 0 where
-  pub verb : job.verb ≡ verbs.List
-  pub no_type : string_bytes job.ty ≡ []
-  pub no_value : job.value ≡ value_words.Nothing
-  pub not_raw : job.raw ≡ false
-  pub context : (one_of (codes "context") rows ≡ Some (codes "true")) → job.context ≡ true
-  pub no_context : (one_of (codes "context") rows ≡ Some (codes "false")) → job.context ≡ false
-  pub files : map string_bytes job.files.items ≡ texts_in rows (codes "FILE")
-  pub no_newer : job.newer.items ≡ []
-  pub no_account : string_bytes job.account ≡ []
-  pub no_octets : job.octets ≡ given.Nothing
-  pub not_strict : job.strict ≡ false
+-- the command is `list`, with what was found for its arguments
+abbrev pub IsList : List Row → Command → Type 0
+IsList rows (commands.List texts) = AreTexts rows texts
+IsList rows command = ⊥
 
--- The job has what was found for the arguments of `later`. Fields that `later` doesn't take are empty.
-pub record IsLaterOf (rows : List Row) (job : Job) : Type 0 where
-  pub verb : job.verb ≡ verbs.Later
-  pub type : string_bytes job.ty ≡ text_in rows (codes "type")
-  pub context : (one_of (codes "context") rows ≡ Some (codes "true")) → job.context ≡ true
-  pub no_context : (one_of (codes "context") rows ≡ Some (codes "false")) → job.context ≡ false
-  pub files : map string_bytes job.files.items ≡ texts_in rows (codes "FILE")
-  pub newer : map string_bytes job.newer.items ≡ texts_in rows (codes "newer")
-  pub no_value : job.value ≡ value_words.Nothing
-  pub no_account : string_bytes job.account ≡ []
-  pub no_octets : job.octets ≡ given.Nothing
-  pub not_raw : job.raw ≡ false
-  pub not_strict : job.strict ≡ false
+-- the command is `later`, with what was found for its arguments
+abbrev pub IsLater : List Row → Command → Type 0
+IsLater rows (commands.Later ty newer texts) = IsTypeName rows (string_bytes ty)
+    × (map string_bytes newer.items ≡ texts_in rows (codes "newer"))
+    × AreTexts rows texts
+IsLater rows command = ⊥
 
--- The job has what was found for the arguments of `show`, and the octets that the text of `--hex` gives. Fields that
--- `show` doesn't take are empty.
-pub record IsShowOf (rows : List Row) (job : Job) : Type 0 where
-  pub verb : job.verb ≡ verbs.Show
-  pub type : string_bytes job.ty ≡ text_in rows (codes "type")
-  pub octets : IsGiven (text_in rows (codes "hex")) job.octets
-  pub context : (one_of (codes "context") rows ≡ Some (codes "true")) → job.context ≡ true
-  pub no_context : (one_of (codes "context") rows ≡ Some (codes "false")) → job.context ≡ false
-  pub files : map string_bytes job.files.items ≡ texts_in rows (codes "FILE")
-  pub no_newer : job.newer.items ≡ []
-  pub no_value : job.value ≡ value_words.Nothing
-  pub no_account : string_bytes job.account ≡ []
-  pub not_raw : job.raw ≡ false
-  pub not_strict : job.strict ≡ false
+-- the command is `show`, with what was found for its arguments, and the octets that the text of `--hex` gives
+abbrev pub IsShow : List Row → Command → Type 0
+IsShow rows (commands.Show ty octets texts) = IsTypeName rows (string_bytes ty)
+    × IsGiven (text_in rows (codes "hex")) octets
+    × AreTexts rows texts
+IsShow rows command = ⊥
 
--- The job has what was found for the arguments of `octcheck`, and the octets that the text of `--hex` gives. Fields
--- that `octcheck` doesn't take are empty.
-pub record IsCheckOf (rows : List Row) (job : Job) : Type 0 where
-  pub verb : job.verb ≡ verbs.Check
-  pub type : string_bytes job.ty ≡ text_in rows (codes "type")
-  pub value : IsValueOf (first_of (codes "value") rows) (first_of (codes "notation") rows) job.value
-  pub octets : IsGiven (text_in rows (codes "hex")) job.octets
-  pub account : string_bytes job.account ≡ text_in rows (codes "account")
-  pub context : (one_of (codes "context") rows ≡ Some (codes "true")) → job.context ≡ true
-  pub no_context : (one_of (codes "context") rows ≡ Some (codes "false")) → job.context ≡ false
-  pub files : map string_bytes job.files.items ≡ texts_in rows (codes "FILE")
-  pub no_newer : job.newer.items ≡ []
-  pub not_raw : job.raw ≡ false
-  pub not_strict : job.strict ≡ false
+-- the command is that of `octcheck`, with what was found for its arguments, and the octets that the text of `--hex`
+-- gives
+abbrev pub IsCheck : List Row → Command → Type 0
+IsCheck rows (commands.Check ty value octets account texts) = IsTypeName rows (string_bytes ty)
+    × IsValueOf (first_of (codes "value") rows) (first_of (codes "notation") rows) value
+    × IsGiven (text_in rows (codes "hex")) octets
+    × (string_bytes account ≡ text_in rows (codes "account"))
+    × AreTexts rows texts
+IsCheck rows command = ⊥
 
--- The job is that of the command with this name: `list`, `ber`, `uper`, `unper`, `account`, `later`, `show`, or
--- otherwise `der`.
-pub record IsJobOf (command : Text) (rows : List Row) (job : Job) : Type 0 where
-  pub list : command ≡ codes "list" → IsListOf rows job
-  pub ber : command ≡ codes "ber" → IsBerOf rows job
-  pub uper : command ≡ codes "uper" → IsUperOf rows job
-  pub unper : command ≡ codes "unper" → IsUnperOf rows job
-  pub account : command ≡ codes "account" → IsAccountOf rows job
-  pub later : command ≡ codes "later" → IsLaterOf rows job
-  pub show : command ≡ codes "show" → IsShowOf rows job
-  pub der : (command ≡ codes "list" → ⊥)
-      → (command ≡ codes "ber" → ⊥)
-      → (command ≡ codes "uper" → ⊥)
-      → (command ≡ codes "unper" → ⊥)
-      → (command ≡ codes "account" → ⊥)
-      → (command ≡ codes "later" → ⊥)
-      → (command ≡ codes "show" → ⊥)
-      → IsDerOf rows job
+-- The command is the one with this name: `list`, `ber`, `uper`, `unper`, `account`, `later`, `show`, or otherwise `der`.
+pub record IsCommandOf (name : Text) (rows : List Row) (command : Command) : Type 0 where
+  pub list : name ≡ codes "list" → IsList rows command
+  pub ber : name ≡ codes "ber" → IsBer rows command
+  pub uper : name ≡ codes "uper" → IsUper rows command
+  pub unper : name ≡ codes "unper" → IsUnper rows command
+  pub account : name ≡ codes "account" → IsAccount rows command
+  pub later : name ≡ codes "later" → IsLater rows command
+  pub show : name ≡ codes "show" → IsShow rows command
+  pub der : (name ≡ codes "list" → ⊥)
+      → (name ≡ codes "ber" → ⊥)
+      → (name ≡ codes "uper" → ⊥)
+      → (name ≡ codes "unper" → ⊥)
+      → (name ≡ codes "account" → ⊥)
+      → (name ≡ codes "later" → ⊥)
+      → (name ≡ codes "show" → ⊥)
+      → IsDer rows command
 
 -- the fault of a text that gives no octets; `Memory` says nothing of the text
 abbrev pub IsNotGiven : Text → WordsFault → Type 0
 IsNotGiven text faults.Memory = ⊤
-IsNotGiven text (faults.BadWords t) = TellsNone text
+IsNotGiven text (faults.BadWords t) = IsNoOctets text
 IsNotGiven text (faults.Help t) = ⊥
 
 -- the command takes octets or lines of them
@@ -491,46 +443,52 @@ TakesValue command = (command ≡ codes "list" → ⊥)
 -- The command takes octets or lines of them, and the words give neither or mix them. Or it takes a value or lines of
 -- values, and the words give none, or two, or mix them. Or it is `account`, and the words give no value or give it
 -- twice. Or it is `show`, and the text of `--hex` gives no octets.
-abbrev pub LacksPart : Text → List Row → Type 0
-LacksPart command rows = (TakesOctets command × LacksOctetsOrLines rows)
+abbrev pub LacksInput : Text → List Row → Type 0
+LacksInput command rows = (TakesOctets command × LacksOctetsOrLines rows)
     ⊎ ((TakesValue command × LacksValueOrLines rows)
     ⊎ (((command ≡ codes "account") × GivesNoValue rows)
-    ⊎ ((command ≡ codes "show") × TellsNone (text_in rows (codes "hex")))))
+    ⊎ ((command ≡ codes "show") × IsNoOctets (text_in rows (codes "hex")))))
 
 -- the fault of a command without a job; `Memory` says nothing of the words
 abbrev pub IsNoJobOf : Text → List Row → WordsFault → Type 0
 IsNoJobOf command rows faults.Memory = ⊤
-IsNoJobOf command rows (faults.BadWords t) = LacksPart command rows
+IsNoJobOf command rows (faults.BadWords t) = LacksInput command rows
 IsNoJobOf command rows (faults.Help t) = ⊥
 
 -- the words of octcheck give no value or give it twice, or the text of `--hex` gives no octets
-abbrev pub ChecksNothing : List Row → Type 0
-ChecksNothing rows = GivesNoValue rows ⊎ TellsNone (text_in rows (codes "hex"))
+abbrev pub LacksCheckInput : List Row → Type 0
+LacksCheckInput rows = GivesNoValue rows ⊎ IsNoOctets (text_in rows (codes "hex"))
 
 -- the fault of words of octcheck without a job; `Memory` says nothing of them
 abbrev pub IsNoCheckOf : List Row → WordsFault → Type 0
 IsNoCheckOf rows faults.Memory = ⊤
-IsNoCheckOf rows (faults.BadWords t) = ChecksNothing rows
+IsNoCheckOf rows (faults.BadWords t) = LacksCheckInput rows
 IsNoCheckOf rows (faults.Help t) = ⊥
 
--- the words of asnc have no fault, and the job has what they give for their command
-pub record IsCommand (words : List Text) (job : Job) : Type 0 where
+-- the words of asnc have no fault, and the command is the one that they name, with what they give for it
+pub record IsAsncCommand (words : List Text) (command : Command) : Type 0 where
   pub taken : fault_of asnc_app words ≡ []
-  pub command : Text
-  pub called : option_map (λ p. p.0) (subcommand_of asnc_app words) ≡ Some command
+  pub name : Text
+  pub called : option_map (λ p. p.0) (subcommand_of asnc_app words) ≡ Some name
   pub rows : List Row
   pub found : option_map (λ p. p.1) (subcommand_of asnc_app words) ≡ Some rows
-  pub holds : IsJobOf command rows job
+  pub holds : IsCommandOf name rows command
 
--- the words of octcheck have no fault, and the job has what they give
-pub record IsCheck (words : List Text) (job : Job) : Type 0 where
+-- the words of octcheck have no fault, and the command has what they give
+pub record IsCheckCommand (words : List Text) (command : Command) : Type 0 where
   pub taken : fault_of octcheck_app words ≡ []
-  pub holds : IsCheckOf (matches_of octcheck_app words) job
+  pub holds : IsCheck (matches_of octcheck_app words) command
 
--- the job is the one that the words of asnc or of octcheck ask for
-pub record IsAsked (words : List Text) (job : Job) : Type 0 where
-  pub check : AreOfChecker words → IsCheck words job
-  pub command : (AreOfChecker words → ⊥) → IsCommand words job
+-- the command is the one that the words of asnc or of octcheck ask for
+pub record IsAsked (words : List Text) (command : Command) : Type 0 where
+  pub check : AreOfChecker words → IsCheckCommand words command
+  pub asnc : (AreOfChecker words → ⊥) → IsAsncCommand words command
+
+-- the job is the one that the words of asnc or of octcheck ask for: it has what their command takes, and nothing else
+pub record IsRequested (words : List Text) (job : Job) : Type 0 where
+  pub command : Command
+  pub asked : IsAsked words command
+  pub has : face job ≡ face_of command
 
 -- the fault that a failure of this kind to read the words becomes
 abbrev pub IsFaultOf : ErrorKind → WordsFault → Type 0
@@ -546,15 +504,15 @@ pub record HasNoJob (words : List Text) : Type 0 where
   pub called : option_map (λ p. p.0) (subcommand_of asnc_app words) ≡ Some command
   pub rows : List Row
   pub found : option_map (λ p. p.1) (subcommand_of asnc_app words) ≡ Some rows
-  pub lacks : LacksPart command rows
+  pub lacks : LacksInput command rows
 
 -- the words of octcheck have no other fault than this: they lack the value or the octets
 pub record HasNoCheck (words : List Text) : Type 0 where
   pub taken : fault_of octcheck_app words ≡ []
-  pub lacks : ChecksNothing (matches_of octcheck_app words)
+  pub lacks : LacksCheckInput (matches_of octcheck_app words)
 
 -- the words of a program have a fault that isn't a request for help or for the version
-pub record AreWrong (a : App) (words : List Text) : Type 0 where
+pub record IsUsageError (a : App) (words : List Text) : Type 0 where
   pub kind : ErrorKind
   pub among : IsAmong kind (fault_of a words)
   pub no_help : kind ≡ kinds.DisplayHelp → ⊥
@@ -566,7 +524,7 @@ abbrev pub IsRefusedBy : App → (Lacks : Type 0) → List Text → WordsFault �
 IsRefusedBy a Lacks words faults.Memory = ⊤
 IsRefusedBy a Lacks words (faults.Help t) =
     IsAmong kinds.DisplayHelp (fault_of a words) ⊎ IsAmong kinds.DisplayVersion (fault_of a words)
-IsRefusedBy a Lacks words (faults.BadWords t) = AreWrong a words ⊎ Lacks
+IsRefusedBy a Lacks words (faults.BadWords t) = IsUsageError a words ⊎ Lacks
 
 -- the words of asnc or of octcheck are refused
 pub record IsRefused (words : List Text) (fault : WordsFault) : Type 0 where

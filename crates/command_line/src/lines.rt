@@ -8,7 +8,7 @@ ghost use Rattle.command_line.specs.CommandLine.{IsMixed, IsNoOctetsOrLines, IsN
 ghost use Rattle.command_line.specs.CommandLine.{IsValueOrLines, NamesInput};
 
 use crate::fault::WordsFault;
-use crate::octets::given_in;
+use crate::octets::read_octets;
 use crate::request::{Given, ValueWords};
 use crate::values::{choice_of, value_in};
 use clap::ArgMatches;
@@ -129,7 +129,7 @@ fn octets_of(alloc: Global, text: Option<&str>) -> Result<Given, WordsFault>
     ensures none { IfErr result (GivesNoOctets (option_map (λ s. s.now) text.entry)) }
 {
     match text {
-        Some(text) => match given_in(alloc, "asnc", text) {
+        Some(text) => match read_octets(alloc, "asnc", text) {
             Ok(octets) => Ok(octets),
             Err(fault) => Err(fault),
         },

@@ -8,15 +8,15 @@ ghost use Rattle.command_line.specs.CommandLine.{IsGiven, IsNotGiven};
 use crate::fault::WordsFault;
 use crate::request::Given;
 use hex::FromHexError;
-use shown_texts::shown;
+use source_text::shown;
 use std::alloc::{AllocError, Global};
 
 /// What is wrong with a text of a program's words that gives no octets.
 fn complaint(alloc: Global, program: &str, text: &str) -> Result<String, AllocError> {
-    let told = shown(alloc, text)?;
+    let quoted = shown(alloc, text)?;
     let wanted = "two hexadecimal digits for each octet, or @ and the name of a file";
     format!(in alloc;
-        "found {told} after --hex, expected {wanted} ({program} --help shows the words)"
+        "found {quoted} after --hex, expected {wanted} ({program} --help shows the words)"
     )
 }
 
@@ -31,7 +31,7 @@ fn file_name(text: &str) -> Option<&str>
 /// the octets; otherwise its digits are the octets, two for each.
 ///
 /// `BadWords`: the text gives no octets. `Memory`: an allocation failed.
-pub(crate) fn given_in(alloc: Global, program: &str, text: &str) -> Result<Given, WordsFault>
+pub(crate) fn read_octets(alloc: Global, program: &str, text: &str) -> Result<Given, WordsFault>
     ensures given { IfOk result (IsGiven text.now) }
     ensures none { IfErr result (IsNotGiven text.now) }
 {

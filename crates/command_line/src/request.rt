@@ -1,5 +1,10 @@
 //! What a command line asks for.
 
+ghost use Rattle.std.specs.Prelude.{◌≡◌};
+ghost use Rattle.command_line.specs.Commands.{bare_face, face, face_of};
+
+use std::alloc::Global;
+
 /// The octets that a command line gives.
 #[derive(Debug, Drop)]
 pub enum Given {
@@ -49,6 +54,82 @@ pub enum Verb {
     Check,
 }
 
+/// The texts of modules that a command line names.
+#[derive(Debug, Drop)]
+pub struct ModuleTexts {
+    /// The names of the files, in order.
+    pub files: Vec<String>,
+    /// Whether a fault in a text is shown with the line in which it is.
+    pub context: bool,
+}
+
+/// A command, with exactly what it takes of a command line.
+///
+/// In each `ty` is the name of a type, as `Module.Type`, and `texts` are those of the modules that have it.
+#[derive(Debug, Drop)]
+pub enum Command {
+    /// Writes a value by the distinguished encoding rules.
+    Der {
+        ty: String,
+        value: ValueWords,
+        /// Whether the octets are written as they are, instead of in hexadecimal.
+        raw: bool,
+        texts: ModuleTexts,
+    },
+    /// Reads octets as a value, by the basic or by the distinguished encoding rules.
+    Ber {
+        ty: String,
+        octets: Given,
+        /// Whether only encodings by the distinguished rules are read.
+        strict: bool,
+        texts: ModuleTexts,
+    },
+    /// Writes a value by the canonical packed encoding rules, unaligned.
+    Uper {
+        ty: String,
+        value: ValueWords,
+        texts: ModuleTexts,
+    },
+    /// Reads octets as a value by the canonical packed encoding rules, unaligned.
+    Unper {
+        ty: String,
+        octets: Given,
+        texts: ModuleTexts,
+    },
+    /// Writes how the distinguished encoding of a value is made up, header by header.
+    Account {
+        ty: String,
+        value: ValueWords,
+        texts: ModuleTexts,
+    },
+    /// Lists the types, with what is known of each.
+    List {
+        texts: ModuleTexts,
+    },
+    /// Says whether a type of newer modules is a later version of that of the texts.
+    Later {
+        ty: String,
+        /// The names of the files with the newer modules' texts, in order.
+        newer: Vec<String>,
+        texts: ModuleTexts,
+    },
+    /// Reads octets by the basic encoding rules, and shows them header by header.
+    Show {
+        ty: String,
+        octets: Given,
+        texts: ModuleTexts,
+    },
+    /// Judges octets by an account of them: what `octcheck` does.
+    Check {
+        ty: String,
+        value: ValueWords,
+        octets: Given,
+        /// The name of the file with the account.
+        account: String,
+        texts: ModuleTexts,
+    },
+}
+
 /// The request of a command line. Fields that its verb doesn't take are empty, `Nothing` or false.
 #[derive(Debug, Drop)]
 pub struct Job {
@@ -69,4 +150,94 @@ pub struct Job {
     pub files: Vec<String>,
     /// The names of the files with the newer modules' texts, in order.
     pub newer: Vec<String>,
+}
+
+/// The job of a verb that takes texts alone: all other fields are empty, `Nothing` or false.
+fn bare(alloc: Global, verb: Verb, texts: ModuleTexts) -> Job
+    ensures { face result ≡ bare_face verb texts }
+{
+    Job {
+        verb,
+        ty: String::new(alloc),
+        value: ValueWords::Nothing,
+        account: String::new(alloc),
+        octets: Given::Nothing,
+        raw: false,
+        strict: false,
+        context: texts.context,
+        files: texts.files,
+        newer: Vec::new(alloc),
+    }
+}
+
+impl Command {
+    /// Returns the job of the command: the verb that is named as it, and what it takes. Fields of what it doesn't take
+    /// are empty, `Nothing` or false. It takes no memory.
+    pub fn into_job(self, alloc: Global) -> Job
+        ensures { face result ≡ face_of self }
+    {
+        match self {
+            Command::Der {
+                ty,
+                value,
+                raw,
+                texts,
+            } => Job {
+                ty,
+                value,
+                raw,
+                ..bare(alloc, Verb::Der, texts)
+            },
+            Command::Ber {
+                ty,
+                octets,
+                strict,
+                texts,
+            } => Job {
+                ty,
+                octets,
+                strict,
+                ..bare(alloc, Verb::Ber, texts)
+            },
+            Command::Uper { ty, value, texts } => Job {
+                ty,
+                value,
+                ..bare(alloc, Verb::Uper, texts)
+            },
+            Command::Unper { ty, octets, texts } => Job {
+                ty,
+                octets,
+                ..bare(alloc, Verb::Unper, texts)
+            },
+            Command::Account { ty, value, texts } => Job {
+                ty,
+                value,
+                ..bare(alloc, Verb::Account, texts)
+            },
+            Command::List { texts } => bare(alloc, Verb::List, texts),
+            Command::Later { ty, newer, texts } => Job {
+                ty,
+                newer,
+                ..bare(alloc, Verb::Later, texts)
+            },
+            Command::Show { ty, octets, texts } => Job {
+                ty,
+                octets,
+                ..bare(alloc, Verb::Show, texts)
+            },
+            Command::Check {
+                ty,
+                value,
+                octets,
+                account,
+                texts,
+            } => Job {
+                ty,
+                value,
+                octets,
+                account,
+                ..bare(alloc, Verb::Check, texts)
+            },
+        }
+    }
 }

@@ -14,7 +14,7 @@ use Rattle.asn_base.specs.Types.{Bounds, Range, Constraint}
 use Rattle.asn_base.specs.Typed.{IsInSome, IsAllowed as Allows}
 use Rattle.trees.specs.Types.{a_restricted_string}
 use Rattle.type_table.specs.Walks.{onward, follow}
-use Rattle.type_table.specs.Table.{Type', Kind, simple, walk, next, behind_of}
+use Rattle.type_table.specs.Table.{Type', Kind, simple, walk, next, target_of}
 use Rattle.resolve.specs.Program.{Program}
 use Rattle.range_ends.specs.Ends.{IsOfKind}
 use Rattle.constraints.specs.Constraints.{has_alphabet, has_size}
@@ -42,14 +42,14 @@ there_by : (ts : List Type') (i c s : ℕ) → walk ts s i ≡ Some c → c < le
 there_by ts i c s e l (inl h) = h
 there_by ts i c zero e l (inr h) = let q : i ≡ c = cc in omega (arith, q, l)
 there_by ts i c (suc s) e l (inr h) =
-    let f : next ts i ≡ None = ap behind_of (slice_get_past ts i h) in
+    let f : next ts i ≡ None = ap target_of (slice_get_past ts i h) in
     let g : None ≡ Some c = sym (ap (λ o. onward o (λ j. follow (next ts) s j)) f) ∙ e in
     absurd cc
 
 -- what has a kind is there
 kind_there : (ts : List Type') (i : ℕ) (k : Kind) → IsOfKind ts i k → i < length ts
 kind_there ts i k u =
-    there_by ts i u.core u.leads.steps u.leads.leads (slice_get_within ts u.core u.type u.there) (le_or i (length ts))
+    there_by ts i u.core u.chain.steps u.chain.chain (slice_get_within ts u.core u.type u.there) (le_or i (length ts))
 
 some_member : (cs : List ℕ) → 0 < length cs → (c : ℕ) × IsMember c cs
 some_member [] l = absurd (omega (arith, l))

@@ -11,7 +11,7 @@ use Rattle.range_ends.specs.Ranges.{IsEnd, IsEndIfAny, IsRange, IsEndOf, HasNoEn
 use Rattle.range_ends.specs.Characters.{CharsTree, IsCharacter, IsFit, HasNoCharacter, IsTurned}
 use Rattle.constraints.specs.Constraints.{IsMeant, IsFitting}
 use Rattle.constraints.specs.Bounded.{AreBounded, IsMisfit, IsRound, IsTurnedRound, HasSuch}
-use Rattle.constraints.specs.Faults.{Stands}
+use Rattle.constraints.specs.Faults.{IsRightFault}
 use Rattle.constraints.specs.declared.fault.BoundFault.{BoundFault}
 use Rattle.constraints.specs.declared.fault.BoundFault.TheVariants.{Memory, Circular, Empty, WrongKind, Reconstrained, LowerAboveUpper, MarkerPlace}
 
@@ -82,7 +82,7 @@ turned_meant p k M (values_in r) m h = none_such _ _ r.ranges (λ x. not_reverse
 turned_meant p k M (sizes_in r) m h = none_such _ _ r.ranges (λ x. not_reversed p k M _ x) m h
 turned_meant p k M (chars_in xs) m h = none_such _ _ xs not_turned m h
 
-pub excludes : (p : Program) (e : BoundFault) → (e ≡ Memory → ⊥) → Stands p e → AreBounded p → ⊥
+pub excludes : (p : Program) (e : BoundFault) → (e ≡ Memory → ⊥) → IsRightFault p e → AreBounded p → ⊥
 excludes p Memory n s b = n refl
 excludes p (Circular s) n f b =
     let h = f.round in

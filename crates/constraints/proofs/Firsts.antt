@@ -13,9 +13,9 @@ use Rattle.range_ends.specs.declared.ranges.Counted.TheVariants.{Numbers, Sizes}
 use Rattle.constraints.specs.Constraints.{takes, is_marked}
 use Rattle.constraints.specs.First.{IsConstraintWrong, memory, misplaced, in_numbers, in_sizes}
 use Rattle.constraints.specs.declared.limit.Limit.{Limit}
-use Rattle.constraints.specs.declared.meaning.Wrong.{Wrong}
+use Rattle.constraints.specs.declared.meaning.ConstraintFault.{ConstraintFault}
 use Rattle.constraints.specs.proving.Columns.{AreNoted, IsNoted, IsLimitOf}
-use Rattle.constraints.specs.proving.Told.{AreRangesWrong, no_memory, marker, range, AreBehind}
+use Rattle.constraints.specs.proving.Reported.{AreRangesWrong, no_memory, marker, range, AreTargets}
 
 pub fit_before : (xs : List CharsTree) (i n : ℕ) (x : CharsTree) →
     AreFit (take i xs) →
@@ -29,7 +29,7 @@ fit_before (y ∷ xs) (suc i) (suc n) x a l e = fit_before xs i n x a.1 (omega (
 
 -- ---- one constraint
 
-pub of_values : (p : Program) (k : Kind) (M : Name) (c : ConstraintSyntax) (r : RangesSyntax) (w : Wrong) →
+pub of_values : (p : Program) (k : Kind) (M : Name) (c : ConstraintSyntax) (r : RangesSyntax) (w : ConstraintFault) →
     takes k (constraint_of c) ≡ true →
     c.form ≡ forms.Values r →
     AreRangesWrong p k M Numbers c.at r w →
@@ -38,7 +38,7 @@ of_values p k M c r w t f (no_memory e) = memory e
 of_values p k M c r w t f (marker m e) = misplaced t (ap (λ x. is_marked k (form_of x)) f ∙ m) e
 of_values p k M c r w t f (range g m h e) = in_numbers r g t (ap (λ x. is_marked k (form_of x)) f ∙ m) f h e
 
-pub of_sizes : (p : Program) (k : Kind) (M : Name) (c : ConstraintSyntax) (r : RangesSyntax) (w : Wrong) →
+pub of_sizes : (p : Program) (k : Kind) (M : Name) (c : ConstraintSyntax) (r : RangesSyntax) (w : ConstraintFault) →
     takes k (constraint_of c) ≡ true →
     c.form ≡ forms.Size r →
     AreRangesWrong p k M Sizes c.at r w →
@@ -68,13 +68,13 @@ got (y ∷ v) x (suc n) i e =
       | inr f ↦ inr (ap suc f.0, f.1)
     ]
 
-pub behind_next : (ts : List Type') (start x n : ℕ) (v w : List ℕ) →
+pub target_next : (ts : List Type') (start x n : ℕ) (v w : List ℕ) →
     length v ≡ n →
-    AreBehind ts start v →
+    AreTargets ts start v →
     walk ts n start ≡ Some x →
     w ≡ v ++ x ∷ [] →
-    AreBehind ts start w
-behind_next ts start x n v w l b f e = subst (AreBehind ts start) (sym e) (λ m i g. elim (got v x m i g) [
+    AreTargets ts start w
+target_next ts start x n v w l b f e = subst (AreTargets ts start) (sym e) (λ m i g. elim (got v x m i g) [
   | inl h ↦ b m i h
   | inr h ↦ ap (λ k. walk ts k start) (h.0 ∙ l) ∙ f ∙ ap Some (sym h.1)
 ])

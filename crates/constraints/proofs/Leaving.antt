@@ -8,7 +8,7 @@ use Rattle.asn_base.specs.Typed.{IsInSome}
 use Rattle.trees.specs.Values.{Name}
 use Rattle.trees.specs.Constraints.{ConstraintTree, values_in, sizes_in, chars_in}
 use Rattle.trees.specs.Types.{a_restricted_string}
-use Rattle.names.specs.Modules.{StandsIn}
+use Rattle.names.specs.Modules.{OccursIn}
 use Rattle.type_table.specs.Walks.{onward, follow}
 use Rattle.type_table.specs.Table.{Type', Kind, simple, walk, next}
 use Rattle.resolve.specs.Program.{Program, IsAssignment, IsWhole}
@@ -18,11 +18,11 @@ use Rattle.constraints.specs.Allowed.{Bears, IsInRoot, IsInAlphabet, IsExtensibl
 use Rattle.constraints.specs.Bounded.{IsWritten, IsListed, IsReconstrained, IsEmpty, HasCharacters, IsRound}
 use Rattle.constraints.specs.declared.limit.Limit.{Limit}
 use Rattle.constraints.specs.declared.meaning.Rule.TheVariants as rules
-use Rattle.constraints.specs.declared.meaning.Wrong.{Wrong}
-use Rattle.constraints.specs.declared.meaning.Wrong.TheVariants as wrongs
+use Rattle.constraints.specs.declared.meaning.ConstraintFault.{ConstraintFault}
+use Rattle.constraints.specs.declared.meaning.ConstraintFault.TheVariants as wrongs
 use Rattle.constraints.specs.proving.Limits.{IsFirst, IsSame, HasCodes, Narrows, IsMarkedIn, LeavesNone, LeavesSome, IsLimitFault}
-use Rattle.constraints.specs.proving.Columns.{HasAlphabet, IsLeft, IsGood, IsLimitOf, BearsBehind, HasCodesBehind, Inherits, IsStartOf, IsShared, IsFault, fault_of}
-use Rattle.constraints.proofs.Trails.{kind_once, kind_behind}
+use Rattle.constraints.specs.proving.Columns.{HasAlphabet, IsLeft, IsGood, IsLimitOf, BearsTarget, HasTargetCodes, Inherits, IsStartOf, IsShared, IsFault, fault_of}
+use Rattle.constraints.proofs.Trails.{kind_once, target_kind}
 
 some_same : {X : Type 0} (x y : X) → Some x ≡ Some y → x ≡ y
 some_same x y e = cc
@@ -52,36 +52,36 @@ record Own (p : Program) (i : ℕ) (M : Name) (c : ConstraintTree) : Type 0 wher
   type : Type'
   assigns : Name
   there : slice_get p.types i ≡ Some type
-  written : StandsIn type.constraints c
+  written : OccursIn type.constraints c
   stands : IsAssignment p type.assignment M assigns
 
 cases_on : (p : Program) (i : ℕ) (M : Name) (c : ConstraintTree) (s : ℕ) (o : Option ℕ) (b : ℕ) (t : Type') (x : Name) →
     next p.types i ≡ o →
     onward o (λ j. follow (next p.types) s j) ≡ Some b →
     slice_get p.types b ≡ Some t →
-    StandsIn t.constraints c →
+    OccursIn t.constraints c →
     IsAssignment p t.assignment M x →
-    BearsBehind p i M c
+    BearsTarget p i M c
 cases_on p i M c s None b t x e f g h k = absurd cc
 cases_on p i M c s (Some j) b t x e f g h k = record {
-  behind = j;
-  leads = e;
-  bears = record { steps = s; behind = b; type = t; assigns = x; leads = f; there = g; written = h; stands = k };
+  target = j;
+  chain = e;
+  bears = record { steps = s; target = b; type = t; assigns = x; chain = f; there = g; written = h; stands = k };
 }
 
 cases_by : (p : Program) (i : ℕ) (M : Name) (c : ConstraintTree) (s b : ℕ) (t : Type') (x : Name) →
     walk p.types s i ≡ Some b →
     slice_get p.types b ≡ Some t →
-    StandsIn t.constraints c →
+    OccursIn t.constraints c →
     IsAssignment p t.assignment M x →
-    Own p i M c ⊎ BearsBehind p i M c
+    Own p i M c ⊎ BearsTarget p i M c
 cases_by p i M c zero b t x f g h k =
     let q : i ≡ b = cc in
     inl (record { type = t; assigns = x; there = ap (slice_get p.types) q ∙ g; written = h; stands = k })
 cases_by p i M c (suc s) b t x f g h k = inr (cases_on p i M c s (next p.types i) b t x refl f g h k)
 
-bears_cases : (p : Program) (i : ℕ) (M : Name) (c : ConstraintTree) → Bears p i M c → Own p i M c ⊎ BearsBehind p i M c
-bears_cases p i M c b = cases_by p i M c b.steps b.behind b.type b.assigns b.leads b.there b.written b.stands
+bears_cases : (p : Program) (i : ℕ) (M : Name) (c : ConstraintTree) → Bears p i M c → Own p i M c ⊎ BearsTarget p i M c
+bears_cases p i M c b = cases_by p i M c b.steps b.target b.type b.assigns b.chain b.there b.written b.stands
 
 bears_own : (p : Program) (i : ℕ) (M x : Name) (c : ConstraintTree) (t : Type') (n : ℕ) →
     slice_get p.types i ≡ Some t →
@@ -89,15 +89,15 @@ bears_own : (p : Program) (i : ℕ) (M x : Name) (c : ConstraintTree) (t : Type'
     IsAssignment p t.assignment M x →
     Bears p i M c
 bears_own p i M x c t n e f g =
-    record { steps = 0; behind = i; type = t; assigns = x; leads = refl; there = e; written = (n, f); stands = g }
+    record { steps = 0; target = i; type = t; assigns = x; chain = refl; there = e; written = (n, f); stands = g }
 
-bears_behind : (p : Program) (i : ℕ) (M : Name) (c : ConstraintTree) → BearsBehind p i M c → Bears p i M c
-bears_behind p i M c b = record {
+bears_target : (p : Program) (i : ℕ) (M : Name) (c : ConstraintTree) → BearsTarget p i M c → Bears p i M c
+bears_target p i M c b = record {
   steps = suc b.bears.steps;
-  behind = b.bears.behind;
+  target = b.bears.target;
   type = b.bears.type;
   assigns = b.bears.assigns;
-  leads = ap (λ o. onward o (λ j. follow (next p.types) b.bears.steps j)) b.leads ∙ b.bears.leads;
+  chain = ap (λ o. onward o (λ j. follow (next p.types) b.bears.steps j)) b.chain ∙ b.bears.chain;
   there = b.bears.there;
   written = b.bears.written;
   stands = b.bears.stands;
@@ -119,7 +119,7 @@ module _ (p : Program) (i : ℕ) (k : Kind) (M x : Name) (t : Type') (start l : 
       (subst (λ (u : Type'). IsAssignment p u.assignment N o.assigns) (own_type N c o) o.stands)
 
   own_at : (N : Name) (c : ConstraintTree) → Own p i N c → (n : ℕ) × (slice_get t.constraints n ≡ Some c)
-  own_at N c o = subst (λ (u : Type'). StandsIn u.constraints c) (own_type N c o) o.written
+  own_at N c o = subst (λ (u : Type'). OccursIn u.constraints c) (own_type N c o) o.written
 
   number_there : (z : ℤ) → IsInSome z l.numbers → IsInRoot p k i z
   number_there z m =
@@ -138,14 +138,14 @@ module _ (p : Program) (i : ℕ) (k : Kind) (M x : Name) (t : Type') (start l : 
   number_back : (z : ℤ) → IsInRoot p k i z → IsInSome z l.numbers
   number_back z r =
       (nar.numbers z r.counted).1 (
-        (inh.numbers z).1 (r.counted, λ N c b. r.allowed N c (bears_behind p i N c b)),
+        (inh.numbers z).1 (r.counted, λ N c b. r.allowed N c (bears_target p i N c b)),
         λ n c s e. r.allowed M c (bears_own p i M x c t n here e home),
       )
 
   mark_there : (start.extensible ≡ true) ⊎ IsMarkedIn t.constraints (length t.constraints) → IsExtensible p i
   mark_there (inl e) =
       let f = inh.extensible.0 e in
-      record { within = f.0; constraint = f.1; bears = bears_behind p i f.0 f.1 f.2; marked = f.3 }
+      record { within = f.0; constraint = f.1; bears = bears_target p i f.0 f.1 f.2; marked = f.3 }
   mark_there (inr m) = record {
     within = M;
     constraint = m.constraint;
@@ -153,7 +153,7 @@ module _ (p : Program) (i : ℕ) (k : Kind) (M x : Name) (t : Type') (start l : 
     marked = m.marked;
   }
 
-  mark_by : (N : Name) (c : ConstraintTree) → has_marker c ≡ true → Own p i N c ⊎ BearsBehind p i N c →
+  mark_by : (N : Name) (c : ConstraintTree) → has_marker c ≡ true → Own p i N c ⊎ BearsTarget p i N c →
       (start.extensible ≡ true) ⊎ IsMarkedIn t.constraints (length t.constraints)
   mark_by N c m (inl o) =
       let w = own_at N c o in
@@ -189,7 +189,7 @@ codes_left p i s M x t start l here home inh nar low c = (λ m. forth m, λ r. b
 
     back : IsInAlphabet p s i c → IsMember c l.codes
     back r =
-        let f = (inh.codes c).1 (r.character, λ N d b. r.allowed N d (bears_behind p i N d b)) in
+        let f = (inh.codes c).1 (r.character, λ N d b. r.allowed N d (bears_target p i N d b)) in
         (nar.codes c (low c f)).1 (f, λ n d b e. r.allowed M d (bears_own p i M x d t n here e home))
 
 alphabet_left : (p : Program) (i : ℕ) (k : Kind) (M x : Name) (t : Type') (start l : Limit) →
@@ -275,27 +275,27 @@ module _ (p : Program) (i : ℕ) (k : Kind) (M x : Name) (t : Type') (start l : 
       nar.last n (slice_get_within t.constraints n c e)
       (inr (record { number = other; constraint = d; before = b; there = f; marked = m }))
 
-  behind_on : (s b other n : ℕ) (o : Option ℕ) (c d : ConstraintTree) →
+  target_on : (s b other n : ℕ) (o : Option ℕ) (c d : ConstraintTree) →
       next p.types i ≡ o →
       onward o (λ m. follow (next p.types) s m) ≡ Some b →
       IsListed p i n c →
       IsListed p b other d →
       has_marker d ≡ true →
       ⊥
-  behind_on s b other n None c d e f u v m = absurd cc
-  behind_on s b other n (Some j) c d e f u v m =
+  target_on s b other n None c d e f u v m = absurd cc
+  target_on s b other n (Some j) c d e f u v m =
       let q = some_same u.type t (sym u.there ∙ here) in
       let g = subst (λ (y : Type'). slice_get y.constraints n ≡ Some c) q u.written in
       let a = home_is p b v.type w v.there in
-      let bears : BearsBehind p i a.0 d = record {
-        behind = j;
-        leads = e;
+      let bears : BearsTarget p i a.0 d = record {
+        target = j;
+        chain = e;
         bears = record {
           steps = s;
-          behind = b;
+          target = b;
           type = v.type;
           assigns = a.1;
-          leads = f;
+          chain = f;
           there = v.there;
           written = (other, v.written);
           stands = a.2;
@@ -314,12 +314,12 @@ module _ (p : Program) (i : ℕ) (k : Kind) (M x : Name) (t : Type') (start l : 
       let q : i ≡ b = cc in
       same_limit n other c d u (subst (λ j. IsListed p j other d) (sym q) v) h.1 m
   last_by n b other zero c d u f v (inr h) m = absurd (omega (arith, h))
-  last_by n b other (suc s) c d u f v h m = behind_on s b other n (next p.types i) c d refl f u v m
+  last_by n b other (suc s) c d u f v h m = target_on s b other n (next p.types i) c d refl f u v m
 
   good_by : IsGood p i
   good_by = record {
     fitting = fits;
-    last = λ r. last_by r.number r.behind r.other r.steps r.constraint r.earlier r.listed r.leads r.stood r.before r.marked;
+    last = λ r. last_by r.number r.target r.other r.steps r.constraint r.earlier r.listed r.chain r.stood r.before r.marked;
   }
 
 pub limit_is : (p : Program) (i : ℕ) (k : Kind) (M x : Name) (t : Type') (start l : Limit) →
@@ -399,8 +399,8 @@ reconstrained_by p i k M x t start n c here inh e (inl h) =
       constraint = c;
       listed = record { type = t; there = here; written = e };
       steps = suc b.steps;
-      behind = b.behind;
-      leads = ap (λ o. onward o (λ j. follow (next p.types) b.steps j)) f.2.leads ∙ b.leads;
+      target = b.target;
+      chain = ap (λ o. onward o (λ j. follow (next p.types) b.steps j)) f.2.chain ∙ b.chain;
       other = b.written.0;
       earlier = f.1;
       stood = record { type = b.type; there = b.there; written = b.written.1 };
@@ -412,8 +412,8 @@ reconstrained_by p i k M x t start n c here inh e (inr m) = record {
   constraint = c;
   listed = record { type = t; there = here; written = e };
   steps = 0;
-  behind = i;
-  leads = refl;
+  target = i;
+  chain = refl;
   other = m.number;
   earlier = m.constraint;
   stood = record { type = t; there = here; written = m.there };
@@ -421,7 +421,7 @@ reconstrained_by p i k M x t start n c here inh e (inr m) = record {
   marked = m.marked;
 }
 
-pub fault_is : (p : Program) (i : ℕ) (k : Kind) (M x : Name) (t : Type') (start : Limit) (w : Wrong) →
+pub fault_is : (p : Program) (i : ℕ) (k : Kind) (M x : Name) (t : Type') (start : Limit) (w : ConstraintFault) →
     IsWhole p →
     IsOfKind p.types i k →
     slice_get p.types i ≡ Some t →
@@ -454,8 +454,8 @@ fault_is p i k M x t start (wrongs.At rules.MarkerPlace at) w kind here home s l
 
 -- ---- before the own constraints of a type
 
-no_behind : (p : Program) (i : ℕ) (M : Name) (c : ConstraintTree) → next p.types i ≡ None → BearsBehind p i M c → ⊥
-no_behind p i M c e b = let f : None ≡ Some b.behind = sym e ∙ b.leads in absurd cc
+no_target : (p : Program) (i : ℕ) (M : Name) (c : ConstraintTree) → next p.types i ≡ None → BearsTarget p i M c → ⊥
+no_target p i M c e b = let f : None ≡ Some b.target = sym e ∙ b.chain in absurd cc
 
 kind_here : (p : Program) (i : ℕ) (t : Type') (k : Kind) →
     slice_get p.types i ≡ Some t →
@@ -466,7 +466,7 @@ kind_here p i t k here e u =
     kind_once p.types i t.kind k (record {
       core = i;
       type = t;
-      leads = record { steps = 0; few = (let l = slice_get_within p.types i t here in omega (arith, l)); leads = refl; ends = e };
+      chain = record { steps = 0; few = (let l = slice_get_within p.types i t here in omega (arith, l)); chain = refl; ends = e };
       there = here;
       kind = refl;
     }) u
@@ -474,18 +474,18 @@ kind_here p i t k here e u =
 first_codes : (p : Program) (i : ℕ) (k : Kind) (cs : List ℕ) →
     next p.types i ≡ None →
     HasCodes k cs →
-    HasCodesBehind p k i cs
+    HasTargetCodes p k i cs
 first_codes p i (simple (a_restricted_string s)) cs e h =
-    λ x. (λ m. ((h x).0 m, λ M c b. absurd (no_behind p i M c e b)), λ m. (h x).1 m.0)
+    λ x. (λ m. ((h x).0 m, λ M c b. absurd (no_target p i M c e b)), λ m. (h x).1 m.0)
 first_codes p i k cs e h = tt
 
 first_inherits : (p : Program) (i : ℕ) (k : Kind) (l : Limit) → next p.types i ≡ None → IsFirst k l → Inherits p i l k
 first_inherits p i k l e f = record {
-  numbers = λ z. (λ m. ((f.numbers z).0 m, λ M c b. absurd (no_behind p i M c e b)), λ m. (f.numbers z).1 m.0);
+  numbers = λ z. (λ m. ((f.numbers z).0 m, λ M c b. absurd (no_target p i M c e b)), λ m. (f.numbers z).1 m.0);
   codes = first_codes p i k l.codes e f.codes;
   extensible = (
     λ h. (let q : false ≡ true = sym f.extensible ∙ h in absurd cc),
-    λ h. absurd (no_behind p i h.0 h.1 e h.2),
+    λ h. absurd (no_target p i h.0 h.1 e h.2),
   );
 }
 
@@ -499,32 +499,32 @@ first_start p i t l here e f = record {
   good = λ j g. (let q : None ≡ Some j = sym e ∙ g in absurd cc);
 }
 
-behind_is : (p : Program) (i j : ℕ) (M : Name) (c : ConstraintTree) → next p.types i ≡ Some j → BearsBehind p i M c → Bears p j M c
-behind_is p i j M c e b = subst (λ m. Bears p m M c) (some_same b.behind j (sym b.leads ∙ e)) b.bears
+target_is : (p : Program) (i j : ℕ) (M : Name) (c : ConstraintTree) → next p.types i ≡ Some j → BearsTarget p i M c → Bears p j M c
+target_is p i j M c e b = subst (λ m. Bears p m M c) (some_same b.target j (sym b.chain ∙ e)) b.bears
 
-behind_of : (p : Program) (i j : ℕ) (M : Name) (c : ConstraintTree) → next p.types i ≡ Some j → Bears p j M c → BearsBehind p i M c
-behind_of p i j M c e b = record { behind = j; leads = e; bears = b }
+target_of : (p : Program) (i j : ℕ) (M : Name) (c : ConstraintTree) → next p.types i ≡ Some j → Bears p j M c → BearsTarget p i M c
+target_of p i j M c e b = record { target = j; chain = e; bears = b }
 
-codes_behind : (p : Program) (i j : ℕ) (k : Kind) (cs : List ℕ) →
+target_codes : (p : Program) (i j : ℕ) (k : Kind) (cs : List ℕ) →
     next p.types i ≡ Some j →
     HasAlphabet p k j cs →
-    HasCodesBehind p k i cs
-codes_behind p i j (simple (a_restricted_string s)) cs e h = λ x. (
-  λ m. (let r = (h x).0 m in (r.character, λ M c b. r.allowed M c (behind_is p i j M c e b))),
-  λ m. (h x).1 (record { character = m.0; allowed = λ M c b. m.1 M c (behind_of p i j M c e b) }),
+    HasTargetCodes p k i cs
+target_codes p i j (simple (a_restricted_string s)) cs e h = λ x. (
+  λ m. (let r = (h x).0 m in (r.character, λ M c b. r.allowed M c (target_is p i j M c e b))),
+  λ m. (h x).1 (record { character = m.0; allowed = λ M c b. m.1 M c (target_of p i j M c e b) }),
 )
-codes_behind p i j k cs e h = tt
+target_codes p i j k cs e h = tt
 
-behind_inherits : (p : Program) (i j : ℕ) (k : Kind) (l : Limit) → next p.types i ≡ Some j → IsLeft p k j l → Inherits p i l k
-behind_inherits p i j k l e f = record {
+target_inherits : (p : Program) (i j : ℕ) (k : Kind) (l : Limit) → next p.types i ≡ Some j → IsLeft p k j l → Inherits p i l k
+target_inherits p i j k l e f = record {
   numbers = λ z. (
-    λ m. (let r = (f.numbers z).0 m in (r.counted, λ M c b. r.allowed M c (behind_is p i j M c e b))),
-    λ m. (f.numbers z).1 (record { counted = m.0; allowed = λ M c b. m.1 M c (behind_of p i j M c e b) }),
+    λ m. (let r = (f.numbers z).0 m in (r.counted, λ M c b. r.allowed M c (target_is p i j M c e b))),
+    λ m. (f.numbers z).1 (record { counted = m.0; allowed = λ M c b. m.1 M c (target_of p i j M c e b) }),
   );
-  codes = codes_behind p i j k l.codes e f.codes;
+  codes = target_codes p i j k l.codes e f.codes;
   extensible = (
-    λ h. (let r = f.extensible.0 h in (r.within, r.constraint, behind_of p i j r.within r.constraint e r.bears, r.marked)),
-    λ h. f.extensible.1 (record { within = h.0; constraint = h.1; bears = behind_is p i j h.0 h.1 e h.2; marked = h.3 }),
+    λ h. (let r = f.extensible.0 h in (r.within, r.constraint, target_of p i j r.within r.constraint e r.bears, r.marked)),
+    λ h. f.extensible.1 (record { within = h.0; constraint = h.1; bears = target_is p i j h.0 h.1 e h.2; marked = h.3 }),
   );
 }
 
@@ -546,7 +546,7 @@ pub copied_start : (p : Program) (i j : ℕ) (l m : Limit) →
     IsSame l m →
     IsStartOf p i m
 copied_start p i j l m e f s = record {
-  inherits = λ k u. behind_inherits p i j k m e (same_left p k j l m s (f.left k (kind_behind p.types i j k e u)));
+  inherits = λ k u. target_inherits p i j k m e (same_left p k j l m s (f.left k (target_kind p.types i j k e u)));
   good = λ h g. subst (IsGood p) (some_same j h (sym e ∙ g)) f.good;
 }
 
@@ -555,22 +555,22 @@ copied_start p i j l m e f s = record {
 no_own : (p : Program) (i j : ℕ) (M : Name) (c : ConstraintTree) → IsShared p.types i j → Own p i M c → ⊥
 no_own p i j M c s o =
     let q = some_same o.type s.type (sym o.there ∙ s.there) in
-    let e = subst (λ (u : Type'). StandsIn u.constraints c) q o.written in
+    let e = subst (λ (u : Type'). OccursIn u.constraints c) q o.written in
     let f : slice_get [] e.0 ≡ Some c = subst (λ cs. slice_get cs e.0 ≡ Some c) s.none e.1 in
     absurd cc
 
-shared_behind : (p : Program) (i j : ℕ) (M : Name) (c : ConstraintTree) → IsShared p.types i j → Bears p i M c → Bears p j M c
-shared_behind p i j M c s b = elim (bears_cases p i M c b) [
+shared_target : (p : Program) (i j : ℕ) (M : Name) (c : ConstraintTree) → IsShared p.types i j → Bears p i M c → Bears p j M c
+shared_target p i j M c s b = elim (bears_cases p i M c b) [
   | inl o ↦ absurd (no_own p i j M c s o)
-  | inr o ↦ behind_is p i j M c s.leads o
+  | inr o ↦ target_is p i j M c s.chain o
 ]
 
 shared_before : (p : Program) (i j : ℕ) (M : Name) (c : ConstraintTree) → IsShared p.types i j → Bears p j M c → Bears p i M c
-shared_before p i j M c s b = bears_behind p i M c (behind_of p i j M c s.leads b)
+shared_before p i j M c s b = bears_target p i M c (target_of p i j M c s.chain b)
 
 shared_codes : (p : Program) (i j : ℕ) (k : Kind) (cs : List ℕ) → IsShared p.types i j → HasAlphabet p k j cs → HasAlphabet p k i cs
 shared_codes p i j (simple (a_restricted_string a)) cs s h = λ x. (
-  λ m. (let r = (h x).0 m in record { character = r.character; allowed = λ M c b. r.allowed M c (shared_behind p i j M c s b) }),
+  λ m. (let r = (h x).0 m in record { character = r.character; allowed = λ M c b. r.allowed M c (shared_target p i j M c s b) }),
   λ r. (h x).1 (record { character = r.character; allowed = λ M c b. r.allowed M c (shared_before p i j M c s b) }),
 )
 shared_codes p i j k cs s h = tt
@@ -578,7 +578,7 @@ shared_codes p i j k cs s h = tt
 shared_left : (p : Program) (i j : ℕ) (k : Kind) (l : Limit) → IsShared p.types i j → IsLeft p k j l → IsLeft p k i l
 shared_left p i j k l s f = record {
   numbers = λ z. (
-    λ m. (let r = (f.numbers z).0 m in record { counted = r.counted; allowed = λ M c b. r.allowed M c (shared_behind p i j M c s b) }),
+    λ m. (let r = (f.numbers z).0 m in record { counted = r.counted; allowed = λ M c b. r.allowed M c (shared_target p i j M c s b) }),
     λ r. (f.numbers z).1 (record { counted = r.counted; allowed = λ M c b. r.allowed M c (shared_before p i j M c s b) }),
   );
   codes = shared_codes p i j k l.codes s f.codes;
@@ -588,7 +588,7 @@ shared_left p i j k l s f = record {
     λ r. f.extensible.1 (record {
       within = r.within;
       constraint = r.constraint;
-      bears = shared_behind p i j r.within r.constraint s r.bears;
+      bears = shared_target p i j r.within r.constraint s r.bears;
       marked = r.marked;
     }),
   );
@@ -621,11 +621,11 @@ shared_fits : (p : Program) (i j s b n : ℕ) (h : Kind) (N : Name) (c : Constra
 shared_fits p i j zero b n h N c s g f u =
     let q : i ≡ b = cc in
     absurd (not_listed p i j n c u.type s (ap (slice_get p.types) q ∙ u.there) u.written)
-shared_fits p i j (suc a) b n h N c s g f u = shared_on p i j a b n (next p.types i) h N c g s.leads f u
+shared_fits p i j (suc a) b n h N c s g f u = shared_on p i j a b n (next p.types i) h N c g s.chain f u
 
 pub shared_limit : (p : Program) (i j : ℕ) (l : Limit) → IsShared p.types i j → IsLimitOf p j l → IsLimitOf p i l
 shared_limit p i j l s f = record {
-  left = λ k u. shared_left p i j k l s (f.left k (kind_behind p.types i j k s.leads u));
+  left = λ k u. shared_left p i j k l s (f.left k (target_kind p.types i j k s.chain u));
   good = record {
     fitting = λ a b n h N c e u. shared_fits p i j a b n h N c s f.good e u;
     last = λ r. not_listed p i j r.number r.constraint r.listed.type s r.listed.there r.listed.written;

@@ -15,10 +15,10 @@ use Rattle.resolve.specs.Program.{Program}
 use Rattle.constraints.specs.Constraints.{IsFitting, AllowsNumber, AllowsCharacter, has_marker, is_integer}
 use Rattle.constraints.specs.Allowed.{IsCounted}
 use Rattle.constraints.specs.declared.limit.Limit.{Limit}
-use Rattle.constraints.specs.declared.meaning.Meaning.{Meaning}
+use Rattle.constraints.specs.declared.meaning.ConstraintMeaning.{ConstraintMeaning}
 use Rattle.constraints.specs.declared.meaning.Rule.TheVariants as rules
-use Rattle.constraints.specs.declared.meaning.Wrong.{Wrong}
-use Rattle.constraints.specs.declared.meaning.Wrong.TheVariants as wrongs
+use Rattle.constraints.specs.declared.meaning.ConstraintFault.{ConstraintFault}
+use Rattle.constraints.specs.declared.meaning.ConstraintFault.TheVariants as wrongs
 use Rattle.constraints.specs.proving.Meanings.{IsMeaningOf, IsWrong}
 use Rattle.constraints.specs.proving.Limits.{IsNarrowed, Narrows, IsMarkedIn, InAny, AmongAny, floor, AreWrong}
 use Rattle.constraints.proofs.Senses.{counted_number}
@@ -135,7 +135,7 @@ narrow_start p k M cs l = record {
     start (inl e) = e
     start (inr m) = let b = m.before in absurd (omega (arith, b))
 
-module _ (p : Program) (k : Kind) (M : Name) (cs : List ConstraintTree) (n : ℕ) (l m o : Limit) (c : ConstraintTree) (s : Meaning)
+module _ (p : Program) (k : Kind) (M : Name) (cs : List ConstraintTree) (n : ℕ) (l m o : Limit) (c : ConstraintTree) (s : ConstraintMeaning)
     (w : Narrows p k M cs n l m)
     (plain : m.extensible ≡ false)
     (e : slice_get cs n ≡ Some c)
@@ -225,7 +225,7 @@ module _ (p : Program) (k : Kind) (M : Name) (cs : List ConstraintTree) (n : ℕ
 
 -- ---- what is wrong
 
-pub at_wrong : (p : Program) (k : Kind) (M : Name) (cs : List ConstraintTree) (l : Limit) (n : ℕ) (c : ConstraintTree) (w : Wrong) →
+pub at_wrong : (p : Program) (k : Kind) (M : Name) (cs : List ConstraintTree) (l : Limit) (n : ℕ) (c : ConstraintTree) (w : ConstraintFault) →
     slice_get cs n ≡ Some c →
     IsWrong p k M c w →
     AreWrong p k M cs l w

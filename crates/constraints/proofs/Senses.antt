@@ -22,7 +22,7 @@ use Rattle.constraints.specs.Bounded.{IsMisfit, IsTurnedRound}
 use Rattle.constraints.specs.proving.Meanings.{ranged, AreNumbersOf, IsMeaningOf}
 use Rattle.constraints.specs.proving.Characters.{AreCharsWrong}
 use Rattle.constraints.specs.declared.characters.CharsFault.TheVariants as chars_faults
-use Rattle.constraints.specs.declared.meaning.Meaning.{Meaning}
+use Rattle.constraints.specs.declared.meaning.ConstraintMeaning.{ConstraintMeaning}
 
 pub numbers_are : (p : Program) (k : Kind) (M : Name) (of : Counted) (r : RangesTree) (ss ns : List Range) →
     is_marked k (ranged of r) ≡ true →
@@ -79,7 +79,7 @@ counted_size (tagged t w j) z e = (λ i. i, λ i. i)
 counted_size (members l m cs) z e = (λ i. i, λ i. i)
 counted_size (elements y j) z e = (λ i. i, λ i. i)
 
-pub values_meaning : (p : Program) (k : Kind) (M : Name) (r : RangesTree) (ns : List Range) (m : Meaning) →
+pub values_meaning : (p : Program) (k : Kind) (M : Name) (r : RangesTree) (ns : List Range) (m : ConstraintMeaning) →
     takes k (values_in r) ≡ true →
     AreNumbersOf p k M Numbers r ns →
     m.numbers ≡ Some ns →
@@ -93,7 +93,7 @@ values_meaning p k M r ns m t a e f g = record {
   marker = g;
 }
 
-pub sizes_meaning : (p : Program) (k : Kind) (M : Name) (r : RangesTree) (ns : List Range) (m : Meaning) →
+pub sizes_meaning : (p : Program) (k : Kind) (M : Name) (r : RangesTree) (ns : List Range) (m : ConstraintMeaning) →
     takes k (sizes_in r) ≡ true →
     AreNumbersOf p k M Sizes r ns →
     m.numbers ≡ Some ns →
@@ -110,7 +110,7 @@ sizes_meaning p k M r ns m t a e f g = record {
   marker = g;
 }
 
-pub chars_meaning : (p : Program) (k : Kind) (M : Name) (xs : List CharsTree) (cs : List ℕ) (m : Meaning) →
+pub chars_meaning : (p : Program) (k : Kind) (M : Name) (xs : List CharsTree) (cs : List ℕ) (m : ConstraintMeaning) →
     takes k (chars_in xs) ≡ true →
     AreFit xs →
     ((c : ℕ) → (IsMember c cs ↔ (IsAmongAny xs c × (c < 128)))) →

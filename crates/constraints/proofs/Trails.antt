@@ -3,7 +3,7 @@ use Rattle.std.proofs.Common.{◌≡◌, ◌⊎◌, inl, inr, ℕ, zero, suc, �
 use Rattle.std.specs.Prelude.{slice_get}
 use Rattle.type_table.specs.Walks.{onward, follow}
 use Rattle.type_table.specs.proving.Walks.{walk_walk, stops}
-use Rattle.type_table.specs.Table.{Type', Kind, walk, next, IsCore, IsLinked}
+use Rattle.type_table.specs.Table.{Type', Kind, walk, next, IsUnderlying, IsLinked}
 use Rattle.range_ends.specs.Ends.{IsOfKind}
 use Rattle.constraints.specs.proving.Columns.{IsNoted, IsTrail}
 
@@ -16,7 +16,7 @@ never_long ts i at w l e =
     let r : ℕ = length ts - suc c.1.steps in
     let f = c.1.few in
     let q : c.1.steps + suc r ≡ length ts = omega (arith, f) in
-    let n : None ≡ Some at = sym (stops (next ts) c.1.steps r i c.0 c.1.leads c.1.ends) ∙ ap (λ k. walk ts k i) q ∙ e in
+    let n : None ≡ Some at = sym (stops (next ts) c.1.steps r i c.0 c.1.chain c.1.ends) ∙ ap (λ k. walk ts k i) q ∙ e in
     absurd cc
 
 le_or : (a b : ℕ) → (a ≤ b) ⊎ (b ≤ a)
@@ -39,17 +39,17 @@ ends_before ts i c d k l h e f g =
     after_end ts r c d f (sym (walk_walk (next ts) k r i c e) ∙ ap (λ j. walk ts j i) s ∙ g)
 
 -- a type has one core
-pub core_once : (ts : List Type') (i c d : ℕ) → IsCore ts i c → IsCore ts i d → c ≡ d
+pub core_once : (ts : List Type') (i c d : ℕ) → IsUnderlying ts i c → IsUnderlying ts i d → c ≡ d
 core_once ts i c d u v =
     elim (le_or u.steps v.steps) [
-      | inl h ↦ sym (ends_before ts i c d u.steps v.steps h u.leads u.ends v.leads)
-      | inr h ↦ ends_before ts i d c v.steps u.steps h v.leads v.ends u.leads
+      | inl h ↦ sym (ends_before ts i c d u.steps v.steps h u.chain u.ends v.chain)
+      | inr h ↦ ends_before ts i d c v.steps u.steps h v.chain v.ends u.chain
     ]
 
 -- and one kind
 pub kind_once : (ts : List Type') (i : ℕ) (k l : Kind) → IsOfKind ts i k → IsOfKind ts i l → k ≡ l
 kind_once ts i k l u v =
-    let c = core_once ts i u.core v.core u.leads v.leads in
+    let c = core_once ts i u.core v.core u.chain v.chain in
     let q : Some u.type ≡ Some v.type = sym u.there ∙ ap (slice_get ts) c ∙ v.there in
     let t : u.type ≡ v.type = cc in
     sym u.kind ∙ ap (λ (w : Type'). w.kind) t ∙ v.kind
@@ -58,26 +58,26 @@ on_first : (ts : List Type') (s j c : ℕ) (o : Option ℕ) → o ≡ Some j →
 on_first ts s j c None e f = absurd cc
 on_first ts s j c (Some k) e f = let q : k ≡ j = cc in subst (λ m. walk ts s m ≡ Some c) q f
 
-core_behind : (ts : List Type') (i j c s : ℕ) →
+target_core : (ts : List Type') (i j c s : ℕ) →
     next ts i ≡ Some j →
     walk ts s i ≡ Some c →
     next ts c ≡ None →
     s < length ts →
-    IsCore ts j c
-core_behind ts i j c zero e f g l = let q : i ≡ c = cc in let n : None ≡ Some j = sym g ∙ ap (next ts) (sym q) ∙ e in absurd cc
-core_behind ts i j c (suc s) e f g l = record {
+    IsUnderlying ts j c
+target_core ts i j c zero e f g l = let q : i ≡ c = cc in let n : None ≡ Some j = sym g ∙ ap (next ts) (sym q) ∙ e in absurd cc
+target_core ts i j c (suc s) e f g l = record {
   steps = s;
   few = omega (arith, l);
-  leads = on_first ts s j c (next ts i) e f;
+  chain = on_first ts s j c (next ts i) e f;
   ends = g;
 }
 
 -- a type that another leads to has the same kind
-pub kind_behind : (ts : List Type') (i j : ℕ) (k : Kind) → next ts i ≡ Some j → IsOfKind ts i k → IsOfKind ts j k
-kind_behind ts i j k e u = record {
+pub target_kind : (ts : List Type') (i j : ℕ) (k : Kind) → next ts i ≡ Some j → IsOfKind ts i k → IsOfKind ts j k
+target_kind ts i j k e u = record {
   core = u.core;
   type = u.type;
-  leads = core_behind ts i j u.core u.leads.steps e u.leads.leads u.leads.ends u.leads.few;
+  chain = target_core ts i j u.core u.chain.steps e u.chain.chain u.chain.ends u.chain.few;
   there = u.there;
   kind = u.kind;
 }

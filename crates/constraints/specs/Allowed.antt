@@ -10,7 +10,7 @@ use Rattle.asn_base.specs.Typed.{IsAllowed as Allows}
 use Rattle.trees.specs.Values.{Name}
 use Rattle.trees.specs.Constraints.{ConstraintTree}
 use Rattle.trees.specs.Types.{an_integer, a_restricted_string}
-use Rattle.names.specs.Modules.{StandsIn}
+use Rattle.names.specs.Modules.{OccursIn}
 use Rattle.type_table.specs.Table.{Type', Kind, simple, walk}
 use Rattle.resolve.specs.Program.{Program, IsAssignment}
 use Rattle.constraints.specs.Constraints.{AllowsNumber, AllowsCharacter, has_marker, is_integer, has_size}
@@ -21,13 +21,13 @@ pub record Bears (p : Program) (i : ℕ) (M : Name) (c : ConstraintTree) : Type 
   -- how many references and tags lead from type i to the type on which the constraint is written
   pub steps : ℕ
   -- the number of that type
-  pub behind : ℕ
+  pub target : ℕ
   pub type : Type'
   -- the name in module M in whose assignment that type is written
   pub assigns : Name
-  pub leads : walk p.types steps i ≡ Some behind
-  pub there : slice_get p.types behind ≡ Some type
-  pub written : StandsIn type.constraints c
+  pub chain : walk p.types steps i ≡ Some target
+  pub there : slice_get p.types target ≡ Some type
+  pub written : OccursIn type.constraints c
   pub stands : IsAssignment p type.assignment M assigns
 
 -- the numbers that count for a value of kind k: any number of an INTEGER, and any size, which is not negative

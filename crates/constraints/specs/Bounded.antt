@@ -5,7 +5,7 @@ use Rattle.asn_base.specs.Schemas.{IsNumber, IsSize}
 use Rattle.trees.specs.Values.{Name}
 use Rattle.trees.specs.Constraints.{ConstraintTree, values_in, sizes_in, chars_in}
 use Rattle.trees.specs.Types.{a_restricted_string}
-use Rattle.names.specs.Modules.{StandsIn}
+use Rattle.names.specs.Modules.{OccursIn}
 use Rattle.type_table.specs.Table.{Type', Kind, simple, walk}
 use Rattle.resolve.specs.Program.{Program, IsAssignment}
 use Rattle.range_ends.specs.Ends.{IsOfKind}
@@ -39,11 +39,11 @@ pub record IsReconstrained (p : Program) (i : ℕ) : Type 0 where
   -- how many references and tags lead from type i to the type on which the earlier one is written
   pub steps : ℕ
   -- the number of that type
-  pub behind : ℕ
-  pub leads : walk p.types steps i ≡ Some behind
+  pub target : ℕ
+  pub chain : walk p.types steps i ≡ Some target
   pub other : ℕ
   pub earlier : ConstraintTree
-  pub stood : IsListed p behind other earlier
+  pub stood : IsListed p target other earlier
   pub before : ((steps ≡ 0) × (other < number)) ⊎ (0 < steps)
   pub marked : has_marker earlier ≡ true
 
@@ -76,7 +76,7 @@ pub record HasConstraint (p : Program) (i : ℕ) (P : Kind → Name → Constrai
 
 -- some element of the list has the property
 abbrev pub HasSuch : {A : Type 0} → List A → (A → Type 0) → Type 0
-HasSuch {A} xs P = (x : A) × StandsIn xs x × P x
+HasSuch {A} xs P = (x : A) × OccursIn xs x × P x
 
 -- the type doesn't take the constraint, or an end in it isn't a number, a size or a single character
 abbrev pub IsMisfit : Program → Kind → Name → ConstraintTree → Type 0

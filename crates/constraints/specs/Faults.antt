@@ -1,8 +1,8 @@
 -- What faults of constraints of linked modules mean (X.680, clauses 49 to 52), for a program p. Names are lists of
 -- octets.
 use Rattle.std.specs.Prelude.{◌≡◌, ℕ, Some, slice_get}
-use Rattle.trees.specs.declared.place.Spot.{Spot}
-use Rattle.names.specs.Faults.{module_told, name_told}
+use Rattle.trees.specs.declared.location.SourceLocation.{SourceLocation}
+use Rattle.names.specs.Faults.{fault_module, fault_name}
 use Rattle.names.specs.Sources.{Value}
 use Rattle.resolve.specs.Program.{Program, IsAssignment}
 use Rattle.tagging.specs.Faults.{Somewhere}
@@ -12,20 +12,20 @@ use Rattle.constraints.specs.declared.fault.BoundFault.TheVariants.{Memory, Circ
 
 -- An end of a range leads to a value that leads back to itself. The value is in the module and under the name that the
 -- spot has.
-pub record IsCircular (p : Program) (s : Spot) : Type 0 where
+pub record IsCircular (p : Program) (s : SourceLocation) : Type 0 where
   pub number : ℕ
   pub value : Value
   pub there : slice_get p.values number ≡ Some value
-  pub stands : IsAssignment p value.assignment (module_told s) (name_told s)
+  pub stands : IsAssignment p value.assignment (fault_module s) (fault_name s)
   pub ty : ℕ
   pub round : HasConstraint p ty (IsRound p number)
 
 -- the fault is one of this program, in the module and under the name that it has; `Memory` says nothing
-abbrev pub Stands : Program → BoundFault → Type 0
-Stands p Memory = Unit {0}
-Stands p (Circular s) = IsCircular p s
-Stands p (Empty s) = Somewhere p (IsEmpty p) s
-Stands p (WrongKind s) = Somewhere p (λ i. HasConstraint p i (IsMisfit p)) s
-Stands p (Reconstrained s) = Somewhere p (IsReconstrained p) s
-Stands p (LowerAboveUpper s) = Somewhere p (λ i. HasConstraint p i (IsTurnedRound p)) s
-Stands p (MarkerPlace s) = Somewhere p (λ i. HasConstraint p i IsMisplaced) s
+abbrev pub IsRightFault : Program → BoundFault → Type 0
+IsRightFault p Memory = Unit {0}
+IsRightFault p (Circular s) = IsCircular p s
+IsRightFault p (Empty s) = Somewhere p (IsEmpty p) s
+IsRightFault p (WrongKind s) = Somewhere p (λ i. HasConstraint p i (IsMisfit p)) s
+IsRightFault p (Reconstrained s) = Somewhere p (IsReconstrained p) s
+IsRightFault p (LowerAboveUpper s) = Somewhere p (λ i. HasConstraint p i (IsTurnedRound p)) s
+IsRightFault p (MarkerPlace s) = Somewhere p (λ i. HasConstraint p i IsMisplaced) s

@@ -4,8 +4,8 @@
 -- it; its own marker; its ranges.
 use Rattle.std.specs.Prelude.{◌≡◌, ◌⊎◌, ◌<◌, ℕ, true, false, List, Some, Vec, map, slice_get}
 use Rattle.std.specs.Global.{Global}
-use Rattle.trees.specs.declared.place.At.{At as Placed}
-use Rattle.trees.specs.declared.place.Spot.{Spot}
+use Rattle.trees.specs.declared.location.At.{At as Placed}
+use Rattle.trees.specs.declared.location.SourceLocation.{SourceLocation}
 use Rattle.trees.specs.declared.constraint.CharsSyntax.{CharsSyntax}
 use Rattle.trees.specs.declared.constraint.ConstraintForm.TheVariants as forms
 use Rattle.trees.specs.declared.constraint.ConstraintSyntax.{ConstraintSyntax}
@@ -13,9 +13,9 @@ use Rattle.trees.specs.declared.constraint.RangesSyntax.{RangesSyntax}
 use Rattle.trees.specs.Constraints.{ConstraintTree, constraint_of, chars_of}
 use Rattle.trees.specs.Values.{Name}
 use Rattle.names.specs.declared.sources.AssignedAt.{AssignedAt}
-use Rattle.names.specs.Faults.{module_told, name_told}
+use Rattle.names.specs.Faults.{fault_module, fault_name}
 use Rattle.names.specs.Sources.{Value, assignment_of}
-use Rattle.type_table.specs.declared.table.Written.{Written}
+use Rattle.type_table.specs.declared.table.TypeNode.{TypeNode}
 use Rattle.type_table.specs.Seen.{type_of}
 use Rattle.type_table.specs.Table.{Kind, walk}
 use Rattle.resolve.specs.Program.{Program, IsAssignment}
@@ -32,12 +32,12 @@ use Rattle.constraints.specs.declared.characters.CharsFault.TheVariants as chars
 use Rattle.constraints.specs.declared.column.Fault.{Fault}
 use Rattle.constraints.specs.declared.column.Fault.TheVariants as faults
 use Rattle.constraints.specs.declared.fault.BoundFault.{BoundFault}
-use Rattle.constraints.specs.declared.fault.BoundFault.TheVariants as told
+use Rattle.constraints.specs.declared.fault.BoundFault.TheVariants as reported
 use Rattle.constraints.specs.declared.limit.Limit.{Limit}
 use Rattle.constraints.specs.declared.meaning.Rule.{Rule}
 use Rattle.constraints.specs.declared.meaning.Rule.TheVariants as rules
-use Rattle.constraints.specs.declared.meaning.Wrong.{Wrong}
-use Rattle.constraints.specs.declared.meaning.Wrong.TheVariants as wrongs
+use Rattle.constraints.specs.declared.meaning.ConstraintFault.{ConstraintFault}
+use Rattle.constraints.specs.declared.meaning.ConstraintFault.TheVariants as wrongs
 use Rattle.constraints.specs.proving.Columns.{IsLimitOf, IsStartOf, fault_of}
 use Rattle.constraints.specs.proving.Limits.{IsMarkedIn, LeavesNone}
 
@@ -66,19 +66,19 @@ pub record IsFirstChars (cs : List CharsSyntax) (f : CharsFault) : Type 0 where
 -- ---- one constraint
 
 -- the fault of a constraint in which this is the fault of a range
-abbrev pub wrong_of : RangeFault → Wrong
+abbrev pub wrong_of : RangeFault → ConstraintFault
 wrong_of (ranges.NoEnd at) = wrongs.At rules.WrongKind at
 wrong_of (ranges.Reversed at) = wrongs.At rules.LowerAboveUpper at
 wrong_of (ranges.Circular v) = wrongs.Circular v
 
 -- the fault of a constraint in which this is the fault of a range of characters
-abbrev pub wrong_chars : CharsFault → Wrong
+abbrev pub wrong_chars : CharsFault → ConstraintFault
 wrong_chars (chars.NoCharacter at) = wrongs.At rules.WrongKind at
 wrong_chars (chars.Reversed at) = wrongs.At rules.LowerAboveUpper at
 
 -- The first fault of a constraint by itself, of a type of kind k, read in module M. It is at the constraint, or at an
 -- end of a range in it.
-pub data IsConstraintWrong (p : Program) (k : Kind) (M : Name) (c : ConstraintSyntax) (w : Wrong) : Type 0 where
+pub data IsConstraintWrong (p : Program) (k : Kind) (M : Name) (c : ConstraintSyntax) (w : ConstraintFault) : Type 0 where
   memory : w ≡ wrongs.Memory → IsConstraintWrong p k M c w
   not_taken : takes k (constraint_of c) ≡ false →
       w ≡ wrongs.At rules.WrongKind c.at →
@@ -112,21 +112,21 @@ pub data IsConstraintWrong (p : Program) (k : Kind) (M : Name) (c : ConstraintSy
 
 -- A marker is before constraint n. It is in an earlier one of these constraints, or in one of a type that this type
 -- leads to; l is what the constraints of that type allow.
-abbrev pub IsBehindMarker : List ConstraintSyntax → Limit → ℕ → Type 0
-IsBehindMarker cs l n = (l.extensible ≡ true) ⊎ IsMarkedIn (map constraint_of cs) n
+abbrev pub IsAfterMarker : List ConstraintSyntax → Limit → ℕ → Type 0
+IsAfterMarker cs l n = (l.extensible ≡ true) ⊎ IsMarkedIn (map constraint_of cs) n
 
 -- the first fault of c, which is constraint n of these
 pub data IsNextWrong (p : Program) (k : Kind) (M : Name) (cs : List ConstraintSyntax) (l : Limit) (n : ℕ)
-    (c : ConstraintSyntax) (w : Wrong) : Type 0 where
-  reconstrained : IsBehindMarker cs l n →
+    (c : ConstraintSyntax) (w : ConstraintFault) : Type 0 where
+  reconstrained : IsAfterMarker cs l n →
       w ≡ wrongs.At rules.Reconstrained c.at →
       IsNextWrong p k M cs l n c w
-  itself : (IsBehindMarker cs l n → ⊥) →
+  itself : (IsAfterMarker cs l n → ⊥) →
       IsConstraintWrong p k M c w →
       IsNextWrong p k M cs l n c w
 
 -- the first fault of these constraints
-pub record IsFirstConstraint (p : Program) (k : Kind) (M : Name) (cs : List ConstraintSyntax) (l : Limit) (w : Wrong)
+pub record IsFirstConstraint (p : Program) (k : Kind) (M : Name) (cs : List ConstraintSyntax) (l : Limit) (w : ConstraintFault)
     : Type 0 where
   pub number : ℕ
   pub constraint : ConstraintSyntax
@@ -140,7 +140,7 @@ pub record IsFirstConstraint (p : Program) (k : Kind) (M : Name) (cs : List Cons
 -- The first fault of all constraints of a type that begins at the place. It is the fault of one constraint, or each has
 -- a meaning and together they allow nothing.
 pub data IsLimitWrong (p : Program) (k : Kind) (M : Name) (cs : List ConstraintSyntax) (l : Limit) (place : ℕ)
-    (w : Wrong) : Type 0 where
+    (w : ConstraintFault) : Type 0 where
   of_one : IsFirstConstraint p k M cs l w → IsLimitWrong p k M cs l place w
   empty : LeavesNone p k M (map constraint_of cs) l →
       w ≡ wrongs.At rules.Empty place →
@@ -150,7 +150,7 @@ pub data IsLimitWrong (p : Program) (k : Kind) (M : Name) (cs : List ConstraintS
 
 -- the first fault of type i, as it is written
 pub record IsTypeFault (p : Program) (i : ℕ) (f : Fault) : Type 0 where
-  pub written : Written
+  pub written : TypeNode
   pub there : slice_get p.types i ≡ Some (type_of written)
   pub kind : Kind
   pub of_kind : IsOfKind p.types i kind
@@ -160,9 +160,9 @@ pub record IsTypeFault (p : Program) (i : ℕ) (f : Fault) : Type 0 where
   -- what the constraints of the types that this type leads to allow
   pub start : Limit
   pub starts : IsStartOf p i start
-  pub wrong : Wrong
+  pub wrong : ConstraintFault
   pub fault : IsLimitWrong p kind within written.constraints.items start written.at wrong
-  pub told : f ≡ fault_of wrong i
+  pub reported : f ≡ fault_of wrong i
 
 -- The first fault of a program: of type `number`, or of a type that it leads to. The constraints of all types with
 -- lower numbers have a meaning, and allow something.
@@ -170,36 +170,36 @@ pub record IsFirstFault (p : Program) (f : Fault) : Type 0 where
   pub number : ℕ
   pub steps : ℕ
   pub of : ℕ
-  pub leads : walk p.types steps number ≡ Some of
+  pub chain : walk p.types steps number ≡ Some of
   pub fault : IsTypeFault p of f
   pub before : (i : ℕ) → i < number → (l : Limit) × IsLimitOf p i l
 
 -- ---- faults by name
 
 -- the first fault breaks the rule, and the spot has the module and the assignment in which its type is written
-pub record IsFirstAt (p : Program) (r : Rule) (s : Spot) : Type 0 where
+pub record IsFirstAt (p : Program) (r : Rule) (s : SourceLocation) : Type 0 where
   pub ty : ℕ
   pub first : IsFirstFault p (faults.At r ty s.at)
-  pub stands : IsWrittenIn p ty (module_told s) (name_told s)
+  pub stands : IsWrittenIn p ty (fault_module s) (fault_name s)
 
 -- The first fault is that an end leads to a value which leads back to itself. It is reported at the place where that
 -- value gets its name.
-pub record IsFirstCircle (p : Program) (s : Spot) : Type 0 where
+pub record IsFirstCircle (p : Program) (s : SourceLocation) : Type 0 where
   pub number : ℕ
   pub first : IsFirstFault p (faults.Circular number)
   pub value : Value
   pub there : slice_get p.values number ≡ Some value
-  pub stands : IsAssignment p value.assignment (module_told s) (name_told s)
+  pub stands : IsAssignment p value.assignment (fault_module s) (fault_name s)
   pub assigned : AssignedAt
   pub written : slice_get p.assignments value.assignment ≡ Some (assignment_of assigned)
   pub at : s.at ≡ assigned.name.at
 
 -- this fault is the first; `Memory` says nothing
-abbrev pub TellsFirst : Program → BoundFault → Type 0
-TellsFirst p told.Memory = Unit {0}
-TellsFirst p (told.Circular s) = IsFirstCircle p s
-TellsFirst p (told.Empty s) = IsFirstAt p rules.Empty s
-TellsFirst p (told.WrongKind s) = IsFirstAt p rules.WrongKind s
-TellsFirst p (told.Reconstrained s) = IsFirstAt p rules.Reconstrained s
-TellsFirst p (told.LowerAboveUpper s) = IsFirstAt p rules.LowerAboveUpper s
-TellsFirst p (told.MarkerPlace s) = IsFirstAt p rules.MarkerPlace s
+abbrev pub ReportsFirst : Program → BoundFault → Type 0
+ReportsFirst p reported.Memory = Unit {0}
+ReportsFirst p (reported.Circular s) = IsFirstCircle p s
+ReportsFirst p (reported.Empty s) = IsFirstAt p rules.Empty s
+ReportsFirst p (reported.WrongKind s) = IsFirstAt p rules.WrongKind s
+ReportsFirst p (reported.Reconstrained s) = IsFirstAt p rules.Reconstrained s
+ReportsFirst p (reported.LowerAboveUpper s) = IsFirstAt p rules.LowerAboveUpper s
+ReportsFirst p (reported.MarkerPlace s) = IsFirstAt p rules.MarkerPlace s

@@ -3,4 +3,4 @@ pub mod Characters
 pub mod Meanings
 pub mod Limits
 pub mod Columns
-pub mod Told
+pub mod Reported

@@ -13,12 +13,12 @@ ghost use Rattle.constraints.specs.Constraints.{is_integer as is_integer', has_a
 ghost use Rattle.constraints.specs.Allowed.{IsAllowed, IsCounted, IsInAlphabet, AreVisible, AreCharacters, LeaveTheSame};
 ghost use Rattle.constraints.specs.Bounded.{AreBounded};
 ghost use Rattle.constraints.specs.Tables.{AreBoundsOf};
-ghost use Rattle.constraints.specs.Faults.{Stands};
-ghost use Rattle.constraints.specs.First.{TellsFirst};
+ghost use Rattle.constraints.specs.Faults.{IsRightFault};
+ghost use Rattle.constraints.specs.First.{ReportsFirst};
 ghost use Rattle.constraints.specs.proving.Columns.{IsLeft};
 
-use crate::column::{BoundTable, Held, column_of, core_at};
-use crate::fault::{BoundFault, told};
+use crate::column::{BoundTable, TableRef, column_of, core_at};
+use crate::fault::{BoundFault, reported};
 use crate::limit::Limit;
 use crate::meaning::{has_alphabet, has_size, is_integer};
 use asn_base::constraint::Bounds;
@@ -36,7 +36,7 @@ use type_table::Shape;
 /// numbers of types are theirs.
 pub struct Bounded<'a> {
     tagged: &'a Tagged<'a>,
-    table: Held<'a>,
+    table: TableRef<'a>,
 }
 
 impl<'a> Model for Bounded<'a> {
@@ -64,7 +64,7 @@ impl<'a> Bounded<'a> {
     {
         Bounded {
             tagged,
-            table: Held::Lent(table),
+            table: TableRef::Lent(table),
         }
     }
 
@@ -138,8 +138,8 @@ impl<'a> Bounded<'a> {
 /// Returns what is found once for the constraints of tagged modules (X.680, clauses 49 to 51), or the first fault, as
 /// [`bound`] returns it.
 pub fn bound_table(alloc: Global, tagged: &Tagged<'_>) -> Result<BoundTable, BoundFault>
-    ensures found { MatchResult result (AreBoundsOf tagged.now) (Stands tagged.now) }
-    ensures first { IfErr result (TellsFirst tagged.now) }
+    ensures found { MatchResult result (AreBoundsOf tagged.now) (IsRightFault tagged.now) }
+    ensures first { IfErr result (ReportsFirst tagged.now) }
 {
     let linked = tagged.linked();
     let scope = match ReferenceTable::of(alloc, linked) {
@@ -148,7 +148,7 @@ pub fn bound_table(alloc: Global, tagged: &Tagged<'_>) -> Result<BoundTable, Bou
     };
     match column_of(alloc, &scope) {
         Ok(column) => Ok(column),
-        Err(fault) => Err(told(alloc, linked, fault)),
+        Err(fault) => Err(reported(alloc, linked, fault)),
     }
 }
 
@@ -159,13 +159,13 @@ pub fn bound_table(alloc: Global, tagged: &Tagged<'_>) -> Result<BoundTable, Bou
 pub fn bound<'a>(alloc: Global, tagged: &'a Tagged<'a>) -> Result<Bounded<'a>, BoundFault>
     ensures found { MatchResult result
         (λ b. (b ≡ tagged.now) × AreBounded tagged.now)
-        (Stands tagged.now) }
-    ensures first { IfErr result (TellsFirst tagged.now) }
+        (IsRightFault tagged.now) }
+    ensures first { IfErr result (ReportsFirst tagged.now) }
 {
     match bound_table(alloc, tagged) {
         Ok(table) => Ok(Bounded {
             tagged,
-            table: Held::Owned(table),
+            table: TableRef::Owned(table),
         }),
         Err(fault) => Err(fault),
     }

@@ -2,18 +2,18 @@
 
 ghost use Rattle.std.specs.Prelude.{◌≡◌, ◌<◌, ℕ, IfOk, IfErr, OnOk, Some, length, map, slice_get, option_map, MatchResult};
 ghost use Rattle.type_table.specs.Seen.{kind_of, type_of, types_of};
-ghost use Rattle.type_table.specs.Table.{IsLinked, behind as behind', next};
+ghost use Rattle.type_table.specs.Table.{IsLinked, target as target', next};
 ghost use Rattle.range_ends.specs.Ends.{IsOfKind};
-ghost use Rattle.constraints.specs.proving.Told.{TellsOfType, TellsOfOne, TellsFirstOf, AreBehind};
+ghost use Rattle.constraints.specs.proving.Reported.{ReportsTypeFault, ReportsOne, ReportsFirstOf, AreTargets};
 ghost use Rattle.constraints.specs.proving.Columns.{AreNoted, AreAllNoted, IsNoted, IsTrail, IsFault, IsStartOf, IsLimitOf, IsShared, fault_of, held, limit_noted, number_noted};
 
 use crate::limit::{Limit, first_limit, limit_of};
-use crate::meaning::{Rule, Wrong};
+use crate::meaning::{ConstraintFault, Rule};
 use asn_base::schema::TypeId;
 use range_ends::ReferenceTable;
 use resolve::Linked;
 use std::alloc::{AllocError, Global};
-use type_table::{Shape, Written};
+use type_table::{Shape, TypeNode};
 
 /// What is wrong with the constraints of a type.
 #[derive(Clone, Copy)]
@@ -27,8 +27,8 @@ pub(crate) enum Fault {
 }
 
 /// The type that a reference or tag leads to, or None if the type is neither.
-fn behind(written: &Written) -> Option<usize>
-    ensures { result ≡ behind' (kind_of written.now.shape) }
+fn target(written: &TypeNode) -> Option<usize>
+    ensures { result ≡ target' (kind_of written.now.shape) }
 {
     match &written.shape {
         Shape::Reference(ty) => Some(*ty),
@@ -40,7 +40,7 @@ fn behind(written: &Written) -> Option<usize>
 /// The types from `start` on through references and tags, up to the first for which a limit is noted.
 fn trail(
     alloc: Global,
-    types: &[Written],
+    types: &[TypeNode],
     at: &[Option<usize>],
     start: usize,
 ) -> Result<Vec<usize>, AllocError>
@@ -48,7 +48,7 @@ fn trail(
     requires long { length at.now ≡ length types.now }
     requires there { start < length types.now }
     ensures trail { IfOk result (λ v. IsTrail (types_of types.now) at.now start v.items) }
-    ensures behind { IfOk result (λ v. AreBehind (types_of types.now) start v.items) }
+    ensures target { IfOk result (λ v. AreTargets (types_of types.now) start v.items) }
 {
     let mut all = Vec::new(alloc);
     let mut ty = start;
@@ -57,7 +57,7 @@ fn trail(
             return Ok(all);
         }
         all.push(ty)?;
-        match behind(&types[ty]) {
+        match target(&types[ty]) {
             None => return Ok(all),
             Some(next) => ty = next,
         }
@@ -75,31 +75,31 @@ pub struct BoundTable {
 
 /// A table that is owned, or one that someone else owns.
 #[derive(Drop)]
-pub(crate) enum Held<'a> {
+pub(crate) enum TableRef<'a> {
     Owned(BoundTable),
     Lent(&'a BoundTable),
 }
 
-impl<'a> Held<'a> {
+impl<'a> TableRef<'a> {
     /// The table.
     pub(crate) fn get(&self) -> &BoundTable
         ensures { result.now ≡ held self.now }
     {
         match self {
-            Held::Owned(table) => table,
-            Held::Lent(table) => table,
+            TableRef::Owned(table) => table,
+            TableRef::Lent(table) => table,
         }
     }
 }
 
 /// The fault of a type whose constraints have this fault.
-fn fault_at(wrong: Wrong, ty: usize) -> Fault
+fn fault_at(wrong: ConstraintFault, ty: usize) -> Fault
     ensures { result ≡ fault_of wrong ty }
 {
     match wrong {
-        Wrong::Memory => Fault::Memory,
-        Wrong::Circular(value) => Fault::Circular(value),
-        Wrong::At(rule, at) => Fault::At(rule, ty, at),
+        ConstraintFault::Memory => Fault::Memory,
+        ConstraintFault::Circular(value) => Fault::Circular(value),
+        ConstraintFault::At(rule, at) => Fault::At(rule, ty, at),
     }
 }
 
@@ -127,7 +127,7 @@ impl BoundTable {
 }
 
 /// A type as it is written in a text.
-pub(crate) fn written_at(linked: &Linked, ty: usize) -> &Written
+pub(crate) fn written_at(linked: &Linked, ty: usize) -> &TypeNode
     requires { ty < length linked.now.types }
     ensures { slice_get linked.now.types ty ≡ Some (type_of result.now) }
 {
@@ -153,18 +153,18 @@ fn start_of(
 ) -> Result<Limit, AllocError>
     requires there { ty < length linked.now.types }
     requires noted { AreNoted linked.now column.now.at.items column.now.limits.items }
-    requires behind { (j : ℕ) → next linked.now.types ty ≡ Some j → IsNoted column.now.at.items j }
+    requires target { (j : ℕ) → next linked.now.types ty ≡ Some j → IsNoted column.now.at.items j }
     ensures { IfOk result (IsStartOf linked.now ty) }
 {
     let written = written_at(linked, ty);
-    match behind(written) {
+    match target(written) {
         None => match first_limit(alloc, &written.shape) {
             Ok(first) => Ok(first),
             Err(fault) => Err(fault),
         },
         Some(next) => match column.limit(next) {
             None => first_limit(alloc, &written.shape),
-            Some(limit) => match limit.copy(alloc) {
+            Some(limit) => match limit.copy() {
                 Ok(copy) => Ok(copy),
                 Err(fault) => Err(fault),
             },
@@ -184,9 +184,9 @@ fn limit_in(
     requires same { linked.now ≡ scope.now }
     requires there { ty < length linked.now.types }
     requires noted { AreNoted linked.now column.now.at.items column.now.limits.items }
-    requires behind { (j : ℕ) → next linked.now.types ty ≡ Some j → IsNoted column.now.at.items j }
+    requires target { (j : ℕ) → next linked.now.types ty ≡ Some j → IsNoted column.now.at.items j }
     ensures found { MatchResult result (IsLimitOf linked.now ty) (IsFault linked.now) }
-    ensures first { IfErr result (TellsOfType linked.now ty) }
+    ensures first { IfErr result (ReportsTypeFault linked.now ty) }
 {
     linked.whole();
     let start = match start_of(alloc, linked, column, ty) {
@@ -220,9 +220,9 @@ fn limit_at(
 ) -> Result<Limit, Fault>
     requires there { ty < length scope.now.types }
     requires noted { AreNoted scope.now column.now.at.items column.now.limits.items }
-    requires behind { (j : ℕ) → next scope.now.types ty ≡ Some j → IsNoted column.now.at.items j }
+    requires target { (j : ℕ) → next scope.now.types ty ≡ Some j → IsNoted column.now.at.items j }
     ensures found { MatchResult result (IsLimitOf scope.now ty) (IsFault scope.now) }
-    ensures first { IfErr result (TellsOfType scope.now ty) }
+    ensures first { IfErr result (ReportsTypeFault scope.now ty) }
 {
     limit_in(alloc, scope.linked(), scope, column, ty)
 }
@@ -234,7 +234,7 @@ fn shared(linked: &Linked, ty: usize) -> Option<usize>
 {
     let written = written_at(linked, ty);
     if written.constraints.is_empty() {
-        behind(written)
+        target(written)
     } else {
         None
     }
@@ -250,12 +250,12 @@ fn note(
 ) -> Result<(), Fault>
     requires there { ty < length scope.now.types }
     requires noted { AreNoted scope.now column.old.at.items column.old.limits.items }
-    requires behind { (j : ℕ) → next scope.now.types ty ≡ Some j → IsNoted column.old.at.items j }
+    requires target { (j : ℕ) → next scope.now.types ty ≡ Some j → IsNoted column.old.at.items j }
     ensures noted { OnOk result (AreNoted scope.now column.new.at.items column.new.limits.items) }
     ensures it { OnOk result (IsNoted column.new.at.items ty) }
     ensures kept { OnOk result ((i : ℕ) → IsNoted column.old.at.items i → IsNoted column.new.at.items i) }
     ensures fault { IfErr result (IsFault scope.now) }
-    ensures first { IfErr result (TellsOfType scope.now ty) }
+    ensures first { IfErr result (ReportsTypeFault scope.now ty) }
 {
     match shared(scope.linked(), ty) {
         Some(next) => match column.number(next) {
@@ -295,7 +295,7 @@ fn note_trail(
     ensures it { OnOk result (IsNoted column.new.at.items start) }
     ensures kept { OnOk result ((i : ℕ) → IsNoted column.old.at.items i → IsNoted column.new.at.items i) }
     ensures fault { IfErr result (IsFault scope.now) }
-    ensures first { IfErr result (TellsOfOne scope.now trail.now) }
+    ensures first { IfErr result (ReportsOne scope.now trail.now) }
 {
     for step in 0..trail.len() {
         let ty = trail[trail.len() - 1 - step];
@@ -323,7 +323,7 @@ pub(crate) fn column_of(alloc: Global, scope: &ReferenceTable<'_>) -> Result<Bou
     ensures found { MatchResult result
         (λ c. AreAllNoted scope.now c.at.items c.limits.items)
         (IsFault scope.now) }
-    ensures first { IfErr result (TellsFirstOf scope.now) }
+    ensures first { IfErr result (ReportsFirstOf scope.now) }
 {
     let types = scope.linked().types();
     let at = match nothing_noted(alloc, types.len()) {

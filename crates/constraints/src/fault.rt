@@ -1,25 +1,25 @@
 //! What can be wrong with constraints.
 
 ghost use Rattle.std.specs.Prelude.{◌≡◌, ◌<◌, ℕ, length, Some, slice_get};
-ghost use Rattle.names.specs.Faults.{module_told, name_told};
+ghost use Rattle.names.specs.Faults.{fault_module, fault_name};
 ghost use Rattle.names.specs.Sources.{assignment_of, value_of};
 ghost use Rattle.resolve.specs.Program.{Program, IsAssignment};
 ghost use Rattle.tagging.specs.Faults.{IsWrittenIn};
-ghost use Rattle.constraints.specs.Faults.{Stands};
-ghost use Rattle.constraints.specs.First.{IsFirstFault, TellsFirst};
-ghost use Rattle.constraints.specs.proving.Told.{TellsFirstOf};
+ghost use Rattle.constraints.specs.Faults.{IsRightFault};
+ghost use Rattle.constraints.specs.First.{IsFirstFault, ReportsFirst};
+ghost use Rattle.constraints.specs.proving.Reported.{ReportsFirstOf};
 ghost use Rattle.constraints.specs.declared.column.Fault.TheVariants as column;
 ghost use Rattle.constraints.specs.proving.Columns.{Breaks, IsFault, IsRoundAt};
 
 use crate::column::{Fault, written_at};
 use crate::meaning::Rule;
 use asn_base::schema::TypeId;
-use names::fault::spot;
+use names::fault::source_location;
 use names::{AssignedAt, ValueAt};
 use resolve::Linked;
 use std::alloc::Global;
 use thiserror::Error;
-use trees::Spot;
+use trees::SourceLocation;
 
 /// What is wrong, with the module, the name of the assignment, and the place in the module's text.
 #[derive(Debug, Drop, Error)]
@@ -29,45 +29,45 @@ pub enum BoundFault {
     Memory,
     /// An end of a range leads to this value, whose notation leads back to the value itself.
     #[error("33 Circular: {0}")]
-    Circular(Spot),
+    Circular(SourceLocation),
     /// The constraints of the type at the place allow no number, no size or no character (X.680, clause 49.1). These
     /// constraints include those of the types to which references and tags lead from the type.
     #[error("50 Empty: {0}")]
-    Empty(Spot),
+    Empty(SourceLocation),
     /// The type doesn't take the constraint at the place. Or an end of a range at the place isn't a number, is a size
     /// below 0, or isn't a single character (X.680, clauses 51.2, 51.4, 51.5 and 51.7).
     #[error("51 WrongKind: {0}")]
-    WrongKind(Spot),
+    WrongKind(SourceLocation),
     /// The constraint at the place comes after one with an extension marker. X.680 allows it, but this compiler doesn't
     /// support it.
     #[error("52 Reconstrained: {0}")]
-    Reconstrained(Spot),
+    Reconstrained(SourceLocation),
     /// The lower end of a range, at the place, is above its upper end (X.680, clause 51.4.3).
     #[error("53 LowerAboveUpper: {0}")]
-    LowerAboveUpper(Spot),
+    LowerAboveUpper(SourceLocation),
     /// The constraint at the place has an extension marker that this compiler doesn't take: after several values or
     /// ranges, or in the SIZE of a character string.
     #[error("55 MarkerPlace: {0}")]
-    MarkerPlace(Spot),
+    MarkerPlace(SourceLocation),
 }
 
 /// The fault that a type breaks a rule at a spot.
-fn fault_of(rule: Rule, spot: Spot) -> BoundFault
+fn fault_of(rule: Rule, source_location: SourceLocation) -> BoundFault
     ensures stands { (p : Program) (i : ℕ) →
         Breaks p rule i →
-        IsWrittenIn p i (module_told spot) (name_told spot) →
-        Stands p result }
+        IsWrittenIn p i (fault_module source_location) (fault_name source_location) →
+        IsRightFault p result }
     ensures first { (p : Program) (i : ℕ) →
-        IsFirstFault p (column.At rule i spot.at) →
-        IsWrittenIn p i (module_told spot) (name_told spot) →
-        TellsFirst p result }
+        IsFirstFault p (column.At rule i source_location.at) →
+        IsWrittenIn p i (fault_module source_location) (fault_name source_location) →
+        ReportsFirst p result }
 {
     match rule {
-        Rule::Empty => BoundFault::Empty(spot),
-        Rule::WrongKind => BoundFault::WrongKind(spot),
-        Rule::Reconstrained => BoundFault::Reconstrained(spot),
-        Rule::LowerAboveUpper => BoundFault::LowerAboveUpper(spot),
-        Rule::MarkerPlace => BoundFault::MarkerPlace(spot),
+        Rule::Empty => BoundFault::Empty(source_location),
+        Rule::WrongKind => BoundFault::WrongKind(source_location),
+        Rule::Reconstrained => BoundFault::Reconstrained(source_location),
+        Rule::LowerAboveUpper => BoundFault::LowerAboveUpper(source_location),
+        Rule::MarkerPlace => BoundFault::MarkerPlace(source_location),
     }
 }
 
@@ -75,13 +75,13 @@ fn fault_of(rule: Rule, spot: Spot) -> BoundFault
 fn broken(alloc: Global, linked: &Linked, rule: Rule, ty: usize, at: usize) -> BoundFault
     requires there { ty < length linked.now.types }
     requires breaks { Breaks linked.now rule ty }
-    ensures stands { Stands linked.now result }
-    ensures first { IsFirstFault linked.now (column.At rule ty at) → TellsFirst linked.now result }
+    ensures stands { IsRightFault linked.now result }
+    ensures first { IsFirstFault linked.now (column.At rule ty at) → ReportsFirst linked.now result }
 {
     let home = linked.home(TypeId { index: ty });
     let _written = written_at(linked, ty);
-    match spot(alloc, home.module, home.name, at) {
-        Ok(spot) => fault_of(rule, spot),
+    match source_location(alloc, home.module, home.name, at) {
+        Ok(source_location) => fault_of(rule, source_location),
         Err(_) => BoundFault::Memory,
     }
 }
@@ -106,24 +106,24 @@ fn assigned_at(linked: &Linked, assignment: usize) -> &AssignedAt
 fn circular(alloc: Global, linked: &Linked, value: usize) -> BoundFault
     requires there { value < length linked.now.values }
     requires round { IsRoundAt linked.now value }
-    ensures stands { Stands linked.now result }
-    ensures first { IsFirstFault linked.now (column.Circular value) → TellsFirst linked.now result }
+    ensures stands { IsRightFault linked.now result }
+    ensures first { IsFirstFault linked.now (column.Circular value) → ReportsFirst linked.now result }
 {
     linked.whole();
     let written = value_at(linked, value);
     let home = linked.assigned(written.assignment);
     let assigned = assigned_at(linked, written.assignment);
-    match spot(alloc, home.module, home.name, assigned.name.at) {
-        Ok(spot) => BoundFault::Circular(spot),
+    match source_location(alloc, home.module, home.name, assigned.name.at) {
+        Ok(source_location) => BoundFault::Circular(source_location),
         Err(_) => BoundFault::Memory,
     }
 }
 
 /// The fault of the constraints of linked modules, with the names with which it is reported.
-pub(crate) fn told(alloc: Global, linked: &Linked, fault: Fault) -> BoundFault
+pub(crate) fn reported(alloc: Global, linked: &Linked, fault: Fault) -> BoundFault
     requires { IsFault linked.now fault }
-    ensures stands { Stands linked.now result }
-    ensures first { TellsFirstOf linked.now fault → TellsFirst linked.now result }
+    ensures stands { IsRightFault linked.now result }
+    ensures first { ReportsFirstOf linked.now fault → ReportsFirst linked.now result }
 {
     match fault {
         Fault::Memory => BoundFault::Memory,

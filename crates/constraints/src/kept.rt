@@ -25,8 +25,7 @@ fn allowed_ranges(alloc: Global, limit: &Limit) -> Result<Option<Vec<Range>>, Al
     if limit.extensible {
         return Ok(None);
     }
-    let ranges = limit.numbers.copy(alloc)?;
-    Ok(Some(ranges.into_ranges()))
+    Ok(Some(limit.numbers.list(alloc)?))
 }
 
 /// Returns what the constraints of a type allow of its numbers or sizes, in the form of a resolved type. It has the

@@ -9,7 +9,9 @@ ghost use Rattle.asn_base.specs.Names.{IsMember};
 ghost use Rattle.asn_base.specs.Typed.{IsInSome};
 ghost use Rattle.constraints.specs.Allowed.{IsCounted};
 
-use crate::meaning::{Meaning, Rule, Wrong, has_alphabet, is_integer, meaning_of};
+use crate::meaning::{
+    ConstraintFault, ConstraintMeaning, Rule, has_alphabet, is_integer, meaning_of,
+};
 use asn_base::constraint::Range;
 use range_ends::ReferenceTable;
 use ranges::law::bounds;
@@ -72,12 +74,12 @@ pub(crate) fn first_limit(alloc: Global, shape: &Shape) -> Result<Limit, AllocEr
 }
 
 impl Limit {
-    /// An equal limit. `AllocError` comes only if an allocation fails.
-    pub(crate) fn copy(&self, alloc: Global) -> Result<Limit, AllocError>
+    /// An equal limit, which shares the numbers. `AllocError` comes only if there are too many copies.
+    pub(crate) fn copy(&self) -> Result<Limit, AllocError>
         ensures { IfOk result (λ l. IsSame self.now l) }
     {
         Ok(Limit {
-            numbers: self.numbers.copy(alloc)?,
+            numbers: self.numbers.copy()?,
             codes: self.codes.copy(),
             extensible: self.extensible,
         })
@@ -109,7 +111,7 @@ fn fewer_codes(codes: Codes, more: &Option<Codes>) -> Codes
 }
 
 /// What is allowed after one more constraint.
-fn narrowed(alloc: Global, limit: Limit, meaning: &Meaning) -> Result<Limit, AllocError>
+fn narrowed(alloc: Global, limit: Limit, meaning: &ConstraintMeaning) -> Result<Limit, AllocError>
     ensures { IfOk result (IsNarrowed limit meaning.now) }
 {
     let Limit {
@@ -145,7 +147,7 @@ fn narrowed_by(
     within: &str,
     start: Limit,
     constraints: &[ConstraintSyntax],
-) -> Result<Limit, Wrong>
+) -> Result<Limit, ConstraintFault>
     ensures found { MatchResult result
         (Narrows scope.now (kind_of shape.now) within.now (map constraint_of constraints.now) (length constraints.now) start)
         (AreWrong scope.now (kind_of shape.now) within.now (map constraint_of constraints.now) start) }
@@ -154,7 +156,7 @@ fn narrowed_by(
     let mut limit = start;
     for constraint in constraints {
         if limit.extensible {
-            return Err(Wrong::At(Rule::Reconstrained, constraint.at));
+            return Err(ConstraintFault::At(Rule::Reconstrained, constraint.at));
         }
         let meaning = match meaning_of(alloc, scope, shape, within, constraint) {
             Ok(meaning) => meaning,
@@ -162,7 +164,7 @@ fn narrowed_by(
         };
         limit = match narrowed(alloc, limit, &meaning) {
             Ok(limit) => limit,
-            Err(_) => return Err(Wrong::Memory),
+            Err(_) => return Err(ConstraintFault::Memory),
         };
     }
     Ok(limit)
@@ -177,7 +179,7 @@ pub(crate) fn limit_of(
     start: Limit,
     constraints: &[ConstraintSyntax],
     at: usize,
-) -> Result<Limit, Wrong>
+) -> Result<Limit, ConstraintFault>
     ensures found { MatchResult result
         (λ l. Narrows scope.now (kind_of shape.now) within.now (map constraint_of constraints.now) (length constraints.now) start l
         × LeavesSome (kind_of shape.now) l)
@@ -189,7 +191,7 @@ pub(crate) fn limit_of(
         Err(wrong) => return Err(wrong),
     };
     if is_empty(shape, &limit) {
-        return Err(Wrong::At(Rule::Empty, at));
+        return Err(ConstraintFault::At(Rule::Empty, at));
     }
     Ok(limit)
 }

@@ -6,11 +6,11 @@ ghost use Rattle.type_table.specs.Seen.{kind_of};
 ghost use Rattle.constraints.specs.Constraints.{takes as takes', may_extend as may_extend', is_alone as is_alone', is_integer as is_integer', has_size as has_size', has_alphabet as has_alphabet', is_marked as is_marked'};
 ghost use Rattle.range_ends.specs.declared.ranges.Counted.{Counted as Counted'};
 ghost use Rattle.constraints.specs.First.{IsConstraintWrong};
-ghost use Rattle.constraints.specs.proving.Told.{AreRangesWrong};
+ghost use Rattle.constraints.specs.proving.Reported.{AreRangesWrong};
 ghost use Rattle.constraints.specs.proving.Meanings.{IsMeaningOf, AreNumbersOf, IsWrong, ranged};
 
 use crate::characters::{CharsFault, codes_at};
-use range_ends::{Counted, RangeFault, RangesFault, ReferenceTable, Site, ranges_at};
+use range_ends::{Counted, RangeContext, RangeFault, RangesFault, ReferenceTable, ranges_at};
 use ranges::{Codes, Ranges};
 use std::alloc::Global;
 use trees::{ConstraintForm, ConstraintSyntax, RangesSyntax, Simple};
@@ -28,7 +28,7 @@ pub(crate) enum Rule {
 
 /// What is wrong with a constraint.
 #[derive(Clone, Copy)]
-pub(crate) enum Wrong {
+pub(crate) enum ConstraintFault {
     /// An allocation failed.
     Memory,
     /// An end leads to this value, by its number, whose notation leads back to the value itself.
@@ -39,7 +39,7 @@ pub(crate) enum Wrong {
 
 /// What a constraint means: the numbers or sizes, or the characters, that it allows; and whether it has an extension
 /// marker.
-pub(crate) struct Meaning {
+pub(crate) struct ConstraintMeaning {
     pub numbers: Option<Ranges>,
     pub codes: Option<Codes>,
     pub marker: bool,
@@ -111,10 +111,10 @@ fn is_marked(shape: &Shape, ranges: &RangesSyntax) -> bool
 /// The numbers or sizes that ranges allow, if their marker is at an allowed place.
 fn numbers_of(
     alloc: Global,
-    site: &Site<'_>,
+    site: &RangeContext<'_>,
     at: usize,
     ranges: &RangesSyntax,
-) -> Result<Ranges, Wrong>
+) -> Result<Ranges, ConstraintFault>
     ensures found { MatchResult result
         (AreNumbersOf site.now.scope.now (kind_of site.now.shape.now) site.now.within.now site.now.of (ranges_of ranges.now))
         (IsWrong site.now.scope.now (kind_of site.now.shape.now) site.now.within.now
@@ -123,19 +123,22 @@ fn numbers_of(
         (AreRangesWrong site.now.scope.now (kind_of site.now.shape.now) site.now.within.now site.now.of at ranges.now) }
 {
     if !is_marked(site.shape, ranges) {
-        return Err(Wrong::At(Rule::MarkerPlace, at));
+        return Err(ConstraintFault::At(Rule::MarkerPlace, at));
     }
     match ranges_at(alloc, site, &ranges.ranges) {
         Ok(all) => match Ranges::union_of(alloc, all) {
             Ok(numbers) => Ok(numbers),
-            Err(_) => Err(Wrong::Memory),
+            Err(_) => Err(ConstraintFault::Memory),
         },
-        Err(RangesFault::Memory) => Err(Wrong::Memory),
-        Err(RangesFault::At(RangeFault::NoEnd(place))) => Err(Wrong::At(Rule::WrongKind, place)),
+        Err(RangesFault::Memory) => Err(ConstraintFault::Memory),
+        Err(RangesFault::At(RangeFault::NoEnd(place))) => Err(ConstraintFault::At(
+            Rule::WrongKind,
+            place,
+        )),
         Err(RangesFault::At(RangeFault::Reversed(place))) => {
-            Err(Wrong::At(Rule::LowerAboveUpper, place))
+            Err(ConstraintFault::At(Rule::LowerAboveUpper, place))
         }
-        Err(RangesFault::At(RangeFault::Circular(value))) => Err(Wrong::Circular(value)),
+        Err(RangesFault::At(RangeFault::Circular(value))) => Err(ConstraintFault::Circular(value)),
     }
 }
 
@@ -146,7 +149,7 @@ fn taken(
     shape: &Shape,
     within: &str,
     constraint: &ConstraintSyntax,
-) -> Result<Meaning, Wrong>
+) -> Result<ConstraintMeaning, ConstraintFault>
     requires { takes' (kind_of shape.now) (constraint_of constraint.now) ≡ true }
     ensures found { MatchResult result
         (IsMeaningOf scope.now (kind_of shape.now) within.now (constraint_of constraint.now))
@@ -155,14 +158,14 @@ fn taken(
 {
     match &constraint.form {
         ConstraintForm::Values(ranges) => {
-            let site = Site {
+            let site = RangeContext {
                 scope,
                 shape,
                 within,
                 of: Counted::Numbers,
             };
             match numbers_of(alloc, &site, constraint.at, ranges) {
-                Ok(numbers) => Ok(Meaning {
+                Ok(numbers) => Ok(ConstraintMeaning {
                     numbers: Some(numbers),
                     codes: None,
                     marker: ranges.marker,
@@ -171,14 +174,14 @@ fn taken(
             }
         }
         ConstraintForm::Size(ranges) => {
-            let site = Site {
+            let site = RangeContext {
                 scope,
                 shape,
                 within,
                 of: Counted::Sizes,
             };
             match numbers_of(alloc, &site, constraint.at, ranges) {
-                Ok(numbers) => Ok(Meaning {
+                Ok(numbers) => Ok(ConstraintMeaning {
                     numbers: Some(numbers),
                     codes: None,
                     marker: ranges.marker,
@@ -187,13 +190,16 @@ fn taken(
             }
         }
         ConstraintForm::From(chars) => match codes_at(chars) {
-            Ok(codes) => Ok(Meaning {
+            Ok(codes) => Ok(ConstraintMeaning {
                 numbers: None,
                 codes: Some(codes),
                 marker: false,
             }),
-            Err(CharsFault::NoCharacter(place)) => Err(Wrong::At(Rule::WrongKind, place)),
-            Err(CharsFault::Reversed(place)) => Err(Wrong::At(Rule::LowerAboveUpper, place)),
+            Err(CharsFault::NoCharacter(place)) => Err(ConstraintFault::At(Rule::WrongKind, place)),
+            Err(CharsFault::Reversed(place)) => Err(ConstraintFault::At(
+                Rule::LowerAboveUpper,
+                place,
+            )),
         },
     }
 }
@@ -206,7 +212,7 @@ pub(crate) fn meaning_of(
     shape: &Shape,
     within: &str,
     constraint: &ConstraintSyntax,
-) -> Result<Meaning, Wrong>
+) -> Result<ConstraintMeaning, ConstraintFault>
     ensures found { MatchResult result
         (IsMeaningOf scope.now (kind_of shape.now) within.now (constraint_of constraint.now))
         (IsWrong scope.now (kind_of shape.now) within.now (constraint_of constraint.now)) }
@@ -215,13 +221,13 @@ pub(crate) fn meaning_of(
     if takes(shape, &constraint.form) {
         taken(alloc, scope, shape, within, constraint)
     } else {
-        Err(Wrong::At(Rule::WrongKind, constraint.at))
+        Err(ConstraintFault::At(Rule::WrongKind, constraint.at))
     }
 }
 
-impl Drop for Meaning {
+impl Drop for ConstraintMeaning {
     fn drop(self) {
-        let Meaning {
+        let ConstraintMeaning {
             numbers: _,
             codes: _,
             marker: _,

@@ -1,6 +1,6 @@
 -- The faults of a writer for the faults of an encoding.
-use Rattle.writing_table.specs.declared.fault.EncodeFault.{EncodeFault}
-use Rattle.writing_table.specs.declared.fault.EncodeFault.TheVariants as encoded
+use Rattle.der_layout.specs.declared.fault.EncodeFault.{EncodeFault}
+use Rattle.der_layout.specs.declared.fault.EncodeFault.TheVariants as encoded
 use Rattle.der_writer.specs.declared.fault.WriteFault.{WriteFault}
 use Rattle.der_writer.specs.declared.fault.WriteFault.TheVariants.{Memory, NotOfType, TooLong}
 

@@ -3,9 +3,9 @@
 ghost use Rattle.der_writer.specs.declared.fault.WriteFault.TheVariants.{Memory};
 ghost use Rattle.std.specs.Prelude.{◌≡◌};
 
+use der_layout::EncodeFault;
 use std::alloc::AllocError;
 use thiserror::Error;
-use writing_table::EncodeFault;
 
 /// Why a value was not written. `Memory`: an allocation failed. `NotOfType`: the value isn't one of the type.
 /// `TooLong`: its encoding has more than 16,777,216 octets. `Device`: the sink failed after it took this number of

@@ -9,11 +9,11 @@ ghost use Rattle.asn_base.specs.Typed.{IsValue};
 ghost use Rattle.der_writer.specs.Encoded.{IsEncoding};
 ghost use Rattle.std.specs.Prelude.{◌≡◌, ◌≤◌, List, length, ℕ};
 
-use asn_base::law::sameness;
+use asn_base::law::lemma_sameness;
 use encodings::schema_laws;
 
 /// A value has at most one encoding by the distinguished rules, and values that are the same have the same encoding.
-pub fn one_encoding()
+pub fn lemma_one_encoding()
     ensures { (s : List Resolved) (t : ℕ) (v w : AbstractValue) (o p : List ℕ)
         → IsSchema s
         → Same s t v w
@@ -37,7 +37,7 @@ pub fn one_value()
 
 /// If octets within the limit encode a value by the distinguished rules, they are its only encoding by these rules. No
 /// encoding of the value by the basic rules is shorter.
-pub fn encodings_of_values()
+pub fn lemma_encodings_of_values()
     ensures { (s : List Resolved) (t : ℕ) (v : AbstractValue) (o : List ℕ)
         → IsSchema s
         → IsValue s t v
@@ -46,5 +46,5 @@ pub fn encodings_of_values()
         → IsEncoding s t v o }
 {
     schema_laws();
-    sameness();
+    lemma_sameness();
 }

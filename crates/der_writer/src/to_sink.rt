@@ -9,15 +9,15 @@ ghost use Rattle.sinks.specs.Sent.{state};
 ghost use Rattle.std.specs.Prelude.{◌≡◌, ◌<◌, ◌⊎◌, Err, IfErr, IfOk, List, length, ℕ};
 
 use crate::fault::WriteFault;
-use crate::law::encodings_of_values;
+use crate::law::lemma_encodings_of_values;
 use asn_base::schema::TypeId;
 use asn_base::value::Value;
 use codec_code::Code;
+use der_layout::encode;
 use octet_account::account::Account;
-use octet_account::law::one_account;
+use octet_account::law::lemma_one_account;
 use sinks::{Sink, send_all};
 use std::alloc::Global;
-use writing_table::encode;
 
 /// Encodes a value of the type by the distinguished rules (X.690, 8, 10 and 11), and writes the octets to the sink in
 /// order. The result is their account, whose first row gives their number. All allocations, and the faults `Memory`,
@@ -57,9 +57,9 @@ pub fn write_der_to<S: Sink>(
         → Der code.now id.index (abstract value.now) 0 o
         → 16777216 < length o) }
 {
-    code.accepted();
-    encodings_of_values();
-    one_account();
+    code.lemma_invariant();
+    lemma_encodings_of_values();
+    lemma_one_account();
     let encoded = match encode(alloc, code, id, value) {
         Ok(encoded) => encoded,
         Err(fault) => return Err(WriteFault::from(fault)),

@@ -10,18 +10,18 @@ use Rattle.asn_base.specs.declared.tag.Class.TheVariants.{Universal, Application
 use Rattle.asn_base.specs.declared.tag.Tag.{Tag}
 use Rattle.asn_base.specs.Abstract.{AbstractValue, null, fields, list, alternative, Row, end, absent, present}
 use Rattle.asn_base.specs.Types.{Constraint, Alternative, Kind, a_sequence, a_set, a_sequence_of, a_set_of, a_choice, Presence, mandatory, optional, default, addition, Component, Resolved, Is}
-use Rattle.asn_base.specs.Tags.{First, AreApart, AllApart, class_rank, TagBefore, IsTellable, AllTagged, is_mandatory}
+use Rattle.asn_base.specs.Tags.{First, AreApart, AllApart, class_rank, TagBefore, HasDistinctTags, AllTagged, is_mandatory}
 use Rattle.asn_base.specs.Typed.{IsAllowedSize, GroupsAreWhole, members, ValueIn, value_in, ValueOf, of_leaf, of_sequence, of_set, of_sequence_of, of_set_of, of_choice, MayBeAbsent, where_optional, where_default, where_addition, AreComponents, no_component, component_absent, component_present, AreElements, no_element as no_value, one_element}
 use Rattle.asn_base.specs.Same.{Alike, alike, AlikeBy, equal, alike_sequence, alike_set, alike_sequence_of, alike_set_of, alike_choice, AlikeComponents, no_components, both_absent, both_present, first_default, second_default, AlikeElements, no_elements, alike_element, AlikeInAnyOrder, none_left, pair, Inserted, here, there}
 use Rattle.asn_base.specs.Schemas.{HasValue, IsSound, IsSchema}
 use Rattle.std.specs.Prelude.{Some, slice_get}
 use Rattle.encodings.specs.Rules.{Basic, Distinguished}
 use Rattle.encodings.specs.Orders.{AtMost, InTagOrder, Ascending, ascending_none, ascending_one, ascending_more, Merges, merges_none, merges_first}
-use Rattle.encodings.specs.Encoding.{UnknownIf, closed, extensible, no_unknown, IsDefault, Says, says, Holds, leaf, sequence, set, sequence_of, set_of, choice, Members, no_member, left_out, member, Elements, no_element, element, Ber, Der}
+use Rattle.encodings.specs.Encoding.{UnknownIf, closed, extensible, no_unknown, IsDefault, EncodesTo, says, ContentsEncode, leaf, sequence, set, sequence_of, set_of, choice, Members, no_member, left_out, member, Elements, no_element, element, Ber, Der}
 use Rattle.encodings.specs.Weight.{weight, row_weight}
 use Rattle.encodings.proofs.TagLaws.{tag_same}
 use Rattle.encodings.proofs.Least.{concat_permutes, same_tags, same_kind, alike_by_at, holds_at, framed_at, alternative_type, alike_at, says_at, take_out, holds_least}
-use Rattle.encodings.proofs.Weaker.{unsorted_holds}
+use Rattle.encodings.specs.proving.Weaker.{unsorted_holds}
 use Rattle.encodings.proofs.Firsts.{FirstOf, says_first}
 use Rattle.encodings.proofs.Sorts.{Either, AllEither, sorted, at_most_either}
 use Rattle.encodings.proofs.Shortests.{lt_or_ge}
@@ -110,7 +110,7 @@ default_in (addition o g) = null
 
 data Rows (s : List Resolved) (n u : ℕ) : Row → List (List ℕ) → Type 0 where
   rows_none : Rows s n u end []
-  rows_more : {w : AbstractValue} {ws : Row} {x : List ℕ} {xs : List (List ℕ)} → ValueIn s n u w → Says s Distinguished u w 0 x → Rows s n u ws xs → Rows s n u (present w ws) (x ∷ xs)
+  rows_more : {w : AbstractValue} {ws : Row} {x : List ℕ} {xs : List (List ℕ)} → ValueIn s n u w → EncodesTo s Distinguished u w 0 x → Rows s n u ws xs → Rows s n u (present w ws) (x ∷ xs)
 
 rows_values : {s : List Resolved} {n u : ℕ} {ws : Row} {xs : List (List ℕ)} → Rows s n u ws xs → AreElements s n u ws
 rows_values rows_none = no_value
@@ -129,7 +129,7 @@ record PutRow (s : List Resolved) (n u : ℕ) (w : AbstractValue) (x : List ℕ)
   count : members row ≡ suc (members ws)
 
 -- the element is put after p, or before all others
-record PutBehind (s : List Resolved) (n u : ℕ) (w : AbstractValue) (p x : List ℕ) (ws : Row) (xs : List (List ℕ)) : Type 0 where
+record PutAfter (s : List Resolved) (n u : ℕ) (w : AbstractValue) (p x : List ℕ) (ws : Row) (xs : List (List ℕ)) : Type 0 where
   put : PutRow s n u w x ws xs
   ascends : Ascending AtMost (p ∷ put.list)
 
@@ -137,10 +137,10 @@ record PutFirst (s : List Resolved) (n u : ℕ) (w : AbstractValue) (x : List �
   put : PutRow s n u w x ws xs
   ascends : Ascending AtMost put.list
 
-put_front : {s : List Resolved} {n u : ℕ} {w : AbstractValue} {x : List ℕ} {ws : Row} {xs : List (List ℕ)} → ValueIn s n u w → Says s Distinguished u w 0 x → Rows s n u ws xs → PutRow s n u w x ws xs
+put_front : {s : List Resolved} {n u : ℕ} {w : AbstractValue} {x : List ℕ} {ws : Row} {xs : List (List ℕ)} → ValueIn s n u w → EncodesTo s Distinguished u w 0 x → Rows s n u ws xs → PutRow s n u w x ws xs
 put_front {w = w} {x = x} {ws = ws} {xs = xs} v a r = record { row = present w ws; list = x ∷ xs; at = here; are = rows_more v a r; long = length-append x (concat xs); count = refl }
 
-put_later : {s : List Resolved} {n u : ℕ} {w y : AbstractValue} {x z : List ℕ} {ws : Row} {xs : List (List ℕ)} → ValueIn s n u y → Says s Distinguished u y 0 z → PutRow s n u w x ws xs → PutRow s n u w x (present y ws) (z ∷ xs)
+put_later : {s : List Resolved} {n u : ℕ} {w y : AbstractValue} {x z : List ℕ} {ws : Row} {xs : List (List ℕ)} → ValueIn s n u y → EncodesTo s Distinguished u y 0 z → PutRow s n u w x ws xs → PutRow s n u w x (present y ws) (z ∷ xs)
 put_later {y = y} {z = z} {xs = xs} v a p = record {
   row = present y p.row;
   list = z ∷ p.list;
@@ -150,20 +150,20 @@ put_later {y = y} {z = z} {xs = xs} v a p = record {
   count = ap suc p.count;
 }
 
-put_behind : {s : List Resolved} {n u : ℕ} {w : AbstractValue} {p x : List ℕ} {ws : Row} {xs : List (List ℕ)} → ValueIn s n u w → Says s Distinguished u w 0 x → AtMost p x → Rows s n u ws xs → Ascending AtMost (p ∷ xs) → PutBehind s n u w p x ws xs
+put_after : {s : List Resolved} {n u : ℕ} {w : AbstractValue} {p x : List ℕ} {ws : Row} {xs : List (List ℕ)} → ValueIn s n u w → EncodesTo s Distinguished u w 0 x → AtMost p x → Rows s n u ws xs → Ascending AtMost (p ∷ xs) → PutAfter s n u w p x ws xs
 unfolding put_front put_later
-put_behind v a h rows_none asc = record { put = put_front v a rows_none; ascends = ascending_more h ascending_one }
-put_behind {x = x} v a h (rows_more {x = z} v' a' r) (ascending_more k asc) = ⊎_elim
+put_after v a h rows_none asc = record { put = put_front v a rows_none; ascends = ascending_more h ascending_one }
+put_after {x = x} v a h (rows_more {x = z} v' a' r) (ascending_more k asc) = ⊎_elim
     (λ l. record { put = put_front v a (rows_more v' a' r); ascends = ascending_more h (ascending_more l asc) })
-    (λ g. (let q = put_behind v a g r asc in record { put = put_later v' a' q.put; ascends = ascending_more k q.ascends }))
+    (λ g. (let q = put_after v a g r asc in record { put = put_later v' a' q.put; ascends = ascending_more k q.ascends }))
     (at_most_either x z)
 
-put_first : {s : List Resolved} {n u : ℕ} {w : AbstractValue} {x : List ℕ} {ws : Row} {xs : List (List ℕ)} → ValueIn s n u w → Says s Distinguished u w 0 x → Rows s n u ws xs → Ascending AtMost xs → PutFirst s n u w x ws xs
+put_first : {s : List Resolved} {n u : ℕ} {w : AbstractValue} {x : List ℕ} {ws : Row} {xs : List (List ℕ)} → ValueIn s n u w → EncodesTo s Distinguished u w 0 x → Rows s n u ws xs → Ascending AtMost xs → PutFirst s n u w x ws xs
 unfolding put_front put_later
 put_first v a rows_none asc = record { put = put_front v a rows_none; ascends = ascending_one }
 put_first {x = x} v a (rows_more {x = z} v' a' r) asc = ⊎_elim
     (λ l. record { put = put_front v a (rows_more v' a' r); ascends = ascending_more l asc })
-    (λ g. (let q = put_behind v a g r asc in record { put = put_later v' a' q.put; ascends = q.ascends }))
+    (λ g. (let q = put_after v a g r asc in record { put = put_later v' a' q.put; ascends = q.ascends }))
     (at_most_either x z)
 
 alike_count : {s : List Resolved} {u : ℕ} {vs ws : Row} → AlikeElements s u vs ws → members vs ≡ members ws
@@ -177,7 +177,7 @@ record Encoded (s : List Resolved) (n t : ℕ) (v : AbstractValue) : Type 0 wher
   value : ValueIn s n t w
   same : Alike s t v w
   octets : List ℕ
-  is : Says s Distinguished t w 0 octets
+  is : EncodesTo s Distinguished t w 0 octets
   few : length octets ≤ weight v
 
 record Held (s : List Resolved) (n : ℕ) (k : Kind) (v : AbstractValue) : Type 0 where
@@ -186,7 +186,7 @@ record Held (s : List Resolved) (n : ℕ) (k : Kind) (v : AbstractValue) : Type 
   same : AlikeBy s k v w
   form : Bool
   octets : List ℕ
-  is : Holds s Distinguished k w 0 form octets
+  is : ContentsEncode s Distinguished k w 0 form octets
   few : length octets + 800 ≤ weight v
 
 record MembersIn (s : List Resolved) (n : ℕ) (cs : List Component) (vs : Row) : Type 0 where
@@ -217,11 +217,11 @@ record SetIn (s : List Resolved) (n u : ℕ) (vs : Row) : Type 0 where
 -- what has no encoding at all, whatever is alike: it is too long
 record NotEncoded (most : ℕ) (s : List Resolved) (t : ℕ) (v : AbstractValue) : Type 0 where
   heavy : most ≤ weight v
-  none : {w : AbstractValue} {n : ℕ} {p : List ℕ} → Alike s t v w → Says s Basic t w n p → n ≡ 0 → ⊥
+  none : {w : AbstractValue} {n : ℕ} {p : List ℕ} → Alike s t v w → EncodesTo s Basic t w n p → n ≡ 0 → ⊥
 
 record NotHeld (most : ℕ) (s : List Resolved) (k : Kind) (v : AbstractValue) : Type 0 where
   heavy : most ≤ weight v
-  none : {w : AbstractValue} {n : ℕ} {c : Bool} {y : List ℕ} → AlikeBy s k v w → Holds s Basic k w n c y → n ≡ 0 → ⊥
+  none : {w : AbstractValue} {n : ℕ} {c : Bool} {y : List ℕ} → AlikeBy s k v w → ContentsEncode s Basic k w n c y → n ≡ 0 → ⊥
 
 record NoMembers (most : ℕ) (s : List Resolved) (cs : List Component) (vs : Row) : Type 0 where
   heavy : most ≤ row_weight vs
@@ -235,27 +235,27 @@ record NoSet (most : ℕ) (s : List Resolved) (u : ℕ) (vs : Row) : Type 0 wher
   heavy : most ≤ row_weight vs
   none : {ws : Row} {n : ℕ} {xs : List (List ℕ)} → AlikeInAnyOrder s u vs ws → Elements s Basic u ws n xs → n ≡ 0 → ⊥
 
-no_sequence : {most : ℕ} {s : List Resolved} {e : Bool} {cs : List Component} {vs : Row} → NoMembers most s cs vs → {w : AbstractValue} {n : ℕ} {c : Bool} {y : List ℕ} → AlikeBy s (a_sequence e cs) (fields vs) w → Holds s Basic (a_sequence e cs) w n c y → n ≡ 0 → ⊥
+no_sequence : {most : ℕ} {s : List Resolved} {e : Bool} {cs : List Component} {vs : Row} → NoMembers most s cs vs → {w : AbstractValue} {n : ℕ} {c : Bool} {y : List ℕ} → AlikeBy s (a_sequence e cs) (fields vs) w → ContentsEncode s Basic (a_sequence e cs) w n c y → n ≡ 0 → ⊥
 no_sequence q (equal l) h z = l
 no_sequence q (alike_sequence a) (leaf con) z = elim con [ ]
 no_sequence q (alike_sequence a) (sequence ms u) z = q.none a ms (omega arith)
 
-no_set : {most : ℕ} {s : List Resolved} {e : Bool} {cs : List Component} {vs : Row} → NoMembers most s cs vs → {w : AbstractValue} {n : ℕ} {c : Bool} {y : List ℕ} → AlikeBy s (a_set e cs) (fields vs) w → Holds s Basic (a_set e cs) w n c y → n ≡ 0 → ⊥
+no_set : {most : ℕ} {s : List Resolved} {e : Bool} {cs : List Component} {vs : Row} → NoMembers most s cs vs → {w : AbstractValue} {n : ℕ} {c : Bool} {y : List ℕ} → AlikeBy s (a_set e cs) (fields vs) w → ContentsEncode s Basic (a_set e cs) w n c y → n ≡ 0 → ⊥
 no_set q (equal l) h z = l
 no_set q (alike_set a) (leaf con) z = elim con [ ]
 no_set q (alike_set a) (set ms p st u m) z = q.none a ms (omega arith)
 
-no_sequence_of : {most : ℕ} {s : List Resolved} {k : Constraint} {u : ℕ} {vs : Row} → NoElements most s u vs → {w : AbstractValue} {n : ℕ} {c : Bool} {y : List ℕ} → AlikeBy s (a_sequence_of k u) (list vs) w → Holds s Basic (a_sequence_of k u) w n c y → n ≡ 0 → ⊥
+no_sequence_of : {most : ℕ} {s : List Resolved} {k : Constraint} {u : ℕ} {vs : Row} → NoElements most s u vs → {w : AbstractValue} {n : ℕ} {c : Bool} {y : List ℕ} → AlikeBy s (a_sequence_of k u) (list vs) w → ContentsEncode s Basic (a_sequence_of k u) w n c y → n ≡ 0 → ⊥
 no_sequence_of q (equal l) h z = l
 no_sequence_of q (alike_sequence_of a) (leaf con) z = elim con [ ]
 no_sequence_of q (alike_sequence_of a) (sequence_of es) z = q.none a es z
 
-no_set_of : {most : ℕ} {s : List Resolved} {k : Constraint} {u : ℕ} {vs : Row} → NoSet most s u vs → {w : AbstractValue} {n : ℕ} {c : Bool} {y : List ℕ} → AlikeBy s (a_set_of k u) (list vs) w → Holds s Basic (a_set_of k u) w n c y → n ≡ 0 → ⊥
+no_set_of : {most : ℕ} {s : List Resolved} {k : Constraint} {u : ℕ} {vs : Row} → NoSet most s u vs → {w : AbstractValue} {n : ℕ} {c : Bool} {y : List ℕ} → AlikeBy s (a_set_of k u) (list vs) w → ContentsEncode s Basic (a_set_of k u) w n c y → n ≡ 0 → ⊥
 no_set_of q (equal l) h z = l
 no_set_of q (alike_set_of a) (leaf con) z = elim con [ ]
 no_set_of q (alike_set_of a) (set_of es st) z = q.none a es z
 
-no_choice : {most : ℕ} {s : List Resolved} {i : ℕ} {e : Bool} {root more : List Alternative} {a : Alternative} {v : AbstractValue} → slice_get (root ++ more) i ≡ Some a → NotEncoded most s a.type v → {w : AbstractValue} {n : ℕ} {c : Bool} {y : List ℕ} → AlikeBy s (a_choice root e more) (alternative i v) w → Holds s Basic (a_choice root e more) w n c y → n ≡ 0 → ⊥
+no_choice : {most : ℕ} {s : List Resolved} {i : ℕ} {e : Bool} {root more : List Alternative} {a : Alternative} {v : AbstractValue} → slice_get (root ++ more) i ≡ Some a → NotEncoded most s a.type v → {w : AbstractValue} {n : ℕ} {c : Bool} {y : List ℕ} → AlikeBy s (a_choice root e more) (alternative i v) w → ContentsEncode s Basic (a_choice root e more) w n c y → n ≡ 0 → ⊥
 no_choice g q (equal l) h z = l
 no_choice g q (alike_choice f a) (leaf con) z = elim con [ ]
 no_choice g q (alike_choice f a) (choice h b) z = q.none (alike_at (alternative_type g f) a) (says_at (alternative_type g h) b) z
@@ -331,16 +331,16 @@ module _ (s : List Resolved) (schema : IsSchema s)
   joined h a m (inr nd) (inr q) = inr (record { heavy = (let k = q.heavy in omega arith); none = none_member q nd })
 
   -- contents that are alike aren't shorter
-  no_shorter : {t n : ℕ} {tags : List Tag} {k : Kind} {v w x : AbstractValue} {b c : Bool} {o y : List ℕ} → Is s t tags k → Alike s t v w → Alike s t v x → Holds s Distinguished k w 0 b o → Holds s Basic k x n c y → n ≡ 0 → length o ≤ length y
+  no_shorter : {t n : ℕ} {tags : List Tag} {k : Kind} {v w x : AbstractValue} {b c : Bool} {o y : List ℕ} → Is s t tags k → Alike s t v w → Alike s t v x → ContentsEncode s Distinguished k w 0 b o → ContentsEncode s Basic k x n c y → n ≡ 0 → length o ≤ length y
   no_shorter {t} {k = k} {v = v} {w = w} {x = x} {o = o} {y = y} i e f h g z = by (follow t w v x (turn t v w e) f)
     where
       by : Alike s t w x → length o ≤ length y
       by (alike j a) = holds_least s turn (unsorted_holds h) refl (alike_by_at (same_kind i j) a) g z
 
-  no_frame : {t n : ℕ} {tags : List Tag} {k : Kind} {v w x : AbstractValue} {b : Bool} {o p : List ℕ} → Is s t tags k → AlikeBy s k v w → Holds s Distinguished k w 0 b o → NoFrame most tags o → Alike s t v x → Says s Basic t x n p → n ≡ 0 → ⊥
+  no_frame : {t n : ℕ} {tags : List Tag} {k : Kind} {v w x : AbstractValue} {b : Bool} {o p : List ℕ} → Is s t tags k → AlikeBy s k v w → ContentsEncode s Distinguished k w 0 b o → NoFrame most tags o → Alike s t v x → EncodesTo s Basic t x n p → n ≡ 0 → ⊥
   no_frame i e h q f (says j g fr) z = q.none (no_shorter i (alike i e) f h (holds_at (same_kind i j) g) z) (framed_at (same_tags i j) fr)
 
-  not_held : {t n : ℕ} {tags : List Tag} {k : Kind} {v x : AbstractValue} {p : List ℕ} → Is s t tags k → NotHeld most s k v → Alike s t v x → Says s Basic t x n p → n ≡ 0 → ⊥
+  not_held : {t n : ℕ} {tags : List Tag} {k : Kind} {v x : AbstractValue} {p : List ℕ} → Is s t tags k → NotHeld most s k v → Alike s t v x → EncodesTo s Basic t x n p → n ≡ 0 → ⊥
   not_held i q (alike j a) (says k g fr) z = q.none (alike_by_at (same_kind i j) a) (holds_at (same_kind i k) g) z
 
   framed_in : {n t : ℕ} {tags : List Tag} {k : Kind} {v : AbstractValue} → Is s t tags k → Held s n k v ⊎ NotHeld most s k v → Encoded s (suc n) t v ⊎ NotEncoded most s t v
@@ -366,9 +366,9 @@ module _ (s : List Resolved) (schema : IsSchema s)
 
   mutual
     encoded : {n t : ℕ} {v : AbstractValue} → ValueIn s n t v → Encoded s n t v ⊎ NotEncoded most s t v
-    encoded (value_in i a) = framed_in i (held (schema.sound _ _ _ i) (schema.tellable _ _ _ i) a)
+    encoded (value_in i a) = framed_in i (held (schema.sound _ _ _ i) (schema.distinct_tags _ _ _ i) a)
 
-    held : {n : ℕ} {k : Kind} {v : AbstractValue} → IsSound s k → IsTellable s k → ValueOf s n k v → Held s n k v ⊎ NotHeld most s k v
+    held : {n : ℕ} {k : Kind} {v : AbstractValue} → IsSound s k → HasDistinctTags s k → ValueOf s n k v → Held s n k v ⊎ NotHeld most s k v
     held sound tell (of_leaf f) = let l = leaf_in s utf8_octets sound f in inl (record { w = l.w; value = of_leaf l.fits; same = l.same; form = false; octets = l.octets; is = leaf l.contents; few = l.few })
     held sound tell (of_sequence {e = e} {cs = cs} {vs = vs} a g) = either
         (λ m. (let k = m.few in

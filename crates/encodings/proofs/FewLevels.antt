@@ -8,7 +8,7 @@ use Rattle.asn_base.specs.Typed.{ValueIn, value_in, ValueOf, of_leaf, of_sequenc
 use Rattle.encodings.specs.Rules.{Distinguished}
 use Rattle.encodings.specs.Strings.{Pieces, whole, cut, BitPieces, whole_bits, cut_bits}
 use Rattle.encodings.specs.Contents.{Contents, of_false, of_true, of_integer, of_enumerated, of_bits, of_named_bits, of_octets, of_null, of_oid, of_relative_oid, of_utf8, of_restricted}
-use Rattle.encodings.specs.Encoding.{no_unknown, unknown, UnknownIf, closed, extensible, Says, says, Holds, leaf, sequence, set, sequence_of, set_of, choice, Members, no_member, left_out, member, Elements, no_element, element}
+use Rattle.encodings.specs.Encoding.{no_unknown, unknown, UnknownIf, closed, extensible, EncodesTo, says, ContentsEncode, leaf, sequence, set, sequence_of, set_of, choice, Members, no_member, left_out, member, Elements, no_element, element}
 use Rattle.encodings.specs.Levels.{piece_levels, bit_piece_levels, leaf_levels, unknown_levels, levels, inner_levels, member_levels, element_levels}
 use Rattle.encodings.proofs.Least.{same_kind, alternative_type}
 
@@ -50,12 +50,12 @@ value_at {s} {n} {v = v} e a = subst (λ q. ValueIn s n q v) e a
 
 module _ (s : List Resolved) (few : HasFewTags s) where
   mutual
-    pub few_levels : {t n k : ℕ} {v : AbstractValue} {o : List ℕ} (d : Says s Distinguished t v k o) → k ≡ 0 → ValueIn s n t v → levels d ≤ 6 * n
+    pub few_levels : {t n k : ℕ} {v : AbstractValue} {o : List ℕ} (d : EncodesTo s Distinguished t v k o) → k ≡ 0 → ValueIn s n t v → levels d ≤ 6 * n
     few_levels (says i h f) z (value_in j a) =
         let l = few _ _ _ i in
         let m = inner_few h z (value_of_at (same_kind i j) a) in omega arith
 
-    inner_few : {kind : Kind} {n k : ℕ} {v : AbstractValue} {c : Bool} {x : List ℕ} (h : Holds s Distinguished kind v k c x) → k ≡ 0 → ValueOf s n kind v → inner_levels h ≤ 6 * n
+    inner_few : {kind : Kind} {n k : ℕ} {v : AbstractValue} {c : Bool} {x : List ℕ} (h : ContentsEncode s Distinguished kind v k c x) → k ≡ 0 → ValueOf s n kind v → inner_levels h ≤ 6 * n
     inner_few (leaf con) z a = let e = flat con in omega arith
     inner_few {n = n} (sequence ms u) z (of_sequence a g) = both_least (member_levels ms) (unknown_levels u) (6 * n) (members_few ms (omega arith) a) (let e = none_new u (omega arith) in omega arith)
     inner_few (sequence ms u) z (of_leaf f) = elim f [ ]
@@ -78,5 +78,5 @@ module _ (s : List Resolved) (few : HasFewTags s) where
     elements_few {n = n} (element b es) z (one_element v a) = both_least (levels b) (element_levels es) (6 * n) (few_levels b (omega arith) v) (elements_few es (omega arith) a)
 
 -- a value of at most 64 levels has an encoding of at most 400 levels of headers
-pub within_limit : (s : List Resolved) (t : ℕ) (v : AbstractValue) (o : List ℕ) (d : Says s Distinguished t v 0 o) → HasFewTags s → ValueIn s 64 t v → levels d ≤ 400
+pub within_limit : (s : List Resolved) (t : ℕ) (v : AbstractValue) (o : List ℕ) (d : EncodesTo s Distinguished t v 0 o) → HasFewTags s → ValueIn s 64 t v → levels d ≤ 400
 within_limit s t v o d few a = let l = few_levels s few d refl a in omega arith

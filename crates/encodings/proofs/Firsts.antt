@@ -7,7 +7,7 @@ use Rattle.asn_base.specs.Types.{Kind, Component, Resolved, Is}
 use Rattle.asn_base.specs.Tags.{First, first_tag, first_of_choice, AreApart, IsChoice, AllTagged}
 use Rattle.encodings.specs.Rules.{Rules}
 use Rattle.encodings.specs.Orders.{BeginsWith}
-use Rattle.encodings.specs.Encoding.{Framed, innermost, outer, Unknown, no_unknown, unknown, Says, says, Holds, leaf, sequence, set, sequence_of, set_of, choice, Members, no_member, left_out, member, Elements, no_element, element}
+use Rattle.encodings.specs.Encoding.{Framed, innermost, outer, Unknown, no_unknown, unknown, EncodesTo, says, ContentsEncode, leaf, sequence, set, sequence_of, set_of, choice, Members, no_member, left_out, member, Elements, no_element, element}
 use Rattle.encodings.proofs.Identifiers.{any_front}
 use Rattle.encodings.proofs.TagLaws.{tag_same}
 use Rattle.encodings.proofs.Units.{IsUnit, no_leaf, bare_is, says_unit, units_front}
@@ -27,11 +27,11 @@ first_at : {s : List Resolved} {t : ℕ} {x o : List ℕ} → o ≡ x → FirstO
 first_at {s} {t} e f = subst (λ q. FirstOf s t q) (sym e) f
 
 mutual
-  pub says_first : {s : List Resolved} {r : Rules} {t n : ℕ} {v : AbstractValue} {o : List ℕ} → AllTagged s → Says s r t v n o → FirstOf s t o
+  pub says_first : {s : List Resolved} {r : Rules} {t n : ℕ} {v : AbstractValue} {o : List ℕ} → AllTagged s → EncodesTo s r t v n o → FirstOf s t o
   says_first all (says {tags = []} i h fr) = first_at (bare_is fr) (holds_first all (all _ _ i) i h)
   says_first all (says {tags = g ∷ ts} i h fr) = record { tag = g; is_first = first_tag i; begins = framed_begins fr }
 
-  holds_first : {s : List Resolved} {r : Rules} {t : ℕ} {k : Kind} {n : ℕ} {v : AbstractValue} {c : Bool} {x : List ℕ} → AllTagged s → IsChoice k → Is s t [] k → Holds s r k v n c x → FirstOf s t x
+  holds_first : {s : List Resolved} {r : Rules} {t : ℕ} {k : Kind} {n : ℕ} {v : AbstractValue} {c : Bool} {x : List ℕ} → AllTagged s → IsChoice k → Is s t [] k → ContentsEncode s r k v n c x → FirstOf s t x
   holds_first all h j (leaf con) = absurd (no_leaf h con)
   holds_first all h j (sequence ms u) = absurd h
   holds_first all h j (set ms p st u m) = absurd h

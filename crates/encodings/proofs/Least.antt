@@ -11,11 +11,11 @@ use Rattle.asn_base.specs.Same.{IsLeaf, Inserted, here, there, Alike, alike, Ali
 use Rattle.encodings.specs.Rules.{Rules, Basic, Unsorted, Distinguished, Strictly}
 use Rattle.encodings.specs.Contents.{Contents, EndsInOne, of_named_bits}
 use Rattle.encodings.specs.Orders.{Permutes, permutes_none, permutes_more, Inserted as ListInserted, here as list_here, there as list_there, Merges, merges_none, merges_first, merges_second}
-use Rattle.encodings.specs.Encoding.{Framed, no_unknown, unknown, UnknownIf, closed, extensible, Says, says, Holds, leaf, sequence, set, sequence_of, set_of, choice, Members, no_member, left_out, member, Elements, no_element, element}
+use Rattle.encodings.specs.Encoding.{Framed, no_unknown, unknown, UnknownIf, closed, extensible, EncodesTo, says, ContentsEncode, leaf, sequence, set, sequence_of, set_of, choice, Members, no_member, left_out, member, Elements, no_element, element}
 use Rattle.encodings.proofs.BitLaws.{trimmed_short, trimmed_same}
 use Rattle.encodings.proofs.LeafLaws.{Best, contents_best, contents_leaf, bits_best}
 use Rattle.encodings.proofs.Frames.{frames_least}
-use Rattle.encodings.proofs.Weaker.{strict_frame, strict_contents}
+use Rattle.encodings.specs.proving.Weaker.{strict_frame, strict_contents}
 
 abbrev tags_at : Option Resolved → List Tag
 tags_at None = []
@@ -34,8 +34,8 @@ same_kind a b = ap kind_at (sym b.found ∙ a.found)
 pub alike_by_at : {s : List Resolved} {k k' : Kind} {v w : AbstractValue} → k' ≡ k → AlikeBy s k' v w → AlikeBy s k v w
 alike_by_at {s} {v = v} {w = w} e a = subst (λ q. AlikeBy s q v w) e a
 
-pub holds_at : {s : List Resolved} {r : Rules} {k k' : Kind} {w : AbstractValue} {n : ℕ} {c : Bool} {x : List ℕ} → k' ≡ k → Holds s r k' w n c x → Holds s r k w n c x
-holds_at {s} {r} {w = w} {n = n} {c = c} {x = x} e a = subst (λ q. Holds s r q w n c x) e a
+pub holds_at : {s : List Resolved} {r : Rules} {k k' : Kind} {w : AbstractValue} {n : ℕ} {c : Bool} {x : List ℕ} → k' ≡ k → ContentsEncode s r k' w n c x → ContentsEncode s r k w n c x
+holds_at {s} {r} {w = w} {n = n} {c = c} {x = x} e a = subst (λ q. ContentsEncode s r q w n c x) e a
 
 pub framed_at : {r : Rules} {ts us : List Tag} {c : Bool} {x o : List ℕ} → us ≡ ts → Framed r us c x o → Framed r ts c x o
 framed_at {r} {c = c} {x = x} {o = o} e f = subst (λ q. Framed r q c x o) e f
@@ -50,8 +50,8 @@ alternative_type e f = ap type_in (sym f ∙ e)
 pub alike_at : {s : List Resolved} {t u : ℕ} {v w : AbstractValue} → u ≡ t → Alike s u v w → Alike s t v w
 alike_at {s} {v = v} {w = w} e a = subst (λ q. Alike s q v w) e a
 
-pub says_at : {s : List Resolved} {r : Rules} {t u n : ℕ} {w : AbstractValue} {x : List ℕ} → u ≡ t → Says s r u w n x → Says s r t w n x
-says_at {s} {r} {n = n} {w = w} {x = x} e a = subst (λ q. Says s r q w n x) e a
+pub says_at : {s : List Resolved} {r : Rules} {t u n : ℕ} {w : AbstractValue} {x : List ℕ} → u ≡ t → EncodesTo s r u w n x → EncodesTo s r t w n x
+says_at {s} {r} {n = n} {w = w} {x = x} e a = subst (λ q. EncodesTo s r q w n x) e a
 
 trimmed : (r : Rules) (a b : List Bool) (m n : ℕ) → a ++ replicate m false ≡ b ++ replicate n false → EndsInOne a → Strictly r (EndsInOne b) → Strictly r (a ≡ b)
 trimmed Basic a b m n e t u = tt
@@ -67,7 +67,7 @@ leaves_best (alike_sequence_of a) con con' = elim con [ ]
 leaves_best (alike_set_of a) con con' = elim con [ ]
 leaves_best (alike_choice g a) con con' = elim con [ ]
 
-pub leaf_in : {s : List Resolved} {r : Rules} {k : Kind} {w : AbstractValue} {n : ℕ} {c : Bool} {x : List ℕ} → IsLeaf k → Holds s r k w n c x → Contents r k w c x
+pub leaf_in : {s : List Resolved} {r : Rules} {k : Kind} {w : AbstractValue} {n : ℕ} {c : Bool} {x : List ℕ} → IsLeaf k → ContentsEncode s r k w n c x → Contents r k w c x
 leaf_in l (leaf con) = con
 leaf_in l (sequence ms u) = absurd l
 leaf_in l (set ms p st u m) = absurd l
@@ -111,7 +111,7 @@ pub record TakenOut (s : List Resolved) (r : Rules) (u : ℕ) (w : AbstractValue
   pub k : ℕ
   pub y : List ℕ
   pub ys : List (List ℕ)
-  pub it : Says s r u w j y
+  pub it : EncodesTo s r u w j y
   pub rest : Elements s r u ws k ys
   pub at : ListInserted y ys xs
   pub sum : j + k ≡ n
@@ -125,11 +125,11 @@ take_out (there i) (element {j = j} {n = k} {x = x} {xs = xs} a es) =
 module _ (s : List Resolved) (turn : (t : ℕ) (v w : AbstractValue) → Alike s t v w → Alike s t w v) where
   mutual
     -- an encoding by the distinguished rules, in any order within sets, has no more octets than any other
-    pub least : {r : Rules} {t j : ℕ} {v : AbstractValue} {o : List ℕ} → Says s Unsorted t v j o → j ≡ 0 → {w : AbstractValue} {n : ℕ} {p : List ℕ} → Alike s t v w → Says s r t w n p → n ≡ 0 → length o ≤ length p
+    pub least : {r : Rules} {t j : ℕ} {v : AbstractValue} {o : List ℕ} → EncodesTo s Unsorted t v j o → j ≡ 0 → {w : AbstractValue} {n : ℕ} {p : List ℕ} → Alike s t v w → EncodesTo s r t w n p → n ≡ 0 → length o ≤ length p
     least (says i h fr) z (alike j a) (says k g fr') y =
         frames_least (strict_frame fr) (framed_at (same_tags i k) fr') (holds_least h z (alike_by_at (same_kind i j) a) (holds_at (same_kind i k) g) y)
 
-    pub holds_least : {r : Rules} {k : Kind} {j : ℕ} {v : AbstractValue} {b : Bool} {x : List ℕ} → Holds s Unsorted k v j b x → j ≡ 0 → {w : AbstractValue} {n : ℕ} {c : Bool} {y : List ℕ} → AlikeBy s k v w → Holds s r k w n c y → n ≡ 0 → length x ≤ length y
+    pub holds_least : {r : Rules} {k : Kind} {j : ℕ} {v : AbstractValue} {b : Bool} {x : List ℕ} → ContentsEncode s Unsorted k v j b x → j ≡ 0 → {w : AbstractValue} {n : ℕ} {c : Bool} {y : List ℕ} → AlikeBy s k v w → ContentsEncode s r k w n c y → n ≡ 0 → length x ≤ length y
     holds_least (leaf con) z a g y = (leaves_best a (strict_contents con) (leaf_in (contents_leaf con) g)).least
     holds_least (sequence ms u) z (equal l) g y = absurd l
     holds_least (sequence ms u) z (alike_sequence a) (leaf con) y = elim con [ ]

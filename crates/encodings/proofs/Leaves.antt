@@ -10,7 +10,7 @@ use Rattle.asn_base.specs.declared.tag.Tag.{Tag}
 use Rattle.asn_base.specs.Abstract.{AbstractValue, boolean, bits}
 use Rattle.asn_base.specs.Names.{IsMember, is_first, is_later}
 use Rattle.asn_base.specs.Types.{Kind, Resolved}
-use Rattle.asn_base.specs.Typed.{arcs, Fits, fits_boolean, fits_integer, fits_enumerated, fits_bits, fits_named_bits, fits_octets, fits_null, fits_oid, fits_relative_oid, fits_utf8, fits_restricted}
+use Rattle.asn_base.specs.Typed.{arcs, IsPrimitive, fits_boolean, fits_integer, fits_enumerated, fits_bits, fits_named_bits, fits_octets, fits_null, fits_oid, fits_relative_oid, fits_utf8, fits_restricted}
 use Rattle.asn_base.specs.Schemas.{IsSound}
 use Rattle.asn_base.specs.Same.{AlikeBy, equal, zeros}
 use Rattle.encodings.specs.Rules.{Basic, Distinguished}
@@ -88,7 +88,7 @@ module _ (most : ℕ) (digits : (n : ℕ) → n < most → length (digits_of 256
 
 pub record LeafIn (s : List Resolved) (k : Kind) (v : AbstractValue) : Type 0 where
   pub w : AbstractValue
-  pub fits : Fits k w
+  pub fits : IsPrimitive k w
   pub same : AlikeBy s k v w
   pub octets : List ℕ
   pub contents : Contents Distinguished k w false octets
@@ -115,7 +115,7 @@ small_text [] codes m a = tt
 small_text (x ∷ o) codes m a = (small_member codes m.0 a, small_text o codes m.1 a)
 
 module _ (s : List Resolved) (utf8 : (o : List ℕ) → IsUtf8 o → AllBelowBase 256 o) where
-  pub leaf_in : {k : Kind} {v : AbstractValue} → IsSound s k → Fits k v → LeafIn s k v
+  pub leaf_in : {k : Kind} {v : AbstractValue} → IsSound s k → IsPrimitive k v → LeafIn s k v
   leaf_in sound (fits_boolean {b = false}) = record { w = boolean false; fits = fits_boolean; same = equal tt; octets = 0 ∷ []; contents = of_false; few = omega arith }
   leaf_in sound (fits_boolean {b = true}) = record { w = boolean true; fits = fits_boolean; same = equal tt; octets = 255 ∷ []; contents = of_true (omega arith) (omega arith) refl; few = omega arith }
   leaf_in sound (fits_integer {z = z} l a) = let n = short_number z l in let f = n.few in record { w = _; fits = fits_integer l a; same = equal tt; octets = n.octets; contents = of_integer n.number; few = omega arith }

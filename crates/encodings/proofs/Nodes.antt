@@ -12,7 +12,7 @@ use Rattle.encodings.specs.Rules.{Rules}
 use Rattle.encodings.specs.Header.{identifier, septets, Header, LengthOf, short, long}
 use Rattle.encodings.specs.Contents.{Contents, of_false, of_true, of_integer, of_enumerated, of_bits, of_named_bits, of_octets, of_null, of_oid, of_relative_oid, of_utf8, of_restricted}
 use Rattle.encodings.specs.Orders.{Merges, merges_none, merges_first, merges_second}
-use Rattle.encodings.specs.Encoding.{Framed, innermost, outer, Says, says, Holds, leaf, sequence, set, sequence_of, set_of, choice, Members, no_member, left_out, member, Elements, no_element, element}
+use Rattle.encodings.specs.Encoding.{Framed, innermost, outer, EncodesTo, says, ContentsEncode, leaf, sequence, set, sequence_of, set_of, choice, Members, no_member, left_out, member, Elements, no_element, element}
 use Rattle.encodings.proofs.Headers.{identifier_long}
 use Rattle.encodings.proofs.Least.{concat_permutes}
 use Rattle.encodings.proofs.Units.{no_leaf, bare_is}
@@ -67,16 +67,16 @@ no_tag {s} i h = let l = subst (λ o. IsSomeAnd o (λ r. 0 < length r.tags)) i.f
 
 module _ (s : List Resolved) (schema : IsSchema s) where
   mutual
-    pub says_nodes : {r : Rules} {t n : ℕ} {w : AbstractValue} {o : List ℕ} → Says s r t w n o → nodes w ≤ length o
+    pub says_nodes : {r : Rules} {t n : ℕ} {w : AbstractValue} {o : List ℕ} → EncodesTo s r t w n o → nodes w ≤ length o
     says_nodes (says {tags = []} {k = k} i h fr) = let e = ap length (bare_is fr) in let l = untagged_nodes (schema.tagged _ _ i) (schema.sound _ _ k i) h in omega arith
     says_nodes (says {tags = g ∷ ts} i h fr) = omega (arith, holds_nodes h, framed_two fr)
 
     -- a value of a type with a tag takes one octet more
-    tagged_nodes : {r : Rules} {t n : ℕ} {w : AbstractValue} {o : List ℕ} → HasTag s t → Says s r t w n o → suc (nodes w) ≤ length o
+    tagged_nodes : {r : Rules} {t n : ℕ} {w : AbstractValue} {o : List ℕ} → HasTag s t → EncodesTo s r t w n o → suc (nodes w) ≤ length o
     tagged_nodes tag (says {tags = []} i h fr) = absurd (no_tag i tag)
     tagged_nodes tag (says {tags = g ∷ ts} i h fr) = omega (arith, holds_nodes h, framed_two fr)
 
-    untagged_nodes : {r : Rules} {k : Kind} {n : ℕ} {w : AbstractValue} {c : Bool} {x : List ℕ} → IsChoice k → IsSound s k → Holds s r k w n c x → nodes w ≤ length x
+    untagged_nodes : {r : Rules} {k : Kind} {n : ℕ} {w : AbstractValue} {c : Bool} {x : List ℕ} → IsChoice k → IsSound s k → ContentsEncode s r k w n c x → nodes w ≤ length x
     untagged_nodes ch sound (leaf con) = absurd (no_leaf ch con)
     untagged_nodes ch sound (sequence ms u) = absurd ch
     untagged_nodes ch sound (set ms p st u m) = absurd ch
@@ -84,7 +84,7 @@ module _ (s : List Resolved) (schema : IsSchema s) where
     untagged_nodes ch sound (set_of es st) = absurd ch
     untagged_nodes ch sound (choice {i = i} {root = root} {more = more} {a = b} g a) = tagged_nodes (alternative_at (λ q. HasTag s q.type) (root ++ more) i b sound.types g) a
 
-    holds_nodes : {r : Rules} {k : Kind} {n : ℕ} {w : AbstractValue} {c : Bool} {x : List ℕ} → Holds s r k w n c x → nodes w ≤ suc (length x)
+    holds_nodes : {r : Rules} {k : Kind} {n : ℕ} {w : AbstractValue} {c : Bool} {x : List ℕ} → ContentsEncode s r k w n c x → nodes w ≤ suc (length x)
     holds_nodes (leaf con) = let e = leaf_nodes con in omega arith
     holds_nodes (sequence {xs = xs} {us = us} ms u) = omega (arith, members_nodes ms, concat_front xs us)
     holds_nodes (set ms p st u m) = omega (arith, members_nodes ms, concat_permutes p, concat_merged m)
@@ -101,8 +101,8 @@ module _ (s : List Resolved) (schema : IsSchema s) where
     elements_nodes no_element = omega arith
     elements_nodes (element {x = x} {xs = xs} a es) = omega (arith, says_nodes a, elements_nodes es, length-append x (concat xs))
 
-pub few_nodes : (s : List Resolved) (r : Rules) (t k : ℕ) (w : AbstractValue) (o : List ℕ) → IsSchema s → Says s r t w k o → nodes w ≤ length o
+pub few_nodes : (s : List Resolved) (r : Rules) (t k : ℕ) (w : AbstractValue) (o : List ℕ) → IsSchema s → EncodesTo s r t w k o → nodes w ≤ length o
 few_nodes s r t k w o schema a = says_nodes s schema a
 
-pub message_value : (s : List Resolved) (r : Rules) (t k : ℕ) (w : AbstractValue) (o : List ℕ) → IsSchema s → ValueIn s 64 t w → Says s r t w k o → length o ≤ 16777216 → IsValue s t w
+pub message_value : (s : List Resolved) (r : Rules) (t k : ℕ) (w : AbstractValue) (o : List ℕ) → IsSchema s → ValueIn s 64 t w → EncodesTo s r t w k o → length o ≤ 16777216 → IsValue s t w
 message_value s r t k w o schema v a l = record { shaped = v; few_nodes = let m = says_nodes s schema a in omega arith }

@@ -7,7 +7,7 @@ use Rattle.asn_base.specs.Same.{Alike, alike, AlikeBy, equal, alike_sequence, al
 use Rattle.asn_base.specs.Tags.{AllTagged}
 use Rattle.encodings.specs.Rules.{Rules, Distinguished}
 use Rattle.encodings.specs.Orders.{Permutes, permutes_none, permutes_more, Inserted as ListInserted, here as list_here, AtMost, InTagOrder}
-use Rattle.encodings.specs.Encoding.{Says, says, Holds, leaf, sequence, set, sequence_of, set_of, choice, Members, no_member, left_out, member, Elements, no_element, element}
+use Rattle.encodings.specs.Encoding.{EncodesTo, says, ContentsEncode, leaf, sequence, set, sequence_of, set_of, choice, Members, no_member, left_out, member, Elements, no_element, element}
 use Rattle.encodings.proofs.LeafLaws.{contents_leaf, leaf_form}
 use Rattle.encodings.proofs.Sorting.{permutes_sym, permutes_trans, sorted_same}
 use Rattle.encodings.proofs.Units.{IsUnit, says_unit, units_apart, at_most_trans, tag_order_trans, tag_order_anti}
@@ -39,12 +39,12 @@ one_more e f = cc
 module _ (s : List Resolved) (turn : (t : ℕ) (v w : AbstractValue) → Alike s t v w → Alike s t w v) (all : AllTagged s) where
   mutual
     -- by the distinguished rules there is one encoding
-    pub only : {t j : ℕ} {v : AbstractValue} {o : List ℕ} → Says s Distinguished t v j o → j ≡ 0 → {w : AbstractValue} {n : ℕ} {p : List ℕ} → Alike s t v w → Says s Distinguished t w n p → n ≡ 0 → p ≡ o
+    pub only : {t j : ℕ} {v : AbstractValue} {o : List ℕ} → EncodesTo s Distinguished t v j o → j ≡ 0 → {w : AbstractValue} {n : ℕ} {p : List ℕ} → Alike s t v w → EncodesTo s Distinguished t w n p → n ≡ 0 → p ≡ o
     only (says i h fr) z (alike j a) (says k g fr') y =
         let e = holds_only h z (alike_by_at (same_kind i j) a) (holds_at (same_kind i k) g) y in
         frames_only fr (framed_at (same_tags i k) fr') (sym e.0) e.1
 
-    holds_only : {k : Kind} {j : ℕ} {v : AbstractValue} {b : Bool} {x : List ℕ} → Holds s Distinguished k v j b x → j ≡ 0 → {w : AbstractValue} {n : ℕ} {c : Bool} {y : List ℕ} → AlikeBy s k v w → Holds s Distinguished k w n c y → n ≡ 0 → Same2 b c x y
+    holds_only : {k : Kind} {j : ℕ} {v : AbstractValue} {b : Bool} {x : List ℕ} → ContentsEncode s Distinguished k v j b x → j ≡ 0 → {w : AbstractValue} {n : ℕ} {c : Bool} {y : List ℕ} → AlikeBy s k v w → ContentsEncode s Distinguished k w n c y → n ≡ 0 → Same2 b c x y
     holds_only (leaf con) z a g y =
         let con' = leaf_in (contents_leaf con) g in
         (leaf_form con' ∙ sym (leaf_form con), (leaves_best a con con').only)

@@ -8,7 +8,7 @@ use Rattle.asn_base.specs.declared.tag.Tag.{Tag}
 use Rattle.asn_base.specs.Abstract.{AbstractValue, integer, fields, list, end, present}
 use Rattle.asn_base.specs.declared.strings.StringKind.TheVariants.{Numeric}
 use Rattle.asn_base.specs.Types.{Constraint, any_number, any_size, Alternative, Presence, mandatory, optional, default, Component, Kind, a_boolean, an_integer, an_enumerated, a_bit_string, a_named_bit_string, an_octet_string, a_null, an_object_identifier, a_utf8_string, a_restricted_string, a_sequence, a_set, a_sequence_of, a_set_of, a_choice, Resolved}
-use Rattle.asn_base.specs.Tags.{First, first_tag, first_of_choice, AreApart, IsTellable, AllTellable, IsChoice, AllTagged}
+use Rattle.asn_base.specs.Tags.{First, first_tag, first_of_choice, AreApart, HasDistinctTags, AllHaveDistinctTags, IsChoice, AllTagged}
 
 abbrev pub universal : (n : ℕ) → n < 2147483648 → 0 < n → Tag
 universal n h k = record { class = Universal; number = n; in_range = h; not_reserved = λ e. k }
@@ -114,7 +114,7 @@ rows =
     ∷ []
 
 abbrev Fine : Resolved → Type 0
-Fine r = ((r.tags ≡ []) → IsChoice r.kind) × IsTellable rows r.kind
+Fine r = ((r.tags ≡ []) → IsChoice r.kind) × HasDistinctTags rows r.kind
 
 abbrev pub tags_in : Option Resolved → List Tag
 tags_in None = []
@@ -230,5 +230,5 @@ place P (x ∷ xs) (suc t) r a e = place P xs t r a.1 e
 pub rows_tagged : AllTagged rows
 rows_tagged t k i = (place Fine rows t _ fine i.found).0 refl
 
-pub rows_tellable : AllTellable rows
+pub rows_tellable : AllHaveDistinctTags rows
 rows_tellable t tags k i = (place Fine rows t _ fine i.found).1

@@ -12,7 +12,7 @@ use Rattle.encodings.specs.Header.{identifier}
 use Rattle.encodings.specs.Fewest.{shortest_header}
 use Rattle.encodings.specs.Contents.{of_false, of_true, of_oid, of_relative_oid, of_enumerated}
 use Rattle.encodings.specs.Orders.{ascending_one, ascending_more, InTagOrder, permutes_none, permutes_more, here as list_here, there as list_there, merges_none, merges_first, merges_second}
-use Rattle.encodings.specs.Encoding.{innermost, closed, extensible, no_unknown, unknown, Says, says, leaf, sequence, set, no_member, left_out, member}
+use Rattle.encodings.specs.Encoding.{innermost, closed, extensible, no_unknown, unknown, EncodesTo, says, leaf, sequence, set, no_member, left_out, member}
 use Rattle.encodings.proofs.Headers.{shortest_is}
 use Rattle.encodings.proofs.RowTypes.{universal, context, u1, u6, u10, u16, u17, c0, c1, c2, a_component, first_only}
 use Rattle.encodings.proofs.RowsThatHold.{short_header, is_minus_1, must_stand}
@@ -55,19 +55,19 @@ no_default d e = subst IsAddition e tt
     IsAddition (default d) = ⊥
     IsAddition (addition o g) = Unit {0}
 
-false_0 : Says more Distinguished 0 (boolean false) 0 (1 ∷ 1 ∷ 0 ∷ [])
+false_0 : EncodesTo more Distinguished 0 (boolean false) 0 (1 ∷ 1 ∷ 0 ∷ [])
 unfolding identifier shortest_header
 false_0 = says (record { found = refl }) (leaf of_false) (innermost (shortest_is u1 false 1 (lit< tt)))
 
-false_1 : Says more Distinguished 1 (boolean false) 0 (69 ∷ 1 ∷ 0 ∷ [])
+false_1 : EncodesTo more Distinguished 1 (boolean false) 0 (69 ∷ 1 ∷ 0 ∷ [])
 unfolding identifier shortest_header
 false_1 = says (record { found = refl }) (leaf of_false) (innermost (shortest_is a0 false 1 (lit< tt)))
 
-false_2 : Says more Distinguished 2 (boolean false) 0 (128 ∷ 1 ∷ 0 ∷ [])
+false_2 : EncodesTo more Distinguished 2 (boolean false) 0 (128 ∷ 1 ∷ 0 ∷ [])
 unfolding identifier shortest_header
 false_2 = says (record { found = refl }) (leaf of_false) (innermost (shortest_is c0 false 1 (lit< tt)))
 
-false_3 : Says more Distinguished 3 (boolean false) 0 (195 ∷ 1 ∷ 0 ∷ [])
+false_3 : EncodesTo more Distinguished 3 (boolean false) 0 (195 ∷ 1 ∷ 0 ∷ [])
 unfolding identifier shortest_header
 false_3 = says (record { found = refl }) (leaf of_false) (innermost (shortest_is p0 false 1 (lit< tt)))
 
@@ -102,7 +102,7 @@ order_3 = record {
 }
 
 -- SET {a [PRIVATE 3], b [0], c [APPLICATION 5], d BOOLEAN}: 310C010100450100800100C30100
-pub classes : Says more Distinguished 4 (fields (present (boolean false) (present (boolean false) (present (boolean false) (present (boolean false) end))))) 0 (49 ∷ 12 ∷ 1 ∷ 1 ∷ 0 ∷ 69 ∷ 1 ∷ 0 ∷ 128 ∷ 1 ∷ 0 ∷ 195 ∷ 1 ∷ 0 ∷ [])
+pub classes : EncodesTo more Distinguished 4 (fields (present (boolean false) (present (boolean false) (present (boolean false) (present (boolean false) end))))) 0 (49 ∷ 12 ∷ 1 ∷ 1 ∷ 0 ∷ 69 ∷ 1 ∷ 0 ∷ 128 ∷ 1 ∷ 0 ∷ 195 ∷ 1 ∷ 0 ∷ [])
 unfolding identifier shortest_header
 classes = says (record { found = refl })
     (set (member false_3 (λ z d. must_stand d.0 d.1) (member false_2 (λ z d. must_stand d.0 d.1) (member false_1 (λ z d. must_stand d.0 d.1) (member false_0 (λ z d. must_stand d.0 d.1) no_member))))
@@ -112,27 +112,27 @@ classes = says (record { found = refl })
     (innermost (shortest_is u17 true 12 (lit< tt)))
 
 -- ENUMERATED {a(-1)}: 0A01FF; {1 2}: 06012A
-pub minus_item : Says more Distinguished 5 (enumerated (negsuc 0)) 0 (10 ∷ 1 ∷ 255 ∷ [])
+pub minus_item : EncodesTo more Distinguished 5 (enumerated (negsuc 0)) 0 (10 ∷ 1 ∷ 255 ∷ [])
 unfolding identifier shortest_header
 minus_item = says (record { found = refl }) (leaf (of_enumerated is_minus_1)) (innermost (shortest_is u10 false 1 (lit< tt)))
 
-pub two_arcs : Says more Distinguished 6 (oid (1 ∷ 2 ∷ [])) 0 (6 ∷ 1 ∷ 42 ∷ [])
+pub two_arcs : EncodesTo more Distinguished 6 (oid (1 ∷ 2 ∷ [])) 0 (6 ∷ 1 ∷ 42 ∷ [])
 unfolding identifier shortest_header
 two_arcs = says (record { found = refl }) (leaf (of_oid (arcs (lit< tt) (λ h. lit< tt) (lit< tt) tt (omega arith)))) (innermost (shortest_is u6 false 1 (lit< tt)))
 
 -- SEQUENCE {a BOOLEAN, ..., b [0] BOOLEAN}, with the addition and without it
-pub with_addition : Says more Distinguished 7 (fields (present (boolean false) (present (boolean false) end))) 0 (48 ∷ 6 ∷ 1 ∷ 1 ∷ 0 ∷ 128 ∷ 1 ∷ 0 ∷ [])
+pub with_addition : EncodesTo more Distinguished 7 (fields (present (boolean false) (present (boolean false) end))) 0 (48 ∷ 6 ∷ 1 ∷ 1 ∷ 0 ∷ 128 ∷ 1 ∷ 0 ∷ [])
 unfolding identifier shortest_header
 with_addition = says (record { found = refl })
     (sequence (member false_0 (λ z d. must_stand d.0 d.1) (member false_2 (λ z d. no_default d.0 d.1) no_member)) (extensible no_unknown)) (innermost (shortest_is u16 true 6 (lit< tt)))
 
-pub without_addition : Says more Distinguished 7 (fields (present (boolean false) (absent end))) 0 (48 ∷ 3 ∷ 1 ∷ 1 ∷ 0 ∷ [])
+pub without_addition : EncodesTo more Distinguished 7 (fields (present (boolean false) (absent end))) 0 (48 ∷ 3 ∷ 1 ∷ 1 ∷ 0 ∷ [])
 unfolding identifier shortest_header
 without_addition = says (record { found = refl })
     (sequence (member false_0 (λ z d. must_stand d.0 d.1) (left_out refl no_member)) (extensible no_unknown)) (innermost (shortest_is u16 true 3 (lit< tt)))
 
 -- SET {a [0] BOOLEAN, b [1] BOOLEAN, ...}: unknown additions before, between and after the known components
-true_8 : Says more Distinguished 8 (boolean true) 0 (129 ∷ 1 ∷ 255 ∷ [])
+true_8 : EncodesTo more Distinguished 8 (boolean true) 0 (129 ∷ 1 ∷ 255 ∷ [])
 unfolding identifier shortest_header
 true_8 = says (record { found = refl }) (leaf (of_true (lit< tt) (lit< tt) refl)) (innermost (shortest_is c1 false 1 (lit< tt)))
 
@@ -152,7 +152,7 @@ known_order = record {
   before = inr (refl, lit< tt);
 }
 
-pub mixed_set : Says more Distinguished 9 (fields (present (boolean false) (present (boolean true) end))) 3 (49 ∷ 13 ∷ 130 ∷ 1 ∷ 7 ∷ 128 ∷ 1 ∷ 0 ∷ 131 ∷ 0 ∷ 129 ∷ 1 ∷ 255 ∷ 132 ∷ 0 ∷ [])
+pub mixed_set : EncodesTo more Distinguished 9 (fields (present (boolean false) (present (boolean true) end))) 3 (49 ∷ 13 ∷ 130 ∷ 1 ∷ 7 ∷ 128 ∷ 1 ∷ 0 ∷ 131 ∷ 0 ∷ 129 ∷ 1 ∷ 255 ∷ 132 ∷ 0 ∷ [])
 unfolding identifier shortest_header
 mixed_set = says (record { found = refl })
     (set (member false_2 (λ z d. must_stand d.0 d.1) (member true_8 (λ z d. must_stand d.0 d.1) no_member))
@@ -165,7 +165,7 @@ mixed_set = says (record { found = refl })
     (innermost (shortest_is u17 true 13 (lit< tt)))
 
 -- the same without unknown additions
-pub extensible_set : Says more Distinguished 9 (fields (present (boolean false) (present (boolean true) end))) 0 (49 ∷ 6 ∷ 128 ∷ 1 ∷ 0 ∷ 129 ∷ 1 ∷ 255 ∷ [])
+pub extensible_set : EncodesTo more Distinguished 9 (fields (present (boolean false) (present (boolean true) end))) 0 (49 ∷ 6 ∷ 128 ∷ 1 ∷ 0 ∷ 129 ∷ 1 ∷ 255 ∷ [])
 unfolding identifier shortest_header
 extensible_set = says (record { found = refl })
     (set (member false_2 (λ z d. must_stand d.0 d.1) (member true_8 (λ z d. must_stand d.0 d.1) no_member))
@@ -174,6 +174,6 @@ extensible_set = says (record { found = refl })
     (innermost (shortest_is u17 true 6 (lit< tt)))
 
 -- RELATIVE-OID {8571 3 2} is 0D04C27B0302
-pub relative_is : Says more Distinguished 10 (relative_oid (8571 ∷ 3 ∷ 2 ∷ [])) 0 (13 ∷ 4 ∷ 194 ∷ 123 ∷ 3 ∷ 2 ∷ [])
+pub relative_is : EncodesTo more Distinguished 10 (relative_oid (8571 ∷ 3 ∷ 2 ∷ [])) 0 (13 ∷ 4 ∷ 194 ∷ 123 ∷ 3 ∷ 2 ∷ [])
 unfolding identifier shortest_header
 relative_is = says (record { found = refl }) (leaf (of_relative_oid (record { some = lit< tt; at_most = lit< tt; small = (lit< tt, (lit< tt, (lit< tt, tt))) }))) (innermost (shortest_is u13 false 4 (lit< tt)))

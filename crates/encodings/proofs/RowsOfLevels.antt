@@ -7,11 +7,11 @@ use Rattle.asn_base.specs.Types.{Kind, a_boolean, Component, Resolved, Is}
 use Rattle.encodings.specs.Rules.{Rules}
 use Rattle.encodings.specs.Strings.{Pieces, whole}
 use Rattle.encodings.specs.Contents.{Contents, of_true}
-use Rattle.encodings.specs.Encoding.{Framed, Unknown, UnknownIf, unknown, extensible, says, Holds}
+use Rattle.encodings.specs.Encoding.{Framed, Unknown, UnknownIf, unknown, extensible, says, ContentsEncode}
 use Rattle.encodings.specs.Levels.{levels, inner_levels, unknown_levels}
 
 -- each tag is a level, explicit ones too
-two_headers : {s : List Resolved} {r : Rules} {t n : ℕ} {f g : Tag} {k : Kind} {w : AbstractValue} {c : Bool} {x o : List ℕ} (i : Is s t (f ∷ g ∷ []) k) (h : Holds s r k w n c x) (fr : Framed r (f ∷ g ∷ []) c x o) → levels (says i h fr) ≡ 2 + inner_levels h
+two_headers : {s : List Resolved} {r : Rules} {t n : ℕ} {f g : Tag} {k : Kind} {w : AbstractValue} {c : Bool} {x o : List ℕ} (i : Is s t (f ∷ g ∷ []) k) (h : ContentsEncode s r k w n c x) (fr : Framed r (f ∷ g ∷ []) c x o) → levels (says i h fr) ≡ 2 + inner_levels h
 two_headers i h fr = refl
 
 -- an unknown addition is a level, whatever it holds

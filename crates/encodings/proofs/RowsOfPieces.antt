@@ -10,7 +10,7 @@ use Rattle.encodings.specs.Header.{identifier, Header}
 use Rattle.encodings.specs.Strings.{whole, cut, Segments, no_segment, segment, WholeBits, BitSegments, last_segment, bit_segment, octet_string_tag, bit_string_tag}
 use Rattle.encodings.specs.Contents.{of_restricted}
 use Rattle.encodings.specs.Orders.{Permutes, permutes_none, permutes_more, Inserted, here, there, Merges, merges_first}
-use Rattle.encodings.specs.Encoding.{Framed, innermost, UnknownIf, closed, Says, says, Holds, leaf, sequence, left_out, member}
+use Rattle.encodings.specs.Encoding.{Framed, innermost, UnknownIf, closed, EncodesTo, says, ContentsEncode, leaf, sequence, left_out, member}
 use Rattle.encodings.proofs.Identifiers.{any_front}
 use Rattle.encodings.proofs.Least.{same_tags, framed_at}
 use Rattle.encodings.proofs.RowsThatFail.{inside}
@@ -20,15 +20,15 @@ use Rattle.encodings.proofs.RowsOfClasses.{more}
 
 -- ---- a restricted string: 3200, 3202 0400, and 3207 2405 2403 0401 39 with segments in segments
 
-pub no_text_cut : Says rows Basic 20 (text []) 0 (50 ∷ 0 ∷ [])
+pub no_text_cut : EncodesTo rows Basic 20 (text []) 0 (50 ∷ 0 ∷ [])
 unfolding identifier
 no_text_cut = says (record { found = refl }) (leaf (of_restricted (cut no_segment) tt)) (innermost (record { header = short_header u18 true 0 (lit< tt); fewest = tt }))
 
-pub empty_text_segment : Says rows Basic 20 (text []) 0 (50 ∷ 2 ∷ 4 ∷ 0 ∷ [])
+pub empty_text_segment : EncodesTo rows Basic 20 (text []) 0 (50 ∷ 2 ∷ 4 ∷ 0 ∷ [])
 unfolding identifier
 empty_text_segment = says (record { found = refl }) (leaf (of_restricted (cut (segment {x = []} {p = []} (short_header octet_string_tag false 0 (lit< tt)) (whole tt) no_segment)) tt)) (innermost (record { header = short_header u18 true 2 (lit< tt); fewest = tt }))
 
-pub nested_text : Says rows Basic 20 (text (57 ∷ [])) 0 (50 ∷ 7 ∷ 36 ∷ 5 ∷ 36 ∷ 3 ∷ 4 ∷ 1 ∷ 57 ∷ [])
+pub nested_text : EncodesTo rows Basic 20 (text (57 ∷ [])) 0 (50 ∷ 7 ∷ 36 ∷ 5 ∷ 36 ∷ 3 ∷ 4 ∷ 1 ∷ 57 ∷ [])
 unfolding identifier
 nested_text = says (record { found = refl })
     (leaf (of_restricted (cut (segment {x = 57 ∷ []} {p = 36 ∷ 3 ∷ 4 ∷ 1 ∷ 57 ∷ []} (short_header octet_string_tag true 5 (lit< tt))
@@ -109,10 +109,10 @@ not_boolean {c = c} {x = x} y (innermost {h = h} a) e =
     let n = (any_front u1 c0 c false (length x) 1 h (128 ∷ 1 ∷ []) (x ++ y) (0 ∷ 1 ∷ 1 ∷ 0 ∷ []) a.header of_zero (sym (append_assoc h x y) ∙ e)).numbers in
     omega arith
 
-says_boolean : {r : Rules} {w : AbstractValue} {n : ℕ} {o : List ℕ} (y : List ℕ) → Says more r 0 w n o → o ++ y ≡ 128 ∷ 1 ∷ 0 ∷ 1 ∷ 1 ∷ 0 ∷ [] → ⊥
+says_boolean : {r : Rules} {w : AbstractValue} {n : ℕ} {o : List ℕ} (y : List ℕ) → EncodesTo more r 0 w n o → o ++ y ≡ 128 ∷ 1 ∷ 0 ∷ 1 ∷ 1 ∷ 0 ∷ [] → ⊥
 says_boolean y (says i h fr) e = not_boolean y (framed_at (same_tags is_0 i) fr) e
 
-pub other_order : {w : AbstractValue} {n : ℕ} {c : Bool} {x : List ℕ} → Holds more Basic (a_sequence true (a_component 0 mandatory ∷ a_component 2 (addition false None) ∷ [])) w n c x → x ≡ 128 ∷ 1 ∷ 0 ∷ 1 ∷ 1 ∷ 0 ∷ [] → ⊥
+pub other_order : {w : AbstractValue} {n : ℕ} {c : Bool} {x : List ℕ} → ContentsEncode more Basic (a_sequence true (a_component 0 mandatory ∷ a_component 2 (addition false None) ∷ [])) w n c x → x ≡ 128 ∷ 1 ∷ 0 ∷ 1 ∷ 1 ∷ 0 ∷ [] → ⊥
 other_order (sequence (left_out m ms) u) e = let f : true ≡ false = m in cc
 other_order (sequence {us = us} (member {xs = xs} a nd ms) u) e = says_boolean (concat (xs ++ us)) a e
 other_order (leaf con) e = elim con [ ]
@@ -130,6 +130,6 @@ other_bit_segment (bit_segment {c = c} {h = h} {p = p} {o = o} hd ps m gs) e =
     let n = (any_front bit_string_tag octet_string_tag c false (length p) 2 h (4 ∷ 2 ∷ []) (p ++ o) (0 ∷ 128 ∷ []) hd of_octets (sym (append_assoc h p o) ∙ e)).numbers in
     omega arith
 
-pub components_turned : (w : AbstractValue) (n : ℕ) → Says more Basic 7 w n (48 ∷ 6 ∷ 128 ∷ 1 ∷ 0 ∷ 1 ∷ 1 ∷ 0 ∷ []) → ⊥
+pub components_turned : (w : AbstractValue) (n : ℕ) → EncodesTo more Basic 7 w n (48 ∷ 6 ∷ 128 ∷ 1 ∷ 0 ∷ 1 ∷ 1 ∷ 0 ∷ []) → ⊥
 unfolding identifier
 components_turned w n a = other_order (inside {x = 128 ∷ 1 ∷ 0 ∷ 1 ∷ 1 ∷ 0 ∷ []} (record { found = refl }) (short_header u16 true 6 (lit< tt)) refl a) refl

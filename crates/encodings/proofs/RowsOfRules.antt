@@ -10,7 +10,7 @@ use Rattle.encodings.specs.Header.{identifier, Header, LengthOf, short, long}
 use Rattle.encodings.specs.Fewest.{shortest_header}
 use Rattle.encodings.specs.Contents.{of_true}
 use Rattle.encodings.specs.Orders.{AtMost, BeginsWith, ascending_one, permutes_none, permutes_more, here as list_here, Merges, merges_none, merges_first, merges_second}
-use Rattle.encodings.specs.Encoding.{Framed, innermost, outer, Unknown, no_unknown, unknown, extensible, last_run, Says, says, Holds, leaf, set, no_member, left_out, member}
+use Rattle.encodings.specs.Encoding.{Framed, innermost, outer, Unknown, no_unknown, unknown, extensible, last_run, EncodesTo, says, ContentsEncode, leaf, set, no_member, left_out, member}
 use Rattle.encodings.proofs.Headers.{shortest_is}
 use Rattle.encodings.proofs.Identifiers.{any_front}
 use Rattle.encodings.proofs.Units.{IsUnit, says_unit}
@@ -53,8 +53,8 @@ pub application_first : TagBefore (record { class = Application; number = 31; in
 application_first = inl (lit< tt)
 
 -- runs: the last one begins after the last component that must be present
-pub behind_the_last : last_run (a_component 14 optional ∷ a_component 0 mandatory ∷ a_component 9 optional ∷ []) ≡ a_component 9 optional ∷ []
-behind_the_last = refl
+pub after_the_last : last_run (a_component 14 optional ∷ a_component 0 mandatory ∷ a_component 9 optional ∷ []) ≡ a_component 9 optional ∷ []
+after_the_last = refl
 
 pub up_to_the_next : first_run (a_component 14 optional ∷ a_component 0 mandatory ∷ a_component 9 optional ∷ []) ≡ a_component 14 optional ∷ a_component 0 mandatory ∷ []
 up_to_the_next = refl
@@ -73,21 +73,21 @@ not_constructed (outer {h = h} {y = y} f a) e =
     let r = any_front c1 c1 true false (length y) 3 h (129 ∷ 3 ∷ []) y (130 ∷ 1 ∷ 255 ∷ []) a.header primitive_outside e in
     let g : true ≡ false = r.forms in cc
 
-pub explicit_is_constructed : (w : AbstractValue) (n : ℕ) → Says rows Basic 12 w n (129 ∷ 3 ∷ 130 ∷ 1 ∷ 255 ∷ []) → ⊥
+pub explicit_is_constructed : (w : AbstractValue) (n : ℕ) → EncodesTo rows Basic 12 w n (129 ∷ 3 ∷ 130 ∷ 1 ∷ 255 ∷ []) → ⊥
 explicit_is_constructed w n (says i h fr) = not_constructed (framed_at (same_tags (is_12) i) fr) refl
   where
     is_12 : Is rows 12 (c1 ∷ c2 ∷ []) a_boolean
     is_12 = record { found = refl }
 
 -- SET {a [1] BOOLEAN, ...}: 31068001008101FF encodes {a TRUE} with one unknown addition, which may be anywhere
-true_at : Says rows Distinguished 9 (boolean true) 0 (129 ∷ 1 ∷ 255 ∷ [])
+true_at : EncodesTo rows Distinguished 9 (boolean true) 0 (129 ∷ 1 ∷ 255 ∷ [])
 unfolding identifier shortest_header
 true_at = says (record { found = refl }) (leaf (of_true (lit< tt) (lit< tt) refl)) (innermost (shortest_is c1 false 1 (lit< tt)))
 
 other : First rows 9 c0 → ⊥
 other f = let e = ap (λ g. g.number) (first_only {t = 9} refl f) in omega arith
 
-pub unknown_in_front : Says rows Distinguished 24 (fields (present (boolean true) end)) 1 (49 ∷ 6 ∷ 128 ∷ 1 ∷ 0 ∷ 129 ∷ 1 ∷ 255 ∷ [])
+pub unknown_in_front : EncodesTo rows Distinguished 24 (fields (present (boolean true) end)) 1 (49 ∷ 6 ∷ 128 ∷ 1 ∷ 0 ∷ 129 ∷ 1 ∷ 255 ∷ [])
 unfolding identifier shortest_header
 unknown_in_front = says (record { found = refl })
     (set (member true_at (λ z d. must_stand d.0 d.1) no_member) (permutes_more permutes_none list_here) ascending_one
@@ -139,7 +139,7 @@ one_of : {k : ℕ} (us : List (List ℕ)) → Unknown rows (a_component 9 mandat
 one_of [] u a l = omega arith
 one_of (x ∷ xs) u a l = none_known x xs u refl a.0
 
-twice : {w : AbstractValue} {n : ℕ} {c : Bool} {x : List ℕ} → Holds rows Basic (a_set true (a_component 9 mandatory ∷ [])) w n c x → x ≡ 129 ∷ 1 ∷ 255 ∷ 129 ∷ 1 ∷ 255 ∷ [] → ⊥
+twice : {w : AbstractValue} {n : ℕ} {c : Bool} {x : List ℕ} → ContentsEncode rows Basic (a_set true (a_component 9 mandatory ∷ [])) w n c x → x ≡ 129 ∷ 1 ∷ 255 ∷ 129 ∷ 1 ∷ 255 ∷ [] → ⊥
 twice (set (left_out m ms) p st (extensible u) mg) e = let f : true ≡ false = m in cc
 twice (set {us = us} {ys = ys} (member {x = x} a nd no_member) (permutes_more permutes_none list_here) st (extensible u) mg) e =
     let ys_are = units_list ys ((129 ∷ 1 ∷ 255 ∷ []) ∷ (129 ∷ 1 ∷ 255 ∷ []) ∷ []) (of_both IsUnit mg (says_unit rows_tagged a, tt) (unknown_units u)) (known_unit, (known_unit, tt)) e in
@@ -147,6 +147,6 @@ twice (set {us = us} {ys = ys} (member {x = x} a nd no_member) (permutes_more pe
     one_of us u (of_second IsKnown mg (subst (AllByRecursion IsKnown) (sym ys_are) (refl, (refl, tt)))) (omega (arith, l, merged_length mg))
 twice (leaf con) e = elim con [ ]
 
-pub component_twice : (w : AbstractValue) (n : ℕ) → Says rows Basic 24 w n (49 ∷ 6 ∷ 129 ∷ 1 ∷ 255 ∷ 129 ∷ 1 ∷ 255 ∷ []) → ⊥
+pub component_twice : (w : AbstractValue) (n : ℕ) → EncodesTo rows Basic 24 w n (49 ∷ 6 ∷ 129 ∷ 1 ∷ 255 ∷ 129 ∷ 1 ∷ 255 ∷ []) → ⊥
 unfolding identifier
 component_twice w n a = twice (inside {x = 129 ∷ 1 ∷ 255 ∷ 129 ∷ 1 ∷ 255 ∷ []} (record { found = refl }) (short_header u17 true 6 (lit< tt)) refl a) refl

@@ -11,11 +11,11 @@ use Rattle.encodings.specs.Rules.{Basic, Distinguished}
 use Rattle.encodings.specs.Header.{identifier}
 use Rattle.encodings.specs.Fewest.{shortest_header}
 use Rattle.encodings.specs.Contents.{of_integer}
-use Rattle.encodings.specs.Encoding.{innermost, Says, says, leaf, Ber, Der, Shortest}
+use Rattle.encodings.specs.Encoding.{innermost, EncodesTo, says, leaf, Ber, Der, Shortest}
 use Rattle.encodings.proofs.Headers.{shortest_is}
 use Rattle.encodings.proofs.Least.{same_kind, alike_by_at}
 use Rattle.encodings.proofs.Unique.{says_same}
-use Rattle.encodings.proofs.Weaker.{basic_of}
+use Rattle.encodings.specs.proving.Weaker.{basic_of}
 use Rattle.encodings.proofs.RowTypes.{rows, u2, rows_tagged, rows_tellable}
 use Rattle.encodings.proofs.RowsThatHold.{small, long_length, named_bits, named_zeros, default_absent, default_alike}
 use Rattle.encodings.proofs.RowsOfParts.{set_of_is, set_of_alike}
@@ -73,7 +73,7 @@ five = value_in (record { found = refl }) (of_leaf (fits_integer (lit< tt) tt))
 five_self : Same rows 1 (integer (pos 5)) (integer (pos 5))
 five_self = record { first = five; second = five; are_alike = alike (record { found = refl }) (equal tt) }
 
-five_is : Says rows Distinguished 1 (integer (pos 5)) 0 (2 ∷ 1 ∷ 5 ∷ [])
+five_is : EncodesTo rows Distinguished 1 (integer (pos 5)) 0 (2 ∷ 1 ∷ 5 ∷ [])
 unfolding identifier shortest_header
 five_is = says (record { found = refl }) (leaf (of_integer (small 5 (lit< tt)))) (innermost (shortest_is u2 false 1 (lit< tt)))
 

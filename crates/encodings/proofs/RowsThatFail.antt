@@ -10,7 +10,7 @@ use Rattle.encodings.specs.Header.{identifier, Header, long}
 use Rattle.encodings.specs.Fewest.{shortest_header}
 use Rattle.encodings.specs.Strings.{BitPieces, whole_bits, cut_bits, BitSegments, last_segment, bit_segment, bit_string_tag}
 use Rattle.encodings.specs.Contents.{TwosComplement, not_negative, negative, of_false, of_true, of_integer, of_bits}
-use Rattle.encodings.specs.Encoding.{Framed, innermost, Says, says, Holds, leaf}
+use Rattle.encodings.specs.Encoding.{Framed, innermost, EncodesTo, says, ContentsEncode, leaf}
 use Rattle.encodings.proofs.Headers.{shortest_only}
 use Rattle.encodings.proofs.Fronts.{split_front}
 use Rattle.encodings.proofs.Identifiers.{any_front}
@@ -26,10 +26,10 @@ framed_inside {g = g} {c = c} {d = d} {x = x} {y = y} {h = h} (innermost {h = h'
     let r = any_front g g d c (length y) (length x) h' h y x a.header hd e in record { forms = r.forms; inside = r.rest }
 
 -- the contents after the only header of octets
-pub inside : {s : List Resolved} {r : Rules} {t : ℕ} {g : Tag} {k : Kind} {w : AbstractValue} {n : ℕ} {c : Bool} {h x o : List ℕ} → Is s t (g ∷ []) k → Header g c (length x) h → o ≡ h ++ x → Says s r t w n o → Holds s r k w n c x
+pub inside : {s : List Resolved} {r : Rules} {t : ℕ} {g : Tag} {k : Kind} {w : AbstractValue} {n : ℕ} {c : Bool} {h x o : List ℕ} → Is s t (g ∷ []) k → Header g c (length x) h → o ≡ h ++ x → EncodesTo s r t w n o → ContentsEncode s r k w n c x
 inside {s} {r} {k = k} {w = w} {n = n} {c = c} {x = x} i hd e (says {c = d} j h fr) =
     let f = framed_inside (framed_at (same_tags i j) fr) hd e in
-    subst (λ q. Holds s r k w n q x) f.forms (subst (λ q. Holds s r k w n d q) f.inside (holds_at (same_kind i j) h))
+    subst (λ q. ContentsEncode s r k w n q x) f.forms (subst (λ q. ContentsEncode s r k w n d q) f.inside (holds_at (same_kind i j) h))
 
 is_0 : Is rows 0 (u1 ∷ []) a_boolean
 is_0 = record { found = refl }
@@ -48,25 +48,25 @@ head_or_0 [] = 0
 head_or_0 (x ∷ xs) = x
 
 -- 010101 is TRUE by the basic rules alone
-true_is_255 : {w : AbstractValue} {n : ℕ} {c : Bool} {x : List ℕ} → Holds rows Distinguished a_boolean w n c x → x ≡ 1 ∷ [] → ⊥
+true_is_255 : {w : AbstractValue} {n : ℕ} {c : Bool} {x : List ℕ} → ContentsEncode rows Distinguished a_boolean w n c x → x ≡ 1 ∷ [] → ⊥
 true_is_255 (leaf of_false) e = let h = ap head_or_0 e in omega arith
 true_is_255 (leaf (of_true l m f)) e = let h = ap head_or_0 e in omega arith
 
-pub not_der_true : (w : AbstractValue) (n : ℕ) → Says rows Distinguished 0 w n (1 ∷ 1 ∷ 1 ∷ []) → ⊥
+pub not_der_true : (w : AbstractValue) (n : ℕ) → EncodesTo rows Distinguished 0 w n (1 ∷ 1 ∷ 1 ∷ []) → ⊥
 unfolding identifier
 not_der_true w n a = true_is_255 (inside {x = 1 ∷ []} is_0 (short_header u1 false 1 (lit< tt)) refl a) refl
 
 -- which ask this whatever the order
-unsorted_true_is_255 : {w : AbstractValue} {n : ℕ} {c : Bool} {x : List ℕ} → Holds rows Unsorted a_boolean w n c x → x ≡ 1 ∷ [] → ⊥
+unsorted_true_is_255 : {w : AbstractValue} {n : ℕ} {c : Bool} {x : List ℕ} → ContentsEncode rows Unsorted a_boolean w n c x → x ≡ 1 ∷ [] → ⊥
 unsorted_true_is_255 (leaf of_false) e = let h = ap head_or_0 e in omega arith
 unsorted_true_is_255 (leaf (of_true l m f)) e = let h = ap head_or_0 e in omega arith
 
-pub not_unsorted_true : (w : AbstractValue) (n : ℕ) → Says rows Unsorted 0 w n (1 ∷ 1 ∷ 1 ∷ []) → ⊥
+pub not_unsorted_true : (w : AbstractValue) (n : ℕ) → EncodesTo rows Unsorted 0 w n (1 ∷ 1 ∷ 1 ∷ []) → ⊥
 unfolding identifier
 not_unsorted_true w n a = unsorted_true_is_255 (inside {x = 1 ∷ []} is_0 (short_header u1 false 1 (lit< tt)) refl a) refl
 
 -- 02020005 says nothing: the octets are not the fewest
-needless : {w : AbstractValue} {n : ℕ} {c : Bool} {x : List ℕ} → Holds rows Basic (an_integer free) w n c x → x ≡ 0 ∷ 5 ∷ [] → ⊥
+needless : {w : AbstractValue} {n : ℕ} {c : Bool} {x : List ℕ} → ContentsEncode rows Basic (an_integer free) w n c x → x ≡ 0 ∷ 5 ∷ [] → ⊥
 needless (leaf (of_integer a)) e = by a.is a.shortest e
   where
     by : {z : ℤ} {x : List ℕ} → TwosComplement z x → ((p : List ℕ) → TwosComplement z p → length x ≤ length p) → x ≡ 0 ∷ 5 ∷ [] → ⊥
@@ -78,7 +78,7 @@ needless (leaf (of_integer a)) e = by a.is a.shortest e
         let m : number_from_digits 256 x ≡ 5 = ap (number_from_digits 256) e in
         let p : 256 ^ length x ≡ 65536 = ap (λ q. 256 ^ length q) e in omega arith
 
-pub needless_octet : (w : AbstractValue) (n : ℕ) → Says rows Basic 1 w n (2 ∷ 2 ∷ 0 ∷ 5 ∷ []) → ⊥
+pub needless_octet : (w : AbstractValue) (n : ℕ) → EncodesTo rows Basic 1 w n (2 ∷ 2 ∷ 0 ∷ 5 ∷ []) → ⊥
 unfolding identifier
 needless_octet w n a = needless (inside {x = 0 ∷ 5 ∷ []} is_1 (short_header u2 false 2 (lit< tt)) refl a) refl
 
@@ -94,15 +94,15 @@ too_long {c = c} {x = x} (innermost {h = h} a) e =
     let s : h ≡ 2 ∷ 1 ∷ [] = shortest_only u2 c (length x) h a ∙ ap (λ q. shortest_header u2 q (length x)) r.forms ∙ ap (λ q. shortest_header u2 false q) r.counts in
     let l = ap length (sym r.headers ∙ s) in omega arith
 
-pub not_der_length : (w : AbstractValue) (n : ℕ) → Says rows Distinguished 1 w n (2 ∷ 129 ∷ 1 ∷ 5 ∷ []) → ⊥
+pub not_der_length : (w : AbstractValue) (n : ℕ) → EncodesTo rows Distinguished 1 w n (2 ∷ 129 ∷ 1 ∷ 5 ∷ []) → ⊥
 not_der_length w n (says i h fr) = too_long (framed_at (same_tags is_1 i) fr) refl
 
 -- 2300 says nothing: a constructed bit string has a segment
-no_segments : {w : AbstractValue} {n : ℕ} {c : Bool} {x : List ℕ} → Holds rows Basic (a_bit_string any_size) w n c x → c ≡ true → x ≡ [] → ⊥
+no_segments : {w : AbstractValue} {n : ℕ} {c : Bool} {x : List ℕ} → ContentsEncode rows Basic (a_bit_string any_size) w n c x → c ≡ true → x ≡ [] → ⊥
 no_segments (leaf (of_bits (whole_bits b) e f)) g h = cc
 no_segments (leaf (of_bits (cut_bits b) e f)) g h = segments_some b h
 
-pub no_segment_no_bits : (w : AbstractValue) (n : ℕ) → Says rows Basic 2 w n (35 ∷ 0 ∷ []) → ⊥
+pub no_segment_no_bits : (w : AbstractValue) (n : ℕ) → EncodesTo rows Basic 2 w n (35 ∷ 0 ∷ []) → ⊥
 unfolding identifier
 no_segment_no_bits w n a = no_segments (inside {x = []} is_2 (short_header u3 true 0 (lit< tt)) refl a) refl refl
 
@@ -129,10 +129,10 @@ uneven (bit_segment {c = c} {h = h} {p = p} {o = o} {x = x} hd ps m gs) e =
     let q = (split_front p (4 ∷ 160 ∷ []) o (3 ∷ 2 ∷ 0 ∷ 255 ∷ []) r.counts r.rest).0 in
     let l = four_bits ps r.forms q in omega arith
 
-pub uneven_segment : (w : AbstractValue) (n : ℕ) → Says rows Basic 2 w n (35 ∷ 8 ∷ 3 ∷ 2 ∷ 4 ∷ 160 ∷ 3 ∷ 2 ∷ 0 ∷ 255 ∷ []) → ⊥
+pub uneven_segment : (w : AbstractValue) (n : ℕ) → EncodesTo rows Basic 2 w n (35 ∷ 8 ∷ 3 ∷ 2 ∷ 4 ∷ 160 ∷ 3 ∷ 2 ∷ 0 ∷ 255 ∷ []) → ⊥
 unfolding identifier
 uneven_segment w n a = by (inside {x = 3 ∷ 2 ∷ 4 ∷ 160 ∷ 3 ∷ 2 ∷ 0 ∷ 255 ∷ []} is_2 (short_header u3 true 8 (lit< tt)) refl a) refl refl
   where
-    by : {w : AbstractValue} {n : ℕ} {c : Bool} {x : List ℕ} → Holds rows Basic (a_bit_string any_size) w n c x → c ≡ true → x ≡ 3 ∷ 2 ∷ 4 ∷ 160 ∷ 3 ∷ 2 ∷ 0 ∷ 255 ∷ [] → ⊥
+    by : {w : AbstractValue} {n : ℕ} {c : Bool} {x : List ℕ} → ContentsEncode rows Basic (a_bit_string any_size) w n c x → c ≡ true → x ≡ 3 ∷ 2 ∷ 4 ∷ 160 ∷ 3 ∷ 2 ∷ 0 ∷ 255 ∷ [] → ⊥
     by (leaf (of_bits (whole_bits b) e f)) g h = cc
     by (leaf (of_bits (cut_bits b) e f)) g h = uneven b h

@@ -23,18 +23,18 @@ module _ (R : List ℕ → List ℕ → Type 0) where
     at : Inserted x zs list
     ascends : Ascending R (p ∷ list)
 
-  put_behind : (p x : List ℕ) (zs : List (List ℕ)) → R p x → Ascending R (p ∷ zs) → AllByRecursion (Either R x) zs → Put p x zs
-  put_behind p x [] h a e = record { list = x ∷ []; at = here; ascends = ascending_more h ascending_one }
-  put_behind p x (z ∷ zs) h (ascending_more k a) e = ⊎_elim
+  put_after : (p x : List ℕ) (zs : List (List ℕ)) → R p x → Ascending R (p ∷ zs) → AllByRecursion (Either R x) zs → Put p x zs
+  put_after p x [] h a e = record { list = x ∷ []; at = here; ascends = ascending_more h ascending_one }
+  put_after p x (z ∷ zs) h (ascending_more k a) e = ⊎_elim
       (λ l. record { list = x ∷ z ∷ zs; at = here; ascends = ascending_more h (ascending_more l a) })
-      (λ g. (let r = put_behind z x zs g a e.1 in record { list = z ∷ r.list; at = there r.at; ascends = ascending_more k r.ascends }))
+      (λ g. (let r = put_after z x zs g a e.1 in record { list = z ∷ r.list; at = there r.at; ascends = ascending_more k r.ascends }))
       e.0
 
   put_in : (x : List ℕ) (xs zs : List (List ℕ)) → Permutes xs zs → Ascending R zs → AllByRecursion (Either R x) zs → Sorted' R (x ∷ xs)
   put_in x xs [] p a e = record { list = x ∷ []; permutes = permutes_more p here; ascends = ascending_one }
   put_in x xs (z ∷ zs) p a e = ⊎_elim
       (λ l. record { list = x ∷ z ∷ zs; permutes = permutes_more p here; ascends = ascending_more l a })
-      (λ g. (let r = put_behind z x zs g a e.1 in record { list = z ∷ r.list; permutes = permutes_more p (there r.at); ascends = r.ascends }))
+      (λ g. (let r = put_after z x zs g a e.1 in record { list = z ∷ r.list; permutes = permutes_more p (there r.at); ascends = r.ascends }))
       e.0
 
   pub sorted : (xs : List (List ℕ)) → AllEither R xs → Sorted' R xs

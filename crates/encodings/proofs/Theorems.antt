@@ -5,19 +5,19 @@ use Rattle.asn_base.specs.Abstract.{AbstractValue}
 use Rattle.asn_base.specs.Types.{Resolved}
 use Rattle.asn_base.specs.Typed.{IsValueWithoutNodes}
 use Rattle.asn_base.specs.Same.{Alike, Same}
-use Rattle.asn_base.specs.Tags.{AllTagged, AllTellable}
+use Rattle.asn_base.specs.Tags.{AllTagged, AllHaveDistinctTags}
 use Rattle.encodings.specs.Rules.{Rules, Basic, Unsorted, Distinguished}
-use Rattle.encodings.specs.Encoding.{Says, EncodesBy, Ber, Der, Shortest}
+use Rattle.encodings.specs.Encoding.{EncodesTo, EncodesBy, Ber, Der, Shortest}
 use Rattle.encodings.proofs.Least.{least}
 use Rattle.encodings.proofs.Only.{only}
-use Rattle.encodings.proofs.Weaker.{basic_of}
+use Rattle.encodings.specs.proving.Weaker.{basic_of}
 use Rattle.encodings.proofs.Units.{says_unit, units_front}
 use Rattle.encodings.specs.Levels.{levels}
 use Rattle.encodings.proofs.Shortests.{lt_or_ge}
 use Rattle.encodings.proofs.Unique.{says_same}
 
 -- what octets say of a value by the distinguished rules is one of its encodings by them
-pub is_der : ((s : List Resolved) (t : ℕ) (v : AbstractValue) → IsValueWithoutNodes s t v → Same s t v v) → (s : List Resolved) (t : ℕ) (v : AbstractValue) (o : List ℕ) → IsValueWithoutNodes s t v → Says s Distinguished t v 0 o → Der s t v 0 o
+pub is_der : ((s : List Resolved) (t : ℕ) (v : AbstractValue) → IsValueWithoutNodes s t v → Same s t v v) → (s : List Resolved) (t : ℕ) (v : AbstractValue) (o : List ℕ) → IsValueWithoutNodes s t v → EncodesTo s Distinguished t v 0 o → Der s t v 0 o
 is_der self s t v o a b = (v, self s t v a, b)
 
 module _ (turn : (s : List Resolved) (t : ℕ) (v w : AbstractValue) → Alike s t v w → Alike s t w v) (follow : (s : List Resolved) (t : ℕ) (v w x : AbstractValue) → Alike s t v w → Alike s t w x → Alike s t v x) where
@@ -39,32 +39,32 @@ module _ (turn : (s : List Resolved) (t : ℕ) (v w : AbstractValue) → Alike s
   }
 
 -- octets say one value
-pub one_value : (s : List Resolved) (r : Rules) (t j k : ℕ) (v w : AbstractValue) (o : List ℕ) → AllTagged s → AllTellable s → Says s r t v j o → Says s r t w k o → (v ≡ w) × (j ≡ k)
+pub one_value : (s : List Resolved) (r : Rules) (t j k : ℕ) (v w : AbstractValue) (o : List ℕ) → AllTagged s → AllHaveDistinctTags s → EncodesTo s r t v j o → EncodesTo s r t w k o → (v ≡ w) × (j ≡ k)
 one_value s r t j k v w o all tell a b = let e = says_same s r r all tell a b refl in (e.values, e.counts)
 
 module _ (turn : (s : List Resolved) (t : ℕ) (v w : AbstractValue) → Same s t v w → Same s t w v) (follow : (s : List Resolved) (t : ℕ) (v w x : AbstractValue) → Same s t v w → Same s t w x → Same s t v x) where
   joined : (s : List Resolved) (t : ℕ) (v w x y : AbstractValue) → Same s t v x → Same s t w y → x ≡ y → Same s t v w
   joined s t v w x y a b e = follow s t v x w a (subst (λ q. Same s t q w) (sym e) (turn s t w y b))
 
-  pub one_ber : (s : List Resolved) (t j k : ℕ) (v w : AbstractValue) (o : List ℕ) → AllTagged s → AllTellable s → Ber s t v j o → Ber s t w k o → Same s t v w × (j ≡ k)
+  pub one_ber : (s : List Resolved) (t j k : ℕ) (v w : AbstractValue) (o : List ℕ) → AllTagged s → AllHaveDistinctTags s → Ber s t v j o → Ber s t w k o → Same s t v w × (j ≡ k)
   one_ber s t j k v w o all tell a b =
       let e = one_value s Basic t j k a.0 b.0 o all tell a.2 b.2 in
       (joined s t v w a.0 b.0 a.1 b.1 e.0, e.1)
 
-  pub same_of_der : (s : List Resolved) (t j k : ℕ) (v w : AbstractValue) (o : List ℕ) → AllTagged s → AllTellable s → Der s t v j o → Der s t w k o → Same s t v w × (j ≡ k)
+  pub same_of_der : (s : List Resolved) (t j k : ℕ) (v w : AbstractValue) (o : List ℕ) → AllTagged s → AllHaveDistinctTags s → Der s t v j o → Der s t w k o → Same s t v w × (j ≡ k)
   same_of_der s t j k v w o all tell a b =
       let e = one_value s Distinguished t j k a.0 b.0 o all tell a.2 b.2 in
       (joined s t v w a.0 b.0 a.1 b.1 e.0, e.1)
 
-pub none_begins_another : (s : List Resolved) (q r : Rules) (t u j k : ℕ) (v w : AbstractValue) (o p x y : List ℕ) → AllTagged s → Says s q t v j o → Says s r u w k p → o ++ x ≡ p ++ y → (o ≡ p) × (x ≡ y)
+pub none_begins_another : (s : List Resolved) (q r : Rules) (t u j k : ℕ) (v w : AbstractValue) (o p x y : List ℕ) → AllTagged s → EncodesTo s q t v j o → EncodesTo s r u w k p → o ++ x ≡ p ++ y → (o ≡ p) × (x ≡ y)
 none_begins_another s q r t u j k v w o p x y all a b e = units_front o p x y (says_unit all a) (says_unit all b) e
 
 -- an encoding with octets after it isn't an encoding
-pub nothing_behind : (o p x : List ℕ) → p ≡ o ++ x → ((y : List ℕ) → o ++ x ≡ p ++ y → (o ≡ p) × (x ≡ y)) → x ≡ []
-nothing_behind o p x e f = (f [] (sym e ∙ sym (append-nil p))).1
+pub nothing_after : (o p x : List ℕ) → p ≡ o ++ x → ((y : List ℕ) → o ++ x ≡ p ++ y → (o ≡ p) × (x ≡ y)) → x ≡ []
+nothing_after o p x e f = (f [] (sym e ∙ sym (append-nil p))).1
 
 -- by whatever rules octets are read, the levels of headers are as many
-pub one_depth : (s : List Resolved) (q r : Rules) (t j k : ℕ) (v w : AbstractValue) (o : List ℕ) (d : Says s q t v j o) (e : Says s r t w k o) → AllTagged s → AllTellable s → levels d ≡ levels e
+pub one_depth : (s : List Resolved) (q r : Rules) (t j k : ℕ) (v w : AbstractValue) (o : List ℕ) (d : EncodesTo s q t v j o) (e : EncodesTo s r t w k o) → AllTagged s → AllHaveDistinctTags s → levels d ≡ levels e
 one_depth s q r t j k v w o d e all tell = (says_same s q r all tell d e refl).depths
 
 -- what has an encoding has one by the distinguished rules, of no more octets

@@ -5,10 +5,10 @@ use Rattle.std.specs.List.{AllByRecursion}
 use Rattle.asn_base.specs.declared.tag.Tag.{Tag}
 use Rattle.asn_base.specs.Abstract.{AbstractValue, fields, list, alternative, Row, absent}
 use Rattle.asn_base.specs.Types.{Kind, Alternative, Component, Resolved}
-use Rattle.asn_base.specs.Tags.{First, AreApart, AllApart, is_mandatory, first_run, RunsApart, IsTellable, AllTellable, IsChoice, AllTagged}
+use Rattle.asn_base.specs.Tags.{First, AreApart, AllApart, is_mandatory, first_run, RunsApart, HasDistinctTags, AllHaveDistinctTags, IsChoice, AllTagged}
 use Rattle.encodings.specs.Rules.{Rules}
 use Rattle.encodings.specs.Orders.{BeginsWith, Inserted, here, there, Permutes, permutes_none, permutes_more, Merges, merges_none, merges_first, merges_second}
-use Rattle.encodings.specs.Encoding.{Unknown, no_unknown, unknown, UnknownIf, closed, extensible, any_mandatory, last_run, Says, says, Holds, leaf, sequence, set, sequence_of, set_of, choice, Members, no_member, left_out, member, Elements, no_element, element}
+use Rattle.encodings.specs.Encoding.{Unknown, no_unknown, unknown, UnknownIf, closed, extensible, any_mandatory, last_run, EncodesTo, says, ContentsEncode, leaf, sequence, set, sequence_of, set_of, choice, Members, no_member, left_out, member, Elements, no_element, element}
 use Rattle.encodings.specs.Levels.{unknown_levels, levels, inner_levels, member_levels, element_levels}
 use Rattle.encodings.proofs.Units.{IsUnit, no_leaf, bare_is}
 use Rattle.encodings.proofs.LeafValues.{contents_value}
@@ -258,7 +258,7 @@ pub record SameValue (v w : AbstractValue) (j n l m : ℕ) : Type 0 where
   pub counts : j ≡ n
   pub depths : l ≡ m
 
-choice_form : {s : List Resolved} {r : Rules} {k : Kind} {n : ℕ} {v : AbstractValue} {c : Bool} {x : List ℕ} → IsChoice k → Holds s r k v n c x → c ≡ true
+choice_form : {s : List Resolved} {r : Rules} {k : Kind} {n : ℕ} {v : AbstractValue} {c : Bool} {x : List ℕ} → IsChoice k → ContentsEncode s r k v n c x → c ≡ true
 choice_form h (leaf con) = absurd (no_leaf h con)
 choice_form h (sequence ms u) = refl
 choice_form h (set ms p st u m) = refl
@@ -295,15 +295,15 @@ unknown_same (extensible (unknown x h b f u)) (extensible no_unknown) e = absurd
 unknown_same (extensible (unknown x h b f u)) (extensible (unknown x' h' b' f' u')) e = refl
 
 -- the same at an equal kind or type, with as many levels
-held_at : {s : List Resolved} {r : Rules} {k k' : Kind} {w : AbstractValue} {n : ℕ} {c : Bool} {x : List ℕ} → k' ≡ k → (h : Holds s r k' w n c x) → (g : Holds s r k w n c x) × (inner_levels g ≡ inner_levels h)
-held_at {s} {r} {w = w} {n = n} {c = c} {x = x} e h = subst (λ q. (g : Holds s r q w n c x) × (inner_levels g ≡ inner_levels h)) e (h, refl)
+held_at : {s : List Resolved} {r : Rules} {k k' : Kind} {w : AbstractValue} {n : ℕ} {c : Bool} {x : List ℕ} → k' ≡ k → (h : ContentsEncode s r k' w n c x) → (g : ContentsEncode s r k w n c x) × (inner_levels g ≡ inner_levels h)
+held_at {s} {r} {w = w} {n = n} {c = c} {x = x} e h = subst (λ q. (g : ContentsEncode s r q w n c x) × (inner_levels g ≡ inner_levels h)) e (h, refl)
 
-said_at : {s : List Resolved} {r : Rules} {t u n : ℕ} {w : AbstractValue} {x : List ℕ} → u ≡ t → (a : Says s r u w n x) → (b : Says s r t w n x) × (levels b ≡ levels a)
-said_at {s} {r} {n = n} {w = w} {x = x} e a = subst (λ q. (b : Says s r q w n x) × (levels b ≡ levels a)) e (a, refl)
+said_at : {s : List Resolved} {r : Rules} {t u n : ℕ} {w : AbstractValue} {x : List ℕ} → u ≡ t → (a : EncodesTo s r u w n x) → (b : EncodesTo s r t w n x) × (levels b ≡ levels a)
+said_at {s} {r} {n = n} {w = w} {x = x} e a = subst (λ q. (b : EncodesTo s r q w n x) × (levels b ≡ levels a)) e (a, refl)
 
-module _ (s : List Resolved) (r r' : Rules) (all : AllTagged s) (tell : AllTellable s) where
+module _ (s : List Resolved) (r r' : Rules) (all : AllTagged s) (tell : AllHaveDistinctTags s) where
   mutual
-    pub says_same : {t j n : ℕ} {v w : AbstractValue} {o p : List ℕ} (a : Says s r t v j o) (b : Says s r' t w n p) → o ≡ p → SameValue v w j n (levels a) (levels b)
+    pub says_same : {t j n : ℕ} {v w : AbstractValue} {o p : List ℕ} (a : EncodesTo s r t v j o) (b : EncodesTo s r' t w n p) → o ≡ p → SameValue v w j n (levels a) (levels b)
     says_same (says {tags = []} i h fr) (says k g fr') e =
         let g' = held_at (same_kind i k) g in
         let is = all _ _ i in
@@ -316,7 +316,7 @@ module _ (s : List Resolved) (r r' : Rules) (all : AllTagged s) (tell : AllTella
         let a = holds_same (tell _ _ _ i) h g'.0 c.forms c.inside in
         record { values = a.values; counts = a.counts; depths = (let d = a.depths in let m = g'.1 in let n = ap length (same_tags i k) in omega arith) }
 
-    holds_same : {k : Kind} {j n : ℕ} {v w : AbstractValue} {c d : Bool} {x y : List ℕ} → IsTellable s k → (a : Holds s r k v j c x) (b : Holds s r' k w n d y) → c ≡ d → x ≡ y → SameValue v w j n (inner_levels a) (inner_levels b)
+    holds_same : {k : Kind} {j n : ℕ} {v w : AbstractValue} {c d : Bool} {x y : List ℕ} → HasDistinctTags s k → (a : ContentsEncode s r k v j c x) (b : ContentsEncode s r' k w n d y) → c ≡ d → x ≡ y → SameValue v w j n (inner_levels a) (inner_levels b)
     holds_same q (leaf con) (leaf con') f e = record { values = contents_value con con' f e; counts = refl; depths = contents_levels con con' f e }
     holds_same q (leaf con) (sequence ms' u') f e = elim con [ ]
     holds_same q (leaf con) (set ms' p' st' u' m') f e = elim con [ ]

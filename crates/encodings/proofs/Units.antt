@@ -8,7 +8,7 @@ use Rattle.encodings.specs.Rules.{Rules}
 use Rattle.encodings.specs.Header.{Header}
 use Rattle.encodings.specs.Contents.{Contents, of_false, of_true, of_integer, of_enumerated, of_bits, of_named_bits, of_octets, of_null, of_oid, of_relative_oid, of_utf8, of_restricted}
 use Rattle.encodings.specs.Orders.{AtMost, BeginsWith, InTagOrder}
-use Rattle.encodings.specs.Encoding.{Framed, bare, innermost, outer, Says, says, Holds, leaf, sequence, set, sequence_of, set_of, choice}
+use Rattle.encodings.specs.Encoding.{Framed, bare, innermost, outer, EncodesTo, says, ContentsEncode, leaf, sequence, set, sequence_of, set_of, choice}
 use Rattle.encodings.proofs.Fronts.{split_front}
 use Rattle.encodings.proofs.Identifiers.{any_front}
 
@@ -43,11 +43,11 @@ pub bare_is : {r : Rules} {c : Bool} {x o : List ℕ} → Framed r [] c x o → 
 bare_is bare = refl
 
 mutual
-  pub says_unit : {s : List Resolved} {r : Rules} {t n : ℕ} {v : AbstractValue} {o : List ℕ} → AllTagged s → Says s r t v n o → IsUnit o
+  pub says_unit : {s : List Resolved} {r : Rules} {t n : ℕ} {v : AbstractValue} {o : List ℕ} → AllTagged s → EncodesTo s r t v n o → IsUnit o
   says_unit all (says {tags = []} i h fr) = subst IsUnit (sym (bare_is fr)) (holds_unit all (all _ _ i) h)
   says_unit all (says {tags = g ∷ ts} i h fr) = framed_unit fr
 
-  holds_unit : {s : List Resolved} {r : Rules} {k : Kind} {n : ℕ} {v : AbstractValue} {c : Bool} {x : List ℕ} → AllTagged s → IsChoice k → Holds s r k v n c x → IsUnit x
+  holds_unit : {s : List Resolved} {r : Rules} {k : Kind} {n : ℕ} {v : AbstractValue} {c : Bool} {x : List ℕ} → AllTagged s → IsChoice k → ContentsEncode s r k v n c x → IsUnit x
   holds_unit all h (leaf con) = absurd (no_leaf h con)
   holds_unit all h (sequence ms u) = absurd h
   holds_unit all h (set ms p st u m) = absurd h

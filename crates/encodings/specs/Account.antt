@@ -44,11 +44,11 @@ mutual
 
 -- The numbers z are those of octets h, the header with the fewest octets of tag t and length n (X.690, clause 10.1).
 -- Flag c says that the encoding is constructed.
-pub record HeaderTold (t : Tag) (c : Bool) (n : ℕ) (h : Octets) (z : Numbers) : Type 0 where
+pub record HeaderHasNumbers (t : Tag) (c : Bool) (n : ℕ) (h : Octets) (z : Numbers) : Type 0 where
   pub is_header : HeaderBy Distinguished t c n h
-  pub identifier_told : z.identifier ≡ length (identifier t.class t.number c)
-  pub size_told : z.identifier + z.size ≡ length h
-  pub contents_told : z.contents ≡ n
+  pub identifier_counted : z.identifier ≡ length (identifier t.class t.number c)
+  pub size_counted : z.identifier + z.size ≡ length h
+  pub contents_counted : z.contents ≡ n
 
 -- The octets are the contents x after the headers of these tags, the outermost first, and the account has the numbers
 -- of these headers (X.690, clause 8.14). All but the innermost header are explicit, and so is each header of a CHOICE.
@@ -57,11 +57,11 @@ pub data Headed : List Tag → Bool → Octets → Inside → Octets → Account
   -- an untagged CHOICE has the account of its alternative
   headed_bare : {c : Bool} {x : Octets} {a : Account} → Headed [] c x (wrap_row a) x a
   headed_innermost : {t : Tag} {c : Bool} {h x : Octets} {z : Numbers} {i : Inside}
-      → HeaderTold t c (length x) h z
+      → HeaderHasNumbers t c (length x) h z
       → Headed (t ∷ []) c x i (h ++ x) (header z i)
   headed_outer : {t u : Tag} {ts : List Tag} {c : Bool} {h x y : Octets} {z : Numbers} {i : Inside} {a : Account}
       → Headed (u ∷ ts) c x i y a
-      → HeaderTold t true (length y) h z
+      → HeaderHasNumbers t true (length y) h z
       → Headed (t ∷ u ∷ ts) c x i (h ++ y) (header z (wrap_row a))
 
 -- the lists are the places of n members, from 0, and their inverse, the member at each of the n places
@@ -74,82 +74,82 @@ pub record ArePlaces (n : ℕ) (places inverse : List ℕ) : Type 0 where
   pub back : (i j : ℕ) → slice_get inverse j ≡ Some i → slice_get places i ≡ Some j
 
 -- zs are the encodings xs of the members, each at its place
-pub record StandAt (places inverse : List ℕ) (xs zs : Encodings) : Type 0 where
+pub record ArePlacedAt (places inverse : List ℕ) (xs zs : Encodings) : Type 0 where
   pub are_places : ArePlaces (length xs) places inverse
   pub as_many : length zs ≡ length xs
   pub each : (i j : ℕ) → slice_get places i ≡ Some j → slice_get zs j ≡ slice_get xs i
 
 mutual
   -- account a describes how octets o encode v, a value of type t of schema s
-  pub data Tells (s : List Resolved) : TypeNumber → AbstractValue → Octets → Account → Type 0 where
-    tells : {t : TypeNumber} {tags : List Tag} {k : Kind} {v : AbstractValue} {c : Bool} {x o : Octets} {i : Inside}
+  pub data Describes (s : List Resolved) : TypeNumber → AbstractValue → Octets → Account → Type 0 where
+    describes : {t : TypeNumber} {tags : List Tag} {k : Kind} {v : AbstractValue} {c : Bool} {x o : Octets} {i : Inside}
         {a : Account}
         → Is s t tags k
-        → TellsInside s k v c x i
+        → ContentsHaveRows s k v c x i
         → Headed tags c x i o a
-        → Tells s t v o a
+        → Describes s t v o a
 
   -- what is within a header describes how contents octets x encode v, a value of kind k; the flag says that they are
   -- constructed
-  pub data TellsInside (s : List Resolved) : Kind → AbstractValue → Bool → Octets → Inside → Type 0 where
+  pub data ContentsHaveRows (s : List Resolved) : Kind → AbstractValue → Bool → Octets → Inside → Type 0 where
     -- the contents are those of the distinguished rules; a string with named bits has no zeros at its end
-    leaf_told : {k : Kind} {v w : AbstractValue} {c : Bool} {x : Octets}
+    leaf_listed : {k : Kind} {v w : AbstractValue} {c : Bool} {x : Octets}
         → IsLeaf k
         → AlikeBy s k v w
         → Contents Distinguished k w c x
-        → TellsInside s k v c x leaf_row
-    sequence_told : {e : Bool} {cs : List Component} {vs : Row} {xs : Encodings} {rs : Rows}
-        → TellsMembers s cs vs xs rs
-        → TellsInside s (a_sequence e cs) (fields vs) true (concat xs) (seq_row rs)
-    set_told : {e : Bool} {cs : List Component} {vs : Row} {xs zs : Encodings} {rs : Rows} {p q : List ℕ}
-        → TellsMembers s cs vs xs rs
-        → StandAt p q xs zs
-        → TellsInside s (a_set e cs) (fields vs) true (concat zs) (set_row rs p q)
-    sequence_of_told : {u : TypeNumber} {c : Constraint} {vs : Row} {xs : Encodings} {rs : Rows}
-        → TellsElements s u vs xs rs
-        → TellsInside s (a_sequence_of c u) (list vs) true (concat xs) (seqof_row rs)
-    set_of_told : {u : TypeNumber} {c : Constraint} {vs : Row} {xs zs : Encodings} {rs : Rows} {p q : List ℕ}
-        → TellsElements s u vs xs rs
-        → StandAt p q xs zs
-        → TellsInside s (a_set_of c u) (list vs) true (concat zs) (setof_row rs p q)
+        → ContentsHaveRows s k v c x leaf_row
+    sequence_listed : {e : Bool} {cs : List Component} {vs : Row} {xs : Encodings} {rs : Rows}
+        → MembersHaveRows s cs vs xs rs
+        → ContentsHaveRows s (a_sequence e cs) (fields vs) true (concat xs) (seq_row rs)
+    set_listed : {e : Bool} {cs : List Component} {vs : Row} {xs zs : Encodings} {rs : Rows} {p q : List ℕ}
+        → MembersHaveRows s cs vs xs rs
+        → ArePlacedAt p q xs zs
+        → ContentsHaveRows s (a_set e cs) (fields vs) true (concat zs) (set_row rs p q)
+    sequence_of_listed : {u : TypeNumber} {c : Constraint} {vs : Row} {xs : Encodings} {rs : Rows}
+        → ElementsHaveRows s u vs xs rs
+        → ContentsHaveRows s (a_sequence_of c u) (list vs) true (concat xs) (seqof_row rs)
+    set_of_listed : {u : TypeNumber} {c : Constraint} {vs : Row} {xs zs : Encodings} {rs : Rows} {p q : List ℕ}
+        → ElementsHaveRows s u vs xs rs
+        → ArePlacedAt p q xs zs
+        → ContentsHaveRows s (a_set_of c u) (list vs) true (concat zs) (setof_row rs p q)
     -- alternatives are counted over root and additions
-    choice_told : {i : ℕ} {e : Bool} {root more : List Alternative} {b : Alternative} {v : AbstractValue} {x : Octets}
+    choice_listed : {i : ℕ} {e : Bool} {root more : List Alternative} {b : Alternative} {v : AbstractValue} {x : Octets}
         {a : Account}
         → slice_get (root ++ more) i ≡ Some b
-        → Tells s b.type v x a
-        → TellsInside s (a_choice root e more) (alternative i v) true x (wrap_row a)
+        → Describes s b.type v x a
+        → ContentsHaveRows s (a_choice root e more) (alternative i v) true x (wrap_row a)
 
   -- The rows describe how the encodings are those of the components, in order of definition. A component that is the
   -- same as its DEFAULT, or absent with a DEFAULT, has the row `default_row`. Any other component that is absent has
   -- `absent_row`. The rest are written.
-  pub data TellsMembers (s : List Resolved) : List Component → Row → Encodings → Rows → Type 0 where
-    no_member_told : TellsMembers s [] end [] no_row
-    absent_told : {c : Component} {cs : List Component} {vs : Row} {xs : Encodings} {rs : Rows}
+  pub data MembersHaveRows (s : List Resolved) : List Component → Row → Encodings → Rows → Type 0 where
+    no_member_listed : MembersHaveRows s [] end [] no_row
+    absent_listed : {c : Component} {cs : List Component} {vs : Row} {xs : Encodings} {rs : Rows}
         → ((d : AbstractValue) → c.presence ≡ default d → ⊥)
-        → TellsMembers s cs vs xs rs
-        → TellsMembers s (c ∷ cs) (absent vs) xs (absent_row rs)
-    absent_default_told : {c : Component} {cs : List Component} {vs : Row} {xs : Encodings} {rs : Rows}
+        → MembersHaveRows s cs vs xs rs
+        → MembersHaveRows s (c ∷ cs) (absent vs) xs (absent_row rs)
+    absent_default_listed : {c : Component} {cs : List Component} {vs : Row} {xs : Encodings} {rs : Rows}
         → (d : AbstractValue)
         → c.presence ≡ default d
-        → TellsMembers s cs vs xs rs
-        → TellsMembers s (c ∷ cs) (absent vs) xs (default_row rs)
-    default_told : {c : Component} {cs : List Component} {v : AbstractValue} {vs : Row} {xs : Encodings} {rs : Rows}
+        → MembersHaveRows s cs vs xs rs
+        → MembersHaveRows s (c ∷ cs) (absent vs) xs (default_row rs)
+    default_listed : {c : Component} {cs : List Component} {v : AbstractValue} {vs : Row} {xs : Encodings} {rs : Rows}
         → IsDefault s c v  -- 11.5
-        → TellsMembers s cs vs xs rs
-        → TellsMembers s (c ∷ cs) (present v vs) xs (default_row rs)
-    member_told : {c : Component} {cs : List Component} {v : AbstractValue} {vs : Row} {x : Octets} {xs : Encodings}
+        → MembersHaveRows s cs vs xs rs
+        → MembersHaveRows s (c ∷ cs) (present v vs) xs (default_row rs)
+    member_listed : {c : Component} {cs : List Component} {v : AbstractValue} {vs : Row} {x : Octets} {xs : Encodings}
         {a : Account} {rs : Rows}
         → (IsDefault s c v → ⊥)
-        → Tells s c.type v x a
-        → TellsMembers s cs vs xs rs
-        → TellsMembers s (c ∷ cs) (present v vs) (x ∷ xs) (written a rs)
+        → Describes s c.type v x a
+        → MembersHaveRows s cs vs xs rs
+        → MembersHaveRows s (c ∷ cs) (present v vs) (x ∷ xs) (written a rs)
 
   -- the rows describe how the encodings are those of the elements, all of type u, in the order of the value; each is
   -- written
-  pub data TellsElements (s : List Resolved) : TypeNumber → Row → Encodings → Rows → Type 0 where
-    no_element_told : {u : TypeNumber} → TellsElements s u end [] no_row
-    element_told : {u : TypeNumber} {v : AbstractValue} {vs : Row} {x : Octets} {xs : Encodings} {a : Account}
+  pub data ElementsHaveRows (s : List Resolved) : TypeNumber → Row → Encodings → Rows → Type 0 where
+    no_element_listed : {u : TypeNumber} → ElementsHaveRows s u end [] no_row
+    element_listed : {u : TypeNumber} {v : AbstractValue} {vs : Row} {x : Octets} {xs : Encodings} {a : Account}
         {rs : Rows}
-        → Tells s u v x a
-        → TellsElements s u vs xs rs
-        → TellsElements s u (present v vs) (x ∷ xs) (written a rs)
+        → Describes s u v x a
+        → ElementsHaveRows s u vs xs rs
+        → ElementsHaveRows s u (present v vs) (x ∷ xs) (written a rs)

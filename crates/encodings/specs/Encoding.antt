@@ -58,23 +58,23 @@ IsDefault s c w = (d : AbstractValue) × (c.presence ≡ default d) × Alike s c
 
 mutual
   -- by rules r the octets encode exactly w, a value of type t of schema s, with n unknown additions in it
-  pub data Says (s : List Resolved) (r : Rules) : TypeNumber → AbstractValue → ℕ → Octets → Type 0 where
+  pub data EncodesTo (s : List Resolved) (r : Rules) : TypeNumber → AbstractValue → ℕ → Octets → Type 0 where
     -- the contents are in the headers of the type's tags
     says : {t : TypeNumber} {n : ℕ} {tags : List Tag} {k : Kind} {w : AbstractValue} {c : Bool} {x o : Octets}
         → Is s t tags k
-        → Holds s r k w n c x
+        → ContentsEncode s r k w n c x
         → Framed r tags c x o
-        → Says s r t w n o
+        → EncodesTo s r t w n o
 
   -- By rules r the contents octets x encode exactly w, a value of kind k, with n unknown additions (X.690, clauses 8.2
   -- to 8.13). The flag says that they are constructed.
-  pub data Holds (s : List Resolved) (r : Rules) : Kind → AbstractValue → ℕ → Bool → Octets → Type 0 where
-    leaf : {k : Kind} {w : AbstractValue} {c : Bool} {x : Octets} → Contents r k w c x → Holds s r k w 0 c x
+  pub data ContentsEncode (s : List Resolved) (r : Rules) : Kind → AbstractValue → ℕ → Bool → Octets → Type 0 where
+    leaf : {k : Kind} {w : AbstractValue} {c : Bool} {x : Octets} → Contents r k w c x → ContentsEncode s r k w 0 c x
     -- the components are in order of definition, and unknown additions are at the end
     sequence : {j k : ℕ} {e : Bool} {cs : List Component} {ws : Row} {xs us : Encodings}
         → Members s r cs ws j xs  -- 8.9.2, 8.9.3
         → UnknownIf s (last_run cs) e k us
-        → Holds s r (a_sequence e cs) (fields ws) (j + k) true (concat (xs ++ us))
+        → ContentsEncode s r (a_sequence e cs) (fields ws) (j + k) true (concat (xs ++ us))
     -- the components are in any order, by the distinguished rules in that of their tags; unknown additions are anywhere
     set : {j k : ℕ} {e : Bool} {cs : List Component} {ws : Row} {xs zs us ys : Encodings}
         → Members s r cs ws j xs  -- 8.11.2, 8.11.3
@@ -82,21 +82,21 @@ mutual
         → Sorted r (Ascending InTagOrder zs)  -- 10.3
         → UnknownIf s cs e k us
         → Merges zs us ys
-        → Holds s r (a_set e cs) (fields ws) (j + k) true (concat ys)
+        → ContentsEncode s r (a_set e cs) (fields ws) (j + k) true (concat ys)
     -- the elements are in the order of the value
     sequence_of : {u : TypeNumber} {n : ℕ} {c : Constraint} {ws : Row} {xs : Encodings}
         → Elements s r u ws n xs  -- 8.10.2, 8.10.3
-        → Holds s r (a_sequence_of c u) (list ws) n true (concat xs)
+        → ContentsEncode s r (a_sequence_of c u) (list ws) n true (concat xs)
     -- the elements are in the order of the value; by the distinguished rules this is the order of their encodings
     set_of : {u : TypeNumber} {n : ℕ} {c : Constraint} {ws : Row} {xs : Encodings}
         → Elements s r u ws n xs  -- 8.12.2, 8.12.3
         → Sorted r (Ascending AtMost xs)  -- 11.6
-        → Holds s r (a_set_of c u) (list ws) n true (concat xs)
+        → ContentsEncode s r (a_set_of c u) (list ws) n true (concat xs)
     -- the contents are the encoding of the alternative, after explicit tags if there are any
     choice : {i n : ℕ} {e : Bool} {root more : List Alternative} {a : Alternative} {w : AbstractValue} {x : Octets}
         → slice_get (root ++ more) i ≡ Some a
-        → Says s r a.type w n x  -- 8.13
-        → Holds s r (a_choice root e more) (alternative i w) n true x
+        → EncodesTo s r a.type w n x  -- 8.13
+        → ContentsEncode s r (a_choice root e more) (alternative i w) n true x
 
   -- The encodings, in octets, are those of the components that are present, in order of definition, mandatory ones
   -- among them (X.690, clauses 8.9 and 8.11). By the distinguished rules no component is the same as its DEFAULT
@@ -109,7 +109,7 @@ mutual
         → Members s r (c ∷ cs) (absent ws) n xs
     member : {c : Component} {cs : List Component} {w : AbstractValue} {ws : Row} {j n : ℕ} {x : Octets}
         {xs : Encodings}
-        → Says s r c.type w j x
+        → EncodesTo s r c.type w j x
         → Strictly r (j ≡ 0 → IsDefault s c w → ⊥)  -- 11.5
         → Members s r cs ws n xs
         → Members s r (c ∷ cs) (present w ws) (j + n) (x ∷ xs)
@@ -119,13 +119,13 @@ mutual
   pub data Elements (s : List Resolved) (r : Rules) : TypeNumber → Row → ℕ → Encodings → Type 0 where
     no_element : {u : TypeNumber} → Elements s r u end 0 []
     element : {u : TypeNumber} {w : AbstractValue} {ws : Row} {j n : ℕ} {x : Octets} {xs : Encodings}
-        → Says s r u w j x
+        → EncodesTo s r u w j x
         → Elements s r u ws n xs
         → Elements s r u (present w ws) (j + n) (x ∷ xs)
 
 -- By rules r the octets encode exactly a value that is the same as v, of type t of schema s, with k unknown additions.
 abbrev pub EncodesBy : Rules → List Resolved → TypeNumber → AbstractValue → ℕ → Octets → Type 0
-EncodesBy r s t v k o = (w : AbstractValue) × Same s t v w × Says s r t w k o
+EncodesBy r s t v k o = (w : AbstractValue) × Same s t v w × EncodesTo s r t w k o
 
 -- by the basic rules the octets encode v, a value of type t of schema s, with k unknown additions (X.690, clause 8)
 abbrev pub Ber : List Resolved → TypeNumber → AbstractValue → ℕ → Octets → Type 0

@@ -8,7 +8,7 @@ use Rattle.encodings.specs.Strings.{Pieces, whole, cut, Segments, no_segment, se
 use Rattle.encodings.specs.Strings.{BitSegments, last_segment, bit_segment}
 use Rattle.encodings.specs.Contents.{Contents, of_false, of_true, of_integer, of_enumerated, of_bits, of_named_bits}
 use Rattle.encodings.specs.Contents.{of_octets, of_null, of_oid, of_relative_oid, of_utf8, of_restricted}
-use Rattle.encodings.specs.Encoding.{no_unknown, unknown, UnknownIf, closed, extensible, Says, says, Holds, leaf}
+use Rattle.encodings.specs.Encoding.{no_unknown, unknown, UnknownIf, closed, extensible, EncodesTo, says, ContentsEncode, leaf}
 use Rattle.encodings.specs.Encoding.{sequence, set, sequence_of, set_of, choice, Members, no_member, left_out, member}
 use Rattle.encodings.specs.Encoding.{Elements, no_element, element}
 
@@ -62,12 +62,12 @@ unknown_levels (extensible (unknown x h b f u)) = 1
 abbrev mutual
   -- the levels of headers in the octets of an encoding of type t, one for each tag of the type, and those within the
   -- contents (X.690, clause 8.1.1)
-  pub levels : {s : List Resolved} {r : Rules} {t n : ℕ} {w : AbstractValue} {o : List ℕ} → Says s r t w n o → ℕ
+  pub levels : {s : List Resolved} {r : Rules} {t n : ℕ} {w : AbstractValue} {o : List ℕ} → EncodesTo s r t w n o → ℕ
   levels (says {tags = tags} i h f) = length tags + inner_levels h
 
   -- the most levels of headers within the contents octets of a value of kind k
   pub inner_levels : {s : List Resolved} {r : Rules} {k : Kind} {n : ℕ} {w : AbstractValue} {c : Bool} {x : List ℕ}
-      → Holds s r k w n c x → ℕ
+      → ContentsEncode s r k w n c x → ℕ
   inner_levels (leaf con) = leaf_levels con
   inner_levels (sequence ms u) = max (member_levels ms) (unknown_levels u)
   inner_levels (set ms p st u m) = max (member_levels ms) (unknown_levels u)

@@ -2,21 +2,21 @@
 
 ghost use Rattle.std.specs.Prelude.{◌≡◌, ◌⊎◌, ℕ, false, ◌*◌, ◌^◌, ◌<◌, ◌≤◌, List, [], ◌++◌, length};
 ghost use Rattle.asn_base.specs.Abstract.{AbstractValue};
-ghost use Rattle.asn_base.specs.Accepted.{IsAccepted};
+ghost use Rattle.asn_base.specs.Accepted.{AllSimple};
 ghost use Rattle.asn_base.specs.Schemas.{IsSchema, IsSound};
-ghost use Rattle.asn_base.specs.Tags.{AllTagged, AllTellable, HasFewTags};
+ghost use Rattle.asn_base.specs.Tags.{AllTagged, AllHaveDistinctTags, HasFewTags};
 ghost use Rattle.asn_base.specs.Same.{AlikeBy, Same};
-ghost use Rattle.asn_base.specs.Typed.{Fits, IsValue, IsValueWithoutNodes, ValueIn, nodes};
+ghost use Rattle.asn_base.specs.Typed.{IsPrimitive, IsValue, IsValueWithoutNodes, ValueIn, nodes};
 ghost use Rattle.asn_base.specs.Types.{Kind, Resolved};
-ghost use Rattle.encodings.specs.Account.{Account, Tells};
+ghost use Rattle.encodings.specs.Account.{Account, Describes};
 ghost use Rattle.encodings.specs.Contents.{Contents};
-ghost use Rattle.encodings.specs.Encoding.{Ber, Der, EncodesBy, Says, Shortest};
+ghost use Rattle.encodings.specs.Encoding.{Ber, Der, EncodesBy, EncodesTo, Shortest};
 ghost use Rattle.encodings.specs.Reading.{Encodes};
 ghost use Rattle.encodings.specs.Levels.{levels};
 ghost use Rattle.encodings.specs.Weight.{weight};
 ghost use Rattle.encodings.specs.Rules.{Rules, Basic, Unsorted, Distinguished};
 
-use asn_base::law::{accepted_are_told_apart, alike_values, sameness};
+use asn_base::law::{lemma_alike_values, lemma_sameness, lemma_simple_types_have_distinct_tags};
 
 /// A value of a type has one encoding by the distinguished rules, and no encoding by the basic rules is shorter. This
 /// holds for each kind of type, and for every definite form of length octets.
@@ -25,7 +25,7 @@ pub fn der_laws()
     // encoding.
     ensures der { (s : List Resolved) (t : ℕ) (v : AbstractValue) (o : List ℕ)
         → IsValueWithoutNodes s t v
-        → Says s Distinguished t v 0 o
+        → EncodesTo s Distinguished t v 0 o
         → Der s t v 0 o }
     ensures ber { (s : List Resolved) (t k : ℕ) (v : AbstractValue) (o : List ℕ) → Der s t v k o → Ber s t v k o }
     // If octets encode exactly a value, they are an encoding of it, with the same number of unknown additions.
@@ -45,7 +45,7 @@ pub fn der_laws()
         → EncodesBy Unsorted s t v k o }
     ensures shortest { (s : List Resolved) (t : ℕ) (v : AbstractValue) (o : List ℕ) → Der s t v 0 o → Shortest s t v o }
 {
-    sameness();
+    lemma_sameness();
     unsorted_laws();
 }
 
@@ -64,7 +64,7 @@ pub fn unsorted_laws()
         → EncodesBy Unsorted s t v 0 o
         → Shortest s t v o }
 {
-    sameness();
+    lemma_sameness();
 }
 
 /// The same laws for a writer, whose octets encode exactly a value by the distinguished rules. One encoding, and one
@@ -72,28 +72,28 @@ pub fn unsorted_laws()
 pub fn writer_laws()
     ensures der { (s : List Resolved) (t : ℕ) (v : AbstractValue) (o : List ℕ)
         → IsValueWithoutNodes s t v
-        → Says s Distinguished t v 0 o
+        → EncodesTo s Distinguished t v 0 o
         → Der s t v 0 o }
     ensures only { (s : List Resolved) (t : ℕ) (v : AbstractValue) (o : List ℕ)
-        → IsAccepted s
+        → AllSimple s
         → IsValueWithoutNodes s t v
-        → Says s Distinguished t v 0 o
+        → EncodesTo s Distinguished t v 0 o
         → (p : List ℕ)
         → Der s t v 0 p
         → p ≡ o }
     ensures shortest { (s : List Resolved) (t : ℕ) (v : AbstractValue) (o : List ℕ)
         → IsValueWithoutNodes s t v
-        → Says s Distinguished t v 0 o
+        → EncodesTo s Distinguished t v 0 o
         → Shortest s t v o }
     // If octets are a DER encoding of two values, these are the same.
     ensures one_value { (s : List Resolved) (t : ℕ) (v w : AbstractValue) (o : List ℕ)
-        → IsAccepted s
+        → AllSimple s
         → Der s t v 0 o
         → Der s t w 0 o
         → Same s t v w }
 {
-    sameness();
-    accepted_are_told_apart();
+    lemma_sameness();
+    lemma_simple_types_have_distinct_tags();
     der_laws();
     reading_laws();
 }
@@ -104,20 +104,20 @@ pub fn reading_laws()
     // Octets exactly encode at most one value, with one number of unknown additions.
     ensures one_value { (s : List Resolved) (r : Rules) (t j k : ℕ) (v w : AbstractValue) (o : List ℕ)
         → AllTagged s
-        → AllTellable s
-        → Says s r t v j o
-        → Says s r t w k o
+        → AllHaveDistinctTags s
+        → EncodesTo s r t v j o
+        → EncodesTo s r t w k o
         → (v ≡ w) × (j ≡ k) }
     // If octets are an encoding of two values, these are the same, and the numbers of unknown additions are equal.
     ensures ber { (s : List Resolved) (t j k : ℕ) (v w : AbstractValue) (o : List ℕ)
         → AllTagged s
-        → AllTellable s
+        → AllHaveDistinctTags s
         → Ber s t v j o
         → Ber s t w k o
         → Same s t v w × (j ≡ k) }
     ensures der { (s : List Resolved) (t j k : ℕ) (v w : AbstractValue) (o : List ℕ)
         → AllTagged s
-        → AllTellable s
+        → AllHaveDistinctTags s
         → Der s t v j o
         → Der s t w k o
         → Same s t v w × (j ≡ k) }
@@ -125,12 +125,12 @@ pub fn reading_laws()
     ensures none_begins_another { (s : List Resolved) (q r : Rules) (t u j k : ℕ) (v w : AbstractValue)
         (o p x y : List ℕ)
         → AllTagged s
-        → Says s q t v j o
-        → Says s r u w k p
+        → EncodesTo s q t v j o
+        → EncodesTo s r u w k p
         → o ++ x ≡ p ++ y
         → (o ≡ p) × (x ≡ y) }
 {
-    sameness();
+    lemma_sameness();
 }
 
 /// The number of levels of headers depends on the octets alone. A DER encoding has at most six levels of headers for
@@ -138,16 +138,16 @@ pub fn reading_laws()
 pub fn level_laws()
     // Two encodings of one type with the same octets have the same number of levels, whatever their rules and values.
     ensures one { (s : List Resolved) (q r : Rules) (t j k : ℕ) (v w : AbstractValue) (o : List ℕ)
-        (d : Says s q t v j o) (e : Says s r t w k o)
+        (d : EncodesTo s q t v j o) (e : EncodesTo s r t w k o)
         → AllTagged s
-        → AllTellable s
+        → AllHaveDistinctTags s
         → levels d ≡ levels e }
-    ensures few { (s : List Resolved) (n t : ℕ) (v : AbstractValue) (o : List ℕ) (d : Says s Distinguished t v 0 o)
+    ensures few { (s : List Resolved) (n t : ℕ) (v : AbstractValue) (o : List ℕ) (d : EncodesTo s Distinguished t v 0 o)
         → HasFewTags s
         → ValueIn s n t v
         → levels d ≤ 6 * n }
     ensures within_limit { (s : List Resolved) (t : ℕ) (v : AbstractValue) (o : List ℕ)
-        (d : Says s Distinguished t v 0 o)
+        (d : EncodesTo s Distinguished t v 0 o)
         → HasFewTags s
         → IsValueWithoutNodes s t v
         → levels d ≤ 400 }
@@ -158,7 +158,7 @@ pub fn level_laws()
 pub fn leaf_laws()
     ensures some { (s : List Resolved) (k : Kind) (v : AbstractValue)
         → IsSound s k
-        → Fits k v
+        → IsPrimitive k v
         → (w : AbstractValue) × (x : List ℕ) × AlikeBy s k v w × Contents Distinguished k w false x }
     ensures one { (s : List Resolved) (k : Kind) (v w : AbstractValue) (x y : List ℕ)
         → AlikeBy s k v w
@@ -176,8 +176,8 @@ pub fn existence_laws()
         → weight v < 256 ^ 126
         → (o : List ℕ) × Der s t v 0 o × (length o ≤ weight v) }
 {
-    sameness();
-    alike_values();
+    lemma_sameness();
+    lemma_alike_values();
 }
 
 /// Only its length can keep a value from having an encoding by the distinguished rules. Within any limit of octets a
@@ -194,8 +194,8 @@ pub fn length_laws()
         → IsValueWithoutNodes s t v
         → ((o : List ℕ) × Der s t v 0 o × (length o ≤ m)) ⊎ ((p : List ℕ) → Ber s t v 0 p → m < length p) }
 {
-    sameness();
-    alike_values();
+    lemma_sameness();
+    lemma_alike_values();
     der_laws();
 }
 
@@ -204,12 +204,12 @@ pub fn length_laws()
 pub fn message_laws()
     ensures nodes { (s : List Resolved) (r : Rules) (t k : ℕ) (w : AbstractValue) (o : List ℕ)
         → IsSchema s
-        → Says s r t w k o
+        → EncodesTo s r t w k o
         → nodes w ≤ length o }
     ensures value { (s : List Resolved) (r : Rules) (t k : ℕ) (w : AbstractValue) (o : List ℕ)
         → IsSchema s
         → IsValueWithoutNodes s t w
-        → Says s r t w k o
+        → EncodesTo s r t w k o
         → length o ≤ 16777216
         → IsValue s t w }
 {}
@@ -219,28 +219,28 @@ pub fn message_laws()
 pub fn account_laws()
     // A type, a value and an account determine one list of octets.
     ensures one { (s : List Resolved) (t : ℕ) (v : AbstractValue) (o p : List ℕ) (a : Account)
-        → Tells s t v o a
-        → Tells s t v p a
+        → Describes s t v o a
+        → Describes s t v p a
         → p ≡ o }
     // These octets follow the distinguished rules, except those about the order in sets.
     ensures unsorted { (s : List Resolved) (t : ℕ) (v : AbstractValue) (o : List ℕ) (a : Account)
         → IsSchema s
         → IsValueWithoutNodes s t v
-        → Tells s t v o a
+        → Describes s t v o a
         → EncodesBy Unsorted s t v 0 o }
     ensures shortest { (s : List Resolved) (t : ℕ) (v : AbstractValue) (o : List ℕ) (a : Account)
         → IsSchema s
         → IsValueWithoutNodes s t v
-        → Tells s t v o a
+        → Describes s t v o a
         → Shortest s t v o }
     // Each encoding by the distinguished rules has an account.
     ensures exists { (s : List Resolved) (t : ℕ) (v : AbstractValue) (o : List ℕ)
         → IsSchema s
         → Der s t v 0 o
-        → (a : Account) × Tells s t v o a }
+        → (a : Account) × Describes s t v o a }
 {
-    sameness();
-    alike_values();
+    lemma_sameness();
+    lemma_alike_values();
     unsorted_laws();
 }
 
@@ -267,18 +267,18 @@ pub fn schema_laws()
     // By the basic rules octets exactly encode at most one value.
     ensures says_one { (s : List Resolved) (t j k : ℕ) (v w : AbstractValue) (o : List ℕ)
         → IsSchema s
-        → Says s Basic t v j o
-        → Says s Basic t w k o
+        → EncodesTo s Basic t v j o
+        → EncodesTo s Basic t w k o
         → (v ≡ w) × (j ≡ k) }
     // No encoding of a type is the start of a longer encoding of that type.
     ensures none_begins_another { (s : List Resolved) (t j k : ℕ) (v w : AbstractValue) (o p x : List ℕ)
         → IsSchema s
-        → Says s Basic t v j o
-        → Says s Basic t w k p
+        → EncodesTo s Basic t v j o
+        → EncodesTo s Basic t w k p
         → p ≡ o ++ x
         → x ≡ [] }
     // An encoding by the distinguished rules has at most 400 levels of headers.
-    ensures levels { (s : List Resolved) (t : ℕ) (v : AbstractValue) (o : List ℕ) (d : Says s Distinguished t v 0 o)
+    ensures levels { (s : List Resolved) (t : ℕ) (v : AbstractValue) (o : List ℕ) (d : EncodesTo s Distinguished t v 0 o)
         → IsSchema s
         → IsValueWithoutNodes s t v
         → levels d ≤ 400 }

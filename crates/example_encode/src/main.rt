@@ -1,10 +1,10 @@
-//! A program that calls the library: it makes a value by names, encodes it, decodes the octets and prints them by
-//! names.
+//! A program that calls the library: it makes a value by names, encodes it to a sink, decodes the octets and prints
+//! them by names, and says where octets are refused.
 #![tactic(auto)]
 
 use anyhow::Result;
-use asnc::{Kit, Rules, TypeId, Value};
-use named_views::NamedPart;
+use asnc::{InMemory, Kit, Rules, TypeId, Value};
+use named_views::NamedValueRef;
 use std::alloc::Global;
 use value_builders::{Fields, item};
 
@@ -12,6 +12,9 @@ use value_builders::{Fields, item};
 const MODULE: &str = "Weather DEFINITIONS AUTOMATIC TAGS ::= BEGIN
 Reading ::= SEQUENCE {station INTEGER, sky Sky, note UTF8String OPTIONAL, gusts SEQUENCE OF INTEGER}
 Sky ::= ENUMERATED {clear, cloudy, rain} END";
+
+/// A message that is no reading: its sky has the number 9, which no item has.
+const WRONG: [u8; 10] = [0x30, 0x08, 0x80, 0x01, 0x07, 0x81, 0x01, 0x09, 0xA3, 0x00];
 
 /// Makes a reading by the names of its components, in any order, and encodes it.
 fn encoded(alloc: Global, kit: &Kit, reading: TypeId, sky: TypeId) -> Result<Vec<u8>> {
@@ -21,20 +24,37 @@ fn encoded(alloc: Global, kit: &Kit, reading: TypeId, sky: TypeId) -> Result<Vec
         .set("gusts", Value::List(gusts))?
         .set("station", Value::Int(4097))?
         .finish()?;
-    let (octets, _account) = kit.encode(alloc, reading, &value)?;
-    Ok(octets)
+    let mut sink = InMemory::of(Vec::new(alloc));
+    kit.encode_to(alloc, reading, &value, &mut sink)?;
+    Ok(sink.into_octets())
 }
 
 /// Prints what a reading holds, by the names of its components.
-fn show(rt: &HostRuntime, reading: &NamedPart<'_, '_>) -> Result<()> {
+fn show(rt: &HostRuntime, reading: &NamedValueRef<'_, '_>) -> Result<()> {
     let station = reading.field("station").and_then(|part| part.as_int());
     println!(rt; "station {}", station.unwrap_or(0))?;
     let sky = reading.field("sky").and_then(|part| part.item_name());
     println!(rt; "sky {}", sky.unwrap_or("unknown"))?;
-    println!(rt; "a note: {}", reading.field("note").is_some())?;
+    if let Some(fields) = reading.fields() {
+        for (name, _part) in fields {
+            println!(rt; "has {name}")?;
+        }
+    }
     if let Some(gusts) = reading.field("gusts").and_then(|part| part.elements()) {
         for gust in gusts {
             println!(rt; "gust {}", gust.as_int().unwrap_or(0))?;
+        }
+    }
+    Ok(())
+}
+
+/// Prints why octets are no reading, and where, or that they are one.
+fn explain(rt: &HostRuntime, kit: &Kit, reading: TypeId, octets: &[u8]) -> Result<()> {
+    match kit.decode(rt.alloc(), reading, octets, Rules::Ber) {
+        Ok(_read) => println!(rt; "a reading")?,
+        Err(fault) => {
+            let error = kit.locate(rt.alloc(), reading, octets, fault)?;
+            println!(rt; "{error}, in {}", error.path)?;
         }
     }
     Ok(())
@@ -55,5 +75,6 @@ fn main(rt: HostRuntime) -> Result<()> {
     }
     println!(rt; "")?;
     let read = kit.decode(alloc, reading, octets.as_slice(), Rules::Der)?;
-    show(&rt, &NamedPart::of(&read.view, kit.schema(), reading))
+    show(&rt, &NamedValueRef::of(&read.view, kit.schema(), reading))?;
+    explain(&rt, &kit, reading, &WRONG)
 }

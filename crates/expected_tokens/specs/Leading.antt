@@ -2,8 +2,8 @@
 use Rattle.std.specs.Prelude.{◌≡◌, ◌⊎◌, List, [], ◌∷◌, ◌++◌, map}
 use Rattle.text.specs.declared.token.Token.{Token}
 use Rattle.text.specs.declared.token.TokenKind.{TokenKind}
-use Rattle.expected_tokens.specs.declared.rules.Part.{Part}
-use Rattle.expected_tokens.specs.declared.rules.Part.TheVariants.{Is, Of}
+use Rattle.expected_tokens.specs.declared.rules.Term.{Term}
+use Rattle.expected_tokens.specs.declared.rules.Term.TheVariants.{Is, Of}
 use Rattle.expected_tokens.specs.declared.rules.Symbol.{Symbol}
 use Rattle.expected_tokens.specs.declared.rules.Symbol.TheVariants as symbols
 use Rattle.expected_tokens.specs.Rules.{nothing, begins, rules}
@@ -15,29 +15,29 @@ IsOne (y ∷ ys) x = (y ≡ x) ⊎ IsOne ys x
 
 -- Some parts stand for a text that begins with these tokens; after these tokens, other parts stand for what follows. A
 -- part is a token, or anything that a rule of its symbol allows.
-pub data Leads : List Part → List TokenKind → List Part → Type 0 where
-  here : {is : List Part} → Leads is [] is
-  token : {is js : List Part} {ts : List TokenKind} (k : TokenKind) → Leads is ts js → Leads (Is k ∷ is) (k ∷ ts) js
-  begun : {is js : List Part} {ts : List TokenKind} (s : Symbol) (k : TokenKind) (ps : List Part)
+pub data Derives : List Term → List TokenKind → List Term → Type 0 where
+  here : {is : List Term} → Derives is [] is
+  token : {is js : List Term} {ts : List TokenKind} (k : TokenKind) → Derives is ts js → Derives (Is k ∷ is) (k ∷ ts) js
+  begun : {is js : List Term} {ts : List TokenKind} (s : Symbol) (k : TokenKind) (ps : List Term)
       → IsOne (rules s) (begins k ps)
-      → Leads (ps ++ is) ts js
-      → Leads (Of s ∷ is) (k ∷ ts) js
-  absent : {is js : List Part} {ts : List TokenKind} (s : Symbol) (k : TokenKind)
+      → Derives (ps ++ is) ts js
+      → Derives (Of s ∷ is) (k ∷ ts) js
+  absent : {is js : List Term} {ts : List TokenKind} (s : Symbol) (k : TokenKind)
       → IsOne (rules s) nothing
-      → Leads is (k ∷ ts) js
-      → Leads (Of s ∷ is) (k ∷ ts) js
+      → Derives is (k ∷ ts) js
+      → Derives (Of s ∷ is) (k ∷ ts) js
 
 -- the parts of a module's text: one symbol
-abbrev pub whole : List Part
-whole = Of symbols.Module ∷ []
+abbrev pub start_symbol : List Term
+start_symbol = Of symbols.Module ∷ []
 
 -- A module can begin with these tokens.
-abbrev pub CanGoOn : List TokenKind → Type 0
-CanGoOn ts = (js : List Part) × Leads whole ts js
+abbrev pub IsPrefix : List TokenKind → Type 0
+IsPrefix ts = (js : List Term) × Derives start_symbol ts js
 
 -- After these tokens, a token of this kind can come next.
 abbrev pub CanFollow : List TokenKind → TokenKind → Type 0
-CanFollow ts k = CanGoOn (ts ++ k ∷ [])
+CanFollow ts k = IsPrefix (ts ++ k ∷ [])
 
 abbrev pub kinds_of : List Token → List TokenKind
 kinds_of = map (λ t. t.kind)

@@ -8,8 +8,8 @@ use Rattle.text.specs.declared.token.Mark.{Mark}
 use Rattle.text.specs.declared.token.Mark.TheVariants as marks
 use Rattle.text.specs.declared.reserved.Word.{Word}
 use Rattle.text.specs.declared.reserved.Word.TheVariants as words
-use Rattle.expected_tokens.specs.declared.rules.Part.{Part}
-use Rattle.expected_tokens.specs.declared.rules.Part.TheVariants.{Is, Of}
+use Rattle.expected_tokens.specs.declared.rules.Term.{Term}
+use Rattle.expected_tokens.specs.declared.rules.Term.TheVariants.{Is, Of}
 use Rattle.expected_tokens.specs.declared.rules.Symbol.{Symbol}
 use Rattle.expected_tokens.specs.declared.rules.Symbol.TheVariants as symbols
 use Rattle.expected_tokens.specs.declared.rules.Rule.{Rule as Rule'}
@@ -18,7 +18,7 @@ use Rattle.expected_tokens.specs.declared.rules.Rule.TheVariants as codes
 -- what a symbol can stand for: nothing, or a token and the parts after it
 pub data Rule : Type 0 where
   nothing : Rule
-  begins : TokenKind → List Part → Rule
+  begins : TokenKind → List Term → Rule
 
 abbrev pub rule_of : Rule' → Rule
 rule_of codes.Nothing = nothing
@@ -119,11 +119,11 @@ rules symbols.Type =
     begins (word words.Set) (Of symbols.ListSize ∷ Is (word words.Of) ∷ Of symbols.Type ∷ []) ∷
     begins (word words.Choice) (Is (mark marks.OpenBrace) ∷ Of symbols.Alternative ∷ Of symbols.MoreAlternatives ∷
     Is (mark marks.CloseBrace) ∷ Of symbols.Constraints ∷ []) ∷
-    begins kinds.TypeReference (Of symbols.BehindModule ∷ Of symbols.Constraints ∷ []) ∷
+    begins kinds.TypeReference (Of symbols.AfterModule ∷ Of symbols.Constraints ∷ []) ∷
     begins (mark marks.OpenBracket) (Of symbols.TagClass ∷ Is kinds.Number ∷ Is (mark marks.CloseBracket) ∷
     Of symbols.Keyword ∷ Of symbols.Type ∷ []) ∷
     []
-rules symbols.BehindModule =
+rules symbols.AfterModule =
     begins (mark marks.Dot) (Is kinds.TypeReference ∷ []) ∷
     nothing ∷
     []

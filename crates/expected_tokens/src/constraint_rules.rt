@@ -1,6 +1,6 @@
 //! The rules of constraints.
 
-use crate::rules::{Part, Rule, Symbol};
+use crate::rules::{Rule, Symbol, Term};
 use crate::tokens::{
     BAR, CHARACTER_STRING, CLOSE_PARENTHESIS, COMMA, DOT, ELLIPSIS, FROM_WORD, IDENTIFIER,
     MAX_WORD, MIN_WORD, MINUS, NUMBER, OPEN_PARENTHESIS, RANGE, SIZE_WORD, TYPE_REFERENCE,
@@ -11,9 +11,9 @@ pub(crate) static CONSTRAINTS_RULES: [Rule; 2] = [
     Rule::Begins(
         OPEN_PARENTHESIS,
         &[
-            Part::Of(Symbol::Constraint),
-            Part::Is(CLOSE_PARENTHESIS),
-            Part::Of(Symbol::Constraints),
+            Term::Of(Symbol::Constraint),
+            Term::Is(CLOSE_PARENTHESIS),
+            Term::Of(Symbol::Constraints),
         ],
     ),
     Rule::Nothing,
@@ -23,62 +23,62 @@ pub(crate) static CONSTRAINT_RULES: [Rule; 7] = [
     Rule::Begins(
         NUMBER,
         &[
-            Part::Of(Symbol::Upper),
-            Part::Of(Symbol::MoreRanges),
-            Part::Of(Symbol::Marker),
+            Term::Of(Symbol::Upper),
+            Term::Of(Symbol::MoreRanges),
+            Term::Of(Symbol::Marker),
         ],
     ),
     Rule::Begins(
         MINUS,
         &[
-            Part::Is(NUMBER),
-            Part::Of(Symbol::Upper),
-            Part::Of(Symbol::MoreRanges),
-            Part::Of(Symbol::Marker),
+            Term::Is(NUMBER),
+            Term::Of(Symbol::Upper),
+            Term::Of(Symbol::MoreRanges),
+            Term::Of(Symbol::Marker),
         ],
     ),
     Rule::Begins(
         IDENTIFIER,
         &[
-            Part::Of(Symbol::Upper),
-            Part::Of(Symbol::MoreRanges),
-            Part::Of(Symbol::Marker),
+            Term::Of(Symbol::Upper),
+            Term::Of(Symbol::MoreRanges),
+            Term::Of(Symbol::Marker),
         ],
     ),
     Rule::Begins(
         TYPE_REFERENCE,
         &[
-            Part::Is(DOT),
-            Part::Is(IDENTIFIER),
-            Part::Of(Symbol::Upper),
-            Part::Of(Symbol::MoreRanges),
-            Part::Of(Symbol::Marker),
+            Term::Is(DOT),
+            Term::Is(IDENTIFIER),
+            Term::Of(Symbol::Upper),
+            Term::Of(Symbol::MoreRanges),
+            Term::Of(Symbol::Marker),
         ],
     ),
     Rule::Begins(
         MIN_WORD,
         &[
-            Part::Is(RANGE),
-            Part::Of(Symbol::Last),
-            Part::Of(Symbol::MoreRanges),
-            Part::Of(Symbol::Marker),
+            Term::Is(RANGE),
+            Term::Of(Symbol::Last),
+            Term::Of(Symbol::MoreRanges),
+            Term::Of(Symbol::Marker),
         ],
     ),
     Rule::Begins(
         SIZE_WORD,
         &[
-            Part::Is(OPEN_PARENTHESIS),
-            Part::Of(Symbol::Ranges),
-            Part::Is(CLOSE_PARENTHESIS),
+            Term::Is(OPEN_PARENTHESIS),
+            Term::Of(Symbol::Ranges),
+            Term::Is(CLOSE_PARENTHESIS),
         ],
     ),
     Rule::Begins(
         FROM_WORD,
         &[
-            Part::Is(OPEN_PARENTHESIS),
-            Part::Of(Symbol::Chars),
-            Part::Of(Symbol::MoreChars),
-            Part::Is(CLOSE_PARENTHESIS),
+            Term::Is(OPEN_PARENTHESIS),
+            Term::Of(Symbol::Chars),
+            Term::Of(Symbol::MoreChars),
+            Term::Is(CLOSE_PARENTHESIS),
         ],
     ),
 ];
@@ -87,105 +87,105 @@ pub(crate) static RANGES_RULES: [Rule; 5] = [
     Rule::Begins(
         NUMBER,
         &[
-            Part::Of(Symbol::Upper),
-            Part::Of(Symbol::MoreRanges),
-            Part::Of(Symbol::Marker),
+            Term::Of(Symbol::Upper),
+            Term::Of(Symbol::MoreRanges),
+            Term::Of(Symbol::Marker),
         ],
     ),
     Rule::Begins(
         MINUS,
         &[
-            Part::Is(NUMBER),
-            Part::Of(Symbol::Upper),
-            Part::Of(Symbol::MoreRanges),
-            Part::Of(Symbol::Marker),
+            Term::Is(NUMBER),
+            Term::Of(Symbol::Upper),
+            Term::Of(Symbol::MoreRanges),
+            Term::Of(Symbol::Marker),
         ],
     ),
     Rule::Begins(
         IDENTIFIER,
         &[
-            Part::Of(Symbol::Upper),
-            Part::Of(Symbol::MoreRanges),
-            Part::Of(Symbol::Marker),
+            Term::Of(Symbol::Upper),
+            Term::Of(Symbol::MoreRanges),
+            Term::Of(Symbol::Marker),
         ],
     ),
     Rule::Begins(
         TYPE_REFERENCE,
         &[
-            Part::Is(DOT),
-            Part::Is(IDENTIFIER),
-            Part::Of(Symbol::Upper),
-            Part::Of(Symbol::MoreRanges),
-            Part::Of(Symbol::Marker),
+            Term::Is(DOT),
+            Term::Is(IDENTIFIER),
+            Term::Of(Symbol::Upper),
+            Term::Of(Symbol::MoreRanges),
+            Term::Of(Symbol::Marker),
         ],
     ),
     Rule::Begins(
         MIN_WORD,
         &[
-            Part::Is(RANGE),
-            Part::Of(Symbol::Last),
-            Part::Of(Symbol::MoreRanges),
-            Part::Of(Symbol::Marker),
+            Term::Is(RANGE),
+            Term::Of(Symbol::Last),
+            Term::Of(Symbol::MoreRanges),
+            Term::Of(Symbol::Marker),
         ],
     ),
 ];
 
 pub(crate) static RANGE_RULES: [Rule; 5] = [
-    Rule::Begins(NUMBER, &[Part::Of(Symbol::Upper)]),
-    Rule::Begins(MINUS, &[Part::Is(NUMBER), Part::Of(Symbol::Upper)]),
-    Rule::Begins(IDENTIFIER, &[Part::Of(Symbol::Upper)]),
+    Rule::Begins(NUMBER, &[Term::Of(Symbol::Upper)]),
+    Rule::Begins(MINUS, &[Term::Is(NUMBER), Term::Of(Symbol::Upper)]),
+    Rule::Begins(IDENTIFIER, &[Term::Of(Symbol::Upper)]),
     Rule::Begins(
         TYPE_REFERENCE,
-        &[Part::Is(DOT), Part::Is(IDENTIFIER), Part::Of(Symbol::Upper)],
+        &[Term::Is(DOT), Term::Is(IDENTIFIER), Term::Of(Symbol::Upper)],
     ),
-    Rule::Begins(MIN_WORD, &[Part::Is(RANGE), Part::Of(Symbol::Last)]),
+    Rule::Begins(MIN_WORD, &[Term::Is(RANGE), Term::Of(Symbol::Last)]),
 ];
 
 pub(crate) static UPPER_RULES: [Rule; 2] = [
-    Rule::Begins(RANGE, &[Part::Of(Symbol::Last)]),
+    Rule::Begins(RANGE, &[Term::Of(Symbol::Last)]),
     Rule::Nothing,
 ];
 
 pub(crate) static LAST_RULES: [Rule; 5] = [
     Rule::Begins(NUMBER, &[]),
-    Rule::Begins(MINUS, &[Part::Is(NUMBER)]),
+    Rule::Begins(MINUS, &[Term::Is(NUMBER)]),
     Rule::Begins(IDENTIFIER, &[]),
-    Rule::Begins(TYPE_REFERENCE, &[Part::Is(DOT), Part::Is(IDENTIFIER)]),
+    Rule::Begins(TYPE_REFERENCE, &[Term::Is(DOT), Term::Is(IDENTIFIER)]),
     Rule::Begins(MAX_WORD, &[]),
 ];
 
 pub(crate) static MORE_RANGES_RULES: [Rule; 3] = [
     Rule::Begins(
         BAR,
-        &[Part::Of(Symbol::Range), Part::Of(Symbol::MoreRanges)],
+        &[Term::Of(Symbol::Range), Term::Of(Symbol::MoreRanges)],
     ),
     Rule::Begins(
         UNION_WORD,
-        &[Part::Of(Symbol::Range), Part::Of(Symbol::MoreRanges)],
+        &[Term::Of(Symbol::Range), Term::Of(Symbol::MoreRanges)],
     ),
     Rule::Nothing,
 ];
 
 pub(crate) static MARKER_RULES: [Rule; 2] = [
-    Rule::Begins(COMMA, &[Part::Is(ELLIPSIS)]),
+    Rule::Begins(COMMA, &[Term::Is(ELLIPSIS)]),
     Rule::Nothing,
 ];
 
 pub(crate) static CHARS_RULES: [Rule; 1] = [Rule::Begins(
     CHARACTER_STRING,
-    &[Part::Of(Symbol::LastChars)],
+    &[Term::Of(Symbol::LastChars)],
 )];
 
 pub(crate) static LAST_CHARS_RULES: [Rule; 2] = [
-    Rule::Begins(RANGE, &[Part::Is(CHARACTER_STRING)]),
+    Rule::Begins(RANGE, &[Term::Is(CHARACTER_STRING)]),
     Rule::Nothing,
 ];
 
 pub(crate) static MORE_CHARS_RULES: [Rule; 3] = [
-    Rule::Begins(BAR, &[Part::Of(Symbol::Chars), Part::Of(Symbol::MoreChars)]),
+    Rule::Begins(BAR, &[Term::Of(Symbol::Chars), Term::Of(Symbol::MoreChars)]),
     Rule::Begins(
         UNION_WORD,
-        &[Part::Of(Symbol::Chars), Part::Of(Symbol::MoreChars)],
+        &[Term::Of(Symbol::Chars), Term::Of(Symbol::MoreChars)],
     ),
     Rule::Nothing,
 ];

@@ -6,7 +6,7 @@ ghost use Rattle.expected_tokens.specs.Leading.{CanFollow, IsOne, kinds_of};
 ghost use Rattle.expected_tokens.specs.proving.Next.{AnyGoesOn, GoesOn};
 
 use crate::kinds::ALL;
-use crate::stacks::{Stack, after, behind};
+use crate::stacks::{Stack, after, stacks_after};
 use std::alloc::{AllocError, Global};
 use text::{Token, TokenKind};
 
@@ -73,7 +73,7 @@ fn put_those_that_go(
 pub fn expected(alloc: Global, tokens: &[Token]) -> Result<Vec<TokenKind>, AllocError>
     ensures { IfOk result (λ v. (k : TokenKind') → IsOne v.items k ↔ CanFollow (kinds_of tokens.now) k) }
 {
-    let stacks = behind(alloc, tokens)?;
+    let stacks = stacks_after(alloc, tokens)?;
     let none = Vec::new(alloc);
     let kinds = put_those_that_go(alloc, stacks.as_slice(), &ALL, none)?;
     Ok(kinds)

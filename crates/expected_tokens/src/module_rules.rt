@@ -1,6 +1,6 @@
 //! The rules of modules: their names, what they export and import, and their assignments.
 
-use crate::rules::{Part, Rule, Symbol};
+use crate::rules::{Rule, Symbol, Term};
 use crate::tokens::{
     ALL_WORD, ASSIGN, AUTOMATIC_WORD, BEGIN_WORD, CLOSE_BRACE, CLOSE_PARENTHESIS, COMMA,
     DEFINITIONS_WORD, END_WORD, EXPLICIT_WORD, EXPORTS_WORD, FROM_WORD, IDENTIFIER, IMPLICIT_WORD,
@@ -10,15 +10,15 @@ use crate::tokens::{
 pub(crate) static MODULE_RULES: [Rule; 1] = [Rule::Begins(
     TYPE_REFERENCE,
     &[
-        Part::Of(Symbol::Oid),
-        Part::Is(DEFINITIONS_WORD),
-        Part::Of(Symbol::TagDefault),
-        Part::Is(ASSIGN),
-        Part::Is(BEGIN_WORD),
-        Part::Of(Symbol::Exports),
-        Part::Of(Symbol::Imports),
-        Part::Of(Symbol::Assignments),
-        Part::Is(END_WORD),
+        Term::Of(Symbol::Oid),
+        Term::Is(DEFINITIONS_WORD),
+        Term::Of(Symbol::TagDefault),
+        Term::Is(ASSIGN),
+        Term::Is(BEGIN_WORD),
+        Term::Of(Symbol::Exports),
+        Term::Of(Symbol::Imports),
+        Term::Of(Symbol::Assignments),
+        Term::Is(END_WORD),
     ],
 )];
 
@@ -26,9 +26,9 @@ pub(crate) static OID_RULES: [Rule; 2] = [
     Rule::Begins(
         OPEN_BRACE,
         &[
-            Part::Of(Symbol::Arc),
-            Part::Of(Symbol::MoreArcs),
-            Part::Is(CLOSE_BRACE),
+            Term::Of(Symbol::Arc),
+            Term::Of(Symbol::MoreArcs),
+            Term::Is(CLOSE_BRACE),
         ],
     ),
     Rule::Nothing,
@@ -36,14 +36,14 @@ pub(crate) static OID_RULES: [Rule; 2] = [
 
 pub(crate) static ARC_RULES: [Rule; 2] = [
     Rule::Begins(NUMBER, &[]),
-    Rule::Begins(IDENTIFIER, &[Part::Of(Symbol::ArcNumber)]),
+    Rule::Begins(IDENTIFIER, &[Term::Of(Symbol::ArcNumber)]),
 ];
 
 pub(crate) static MORE_ARCS_RULES: [Rule; 3] = [
-    Rule::Begins(NUMBER, &[Part::Of(Symbol::MoreArcs)]),
+    Rule::Begins(NUMBER, &[Term::Of(Symbol::MoreArcs)]),
     Rule::Begins(
         IDENTIFIER,
-        &[Part::Of(Symbol::ArcNumber), Part::Of(Symbol::MoreArcs)],
+        &[Term::Of(Symbol::ArcNumber), Term::Of(Symbol::MoreArcs)],
     ),
     Rule::Nothing,
 ];
@@ -51,37 +51,37 @@ pub(crate) static MORE_ARCS_RULES: [Rule; 3] = [
 pub(crate) static ARC_NUMBER_RULES: [Rule; 2] = [
     Rule::Begins(
         OPEN_PARENTHESIS,
-        &[Part::Is(NUMBER), Part::Is(CLOSE_PARENTHESIS)],
+        &[Term::Is(NUMBER), Term::Is(CLOSE_PARENTHESIS)],
     ),
     Rule::Nothing,
 ];
 
 pub(crate) static TAG_DEFAULT_RULES: [Rule; 4] = [
-    Rule::Begins(EXPLICIT_WORD, &[Part::Is(TAGS_WORD)]),
-    Rule::Begins(IMPLICIT_WORD, &[Part::Is(TAGS_WORD)]),
-    Rule::Begins(AUTOMATIC_WORD, &[Part::Is(TAGS_WORD)]),
+    Rule::Begins(EXPLICIT_WORD, &[Term::Is(TAGS_WORD)]),
+    Rule::Begins(IMPLICIT_WORD, &[Term::Is(TAGS_WORD)]),
+    Rule::Begins(AUTOMATIC_WORD, &[Term::Is(TAGS_WORD)]),
     Rule::Nothing,
 ];
 
 pub(crate) static EXPORTS_RULES: [Rule; 2] = [
     Rule::Begins(
         EXPORTS_WORD,
-        &[Part::Of(Symbol::Exported), Part::Is(SEMICOLON)],
+        &[Term::Of(Symbol::Exported), Term::Is(SEMICOLON)],
     ),
     Rule::Nothing,
 ];
 
 pub(crate) static EXPORTED_RULES: [Rule; 4] = [
     Rule::Begins(ALL_WORD, &[]),
-    Rule::Begins(TYPE_REFERENCE, &[Part::Of(Symbol::MoreNames)]),
-    Rule::Begins(IDENTIFIER, &[Part::Of(Symbol::MoreNames)]),
+    Rule::Begins(TYPE_REFERENCE, &[Term::Of(Symbol::MoreNames)]),
+    Rule::Begins(IDENTIFIER, &[Term::Of(Symbol::MoreNames)]),
     Rule::Nothing,
 ];
 
 pub(crate) static MORE_NAMES_RULES: [Rule; 2] = [
     Rule::Begins(
         COMMA,
-        &[Part::Of(Symbol::Name), Part::Of(Symbol::MoreNames)],
+        &[Term::Of(Symbol::Name), Term::Of(Symbol::MoreNames)],
     ),
     Rule::Nothing,
 ];
@@ -94,7 +94,7 @@ pub(crate) static NAME_RULES: [Rule; 2] = [
 pub(crate) static IMPORTS_RULES: [Rule; 2] = [
     Rule::Begins(
         IMPORTS_WORD,
-        &[Part::Of(Symbol::Imported), Part::Is(SEMICOLON)],
+        &[Term::Of(Symbol::Imported), Term::Is(SEMICOLON)],
     ),
     Rule::Nothing,
 ];
@@ -103,21 +103,21 @@ pub(crate) static IMPORTED_RULES: [Rule; 3] = [
     Rule::Begins(
         TYPE_REFERENCE,
         &[
-            Part::Of(Symbol::MoreNames),
-            Part::Is(FROM_WORD),
-            Part::Is(TYPE_REFERENCE),
-            Part::Of(Symbol::Oid),
-            Part::Of(Symbol::Imported),
+            Term::Of(Symbol::MoreNames),
+            Term::Is(FROM_WORD),
+            Term::Is(TYPE_REFERENCE),
+            Term::Of(Symbol::Oid),
+            Term::Of(Symbol::Imported),
         ],
     ),
     Rule::Begins(
         IDENTIFIER,
         &[
-            Part::Of(Symbol::MoreNames),
-            Part::Is(FROM_WORD),
-            Part::Is(TYPE_REFERENCE),
-            Part::Of(Symbol::Oid),
-            Part::Of(Symbol::Imported),
+            Term::Of(Symbol::MoreNames),
+            Term::Is(FROM_WORD),
+            Term::Is(TYPE_REFERENCE),
+            Term::Of(Symbol::Oid),
+            Term::Of(Symbol::Imported),
         ],
     ),
     Rule::Nothing,
@@ -127,18 +127,18 @@ pub(crate) static ASSIGNMENTS_RULES: [Rule; 3] = [
     Rule::Begins(
         TYPE_REFERENCE,
         &[
-            Part::Is(ASSIGN),
-            Part::Of(Symbol::Type),
-            Part::Of(Symbol::Assignments),
+            Term::Is(ASSIGN),
+            Term::Of(Symbol::Type),
+            Term::Of(Symbol::Assignments),
         ],
     ),
     Rule::Begins(
         IDENTIFIER,
         &[
-            Part::Of(Symbol::Type),
-            Part::Is(ASSIGN),
-            Part::Of(Symbol::Value),
-            Part::Of(Symbol::Assignments),
+            Term::Of(Symbol::Type),
+            Term::Is(ASSIGN),
+            Term::Of(Symbol::Value),
+            Term::Of(Symbol::Assignments),
         ],
     ),
     Rule::Nothing,

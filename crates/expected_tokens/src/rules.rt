@@ -14,7 +14,7 @@ use crate::module_rules::{
 };
 use crate::type_rules::{
     ADDED_ALTERNATIVE_RULES, ADDED_ALTERNATIVES_RULES, ADDED_ITEMS_RULES, ADDED_MEMBER_RULES,
-    ADDED_MEMBERS_RULES, ALTERNATIVE_RULES, ALTERNATIVES_IN_VERSION_RULES, BEHIND_MODULE_RULES,
+    ADDED_MEMBERS_RULES, AFTER_MODULE_RULES, ALTERNATIVE_RULES, ALTERNATIVES_IN_VERSION_RULES,
     ITEM_NUMBER_RULES, ITEM_RULES, KEYWORD_RULES, LIST_SIZE_RULES, MEMBER_RULES,
     MEMBERS_IN_VERSION_RULES, MEMBERS_RULES, MORE_ALTERNATIVES_RULES, MORE_ITEMS_RULES,
     MORE_MEMBERS_RULES, MORE_NAMED_BITS_RULES, MORE_NAMED_NUMBERS_RULES, NAMED_BIT_RULES,
@@ -44,7 +44,7 @@ pub enum Symbol {
     Imported,
     Assignments,
     Type,
-    BehindModule,
+    AfterModule,
     TagClass,
     Keyword,
     NamedNumbers,
@@ -93,7 +93,7 @@ pub enum Symbol {
 
 /// A part of a rule.
 #[derive(Clone, Copy)]
-pub enum Part {
+pub enum Term {
     /// A token of this kind.
     Is(TokenKind),
     /// Anything that this symbol stands for.
@@ -106,7 +106,7 @@ pub enum Rule {
     /// Nothing.
     Nothing,
     /// A token of this kind, and these parts after it.
-    Begins(TokenKind, &'static [Part]),
+    Begins(TokenKind, &'static [Term]),
 }
 
 /// The rules of a symbol.
@@ -129,7 +129,7 @@ pub fn rules_of(symbol: Symbol) -> &'static [Rule]
         Symbol::Imported => &IMPORTED_RULES,
         Symbol::Assignments => &ASSIGNMENTS_RULES,
         Symbol::Type => &TYPE_RULES,
-        Symbol::BehindModule => &BEHIND_MODULE_RULES,
+        Symbol::AfterModule => &AFTER_MODULE_RULES,
         Symbol::TagClass => &TAG_CLASS_RULES,
         Symbol::Keyword => &KEYWORD_RULES,
         Symbol::NamedNumbers => &NAMED_NUMBERS_RULES,

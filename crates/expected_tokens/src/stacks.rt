@@ -3,18 +3,18 @@
 ghost use Rattle.std.specs.Prelude.{◌≡◌, ◌⊎◌, ◌↔◌, ◌++◌, ◌∷◌, ◌<◌, [], List, length, map};
 ghost use Rattle.std.specs.Prelude.{IsTrue, IfOk, MatchOption, true, false};
 ghost use Rattle.text.specs.declared.token.TokenKind.{TokenKind as TokenKind'};
-ghost use Rattle.expected_tokens.specs.declared.rules.Part.{Part as Part'};
+ghost use Rattle.expected_tokens.specs.declared.rules.Term.{Term as Term'};
 ghost use Rattle.expected_tokens.specs.Rules.{nothing, rules, rule_of};
-ghost use Rattle.expected_tokens.specs.Leading.{IsOne, Leads, kinds_of, whole};
-ghost use Rattle.expected_tokens.specs.proving.Next.{AnyNext, Begun, ByRule, LeadsAny, Next, parts_of};
+ghost use Rattle.expected_tokens.specs.Leading.{IsOne, Derives, kinds_of, start_symbol};
+ghost use Rattle.expected_tokens.specs.proving.Next.{AnyNext, ByAnyRule, ByRule, DerivesAny, Next, parts_of};
 
-use crate::rules::{Part, Rule, Symbol, rules_of};
+use crate::rules::{Rule, Symbol, Term, rules_of};
 use std::alloc::{AllocError, Global};
 use text::reserved::Word;
 use text::{Mark, Token, TokenKind};
 
 /// The parts that stand for what follows; the next one is first.
-pub type Stack = Vec<Part>;
+pub type Stack = Vec<Term>;
 
 fn is_same_word(one: Word, other: Word) -> bool
     ensures same { result ≡ true → one ≡ other }
@@ -67,7 +67,7 @@ fn can_be_absent(rules: &[Rule]) -> bool
 }
 
 /// A stack of the parts `above` on top of the parts `below`.
-fn stacked(alloc: Global, above: &[Part], below: &[Part]) -> Result<Stack, AllocError>
+fn stacked(alloc: Global, above: &[Term], below: &[Term]) -> Result<Stack, AllocError>
     ensures { IfOk result (λ s. s.items ≡ above.now ++ below.now) }
 {
     let mut stack = Vec::new(alloc);
@@ -81,11 +81,11 @@ fn put_if(
     alloc: Global,
     first: TokenKind,
     kind: TokenKind,
-    above: &[Part],
-    below: &[Part],
+    above: &[Term],
+    below: &[Term],
     to: Vec<Stack>,
 ) -> Result<Vec<Stack>, AllocError>
-    ensures { IfOk result (λ v. (js : List Part') →
+    ensures { IfOk result (λ v. (js : List Term') →
         IsOne (parts_of v) js ↔ (IsOne (parts_of to) js ⊎ ((first ≡ kind) × (js ≡ above.now ++ below.now)))) }
 {
     if !is_same(first, kind) {
@@ -102,10 +102,10 @@ fn by_rule(
     alloc: Global,
     rule: Rule,
     kind: TokenKind,
-    below: &[Part],
+    below: &[Term],
     to: Vec<Stack>,
 ) -> Result<Vec<Stack>, AllocError>
-    ensures { IfOk result (λ v. (js : List Part') →
+    ensures { IfOk result (λ v. (js : List Term') →
         IsOne (parts_of v) js ↔ (IsOne (parts_of to) js ⊎ ByRule (rule_of rule) kind below.now js)) }
 {
     match rule {
@@ -119,11 +119,11 @@ fn by_rules(
     alloc: Global,
     rules: &[Rule],
     kind: TokenKind,
-    below: &[Part],
+    below: &[Term],
     to: Vec<Stack>,
 ) -> Result<Vec<Stack>, AllocError>
-    ensures { IfOk result (λ v. (js : List Part') →
-        IsOne (parts_of v) js ↔ (IsOne (parts_of to) js ⊎ Begun (map rule_of rules.now) kind below.now js)) }
+    ensures { IfOk result (λ v. (js : List Term') →
+        IsOne (parts_of v) js ↔ (IsOne (parts_of to) js ⊎ ByAnyRule (map rule_of rules.now) kind below.now js)) }
 {
     match rules {
         [rule, rest @ ..] => {
@@ -137,16 +137,16 @@ fn by_rules(
 /// Appends to some stacks those that a stack leaves after a token of a kind.
 fn next(
     alloc: Global,
-    stack: &[Part],
+    stack: &[Term],
     kind: TokenKind,
     to: Vec<Stack>,
 ) -> Result<Vec<Stack>, AllocError>
-    ensures { IfOk result (λ v. (js : List Part') →
+    ensures { IfOk result (λ v. (js : List Term') →
         IsOne (parts_of v) js ↔ (IsOne (parts_of to) js ⊎ Next stack.now kind js)) }
 {
     match stack {
-        [Part::Is(first), below @ ..] => put_if(alloc, *first, kind, &[], below, to),
-        [Part::Of(symbol), below @ ..] => {
+        [Term::Is(first), below @ ..] => put_if(alloc, *first, kind, &[], below, to),
+        [Term::Of(symbol), below @ ..] => {
             let rules = rules_of(*symbol);
             let to = by_rules(alloc, rules, kind, below, to)?;
             if can_be_absent(rules) {
@@ -166,7 +166,7 @@ fn after_each(
     kind: TokenKind,
     to: Vec<Stack>,
 ) -> Result<Vec<Stack>, AllocError>
-    ensures { IfOk result (λ v. (js : List Part') →
+    ensures { IfOk result (λ v. (js : List Term') →
         IsOne (parts_of v) js ↔ (IsOne (parts_of to) js ⊎ AnyNext (map (λ s. s.items) stacks.now) kind js)) }
 {
     match stacks {
@@ -180,7 +180,7 @@ fn after_each(
 
 /// Returns the stacks that some stacks leave after a token of a kind. `AllocError` comes only if an allocation fails.
 pub fn after(alloc: Global, stacks: &[Stack], kind: TokenKind) -> Result<Vec<Stack>, AllocError>
-    ensures { IfOk result (λ v. (js : List Part') →
+    ensures { IfOk result (λ v. (js : List Term') →
         IsOne (parts_of v) js ↔ AnyNext (map (λ s. s.items) stacks.now) kind js) }
 {
     after_each(alloc, stacks, kind, Vec::new(alloc))
@@ -198,12 +198,12 @@ fn first_of(tokens: &[Token]) -> Option<(TokenKind, &[Token])>
 }
 
 /// Returns the stacks that a module leaves after some tokens. `AllocError` comes only if an allocation fails.
-pub fn behind(alloc: Global, tokens: &[Token]) -> Result<Vec<Stack>, AllocError>
-    ensures { IfOk result (λ v. (ts : List TokenKind') (js : List Part') →
-        Leads whole (kinds_of tokens.now ++ ts) js ↔ LeadsAny (parts_of v) ts js) }
+pub fn stacks_after(alloc: Global, tokens: &[Token]) -> Result<Vec<Stack>, AllocError>
+    ensures { IfOk result (λ v. (ts : List TokenKind') (js : List Term') →
+        Derives start_symbol (kinds_of tokens.now ++ ts) js ↔ DerivesAny (parts_of v) ts js) }
 {
     let mut stacks = Vec::new(alloc);
-    stacks.push(stacked(alloc, &[Part::Of(Symbol::Module)], &[])?)?;
+    stacks.push(stacked(alloc, &[Term::Of(Symbol::Module)], &[])?)?;
     let mut left = tokens;
     while let Some((kind, rest)) = first_of(left) {
         stacks = after(alloc, stacks.as_slice(), kind)?;

@@ -1,6 +1,6 @@
 //! The rules of types, without their constraints.
 
-use crate::rules::{Part, Rule, Symbol};
+use crate::rules::{Rule, Symbol, Term};
 use crate::tokens::{
     APPLICATION_WORD, BIT_WORD, BOOLEAN_WORD, CHOICE_WORD, CLOSE_BRACE, CLOSE_BRACKET,
     CLOSE_PARENTHESIS, CLOSE_VERSION, COLON, COMMA, DEFAULT_WORD, DOT, ELLIPSIS, ENUMERATED_WORD,
@@ -12,113 +12,110 @@ use crate::tokens::{
 };
 
 pub(crate) static TYPE_RULES: [Rule; 21] = [
-    Rule::Begins(BOOLEAN_WORD, &[Part::Of(Symbol::Constraints)]),
-    Rule::Begins(NULL_WORD, &[Part::Of(Symbol::Constraints)]),
+    Rule::Begins(BOOLEAN_WORD, &[Term::Of(Symbol::Constraints)]),
+    Rule::Begins(NULL_WORD, &[Term::Of(Symbol::Constraints)]),
     Rule::Begins(
         INTEGER_WORD,
         &[
-            Part::Of(Symbol::NamedNumbers),
-            Part::Of(Symbol::Constraints),
+            Term::Of(Symbol::NamedNumbers),
+            Term::Of(Symbol::Constraints),
         ],
     ),
     Rule::Begins(
         ENUMERATED_WORD,
         &[
-            Part::Is(OPEN_BRACE),
-            Part::Of(Symbol::Item),
-            Part::Of(Symbol::MoreItems),
-            Part::Is(CLOSE_BRACE),
-            Part::Of(Symbol::Constraints),
+            Term::Is(OPEN_BRACE),
+            Term::Of(Symbol::Item),
+            Term::Of(Symbol::MoreItems),
+            Term::Is(CLOSE_BRACE),
+            Term::Of(Symbol::Constraints),
         ],
     ),
     Rule::Begins(
         BIT_WORD,
         &[
-            Part::Is(STRING_WORD),
-            Part::Of(Symbol::NamedBits),
-            Part::Of(Symbol::Constraints),
+            Term::Is(STRING_WORD),
+            Term::Of(Symbol::NamedBits),
+            Term::Of(Symbol::Constraints),
         ],
     ),
     Rule::Begins(
         OCTET_WORD,
-        &[Part::Is(STRING_WORD), Part::Of(Symbol::Constraints)],
+        &[Term::Is(STRING_WORD), Term::Of(Symbol::Constraints)],
     ),
     Rule::Begins(
         OBJECT_WORD,
-        &[Part::Is(IDENTIFIER_WORD), Part::Of(Symbol::Constraints)],
+        &[Term::Is(IDENTIFIER_WORD), Term::Of(Symbol::Constraints)],
     ),
-    Rule::Begins(RELATIVE_OID_WORD, &[Part::Of(Symbol::Constraints)]),
-    Rule::Begins(UTF8_STRING_WORD, &[Part::Of(Symbol::Constraints)]),
-    Rule::Begins(NUMERIC_STRING_WORD, &[Part::Of(Symbol::Constraints)]),
-    Rule::Begins(PRINTABLE_STRING_WORD, &[Part::Of(Symbol::Constraints)]),
-    Rule::Begins(IA5_STRING_WORD, &[Part::Of(Symbol::Constraints)]),
-    Rule::Begins(VISIBLE_STRING_WORD, &[Part::Of(Symbol::Constraints)]),
-    Rule::Begins(ISO646_STRING_WORD, &[Part::Of(Symbol::Constraints)]),
+    Rule::Begins(RELATIVE_OID_WORD, &[Term::Of(Symbol::Constraints)]),
+    Rule::Begins(UTF8_STRING_WORD, &[Term::Of(Symbol::Constraints)]),
+    Rule::Begins(NUMERIC_STRING_WORD, &[Term::Of(Symbol::Constraints)]),
+    Rule::Begins(PRINTABLE_STRING_WORD, &[Term::Of(Symbol::Constraints)]),
+    Rule::Begins(IA5_STRING_WORD, &[Term::Of(Symbol::Constraints)]),
+    Rule::Begins(VISIBLE_STRING_WORD, &[Term::Of(Symbol::Constraints)]),
+    Rule::Begins(ISO646_STRING_WORD, &[Term::Of(Symbol::Constraints)]),
     Rule::Begins(
         SEQUENCE_WORD,
         &[
-            Part::Is(OPEN_BRACE),
-            Part::Of(Symbol::Members),
-            Part::Is(CLOSE_BRACE),
-            Part::Of(Symbol::Constraints),
+            Term::Is(OPEN_BRACE),
+            Term::Of(Symbol::Members),
+            Term::Is(CLOSE_BRACE),
+            Term::Of(Symbol::Constraints),
         ],
     ),
     Rule::Begins(
         SEQUENCE_WORD,
         &[
-            Part::Of(Symbol::ListSize),
-            Part::Is(OF_WORD),
-            Part::Of(Symbol::Type),
+            Term::Of(Symbol::ListSize),
+            Term::Is(OF_WORD),
+            Term::Of(Symbol::Type),
         ],
     ),
     Rule::Begins(
         SET_WORD,
         &[
-            Part::Is(OPEN_BRACE),
-            Part::Of(Symbol::Members),
-            Part::Is(CLOSE_BRACE),
-            Part::Of(Symbol::Constraints),
+            Term::Is(OPEN_BRACE),
+            Term::Of(Symbol::Members),
+            Term::Is(CLOSE_BRACE),
+            Term::Of(Symbol::Constraints),
         ],
     ),
     Rule::Begins(
         SET_WORD,
         &[
-            Part::Of(Symbol::ListSize),
-            Part::Is(OF_WORD),
-            Part::Of(Symbol::Type),
+            Term::Of(Symbol::ListSize),
+            Term::Is(OF_WORD),
+            Term::Of(Symbol::Type),
         ],
     ),
     Rule::Begins(
         CHOICE_WORD,
         &[
-            Part::Is(OPEN_BRACE),
-            Part::Of(Symbol::Alternative),
-            Part::Of(Symbol::MoreAlternatives),
-            Part::Is(CLOSE_BRACE),
-            Part::Of(Symbol::Constraints),
+            Term::Is(OPEN_BRACE),
+            Term::Of(Symbol::Alternative),
+            Term::Of(Symbol::MoreAlternatives),
+            Term::Is(CLOSE_BRACE),
+            Term::Of(Symbol::Constraints),
         ],
     ),
     Rule::Begins(
         TYPE_REFERENCE,
-        &[
-            Part::Of(Symbol::BehindModule),
-            Part::Of(Symbol::Constraints),
-        ],
+        &[Term::Of(Symbol::AfterModule), Term::Of(Symbol::Constraints)],
     ),
     Rule::Begins(
         OPEN_BRACKET,
         &[
-            Part::Of(Symbol::TagClass),
-            Part::Is(NUMBER),
-            Part::Is(CLOSE_BRACKET),
-            Part::Of(Symbol::Keyword),
-            Part::Of(Symbol::Type),
+            Term::Of(Symbol::TagClass),
+            Term::Is(NUMBER),
+            Term::Is(CLOSE_BRACKET),
+            Term::Of(Symbol::Keyword),
+            Term::Of(Symbol::Type),
         ],
     ),
 ];
 
-pub(crate) static BEHIND_MODULE_RULES: [Rule; 2] = [
-    Rule::Begins(DOT, &[Part::Is(TYPE_REFERENCE)]),
+pub(crate) static AFTER_MODULE_RULES: [Rule; 2] = [
+    Rule::Begins(DOT, &[Term::Is(TYPE_REFERENCE)]),
     Rule::Nothing,
 ];
 
@@ -138,9 +135,9 @@ pub(crate) static NAMED_NUMBERS_RULES: [Rule; 2] = [
     Rule::Begins(
         OPEN_BRACE,
         &[
-            Part::Of(Symbol::NamedNumber),
-            Part::Of(Symbol::MoreNamedNumbers),
-            Part::Is(CLOSE_BRACE),
+            Term::Of(Symbol::NamedNumber),
+            Term::Of(Symbol::MoreNamedNumbers),
+            Term::Is(CLOSE_BRACE),
         ],
     ),
     Rule::Nothing,
@@ -149,9 +146,9 @@ pub(crate) static NAMED_NUMBERS_RULES: [Rule; 2] = [
 pub(crate) static NAMED_NUMBER_RULES: [Rule; 1] = [Rule::Begins(
     IDENTIFIER,
     &[
-        Part::Is(OPEN_PARENTHESIS),
-        Part::Of(Symbol::Signed),
-        Part::Is(CLOSE_PARENTHESIS),
+        Term::Is(OPEN_PARENTHESIS),
+        Term::Of(Symbol::Signed),
+        Term::Is(CLOSE_PARENTHESIS),
     ],
 )];
 
@@ -159,8 +156,8 @@ pub(crate) static MORE_NAMED_NUMBERS_RULES: [Rule; 2] = [
     Rule::Begins(
         COMMA,
         &[
-            Part::Of(Symbol::NamedNumber),
-            Part::Of(Symbol::MoreNamedNumbers),
+            Term::Of(Symbol::NamedNumber),
+            Term::Of(Symbol::MoreNamedNumbers),
         ],
     ),
     Rule::Nothing,
@@ -168,16 +165,16 @@ pub(crate) static MORE_NAMED_NUMBERS_RULES: [Rule; 2] = [
 
 pub(crate) static SIGNED_RULES: [Rule; 2] = [
     Rule::Begins(NUMBER, &[]),
-    Rule::Begins(MINUS, &[Part::Is(NUMBER)]),
+    Rule::Begins(MINUS, &[Term::Is(NUMBER)]),
 ];
 
 pub(crate) static NAMED_BITS_RULES: [Rule; 2] = [
     Rule::Begins(
         OPEN_BRACE,
         &[
-            Part::Of(Symbol::NamedBit),
-            Part::Of(Symbol::MoreNamedBits),
-            Part::Is(CLOSE_BRACE),
+            Term::Of(Symbol::NamedBit),
+            Term::Of(Symbol::MoreNamedBits),
+            Term::Is(CLOSE_BRACE),
         ],
     ),
     Rule::Nothing,
@@ -186,29 +183,29 @@ pub(crate) static NAMED_BITS_RULES: [Rule; 2] = [
 pub(crate) static NAMED_BIT_RULES: [Rule; 1] = [Rule::Begins(
     IDENTIFIER,
     &[
-        Part::Is(OPEN_PARENTHESIS),
-        Part::Is(NUMBER),
-        Part::Is(CLOSE_PARENTHESIS),
+        Term::Is(OPEN_PARENTHESIS),
+        Term::Is(NUMBER),
+        Term::Is(CLOSE_PARENTHESIS),
     ],
 )];
 
 pub(crate) static MORE_NAMED_BITS_RULES: [Rule; 2] = [
     Rule::Begins(
         COMMA,
-        &[Part::Of(Symbol::NamedBit), Part::Of(Symbol::MoreNamedBits)],
+        &[Term::Of(Symbol::NamedBit), Term::Of(Symbol::MoreNamedBits)],
     ),
     Rule::Nothing,
 ];
 
 pub(crate) static ITEM_RULES: [Rule; 1] = [Rule::Begins(
     IDENTIFIER,
-    &[Part::Of(Symbol::ItemNumber)],
+    &[Term::Of(Symbol::ItemNumber)],
 )];
 
 pub(crate) static ITEM_NUMBER_RULES: [Rule; 2] = [
     Rule::Begins(
         OPEN_PARENTHESIS,
-        &[Part::Of(Symbol::Signed), Part::Is(CLOSE_PARENTHESIS)],
+        &[Term::Of(Symbol::Signed), Term::Is(CLOSE_PARENTHESIS)],
     ),
     Rule::Nothing,
 ];
@@ -216,16 +213,16 @@ pub(crate) static ITEM_NUMBER_RULES: [Rule; 2] = [
 pub(crate) static MORE_ITEMS_RULES: [Rule; 3] = [
     Rule::Begins(
         COMMA,
-        &[Part::Of(Symbol::Item), Part::Of(Symbol::MoreItems)],
+        &[Term::Of(Symbol::Item), Term::Of(Symbol::MoreItems)],
     ),
-    Rule::Begins(COMMA, &[Part::Is(ELLIPSIS), Part::Of(Symbol::AddedItems)]),
+    Rule::Begins(COMMA, &[Term::Is(ELLIPSIS), Term::Of(Symbol::AddedItems)]),
     Rule::Nothing,
 ];
 
 pub(crate) static ADDED_ITEMS_RULES: [Rule; 2] = [
     Rule::Begins(
         COMMA,
-        &[Part::Of(Symbol::Item), Part::Of(Symbol::AddedItems)],
+        &[Term::Of(Symbol::Item), Term::Of(Symbol::AddedItems)],
     ),
     Rule::Nothing,
 ];
@@ -234,26 +231,26 @@ pub(crate) static MEMBERS_RULES: [Rule; 3] = [
     Rule::Begins(
         IDENTIFIER,
         &[
-            Part::Of(Symbol::Type),
-            Part::Of(Symbol::Presence),
-            Part::Of(Symbol::MoreMembers),
+            Term::Of(Symbol::Type),
+            Term::Of(Symbol::Presence),
+            Term::Of(Symbol::MoreMembers),
         ],
     ),
-    Rule::Begins(ELLIPSIS, &[Part::Of(Symbol::AddedMembers)]),
+    Rule::Begins(ELLIPSIS, &[Term::Of(Symbol::AddedMembers)]),
     Rule::Nothing,
 ];
 
 pub(crate) static MEMBER_RULES: [Rule; 1] = [Rule::Begins(
     IDENTIFIER,
-    &[Part::Of(Symbol::Type), Part::Of(Symbol::Presence)],
+    &[Term::Of(Symbol::Type), Term::Of(Symbol::Presence)],
 )];
 
 pub(crate) static MORE_MEMBERS_RULES: [Rule; 3] = [
     Rule::Begins(
         COMMA,
-        &[Part::Of(Symbol::Member), Part::Of(Symbol::MoreMembers)],
+        &[Term::Of(Symbol::Member), Term::Of(Symbol::MoreMembers)],
     ),
-    Rule::Begins(COMMA, &[Part::Is(ELLIPSIS), Part::Of(Symbol::AddedMembers)]),
+    Rule::Begins(COMMA, &[Term::Is(ELLIPSIS), Term::Of(Symbol::AddedMembers)]),
     Rule::Nothing,
 ];
 
@@ -261,8 +258,8 @@ pub(crate) static ADDED_MEMBERS_RULES: [Rule; 2] = [
     Rule::Begins(
         COMMA,
         &[
-            Part::Of(Symbol::AddedMember),
-            Part::Of(Symbol::AddedMembers),
+            Term::Of(Symbol::AddedMember),
+            Term::Of(Symbol::AddedMembers),
         ],
     ),
     Rule::Nothing,
@@ -271,15 +268,15 @@ pub(crate) static ADDED_MEMBERS_RULES: [Rule; 2] = [
 pub(crate) static ADDED_MEMBER_RULES: [Rule; 2] = [
     Rule::Begins(
         IDENTIFIER,
-        &[Part::Of(Symbol::Type), Part::Of(Symbol::Presence)],
+        &[Term::Of(Symbol::Type), Term::Of(Symbol::Presence)],
     ),
     Rule::Begins(
         OPEN_VERSION,
         &[
-            Part::Of(Symbol::Version),
-            Part::Of(Symbol::Member),
-            Part::Of(Symbol::MembersInVersion),
-            Part::Is(CLOSE_VERSION),
+            Term::Of(Symbol::Version),
+            Term::Of(Symbol::Member),
+            Term::Of(Symbol::MembersInVersion),
+            Term::Is(CLOSE_VERSION),
         ],
     ),
 ];
@@ -287,38 +284,38 @@ pub(crate) static ADDED_MEMBER_RULES: [Rule; 2] = [
 pub(crate) static MEMBERS_IN_VERSION_RULES: [Rule; 2] = [
     Rule::Begins(
         COMMA,
-        &[Part::Of(Symbol::Member), Part::Of(Symbol::MembersInVersion)],
+        &[Term::Of(Symbol::Member), Term::Of(Symbol::MembersInVersion)],
     ),
     Rule::Nothing,
 ];
 
 pub(crate) static VERSION_RULES: [Rule; 2] = [
-    Rule::Begins(NUMBER, &[Part::Is(COLON)]),
+    Rule::Begins(NUMBER, &[Term::Is(COLON)]),
     Rule::Nothing,
 ];
 
 pub(crate) static PRESENCE_RULES: [Rule; 3] = [
     Rule::Begins(OPTIONAL_WORD, &[]),
-    Rule::Begins(DEFAULT_WORD, &[Part::Of(Symbol::Value)]),
+    Rule::Begins(DEFAULT_WORD, &[Term::Of(Symbol::Value)]),
     Rule::Nothing,
 ];
 
 pub(crate) static ALTERNATIVE_RULES: [Rule; 1] = [Rule::Begins(
     IDENTIFIER,
-    &[Part::Of(Symbol::Type)],
+    &[Term::Of(Symbol::Type)],
 )];
 
 pub(crate) static MORE_ALTERNATIVES_RULES: [Rule; 3] = [
     Rule::Begins(
         COMMA,
         &[
-            Part::Of(Symbol::Alternative),
-            Part::Of(Symbol::MoreAlternatives),
+            Term::Of(Symbol::Alternative),
+            Term::Of(Symbol::MoreAlternatives),
         ],
     ),
     Rule::Begins(
         COMMA,
-        &[Part::Is(ELLIPSIS), Part::Of(Symbol::AddedAlternatives)],
+        &[Term::Is(ELLIPSIS), Term::Of(Symbol::AddedAlternatives)],
     ),
     Rule::Nothing,
 ];
@@ -327,22 +324,22 @@ pub(crate) static ADDED_ALTERNATIVES_RULES: [Rule; 2] = [
     Rule::Begins(
         COMMA,
         &[
-            Part::Of(Symbol::AddedAlternative),
-            Part::Of(Symbol::AddedAlternatives),
+            Term::Of(Symbol::AddedAlternative),
+            Term::Of(Symbol::AddedAlternatives),
         ],
     ),
     Rule::Nothing,
 ];
 
 pub(crate) static ADDED_ALTERNATIVE_RULES: [Rule; 2] = [
-    Rule::Begins(IDENTIFIER, &[Part::Of(Symbol::Type)]),
+    Rule::Begins(IDENTIFIER, &[Term::Of(Symbol::Type)]),
     Rule::Begins(
         OPEN_VERSION,
         &[
-            Part::Of(Symbol::Version),
-            Part::Of(Symbol::Alternative),
-            Part::Of(Symbol::AlternativesInVersion),
-            Part::Is(CLOSE_VERSION),
+            Term::Of(Symbol::Version),
+            Term::Of(Symbol::Alternative),
+            Term::Of(Symbol::AlternativesInVersion),
+            Term::Is(CLOSE_VERSION),
         ],
     ),
 ];
@@ -351,8 +348,8 @@ pub(crate) static ALTERNATIVES_IN_VERSION_RULES: [Rule; 2] = [
     Rule::Begins(
         COMMA,
         &[
-            Part::Of(Symbol::Alternative),
-            Part::Of(Symbol::AlternativesInVersion),
+            Term::Of(Symbol::Alternative),
+            Term::Of(Symbol::AlternativesInVersion),
         ],
     ),
     Rule::Nothing,
@@ -362,19 +359,19 @@ pub(crate) static LIST_SIZE_RULES: [Rule; 3] = [
     Rule::Begins(
         SIZE_WORD,
         &[
-            Part::Is(OPEN_PARENTHESIS),
-            Part::Of(Symbol::Ranges),
-            Part::Is(CLOSE_PARENTHESIS),
+            Term::Is(OPEN_PARENTHESIS),
+            Term::Of(Symbol::Ranges),
+            Term::Is(CLOSE_PARENTHESIS),
         ],
     ),
     Rule::Begins(
         OPEN_PARENTHESIS,
         &[
-            Part::Is(SIZE_WORD),
-            Part::Is(OPEN_PARENTHESIS),
-            Part::Of(Symbol::Ranges),
-            Part::Is(CLOSE_PARENTHESIS),
-            Part::Is(CLOSE_PARENTHESIS),
+            Term::Is(SIZE_WORD),
+            Term::Is(OPEN_PARENTHESIS),
+            Term::Of(Symbol::Ranges),
+            Term::Is(CLOSE_PARENTHESIS),
+            Term::Is(CLOSE_PARENTHESIS),
         ],
     ),
     Rule::Nothing,

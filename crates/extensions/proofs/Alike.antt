@@ -12,7 +12,7 @@ use Rattle.asn_base.specs.Types as types
 use Rattle.asn_base.specs.Typed as typed
 use Rattle.trees.specs.Values.{Name}
 use Rattle.trees.specs.Types.{a_restricted_string}
-use Rattle.type_table.specs.Table.{Type', Kind, simple, IsCore}
+use Rattle.type_table.specs.Table.{Type', Kind, simple, IsUnderlying}
 use Rattle.resolve.specs.Program.{Program}
 use Rattle.range_ends.specs.Ends.{IsOfKind}
 use Rattle.tagging.specs.Tags.{Path, Tags, label}
@@ -20,7 +20,7 @@ use Rattle.constraints.specs.Allowed.{IsAllowed, IsInRoot, IsInAlphabet, IsExten
 use Rattle.settled.specs.values.Allowing.{Allows, AllowsCode}
 use Rattle.settled.specs.schema_of.SchemaOf.{IsKindOf, IsTypeOf, AllowsNumbersOf, AllowsSizesOf}
 use Rattle.settled.specs.schema_of.SchemaOf as schema_of
-use Rattle.settled.specs.Settled.{IsConstrained, IsSettledType, standing}
+use Rattle.settled.specs.Settled.{IsConstrained, IsProgramType, standing}
 use Rattle.extensions.specs.proving.Cores.{AreAlike}
 use Rattle.extensions.specs.proving.Tables.{IsResolved}
 use Rattle.extensions.proofs.CoreKinds.{one_core, one_kind}
@@ -47,7 +47,7 @@ pub kind_too : {p : Program} {i j : ℕ} {k : Kind} → AreAlike p i j → IsOfK
 kind_too {p} {i} {j} a u = record {
   core = u.core;
   type = u.type;
-  leads = subst (λ (c : ℕ). IsCore p.types j c) (one_core p.types i a.core u.core a.one u.leads) a.other;
+  chain = subst (λ (c : ℕ). IsUnderlying p.types j c) (one_core p.types i a.core u.core a.one u.chain) a.other;
   there = u.there;
   kind = u.kind;
 }
@@ -101,7 +101,7 @@ pub type_too : {p : Program} {i j : ℕ} {r : types.Kind}
 type_too {p} {i} {j} a h = record {
   core = h.core;
   type = h.type;
-  leads = subst (λ (c : ℕ). IsCore p.types j c) (one_core p.types i a.core h.core a.one h.leads) a.other;
+  chain = subst (λ (c : ℕ). IsUnderlying p.types j c) (one_core p.types i a.core h.core a.one h.chain) a.other;
   there = h.there;
   within = h.within;
   assigns = h.assigns;
@@ -158,14 +158,14 @@ constrained_too (schema_of.set_of g) s h = constraint_too s h
 constrained_too (schema_of.choice g) s h = tt
 
 own : {p : Program} {i : ℕ} {r : types.Kind} (h : IsTypeOf p (Allows p) (AllowsCode p) i r) → IsOfKind p.types i h.type.kind
-own h = record { core = h.core; type = h.type; leads = h.leads; there = h.there; kind = refl }
+own h = record { core = h.core; type = h.type; chain = h.chain; there = h.there; kind = refl }
 
 settled_too : {p : Program} {i j : ℕ} (ts us : List Tag) (r : types.Kind)
     → AreAlike p i j
     → IsTypeOf p (Allows p) (AllowsCode p) i r
-    → IsSettledType p i (record { tags = ts; kind = r })
+    → IsProgramType p i (record { tags = ts; kind = r })
     → (q : Path) × Tags p.types j q × (map label us ≡ standing q)
-    → IsSettledType p j (record { tags = us; kind = r })
+    → IsProgramType p j (record { tags = us; kind = r })
 settled_too {p} {i} {j} ts us r a h f t =
     let same = one_kind p.types i f.kind h.type.kind f.is (own h) in
     let u = own h in

@@ -11,7 +11,7 @@ use Rattle.trees.specs.declared.types.ElementsKind.TheVariants.{SequenceOf, SetO
 use Rattle.trees.specs.Values.{Name}
 use Rattle.trees.specs.Types.{Plain, an_integer, a_bit_string, an_octet_string, a_utf8_string, a_restricted_string}
 use Rattle.type_table.specs.Walks.{follow, onward}
-use Rattle.type_table.specs.Table.{Type', Kind, simple, elements, IsCore, next}
+use Rattle.type_table.specs.Table.{Type', Kind, simple, elements, IsUnderlying, next}
 use Rattle.resolve.specs.Program.{Program}
 use Rattle.range_ends.specs.Ends.{IsOfKind}
 use Rattle.constraints.specs.Allowed.{IsAllowed, IsInAlphabet, IsCounted, IsConstraintOf, AreCodesOf}
@@ -40,12 +40,12 @@ same_end f (suc k) (suc m) i c d e n g o = go (f i) refl (λ j. same_end f k m j
     go None q more = absurd (none-some c (sym (ap (λ y. onward y (λ j. follow f k j)) q) ∙ e))
     go (Some j) q more = more j (sym (ap (λ y. onward y (λ j. follow f k j)) q) ∙ e) n (sym (ap (λ y. onward y (λ j. follow f m j)) q) ∙ g) o
 
-pub one_core : (ts : List Type') (i c d : ℕ) → IsCore ts i c → IsCore ts i d → c ≡ d
-one_core ts i c d a b = same_end (next ts) a.steps b.steps i c d a.leads a.ends b.leads b.ends
+pub one_core : (ts : List Type') (i c d : ℕ) → IsUnderlying ts i c → IsUnderlying ts i d → c ≡ d
+one_core ts i c d a b = same_end (next ts) a.steps b.steps i c d a.chain a.ends b.chain b.ends
 
 pub one_kind : (ts : List Type') (i : ℕ) (k l : Kind) → IsOfKind ts i k → IsOfKind ts i l → k ≡ l
 one_kind ts i k l a b =
-    let same = one_core ts i a.core b.core a.leads b.leads in
+    let same = one_core ts i a.core b.core a.chain b.chain in
     let types = same_Some a.type b.type (sym a.there ∙ ap (slice_get ts) same ∙ b.there) in
     sym a.kind ∙ ap (λ (t : Type'). t.kind) types ∙ b.kind
 

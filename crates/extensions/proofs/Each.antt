@@ -11,19 +11,19 @@ use Rattle.trees.specs.Values.{Name, Tree}
 use Rattle.trees.specs.Types.{default}
 use Rattle.names.specs.proving.Distinct.{either}
 use Rattle.type_table.specs.Walks.{follow, onward}
-use Rattle.type_table.specs.declared.table.Written.{Written}
+use Rattle.type_table.specs.declared.table.TypeNode.{TypeNode}
 use Rattle.type_table.specs.Seen.{kind_of, type_of}
-use Rattle.type_table.specs.Table.{Part, Type', Kind, members, IsCore, IsLinked, next}
+use Rattle.type_table.specs.Table.{Part, Type', Kind, members, IsUnderlying, IsLinked, next}
 use Rattle.resolve.specs.Program.{Program, IsAssignment}
 use Rattle.value_notations.specs.Values.{IsTyped}
 use Rattle.settled.specs.values.Allowing.{Allows, AllowsCode}
-use Rattle.settled.specs.Settled.{IsTypedDefault, AreTypedDefaults, IsSettled}
+use Rattle.settled.specs.Settled.{IsTypedDefault, AreTypedDefaults, IsProgramSchema}
 use Rattle.extensions.specs.proving.Defaults.{IsDefaultOf, AreDefaultsOf, HasDefaults}
 use Rattle.typed_values.specs.declared.fault.ValueFault.{ValueFault}
 use Rattle.extensions.specs.declared.wrong.Wrong.{Wrong}
 use Rattle.extensions.specs.declared.wrong.Wrong.TheVariants.{Memory, At}
 use Rattle.extensions.specs.Faults.{IsList, IsFirstIn, HasTypedDefaults}
-use Rattle.extensions.specs.proving.Tables.{AreEach, AreDefaultsAt, AreTabled, HaveTypes, IsFirstAt, IsResolved, Tells}
+use Rattle.extensions.specs.proving.Tables.{AreEach, AreDefaultsAt, AreTabled, HaveTypes, IsFirstAt, IsResolved, Reports}
 
 -- ---- one after the other
 
@@ -193,11 +193,11 @@ same_end f (suc k) (suc m) i c d e n g o = go (f i) refl (λ j. same_end f k m j
 -- the DEFAULTs of a type are those of its core
 pub of_core : (p : Program) (i core : ℕ) (vs : List (Option AbstractValue)) (table : List (List (Option AbstractValue)))
     → AreTabled p (length p.types) table
-    → IsCore p.types i core
+    → IsUnderlying p.types i core
     → slice_get table core ≡ Some vs
     → HasDefaults p i vs
-of_core p i core vs table t is e other u M x l m cs leads there home kind =
-    let same = same_end (next p.types) leads.steps is.steps i other core leads.leads leads.ends is.leads is.ends in
+of_core p i core vs table t is e other u M x l m cs chain there home kind =
+    let same = same_end (next p.types) chain.steps is.steps i other core chain.chain chain.ends is.chain is.ends in
     t.each core vs e M cs (record {
       type = u;
       there = sym (ap (slice_get p.types) same) ∙ there;
@@ -213,7 +213,7 @@ of_core p i core vs table t is e other u M x l m cs leads there home kind =
 pub settled : (p : Program) (n : ℕ) (rs : List Resolved)
     → AreEach (IsResolved p) n rs
     → n ≡ length p.types
-    → IsSettled p rs
+    → IsProgramSchema p rs
 settled p n rs s e = record {
   types = record { as_many = s.as_many ∙ e; each = λ i r f. (s.each i r f).is };
   each = λ i r f. (s.each i r f).settled;
@@ -221,22 +221,22 @@ settled p n rs s e = record {
 
 -- ---- the faults
 
-pub tells_more : (P Q : ValueFault → Type 0) (w : Wrong) → ((f : ValueFault) → P f → Q f) → Tells P w → Tells Q w
-tells_more P Q Memory more t = tt
-tells_more P Q (At f) more t = more f t
+pub reports_more : (P Q : ValueFault → Type 0) (w : Wrong) → ((f : ValueFault) → P f → Q f) → Reports P w → Reports Q w
+reports_more P Q Memory more t = tt
+reports_more P Q (At f) more t = more f t
 
 pub err_more : {A : Type 0} (r : Result A Wrong) (P Q : ValueFault → Type 0) → ((f : ValueFault) → P f → Q f)
-    → IfErr r (Tells P)
-    → IfErr r (Tells Q)
+    → IfErr r (Reports P)
+    → IfErr r (Reports Q)
 err_more (Ok a) P Q more t = tt
-err_more (Err w) P Q more t = tells_more P Q w more t
+err_more (Err w) P Q more t = reports_more P Q w more t
 
 -- a fault is the first one of the list that is type i
 pub first_at : (p : Program) (i : ℕ) (M : Name) (cs : List Part) (f : ValueFault) → IsList p i M cs → IsFirstIn p M cs f → IsFirstAt p i f
 first_at p i M cs f l s = record { within = M; parts = cs; list = l; first = s }
 
 -- written type i, whose shape is known, is a list
-pub list_is : (p : Program) (i : ℕ) (w : Written) (M x : Name) (l : ListKind) (m : Bool) (cs : List Part)
+pub list_is : (p : Program) (i : ℕ) (w : TypeNode) (M x : Name) (l : ListKind) (m : Bool) (cs : List Part)
     → slice_get p.types i ≡ Some (type_of w)
     → kind_of w.shape ≡ members l m cs
     → IsAssignment p w.assignment M x

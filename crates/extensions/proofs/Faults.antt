@@ -8,7 +8,7 @@ use Rattle.trees.specs.Values.{Name, Tree}
 use Rattle.trees.specs.Types.{default}
 use Rattle.type_table.specs.Table.{Part}
 use Rattle.names.specs.Names.{IsApart}
-use Rattle.names.specs.Modules.{StandsIn}
+use Rattle.names.specs.Modules.{OccursIn}
 use Rattle.type_table.specs.Lists.{AreSound}
 use Rattle.type_table.specs.Table.{members}
 use Rattle.resolve.specs.Program.{Program}
@@ -24,8 +24,8 @@ use Rattle.typed_values.specs.declared.fault.ValueFault.{ValueFault}
 use Rattle.typed_values.specs.Faults as typed
 use Rattle.typed_values.specs.Laws.{HaveFewNodes}
 use Rattle.settled.specs.Settled.{AreTypedDefaults}
-use Rattle.extensions.specs.Settles.{IsRead, IsSettling, HasValue}
-use Rattle.extensions.specs.Faults.{Stands, IsFirstDefault, IsWrong}
+use Rattle.extensions.specs.SchemaOfModules.{IsLinkedProgram, IsWellTyped, HasTypedValue}
+use Rattle.extensions.specs.Faults.{IsRightFault, IsFirstDefault, IsWrong}
 use Rattle.extensions.specs.declared.fault.ExtFault.{ExtFault}
 use Rattle.extensions.specs.declared.fault.ExtFault.TheVariants.{Memory, Additions, Default, Assigned}
 
@@ -42,7 +42,7 @@ Exclude = (p : Program) (levels left i : ℕ) (os : List ℕ) (M : Name) (n : Tr
     → IsApart p.modules
     → AreSound p.types
     → HaveFewNodes p
-    → typed.Stands p levels left os M i n f
+    → typed.IsRightFault p levels left os M i n f
     → (f.cause ≡ causes.Memory → ⊥)
     → Notation p os M i n v
     → ValueIn p (Allows p) (AllowsCode p) levels i v
@@ -50,30 +50,30 @@ Exclude = (p : Program) (levels left i : ℕ) (os : List ℕ) (M : Name) (n : Tr
     → ⊥
 
 abbrev pub NoOther : Type 0
-NoOther = (p : Program) (e : AdditionFault) → (e ≡ markers.Memory → ⊥) → additions.Stands p e → KeepAdditions p.types → ⊥
+NoOther = (p : Program) (e : AdditionFault) → (e ≡ markers.Memory → ⊥) → additions.IsRightFault p e → KeepAdditions p.types → ⊥
 
-pub few : OneValue → (p : Program) → IsRead p → AreTypedDefaults p → HaveFewNodes p
+pub few : OneValue → (p : Program) → IsLinkedProgram p → AreTypedDefaults p → HaveFewNodes p
 few one p r d i k e cs N c t v is stands presence n =
     let w = d is.core is.type N is.assigns k e cs c is.there is.stands is.kind stands t presence in
     subst (λ x. nodes x ≤ 16777216) (one p [] N c.ty t w.0 v r.apart r.sound.lists w.1.stands n) w.1.value.few_nodes
 
 pub none : Exclude → (p : Program) (M : Name) (i : ℕ) (n : Tree) (f : ValueFault)
-    → IsRead p
+    → IsLinkedProgram p
     → HaveFewNodes p
     → IsWrong p M i n f
-    → HasValue p M i n
+    → HasTypedValue p M i n
     → ⊥
 none exclude p M i n f r h w v =
     exclude p 64 16777216 i [] M n f v.0 r.apart r.sound.lists h w.stands w.caused v.1.stands v.1.value.shaped v.1.value.few_nodes
 
-pub no_wrong_default : OneValue → Exclude → (p : Program) (f : ValueFault) → IsRead p → AreTypedDefaults p → IsFirstDefault p f → ⊥
+pub no_wrong_default : OneValue → Exclude → (p : Program) (f : ValueFault) → IsLinkedProgram p → AreTypedDefaults p → IsFirstDefault p f → ⊥
 no_wrong_default one exclude p f r a d =
     let w = d.first.wrong in
     none exclude p d.within d.first.part.ty w.0 f r (few one p r a) w.2
     (a d.number d.list.type d.within d.list.assigns d.list.list d.list.marked d.parts d.first.part d.list.there d.list.stands d.list.is (d.first.number, d.first.there) w.0 w.1)
 
-pub no_other_fault : OneValue → Exclude → NoOther → (p : Program) (e : ExtFault) → IsRead p → (e ≡ Memory → ⊥) → Stands p e
-    → IsSettling p
+pub no_other_fault : OneValue → Exclude → NoOther → (p : Program) (e : ExtFault) → IsLinkedProgram p → (e ≡ Memory → ⊥) → IsRightFault p e
+    → IsWellTyped p
     → ⊥
 no_other_fault one exclude other p Memory r m s a = m refl
 no_other_fault one exclude other p (Additions f) r m s a = other p f s.0 s.1 a.additions

@@ -11,7 +11,7 @@ use Rattle.asn_base.specs.declared.schema.Item.{Item}
 use Rattle.asn_base.specs.Seen.{item_of}
 use Rattle.asn_base.specs.Types as types
 use Rattle.trees.specs.Values.{Name}
-use Rattle.names.specs.Modules.{AreDistinct, StandsIn}
+use Rattle.names.specs.Modules.{AreDistinct, OccursIn}
 use Rattle.type_table.specs.Items as written
 use Rattle.extensions.specs.proving.Items.{item_with, with_numbers, have_one_number}
 
@@ -95,7 +95,7 @@ unlike y z false e never = refl
 
 none_like : (z : ℤ) (js : List Item) (is : List written.Item) (zs : List ℤ)
     → map item_of js ≡ with_numbers is zs
-    → (StandsIn zs z → ⊥)
+    → (OccursIn zs z → ⊥)
     → AllByRecursion (λ (j : Item). int_eq z j.number ≡ false) js
 none_like z [] is zs e never = tt
 none_like z (j ∷ js) [] zs e never = absurd cc
@@ -116,7 +116,7 @@ later_distinct z zs d x t =
       there = t.there;
     })
 
-head_alone : (z : ℤ) (zs : List ℤ) → AreDistinct (z ∷ zs) → StandsIn zs z → ⊥
+head_alone : (z : ℤ) (zs : List ℤ) → AreDistinct (z ∷ zs) → OccursIn zs z → ⊥
 head_alone z zs d s =
     d z (record {
       first = zero;

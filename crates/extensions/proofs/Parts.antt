@@ -19,7 +19,7 @@ use Rattle.settled.specs.additions.Additions.{IsAdded, KeepAdditions, has_defaul
 use Rattle.settled.specs.schema_of.SchemaOf as schema_of
 use Rattle.settled.specs.schema_of.SchemaOf.{AreComponentsOf, no_component, component_and, IsComponentOf, AreAlternativesOf, no_alternative, root_and, addition_and, IsAlternativeOf, IsPresenceOf}
 use Rattle.extensions.specs.proving.Defaults.{IsDefaultOf, AreDefaultsOf}
-use Rattle.extensions.specs.proving.Cores.{AreBehind, HaveNoDefaultBehind, IsCoreOf, IsGiven, is_optional}
+use Rattle.extensions.specs.proving.Cores.{AdditionsLast, HaveNoDefaultAfter, IsCoreOf, IsGiven, is_optional}
 
 pub taken_at : {A : Type 0} (xs : List A) (n : ℕ) (x : A) → slice_get xs n ≡ Some x → take (n + 1) xs ≡ take n xs ++ x ∷ []
 taken_at xs n x e =
@@ -110,15 +110,15 @@ one_added (addition_and {c = c} g s j r) some = (zero, c, refl, added c g s)
     added : (c : Part) (g : Option ℕ) → c.standing ≡ Addition g → IsAdded c
     added c g e = ap first.is_addition e
 
-no_alternative_behind : {cs : List Part} {root : List Alternative} (more : List Alternative) (c : Part)
+no_alternative_after : {cs : List Part} {root : List Alternative} (more : List Alternative) (c : Part)
     → AreAlternativesOf cs root more
     → ((m : ℕ) (d : Part) → slice_get cs m ≡ Some d → IsAdded d → IsAdded c)
     → c.standing ≡ Root
     → more ≡ []
-no_alternative_behind [] c r behind st = refl
-no_alternative_behind (a ∷ as') c r behind st =
+no_alternative_after [] c r following st = refl
+no_alternative_after (a ∷ as') c r following st =
     let w = one_added r (λ e. absurd cc) in
-    let is : first.is_addition c.standing ≡ true = behind w.0 w.1 w.2 w.3 in
+    let is : first.is_addition c.standing ≡ true = following w.0 w.1 w.2 w.3 in
     let e : false ≡ true = sym (ap first.is_addition st) ∙ is in
     absurd cc
 
@@ -128,8 +128,8 @@ pub put_root : (cs : List Part) (root : List Alternative) (more : List Alternati
     → c.standing ≡ Root
     → IsAlternativeOf c a
     → AreAlternativesOf (cs ++ c ∷ []) (root ++ a ∷ []) more
-put_root cs root more c a r behind st i =
-    let none = no_alternative_behind more c r behind st in
+put_root cs root more c a r following st i =
+    let none = no_alternative_after more c r following st in
     subst (λ x. AreAlternativesOf (cs ++ c ∷ []) (root ++ a ∷ []) x) (sym none) (root_more r none st i)
 
 pub put_addition : (cs : List Part) (root : List Alternative) (more : List Alternative) (c : Part) (a : Alternative) (g : Option ℕ)
@@ -153,21 +153,21 @@ is_list ts i t k e q =
       found = e ∙ ap (λ (x : Kind). Some (record { kind = x; constraints = t.constraints; default = t.default; place = t.place; assignment = t.assignment })) q;
     }
 
-pub none_behind : (ts : List Type') (i : ℕ) (t : Type') (l : ListKind) (m : Bool) (cs : List Part)
+pub none_after : (ts : List Type') (i : ℕ) (t : Type') (l : ListKind) (m : Bool) (cs : List Part)
     → KeepAdditions ts
     → slice_get ts i ≡ Some t
     → t.kind ≡ members l m cs
-    → HaveNoDefaultBehind cs
-none_behind ts i t l m cs keep e k n c f added =
+    → HaveNoDefaultAfter cs
+none_after ts i t l m cs keep e k n c f added =
     ((keep i n).member l m cs t.default t.place c (is_list ts i t (members l m cs) e k) f).no_default added
 
-pub all_behind : (ts : List Type') (i : ℕ) (t : Type') (l : ListKind) (m : Bool) (cs : List Part)
+pub all_after : (ts : List Type') (i : ℕ) (t : Type') (l : ListKind) (m : Bool) (cs : List Part)
     → KeepAdditions ts
     → slice_get ts i ≡ Some t
     → t.kind ≡ members l m cs
-    → AreBehind cs
-all_behind ts i t l m cs keep e k a n d c before f g added =
-    ((keep i n).member l m cs t.default t.place c (is_list ts i t (members l m cs) e k) g).placed.behind a d before f added
+    → AdditionsLast cs
+all_after ts i t l m cs keep e k a n d c before f g added =
+    ((keep i n).member l m cs t.default t.place c (is_list ts i t (members l m cs) e k) g).placed.following a d before f added
 
 pub sequence_core : (p : Program) (i : ℕ) (M : Name) (m : Bool) (cs : List Part) (ds : List Component)
     → AreComponentsOf p M cs ds
@@ -203,13 +203,13 @@ pub next_alternative : (cs : List Part) (n : ℕ) (c : Part) (root more : List A
 next_alternative cs n c root more e r = subst (λ xs. AreAlternativesOf xs root more) (sym (taken_at cs n c e)) r
 
 pub added_before : (cs : List Part) (n : ℕ) (c : Part)
-    → AreBehind cs
+    → AdditionsLast cs
     → slice_get cs n ≡ Some c
     → (m : ℕ) (d : Part)
     → slice_get (take n cs) m ≡ Some d
     → IsAdded d
     → IsAdded c
-added_before cs n c behind e m d f added = let r = taken_get cs n m d f in behind m n d c r.0 r.1 e added
+added_before cs n c following e m d f added = let r = taken_get cs n m d f in following m n d c r.0 r.1 e added
 
 pub all_taken : {A : Type 0} (xs : List A) (n : ℕ) → length xs ≤ n → take n xs ≡ xs
 all_taken [] zero l = refl

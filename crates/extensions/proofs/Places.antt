@@ -8,7 +8,7 @@ use Rattle.resolve.specs.Program.{Program}
 use Rattle.typed_values.specs.declared.fault.ValueFault.{ValueFault}
 use Rattle.typed_values.specs.Laws.{HaveFewNodes}
 use Rattle.settled.specs.Settled.{AreTypedDefaults, IsTypedDefault}
-use Rattle.extensions.specs.Settles.{IsRead}
+use Rattle.extensions.specs.SchemaOfModules.{IsLinkedProgram}
 use Rattle.extensions.specs.Faults.{IsFirstDefault, IsFirstValue, IsList}
 use Rattle.extensions.proofs.Each.{same_list}
 use Rattle.extensions.proofs.Faults.{OneValue, Exclude, few, none}
@@ -19,7 +19,7 @@ one_number a b f g = ⊎_elim (λ e. e) (⊎_elim (λ l. absurd (f l)) (λ l. ab
 -- ---- DEFAULTs
 
 no_earlier_list : Exclude → (p : Program) (e f : ValueFault)
-    → IsRead p
+    → IsLinkedProgram p
     → HaveFewNodes p
     → (d : IsFirstDefault p e)
     → (g : IsFirstDefault p f)
@@ -31,7 +31,7 @@ no_earlier_list exclude p e f r h d g l =
     (g.before d.number l d.within d.parts d.first.number d.first.part d.list d.first.there w.0 w.1)
 
 no_earlier_part : Exclude → (p : Program) (e f : ValueFault)
-    → IsRead p
+    → IsLinkedProgram p
     → HaveFewNodes p
     → (d : IsFirstDefault p e)
     → (g : IsFirstDefault p f)
@@ -47,7 +47,7 @@ no_earlier_part exclude p e f r h d g same l =
     none exclude p d.within c.ty w.0 e r h w.2 (subst (λ M. IsTypedDefault p M c) (sym both.0) typed w.0 w.1)
 
 pub one_default : Exclude → (p : Program) (e f : ValueFault)
-    → IsRead p
+    → IsLinkedProgram p
     → HaveFewNodes p
     → (d : IsFirstDefault p e)
     → (g : IsFirstDefault p f)
@@ -62,7 +62,7 @@ one_default exclude p e f r h d g =
 -- ---- value assignments
 
 no_earlier_value : Exclude → (p : Program) (e f : ValueFault)
-    → IsRead p
+    → IsLinkedProgram p
     → HaveFewNodes p
     → (d : IsFirstValue p e)
     → (g : IsFirstValue p f)
@@ -72,7 +72,7 @@ no_earlier_value exclude p e f r h d g l =
     none exclude p d.within d.value.ty d.value.notation e r h d.wrong (g.before d.number l d.value d.within d.assigns d.there d.stands)
 
 pub one_assigned : OneValue → Exclude → (p : Program) (e f : ValueFault)
-    → IsRead p
+    → IsLinkedProgram p
     → AreTypedDefaults p
     → (d : IsFirstValue p e)
     → (g : IsFirstValue p f)

@@ -64,12 +64,12 @@ added_members root more k x z same = (
           named = r.3;
           numbered = ap (slice_get (numbers_of root more)) e ∙ sym (drop_get (numbers_of root more) k r.0) ∙ r.4;
         };
-        behind = omega arith;
+        following = omega arith;
       },
   λ r.
       let n = r.item.place in
       elim (either root more n r.item.item r.item.there) [
-        | inl f ↦ absurd (let h = slice_get_within root n r.item.item f in omega (arith, h, r.behind))
+        | inl f ↦ absurd (let h = slice_get_within root n r.item.item f in omega (arith, h, r.following))
         | inr q ↦
             let e : k + q.0 ≡ n = omega (arith, same, q.1) in
             at_place more (drop k (numbers_of root more)) x z q.0 r.item.item q.2 r.item.named

@@ -11,7 +11,7 @@ use Rattle.resolve.specs.Program.{Program}
 use Rattle.tagging.specs.Tags.{Path, Tags, label}
 use Rattle.settled.specs.values.Allowing.{Allows, AllowsCode}
 use Rattle.settled.specs.schema_of.SchemaOf.{IsKindOf, IsTypeOf}
-use Rattle.settled.specs.Settled.{IsSettledType, standing}
+use Rattle.settled.specs.Settled.{IsProgramType, standing}
 use Rattle.extensions.specs.proving.Cores.{IsCoreIn, IsCoreOf, IsCoreType}
 
 pub none_mapped : {A B : Type 0} (f : A → B) (xs : List A) → length xs ≡ 0 → map f xs ≡ []
@@ -33,7 +33,7 @@ pub is_type : (p : Program) (i : ℕ) (r : types.Kind) → IsCoreIn p i r → Is
 is_type p i r h = record {
   core = h.is.core;
   type = h.is.type;
-  leads = h.is.leads;
+  chain = h.is.chain;
   there = h.is.there;
   within = h.is.within;
   assigns = h.is.assigns;
@@ -41,14 +41,14 @@ is_type p i r h = record {
   kind = subst (λ k. IsKindOf p (Allows p) (AllowsCode p) i h.is.within k r) (sym h.is.kind) h.such.kind;
 }
 
-pub is_settled : (p : Program) (i : ℕ) (ts : List Tag) (r : types.Kind)
+pub is_program_schema : (p : Program) (i : ℕ) (ts : List Tag) (r : types.Kind)
     → (q : Path) × Tags p.types i q × (map label ts ≡ standing q)
     → IsCoreIn p i r
-    → IsSettledType p i (record { tags = ts; kind = r })
-is_settled p i ts r t h = record {
+    → IsProgramType p i (record { tags = ts; kind = r })
+is_program_schema p i ts r t h = record {
   tags = record { path = t.0; tags = t.1; same = t.2 };
   kind = h.kind;
-  is = record { core = h.is.core; type = h.is.type; leads = h.is.leads; there = h.is.there; kind = h.is.kind };
+  is = record { core = h.is.core; type = h.is.type; chain = h.is.chain; there = h.is.there; kind = h.is.kind };
   constrained = h.such.constrained;
   items = h.such.items;
 }

@@ -15,7 +15,7 @@ use Rattle.typed_values.specs.Faults as typed
 use Rattle.typed_values.specs.declared.fault.Cause.TheVariants as causes
 use Rattle.typed_values.specs.declared.fault.ValueFault.{ValueFault}
 use Rattle.settled.specs.Settled.{AreTypedDefaults, IsTypedDefault}
-use Rattle.extensions.specs.Settles.{HasValue}
+use Rattle.extensions.specs.SchemaOfModules.{HasTypedValue}
 use Rattle.extensions.specs.declared.fault.ExtFault.{ExtFault}
 use Rattle.extensions.specs.declared.fault.ExtFault.TheVariants.{Memory, Additions, Default, Assigned}
 
@@ -23,7 +23,7 @@ use Rattle.extensions.specs.declared.fault.ExtFault.TheVariants.{Memory, Additio
 -- type.
 pub record IsWrong (p : Program) (M : Name) (i : ℕ) (n : Tree) (f : ValueFault) : Type 0 where
   pub caused : f.cause ≡ causes.Memory → ⊥
-  pub stands : typed.Stands p 64 16777216 [] M i n f
+  pub stands : typed.IsRightFault p 64 16777216 [] M i n f
 
 -- the DEFAULT of component c of a list in module M has fault f
 abbrev pub IsWrongDefault : Program → Name → Part → ValueFault → Type 0
@@ -68,7 +68,7 @@ abbrev pub IsTypedValue : Program → ℕ → Type 0
 IsTypedValue p i = (v : Value) (M x : Name) →
     slice_get p.values i ≡ Some v →
     IsAssignment p v.assignment M x →
-    HasValue p M v.ty v.notation
+    HasTypedValue p M v.ty v.notation
 
 -- f is the fault of the first value assignment of the program without a value
 pub record IsFirstValue (p : Program) (f : ValueFault) : Type 0 where
@@ -82,8 +82,8 @@ pub record IsFirstValue (p : Program) (f : ValueFault) : Type 0 where
   pub before : (j : ℕ) → j < number → IsTypedValue p j
 
 -- The fault is one of this program, and the first in order. `Memory` has no condition.
-abbrev pub Stands : Program → ExtFault → Type 0
-Stands p Memory = Unit {0}
-Stands p (Additions f) = (f ≡ markers.Memory → ⊥) × additions.Stands p f
-Stands p (Default f) = KeepAdditions p.types × IsFirstDefault p f
-Stands p (Assigned f) = KeepAdditions p.types × AreTypedDefaults p × IsFirstValue p f
+abbrev pub IsRightFault : Program → ExtFault → Type 0
+IsRightFault p Memory = Unit {0}
+IsRightFault p (Additions f) = (f ≡ markers.Memory → ⊥) × additions.IsRightFault p f
+IsRightFault p (Default f) = KeepAdditions p.types × IsFirstDefault p f
+IsRightFault p (Assigned f) = KeepAdditions p.types × AreTypedDefaults p × IsFirstValue p f

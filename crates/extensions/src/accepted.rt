@@ -3,25 +3,25 @@
 ghost use Rattle.std.specs.Prelude.{◌≡◌, MatchResult};
 ghost use Rattle.asn_base.specs.Schemas.{IsSchema};
 ghost use Rattle.asn_base.specs.Seen.{types_of};
-ghost use Rattle.extensions.specs.Faults.{Stands};
-ghost use Rattle.extensions.specs.Settles.{AreSettled, IsRead, Settles};
+ghost use Rattle.extensions.specs.Faults.{IsRightFault};
+ghost use Rattle.extensions.specs.SchemaOfModules.{HaveSchema, IsLinkedProgram, SchemaOfModules};
 
 use crate::fault::ExtFault;
 use crate::schema::settled_types;
 use asn_base::schema::{Resolved, Schema};
 use constraints::Bounded;
-use settled::law::{settled_is_schema, tags_are_kept};
+use settled::law::{lemma_program_schema_is_schema, lemma_tags_are_kept};
 use std::alloc::Global;
 
 /// The schema with these settled types, for modules that keep all rules.
 fn accepted(bounded: &Bounded<'_>, types: Vec<Resolved>) -> Schema
-    requires read { IsRead bounded.now }
-    requires settled { AreSettled bounded.now (types_of types.items) }
+    requires read { IsLinkedProgram bounded.now }
+    requires settled { HaveSchema bounded.now (types_of types.items) }
     ensures same { result ≡ types_of types.items }
     ensures accepted { IsSchema result }
 {
-    tags_are_kept();
-    settled_is_schema();
+    lemma_tags_are_kept();
+    lemma_program_schema_is_schema();
     let tagged = bounded.tagged();
     let linked = tagged.linked();
     linked.whole();
@@ -34,8 +34,8 @@ fn accepted(bounded: &Bounded<'_>, types: Vec<Resolved>) -> Schema
 /// The error is the first fault, in this order: `Additions` with `MarkerPlace`, `AdditionOrder` or `DefaultAddition`,
 /// `Default` for a DEFAULT, and `Assigned` for a value assignment. `Memory`: an allocation failed.
 pub fn settle<'a>(alloc: Global, bounded: &Bounded<'a>) -> Result<Schema, ExtFault<'a>>
-    requires { IsRead bounded.now }
-    ensures { MatchResult result (Settles bounded.now) (Stands bounded.now) }
+    requires { IsLinkedProgram bounded.now }
+    ensures { MatchResult result (SchemaOfModules bounded.now) (IsRightFault bounded.now) }
 {
     match settled_types(alloc, bounded) {
         Ok(types) => Ok(accepted(bounded, types)),

@@ -5,8 +5,8 @@ ghost use Rattle.names.specs.Sources.{value_of as value_seen};
 ghost use Rattle.type_table.specs.Lists.{AreSound};
 ghost use Rattle.typed_values.specs.Known.{AreKnown};
 ghost use Rattle.extensions.specs.Faults.{IsFirstValue, IsTypedValue};
-ghost use Rattle.extensions.specs.Settles.{AreTypedValues};
-ghost use Rattle.extensions.specs.proving.Tables.{IsWrongValue, Tells};
+ghost use Rattle.extensions.specs.SchemaOfModules.{AreTypedValues};
+ghost use Rattle.extensions.specs.proving.Tables.{IsWrongValue, Reports};
 
 use crate::wrong::{Wrong, judged};
 use asn_base::schema::TypeId;
@@ -27,7 +27,7 @@ fn is_typed<'a>(
     requires sound { AreSound bounded.now.types }
     requires known { AreKnown bounded.now defaults.old }
     ensures typed { OnOk result (IsTypedValue bounded.now number) }
-    ensures fault { IfErr result (Tells (IsWrongValue bounded.now number)) }
+    ensures fault { IfErr result (Reports (IsWrongValue bounded.now number)) }
     ensures known { AreKnown bounded.now defaults.new }
 {
     let linked = bounded.linked();
@@ -52,7 +52,7 @@ pub(crate) fn all_typed<'a>(
     requires sound { AreSound bounded.now.types }
     requires known { AreKnown bounded.now defaults.old }
     ensures typed { OnOk result (AreTypedValues bounded.now) }
-    ensures fault { IfErr result (Tells (IsFirstValue bounded.now)) }
+    ensures fault { IfErr result (Reports (IsFirstValue bounded.now)) }
     ensures known { AreKnown bounded.now defaults.new }
 {
     for number in 0..values.len() {

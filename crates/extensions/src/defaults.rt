@@ -6,7 +6,7 @@ ghost use Rattle.type_table.specs.Seen.{part_of, type_of, types_of};
 ghost use Rattle.typed_values.specs.Known.{AreKnown};
 ghost use Rattle.extensions.specs.proving.Defaults.{AreDefaultsOf, IsDefaultOf};
 ghost use Rattle.extensions.specs.Faults.{IsFirstDefault, IsFirstIn, IsWrongDefault};
-ghost use Rattle.extensions.specs.proving.Tables.{AreDefaultsAt, AreTabled, HaveTypes, IsFirstAt, Tells, defaults_seen, shared_seen, table_seen};
+ghost use Rattle.extensions.specs.proving.Tables.{AreDefaultsAt, AreTabled, HaveTypes, IsFirstAt, Reports, defaults_seen, shared_seen, table_seen};
 
 use crate::pool::{Pool, Shared};
 use crate::wrong::{Wrong, value_of};
@@ -14,7 +14,7 @@ use asn_base::schema::TypeId;
 use constraints::Bounded;
 use std::alloc::{AllocError, Global};
 use trees::PresenceSyntax;
-use type_table::{ListMember, Shape, Written};
+use type_table::{ListMember, Shape, TypeNode};
 use typed_values::Defaults;
 
 /// The value of a component's DEFAULT, whose notation is in this module, or None if the component has no DEFAULT.
@@ -30,7 +30,7 @@ fn default_of<'a>(
     requires sound { AreSound bounded.now.types }
     requires known { AreKnown bounded.now defaults.old }
     ensures value { IfOk result (λ v. IsDefaultOf bounded.now within.now (part_of component.now) (option_map shared_seen v)) }
-    ensures fault { IfErr result (Tells (IsWrongDefault bounded.now within.now (part_of component.now))) }
+    ensures fault { IfErr result (Reports (IsWrongDefault bounded.now within.now (part_of component.now))) }
     ensures known { AreKnown bounded.now defaults.new }
 {
     let ty = TypeId {
@@ -72,7 +72,7 @@ fn defaults_in<'a>(
     requires sound { AreSound bounded.now.types }
     requires known { AreKnown bounded.now defaults.old }
     ensures values { IfOk result (λ v. AreDefaultsOf bounded.now within.now (map part_of components.now) (defaults_seen v.items)) }
-    ensures fault { IfErr result (Tells (IsFirstIn bounded.now within.now (map part_of components.now))) }
+    ensures fault { IfErr result (Reports (IsFirstIn bounded.now within.now (map part_of components.now))) }
     ensures known { AreKnown bounded.now defaults.new }
 {
     let mut values = Vec::new(alloc);
@@ -95,14 +95,14 @@ fn defaults_at<'a>(
     defaults: &mut Defaults,
     pool: &mut Pool,
     ty: usize,
-    written: &'a Written,
+    written: &'a TypeNode,
 ) -> Result<Vec<Option<Shared>>, Wrong<'a>>
     requires there { ty < length bounded.now.types }
     requires is { slice_get bounded.now.types ty ≡ Some (type_of written.now) }
     requires sound { AreSound bounded.now.types }
     requires known { AreKnown bounded.now defaults.old }
     ensures values { IfOk result (λ v. AreDefaultsAt bounded.now ty (defaults_seen v.items)) }
-    ensures fault { IfErr result (Tells (IsFirstAt bounded.now ty)) }
+    ensures fault { IfErr result (Reports (IsFirstAt bounded.now ty)) }
     ensures known { AreKnown bounded.now defaults.new }
 {
     let linked = bounded.linked();
@@ -138,13 +138,13 @@ pub(crate) fn all_defaults<'a>(
     alloc: Global,
     bounded: &Bounded<'a>,
     defaults: &mut Defaults,
-    types: &'a [Written],
+    types: &'a [TypeNode],
 ) -> Result<Vec<Vec<Option<Shared>>>, Wrong<'a>>
     requires types { types_of types.now ≡ bounded.now.types }
     requires sound { AreSound bounded.now.types }
     requires known { AreKnown bounded.now defaults.old }
     ensures table { IfOk result (λ t. AreTabled bounded.now (length bounded.now.types) (table_seen t.items)) }
-    ensures fault { IfErr result (Tells (IsFirstDefault bounded.now)) }
+    ensures fault { IfErr result (Reports (IsFirstDefault bounded.now)) }
     ensures known { AreKnown bounded.now defaults.new }
 {
     let mut pool = match Pool::of(alloc, bounded.linked().values().len()) {

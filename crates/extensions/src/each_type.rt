@@ -4,7 +4,7 @@ ghost use Rattle.std.specs.Prelude.{◌≡◌, ◌++◌, ◌∷◌, [], ◌<◌,
 ghost use Rattle.asn_base.specs.Seen.{resolved_of, types_of};
 ghost use Rattle.type_table.specs.Lists.{AreSound};
 ghost use Rattle.settled.specs.additions.Additions.{KeepAdditions};
-ghost use Rattle.settled.specs.Settled.{IsSettled};
+ghost use Rattle.settled.specs.Settled.{IsProgramSchema};
 ghost use Rattle.extensions.specs.proving.Cores.{AreAlike};
 ghost use Rattle.extensions.specs.proving.Tables.{AreEach, AreTabled, IsResolved, table_seen};
 
@@ -152,7 +152,7 @@ pub(crate) fn all_types(
     requires sound { AreSound bounded.now.types }
     requires additions { KeepAdditions bounded.now.types }
     requires table { AreTabled bounded.now (length bounded.now.types) (table_seen table.now) }
-    ensures { IfOk result (λ v. IsSettled bounded.now (types_of v.items)) }
+    ensures { IfOk result (λ v. IsProgramSchema bounded.now (types_of v.items)) }
 {
     let count = bounded.linked().types().len();
     let mut firsts = Firsts::none(alloc, count)?;

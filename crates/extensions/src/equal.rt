@@ -3,7 +3,7 @@
 ghost use Rattle.std.specs.Prelude.{◌≡◌, map, option_map, true};
 ghost use Rattle.asn_base.specs.Abstract.{abstract, bits_of};
 
-use asn_base::law::abstract_values;
+use asn_base::law::lemma_abstract_values;
 use asn_base::value::{BitString, Value};
 
 /// Whether two bit strings have the same octets and unused bits.
@@ -19,7 +19,7 @@ fn are_equal_bits(first: &BitString, second: &BitString) -> bool
 pub(crate) fn are_equal(first: &Value, second: &Value) -> bool
     ensures { result ≡ true → abstract first.now ≡ abstract second.now }
 {
-    abstract_values();
+    lemma_abstract_values();
     match (first, second) {
         (Value::Bool(one), Value::Bool(other)) => *one == *other,
         (Value::Int(one), Value::Int(other)) => *one == *other,

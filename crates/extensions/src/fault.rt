@@ -4,8 +4,8 @@ ghost use Rattle.resolve.specs.Program.{Program};
 ghost use Rattle.settled.specs.additions.Additions.{KeepAdditions};
 ghost use Rattle.settled.specs.additions.Faults as markers;
 ghost use Rattle.settled.specs.Settled.{AreTypedDefaults};
-ghost use Rattle.extensions.specs.Faults.{IsFirstValue, Stands};
-ghost use Rattle.extensions.specs.proving.Tables.{Tells};
+ghost use Rattle.extensions.specs.Faults.{IsFirstValue, IsRightFault};
+ghost use Rattle.extensions.specs.proving.Tables.{Reports};
 
 use crate::wrong::Wrong;
 use settled::additions::ExtFault as AdditionFault;
@@ -28,26 +28,26 @@ pub enum ExtFault<'a> {
 
 /// The fault of bounded modules for this fault of a marker or an addition.
 pub(crate) fn of_additions<'a>(fault: AdditionFault) -> ExtFault<'a>
-    ensures { (p : Program) → markers.Stands p fault → Stands p result }
+    ensures { (p : Program) → markers.IsRightFault p fault → IsRightFault p result }
 {
     match fault {
         AdditionFault::Memory => ExtFault::Memory,
-        AdditionFault::MarkerPlace(spot) => {
-            ExtFault::Additions(AdditionFault::MarkerPlace(spot))
+        AdditionFault::MarkerPlace(source_location) => {
+            ExtFault::Additions(AdditionFault::MarkerPlace(source_location))
         }
-        AdditionFault::AdditionOrder(spot) => {
-            ExtFault::Additions(AdditionFault::AdditionOrder(spot))
+        AdditionFault::AdditionOrder(source_location) => {
+            ExtFault::Additions(AdditionFault::AdditionOrder(source_location))
         }
-        AdditionFault::DefaultAddition(spot) => {
-            ExtFault::Additions(AdditionFault::DefaultAddition(spot))
+        AdditionFault::DefaultAddition(source_location) => {
+            ExtFault::Additions(AdditionFault::DefaultAddition(source_location))
         }
     }
 }
 
 /// The fault of bounded modules for a value assignment without a value.
 pub(crate) fn of_assigned<'a>(wrong: Wrong<'a>) -> ExtFault<'a>
-    ensures { (p : Program) → KeepAdditions p.types → AreTypedDefaults p → Tells (IsFirstValue p) wrong.entry
-        → Stands p result }
+    ensures { (p : Program) → KeepAdditions p.types → AreTypedDefaults p → Reports (IsFirstValue p) wrong.entry
+        → IsRightFault p result }
 {
     match wrong {
         Wrong::Memory => ExtFault::Memory,

@@ -10,7 +10,7 @@ ghost use Rattle.trees.specs.Types as trees;
 ghost use Rattle.trees.specs.Values.{Name, name_at};
 ghost use Rattle.type_table.specs.Items.{numbers_of};
 ghost use Rattle.type_table.specs.Lists.{IsSoundEnumeration};
-ghost use Rattle.type_table.specs.Seen.{behind_marker, more_of, root_of};
+ghost use Rattle.type_table.specs.Seen.{after_marker, more_of, root_of};
 ghost use Rattle.type_table.specs.Table.{simple};
 ghost use Rattle.resolve.specs.Program.{Program};
 ghost use Rattle.settled.specs.schema_of.SchemaOf.{IsAddedItem, IsRootItem};
@@ -85,7 +85,7 @@ fn root(alloc: Global, given: &EnumeratedSyntax, numbers: &[i128]) -> Result<Vec
 }
 
 /// The items after the extension marker, or none if there is no marker.
-fn behind(given: &EnumeratedSyntax) -> &[EnumeratedItem]
+fn items_after(given: &EnumeratedSyntax) -> &[EnumeratedItem]
     ensures { map trees.item_of result.now ≡ more_of given.now }
 {
     match &given.additions {
@@ -106,7 +106,7 @@ fn additions(
         (IsMember (item_with x z) (map item_of v.items) ↔ IsAddedItem (root_of given.now) (more_of given.now) x z)) }
     ensures ascend { IfOk result (λ v. NumbersAscend (map item_of v.items)) }
 {
-    match numbered(alloc, behind(given), numbers, given.root.len()) {
+    match numbered(alloc, items_after(given), numbers, given.root.len()) {
         Ok(all) => in_order(all),
         Err(fault) => Err(fault),
     }
@@ -114,7 +114,7 @@ fn additions(
 
 /// Whether an enumeration has an extension marker.
 fn has_marker(given: &EnumeratedSyntax) -> bool
-    ensures { result ≡ false ↔ behind_marker given.now ≡ None }
+    ensures { result ≡ false ↔ after_marker given.now ≡ None }
 {
     match &given.additions {
         None => false,
@@ -127,7 +127,7 @@ fn has_marker(given: &EnumeratedSyntax) -> bool
 pub(crate) fn enumeration(alloc: Global, given: &EnumeratedSyntax) -> Result<Core, AllocError>
     requires { IsSoundEnumeration (root_of given.now) (more_of given.now) }
     ensures { (p : Program) (i : ℕ) (M : Name) → IfOk result (λ c.
-        IsCoreOf p i M (simple (an_enumerated (root_of given.now) (behind_marker given.now))) (kind_of c)) }
+        IsCoreOf p i M (simple (an_enumerated (root_of given.now) (after_marker given.now))) (kind_of c)) }
 {
     let numbers = match item_numbers(alloc, given) {
         Ok(numbers) => numbers,

@@ -12,52 +12,52 @@ ghost use Rattle.typed_values.specs.declared.fault.ValueFault.{ValueFault};
 ghost use Rattle.typed_values.specs.Laws.{HaveFewNodes};
 ghost use Rattle.settled.specs.Settled.{AreTypedDefaults};
 ghost use Rattle.extensions.specs.declared.fault.ExtFault.TheVariants.{Memory, Additions, Default, Assigned};
-ghost use Rattle.extensions.specs.Faults.{IsFirstDefault, IsFirstValue, Stands};
-ghost use Rattle.extensions.specs.Settles.{IsRead, IsSettling};
+ghost use Rattle.extensions.specs.Faults.{IsFirstDefault, IsFirstValue, IsRightFault};
+ghost use Rattle.extensions.specs.SchemaOfModules.{IsLinkedProgram, IsWellTyped};
 
 /// Modules with a fault other than `Memory` don't keep all rules. So `settle` succeeds exactly if they do and no
 /// allocation fails.
-pub fn no_other()
-    ensures { (p : Program) (e : ExtFault) → IsRead p → (e ≡ Memory → ⊥) → Stands p e → IsSettling p → ⊥ }
+pub fn lemma_fault_excludes()
+    ensures { (p : Program) (e : ExtFault) → IsLinkedProgram p → (e ≡ Memory → ⊥) → IsRightFault p e → IsWellTyped p → ⊥ }
 {
-    settled::additions::law::no_other();
-    typed_values::law::faults_exclude();
+    settled::additions::law::lemma_fault_excludes();
+    typed_values::law::lemma_faults_exclude();
     value_notations::law::one_value();
 }
 
 /// Faults have an order: those of markers and additions come before those of DEFAULTs, and these before those of value
 /// assignments. If one of the three kinds is the first fault, neither of the others is.
 pub fn one_kind()
-    ensures default_behind_markers { (p : Program) (e : AdditionFault) (f : ValueFault) → Stands p (Additions e)
-        → Stands p (Default f) → ⊥ }
-    ensures assigned_behind_markers { (p : Program) (e : AdditionFault) (f : ValueFault) →
-        Stands p (Additions e) → Stands p (Assigned f) → ⊥ }
-    ensures assigned_behind_defaults { (p : Program) (e f : ValueFault) → IsRead p → Stands p (Default e)
-        → Stands p (Assigned f) → ⊥ }
+    ensures default_after_markers { (p : Program) (e : AdditionFault) (f : ValueFault) → IsRightFault p (Additions e)
+        → IsRightFault p (Default f) → ⊥ }
+    ensures assigned_after_markers { (p : Program) (e : AdditionFault) (f : ValueFault) →
+        IsRightFault p (Additions e) → IsRightFault p (Assigned f) → ⊥ }
+    ensures assigned_after_defaults { (p : Program) (e f : ValueFault) → IsLinkedProgram p → IsRightFault p (Default e)
+        → IsRightFault p (Assigned f) → ⊥ }
 {
-    settled::additions::law::no_other();
-    typed_values::law::faults_exclude();
+    settled::additions::law::lemma_fault_excludes();
+    typed_values::law::lemma_faults_exclude();
     value_notations::law::one_value();
 }
 
 /// A fault is that of at most one value assignment. It is that of at most one DEFAULT if the value of each DEFAULT has
 /// at most 2^24 nodes.
 pub fn one_place()
-    ensures default { (p : Program) (e f : ValueFault) → IsRead p → HaveFewNodes p → (d : IsFirstDefault p e)
+    ensures default { (p : Program) (e f : ValueFault) → IsLinkedProgram p → HaveFewNodes p → (d : IsFirstDefault p e)
         → (g : IsFirstDefault p f) →
         (d.number ≡ g.number) × (d.first.number ≡ g.first.number) }
-    ensures assigned { (p : Program) (e f : ValueFault) → IsRead p → AreTypedDefaults p → (d : IsFirstValue p e)
+    ensures assigned { (p : Program) (e f : ValueFault) → IsLinkedProgram p → AreTypedDefaults p → (d : IsFirstValue p e)
         → (g : IsFirstValue p f) →
         d.number ≡ g.number }
 {
-    typed_values::law::faults_exclude();
+    typed_values::law::lemma_faults_exclude();
     value_notations::law::one_value();
 }
 
 /// Linked modules that are spelled by the rules of the notation meet the condition of `settle`.
-pub fn linked_are_read()
-    ensures { (ms : List ModuleTree) (p : Program) → Links ms p → All IsSpelledModule ms → IsRead p }
+pub fn lemma_linked_program()
+    ensures { (ms : List ModuleTree) (p : Program) → Links ms p → All IsSpelledModule ms → IsLinkedProgram p }
 {
-    settled::spelled::law::types_are_spelled();
-    settled::spelled::law::linked_are_sound();
+    settled::spelled::law::lemma_types_are_spelled();
+    settled::spelled::law::lemma_linked_are_sound();
 }

@@ -14,7 +14,7 @@ ghost use Rattle.settled.specs.additions.Additions.{IsAdded, has_default};
 ghost use Rattle.settled.specs.schema_of.SchemaOf.{AreAlternativesOf, AreComponentsOf, IsAlternativeOf, IsComponentOf, IsPresenceOf};
 ghost use Rattle.extensions.specs.proving.Defaults.{AreDefaultsOf, IsDefaultOf};
 ghost use Rattle.extensions.specs.proving.Tables.{defaults_seen, shared_seen};
-ghost use Rattle.extensions.specs.proving.Cores.{AreBehind, HaveNoDefaultBehind, IsCoreOf, IsGiven, is_optional as is_optional'};
+ghost use Rattle.extensions.specs.proving.Cores.{AdditionsLast, HaveNoDefaultAfter, IsCoreOf, IsGiven, is_optional as is_optional'};
 
 use crate::pool::Shared;
 use asn_base::schema::{Addition, Alternative, Alternatives, Component, Core, Presence, TypeId};
@@ -110,7 +110,7 @@ fn components(
 ) -> Result<Vec<Component>, AllocError>
     requires given { (p : Program) × (M : Name) ×
         AreDefaultsOf p M (map part_of parts.now) (defaults_seen defaults.now) }
-    requires plain { HaveNoDefaultBehind (map part_of parts.now) }
+    requires plain { HaveNoDefaultAfter (map part_of parts.now) }
     ensures { (p : Program) (M : Name) →
         AreDefaultsOf p M (map part_of parts.now) (defaults_seen defaults.now) →
         IfOk result (λ v. AreComponentsOf p M (map part_of parts.now) (map component_of v.items)) }
@@ -170,7 +170,7 @@ fn put(
 
 /// The alternatives of a CHOICE, in order: those of the root and those after the marker.
 fn alternatives(alloc: Global, marker: bool, parts: &[Part]) -> Result<Alternatives, AllocError>
-    requires { AreBehind (map part_of parts.now) }
+    requires { AdditionsLast (map part_of parts.now) }
     ensures marker { IfOk result (λ a. a.extensible ≡ marker) }
     ensures parts { IfOk result (λ a. AreAlternativesOf (map part_of parts.now) (map alternative_of a.root.items)
         (map alternative_of a.additions.items)) }
@@ -197,8 +197,8 @@ pub(crate) fn list_core(
 ) -> Result<Core, AllocError>
     requires given { (p : Program) × (M : Name) ×
         AreDefaultsOf p M (map part_of parts.now) (defaults_seen defaults.now) }
-    requires plain { HaveNoDefaultBehind (map part_of parts.now) }
-    requires behind { AreBehind (map part_of parts.now) }
+    requires plain { HaveNoDefaultAfter (map part_of parts.now) }
+    requires following { AdditionsLast (map part_of parts.now) }
     ensures { (p : Program) (i : ℕ) (M : Name) →
         AreDefaultsOf p M (map part_of parts.now) (defaults_seen defaults.now) →
         IfOk result (λ c. IsCoreOf p i M (members kind marker (map part_of parts.now)) (kind_of c)) }

@@ -2,8 +2,8 @@
 
 ghost use Rattle.std.specs.Prelude.{MatchResult};
 ghost use Rattle.asn_base.specs.Seen.{types_of};
-ghost use Rattle.extensions.specs.Faults.{Stands};
-ghost use Rattle.extensions.specs.Settles.{IsRead, AreSettled};
+ghost use Rattle.extensions.specs.Faults.{IsRightFault};
+ghost use Rattle.extensions.specs.SchemaOfModules.{IsLinkedProgram, HaveSchema};
 
 use crate::assigned::all_typed;
 use crate::defaults::all_defaults;
@@ -25,8 +25,8 @@ pub fn settled_types<'a>(
     alloc: Global,
     bounded: &Bounded<'a>,
 ) -> Result<Vec<Resolved>, ExtFault<'a>>
-    requires { IsRead bounded.now }
-    ensures { MatchResult result (λ v. AreSettled bounded.now (types_of v.items)) (Stands bounded.now) }
+    requires { IsLinkedProgram bounded.now }
+    ensures { MatchResult result (λ v. HaveSchema bounded.now (types_of v.items)) (IsRightFault bounded.now) }
 {
     match additions(alloc, bounded) {
         Ok(()) => {}

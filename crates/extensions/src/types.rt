@@ -47,7 +47,7 @@ fn elements_core(
 }
 
 /// The shape of a type after its references and tags.
-fn behind(linked: &Linked, ty: TypeId) -> &Shape
+fn target(linked: &Linked, ty: TypeId) -> &Shape
     requires { ty.index < length linked.now.types }
     ensures { IsCoreType linked.now ty.index (kind_of result.now) }
 {
@@ -69,7 +69,7 @@ fn core(
     requires defaults { HasDefaults bounded.now ty.index (defaults_seen defaults.now) }
     ensures { IfOk result (λ c. IsCoreIn bounded.now ty.index (resolved_kind c)) }
 {
-    match behind(bounded.linked(), ty) {
+    match target(bounded.linked(), ty) {
         Shape::Simple(simple) => simple_core(alloc, bounded, ty, simple),
         Shape::Members(kind, marker, parts) => list_core(alloc, *kind, *marker, parts, defaults),
         Shape::Elements(kind, element) => elements_core(alloc, bounded, ty, *kind, *element),

@@ -6,20 +6,20 @@ ghost use Rattle.trees.specs.Values.{Name, Tree, tree_of};
 ghost use Rattle.type_table.specs.Lists.{AreSound};
 ghost use Rattle.resolve.specs.Program.{Program};
 ghost use Rattle.typed_values.specs.declared.fault.Cause.TheVariants as causes;
-ghost use Rattle.typed_values.specs.Faults.{Stands};
+ghost use Rattle.typed_values.specs.Faults.{IsRightFault};
 ghost use Rattle.typed_values.specs.Known.{AreKnown};
 ghost use Rattle.value_notations.specs.Values.{IsTyped};
 ghost use Rattle.settled.specs.values.Allowing.{Allows, AllowsCode};
 ghost use Rattle.extensions.specs.Faults.{IsWrong};
-ghost use Rattle.extensions.specs.Settles.{HasValue};
-ghost use Rattle.extensions.specs.proving.Tables.{Tells};
+ghost use Rattle.extensions.specs.SchemaOfModules.{HasTypedValue};
+ghost use Rattle.extensions.specs.proving.Tables.{Reports};
 
 use asn_base::schema::TypeId;
 use asn_base::value::Value;
 use constraints::Bounded;
 use std::alloc::Global;
 use trees::ValueSyntax;
-use typed_values::{Cause, Defaults, ValueFault, judged_with, typed_with};
+use typed_values::{Cause, Defaults, ValueFault, check_with, read_with};
 
 /// Why there is no value: an allocation failed, or a notation has this fault.
 #[derive(Clone, Copy)]
@@ -42,8 +42,8 @@ fn ran_out(cause: Cause<'_>) -> bool
 /// Why a notation with this fault has no value.
 fn wrong_of<'a>(fault: ValueFault<'a>) -> Wrong<'a>
     ensures { (p : Program) (M : Name) (i : ℕ) (n : Tree)
-        → Stands p 64 16777216 [] M i n fault.entry
-        → Tells (IsWrong p M i n) result }
+        → IsRightFault p 64 16777216 [] M i n fault.entry
+        → Reports (IsWrong p M i n) result }
 {
     if ran_out(fault.cause) {
         Wrong::Memory
@@ -65,11 +65,11 @@ pub(crate) fn judged<'a>(
     requires there { ty.index < length bounded.now.types }
     requires sound { AreSound bounded.now.types }
     requires known { AreKnown bounded.now defaults.old }
-    ensures value { OnOk result (HasValue bounded.now within.now ty.index (tree_of notation.now)) }
-    ensures fault { IfErr result (Tells (IsWrong bounded.now within.now ty.index (tree_of notation.now))) }
+    ensures value { OnOk result (HasTypedValue bounded.now within.now ty.index (tree_of notation.now)) }
+    ensures fault { IfErr result (Reports (IsWrong bounded.now within.now ty.index (tree_of notation.now))) }
     ensures known { AreKnown bounded.now defaults.new }
 {
-    match judged_with(alloc, bounded, defaults, ty, within, notation) {
+    match check_with(alloc, bounded, defaults, ty, within, notation) {
         Ok(()) => Ok(()),
         Err(fault) => Err(wrong_of(fault)),
     }
@@ -90,14 +90,14 @@ pub(crate) fn value_of<'a>(
     requires known { AreKnown bounded.now defaults.old }
     ensures value { IfOk result (λ v. IsTyped bounded.now (Allows bounded.now) (AllowsCode bounded.now) within.now ty.index
         (tree_of notation.now) (abstract v)) }
-    ensures fault { IfErr result (Tells (IsWrong bounded.now within.now ty.index (tree_of notation.now))) }
+    ensures fault { IfErr result (Reports (IsWrong bounded.now within.now ty.index (tree_of notation.now))) }
     ensures known { AreKnown bounded.now defaults.new }
 {
     match judged(alloc, bounded, defaults, ty, within, notation) {
         Ok(()) => {}
         Err(wrong) => return Err(wrong),
     }
-    match typed_with(alloc, bounded, defaults, ty, within, notation) {
+    match read_with(alloc, bounded, defaults, ty, within, notation) {
         Ok(value) => Ok(value),
         Err(fault) => Err(wrong_of(fault)),
     }

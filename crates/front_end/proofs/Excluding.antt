@@ -2,14 +2,14 @@
 use Rattle.std.proofs.Common.{◌≡◌, ℕ, List, refl, subst}
 use Rattle.std.specs.List.{AllZip, All}
 use Rattle.std.proofs.lemmas.List.Elements.{All-from_recursion}
-use Rattle.text.specs.declared.fault.LexFault.{LexFault}
-use Rattle.text.specs.declared.fault.LexFault.TheVariants as lexing
+use Rattle.text.specs.declared.lex_fault.LexFault.{LexFault}
+use Rattle.text.specs.declared.lex_fault.LexFault.TheVariants as lexing
 use Rattle.text.specs.declared.token.Token.{Token}
 use Rattle.text.specs.Text.{IsText, IsWithinLimits}
 use Rattle.text.specs.Text as texts
 use Rattle.grammar.specs.Lexeme.{lexemes}
 use Rattle.grammar.specs.Places.{Limits, bounded}
-use Rattle.kernel.specs.Given.{IsLexed}
+use Rattle.parser_combinators.specs.Given.{IsLexed}
 use Rattle.syntax.specs.Syntax.{module_text}
 use Rattle.trees.specs.Modules.{ModuleTree}
 use Rattle.names.specs.Modules.{AreNamed}
@@ -25,13 +25,13 @@ use Rattle.constraints.specs.Faults as bounding
 use Rattle.constraints.specs.declared.fault.BoundFault.{BoundFault}
 use Rattle.constraints.specs.declared.fault.BoundFault.TheVariants as bounds
 use Rattle.extensions.specs.Faults as settling
-use Rattle.extensions.specs.Settles.{IsRead, IsSettling}
+use Rattle.extensions.specs.SchemaOfModules.{IsLinkedProgram, IsWellTyped}
 use Rattle.extensions.specs.declared.fault.ExtFault.{ExtFault}
 use Rattle.extensions.specs.declared.fault.ExtFault.TheVariants as settled
 use Rattle.front_end.specs.Accepted.{AreAccepted, IsModule}
-use Rattle.front_end.specs.Faults.{HaveProgram, IsLinkedFault, Stands}
-use Rattle.front_end.specs.declared.fault.FrontFault.{FrontFault}
-use Rattle.front_end.specs.declared.fault.FrontFault.TheVariants as faults
+use Rattle.front_end.specs.Faults.{HaveProgram, IsLinkedFault, IsRightFault}
+use Rattle.front_end.specs.declared.fault.CompileError.{CompileError}
+use Rattle.front_end.specs.declared.fault.CompileError.TheVariants as faults
 use Rattle.front_end.proofs.Lists.{zip_all, zip_at, zip_one}
 use Rattle.front_end.proofs.Texts.{OneModule, OneTokens, no_module, one_tree}
 
@@ -68,11 +68,11 @@ same_program list program xs p q a b =
 -- ---- faults
 
 abbrev pub NoTokens : Type 0
-NoTokens = (x : List ℕ) (ts : List Token) (f : LexFault) → IsText x ts → IsWithinLimits x ts → texts.Stands x f →
+NoTokens = (x : List ℕ) (ts : List Token) (f : LexFault) → IsText x ts → IsWithinLimits x ts → texts.IsRightFault x f →
     f ≡ lexing.Memory
 
 abbrev pub AreRead : Type 0
-AreRead = (xs : List (List ℕ)) (ms : List ModuleTree) (p : Program) → AllZip IsModule xs ms → Links ms p → IsRead p
+AreRead = (xs : List (List ℕ)) (ms : List ModuleTree) (p : Program) → AllZip IsModule xs ms → Links ms p → IsLinkedProgram p
 
 -- the laws of each layer, and those of texts
 pub record Laws : Type 0 where
@@ -82,33 +82,33 @@ pub record Laws : Type 0 where
   pub program : OneProgram
   pub read : AreRead
   pub links : FaultsExclude
-  pub tags : (p : Program) (e : TagFault) → (e ≡ tags.Memory → ⊥) → tagging.Stands p e → IsTagged p.types → ⊥
-  pub bounds : (p : Program) (e : BoundFault) → (e ≡ bounds.Memory → ⊥) → bounding.Stands p e → AreBounded p → ⊥
-  pub settles : (p : Program) (e : ExtFault) → IsRead p → (e ≡ settled.Memory → ⊥) → settling.Stands p e →
-      IsSettling p → ⊥
+  pub tags : (p : Program) (e : TagFault) → (e ≡ tags.Memory → ⊥) → tagging.IsRightFault p e → IsTagged p.types → ⊥
+  pub bounds : (p : Program) (e : BoundFault) → (e ≡ bounds.Memory → ⊥) → bounding.IsRightFault p e → AreBounded p → ⊥
+  pub schema_of_modules : (p : Program) (e : ExtFault) → IsLinkedProgram p → (e ≡ settled.Memory → ⊥) → settling.IsRightFault p e →
+      IsWellTyped p → ⊥
 
-linked_excluded : Laws → (p : Program) (e : FrontFault) → (e ≡ faults.Memory → ⊥) → IsLinkedFault p e → IsRead p →
-    IsTagged p.types → AreBounded p → IsSettling p → ⊥
+linked_excluded : Laws → (p : Program) (e : CompileError) → (e ≡ faults.Memory → ⊥) → IsLinkedFault p e → IsLinkedProgram p →
+    IsTagged p.types → AreBounded p → IsWellTyped p → ⊥
 linked_excluded l p faults.Memory u h r t b s = u refl
 linked_excluded l p (faults.Tag f) u h r t b s = l.tags p f h.0 h.1 t
 linked_excluded l p (faults.Bound f) u h r t b s = l.bounds p f h.1 h.2 b
-linked_excluded l p (faults.Additions f) u h r t b s = l.settles p (settled.Additions f) r (λ q. absurd cc) h.2 s
+linked_excluded l p (faults.Additions f) u h r t b s = l.schema_of_modules p (settled.Additions f) r (λ q. absurd cc) h.2 s
 linked_excluded l p (faults.Default v) u h r t b s =
-    l.settles p (settled.Default h.2.fault) r (λ q. absurd cc) h.2.stands s
+    l.schema_of_modules p (settled.Default h.2.fault) r (λ q. absurd cc) h.2.stands s
 linked_excluded l p (faults.Assigned v) u h r t b s =
-    l.settles p (settled.Assigned h.2.fault) r (λ q. absurd cc) h.2.stands s
+    l.schema_of_modules p (settled.Assigned h.2.fault) r (λ q. absurd cc) h.2.stands s
 linked_excluded l p (faults.Text k f) u h r t b s = absurd h
 linked_excluded l p (faults.Tree k f) u h r t b s = absurd h
 linked_excluded l p (faults.Name f) u h r t b s = absurd h
 
-program_excluded : Laws → (xs : List (List ℕ)) (p : Program) (e : FrontFault) → (e ≡ faults.Memory → ⊥) →
+program_excluded : Laws → (xs : List (List ℕ)) (p : Program) (e : CompileError) → (e ≡ faults.Memory → ⊥) →
     (ms : List ModuleTree) → AllZip IsModule xs ms → HaveProgram ms (λ q. IsLinkedFault q e) → AreAccepted xs p → ⊥
 program_excluded l xs p e u ms z h a =
     let k = subst (λ ns. Links ns h.program) (l.list xs ms a.modules z a.are) h.links in
     let q = l.program a.modules h.program p a.links.named k.program a.links.program in
     linked_excluded l p e u (subst (λ r. IsLinkedFault r e) q h.such) (l.read xs a.modules p a.are a.links) a.tagged a.bounded a.asked
 
-pub excluded : Laws → (xs : List (List ℕ)) (p : Program) (e : FrontFault) → (e ≡ faults.Memory → ⊥) → Stands xs e →
+pub excluded : Laws → (xs : List (List ℕ)) (p : Program) (e : CompileError) → (e ≡ faults.Memory → ⊥) → IsRightFault xs e →
     AreAccepted xs p → ⊥
 excluded l xs p faults.Memory u h a = u refl
 excluded l xs p (faults.Text k f) u h a =
@@ -127,8 +127,8 @@ excluded l xs p (faults.Default t) u h a = program_excluded l xs p (faults.Defau
 excluded l xs p (faults.Assigned t) u h a = program_excluded l xs p (faults.Assigned t) u h.modules h.are h.stands a
 
 -- so a fault of accepted texts is `Memory`
-pub is_memory : ((xs : List (List ℕ)) (p : Program) (e : FrontFault) → (e ≡ faults.Memory → ⊥) → Stands xs e →
-    AreAccepted xs p → ⊥) → (xs : List (List ℕ)) (p : Program) (e : FrontFault) → Stands xs e → AreAccepted xs p →
+pub is_memory : ((xs : List (List ℕ)) (p : Program) (e : CompileError) → (e ≡ faults.Memory → ⊥) → IsRightFault xs e →
+    AreAccepted xs p → ⊥) → (xs : List (List ℕ)) (p : Program) (e : CompileError) → IsRightFault xs e → AreAccepted xs p →
     e ≡ faults.Memory
 is_memory law xs p faults.Memory h a = refl
 is_memory law xs p (faults.Text k f) h a = absurd (law xs p (faults.Text k f) (λ q. absurd cc) h a)

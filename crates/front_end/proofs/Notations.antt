@@ -9,13 +9,13 @@ use Rattle.resolve.specs.Program.{Program}
 use Rattle.value_notations.specs.Notations.{Notation}
 use Rattle.value_notations.specs.Values.{ValueIn}
 use Rattle.extensions.specs.values.Allowing.{Allows, AllowsCode}
-use Rattle.told_values.specs.typed_values.declared.fault.Cause.TheVariants as causes
-use Rattle.told_values.specs.typed_values.declared.fault.ValueFault.{ValueFault}
-use Rattle.told_values.specs.typed_values.Faults as typed
-use Rattle.told_values.specs.typed_values.Laws.{HaveFewNodes}
+use Rattle.value_diagnostics.specs.typed_values.declared.fault.Cause.TheVariants as causes
+use Rattle.value_diagnostics.specs.typed_values.declared.fault.ValueFault.{ValueFault}
+use Rattle.value_diagnostics.specs.typed_values.Faults as typed
+use Rattle.value_diagnostics.specs.typed_values.Laws.{HaveFewNodes}
 use Rattle.extensions.specs.Faults.{IsWrong}
-use Rattle.front_end.specs.Accepted.{Keeps}
-use Rattle.front_end.specs.Untyped.{StandsFor}
+use Rattle.front_end.specs.Accepted.{IsCheckedProgram}
+use Rattle.front_end.specs.ValueError.{DenotesValue}
 
 abbrev pub OneValue : Type 0
 OneValue = (p : Program) (os : List ℕ) (M : Name) (i : ℕ) (n : Tree) (v w : AbstractValue)
@@ -30,23 +30,23 @@ Exclude = (p : Program) (levels left i : ℕ) (os : List ℕ) (M : Name) (n : Tr
     → IsApart p.modules
     → AreSound p.types
     → HaveFewNodes p
-    → typed.Stands p levels left os M i n f
+    → typed.IsRightFault p levels left os M i n f
     → (f.cause ≡ causes.Memory → ⊥)
     → Notation p os M i n v
     → ValueIn p (Allows p) (AllowsCode p) levels i v
     → nodes v ≤ left
     → ⊥
 
-few : OneValue → (p : Program) → Keeps p → HaveFewNodes p
+few : OneValue → (p : Program) → IsCheckedProgram p → HaveFewNodes p
 few one p r i k e cs N c t v is stands presence n =
     let w = r.asked.defaults is.core is.type N is.assigns k e cs c is.there is.stands is.kind stands t presence in
     subst (λ x. nodes x ≤ 16777216) (one p [] N c.ty t w.0 v r.read.apart r.read.sound.lists w.1.stands n) w.1.value.few_nodes
 
 pub no_value : OneValue → Exclude → (p : Program) (M : Name) (i : ℕ) (n : Tree) (f : ValueFault)
-    → Keeps p
+    → IsCheckedProgram p
     → IsWrong p M i n f
     → (v : AbstractValue)
-    → StandsFor p M i n v
+    → DenotesValue p M i n v
     → ⊥
 no_value one exclude p M i n f r w v h =
     exclude p 64 16777216 i [] M n f v r.read.apart r.read.sound.lists (few one p r) w.stands w.caused h.stands

@@ -7,18 +7,18 @@ use Rattle.trees.specs.Values.{Name, Tree}
 use Rattle.type_table.specs.Table.{Is, IsLinked, Part, members}
 use Rattle.resolve.specs.Links.{Links}
 use Rattle.resolve.specs.Program.{IsWhole, Program}
-use Rattle.told_values.specs.typed_values.declared.fault.Cause.TheVariants as causes
-use Rattle.told_values.specs.typed_values.declared.fault.ValueFault.{ValueFault}
-use Rattle.told_values.specs.typed_values.Faults as typed
+use Rattle.value_diagnostics.specs.typed_values.declared.fault.Cause.TheVariants as causes
+use Rattle.value_diagnostics.specs.typed_values.declared.fault.ValueFault.{ValueFault}
+use Rattle.value_diagnostics.specs.typed_values.Faults as typed
 use Rattle.extensions.specs.Faults.{IsFirstDefault}
 use Rattle.front_end.specs.Accepted.{IsModule}
-use Rattle.front_end.specs.Faults.{IsLinkedFault, Stands}
-use Rattle.front_end.specs.declared.fault.FrontFault.{FrontFault}
-use Rattle.front_end.specs.declared.fault.FrontFault.TheVariants as faults
+use Rattle.front_end.specs.Faults.{IsLinkedFault, IsRightFault}
+use Rattle.front_end.specs.declared.fault.CompileError.{CompileError}
+use Rattle.front_end.specs.declared.fault.CompileError.TheVariants as faults
 use Rattle.front_end.specs.proving.Steps.{IsNamesFault}
 
-pub names_stand : (xs : List (List ℕ)) (ms : List ModuleTree) (e : FrontFault) → AllZip IsModule xs ms →
-    IsNamesFault ms e → Stands xs e
+pub names_stand : (xs : List (List ℕ)) (ms : List ModuleTree) (e : CompileError) → AllZip IsModule xs ms →
+    IsNamesFault ms e → IsRightFault xs e
 names_stand xs ms faults.Memory z h = tt
 names_stand xs ms (faults.Name f) z h = record { modules = ms; are = z; stands = h }
 names_stand xs ms (faults.Text k f) z h = absurd h
@@ -29,8 +29,8 @@ names_stand xs ms (faults.Additions f) z h = absurd h
 names_stand xs ms (faults.Default t) z h = absurd h
 names_stand xs ms (faults.Assigned t) z h = absurd h
 
-pub linked_stand : (xs : List (List ℕ)) (ms : List ModuleTree) (p : Program) (e : FrontFault) → AllZip IsModule xs ms →
-    Links ms p → IsLinkedFault p e → Stands xs e
+pub linked_stand : (xs : List (List ℕ)) (ms : List ModuleTree) (p : Program) (e : CompileError) → AllZip IsModule xs ms →
+    Links ms p → IsLinkedFault p e → IsRightFault xs e
 linked_stand xs ms p faults.Memory z l h = tt
 linked_stand xs ms p (faults.Tag f) z l h =
     record { modules = ms; are = z; stands = record { program = p; links = l; such = h } }
@@ -52,7 +52,7 @@ abbrev pub AreThere : Type 0
 AreThere = (p : Program) (levels left i : ℕ) (os : List ℕ) (M : Name) (n : Tree) (f : ValueFault)
     → IsLinked p.types
     → i < length p.types
-    → typed.Stands p levels left os M i n f
+    → typed.IsRightFault p levels left os M i n f
     → (f.cause ≡ causes.Memory → ⊥)
     → f.at.ty.index < length p.types
 

@@ -10,22 +10,22 @@ use Rattle.text.specs.Text.{IsText}
 use Rattle.grammar.specs.Lexeme.{Lexeme, lexemes}
 use Rattle.grammar.specs.Places.{Limits, Ends, bounded, free, between}
 use Rattle.notation.specs.Answer as answers
-use Rattle.notation.specs.declared.fault.SyntaxFault.{SyntaxFault}
-use Rattle.notation.specs.declared.fault.SyntaxFault.TheVariants as parsing
+use Rattle.notation.specs.declared.syntax_fault.SyntaxFault.{SyntaxFault}
+use Rattle.notation.specs.declared.syntax_fault.SyntaxFault.TheVariants as parsing
 use Rattle.syntax.specs.Syntax.{module_text}
 use Rattle.trees.specs.Modules.{ModuleTree}
 use Rattle.front_end.specs.Accepted.{IsModule, octets_of}
-use Rattle.front_end.specs.Faults.{IsNoModule, Stands}
-use Rattle.front_end.specs.declared.fault.FrontFault.{FrontFault}
-use Rattle.front_end.specs.declared.fault.FrontFault.TheVariants as faults
+use Rattle.front_end.specs.Faults.{IsNoModule, IsRightFault}
+use Rattle.front_end.specs.declared.fault.CompileError.{CompileError}
+use Rattle.front_end.specs.declared.fault.CompileError.TheVariants as faults
 use Rattle.front_end.specs.proving.Steps.{IsRefusedAt}
 use Rattle.front_end.proofs.Lists.{zip_front}
 use Rattle.names.specs.proving.Distinct.{item_at}
 
 -- the text with a fault after texts that are modules is the first one
 pub first_refused : (xs : List (Vec ℕ Global)) (k : ℕ) (x : Vec ℕ Global) (t : List ℕ) (ms : List ModuleTree)
-    (e : FrontFault) → k < length xs → x ≡ get_or xs k x → t ≡ octets_of x →
-    AllZip IsModule (map octets_of (take k xs)) ms → IsRefusedAt k t e → Stands (map octets_of xs) e
+    (e : CompileError) → k < length xs → x ≡ get_or xs k x → t ≡ octets_of x →
+    AllZip IsModule (map octets_of (take k xs)) ms → IsRefusedAt k t e → IsRightFault (map octets_of xs) e
 first_refused xs k x t ms faults.Memory l e q z h = tt
 first_refused xs k x t ms (faults.Text i f) l e q z h = record {
   text = t;
@@ -67,7 +67,7 @@ one_tree one tree x m n a b =
 -- ---- a module, or a fault
 
 -- a whole module is a front of one
-whole_goes_on : (a : Limits) (m : ModuleTree) (ts : List Lexeme) → (module_text a).Is m ts → (module_text a).CanGoOn ts
+whole_goes_on : (a : Limits) (m : ModuleTree) (ts : List Lexeme) → (module_text a).Is m ts → (module_text a).IsPrefix ts
 whole_goes_on a m ts (p, e, (u, v, s, h, (q, f, (w, x, r, g, l)))) = inr (p.0, u, v, s, h, inr (q.0, w, x, r, g, inr (q.1, l)))
 
 all_between : (ts : List Lexeme) → between ts 0 (length ts) ≡ ts
@@ -75,9 +75,9 @@ all_between ts = let e : length ts - 0 ≡ length ts = omega arith in ap (λ n. 
 
 -- the longest front ends at no place before the end
 not_inside : (a : Limits) (ts : List Lexeme) (m : ModuleTree) (i : ℕ) → (module_text a).Is m ts → i < length ts →
-    ((j : ℕ) → i < j → j ≤ length ts → (module_text a).CanGoOn (between ts 0 j) → ⊥) → ⊥
+    ((j : ℕ) → i < j → j ≤ length ts → (module_text a).IsPrefix (between ts 0 j) → ⊥) → ⊥
 not_inside a ts m i h l none =
-    none (length ts) l (omega arith) (subst (module_text a).CanGoOn (sym (all_between ts)) (whole_goes_on a m ts h))
+    none (length ts) l (omega arith) (subst (module_text a).IsPrefix (sym (all_between ts)) (whole_goes_on a m ts h))
 
 -- the text doesn't end too soon if the whole is a module
 no_end : (ts : List Lexeme) (m : ModuleTree) (i : ℕ) → (module_text (bounded 128)).Is m ts →
@@ -90,7 +90,7 @@ no_end ts m i h e (inr g) =
     e.none q m (bounded 128, subst ((module_text (bounded 128)).Is m) w h)
 
 no_fault : (ts : List Lexeme) (m : ModuleTree) (f : SyntaxFault) → (f ≡ parsing.Memory → ⊥) →
-    answers.Stands module_text ts 0 (bounded 128) f → (module_text (bounded 128)).Is m ts → ⊥
+    answers.IsRightFault module_text ts 0 (bounded 128) f → (module_text (bounded 128)).Is m ts → ⊥
 no_fault ts m parsing.Memory u s h = u refl
 no_fault ts m (parsing.Unexpected i) u s h = no_end ts m i h s.0 (cases_lt i (length ts))
 no_fault ts m (parsing.OutOfProfile i) u s h = no_end ts m i h s.0 (cases_lt i (length ts))

@@ -6,14 +6,14 @@ use Rattle.asn_base.specs.Types.{Resolved}
 use Rattle.text.specs.declared.token.Token.{Token}
 use Rattle.grammar.specs.Lexeme.{lexemes}
 use Rattle.grammar.specs.Places.{bounded}
-use Rattle.kernel.specs.Given.{IsLexed}
+use Rattle.parser_combinators.specs.Given.{IsLexed}
 use Rattle.trees.specs.Modules.{ModuleTree}
 use Rattle.syntax.specs.Syntax.{module_text}
 use Rattle.resolve.specs.Links.{Links}
 use Rattle.resolve.specs.Program.{Program}
 use Rattle.tagging.specs.Tagged.{IsTagged}
 use Rattle.constraints.specs.Bounded.{AreBounded}
-use Rattle.extensions.specs.Settles.{IsRead, IsSettling, Settles}
+use Rattle.extensions.specs.SchemaOfModules.{IsLinkedProgram, IsWellTyped, SchemaOfModules}
 
 -- the octets of a text
 abbrev pub octets_of : Vec ℕ Global → List ℕ
@@ -39,11 +39,11 @@ pub record AreAccepted (xs : List (List ℕ)) (p : Program) : Type 0 where
   pub bounded : AreBounded p
   -- additions after markers are at allowed places; the notations of DEFAULTs and value assignments mean values of their
   -- types
-  pub asked : IsSettling p
+  pub asked : IsWellTyped p
 
 -- the additions, DEFAULTs and values of program p are as required, and s are its types, which are an accepted schema
 abbrev pub HasTypes : Program → List Resolved → Type 0
-HasTypes p s = Settles p s
+HasTypes p s = SchemaOfModules p s
 
 -- The texts xs are accepted as program p, and s are its types.
 pub record Accepted (xs : List (List ℕ)) (p : Program) (s : List Resolved) : Type 0 where
@@ -52,8 +52,8 @@ pub record Accepted (xs : List (List ℕ)) (p : Program) (s : List Resolved) : T
 
 -- What holds of the program of accepted texts. It is one that parsing and linking can give; its types have their tags,
 -- and its constraints have their meanings. Its additions, DEFAULTs and values are as required.
-pub record Keeps (p : Program) : Type 0 where
-  pub read : IsRead p
+pub record IsCheckedProgram (p : Program) : Type 0 where
+  pub read : IsLinkedProgram p
   pub tagged : IsTagged p.types
   pub bounded : AreBounded p
-  pub asked : IsSettling p
+  pub asked : IsWellTyped p

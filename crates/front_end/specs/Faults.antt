@@ -3,16 +3,16 @@
 -- additions, DEFAULTs and value assignments.
 use Rattle.std.specs.Prelude.{◌≡◌, ◌<◌, ℕ, List, Some, slice_get}
 use Rattle.std.specs.List.{AllZip}
-use Rattle.text.specs.declared.fault.LexFault.{LexFault}
-use Rattle.text.specs.declared.fault.LexFault.TheVariants as lexing
+use Rattle.text.specs.declared.lex_fault.LexFault.{LexFault}
+use Rattle.text.specs.declared.lex_fault.LexFault.TheVariants as lexing
 use Rattle.text.specs.declared.token.Token.{Token}
 use Rattle.text.specs.Text as texts
 use Rattle.grammar.specs.Lexeme.{lexemes}
 use Rattle.grammar.specs.Places.{bounded}
-use Rattle.kernel.specs.Given.{IsLexed}
+use Rattle.parser_combinators.specs.Given.{IsLexed}
 use Rattle.notation.specs.Answer as answers
-use Rattle.notation.specs.declared.fault.SyntaxFault.{SyntaxFault}
-use Rattle.notation.specs.declared.fault.SyntaxFault.TheVariants as parsing
+use Rattle.notation.specs.declared.syntax_fault.SyntaxFault.{SyntaxFault}
+use Rattle.notation.specs.declared.syntax_fault.SyntaxFault.TheVariants as parsing
 use Rattle.trees.specs.Modules.{ModuleTree}
 use Rattle.syntax.specs.Syntax.{module_text}
 use Rattle.names.specs.declared.fault.NameFault.TheVariants as linking
@@ -27,28 +27,28 @@ use Rattle.constraints.specs.Bounded.{AreBounded}
 use Rattle.constraints.specs.Faults as bounding
 use Rattle.constraints.specs.First as first_bounds
 use Rattle.constraints.specs.declared.fault.BoundFault.TheVariants as bounds
-use Rattle.told_values.specs.typed_values.declared.fault.ValueFault.{ValueFault}
+use Rattle.value_diagnostics.specs.typed_values.declared.fault.ValueFault.{ValueFault}
 use Rattle.extensions.specs.Faults as settling
 use Rattle.extensions.specs.declared.fault.ExtFault.TheVariants as settled
-use Rattle.told_values.specs.Told.{IsTold}
-use Rattle.told_values.specs.declared.telling.ValueTold.{ValueTold}
+use Rattle.value_diagnostics.specs.Diagnosed.{IsDiagnostic}
+use Rattle.value_diagnostics.specs.declared.value_diagnostic.ValueDiagnostic.{ValueDiagnostic}
 use Rattle.front_end.specs.Accepted.{IsModule}
-use Rattle.front_end.specs.declared.fault.FrontFault.{FrontFault}
-use Rattle.front_end.specs.declared.fault.FrontFault.TheVariants as faults
+use Rattle.front_end.specs.declared.fault.CompileError.{CompileError}
+use Rattle.front_end.specs.declared.fault.CompileError.TheVariants as faults
 
 -- ---- texts
 
 -- the text has no tokens, for the reason that the fault gives
 pub record HasNoTokens (x : List ℕ) (f : LexFault) : Type 0 where
   pub no_memory : f ≡ lexing.Memory → ⊥
-  pub stands : texts.Stands x f
+  pub stands : texts.IsRightFault x f
 
 -- the text has tokens, and they aren't a module, for the reason that the fault gives
 pub record IsNoModule (x : List ℕ) (f : SyntaxFault) : Type 0 where
   pub no_memory : f ≡ parsing.Memory → ⊥
   pub tokens : List Token
   pub lexed : IsLexed x tokens
-  pub stands : answers.Stands module_text (lexemes x tokens) 0 (bounded 128) f
+  pub stands : answers.IsRightFault module_text (lexemes x tokens) 0 (bounded 128) f
 
 -- P holds of text k, and the texts before it are modules
 pub record IsFirstRefused (xs : List (List ℕ)) (k : ℕ) (P : List ℕ → Type 0) : Type 0 where
@@ -60,23 +60,23 @@ pub record IsFirstRefused (xs : List (List ℕ)) (k : ℕ) (P : List ℕ → Typ
 -- ---- linked modules
 
 -- what is reported for a fault of a value for which P holds
-pub record Tells (p : Program) (P : ValueFault → Type 0) (t : ValueTold) : Type 0 where
+pub record Reports (p : Program) (P : ValueFault → Type 0) (t : ValueDiagnostic) : Type 0 where
   pub fault : ValueFault
   pub stands : P fault
-  pub told : IsTold p fault t
+  pub diagnostic : IsDiagnostic p fault t
 
 -- The fault is the first one of linked modules: of their tags; otherwise of their constraints; otherwise of an
 -- addition, of a DEFAULT, or of a value assignment. `Memory` says nothing.
-abbrev pub IsLinkedFault : Program → FrontFault → Type 0
+abbrev pub IsLinkedFault : Program → CompileError → Type 0
 IsLinkedFault p faults.Memory = Unit {0}
-IsLinkedFault p (faults.Tag f) = (f ≡ tags.Memory → ⊥) × tagging.Stands p f × first_tags.TellsFirst p f
+IsLinkedFault p (faults.Tag f) = (f ≡ tags.Memory → ⊥) × tagging.IsRightFault p f × first_tags.ReportsFirst p f
 IsLinkedFault p (faults.Bound f) =
-    IsTagged p.types × (f ≡ bounds.Memory → ⊥) × bounding.Stands p f × first_bounds.TellsFirst p f
-IsLinkedFault p (faults.Additions f) = IsTagged p.types × AreBounded p × settling.Stands p (settled.Additions f)
+    IsTagged p.types × (f ≡ bounds.Memory → ⊥) × bounding.IsRightFault p f × first_bounds.ReportsFirst p f
+IsLinkedFault p (faults.Additions f) = IsTagged p.types × AreBounded p × settling.IsRightFault p (settled.Additions f)
 IsLinkedFault p (faults.Default t) =
-    IsTagged p.types × AreBounded p × Tells p (λ f. settling.Stands p (settled.Default f)) t
+    IsTagged p.types × AreBounded p × Reports p (λ f. settling.IsRightFault p (settled.Default f)) t
 IsLinkedFault p (faults.Assigned t) =
-    IsTagged p.types × AreBounded p × Tells p (λ f. settling.Stands p (settled.Assigned f)) t
+    IsTagged p.types × AreBounded p × Reports p (λ f. settling.IsRightFault p (settled.Assigned f)) t
 IsLinkedFault p fault = ⊥
 
 -- ---- modules
@@ -88,7 +88,7 @@ pub record HaveProgram (ms : List ModuleTree) (P : Program → Type 0) : Type 0 
   pub such : P program
 
 -- The fault is the first one of modules: of their names, or otherwise of the linked modules. `Memory` says nothing.
-abbrev pub IsModulesFault : List ModuleTree → FrontFault → Type 0
+abbrev pub IsModulesFault : List ModuleTree → CompileError → Type 0
 IsModulesFault ms faults.Memory = Unit {0}
 IsModulesFault ms (faults.Text k f) = ⊥
 IsModulesFault ms (faults.Tree k f) = ⊥
@@ -96,7 +96,7 @@ IsModulesFault ms (faults.Name f) = (f ≡ linking.Memory → ⊥) × IsLinkFaul
 IsModulesFault ms fault = HaveProgram ms (λ p. IsLinkedFault p fault)
 
 -- each text is a module, and the fault is true of the modules
-pub record AreNoProgram (xs : List (List ℕ)) (fault : FrontFault) : Type 0 where
+pub record AreNoProgram (xs : List (List ℕ)) (fault : CompileError) : Type 0 where
   pub modules : List ModuleTree
   pub are : AllZip IsModule xs modules
   pub stands : IsModulesFault modules fault
@@ -105,8 +105,8 @@ pub record AreNoProgram (xs : List (List ℕ)) (fault : FrontFault) : Type 0 whe
 
 -- The fault is true: of the first text that isn't a module, or otherwise of the modules. `Memory` says nothing of
 -- texts.
-abbrev pub Stands : List (List ℕ) → FrontFault → Type 0
-Stands xs faults.Memory = Unit {0}
-Stands xs (faults.Text k f) = IsFirstRefused xs k (λ x. HasNoTokens x f)
-Stands xs (faults.Tree k f) = IsFirstRefused xs k (λ x. IsNoModule x f)
-Stands xs fault = AreNoProgram xs fault
+abbrev pub IsRightFault : List (List ℕ) → CompileError → Type 0
+IsRightFault xs faults.Memory = Unit {0}
+IsRightFault xs (faults.Text k f) = IsFirstRefused xs k (λ x. HasNoTokens x f)
+IsRightFault xs (faults.Tree k f) = IsFirstRefused xs k (λ x. IsNoModule x f)
+IsRightFault xs fault = AreNoProgram xs fault

@@ -1,11 +1,11 @@
 -- The order in which faults are reported, layer by layer (own rule).
 use Rattle.std.specs.Prelude.{ℕ}
-use Rattle.front_end.specs.declared.fault.FrontFault.{FrontFault}
-use Rattle.front_end.specs.declared.fault.FrontFault.TheVariants as faults
+use Rattle.front_end.specs.declared.fault.CompileError.{CompileError}
+use Rattle.front_end.specs.declared.fault.CompileError.TheVariants as faults
 
 -- The place of a fault's layer in that order: texts, names, tags, constraints, additions after markers, DEFAULTs and
 -- value assignments. `Memory` is in no layer.
-abbrev pub layer : FrontFault → ℕ
+abbrev pub layer : CompileError → ℕ
 layer faults.Memory = 0
 layer (faults.Text k f) = 1
 layer (faults.Tree k f) = 1

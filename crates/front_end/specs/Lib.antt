@@ -1,13 +1,13 @@
 -- The definitions that a user must believe. `Accepted` says which texts are accepted, as which program and with which
 -- types. `Faults` says which fault is true of texts that aren't, and `Layers` in which order faults are reported.
--- `Untyped` says what is reported for a notation that means no value of a type. The definitions in `proving` serve
+-- `ValueError` says what is reported for a notation that means no value of a type. The definitions in `proving` serve
 -- contracts inside the crate, and proofs.
 pub mod Accepted
 pub mod Faults
 pub mod Layers
-pub mod Untyped
+pub mod ValueError
 pub mod proving
 pub use Rattle.extensions.specs.additions as additions
 pub use Rattle.constraints.specs as constraints
 pub use Rattle.tagging.specs as tagging
-pub use Rattle.told_values.specs as told_values
+pub use Rattle.value_diagnostics.specs as value_diagnostics

@@ -7,14 +7,14 @@ ghost use Rattle.tagging.specs.Tables.{AreTagsOf};
 ghost use Rattle.tagging.specs.Tagged.{IsTagged};
 ghost use Rattle.constraints.specs.Bounded.{AreBounded};
 ghost use Rattle.constraints.specs.Tables.{AreBoundsOf};
-ghost use Rattle.extensions.specs.Faults.{Stands};
-ghost use Rattle.extensions.specs.Settles.{IsRead, Settles};
-ghost use Rattle.front_end.specs.Accepted.{Keeps};
+ghost use Rattle.extensions.specs.Faults.{IsRightFault};
+ghost use Rattle.extensions.specs.SchemaOfModules.{IsLinkedProgram, SchemaOfModules};
+ghost use Rattle.front_end.specs.Accepted.{IsCheckedProgram};
 ghost use Rattle.front_end.specs.Faults.{IsLinkedFault};
 ghost use Rattle.front_end.specs.proving.Steps.{IsNamesFault};
 
-use crate::fault::FrontFault;
-use crate::front::Front;
+use crate::fault::CompileError;
+use crate::front::CheckedModules;
 use crate::modules::Modules;
 use asn_base::schema::Schema;
 use constraints::{BoundFault, BoundTable, Bounded, bound_table};
@@ -24,82 +24,82 @@ use resolve::{Linked, link};
 use std::alloc::Global;
 use syntax::Module;
 use tagging::{TagFault, TagTable, Tagged, tag_table};
-use told_values::told;
+use value_diagnostics::diagnostic;
 
 /// The linked modules, in which each name has one meaning.
-pub(crate) fn linked(alloc: Global, modules: Vec<Module>) -> Result<Linked, FrontFault>
+pub(crate) fn linked(alloc: Global, modules: Vec<Module>) -> Result<Linked, CompileError>
     ensures linked { IfOk result (Links (map module_tree_of modules.items)) }
     ensures fault { IfErr result (IsNamesFault (map module_tree_of modules.items)) }
 {
     match link(alloc, modules) {
         Ok(linked) => Ok(linked),
-        Err(NameFault::Memory) => Err(FrontFault::Memory),
-        Err(fault) => Err(FrontFault::Name(fault)),
+        Err(NameFault::Memory) => Err(CompileError::Memory),
+        Err(fault) => Err(CompileError::Name(fault)),
     }
 }
 
 /// What is found once for the tags of linked modules.
-fn tags_of(alloc: Global, linked: &Linked) -> Result<TagTable, FrontFault>
+fn tags_of(alloc: Global, linked: &Linked) -> Result<TagTable, CompileError>
     ensures { MatchResult result (AreTagsOf linked.now) (IsLinkedFault linked.now) }
 {
     match tag_table(alloc, linked) {
         Ok(tags) => Ok(tags),
-        Err(TagFault::Memory) => Err(FrontFault::Memory),
-        Err(fault) => Err(FrontFault::Tag(fault)),
+        Err(TagFault::Memory) => Err(CompileError::Memory),
+        Err(fault) => Err(CompileError::Tag(fault)),
     }
 }
 
 /// What is found once for the constraints of tagged modules.
-fn bounds_of(alloc: Global, tagged: &Tagged<'_>) -> Result<BoundTable, FrontFault>
+fn bounds_of(alloc: Global, tagged: &Tagged<'_>) -> Result<BoundTable, CompileError>
     ensures { MatchResult result (AreBoundsOf tagged.now) (IsLinkedFault tagged.now) }
 {
     tagged.linked();
     match bound_table(alloc, tagged) {
         Ok(bounds) => Ok(bounds),
-        Err(BoundFault::Memory) => Err(FrontFault::Memory),
-        Err(fault) => Err(FrontFault::Bound(fault)),
+        Err(BoundFault::Memory) => Err(CompileError::Memory),
+        Err(fault) => Err(CompileError::Bound(fault)),
     }
 }
 
 /// What is reported for a fault of bounded modules.
-fn unsettled<'a>(alloc: Global, bounded: &Bounded<'a>, fault: ExtFault<'a>) -> FrontFault
+fn compile_error<'a>(alloc: Global, bounded: &Bounded<'a>, fault: ExtFault<'a>) -> CompileError
     requires tagged { IsTagged bounded.now.types }
     requires bounded { AreBounded bounded.now }
-    requires stands { Stands bounded.now fault }
+    requires stands { IsRightFault bounded.now fault }
     ensures { IsLinkedFault bounded.now result }
 {
-    told_values::law::types_are_there();
+    value_diagnostics::law::lemma_types_exist();
     let linked = bounded.linked();
     linked.whole();
     match fault {
-        ExtFault::Memory => FrontFault::Memory,
-        ExtFault::Additions(fault) => FrontFault::Additions(fault),
-        ExtFault::Default(fault) => match told(alloc, bounded, fault) {
-            Ok(told) => FrontFault::Default(told),
-            Err(_) => FrontFault::Memory,
+        ExtFault::Memory => CompileError::Memory,
+        ExtFault::Additions(fault) => CompileError::Additions(fault),
+        ExtFault::Default(fault) => match diagnostic(alloc, bounded, fault) {
+            Ok(diagnostic) => CompileError::Default(diagnostic),
+            Err(_) => CompileError::Memory,
         },
-        ExtFault::Assigned(fault) => match told(alloc, bounded, fault) {
-            Ok(told) => FrontFault::Assigned(told),
-            Err(_) => FrontFault::Memory,
+        ExtFault::Assigned(fault) => match diagnostic(alloc, bounded, fault) {
+            Ok(diagnostic) => CompileError::Assigned(diagnostic),
+            Err(_) => CompileError::Memory,
         },
     }
 }
 
 /// The types of bounded modules, settled.
-fn settled(alloc: Global, bounded: &Bounded<'_>) -> Result<Schema, FrontFault>
-    requires read { IsRead bounded.now }
+fn settled(alloc: Global, bounded: &Bounded<'_>) -> Result<Schema, CompileError>
+    requires read { IsLinkedProgram bounded.now }
     requires tagged { IsTagged bounded.now.types }
     requires bounded { AreBounded bounded.now }
-    ensures { MatchResult result (Settles bounded.now) (IsLinkedFault bounded.now) }
+    ensures { MatchResult result (SchemaOfModules bounded.now) (IsLinkedFault bounded.now) }
 {
     match settle(alloc, bounded) {
         Ok(schema) => Ok(schema),
-        Err(fault) => Err(unsettled(alloc, bounded, fault)),
+        Err(fault) => Err(compile_error(alloc, bounded, fault)),
     }
 }
 
 /// What is found once for the constraints of linked modules, which have these tags.
-fn bounds_by(alloc: Global, linked: &Linked, tags: &TagTable) -> Result<BoundTable, FrontFault>
+fn bounds_by(alloc: Global, linked: &Linked, tags: &TagTable) -> Result<BoundTable, CompileError>
     requires { AreTagsOf linked.now tags.now }
     ensures { MatchResult result (AreBoundsOf linked.now) (IsLinkedFault linked.now) }
 {
@@ -115,11 +115,11 @@ fn schema_by(
     linked: &Linked,
     tags: &TagTable,
     bounds: &BoundTable,
-) -> Result<Schema, FrontFault>
-    requires read { IsRead linked.now }
+) -> Result<Schema, CompileError>
+    requires read { IsLinkedProgram linked.now }
     requires tags { AreTagsOf linked.now tags.now }
     requires bounds { AreBoundsOf linked.now bounds.now }
-    ensures { MatchResult result (Settles linked.now) (IsLinkedFault linked.now) }
+    ensures { MatchResult result (SchemaOfModules linked.now) (IsLinkedFault linked.now) }
 {
     let tagged = Tagged::with_table(linked, tags);
     tagged.linked();
@@ -132,11 +132,11 @@ fn schema_by(
 }
 
 /// Linked modules and their types, after they are tagged, bounded and settled.
-pub(crate) fn front_of(alloc: Global, linked: Linked) -> Result<Front, FrontFault>
-    requires { IsRead linked }
+pub(crate) fn build_checked(alloc: Global, linked: Linked) -> Result<CheckedModules, CompileError>
+    requires { IsLinkedProgram linked }
     ensures same { IfOk result (λ f. f.modules ≡ linked) }
-    ensures kept { IfOk result (λ _. Keeps linked) }
-    ensures settled { IfOk result (λ f. Settles linked f.schema) }
+    ensures kept { IfOk result (λ _. IsCheckedProgram linked) }
+    ensures settled { IfOk result (λ f. SchemaOfModules linked f.schema) }
     ensures fault { IfErr result (IsLinkedFault linked) }
 {
     let tags = match tags_of(alloc, &linked) {
@@ -152,5 +152,5 @@ pub(crate) fn front_of(alloc: Global, linked: Linked) -> Result<Front, FrontFaul
         Err(fault) => return Err(fault),
     };
     let modules = Modules::of(linked, tags, bounds);
-    Ok(Front { modules, schema })
+    Ok(CheckedModules { modules, schema })
 }

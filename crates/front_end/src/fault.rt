@@ -1,7 +1,7 @@
 //! Why texts aren't accepted.
 
 ghost use Rattle.std.specs.Prelude.{◌≡◌};
-ghost use Rattle.front_end.specs.declared.fault.FrontFault.TheVariants.{Memory};
+ghost use Rattle.front_end.specs.declared.fault.CompileError.TheVariants.{Memory};
 
 use constraints::BoundFault;
 use extensions::additions::ExtFault;
@@ -11,12 +11,12 @@ use std::alloc::{AllocError, AllocFailed};
 use tagging::TagFault;
 use text::LexFault;
 use thiserror::Error;
-use told_values::ValueTold;
+use value_diagnostics::ValueDiagnostic;
 
 /// Why texts aren't accepted. The fault owns its texts. Its text starts with a number and a name. Then comes the place,
 /// or the module, the name and the place in that module's text.
 #[derive(Debug, Drop, Error)]
-pub enum FrontFault {
+pub enum CompileError {
     /// An allocation failed.
     #[error("1 Memory: out of memory")]
     Memory,
@@ -40,24 +40,24 @@ pub enum FrontFault {
     Additions(ExtFault),
     /// The notation of a DEFAULT means no value of its component's type (X.680, clause 25.1).
     #[error("{0}")]
-    Default(ValueTold),
+    Default(ValueDiagnostic),
     /// The notation of a value assignment means no value of its type (X.680, clause 16.2).
     #[error("{0}")]
-    Assigned(ValueTold),
+    Assigned(ValueDiagnostic),
 }
 
-impl<T: Drop> From<AllocFailed<T>> for FrontFault {
+impl<T: Drop> From<AllocFailed<T>> for CompileError {
     ghost from_gives = { λ _ e. e ≡ Memory };
 
-    fn from(_error: AllocFailed<T>) -> FrontFault {
-        FrontFault::Memory
+    fn from(_error: AllocFailed<T>) -> CompileError {
+        CompileError::Memory
     }
 }
 
-impl From<AllocError> for FrontFault {
+impl From<AllocError> for CompileError {
     ghost from_gives = { λ _ e. e ≡ Memory };
 
-    fn from(_error: AllocError) -> FrontFault {
-        FrontFault::Memory
+    fn from(_error: AllocError) -> CompileError {
+        CompileError::Memory
     }
 }

@@ -5,73 +5,73 @@ ghost use Rattle.std.specs.List.{AllZip};
 ghost use Rattle.asn_base.specs.Abstract.{AbstractValue};
 ghost use Rattle.asn_base.specs.Typed.{IsValue};
 ghost use Rattle.asn_base.specs.Types.{Resolved};
-ghost use Rattle.text.specs.declared.fault.LexFault.{LexFault};
-ghost use Rattle.notation.specs.declared.fault.SyntaxFault.{SyntaxFault};
+ghost use Rattle.text.specs.declared.lex_fault.LexFault.{LexFault};
+ghost use Rattle.notation.specs.declared.syntax_fault.SyntaxFault.{SyntaxFault};
 ghost use Rattle.trees.specs.Modules.{ModuleTree};
 ghost use Rattle.trees.specs.Values.{Name, Tree};
 ghost use Rattle.resolve.specs.Links.{Links};
 ghost use Rattle.resolve.specs.Program.{Program};
-ghost use Rattle.extensions.specs.Settles.{IsRead};
-ghost use Rattle.front_end.specs.Accepted.{AreAccepted, HasTypes, IsModule, Keeps};
-ghost use Rattle.front_end.specs.Faults.{Stands};
+ghost use Rattle.extensions.specs.SchemaOfModules.{IsLinkedProgram};
+ghost use Rattle.front_end.specs.Accepted.{AreAccepted, HasTypes, IsModule, IsCheckedProgram};
+ghost use Rattle.front_end.specs.Faults.{IsRightFault};
 ghost use Rattle.front_end.specs.Layers.{layer};
-ghost use Rattle.front_end.specs.Untyped.{StandsFor};
-ghost use Rattle.front_end.specs.declared.fault.FrontFault.{FrontFault as FrontFault'};
-ghost use Rattle.front_end.specs.declared.fault.FrontFault.TheVariants.{Memory, Text as of_octets, Tree as of_tokens};
+ghost use Rattle.front_end.specs.ValueError.{DenotesValue};
+ghost use Rattle.front_end.specs.declared.fault.CompileError.{CompileError as CompileError'};
+ghost use Rattle.front_end.specs.declared.fault.CompileError.TheVariants.{Memory, Text as of_octets, Tree as of_tokens};
 
 /// If a fault of texts other than `Memory` is true, they aren't accepted. So [`crate::open`] succeeds if and only if
 /// they are accepted, unless an allocation fails.
-pub fn faults_exclude()
-    ensures { (xs : List (List ℕ)) (p : Program) (e : FrontFault') →
+pub fn lemma_faults_exclude()
+    ensures { (xs : List (List ℕ)) (p : Program) (e : CompileError') →
         (e ≡ Memory → ⊥) →
-        Stands xs e →
+        IsRightFault xs e →
         AreAccepted xs p →
         ⊥ }
 {
     one_list();
-    text::law::one_list_of_tokens();
-    text::law::tokens_or_fault();
-    modules_are_read();
-    resolve::law::link_faults_exclude();
+    text::law::lemma_one_list_of_tokens();
+    text::law::lemma_tokens_or_fault();
+    lemma_modules_linked();
+    resolve::law::lemma_link_faults_exclude();
     resolve::law::one_program();
-    tagging::law::no_other();
-    constraints::law::no_other();
-    extensions::law::no_other();
+    tagging::law::lemma_fault_excludes();
+    constraints::law::lemma_fault_excludes();
+    extensions::law::lemma_fault_excludes();
 }
 
 /// Faults are reported layer by layer, and those of texts text by text. Two faults that are true of the same texts are
 /// in the same layer, unless one is `Memory`. At most one is that of a text, of its octets or otherwise of its tokens.
 pub fn one_layer()
-    ensures layer { (xs : List (List ℕ)) (e f : FrontFault') →
+    ensures layer { (xs : List (List ℕ)) (e f : CompileError') →
         (e ≡ Memory → ⊥) →
         (f ≡ Memory → ⊥) →
-        Stands xs e →
-        Stands xs f →
+        IsRightFault xs e →
+        IsRightFault xs f →
         layer e ≡ layer f }
     ensures octets { (xs : List (List ℕ)) (k j : ℕ) (e f : LexFault) →
-        Stands xs (of_octets k e) →
-        Stands xs (of_octets j f) →
+        IsRightFault xs (of_octets k e) →
+        IsRightFault xs (of_octets j f) →
         (k ≡ j) × (e ≡ f) }
     ensures tokens { (xs : List (List ℕ)) (k j : ℕ) (e f : SyntaxFault) →
-        Stands xs (of_tokens k e) →
-        Stands xs (of_tokens j f) →
+        IsRightFault xs (of_tokens k e) →
+        IsRightFault xs (of_tokens j f) →
         (k ≡ j) × (e ≡ f) }
     ensures either { (xs : List (List ℕ)) (k j : ℕ) (e : LexFault) (f : SyntaxFault) →
-        Stands xs (of_octets k e) →
-        Stands xs (of_tokens j f) →
+        IsRightFault xs (of_octets k e) →
+        IsRightFault xs (of_tokens j f) →
         ⊥ }
 {
     one_list();
-    text::law::one_list_of_tokens();
-    text::law::tokens_or_fault();
-    text::law::one_fault();
-    syntax::one_fault();
-    modules_are_read();
-    resolve::law::link_faults_exclude();
+    text::law::lemma_one_list_of_tokens();
+    text::law::lemma_tokens_or_fault();
+    text::law::lemma_one_fault();
+    syntax::lemma_one_fault();
+    lemma_modules_linked();
+    resolve::law::lemma_link_faults_exclude();
     resolve::law::one_program();
-    tagging::law::no_other();
-    constraints::law::no_other();
-    extensions::law::no_other();
+    tagging::law::lemma_fault_excludes();
+    constraints::law::lemma_fault_excludes();
+    extensions::law::lemma_fault_excludes();
     extensions::law::one_kind();
 }
 
@@ -79,8 +79,8 @@ pub fn one_layer()
 pub fn one_list()
     ensures { (xs : List (List ℕ)) (ms ns : List ModuleTree) → AllZip IsModule xs ms → AllZip IsModule xs ns → ms ≡ ns }
 {
-    text::law::one_list_of_tokens();
-    syntax::one_module();
+    text::law::lemma_one_list_of_tokens();
+    syntax::lemma_one_module();
 }
 
 /// Texts are accepted as at most one program.
@@ -92,27 +92,27 @@ pub fn one_program()
 }
 
 /// Linked modules that texts are can be settled: they are what settling requires.
-pub fn modules_are_read()
+pub fn lemma_modules_linked()
     ensures { (xs : List (List ℕ)) (ms : List ModuleTree) (p : Program) → AllZip IsModule xs ms → Links ms p
-        → IsRead p }
+        → IsLinkedProgram p }
 {
-    extensions::spelled::law::modules_are_spelled();
-    extensions::law::linked_are_read();
+    extensions::spelled::law::lemma_modules_are_spelled();
+    extensions::law::lemma_linked_program();
 }
 
 /// The program of accepted texts is as [`crate::Modules`] requires.
-pub fn accepted_keep()
-    ensures { (xs : List (List ℕ)) (p : Program) → AreAccepted xs p → Keeps p }
+pub fn lemma_accepted_checked()
+    ensures { (xs : List (List ℕ)) (p : Program) → AreAccepted xs p → IsCheckedProgram p }
 {
-    modules_are_read();
+    lemma_modules_linked();
 }
 
 /// What a notation in accepted texts means is a value of the type in the texts' schema.
-pub fn values_of_schema()
+pub fn lemma_values_of_schema()
     ensures { (p : Program) (s : List Resolved) (M : Name) (i : ℕ) (n : Tree) (v : AbstractValue) →
-        Keeps p →
+        IsCheckedProgram p →
         HasTypes p s →
-        StandsFor p M i n v →
+        DenotesValue p M i n v →
         IsValue s i v }
 {
     extensions::schema_of::law::same_values();
@@ -121,9 +121,9 @@ pub fn values_of_schema()
 /// A notation in accepted texts means at most one value of a type.
 pub fn one_value()
     ensures { (p : Program) (M : Name) (i : ℕ) (n : Tree) (v w : AbstractValue) →
-        Keeps p →
-        StandsFor p M i n v →
-        StandsFor p M i n w →
+        IsCheckedProgram p →
+        DenotesValue p M i n v →
+        DenotesValue p M i n w →
         v ≡ w }
 {
     value_notations::law::one_value();

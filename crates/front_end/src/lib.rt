@@ -8,12 +8,12 @@ pub mod law;
 mod modules;
 mod reading;
 
-pub use fault::FrontFault;
-pub use front::{Front, open};
-pub use modules::{Modules, Untyped};
+pub use fault::CompileError;
+pub use front::{CheckedModules, open};
+pub use modules::{Modules, ValueError};
 
 // Libraries that crates above name through this one.
 pub use constraints;
 pub use extensions::additions;
 pub use tagging;
-pub use told_values;
+pub use value_diagnostics;

@@ -6,8 +6,8 @@ ghost use Rattle.trees.specs.Values.{tree_of};
 ghost use Rattle.tagging.specs.Tables.{AreTagsOf};
 ghost use Rattle.constraints.specs.Tables.{AreBoundsOf};
 ghost use Rattle.extensions.specs.Faults.{IsWrong};
-ghost use Rattle.front_end.specs.Accepted.{Keeps};
-ghost use Rattle.front_end.specs.Untyped.{IsUntyped, StandsFor};
+ghost use Rattle.front_end.specs.Accepted.{IsCheckedProgram};
+ghost use Rattle.front_end.specs.ValueError.{IsValueError, DenotesValue};
 
 use asn_base::schema::TypeId;
 use asn_base::value::Value;
@@ -16,17 +16,17 @@ use resolve::Linked;
 use std::alloc::Global;
 use std::marker::Model;
 use tagging::{TagTable, Tagged};
-use told_values::typed_values::{Cause, ValueFault, typed};
-use told_values::{ValueTold, told};
 use trees::ValueSyntax;
+use value_diagnostics::typed_values::{Cause, ValueFault, typed};
+use value_diagnostics::{ValueDiagnostic, diagnostic};
 
 /// Why a notation has no value.
 #[derive(Debug, Drop)]
-pub enum Untyped {
+pub enum ValueError {
     /// An allocation failed.
     Memory,
     /// The notation means no value of the type; what is reported for it.
-    Told(ValueTold),
+    Diagnosed(ValueDiagnostic),
 }
 
 /// The modules of accepted texts, in which each name has a meaning. Their types, DEFAULTs and values are as required.
@@ -54,27 +54,27 @@ impl Model for Modules {
 }
 
 /// What is reported for a notation that means no value of a type.
-fn told_of<'a>(
+fn error_of<'a>(
     alloc: Global,
     bounded: &Bounded<'a>,
     ty: TypeId,
     within: &'a str,
     notation: &'a ValueSyntax,
     fault: ValueFault<'a>,
-) -> Untyped
-    requires kept { Keeps bounded.now }
+) -> ValueError
+    requires kept { IsCheckedProgram bounded.now }
     requires there { ty.index < length bounded.now.types }
     requires stands { IsWrong bounded.now within.now ty.index (tree_of notation.now) fault }
-    ensures { IsUntyped bounded.now within.now ty.index (tree_of notation.now) result }
+    ensures { IsValueError bounded.now within.now ty.index (tree_of notation.now) result }
 {
-    told_values::typed_values::law::faults_exclude();
+    value_diagnostics::typed_values::law::lemma_faults_exclude();
     value_notations::law::one_value();
-    told_values::law::types_are_there();
+    value_diagnostics::law::lemma_types_exist();
     let linked = bounded.linked();
     linked.whole();
-    match told(alloc, bounded, fault) {
-        Ok(told) => Untyped::Told(told),
-        Err(_) => Untyped::Memory,
+    match diagnostic(alloc, bounded, fault) {
+        Ok(diagnostic) => ValueError::Diagnosed(diagnostic),
+        Err(_) => ValueError::Memory,
     }
 }
 
@@ -85,17 +85,17 @@ fn value_in<'a>(
     ty: TypeId,
     within: &'a str,
     notation: &'a ValueSyntax,
-) -> Result<Value, Untyped>
-    requires kept { Keeps bounded.now }
+) -> Result<Value, ValueError>
+    requires kept { IsCheckedProgram bounded.now }
     requires there { ty.index < length bounded.now.types }
-    ensures value { IfOk result (λ v. StandsFor bounded.now within.now ty.index (tree_of notation.now) (abstract v)) }
-    ensures fault { IfErr result (IsUntyped bounded.now within.now ty.index (tree_of notation.now)) }
+    ensures value { IfOk result (λ v. DenotesValue bounded.now within.now ty.index (tree_of notation.now) (abstract v)) }
+    ensures fault { IfErr result (IsValueError bounded.now within.now ty.index (tree_of notation.now)) }
 {
     match typed(alloc, bounded, ty, within, notation) {
         Ok(value) => Ok(value),
         Err(fault) => match fault.cause {
-            Cause::Memory => Err(Untyped::Memory),
-            _ => Err(told_of(alloc, bounded, ty, within, notation, fault)),
+            Cause::Memory => Err(ValueError::Memory),
+            _ => Err(error_of(alloc, bounded, ty, within, notation, fault)),
         },
     }
 }
@@ -103,7 +103,7 @@ fn value_in<'a>(
 impl Modules {
     /// The modules of accepted texts, with their tables.
     pub(crate) fn of(linked: Linked, tags: TagTable, bounds: BoundTable) -> Modules
-        requires kept { Keeps linked }
+        requires kept { IsCheckedProgram linked }
         requires tags { AreTagsOf linked tags }
         requires bounds { AreBoundsOf linked bounds }
         ensures { result ≡ linked }
@@ -124,7 +124,7 @@ impl Modules {
 
     /// What holds of the modules of accepted texts.
     pub fn kept(&self)
-        ensures { Keeps self.now }
+        ensures { IsCheckedProgram self.now }
     {
         let _linked = &self.linked;
     }
@@ -138,10 +138,10 @@ impl Modules {
         ty: TypeId,
         within: &str,
         notation: &ValueSyntax,
-    ) -> Result<Value, Untyped>
+    ) -> Result<Value, ValueError>
         requires { ty.index < length self.now.types }
-        ensures value { IfOk result (λ v. StandsFor self.now within.now ty.index (tree_of notation.now) (abstract v)) }
-        ensures fault { IfErr result (IsUntyped self.now within.now ty.index (tree_of notation.now)) }
+        ensures value { IfOk result (λ v. DenotesValue self.now within.now ty.index (tree_of notation.now) (abstract v)) }
+        ensures fault { IfErr result (IsValueError self.now within.now ty.index (tree_of notation.now)) }
     {
         self.kept();
         let tagged = Tagged::with_table(&self.linked, &self.tags);

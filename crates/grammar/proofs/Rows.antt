@@ -6,7 +6,7 @@ use Rattle.text.specs.Octets.{is_hex}
 use Rattle.grammar.specs.Lexeme.{Lexeme, TypeRef, Ident, Number, BString, HString, CString, Mark, digit_of, single_quotes, lexeme_at}
 use Rattle.grammar.specs.Grammar.{token, mark, number_of, ◌∙◌, many, listed, braces, optional, cut_off, extensible, rootless, addition}
 use Rattle.grammar.specs.Places.{Limits, Limited, any, small, bounded, between, IsRead, Stops, Ends, PassesLimit}
-use Rattle.grammar.specs.Reading.{Nesting, Integer, Unexpected, Beyond, behind_commas_at, listed_at, next_marker, additions_at, more_at, extensible_at, close_version_at, version_at, version_parts_at, addition_at}
+use Rattle.grammar.specs.Reading.{Nesting, Integer, Unexpected, Beyond, after_commas_at, listed_at, next_marker, additions_at, more_at, extensible_at, close_version_at, version_at, version_parts_at, addition_at}
 use Rattle.grammar.specs.Single.{ident_at}
 
 -- ---- what tokens say
@@ -21,9 +21,9 @@ letter_inside : lexeme_at (39 ∷ 49 ∷ 66 ∷ 39 ∷ 72 ∷ []) kinds.HexStrin
 unfolding digit_of is_hex
 letter_inside = refl
 
-letter_behind : lexeme_at (39 ∷ 49 ∷ 39 ∷ 66 ∷ []) kinds.BinaryString 0 4 ≡ BString (1 ∷ [])
+letter_after : lexeme_at (39 ∷ 49 ∷ 39 ∷ 66 ∷ []) kinds.BinaryString 0 4 ≡ BString (1 ∷ [])
 unfolding digit_of is_hex
-letter_behind = refl
+letter_after = refl
 
 -- "a""b" is a"b
 quote_inside : lexeme_at (34 ∷ 97 ∷ 34 ∷ 34 ∷ 98 ∷ 34 ∷ []) kinds.CharacterString 0 6 ≡ CString (97 ∷ 34 ∷ 98 ∷ [])
@@ -63,11 +63,11 @@ too_great = Number (2 ^ 127) ∷ []
 stops_at_the_number : Stops number (bounded 0) too_great 0 0
 stops_at_the_number = record { from = omega arith; to = omega arith; before = inl refl; longest = longest }
   where
-    not_within : (number (bounded 0)).CanGoOn too_great → ⊥
+    not_within : (number (bounded 0)).IsPrefix too_great → ⊥
     not_within (inl e) = absurd cc
     not_within (inr (n, f, e)) = absurd cc
 
-    longest : (j : ℕ) → 0 < j → j ≤ 1 → (number (bounded 0)).CanGoOn (between too_great 0 j) → ⊥
+    longest : (j : ℕ) → 0 < j → j ≤ 1 → (number (bounded 0)).IsPrefix (between too_great 0 j) → ⊥
     longest ℕ.zero lt le h = absurd (omega (arith, lt))
     longest (ℕ.suc ℕ.zero) lt le h = not_within h
     longest (ℕ.suc (ℕ.suc j)) lt le h = absurd (omega (arith, le))
@@ -133,7 +133,7 @@ two_names = (
   (a_name ∷ [], Mark Comma ∷ b_name ∷ [], refl, refl, (Mark Comma ∷ b_name ∷ [], [], refl, ((tt, 98 ∷ []), refl, (Mark Comma ∷ [], b_name ∷ [], refl, refl, refl)), refl)),
 )
 
-one_name_and_comma : (listed (token Ident)).CanGoOn (a_name ∷ Mark Comma ∷ [])
+one_name_and_comma : (listed (token Ident)).IsPrefix (a_name ∷ Mark Comma ∷ [])
 one_name_and_comma = inr (97 ∷ [], a_name ∷ [], Mark Comma ∷ [], refl, refl, ([], [], Mark Comma ∷ [], refl, refl, inr (tt, Mark Comma ∷ [], [], refl, refl, inl refl)))
 
 -- a name in braces
@@ -183,7 +183,7 @@ marker_first = refl
 -- a, ..., b, ... is refused at the second marker
 second_marker :
     extensible_at ident_at ident_at (a_name ∷ Mark Comma ∷ Mark Ellipsis ∷ Mark Comma ∷ b_name ∷ Mark Comma ∷ Mark Ellipsis ∷ []) ≡ Err (Unexpected 1)
-unfolding extensible_at more_at next_marker additions_at behind_commas_at ident_at
+unfolding extensible_at more_at next_marker additions_at after_commas_at ident_at
 second_marker = refl
 
 -- [[ 2: a ]] is a, and its number is not kept
@@ -198,7 +198,7 @@ numbered_brackets = inr (
 -- [[ a, b ]] is both
 brackets_read :
     addition_at small ident_at (Mark OpenVersion ∷ a_name ∷ Mark Comma ∷ b_name ∷ Mark CloseVersion ∷ []) ≡ Ok (inr ((97 ∷ []) ∷ (98 ∷ []) ∷ []), [])
-unfolding addition_at version_parts_at version_at listed_at behind_commas_at close_version_at ident_at
+unfolding addition_at version_parts_at version_at listed_at after_commas_at close_version_at ident_at
 brackets_read = refl
 
 -- [[ ]] is refused at its end

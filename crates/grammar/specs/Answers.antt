@@ -10,7 +10,7 @@ use Rattle.grammar.specs.Places.{Limits, Within, raised, Limited, free, between,
 
 -- the next lexeme, if there is one, can't continue u
 abbrev pub Closed : {A : Type 0} → Grammar A → List Lexeme → List Lexeme → Type 0
-Closed all u us = (t : Lexeme) (r : List Lexeme) → us ≡ t ∷ r → all.CanGoOn (u ++ t ∷ []) → ⊥
+Closed all u us = (t : Lexeme) (r : List Lexeme) → us ≡ t ∷ r → all.IsPrefix (u ++ t ∷ []) → ⊥
 
 -- the limits b, but with the numbers and tags that a allows as well
 abbrev pub joined : Limits → Limits → Limits
@@ -44,12 +44,12 @@ joined_within TagNumber a b w = λ n e. one_of (a.tag n) (b.tag n) e (w n)
 pub record Reads {A : Type 0} (g : Limited A) (a : Limits) (read : Reader A) : Type 0 where
   pub grows : (b : Limits) → Grows (g b) (g (joined a b))
   pub front : (b : Limits) (u us : List Lexeme)
-      → (g (joined a b)).CanGoOn u
+      → (g (joined a b)).IsPrefix u
       → Passes (λ l. Within l (joined a b) a) us (read (u ++ us))
   pub whole : (b : Limits) (x : A) (u : List Lexeme)
       → (g (joined a b)).Is x u
       → ReadsAs (λ l. Within l (joined a b) a) (read (u ++ [])) x []
-  pub part : (x : A) (u : List Lexeme) → (g a).Is x u → (g a).CanGoOn u
+  pub part : (x : A) (u : List Lexeme) → (g a).Is x u → (g a).IsPrefix u
   pub sound : (ts : List Lexeme) → Sound nowhere (g a) ts (read ts)
   pub passed : (l : Limit) → (b : Limits) × ((ts : List Lexeme) → Sound (past l) (g (raised l a b)) ts (read ts))
   pub closed : (x : A) (u us : List Lexeme)
@@ -108,7 +108,7 @@ not_both g a ts start i j l e p =
     e.always (raised l a p.others) p.further (omega (arith, same, lt)) p.to p.goes_on
 
 module _ {A : Type 0} (g : Limited A) (a : Limits) (read : Reader A) (reads : Reads g a read) where
-  front : (b : Limits) (u us : List Lexeme) → (g b).CanGoOn u → Passes (λ l. Within l b a) us (read (u ++ us))
+  front : (b : Limits) (u us : List Lexeme) → (g b).IsPrefix u → Passes (λ l. Within l b a) us (read (u ++ us))
   front b u us h = weaker (read (u ++ us)) (reads.front b u us ((reads.grows b).on u h))
     where
       weaker : (r : Read A) → Passes (λ l. Within l (joined a b) a) us r → Passes (λ l. Within l b a) us r
@@ -151,17 +151,17 @@ module _ {A : Type 0} (g : Limited A) (a : Limits) (read : Reader A) (reads : Re
     rest_fits u rest e = omega (arith, ap length e, length-append u rest, length-drop start ts)
 
     -- the lexemes after a place
-    abbrev behind : ℕ → List Lexeme
-    behind j = drop (j - start) (drop start ts)
+    abbrev rest_from : ℕ → List Lexeme
+    rest_from j = drop (j - start) (drop start ts)
 
-    behind_long : (j : ℕ) → start ≤ j → j ≤ length ts → length (behind j) ≡ length ts - j
-    behind_long j from to = omega (arith, length-drop (j - start) (drop start ts), length-drop start ts)
+    rest_from_long : (j : ℕ) → start ≤ j → j ≤ length ts → length (rest_from j) ≡ length ts - j
+    rest_from_long j from to = omega (arith, length-drop (j - start) (drop start ts), length-drop start ts)
 
     -- the reader comes as far as a prefix can continue
     come : (b : Limits) (j : ℕ)
-        → (g b).CanGoOn (between ts start j)
-        → Passes (λ l. Within l b a) (behind j) (read (drop start ts))
-    come b j h = subst (λ (l : List Lexeme). Passes (λ l. Within l b a) (behind j) (read l)) (take-append-drop (j - start) (drop start ts)) (front b (between ts start j) (behind j) h)
+        → (g b).IsPrefix (between ts start j)
+        → Passes (λ l. Within l b a) (rest_from j) (read (drop start ts))
+    come b j h = subst (λ (l : List Lexeme). Passes (λ l. Within l b a) (rest_from j) (read l)) (take-append-drop (j - start) (drop start ts)) (front b (between ts start j) (rest_from j) h)
 
     pub found_at : (x : A × List Lexeme)
         → read (drop start ts) ≡ Ok x
@@ -176,15 +176,15 @@ module _ {A : Type 0} (g : Limited A) (a : Limits) (read : Reader A) (reads : Re
           to = f.1;
           is = subst (λ (l : List Lexeme). (g a).Is x.0 l) f.2 s.2;
           ends = λ lt h.
-              let p : length x.1 ≤ length (behind (end + 1)) = subst (Passes (λ l. Within l h.0 a) (behind (end + 1))) e (come h.0 (end + 1) h.1) in
+              let p : length x.1 ≤ length (rest_from (end + 1)) = subst (Passes (λ l. Within l h.0 a) (rest_from (end + 1))) e (come h.0 (end + 1) h.1) in
               let from = f.0 in
-              absurd (omega (arith, p, behind_long (end + 1) (omega (arith, from)) (omega (arith, lt)), fits, lt));
+              absurd (omega (arith, p, rest_from_long (end + 1) (omega (arith, from)) (omega (arith, lt)), fits, lt));
         }
 
     stopped : (f : Fault) (u rest : List Lexeme)
         → drop start ts ≡ u ++ rest
         → left_of f ≡ length rest
-        → (g a).CanGoOn u
+        → (g a).IsPrefix u
         → read (drop start ts) ≡ Err f
         → Stops g a ts start (length ts - left_of f)
     stopped f u rest e d h q =
@@ -194,10 +194,10 @@ module _ {A : Type 0} (g : Limited A) (a : Limits) (read : Reader A) (reads : Re
         subst (λ (k : ℕ). Stops g a ts start (length ts - k)) (sym d) (record {
           from = p.0;
           to = p.1;
-          before = subst (g a).CanGoOn p.2 h;
+          before = subst (g a).IsPrefix p.2 h;
           longest = λ j lt to c.
-              let m = far f (behind j) (subst (Passes (λ l. Within l a a) (behind j)) q (come a j c)) in
-              absurd (omega (arith, m, d, lt, to, fits, behind_long j (omega (arith, place', lt)) to));
+              let m = far f (rest_from j) (subst (Passes (λ l. Within l a a) (rest_from j)) q (come a j c)) in
+              absurd (omega (arith, m, d, lt, to, fits, rest_from_long j (omega (arith, place', lt)) to));
         })
 
     pub stops_at : (f : Fault) → read (drop start ts) ≡ Err f → Stops g a ts start (length ts - left_of f)
@@ -228,8 +228,8 @@ module _ {A : Type 0} (g : Limited A) (a : Limits) (read : Reader A) (reads : Re
         record {
           stops = stops;
           always = λ b j lt to c.
-              let m : k ≤ length (behind j) = subst (Passes (λ l. Within l b a) (behind j)) q (come b j c) in
-              absurd (omega (arith, m, lt, to, fits, d, behind_long j (omega (arith, from, lt)) to));
+              let m : k ≤ length (rest_from j) = subst (Passes (λ l. Within l b a) (rest_from j)) q (come b j c) in
+              absurd (omega (arith, m, lt, to, fits, d, rest_from_long j (omega (arith, from, lt)) to));
           none = none_at k s.0 s.1 s.2 s.3 (subst (λ (l : List Lexeme). read l ≡ Err (Unexpected k)) s.2 q);
         }
 
@@ -255,7 +255,7 @@ module _ {A : Type 0} (g : Limited A) (a : Limits) (read : Reader A) (reads : Re
           further = length ts - length s.1;
           longer = omega (arith, d, n);
           to = f.1;
-          goes_on = subst (g (raised l a b)).CanGoOn f.2 s.4;
+          goes_on = subst (g (raised l a b)).IsPrefix f.2 s.4;
         }
 
     pub rest_le : (x : A × List Lexeme) → read (drop start ts) ≡ Ok x → length x.1 ≤ length ts
@@ -273,12 +273,12 @@ module _ {A : Type 0} (g : Limited A) (a : Limits) (read : Reader A) (reads : Re
         let f = front_at s.0 x.1 s.1 in
         let from = f.0 in
         let fits = rest_fits s.0 x.1 s.1 in
-        let beyond : (b : Limits) (j : ℕ) → length ts - length x.1 < j → j ≤ length ts → (g b).CanGoOn (between ts start j) → ⊥ =
+        let beyond : (b : Limits) (j : ℕ) → length ts - length x.1 < j → j ≤ length ts → (g b).IsPrefix (between ts start j) → ⊥ =
         λ b j lt to c.
-        let p : length x.1 ≤ length (behind j) = subst (Passes (λ l. Within l b a) (behind j)) e (come b j c) in
-        omega (arith, p, lt, to, fits, behind_long j (omega (arith, from, lt)) to) in
+        let p : length x.1 ≤ length (rest_from j) = subst (Passes (λ l. Within l b a) (rest_from j)) e (come b j c) in
+        omega (arith, p, lt, to, fits, rest_from_long j (omega (arith, from, lt)) to) in
         record {
-          stops = record { from = f.0; to = f.1; before = subst (g a).CanGoOn f.2 (reads.part x.0 s.0 s.2); longest = beyond a };
+          stops = record { from = f.0; to = f.1; before = subst (g a).IsPrefix f.2 (reads.part x.0 s.0 s.2); longest = beyond a };
           always = beyond;
           none = λ k. absurd (omega (arith, k, some, fits));
         }
@@ -287,13 +287,13 @@ module _ {A : Type 0} (g : Limited A) (a : Limits) (read : Reader A) (reads : Re
     closed_at : (u us : List Lexeme) (end : ℕ)
         → drop start ts ≡ u ++ us
         → end ≡ length ts - length us
-        → (end < length ts → (free g).CanGoOn (between ts start (end + 1)) → ⊥)
+        → (end < length ts → (free g).IsPrefix (between ts start (end + 1)) → ⊥)
         → Closed (free g) u us
     closed_at u us end e d ends t r g' h =
         let shape : drop start ts ≡ u ++ t ∷ r = e ⋆ ap (λ (l : List Lexeme). u ++ l) g' in
         let long : length (t ∷ r) ≤ length ts = omega (arith, ap length shape, length-append u (t ∷ r), length-drop start ts) in
         let k : end ≡ length ts - length (t ∷ r) = d ⋆ ap (λ (l : List Lexeme). length ts - length l) g' in
-        ends (omega arith) (subst (λ (i : ℕ). (free g).CanGoOn (between ts start (i + 1))) (sym k) (subst (free g).CanGoOn (next_at u r t shape) h))
+        ends (omega arith) (subst (λ (i : ℕ). (free g).IsPrefix (between ts start (i + 1))) (sym k) (subst (free g).IsPrefix (next_at u r t shape) h))
 
     pub only_at : (x : A) (end : ℕ)
         → IsRead (g a) (free g) ts start x end
@@ -317,49 +317,49 @@ module _ {A : Type 0} (g : Limited A) (a : Limits) (read : Reader A) (reads : Re
         → Stops g a ts start i
         → (u rest : List Lexeme)
         → drop start ts ≡ u ++ rest
-        → (g a).CanGoOn u
+        → (g a).IsPrefix u
         → i < j
         → length rest ≤ length ts - j
         → j ≤ length ts
         → ⊥
     no_longer i j s u rest e h lt le to =
         let f = front_at u rest e in
-        s.longest (length ts - length rest) (omega (arith, lt, le, to)) f.1 (subst (g a).CanGoOn f.2 h)
+        s.longest (length ts - length rest) (omega (arith, lt, le, to)) f.1 (subst (g a).IsPrefix f.2 h)
 
-    told_by : (l : Limit) (i : ℕ) (p : PassesLimit g a ts start i l) (r : Read A)
+    limit_by : (l : Limit) (i : ℕ) (p : PassesLimit g a ts start i l) (r : Read A)
         → Sound nowhere (g a) (drop start ts) r
-        → Passes (λ m. Within m (raised l a p.others) a) (behind p.further) r
+        → Passes (λ m. Within m (raised l a p.others) a) (rest_from p.further) r
         → (k : ℕ) × (r ≡ Err (Beyond l k))
-    told_by l i p (Ok x) s c =
+    limit_by l i p (Ok x) s c =
         let stops = p.stops in
         let from = stops.from in
         let lt = p.longer in
         let to = p.to in
-        let long = behind_long p.further (omega (arith, from, lt)) to in
+        let long = rest_from_long p.further (omega (arith, from, lt)) to in
         absurd (no_longer i p.further stops s.0 x.1 s.1 (reads.part x.0 s.0 s.2) lt (omega (arith, c, long)) to)
-    told_by l i p (Err (Unexpected k)) s c =
+    limit_by l i p (Err (Unexpected k)) s c =
         let stops = p.stops in
         let from = stops.from in
         let lt = p.longer in
         let to = p.to in
-        let long = behind_long p.further (omega (arith, from, lt)) to in
+        let long = rest_from_long p.further (omega (arith, from, lt)) to in
         let d = s.3 in
         absurd (no_longer i p.further stops s.0 s.1 s.2 s.4 lt (omega (arith, c, long, d)) to)
-    told_by l i p (Err (Beyond m k)) s (inl c) =
+    limit_by l i p (Err (Beyond m k)) s (inl c) =
         let stops = p.stops in
         let from = stops.from in
         let lt = p.longer in
         let to = p.to in
-        let long = behind_long p.further (omega (arith, from, lt)) to in
+        let long = rest_from_long p.further (omega (arith, from, lt)) to in
         let d = s.3 ⋆ plain (Beyond m k) (length s.1) in
         absurd (no_longer i p.further stops s.0 s.1 s.2 s.4 lt (omega (arith, c, long, d)) to)
-    told_by l i p (Err (Beyond m k)) s (inr w) = elim (kept l m a p.others) [
+    limit_by l i p (Err (Beyond m k)) s (inr w) = elim (kept l m a p.others) [
       | inl e ↦ (k, ap (λ (m : Limit). Err (Beyond m k)) (sym e))
       | inr h ↦ absurd (w h)
     ]
 
-    told : (l : Limit) (i : ℕ) → PassesLimit g a ts start i l → (k : ℕ) × (read (drop start ts) ≡ Err (Beyond l k))
-    told l i p = told_by l i p (read (drop start ts)) (reads.sound (drop start ts)) (come (raised l a p.others) p.further p.goes_on)
+    limit_found : (l : Limit) (i : ℕ) → PassesLimit g a ts start i l → (k : ℕ) × (read (drop start ts) ≡ Err (Beyond l k))
+    limit_found l i p = limit_by l i p (read (drop start ts)) (reads.sound (drop start ts)) (come (raised l a p.others) p.further p.goes_on)
 
     same_limit : (l m : Limit) (k n : ℕ) (r : Read A) → r ≡ Err (Beyond l k) → r ≡ Err (Beyond m n) → l ≡ m
     same_limit l m k n r p q = let e = sym p ⋆ q in cc
@@ -367,8 +367,8 @@ module _ {A : Type 0} (g : Limited A) (a : Limits) (read : Reader A) (reads : Re
     -- at most one limit is passed
     pub one_limit : (l m : Limit) (i j : ℕ) → PassesLimit g a ts start i l → PassesLimit g a ts start j m → l ≡ m
     one_limit l m i j p q =
-        let s = told l i p in
-        let t = told m j q in
+        let s = limit_found l i p in
+        let t = limit_found m j q in
         same_limit l m s.0 t.0 (read (drop start ts)) s.1 t.1
 
 -- the lexemes as a whole

@@ -3,9 +3,9 @@ use Rattle.std.proofs.Common.{◌≡◌, ℕ, zero, suc, ◌≤◌, ◌⊎◌, i
 use Rattle.std.proofs.lemmas.List.{append-nil}
 use Rattle.text.specs.declared.token.Mark.TheVariants.{Comma, Ellipsis}
 use Rattle.grammar.specs.Lexeme.{Lexeme, Mark}
-use Rattle.grammar.specs.Grammar.{Grammar, IsMany, optional, behind, marked}
-use Rattle.grammar.specs.Reading.{Limit, Unexpected, Beyond, Read, Reader, ◌>>=◌, behind_commas_at, Extensible, next_marker, additions_at, put, or_marker, more_at}
-use Rattle.grammar.specs.Laws.{Follows, Passes, ReadsAs, Finds, passes_on, passes_made, stands_made, is_comma, behind_is, behind_front, front_behind, follows_many, commas_shrink, commas_front, commas_whole}
+use Rattle.grammar.specs.Grammar.{Grammar, IsMany, optional, preceded, marked}
+use Rattle.grammar.specs.Reading.{Limit, Unexpected, Beyond, Read, Reader, ◌>>=◌, after_commas_at, Extensible, next_marker, additions_at, put, or_marker, more_at}
+use Rattle.grammar.specs.Laws.{Follows, Passes, ReadsAs, Finds, passes_on, passes_made, reads_as_made, is_comma, preceded_is, preceded_front, front_preceded, follows_many, commas_shrink, commas_front, commas_whole}
 use Rattle.grammar.specs.Lists.{IsSolid, head_is, with_comma}
 use Rattle.grammar.specs.Rules.{either, no_left, no_right}
 use Rattle.grammar.specs.Extension.{commas, tail}
@@ -33,7 +33,7 @@ module _ {A B : Type 0} (within : Limit → Type 0) (a : Grammar A) (b : Grammar
       → Passes within us (or_marker ra rb more (next_marker us) us)
   unfolding next_marker additions_at
   or_shrink [] more all = plain_passes [] (ra []) more all (fa.front [] [] fa.nil)
-  or_shrink (Mark Ellipsis ∷ us) more all = passes_on within (Mark Ellipsis ∷ us) us _ (one_less (Mark Ellipsis) us) (passes_made within us (behind_commas_at rb (length us) us) (λ ys. ([], Some ys)) (commas_shrink within b starts-b ends-b rb fb (length us) us))
+  or_shrink (Mark Ellipsis ∷ us) more all = passes_on within (Mark Ellipsis ∷ us) us _ (one_less (Mark Ellipsis) us) (passes_made within us (after_commas_at rb (length us) us) (λ ys. ([], Some ys)) (commas_shrink within b starts-b ends-b rb fb (length us) us))
   or_shrink (t ∷ us) more all = plain_passes (t ∷ us) (ra (t ∷ us)) more all (fa.front [] (t ∷ us) fa.nil)
 
   more_shrink : (k : ℕ) (us : List Lexeme) → Passes within us (more_at ra rb k us)
@@ -67,25 +67,25 @@ module _ {A B : Type 0} (within : Limit → Type 0) (a : Grammar A) (b : Grammar
 
   -- a prefix of a part
   part_front : (j : ℕ) (w us : List Lexeme)
-      → a.CanGoOn w
+      → a.IsPrefix w
       → Passes within us (or_marker ra rb (more_at ra rb j) (next_marker (w ++ us)) (w ++ us))
   part_front j [] us h = or_shrink us (more_at ra rb j) (more_shrink j)
   part_front j (t ∷ w) us h = at_part (Passes within us) t (w ++ us) (more_at ra rb j) (fa.first t w h) (plain_passes us (ra (t ∷ (w ++ us))) (more_at ra rb j) (more_shrink j) (fa.front (t ∷ w) us h))
 
   -- a prefix of the marker and what comes after it
   marked_front : (j : ℕ) (w us : List Lexeme)
-      → (marked b).CanGoOn w
+      → (marked b).IsPrefix w
       → Passes within us (or_marker ra rb (more_at ra rb j) (next_marker (w ++ us)) (w ++ us))
   unfolding next_marker additions_at
-  marked_front j w us h = elim (behind_front (Mark Ellipsis) (commas b) w ([], [], [], refl, refl, inl (inl refl)) h) [
+  marked_front j w us h = elim (preceded_front (Mark Ellipsis) (commas b) w ([], [], [], refl, refl, inl (inl refl)) h) [
     | inl e ↦ subst (λ (l : List Lexeme). Passes within us (or_marker ra rb (more_at ra rb j) (next_marker (l ++ us)) (l ++ us))) (sym e) (or_shrink us (more_at ra rb j) (more_shrink j))
     | inr (v, e, (xs, v1, v2, d, hm, hv)) ↦ subst (λ (l : List Lexeme). Passes within us (or_marker ra rb (more_at ra rb j) (next_marker (l ++ us)) (l ++ us))) (sym (e ⋆ ap (λ (l : List Lexeme). Mark Ellipsis ∷ l) d))
-        (passes_made within us (behind_commas_at rb (length ((v1 ++ v2) ++ us)) ((v1 ++ v2) ++ us)) (λ ys. ([], Some ys)) (commas_front within b starts-b ends-b rb fb apart-b (length ((v1 ++ v2) ++ us)) xs v1 v2 us (le_same ((v1 ++ v2) ++ us)) hm hv))
+        (passes_made within us (after_commas_at rb (length ((v1 ++ v2) ++ us)) ((v1 ++ v2) ++ us)) (λ ys. ([], Some ys)) (commas_front within b starts-b ends-b rb fb apart-b (length ((v1 ++ v2) ++ us)) xs v1 v2 us (le_same ((v1 ++ v2) ++ us)) hm hv))
   ]
 
   -- after the whole parts there is nothing, or a comma and a prefix of a part or of the marker
   abbrev Last : List Lexeme → Type 0
-  Last w = (w ≡ []) ⊎ ((v : List Lexeme) × (w ≡ Mark Comma ∷ v) × (a.CanGoOn v ⊎ (marked b).CanGoOn v))
+  Last w = (w ≡ []) ⊎ ((v : List Lexeme) × (w ≡ Mark Comma ∷ v) × (a.IsPrefix v ⊎ (marked b).IsPrefix v))
 
   last_front : (k : ℕ) (w us : List Lexeme)
       → length (w ++ us) ≤ k
@@ -95,22 +95,22 @@ module _ {A B : Type 0} (within : Limit → Type 0) (a : Grammar A) (b : Grammar
   last_front k w us le (inr (v, e, inl h)) = at_comma k (v ++ us) us (w ++ us) le (ap (λ (l : List Lexeme). l ++ us) e) (λ j lj. part_front j v us h)
   last_front k w us le (inr (v, e, inr h)) = at_comma k (v ++ us) us (w ++ us) le (ap (λ (l : List Lexeme). l ++ us) e) (λ j lj. marked_front j v us h)
 
-  stands_more : (x : A) (us vs : List Lexeme) (r : Read A) (more : Reader (Extensible A B))
+  reads_as_more : (x : A) (us vs : List Lexeme) (r : Read A) (more : Reader (Extensible A B))
       → ReadsAs within r x vs
       → Passes within us (more vs)
       → Passes within us (r >>= λ x. put x.0 (more x.1))
-  stands_more x us vs r more (inl e) h = subst (λ (q : Read A). Passes within us (q >>= λ x. put x.0 (more x.1))) (sym e) (passes_made within us (more vs) (λ e. (x ∷ e.0, e.1)) h)
-  stands_more x us vs r more (inr w) h = subst (λ (q : Read A). Passes within us (q >>= λ x. put x.0 (more x.1))) (sym w.2) (inr w.1)
+  reads_as_more x us vs r more (inl e) h = subst (λ (q : Read A). Passes within us (q >>= λ x. put x.0 (more x.1))) (sym e) (passes_made within us (more vs) (λ e. (x ∷ e.0, e.1)) h)
+  reads_as_more x us vs r more (inr w) h = subst (λ (q : Read A). Passes within us (q >>= λ x. put x.0 (more x.1))) (sym w.2) (inr w.1)
 
   -- what comes after a part begins with a comma, or is empty
   begins : (xs : List A) (q w : List Lexeme)
-      → IsMany (behind (Mark Comma) a) xs q
+      → IsMany (preceded (Mark Comma) a) xs q
       → Last w
       → (q ++ w ≡ []) ⊎ ((v : List Lexeme) × (q ++ w ≡ Mark Comma ∷ v))
   begins [] q w h (inl e) = inl (ap (λ (l : List Lexeme). l ++ w) h ⋆ e)
   begins [] q w h (inr (v, e, k)) = inr (v, ap (λ (l : List Lexeme). l ++ w) h ⋆ e)
   begins (x ∷ xs) q w (p, q', e, hp, hq) l =
-      let c = behind_is (Mark Comma) a x p hp in
+      let c = preceded_is (Mark Comma) a x p hp in
       inr ((c.0 ++ q') ++ w, ap (λ (l : List Lexeme). l ++ w) (e ⋆ ap (λ (l : List Lexeme). l ++ q') c.1))
 
   follows_comma : (ts w : List Lexeme) → ts ≡ Mark Comma ∷ w → Follows ends ts
@@ -127,38 +127,38 @@ module _ {A B : Type 0} (within : Limit → Type 0) (a : Grammar A) (b : Grammar
       subst (λ (l : List Lexeme). Passes within us (or_marker ra rb (more_at ra rb j) (next_marker ((t ∷ p) ++ (l ++ us))) ((t ∷ p) ++ (l ++ us)))) (sym e) (part_front j (t ∷ p) us (fa.part x (t ∷ p) h))
   one_front j x (t ∷ p) rest us h (inr (v, e)) m =
       at_part (Passes within us) t (p ++ (rest ++ us)) (more_at ra rb j) (fa.first t p (fa.part x (t ∷ p) h))
-      (stands_more x us (rest ++ us) (ra ((t ∷ p) ++ (rest ++ us))) (more_at ra rb j) (fa.whole x (t ∷ p) (rest ++ us) h (follows_comma (rest ++ us) (v ++ us) (ap (λ (l : List Lexeme). l ++ us) e))) m)
+      (reads_as_more x us (rest ++ us) (ra ((t ∷ p) ++ (rest ++ us))) (more_at ra rb j) (fa.whole x (t ∷ p) (rest ++ us) h (follows_comma (rest ++ us) (v ++ us) (ap (λ (l : List Lexeme). l ++ us) e))) m)
 
   all_front : (k : ℕ) (xs : List A) (u w us : List Lexeme)
       → length ((u ++ w) ++ us) ≤ k
-      → IsMany (behind (Mark Comma) a) xs u
+      → IsMany (preceded (Mark Comma) a) xs u
       → Last w
       → Passes within us (more_at ra rb k ((u ++ w) ++ us))
   all_front k [] u w us le h l = subst (λ (v : List Lexeme). Passes within us (more_at ra rb k (v ++ us))) (sym (ap (λ (v : List Lexeme). v ++ w) h)) (last_front k w us (omega (arith, le, ap length h, length-append u w, length-append (u ++ w) us, length-append w us)) l)
   all_front k (x ∷ xs) u w us le (p, q, e, hp, hq) l =
-      let c = behind_is (Mark Comma) a x p hp in
+      let c = preceded_is (Mark Comma) a x p hp in
       let shape : (u ++ w) ++ us ≡ Mark Comma ∷ (c.0 ++ ((q ++ w) ++ us)) =
       ap (λ (l : List Lexeme). (l ++ w) ++ us) (e ⋆ ap (λ (l : List Lexeme). l ++ q) c.1)
       ⋆ ap (λ (l : List Lexeme). Mark Comma ∷ l) (ap (λ (l : List Lexeme). l ++ us) (append_assoc c.0 q w) ⋆ append_assoc c.0 (q ++ w) us) in
       at_comma k (c.0 ++ ((q ++ w) ++ us)) us ((u ++ w) ++ us) le shape
       (λ j lj. one_front j x c.0 (q ++ w) us c.2 (begins xs q w hq l) (all_front j xs q w us (omega (arith, lj, length-append c.0 ((q ++ w) ++ us))) hq l))
 
-  last_of : (w : List Lexeme) → (behind (Mark Comma) a).CanGoOn w → Last w
-  last_of w h = elim (behind_front (Mark Comma) a w fa.nil h) [
+  last_of : (w : List Lexeme) → (preceded (Mark Comma) a).IsPrefix w → Last w
+  last_of w h = elim (preceded_front (Mark Comma) a w fa.nil h) [
     | inl e ↦ inl e
     | inr (v, e, k) ↦ inr (v, e, inl k)
   ]
 
-  last_marked : (w : List Lexeme) → (optional (behind (Mark Comma) (marked b))).CanGoOn w → Last w
+  last_marked : (w : List Lexeme) → (optional (preceded (Mark Comma) (marked b))).IsPrefix w → Last w
   last_marked w (inl e) = inl e
-  last_marked w (inr h) = elim (behind_front (Mark Comma) (marked b) w (inl (inl refl)) h) [
+  last_marked w (inr h) = elim (preceded_front (Mark Comma) (marked b) w (inl (inl refl)) h) [
     | inl e ↦ inl e
     | inr (v, e, k) ↦ inr (v, e, inr k)
   ]
 
   -- no prefix is refused before its end
   tail_front : (u us : List Lexeme)
-      → (tail a b).CanGoOn u
+      → (tail a b).IsPrefix u
       → Passes within us (more_at ra rb (length (u ++ us)) (u ++ us))
   tail_front u us (inl (xs, v, w, e, hv, hw)) = subst (λ (l : List Lexeme). Passes within us (more_at ra rb (length (l ++ us)) (l ++ us))) (sym e) (all_front (length ((v ++ w) ++ us)) xs v w us (le_same ((v ++ w) ++ us)) hv (last_of w hw))
   tail_front u us (inr (xs, v, w, e, hv, hw)) = subst (λ (l : List Lexeme). Passes within us (more_at ra rb (length (l ++ us)) (l ++ us))) (sym e) (all_front (length ((v ++ w) ++ us)) xs v w us (le_same ((v ++ w) ++ us)) hv (last_marked w hw))
@@ -200,13 +200,13 @@ module _ {A B : Type 0} (within : Limit → Type 0) (a : Grammar A) (b : Grammar
   whole_at_comma zero y rest us ts le e go = absurd (omega (arith, ap length e))
   whole_at_comma (suc k) y rest us ts le e go = subst (λ (l : List Lexeme). ReadsAs within (more_at ra rb (suc k) l) y us) (sym e) (go k (omega (arith, ap length e)))
 
-  stands_both : (x : A) (y : Extensible A B) (us vs : List Lexeme) (r : Read A) (more : Reader (Extensible A B))
+  reads_as_both : (x : A) (y : Extensible A B) (us vs : List Lexeme) (r : Read A) (more : Reader (Extensible A B))
       → ReadsAs within r x vs
       → ReadsAs within (more vs) y us
       → ReadsAs within (r >>= λ x. put x.0 (more x.1)) (x ∷ y.0, y.1) us
-  stands_both x y us vs r more (inl e) (inl h) = inl (ap (λ (q : Read A). q >>= λ x. put x.0 (more x.1)) e ⋆ ap (put x) h)
-  stands_both x y us vs r more (inl e) (inr h) = inr (h.0, h.1, ap (λ (q : Read A). q >>= λ x. put x.0 (more x.1)) e ⋆ ap (put x) h.2)
-  stands_both x y us vs r more (inr w) h = inr (w.0, w.1, ap (λ (q : Read A). q >>= λ x. put x.0 (more x.1)) w.2)
+  reads_as_both x y us vs r more (inl e) (inl h) = inl (ap (λ (q : Read A). q >>= λ x. put x.0 (more x.1)) e ⋆ ap (put x) h)
+  reads_as_both x y us vs r more (inl e) (inr h) = inr (h.0, h.1, ap (λ (q : Read A). q >>= λ x. put x.0 (more x.1)) e ⋆ ap (put x) h.2)
+  reads_as_both x y us vs r more (inr w) h = inr (w.0, w.1, ap (λ (q : Read A). q >>= λ x. put x.0 (more x.1)) w.2)
 
   -- the marker and the additions are read
   marked_whole : (j : ℕ) (ys : List B) (w us : List Lexeme)
@@ -215,31 +215,31 @@ module _ {A B : Type 0} (within : Limit → Type 0) (a : Grammar A) (b : Grammar
       → ReadsAs within (or_marker ra rb (more_at ra rb j) (next_marker (w ++ us)) (w ++ us)) ([], Some ys) us
   unfolding next_marker additions_at
   marked_whole j ys w us h f =
-      let m = behind_is (Mark Ellipsis) (commas b) ys w h in
+      let m = preceded_is (Mark Ellipsis) (commas b) ys w h in
       subst (λ (l : List Lexeme). ReadsAs within (or_marker ra rb (more_at ra rb j) (next_marker (l ++ us)) (l ++ us)) ([], Some ys) us) (sym m.1)
-      (stands_made within us (behind_commas_at rb (length (m.0 ++ us)) (m.0 ++ us)) ys (λ ys. ([], Some ys)) (commas_whole within b starts-b ends-b rb fb apart-b (length (m.0 ++ us)) ys m.0 us (le_same (m.0 ++ us)) m.2 (ends_follow_b us f) (no_commas us f)))
+      (reads_as_made within us (after_commas_at rb (length (m.0 ++ us)) (m.0 ++ us)) ys (λ ys. ([], Some ys)) (commas_whole within b starts-b ends-b rb fb apart-b (length (m.0 ++ us)) ys m.0 us (le_same (m.0 ++ us)) m.2 (ends_follow_b us f) (no_commas us f)))
 
   last_whole : (k : ℕ) (o : Option (List B)) (w us : List Lexeme)
       → length (w ++ us) ≤ k
-      → (optional (behind (Mark Comma) (marked b))).Is o w
+      → (optional (preceded (Mark Comma) (marked b))).Is o w
       → Follows end_of us
       → ReadsAs within (more_at ra rb k (w ++ us)) ([], o) us
   last_whole k None w us le h f = subst (λ (l : List Lexeme). ReadsAs within (more_at ra rb k (l ++ us)) ([], None) us) (sym h) (inl (more_none k us f))
   last_whole k (Some ys) w us le h f =
-      let m = behind_is (Mark Comma) (marked b) ys w h in
+      let m = preceded_is (Mark Comma) (marked b) ys w h in
       whole_at_comma k ([], Some ys) (m.0 ++ us) us (w ++ us) le (ap (λ (l : List Lexeme). l ++ us) m.1) (λ j lj. marked_whole j ys m.0 us m.2 f)
 
   -- a part doesn't end before what comes after it
   last_follows : (o : Option (List B)) (w us : List Lexeme)
-      → (optional (behind (Mark Comma) (marked b))).Is o w
+      → (optional (preceded (Mark Comma) (marked b))).Is o w
       → Follows end_of us
       → Follows ends (w ++ us)
   last_follows None w us h f = subst (λ (l : List Lexeme). Follows ends (l ++ us)) (sym h) (ends_follow us f)
-  last_follows (Some ys) w us h f = let m = behind_is (Mark Comma) (marked b) ys w h in follows_comma (w ++ us) (m.0 ++ us) (ap (λ (l : List Lexeme). l ++ us) m.1)
+  last_follows (Some ys) w us h f = let m = preceded_is (Mark Comma) (marked b) ys w h in follows_comma (w ++ us) (m.0 ++ us) (ap (λ (l : List Lexeme). l ++ us) m.1)
 
   tail_follows : (xs : List A) (o : Option (List B)) (v w us : List Lexeme)
-      → IsMany (behind (Mark Comma) a) xs v
-      → (optional (behind (Mark Comma) (marked b))).Is o w
+      → IsMany (preceded (Mark Comma) a) xs v
+      → (optional (preceded (Mark Comma) (marked b))).Is o w
       → Follows end_of us
       → Follows ends (v ++ (w ++ us))
   tail_follows xs o v w us h ho f = follows_many within a starts ends ra fa apart xs v (w ++ us) h (last_follows o w us ho f)
@@ -253,17 +253,17 @@ module _ {A B : Type 0} (within : Limit → Type 0) (a : Grammar A) (b : Grammar
   one_whole j x y [] rest us h f m = absurd (solid.no_empty x h)
   one_whole j x y (t ∷ p) rest us h f m =
       at_part (λ (r : Read (Extensible A B)). ReadsAs within r (x ∷ y.0, y.1) us) t (p ++ (rest ++ us)) (more_at ra rb j) (fa.first t p (fa.part x (t ∷ p) h))
-      (stands_both x y us (rest ++ us) (ra ((t ∷ p) ++ (rest ++ us))) (more_at ra rb j) (fa.whole x (t ∷ p) (rest ++ us) h f) m)
+      (reads_as_both x y us (rest ++ us) (ra ((t ∷ p) ++ (rest ++ us))) (more_at ra rb j) (fa.whole x (t ∷ p) (rest ++ us) h f) m)
 
   all_whole : (k : ℕ) (xs : List A) (o : Option (List B)) (v w us : List Lexeme)
       → length ((v ++ w) ++ us) ≤ k
-      → IsMany (behind (Mark Comma) a) xs v
-      → (optional (behind (Mark Comma) (marked b))).Is o w
+      → IsMany (preceded (Mark Comma) a) xs v
+      → (optional (preceded (Mark Comma) (marked b))).Is o w
       → Follows end_of us
       → ReadsAs within (more_at ra rb k ((v ++ w) ++ us)) (xs, o) us
   all_whole k [] o v w us le h ho f = subst (λ (l : List Lexeme). ReadsAs within (more_at ra rb k (l ++ us)) ([], o) us) (sym (ap (λ (l : List Lexeme). l ++ w) h)) (last_whole k o w us (omega (arith, le, ap length h, length-append v w, length-append (v ++ w) us, length-append w us)) ho f)
   all_whole k (x ∷ xs) o v w us le (p, q, e, hp, hq) ho f =
-      let c = behind_is (Mark Comma) a x p hp in
+      let c = preceded_is (Mark Comma) a x p hp in
       let shape : (v ++ w) ++ us ≡ Mark Comma ∷ (c.0 ++ ((q ++ w) ++ us)) =
       ap (λ (l : List Lexeme). (l ++ w) ++ us) (e ⋆ ap (λ (l : List Lexeme). l ++ q) c.1)
       ⋆ ap (λ (l : List Lexeme). Mark Comma ∷ l) (ap (λ (l : List Lexeme). l ++ us) (append_assoc c.0 q w) ⋆ append_assoc c.0 (q ++ w) us) in
@@ -276,7 +276,7 @@ module _ {A B : Type 0} (within : Limit → Type 0) (a : Grammar A) (b : Grammar
       → ReadsAs within (more_at ra rb (length (u ++ us)) (u ++ us)) y us
   tail_whole y u us (v, w, e, hv, hw) f = subst (λ (l : List Lexeme). ReadsAs within (more_at ra rb (length (l ++ us)) (l ++ us)) y us) (sym e) (all_whole (length ((v ++ w) ++ us)) y.0 y.1 v w us (le_same ((v ++ w) ++ us)) hv hw f)
 
-  tail_first : (t : Lexeme) (u : List Lexeme) → (tail a b).CanGoOn (t ∷ u) → is_comma t ≡ true
+  tail_first : (t : Lexeme) (u : List Lexeme) → (tail a b).IsPrefix (t ∷ u) → is_comma t ≡ true
   tail_first t u h = elim (front_begins (t ∷ u) h) [
     | inl e ↦ absurd cc
     | inr (v, e) ↦ subst (λ (t : Lexeme). is_comma t ≡ true) (sym (head_is t (Mark Comma) u v e)) refl
@@ -289,21 +289,21 @@ module _ {A B : Type 0} (within : Limit → Type 0) (a : Grammar A) (b : Grammar
       shaped u v e (inl q) = inl (e ⋆ q)
       shaped u v e (inr (w, q)) = inr (w, e ⋆ q)
 
-      front_begins : (u : List Lexeme) → (tail a b).CanGoOn u → (u ≡ []) ⊎ ((v : List Lexeme) × (u ≡ Mark Comma ∷ v))
+      front_begins : (u : List Lexeme) → (tail a b).IsPrefix u → (u ≡ []) ⊎ ((v : List Lexeme) × (u ≡ Mark Comma ∷ v))
       front_begins u (inl (xs, v, w, e, hv, hw)) = shaped u (v ++ w) e (begins xs v w hv (last_of w hw))
       front_begins u (inr (xs, v, w, e, hv, hw)) = shaped u (v ++ w) e (begins xs v w hv (last_marked w hw))
 
-  tail_part : (y : Extensible A B) (u : List Lexeme) → (tail a b).Is y u → (tail a b).CanGoOn u
+  tail_part : (y : Extensible A B) (u : List Lexeme) → (tail a b).Is y u → (tail a b).IsPrefix u
   tail_part y u (v, w, e, hv, hw) = inr (y.0, v, w, e, hv, last_part y.1 w hw)
     where
       last_part : (o : Option (List B)) (w : List Lexeme)
-          → (optional (behind (Mark Comma) (marked b))).Is o w
-          → (optional (behind (Mark Comma) (marked b))).CanGoOn w
+          → (optional (preceded (Mark Comma) (marked b))).Is o w
+          → (optional (preceded (Mark Comma) (marked b))).IsPrefix w
       last_part None w h = inl h
       last_part (Some ys) w h =
-          let m = behind_is (Mark Comma) (marked b) ys w h in
-          let n = behind_is (Mark Ellipsis) (commas b) ys m.0 m.2 in
-          inr (subst (behind (Mark Comma) (marked b)).CanGoOn (sym m.1) (front_behind (Mark Comma) (marked b) m.0 (subst (marked b).CanGoOn (sym n.1) (front_behind (Mark Ellipsis) (commas b) n.0 (ys, n.0, [], sym (append-nil n.0), n.2, inl (inl refl))))))
+          let m = preceded_is (Mark Comma) (marked b) ys w h in
+          let n = preceded_is (Mark Ellipsis) (commas b) ys m.0 m.2 in
+          inr (subst (preceded (Mark Comma) (marked b)).IsPrefix (sym m.1) (front_preceded (Mark Comma) (marked b) m.0 (subst (marked b).IsPrefix (sym n.1) (front_preceded (Mark Ellipsis) (commas b) n.0 (ys, n.0, [], sym (append-nil n.0), n.2, inl (inl refl))))))
 
   pub tail_finds : Finds within (tail a b) is_comma end_of (λ us. more_at ra rb (length us) us)
   tail_finds = record { nil = inl ([], [], [], refl, refl, inl (inl refl)); part = tail_part; first = tail_first; whole = tail_whole; front = tail_front }

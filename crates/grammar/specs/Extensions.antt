@@ -2,13 +2,13 @@
 use Rattle.std.proofs.Common.{◌≡◌, ℕ, ◌⊎◌, inl, inr, Bool, true, false, List, [], ◌∷◌, length, Option, Some, Ok, Err, refl, sym, ap, subst, ◌∙◌ as ◌⋆◌}
 use Rattle.text.specs.declared.token.Mark.TheVariants.{Colon, Comma, Ellipsis, OpenVersion, CloseVersion}
 use Rattle.grammar.specs.Lexeme.{Lexeme, Number, Mark}
-use Rattle.grammar.specs.Grammar.{Grammar, number_of, mark, ◌∙◌, ◌∣◌, ◌⇒◌, behind, listed, marked, extensible, rootless, version, addition}
-use Rattle.grammar.specs.Reading.{Limit, Integer, Read, Reader, ◌>>=◌, fitting, behind_commas_at, listed_at, Extensible, next_marker, additions_at, more_at, extensible_at, rootless_at, colon_at, close_version_at, version_at, version_parts_at, addition_at}
+use Rattle.grammar.specs.Grammar.{Grammar, number_of, mark, ◌∙◌, ◌∣◌, ◌⇒◌, preceded, listed, marked, extensible, rootless, version, addition}
+use Rattle.grammar.specs.Reading.{Limit, Integer, Read, Reader, ◌>>=◌, fitting, after_commas_at, listed_at, Extensible, next_marker, additions_at, more_at, extensible_at, rootless_at, colon_at, close_version_at, version_at, version_parts_at, addition_at}
 use Rattle.grammar.specs.Laws.{commas_sound, is_comma, then_read, after_read}
 use Rattle.grammar.specs.Lists.{no_lexeme, with_comma, finds_many}
 use Rattle.grammar.specs.Numbers.{Past}
 use Rattle.grammar.specs.Parts.{pick, perhaps}
-use Rattle.grammar.specs.Rules.{Owes, OwesLoosely, Same, asked, either, rule_token, rule_made, rule_seq, rule_behind, rule_tail, rule_lead, rule_pick, rule_listed, loose_optional, rule_read, rule_same, rule_number, is_number, number_at, made, read_again, one_at, one_is}
+use Rattle.grammar.specs.Rules.{Owes, OwesLoosely, Same, asked, either, rule_token, rule_made, rule_seq, rule_preceded, rule_tail, rule_lead, rule_pick, rule_listed, loose_optional, rule_read, rule_same, rule_number, is_number, number_at, made, read_again, one_at, one_is}
 use Rattle.grammar.specs.Openings.{rule_both}
 use Rattle.grammar.specs.Extension.{commas, tail, first_and, extensible_same, more_sound}
 use Rattle.grammar.specs.ExtensionFront.{tail_finds}
@@ -47,16 +47,16 @@ module _ {A B : Type 0} (ra : Reader A) (rb : Reader B) where
   unfolding extensible_at
   extensible_read ts = refl
 
-  abbrev behind_marker : Reader (List B)
-  behind_marker = then_read (λ (p : Unit {0} × List B). p.1) (one_at is_ellipsis) (λ us. behind_commas_at rb (length us) us)
+  abbrev after_marker : Reader (List B)
+  after_marker = then_read (λ (p : Unit {0} × List B). p.1) (one_at is_ellipsis) (λ us. after_commas_at rb (length us) us)
 
   abbrev marked_read : Reader (Extensible A B)
-  marked_read ts = behind_marker ts >>= λ ys. Ok (unrooted ys.0, ys.1)
+  marked_read ts = after_marker ts >>= λ ys. Ok (unrooted ys.0, ys.1)
 
   rootless_same : (ts : List Lexeme) → pick is_ellipsis marked_read (extensible_at ra rb) ts ≡ rootless_at ra rb ts
   unfolding extensible_at rootless_at next_marker additions_at
   rootless_same [] = refl
-  rootless_same (Mark Ellipsis ∷ ts) = ap (made unrooted) (read_again (behind_commas_at rb (length ts) ts))
+  rootless_same (Mark Ellipsis ∷ ts) = ap (made unrooted) (read_again (after_commas_at rb (length ts) ts))
   rootless_same (t ∷ ts) = refl
 
 module _ {A B : Type 0} (s f : Type 0) (over : Limit → ℕ) (within : Limit → Type 0) (a : Grammar A) (b : Grammar B)
@@ -65,7 +65,7 @@ module _ {A B : Type 0} (s f : Type 0) (over : Limit → ℕ) (within : Limit �
     (apart : ends (Mark Comma) ≡ false) (apart-b : ends-b (Mark Comma) ≡ false)
     (no_mark : starts (Mark Ellipsis) ≡ false) where
   loose_commas :
-      OwesLoosely s f over within (commas b) is_comma (with_comma ends-b) (λ us. behind_commas_at rb (length us) us)
+      OwesLoosely s f over within (commas b) is_comma (with_comma ends-b) (λ us. after_commas_at rb (length us) us)
   loose_commas = record { sound = λ q ts. commas_sound over b rb (kb.sound q) (length ts) ts; finds = λ q. finds_many within b starts-b ends-b rb (kb.finds q) apart-b }
 
   loose_tail :
@@ -187,7 +187,7 @@ turned {A} a b = record { to = record { is = is a b; on = on a b }; back = recor
     is a b x u (inl h) = inr h
     is a b x u (inr h) = inl h
 
-    on : (a b : Grammar A) (u : List Lexeme) → (a ∣ b).CanGoOn u → (b ∣ a).CanGoOn u
+    on : (a b : Grammar A) (u : List Lexeme) → (a ∣ b).IsPrefix u → (b ∣ a).IsPrefix u
     on a b u (inl h) = inr h
     on a b u (inr h) = inl h
 
@@ -225,17 +225,17 @@ module _ {A : Type 0} (fits : ℕ → Bool) (read : Reader A) where
   listing v (Ok xs) = closing v xs.0 (close_version_at xs.1)
   listing v (Err e) = refl
 
-  behind_version : (r : Read Version)
+  after_version : (r : Read Version)
       →
       made bracket (after_read (λ p. p) r parts_read) ≡ (made forgot r >>= λ v. listed_at read v.1 >>= λ xs. close_version_at xs.1 >>= λ c. Ok (inr xs.0, c.1))
-  behind_version (Ok v) = listing v.0 (listed_at read v.1)
-  behind_version (Err e) = refl
+  after_version (Ok v) = listing v.0 (listed_at read v.1)
+  after_version (Err e) = refl
 
   addition_same : (ts : List Lexeme) → whole_read ts ≡ addition_at fits read ts
   unfolding addition_at version_parts_at
   addition_same [] = refl
   addition_same (Mark OpenVersion ∷ ts) =
-      ap (made bracket) (read_again (inside_read ts)) ⋆ behind_version (version_read fits ts)
+      ap (made bracket) (read_again (inside_read ts)) ⋆ after_version (version_read fits ts)
       ⋆ ap (λ (r : Read (Unit {0})). r >>= λ v. listed_at read v.1 >>= λ xs. close_version_at xs.1 >>= λ c. Ok (inr xs.0, c.1)) (version_same fits ts)
   addition_same (t ∷ ts) = refl
 
@@ -275,9 +275,9 @@ module _ (s f : Type 0) (over : Limit → ℕ) (within : Limit → Type 0) (fits
   rule_parts = rule_both (listed a) (mark CloseVersion) (rule_seq (λ p. p) (rule_listed k e.comma) (rule_read close_version_at close_version_same (rule_token (one_is (Mark CloseVersion) is_close_version refl close_version_only))) (close_apart (with_comma ends) e.close))
 
   rule_bracket :
-      Owes s f over within (behind (Mark OpenVersion) (version fits' ∙ (listed a ∙ mark CloseVersion)) ⇒ bracket) is_open_version no_lexeme (bracket_read fits read)
+      Owes s f over within (preceded (Mark OpenVersion) (version fits' ∙ (listed a ∙ mark CloseVersion)) ⇒ bracket) is_open_version no_lexeme (bracket_read fits read)
   rule_bracket =
-      rule_made bracket (rule_behind (rule_token (one_is (Mark OpenVersion) is_open_version refl open_version_one))
+      rule_made bracket (rule_preceded (rule_token (one_is (Mark OpenVersion) is_open_version refl open_version_one))
       (rule_both (version fits') (listed a ∙ mark CloseVersion) (rule_lead (λ p. p) loose_version rule_parts (numbers_apart starts e.number))))
 
   addition_owed :

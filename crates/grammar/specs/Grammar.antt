@@ -12,13 +12,13 @@ pub record Grammar (A : Type 0) : Type 1 where
   -- the lexemes, all of them, are this tree
   pub Is : A → List Lexeme → Type 0
   -- the lexemes can begin such a part; they may also be a whole one
-  pub CanGoOn : List Lexeme → Type 0
+  pub IsPrefix : List Lexeme → Type 0
 
 -- a lexeme of one kind
 abbrev pub token : {A : Type 0} → (A → Lexeme) → Grammar A
 token {A} kind = record {
   Is = λ x ts. ts ≡ kind x ∷ [];
-  CanGoOn = λ ts. (ts ≡ []) ⊎ ((x : A) × (ts ≡ kind x ∷ []));
+  IsPrefix = λ ts. (ts ≡ []) ⊎ ((x : A) × (ts ≡ kind x ∷ []));
 }
 
 -- one given lexeme, which leaves nothing in the tree
@@ -37,7 +37,7 @@ word w = only (Word w)
 abbrev pub number_of : (ℕ → Bool) → Grammar ℕ
 number_of fits = record {
   Is = λ n ts. IsTrue (fits n) × (ts ≡ Number n ∷ []);
-  CanGoOn = λ ts. (ts ≡ []) ⊎ ((n : ℕ) × IsTrue (fits n) × (ts ≡ Number n ∷ []));
+  IsPrefix = λ ts. (ts ≡ []) ⊎ ((n : ℕ) × IsTrue (fits n) × (ts ≡ Number n ∷ []));
 }
 
 -- a part, and then another: a prefix is one of the first, or the whole first and a prefix of the second
@@ -45,7 +45,7 @@ infixr 50 ◌∙◌
 abbrev pub ◌∙◌ : {A B : Type 0} → Grammar A → Grammar B → Grammar (A × B)
 ◌∙◌ {A} {B} a b = record {
   Is = λ xy ts. (u v : List Lexeme) × (ts ≡ u ++ v) × a.Is xy.0 u × b.Is xy.1 v;
-  CanGoOn = λ ts. a.CanGoOn ts ⊎ ((x : A) × (u v : List Lexeme) × (ts ≡ u ++ v) × a.Is x u × b.CanGoOn v);
+  IsPrefix = λ ts. a.IsPrefix ts ⊎ ((x : A) × (u v : List Lexeme) × (ts ≡ u ++ v) × a.Is x u × b.IsPrefix v);
 }
 
 -- one production or the other
@@ -53,7 +53,7 @@ infixr 30 ◌∣◌
 abbrev pub ◌∣◌ : {A : Type 0} → Grammar A → Grammar A → Grammar A
 a ∣ b = record {
   Is = λ x ts. a.Is x ts ⊎ b.Is x ts;
-  CanGoOn = λ ts. a.CanGoOn ts ⊎ b.CanGoOn ts;
+  IsPrefix = λ ts. a.IsPrefix ts ⊎ b.IsPrefix ts;
 }
 
 -- the tree that a production makes of its parts
@@ -61,7 +61,7 @@ infixr 40 ◌⇒◌
 abbrev pub ◌⇒◌ : {A B : Type 0} → Grammar A → (A → B) → Grammar B
 ◌⇒◌ {A} {B} a f = record {
   Is = λ y ts. (x : A) × (y ≡ f x) × a.Is x ts;
-  CanGoOn = a.CanGoOn;
+  IsPrefix = a.IsPrefix;
 }
 
 -- the lexemes are these parts, one after the other
@@ -73,16 +73,16 @@ IsMany a (x ∷ xs) ts = (u v : List Lexeme) × (ts ≡ u ++ v) × a.Is x u × I
 abbrev pub many : {A : Type 0} → Grammar A → Grammar (List A)
 many {A} a = record {
   Is = IsMany a;
-  CanGoOn = λ ts. (xs : List A) × (u v : List Lexeme) × (ts ≡ u ++ v) × IsMany a xs u × a.CanGoOn v;
+  IsPrefix = λ ts. (xs : List A) × (u v : List Lexeme) × (ts ≡ u ++ v) × IsMany a xs u × a.IsPrefix v;
 }
 
 -- a part after a given lexeme, with the tree of the part alone
-abbrev pub behind : {A : Type 0} → Lexeme → Grammar A → Grammar A
-behind t a = (only t ∙ a) ⇒ λ p. p.1
+abbrev pub preceded : {A : Type 0} → Lexeme → Grammar A → Grammar A
+preceded t a = (only t ∙ a) ⇒ λ p. p.1
 
 -- at least one part, with commas between parts
 abbrev pub listed : {A : Type 0} → Grammar A → Grammar (List A)
-listed a = (a ∙ many (behind (Mark Comma) a)) ⇒ λ p. p.0 ∷ p.1
+listed a = (a ∙ many (preceded (Mark Comma) a)) ⇒ λ p. p.0 ∷ p.1
 
 -- a part in braces
 abbrev pub braces : {A : Type 0} → Grammar A → Grammar A
@@ -94,7 +94,7 @@ parens a = (mark OpenParenthesis ∙ (a ∙ mark CloseParenthesis)) ⇒ λ p. p.
 
 -- a grammar that can begin but never be whole, for a lexeme that would open one part too many
 abbrev pub cut_off : {A : Type 0} → Grammar A
-cut_off = record { Is = λ x ts. ⊥; CanGoOn = λ ts. ts ≡ [] }
+cut_off = record { Is = λ x ts. ⊥; IsPrefix = λ ts. ts ≡ [] }
 
 -- the lexemes are the part, or there are none where the part is left out
 abbrev pub IsOptional : {A : Type 0} → Grammar A → Option A → List Lexeme → Type 0
@@ -103,7 +103,7 @@ IsOptional a (Some x) ts = a.Is x ts
 
 -- a part, or nothing, for which the tree is None
 abbrev pub optional : {A : Type 0} → Grammar A → Grammar (Option A)
-optional {A} a = record { Is = IsOptional a; CanGoOn = λ ts. (ts ≡ []) ⊎ a.CanGoOn ts }
+optional {A} a = record { Is = IsOptional a; IsPrefix = λ ts. (ts ≡ []) ⊎ a.IsPrefix ts }
 
 -- a part that opens one level of nesting, where n more levels may be open: with none left it can begin, but never be
 -- whole (own rule)
@@ -115,12 +115,12 @@ opens (suc n) a = a
 
 -- the extension marker, and the parts after it, each after a comma
 abbrev pub marked : {B : Type 0} → Grammar B → Grammar (List B)
-marked b = behind (Mark Ellipsis) (many (behind (Mark Comma) b))
+marked b = preceded (Mark Ellipsis) (many (preceded (Mark Comma) b))
 
 -- At least one part, and after the parts possibly the extension marker. The tree has the parts before the marker, and
 -- those after it if it is there.
 abbrev pub extensible : {A B : Type 0} → Grammar A → Grammar B → Grammar (List A × Option (List B))
-extensible a b = listed a ∙ optional (behind (Mark Comma) (marked b))
+extensible a b = listed a ∙ optional (preceded (Mark Comma) (marked b))
 
 -- the same, but the marker may also be at the start
 abbrev pub rootless : {A B : Type 0} → Grammar A → Grammar B → Grammar (List A × Option (List B))
@@ -132,4 +132,4 @@ version fits = optional (number_of fits ∙ mark Colon)
 
 -- a part, or one or more parts in version brackets
 abbrev pub addition : {A : Type 0} → (ℕ → Bool) → Grammar A → Grammar (A ⊎ List A)
-addition fits a = a ⇒ inl ∣ behind (Mark OpenVersion) (version fits ∙ (listed a ∙ mark CloseVersion)) ⇒ (λ p. inr p.1.0)
+addition fits a = a ⇒ inl ∣ preceded (Mark OpenVersion) (version fits ∙ (listed a ∙ mark CloseVersion)) ⇒ (λ p. inr p.1.0)

@@ -3,8 +3,8 @@ use Rattle.std.proofs.Common.{◌≡◌, ℕ, ◌≤◌, ◌⊎◌, inl, inr, Bo
 use Rattle.std.proofs.lemmas.List.{append-nil}
 use Rattle.text.specs.declared.token.Mark.TheVariants.{Comma, OpenBrace, CloseBrace}
 use Rattle.grammar.specs.Lexeme.{Lexeme, Ident, Mark}
-use Rattle.grammar.specs.Grammar.{Grammar, token, mark, ◌∙◌, ◌∣◌, ◌⇒◌, many, behind, listed, braces}
-use Rattle.grammar.specs.Reading.{Limit, Read, Reader, ◌>>=◌, stop, closed_at, behind_commas_at, listed_at, named_at}
+use Rattle.grammar.specs.Grammar.{Grammar, token, mark, ◌∙◌, ◌∣◌, ◌⇒◌, many, preceded, listed, braces}
+use Rattle.grammar.specs.Reading.{Limit, Read, Reader, ◌>>=◌, stop, closed_at, after_commas_at, listed_at, named_at}
 use Rattle.grammar.specs.Laws.{Sound, Follows, Passes, ReadsAs, Finds, then_read, seq_sound, commas_sound, passes_on, passes_made, seq_front, seq_whole, seq_part, is_comma, begins, follows_many, commas_front, commas_whole}
 
 -- ---- what is read is in the grammar
@@ -23,7 +23,7 @@ module _ (over : Limit → ℕ) where
   right_sound a b ts (Err f) s = (s.0, s.1, s.2, s.3, inr s.4)
 
   -- a fault at the first lexeme
-  pub stop_sound : {A : Type 0} (a : Grammar A) (ts : List Lexeme) → a.CanGoOn [] → Sound over a ts (stop ts)
+  pub stop_sound : {A : Type 0} (a : Grammar A) (ts : List Lexeme) → a.IsPrefix [] → Sound over a ts (stop ts)
   stop_sound a ts nil = ([], ts, refl, refl, nil)
 
   pub closed_sound : (ts : List Lexeme) → Sound over (mark CloseBrace) ts (closed_at ts)
@@ -37,7 +37,7 @@ module _ (over : Limit → ℕ) where
       → (ts : List Lexeme)
       → Sound over (listed a) ts (listed_at read ts)
   unfolding listed_at
-  listed_sound a read s ts = seq_sound over a (many (behind (Mark Comma) a)) (λ p. p.0 ∷ p.1) ts (read ts) (λ us. behind_commas_at read (length us) us) (s ts) (λ us. commas_sound over a read s (length us) us)
+  listed_sound a read s ts = seq_sound over a (many (preceded (Mark Comma) a)) (λ p. p.0 ∷ p.1) ts (read ts) (λ us. after_commas_at read (length us) us) (s ts) (λ us. commas_sound over a read s (length us) us)
 
   -- the part in braces
   pub brace_sound : {A B : Type 0} (a : Grammar A) (f : A → B) (ts : List Lexeme) (r : Read B)
@@ -72,10 +72,10 @@ head_is s t u v e = cc
 
 pub seq_first : {A B : Type 0} (a : Grammar A) (b : Grammar B) (starts : Lexeme → Bool)
     → IsSolid a
-    → ((x : A) (u : List Lexeme) → a.Is x u → a.CanGoOn u)
-    → ((t : Lexeme) (u : List Lexeme) → a.CanGoOn (t ∷ u) → starts t ≡ true)
+    → ((x : A) (u : List Lexeme) → a.Is x u → a.IsPrefix u)
+    → ((t : Lexeme) (u : List Lexeme) → a.IsPrefix (t ∷ u) → starts t ≡ true)
     → (t : Lexeme) (u : List Lexeme)
-    → (a ∙ b).CanGoOn (t ∷ u)
+    → (a ∙ b).IsPrefix (t ∷ u)
     → starts t ≡ true
 seq_first a b starts solid part first t u (inl h) = first t u h
 seq_first a b starts solid part first t u (inr (x, [], w, e, ha, hb)) = absurd (solid.no_empty x ha)
@@ -90,20 +90,20 @@ seq_solid a b f solid = record { no_empty = λ z h. go z h }
 
 -- the lexemes that can come after the one lexeme s
 pub record Next {A : Type 0} (a : Grammar A) (s : Lexeme) (P : Lexeme → Type 0) : Type 0 where
-  pub next : (t : Lexeme) (u : List Lexeme) → a.CanGoOn (s ∷ t ∷ u) → P t
+  pub next : (t : Lexeme) (u : List Lexeme) → a.IsPrefix (s ∷ t ∷ u) → P t
 
 pub second_is : (s t x y : Lexeme) (u v : List Lexeme) → s ∷ t ∷ u ≡ x ∷ y ∷ v → t ≡ y
 second_is s t x y u v e = cc
 
 pub seq_next : {A B : Type 0} (a : Grammar A) (b : Grammar B) (s : Lexeme) (P : Lexeme → Type 0)
     → IsSolid a
-    → ((x : A) (u : List Lexeme) → a.Is x u → a.CanGoOn u)
+    → ((x : A) (u : List Lexeme) → a.Is x u → a.IsPrefix u)
     → Next a s P
-    → ((x : A) (t : Lexeme) (u : List Lexeme) → a.Is x (s ∷ []) → b.CanGoOn (t ∷ u) → P t)
+    → ((x : A) (t : Lexeme) (u : List Lexeme) → a.Is x (s ∷ []) → b.IsPrefix (t ∷ u) → P t)
     → Next (a ∙ b) s P
 seq_next a b s P solid part na nb = record { next = go }
   where
-    go : (t : Lexeme) (u : List Lexeme) → (a ∙ b).CanGoOn (s ∷ t ∷ u) → P t
+    go : (t : Lexeme) (u : List Lexeme) → (a ∙ b).IsPrefix (s ∷ t ∷ u) → P t
     go t u (inl h) = na.next t u h
     go t u (inr (x, [], w, e, ha, hb)) = absurd (solid.no_empty x ha)
     go t u (inr (x, s' ∷ [], [], e, ha, hb)) = absurd cc
@@ -112,7 +112,7 @@ seq_next a b s P solid part na nb = record { next = go }
         subst P (sym (second_is s t s' t' u w e)) (nb x t' w (subst (λ (y : Lexeme). a.Is x (y ∷ [])) q ha) hb)
     go t u (inr (x, s' ∷ t' ∷ v, w, e, ha, hb)) =
         let q : s' ≡ s = sym (head_is s s' (t ∷ u) ((t' ∷ v) ++ w) e) in
-        subst P (sym (second_is s t s' t' u (v ++ w) e)) (na.next t' v (subst (λ (y : Lexeme). a.CanGoOn (y ∷ t' ∷ v)) q (part x (s' ∷ t' ∷ v) ha)))
+        subst P (sym (second_is s t s' t' u (v ++ w) e)) (na.next t' v (subst (λ (y : Lexeme). a.IsPrefix (y ∷ t' ∷ v)) q (part x (s' ∷ t' ∷ v) ha)))
 
 pub made_next : {A B : Type 0} (a : Grammar A) (f : A → B) (s : Lexeme) (P : Lexeme → Type 0)
     → Next a s P
@@ -139,7 +139,7 @@ comma_apart ends apart t e = absurd cc
 
 module _ {A : Type 0} (within : Limit → Type 0) (a : Grammar A) (starts ends : Lexeme → Bool) (read : Reader A)
     (fa : Finds within a starts ends read) (apart : ends (Mark Comma) ≡ false) where
-  comma_first : (t : Lexeme) (u : List Lexeme) → (many (behind (Mark Comma) a)).CanGoOn (t ∷ u) → is_comma t ≡ true
+  comma_first : (t : Lexeme) (u : List Lexeme) → (many (preceded (Mark Comma) a)).IsPrefix (t ∷ u) → is_comma t ≡ true
   comma_first t u (xs, v, w, e, hv, hw) = elim (begins within a starts ends read fa xs v w hv hw) [
     | inl n ↦ absurd (nothing_is t u (e ⋆ n))
     | inr (y, n) ↦ subst (λ (t : Lexeme). is_comma t ≡ true) (sym (head_is t (Mark Comma) u y (e ⋆ n))) refl
@@ -149,24 +149,24 @@ module _ {A : Type 0} (within : Limit → Type 0) (a : Grammar A) (starts ends :
       nothing_is t u e = cc
 
   pub finds_many :
-      Finds within (many (behind (Mark Comma) a)) is_comma (with_comma ends) (λ us. behind_commas_at read (length us) us)
+      Finds within (many (preceded (Mark Comma) a)) is_comma (with_comma ends) (λ us. after_commas_at read (length us) us)
   finds_many = record {
     nil = ([], [], [], refl, refl, inl (inl refl));
     part = λ xs u h. (xs, u, [], sym (append-nil u), h, inl (inl refl));
     first = comma_first;
     whole = λ xs u us h f. let p = split_ends ends us apart f in commas_whole within a starts ends read fa apart (length (u ++ us)) xs u us (omega arith) h p.0 p.1;
-    front = λ u us h. subst (λ (l : List Lexeme). Passes within us (behind_commas_at read (length (l ++ us)) (l ++ us))) (sym h.3) (commas_front within a starts ends read fa apart (length ((h.1 ++ h.2) ++ us)) h.0 h.1 h.2 us (omega arith) h.4 h.5);
+    front = λ u us h. subst (λ (l : List Lexeme). Passes within us (after_commas_at read (length (l ++ us)) (l ++ us))) (sym h.3) (commas_front within a starts ends read fa apart (length ((h.1 ++ h.2) ++ us)) h.0 h.1 h.2 us (omega arith) h.4 h.5);
   }
 
   pub finds_listed : IsSolid a → Finds within (listed a) starts (with_comma ends) (listed_at read)
   unfolding listed_at
   finds_listed solid = record {
     nil = inl fa.nil;
-    part = seq_part within a (many (behind (Mark Comma) a)) (λ p. p.0 ∷ p.1) starts ends is_comma (with_comma ends) (with_comma ends) read (λ us. behind_commas_at read (length us) us) fa finds_many;
-    first = seq_first a (many (behind (Mark Comma) a)) starts solid fa.part fa.first;
-    whole = seq_whole within a (many (behind (Mark Comma) a)) (λ p. p.0 ∷ p.1) starts ends is_comma (with_comma ends) (with_comma ends) read (λ us. behind_commas_at read (length us) us) fa finds_many
+    part = seq_part within a (many (preceded (Mark Comma) a)) (λ p. p.0 ∷ p.1) starts ends is_comma (with_comma ends) (with_comma ends) read (λ us. after_commas_at read (length us) us) fa finds_many;
+    first = seq_first a (many (preceded (Mark Comma) a)) starts solid fa.part fa.first;
+    whole = seq_whole within a (many (preceded (Mark Comma) a)) (λ p. p.0 ∷ p.1) starts ends is_comma (with_comma ends) (with_comma ends) read (λ us. after_commas_at read (length us) us) fa finds_many
         (λ xs v us h f. follows_many within a starts ends read fa apart xs v us h (split_ends ends us apart f).0) (λ us f. f);
-    front = seq_front within a (many (behind (Mark Comma) a)) (λ p. p.0 ∷ p.1) starts ends is_comma (with_comma ends) (with_comma ends) read (λ us. behind_commas_at read (length us) us) fa finds_many (comma_apart ends apart);
+    front = seq_front within a (many (preceded (Mark Comma) a)) (λ p. p.0 ∷ p.1) starts ends is_comma (with_comma ends) (with_comma ends) read (λ us. after_commas_at read (length us) us) fa finds_many (comma_apart ends apart);
   }
 
 -- ---- the end of braces
@@ -182,7 +182,7 @@ pub finds_closed : (within : Limit → Type 0) → Finds within (mark CloseBrace
 unfolding closed_at
 finds_closed within = record { nil = inl refl; part = λ x u h. inr (tt, h); first = first; whole = λ x u us h f. subst (λ (l : List Lexeme). ReadsAs within (closed_at (l ++ us)) tt us) (sym h) (inl refl); front = front }
   where
-    first : (t : Lexeme) (u : List Lexeme) → (mark CloseBrace).CanGoOn (t ∷ u) → is_rbrace t ≡ true
+    first : (t : Lexeme) (u : List Lexeme) → (mark CloseBrace).IsPrefix (t ∷ u) → is_rbrace t ≡ true
     first t u (inl e) = absurd cc
     first t u (inr (x, e)) = subst (λ (t : Lexeme). is_rbrace t ≡ true) (sym (head_is t (Mark CloseBrace) u [] e)) refl
 
@@ -191,7 +191,7 @@ finds_closed within = record { nil = inl refl; part = λ x u h. inr (tt, h); fir
     shrinks ((Mark CloseBrace) ∷ us) = omega arith
     shrinks (t ∷ us) = omega arith
 
-    front : (u us : List Lexeme) → (mark CloseBrace).CanGoOn u → Passes within us (closed_at (u ++ us))
+    front : (u us : List Lexeme) → (mark CloseBrace).IsPrefix u → Passes within us (closed_at (u ++ us))
     front u us (inl e) = subst (λ (l : List Lexeme). Passes within us (closed_at (l ++ us))) (sym e) (shrinks us)
     front u us (inr (x, e)) = let h : length us ≤ length us = omega arith in subst (λ (l : List Lexeme). Passes within us (closed_at (l ++ us))) (sym e) h
 
@@ -207,7 +207,7 @@ module _ {A C : Type 0} (within : Limit → Type 0) (a : Grammar A) (starts ends
     (fa : Finds within a starts ends read) (apart : ends (Mark Comma) ≡ false)
     (apart_end : ends (Mark CloseBrace) ≡ false) (solid : IsSolid a) (f : List A × Unit {0} → C) where
   listed_solid : IsSolid (listed a)
-  listed_solid = seq_solid a (many (behind (Mark Comma) a)) (λ p. p.0 ∷ p.1) solid
+  listed_solid = seq_solid a (many (preceded (Mark Comma) a)) (λ p. p.0 ∷ p.1) solid
 
   pub finds_body :
       Finds within ((listed a ∙ mark CloseBrace) ⇒ f) starts no_lexeme (then_read f (listed_at read) closed_at)
@@ -229,7 +229,7 @@ module _ {A C : Type 0} (within : Limit → Type 0) (a : Grammar A) (starts ends
       → Next (listed a ∙ mark CloseBrace) s P
   body_next s P na one =
       seq_next (listed a) (mark CloseBrace) s P listed_solid (finds_listed within a starts ends read fa apart solid).part
-      (made_next (a ∙ many (behind (Mark Comma) a)) (λ p. p.0 ∷ p.1) s P (seq_next a (many (behind (Mark Comma) a)) s P solid fa.part na (λ x t u h g. subst P (sym (is_comma_is t (comma_first within a starts ends read fa apart t u g))) (one x h).0)))
+      (made_next (a ∙ many (preceded (Mark Comma) a)) (λ p. p.0 ∷ p.1) s P (seq_next a (many (preceded (Mark Comma) a)) s P solid fa.part na (λ x t u h g. subst P (sym (is_comma_is t (comma_first within a starts ends read fa apart t u g))) (one x h).0)))
       (λ xs t u h g. subst P (sym (is_rbrace_is t ((finds_closed within).first t u g))) (single xs h).1)
     where
       is_comma_is : (t : Lexeme) → is_comma t ≡ true → t ≡ (Mark Comma)
@@ -268,18 +268,18 @@ module _ {A : Type 0} (within : Limit → Type 0) (v : Grammar A) (starts ends :
   named_shrinks (Ident x ∷ us) = passes_on within (Ident x ∷ us) us _ (omega arith) (read_named x us (read us) (fv.front [] us fv.nil))
   named_shrinks (t ∷ us) = omega arith
 
-  named_front : (u us : List Lexeme) → (token Ident ∙ v).CanGoOn u → Passes within us (named_at read (u ++ us))
+  named_front : (u us : List Lexeme) → (token Ident ∙ v).IsPrefix u → Passes within us (named_at read (u ++ us))
   unfolding named_at
   named_front u us (inl (inl e)) = subst (λ (l : List Lexeme). Passes within us (named_at read (l ++ us))) (sym e) (named_shrinks us)
   named_front u us (inl (inr (x, e))) = subst (λ (l : List Lexeme). Passes within us (named_at read (l ++ us))) (sym e) (read_named x us (read us) (fv.front [] us fv.nil))
   named_front u us (inr (x, p, q, e, hp, hq)) =
       subst (λ (l : List Lexeme). Passes within us (named_at read (l ++ us))) (sym (e ⋆ ap (λ (l : List Lexeme). l ++ q) hp)) (read_named x us (read (q ++ us)) (fv.front q us hq))
 
-  named_stands : (x : List ℕ) (y : A) (us : List Lexeme) (r : Read A)
+  named_reads_as : (x : List ℕ) (y : A) (us : List Lexeme) (r : Read A)
       → ReadsAs within r y us
       → ReadsAs {A = List ℕ × A} within (r >>= λ v. Ok ((x, v.0), v.1)) (x, y) us
-  named_stands x y us r (inl e) = inl (ap (put_name x) e)
-  named_stands x y us r (inr w) = inr (w.0, w.1, ap (put_name x) w.2)
+  named_reads_as x y us r (inl e) = inl (ap (put_name x) e)
+  named_reads_as x y us r (inr w) = inr (w.0, w.1, ap (put_name x) w.2)
 
   named_whole : (m : List ℕ × A) (u us : List Lexeme)
       → (token Ident ∙ v).Is m u
@@ -287,7 +287,7 @@ module _ {A : Type 0} (within : Limit → Type 0) (v : Grammar A) (starts ends :
       → ReadsAs within (named_at read (u ++ us)) m us
   unfolding named_at
   named_whole m u us (p, q, e, hp, hq) f =
-      subst (λ (l : List Lexeme). ReadsAs within (named_at read (l ++ us)) m us) (sym (e ⋆ ap (λ (l : List Lexeme). l ++ q) hp)) (named_stands m.0 m.1 us (read (q ++ us)) (fv.whole m.1 q us hq f))
+      subst (λ (l : List Lexeme). ReadsAs within (named_at read (l ++ us)) m us) (sym (e ⋆ ap (λ (l : List Lexeme). l ++ q) hp)) (named_reads_as m.0 m.1 us (read (q ++ us)) (fv.whole m.1 q us hq f))
 
   pub finds_named : Finds within (token Ident ∙ v) is_ident ends (named_at read)
   finds_named = record {
@@ -298,7 +298,7 @@ module _ {A : Type 0} (within : Limit → Type 0) (v : Grammar A) (starts ends :
     front = named_front;
   }
     where
-      first : (t : Lexeme) (u : List Lexeme) → (token Ident ∙ v).CanGoOn (t ∷ u) → is_ident t ≡ true
+      first : (t : Lexeme) (u : List Lexeme) → (token Ident ∙ v).IsPrefix (t ∷ u) → is_ident t ≡ true
       first t u (inl (inl e)) = absurd cc
       first t u (inl (inr (x, e))) = subst (λ (t : Lexeme). is_ident t ≡ true) (sym (head_is t (Ident x) u [] e)) refl
       first t u (inr (x, p, q, e, hp, hq)) = subst (λ (t : Lexeme). is_ident t ≡ true) (sym (head_is t (Ident x) u q (e ⋆ ap (λ (l : List Lexeme). l ++ q) hp))) refl
@@ -311,9 +311,9 @@ pub braces_is : {A : Type 0} (a : Grammar A) (z : A) (u : List Lexeme)
 braces_is a z u (p, e, (m, v, q, hm, hv)) = (v, q ⋆ ap (λ (l : List Lexeme). l ++ v) hm, (p.1, e, hv))
 
 pub braces_front : {A : Type 0} (a : Grammar A) (u : List Lexeme)
-    → a.CanGoOn []
-    → (braces a).CanGoOn u
-    → (u ≡ []) ⊎ ((v : List Lexeme) × (u ≡ Mark OpenBrace ∷ v) × (a ∙ mark CloseBrace).CanGoOn v)
+    → a.IsPrefix []
+    → (braces a).IsPrefix u
+    → (u ≡ []) ⊎ ((v : List Lexeme) × (u ≡ Mark OpenBrace ∷ v) × (a ∙ mark CloseBrace).IsPrefix v)
 braces_front a u nil (inl (inl e)) = inl e
 braces_front a u nil (inl (inr (x, e))) = inr ([], e, inl nil)
 braces_front a u nil (inr (x, m, v, q, hm, hv)) = inr (v, q ⋆ ap (λ (l : List Lexeme). l ++ v) hm, hv)

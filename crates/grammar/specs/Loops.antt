@@ -4,7 +4,7 @@ use Rattle.std.proofs.lemmas.List.{append-nil}
 use Rattle.text.specs.declared.token.Mark.TheVariants.{Comma}
 use Rattle.grammar.specs.Lexeme.{Lexeme, Mark}
 use Rattle.grammar.specs.Grammar.{Grammar}
-use Rattle.grammar.specs.Reading.{Fault, Read, Reader, ◌>>=◌, with_front, next_comma, behind_commas_at}
+use Rattle.grammar.specs.Reading.{Fault, Read, Reader, ◌>>=◌, with_front, next_comma, after_commas_at}
 use Rattle.grammar.specs.Laws.{Sound, nowhere}
 
 pub is_comma : (ts rest : List Lexeme) → next_comma ts ≡ Some rest → ts ≡ Mark Comma ∷ rest
@@ -52,8 +52,8 @@ any_fuel : {A : Type 0} (read : Reader A)
     → (k j : ℕ) (ts : List Lexeme)
     → length ts ≤ k
     → length ts ≤ j
-    → behind_commas_at read k ts ≡ behind_commas_at read j ts
-unfolding behind_commas_at
+    → after_commas_at read k ts ≡ after_commas_at read j ts
+unfolding after_commas_at
 any_fuel read s zero zero ts p q = refl
 any_fuel read s zero (suc j) [] p q = refl
 any_fuel read s zero (suc j) (t ∷ ts) p q = absurd (omega arith)
@@ -61,7 +61,7 @@ any_fuel read s (suc k) zero [] p q = refl
 any_fuel read s (suc k) zero (t ∷ ts) p q = absurd (omega arith)
 any_fuel read s (suc k) (suc j) [] p q = refl
 any_fuel read s (suc k) (suc j) ((Mark Comma) ∷ ts) p q =
-    bind_same (read ts) (λ x. behind_commas_at read k x.1 >>= λ xs. Ok (x.0 ∷ xs.0, xs.1)) (λ x. behind_commas_at read j x.1 >>= λ xs. Ok (x.0 ∷ xs.0, xs.1))
+    bind_same (read ts) (λ x. after_commas_at read k x.1 >>= λ xs. Ok (x.0 ∷ xs.0, xs.1)) (λ x. after_commas_at read j x.1 >>= λ xs. Ok (x.0 ∷ xs.0, xs.1))
     (λ x e. let le = s.shorter ts x e in
     ap (λ (r : Read (List _)). r >>= λ xs. Ok (x.0 ∷ xs.0, xs.1)) (any_fuel read s k j x.1 (omega arith) (omega arith)))
 any_fuel read s (suc k) (suc j) (t ∷ ts) p q = refl
@@ -71,23 +71,23 @@ pub commas_more : {A : Type 0} (read : Reader A)
     → (ts rest : List Lexeme) (x : A × List Lexeme) (front : List A) (total : Read (List A))
     → next_comma ts ≡ Some rest
     → read rest ≡ Ok x
-    → with_front front (behind_commas_at read (length ts) ts) ≡ total
-    → with_front (front ++ x.0 ∷ []) (behind_commas_at read (length x.1) x.1) ≡ total
-unfolding behind_commas_at
+    → with_front front (after_commas_at read (length ts) ts) ≡ total
+    → with_front (front ++ x.0 ∷ []) (after_commas_at read (length x.1) x.1) ≡ total
+unfolding after_commas_at
 commas_more read s ts rest x front total e r h =
     let le = s.shorter rest x r in
     let fuel = any_fuel read s (length rest) (length x.1) x.1 le (omega arith) in
-    let one : behind_commas_at read (length ((Mark Comma) ∷ rest)) ((Mark Comma) ∷ rest) ≡ (behind_commas_at read (length x.1) x.1 >>= λ xs. Ok (x.0 ∷ xs.0, xs.1)) =
-    ap (λ (q : Read _). q >>= λ x. behind_commas_at read (length rest) x.1 >>= λ xs. Ok (x.0 ∷ xs.0, xs.1)) r
+    let one : after_commas_at read (length ((Mark Comma) ∷ rest)) ((Mark Comma) ∷ rest) ≡ (after_commas_at read (length x.1) x.1 >>= λ xs. Ok (x.0 ∷ xs.0, xs.1)) =
+    ap (λ (q : Read _). q >>= λ x. after_commas_at read (length rest) x.1 >>= λ xs. Ok (x.0 ∷ xs.0, xs.1)) r
     ⋆ ap (λ (q : Read (List _)). q >>= λ xs. Ok (x.0 ∷ xs.0, xs.1)) fuel in
-    sym (ap (with_front front) one ⋆ regroup front x.0 (behind_commas_at read (length x.1) x.1))
-    ⋆ ap (λ (l : List Lexeme). with_front front (behind_commas_at read (length l) l)) (sym (is_comma ts rest e)) ⋆ h
+    sym (ap (with_front front) one ⋆ regroup front x.0 (after_commas_at read (length x.1) x.1))
+    ⋆ ap (λ (l : List Lexeme). with_front front (after_commas_at read (length l) l)) (sym (is_comma ts rest e)) ⋆ h
 
 pub commas_end : {A : Type 0} (read : Reader A) (ts : List Lexeme) (front : List A) (total : Read (List A))
     → next_comma ts ≡ None
-    → with_front front (behind_commas_at read (length ts) ts) ≡ total
+    → with_front front (after_commas_at read (length ts) ts) ≡ total
     → total ≡ Ok (front, ts)
-unfolding behind_commas_at next_comma
+unfolding after_commas_at next_comma
 commas_end read [] front total e h = sym h ⋆ ap (λ (l : List _). Ok (l, [])) (append-nil front)
 commas_end read ((Mark Comma) ∷ ts) front total e h = absurd cc
 commas_end read (t ∷ ts) front total e h = sym h ⋆ ap (λ (l : List _). Ok (l, t ∷ ts)) (append-nil front)
@@ -96,10 +96,10 @@ pub commas_fail : {A : Type 0} (read : Reader A) (ts rest : List Lexeme) (f : Fa
     (total : Read (List A))
     → next_comma ts ≡ Some rest
     → read rest ≡ Err f
-    → with_front front (behind_commas_at read (length ts) ts) ≡ total
+    → with_front front (after_commas_at read (length ts) ts) ≡ total
     → total ≡ Err f
-unfolding behind_commas_at
+unfolding after_commas_at
 commas_fail read ts rest f front total e r h =
-    let one : behind_commas_at read (length ((Mark Comma) ∷ rest)) ((Mark Comma) ∷ rest) ≡ Err f =
-    ap (λ (q : Read _). q >>= λ x. behind_commas_at read (length rest) x.1 >>= λ xs. Ok (x.0 ∷ xs.0, xs.1)) r in
-    sym h ⋆ ap (λ (l : List Lexeme). with_front front (behind_commas_at read (length l) l)) (is_comma ts rest e) ⋆ ap (with_front front) one
+    let one : after_commas_at read (length ((Mark Comma) ∷ rest)) ((Mark Comma) ∷ rest) ≡ Err f =
+    ap (λ (q : Read _). q >>= λ x. after_commas_at read (length rest) x.1 >>= λ xs. Ok (x.0 ∷ xs.0, xs.1)) r in
+    sym h ⋆ ap (λ (l : List Lexeme). with_front front (after_commas_at read (length l) l)) (is_comma ts rest e) ⋆ ap (with_front front) one

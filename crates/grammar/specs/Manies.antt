@@ -82,13 +82,13 @@ module _ {A : Type 0} (within : Limit → Type 0) (a : Grammar A) (starts ends e
         le us = omega arith
 
     -- if a part is read, and the rest passes, both pass
-    stands_more : (x : A) (us vs : List Lexeme) (r : Read A) (more : Reader (List A))
+    reads_as_more : (x : A) (us vs : List Lexeme) (r : Read A) (more : Reader (List A))
         → ReadsAs within r x vs
         → Passes within us (more vs)
         → Passes within us (next r more)
-    stands_more x us vs r more (inl e) h =
+    reads_as_more x us vs r more (inl e) h =
         subst (λ (q : Read A). Passes within us (next q more)) (sym e) (passes_made within us (more vs) (λ xs. x ∷ xs) h)
-    stands_more x us vs r more (inr w) h = subst (λ (q : Read A). Passes within us (next q more)) (sym w.2) (inr w.1)
+    reads_as_more x us vs r more (inr w) h = subst (λ (q : Read A). Passes within us (next q more)) (sym w.2) (inr w.1)
 
     -- a whole begins with a lexeme with which a part can begin
     is_begun : (x : A) (u : List Lexeme) → a.Is x u → (t : Lexeme) × (w : List Lexeme) × (u ≡ t ∷ w) × (starts t ≡ true)
@@ -98,7 +98,7 @@ module _ {A : Type 0} (within : Limit → Type 0) (a : Grammar A) (starts ends e
     -- a prefix is empty, or begins with such a lexeme
     begun : (xs : List A) (u v : List Lexeme)
         → IsMany a xs u
-        → a.CanGoOn v
+        → a.IsPrefix v
         → (u ++ v ≡ []) ⊎ ((t : Lexeme) × (w : List Lexeme) × (u ++ v ≡ t ∷ w) × (starts t ≡ true))
     begun [] u [] h g = inl (append-nil u ⋆ h)
     begun [] u (t ∷ v) h g = inr (t, v, ap (λ (l : List Lexeme). l ++ t ∷ v) h, fa.first t v g)
@@ -125,7 +125,7 @@ module _ {A : Type 0} (within : Limit → Type 0) (a : Grammar A) (starts ends e
     many_front : (k : ℕ) (xs : List A) (u v us : List Lexeme)
         → length ((u ++ v) ++ us) ≤ k
         → IsMany a xs u
-        → a.CanGoOn v
+        → a.IsPrefix v
         → Passes within us (many_at starts read k ((u ++ v) ++ us))
     many_front k [] u [] us le h g = subst (λ (l : List Lexeme). Passes within us (many_at starts read k (l ++ us))) (sym (append-nil u ⋆ h)) (many_shrink k us)
     many_front k [] u (t ∷ w) us le h g =
@@ -140,7 +140,7 @@ module _ {A : Type 0} (within : Limit → Type 0) (a : Grammar A) (starts ends e
         (λ j lj. subst (λ (l : List Lexeme). Passes within us (next (read l) (many_at starts read j))) (sym whole) (elim (begun xs q v hq g) [
           | inl n ↦ subst (λ (l : List Lexeme). Passes within us (next (read (p ++ (l ++ us))) (many_at starts read j))) (sym n)
               (one_passes us (read (p ++ us)) (many_at starts read j) (many_shrink j) (fa.front p us (fa.part x p hp)))
-          | inr (t, w, n, s) ↦ stands_more x us ((q ++ v) ++ us) (read (p ++ ((q ++ v) ++ us))) (many_at starts read j)
+          | inr (t, w, n, s) ↦ reads_as_more x us ((q ++ v) ++ us) (read (p ++ ((q ++ v) ++ us))) (many_at starts read j)
               (fa.whole x p ((q ++ v) ++ us) hp (follows_start t ((q ++ v) ++ us) (w ++ us) (ap (λ (l : List Lexeme). l ++ us) n) s))
               (many_front j xs q v us (omega (arith, length-append b.1 ((q ++ v) ++ us))) hq g)
         ]))
@@ -161,13 +161,13 @@ module _ {A : Type 0} (within : Limit → Type 0) (a : Grammar A) (starts ends e
         let b = is_begun x p hp in
         follows_start b.0 (u ++ us) ((b.1 ++ q) ++ us) (ap (λ (l : List Lexeme). l ++ us) (e ⋆ ap (λ (l : List Lexeme). l ++ q) b.2)) b.3
 
-    stands_both : (x : A) (xs : List A) (us vs : List Lexeme) (r : Read A) (more : Reader (List A))
+    reads_as_both : (x : A) (xs : List A) (us vs : List Lexeme) (r : Read A) (more : Reader (List A))
         → ReadsAs within r x vs
         → ReadsAs within (more vs) xs us
         → ReadsAs within (next r more) (x ∷ xs) us
-    stands_both x xs us vs r more (inl e) (inl h) = inl (ap (λ (r : Read A). next r more) e ⋆ ap (λ (s : Read (List A)). s >>= λ xs. Ok (x ∷ xs.0, xs.1)) h)
-    stands_both x xs us vs r more (inl e) (inr h) = inr (h.0, h.1, ap (λ (r : Read A). next r more) e ⋆ ap (λ (s : Read (List A)). s >>= λ xs. Ok (x ∷ xs.0, xs.1)) h.2)
-    stands_both x xs us vs r more (inr w) h = inr (w.0, w.1, ap (λ (r : Read A). next r more) w.2)
+    reads_as_both x xs us vs r more (inl e) (inl h) = inl (ap (λ (r : Read A). next r more) e ⋆ ap (λ (s : Read (List A)). s >>= λ xs. Ok (x ∷ xs.0, xs.1)) h)
+    reads_as_both x xs us vs r more (inl e) (inr h) = inr (h.0, h.1, ap (λ (r : Read A). next r more) e ⋆ ap (λ (s : Read (List A)). s >>= λ xs. Ok (x ∷ xs.0, xs.1)) h.2)
+    reads_as_both x xs us vs r more (inr w) h = inr (w.0, w.1, ap (λ (r : Read A). next r more) w.2)
 
     many_whole : (k : ℕ) (xs : List A) (u us : List Lexeme)
         → length (u ++ us) ≤ k
@@ -180,7 +180,7 @@ module _ {A : Type 0} (within : Limit → Type 0) (a : Grammar A) (starts ends e
         let whole : u ++ us ≡ p ++ (q ++ us) = ap (λ (l : List Lexeme). l ++ us) e ⋆ append_assoc p q us in
         let shape : u ++ us ≡ b.0 ∷ (b.1 ++ (q ++ us)) = whole ⋆ ap (λ (l : List Lexeme). l ++ (q ++ us)) b.2 in
         at_start (λ (r : Read (List A)). ReadsAs within r (x ∷ xs) us) k b.0 (b.1 ++ (q ++ us)) (u ++ us) le shape b.3
-        (λ j lj. subst (λ (l : List Lexeme). ReadsAs within (next (read l) (many_at starts read j)) (x ∷ xs) us) (sym whole) (stands_both x xs us (q ++ us) (read (p ++ (q ++ us))) (many_at starts read j)
+        (λ j lj. subst (λ (l : List Lexeme). ReadsAs within (next (read l) (many_at starts read j)) (x ∷ xs) us) (sym whole) (reads_as_both x xs us (q ++ us) (read (p ++ (q ++ us))) (many_at starts read j)
         (fa.whole x p (q ++ us) hp (follows_many xs q us hq f))
         (many_whole j xs q us (omega (arith, length-append b.1 (q ++ us))) hq f)))
 
@@ -196,7 +196,7 @@ module _ {A : Type 0} (within : Limit → Type 0) (a : Grammar A) (starts ends e
         nothing_is : (t : Lexeme) (u : List Lexeme) → t ∷ u ≡ [] → ⊥
         nothing_is t u e = absurd cc
 
-        first : (t : Lexeme) (u : List Lexeme) → (many a).CanGoOn (t ∷ u) → starts t ≡ true
+        first : (t : Lexeme) (u : List Lexeme) → (many a).IsPrefix (t ∷ u) → starts t ≡ true
         first t u (xs, v, w, e, hv, hw) = elim (begun xs v w hv hw) [
           | inl n ↦ absurd (nothing_is t u (e ⋆ n))
           | inr (s, y, n, q) ↦ subst (λ (t : Lexeme). starts t ≡ true) (sym (head_is t s u y (e ⋆ n))) q

@@ -15,8 +15,8 @@ beyond_sound : (over : Limit → ℕ) (k : ℕ)
     → (P : Type 0)
     → Past k P
     → {A : Type 0} (g : Grammar A) (n : ℕ) (u ts : List Lexeme)
-    → g.CanGoOn u
-    → (P → g.CanGoOn (u ++ Number n ∷ []))
+    → g.IsPrefix u
+    → (P → g.IsPrefix (u ++ Number n ∷ []))
     → Sound over g (u ++ Number n ∷ ts) (Err (Beyond Integer (length (Number n ∷ ts))))
 beyond_sound over zero e P past g n u ts before with_it = (u, Number n ∷ ts, refl, ap (λ (k : ℕ). more k (length (Number n ∷ ts))) (sym e), before)
 beyond_sound over (suc k) e P past g n u ts before with_it =
@@ -29,8 +29,8 @@ beyond_sound over (suc k) e P past g n u ts before with_it =
 pub fitting_sound : (over : Limit → ℕ) (fits fits' : ℕ → Bool)
     → Past (over Integer) ((n : ℕ) → fits' n ≡ true)
     → {A : Type 0} (g : Grammar A) (b : Bool) (n : ℕ) (u ts : List Lexeme) (r : Read A)
-    → g.CanGoOn u
-    → (fits' n ≡ true → g.CanGoOn (u ++ Number n ∷ []))
+    → g.IsPrefix u
+    → (fits' n ≡ true → g.IsPrefix (u ++ Number n ∷ []))
     → (b ≡ true → Sound over g (u ++ Number n ∷ ts) r)
     → Sound over g (u ++ Number n ∷ ts) (fitting b (Number n ∷ ts) r)
 fitting_sound over fits fits' past g true n u ts r before with_it h = h refl
@@ -53,13 +53,13 @@ pub fitting_shrinks : {A : Type 0} (within : Limit → Type 0) (b : Bool) (n : �
 fitting_shrinks within true n us r h = passes_on within (Number n ∷ us) us r (omega arith) h
 fitting_shrinks within false n us r h = inl (omega arith)
 
-pub fitting_stands : {A : Type 0} (within : Limit → Type 0) (b : Bool) (ts us : List Lexeme) (r : Read A) (x : A)
+pub fitting_reads_as : {A : Type 0} (within : Limit → Type 0) (b : Bool) (ts us : List Lexeme) (r : Read A) (x : A)
     → (within Integer → b ≡ true) → ReadsAs within r x us → ReadsAs within (fitting b ts r) x us
-fitting_stands within true ts us r x room h = h
-fitting_stands within false ts us r x room h = inr ((Integer, length ts), not_within within room, refl)
+fitting_reads_as within true ts us r x room h = h
+fitting_reads_as within false ts us r x room h = inr ((Integer, length ts), not_within within room, refl)
 
 -- a number among the lexemes after a prefix
-pub fitting_behind : {A : Type 0} (within : Limit → Type 0) (b : Bool) (us ts : List Lexeme) (r : Read A)
+pub fitting_passes_on : {A : Type 0} (within : Limit → Type 0) (b : Bool) (us ts : List Lexeme) (r : Read A)
     → length ts ≤ length us → Passes within us r → Passes within us (fitting b ts r)
-fitting_behind within true us ts r le h = h
-fitting_behind within false us ts r le h = inl le
+fitting_passes_on within true us ts r le h = h
+fitting_passes_on within false us ts r le h = inl le

@@ -2,14 +2,14 @@
 use Rattle.std.proofs.Common.{◌≡◌, ℕ, zero, suc, ◌+◌, ◌≤◌, inl, inr, Bool, true, false, List, [], ◌∷◌, ◌++◌, length, Ok, Err, refl, sym, ap, subst, ◌∙◌ as ◌⋆◌, arith}
 use Rattle.text.specs.declared.token.Mark.TheVariants.{OpenBrace, CloseBrace}
 use Rattle.grammar.specs.Lexeme.{Lexeme, Ident, Mark}
-use Rattle.grammar.specs.Grammar.{Grammar, token, mark, only, ◌∙◌, ◌⇒◌, behind, braces, cut_off, opens}
+use Rattle.grammar.specs.Grammar.{Grammar, token, mark, only, ◌∙◌, ◌⇒◌, preceded, braces, cut_off, opens}
 use Rattle.grammar.specs.Grows.{same_grows}
 use Rattle.grammar.specs.Reading.{Limit, Nesting, Read, Reader, stop, closed_at, opened, inside_at, braces_at, named_at}
 use Rattle.grammar.specs.Laws.{more, Sound, Follows, Passes, ReadsAs, Finds, passes_on, then_read, after_read}
 use Rattle.grammar.specs.Single.{is_closed, closed_is}
 use Rattle.grammar.specs.Lists.{no_lexeme, is_ident, seq_first, seq_solid, named_sound, finds_named}
 use Rattle.grammar.specs.Parts.{SoundReader, token_finds, token_solid, cut_off_finds, cut_off_solid, pair_sound, pair_finds, pair_solid, same_sound, same_finds}
-use Rattle.grammar.specs.Rules.{Owes, OwesLoosely, Same, either, rule_token, rule_seq, rule_lead, rule_behind, rule_read, rule_same, made, read_again, taken, one_at, one_is}
+use Rattle.grammar.specs.Rules.{Owes, OwesLoosely, Same, either, rule_token, rule_seq, rule_lead, rule_preceded, rule_read, rule_same, made, read_again, taken, one_at, one_is}
 
 -- ---- small rules
 
@@ -111,23 +111,23 @@ module _ {A : Type 0} (s f : Type 0) (over : Limit → ℕ) (within : Limit → 
       go false = ([], t ∷ ts, refl, refl, refl)
 
   -- one more part may be open for the grammar
-  one_sound : (m : ℕ) → over Nesting ≡ suc m → SoundReader over (behind l b) (opened_by test zero read)
+  one_sound : (m : ℕ) → over Nesting ≡ suc m → SoundReader over (preceded l b) (opened_by test zero read)
   one_sound m e [] = ([], [], refl, refl, inl (inl refl))
   one_sound m e (t ∷ ts) = go (test t) refl
     where
       long : length (t ∷ ts) ≡ more (suc m) (length ts)
       long = omega arith
 
-      go : (c : Bool) → test t ≡ c → Sound over (behind l b) (t ∷ ts) (barred c zero (t ∷ ts) (read ts))
+      go : (c : Bool) → test t ≡ c → Sound over (preceded l b) (t ∷ ts) (barred c zero (t ∷ ts) (read ts))
       go true q = (t ∷ [], ts, refl, long ⋆ ap (λ (k : ℕ). more k (length ts)) (sym e), inl (inr (tt, ap (λ (u : Lexeme). u ∷ []) (one t q))))
       go false q = ([], t ∷ ts, refl, refl, inl (inl refl))
 
   -- at a lexeme where no more parts may be open, the limit is passed, if not all is within it
-  out_stands : (within Nesting → ⊥)
+  out_reads_as : (within Nesting → ⊥)
       → (x : A) (t : Lexeme) (ts us : List Lexeme)
       → test t ≡ true
       → ReadsAs within (opened_by test zero read (t ∷ ts)) x us
-  out_stands w x t ts us e = inr ((Nesting, length (t ∷ ts)), w, ap (λ (c : Bool). barred c zero (t ∷ ts) (read ts)) e)
+  out_reads_as w x t ts us e = inr ((Nesting, length (t ∷ ts)), w, ap (λ (c : Bool). barred c zero (t ∷ ts) (read ts)) e)
 
   out_passes : (within Nesting → ⊥)
       → (t : Lexeme) (ts us : List Lexeme)
@@ -136,26 +136,26 @@ module _ {A : Type 0} (s f : Type 0) (over : Limit → ℕ) (within : Limit → 
   out_passes w t ts us e = subst (λ (c : Bool). Passes within us (barred c zero (t ∷ ts) (read ts))) (sym e) (inr w)
 
   one_finds : (within Nesting → ⊥)
-      → ((x : A) (u : List Lexeme) → b.Is x u → b.CanGoOn u)
-      → Finds within (behind l b) test ends (opened_by test zero read)
-  one_finds w part = record { nil = inl (inl refl); part = λ x u h. behind_part x u h; first = first; whole = whole; front = front }
+      → ((x : A) (u : List Lexeme) → b.Is x u → b.IsPrefix u)
+      → Finds within (preceded l b) test ends (opened_by test zero read)
+  one_finds w part = record { nil = inl (inl refl); part = λ x u h. preceded_part x u h; first = first; whole = whole; front = front }
     where
-      behind_part : (x : A) (u : List Lexeme) → (behind l b).Is x u → (behind l b).CanGoOn u
-      behind_part x u (p, d, (v, y, q, hv, hy)) = inr (tt, v, y, q, hv, part p.1 y hy)
+      preceded_part : (x : A) (u : List Lexeme) → (preceded l b).Is x u → (preceded l b).IsPrefix u
+      preceded_part x u (p, d, (v, y, q, hv, hy)) = inr (tt, v, y, q, hv, part p.1 y hy)
 
-      first : (t : Lexeme) (u : List Lexeme) → (behind l b).CanGoOn (t ∷ u) → test t ≡ true
+      first : (t : Lexeme) (u : List Lexeme) → (preceded l b).IsPrefix (t ∷ u) → test t ≡ true
       first =
           let ft = token_finds (λ (x : Unit {0}). l) test (one_at test) (one_is l test holds one) within in
           seq_first (only l) b test (token_solid (λ (x : Unit {0}). l)) ft.part ft.first
 
       whole : (x : A) (u us : List Lexeme)
-          → (behind l b).Is x u
+          → (preceded l b).Is x u
           → Follows ends us
           → ReadsAs within (opened_by test zero read (u ++ us)) x us
       whole x [] us h g = absurd ((seq_solid (only l) b (λ p. p.1) (token_solid (λ (x : Unit {0}). l))).no_empty x h)
-      whole x (t ∷ u) us h g = out_stands w x t (u ++ us) us (first t u (behind_part x (t ∷ u) h))
+      whole x (t ∷ u) us h g = out_reads_as w x t (u ++ us) us (first t u (preceded_part x (t ∷ u) h))
 
-      front : (u us : List Lexeme) → (behind l b).CanGoOn u → Passes within us (opened_by test zero read (u ++ us))
+      front : (u us : List Lexeme) → (preceded l b).IsPrefix u → Passes within us (opened_by test zero read (u ++ us))
       front [] us h = zero_passes us
       front (t ∷ u) us h = out_passes w t (u ++ us) us (first t u h)
 
@@ -166,9 +166,9 @@ module _ {A : Type 0} {s f : Type 0} {over : Limit → ℕ} {within : Limit → 
   pub rule_opens : (n m : ℕ)
       → (s → m ≡ over Nesting + n)
       → (f → within Nesting → m ≤ n)
-      → (f → (x : A) (u : List Lexeme) → b.Is x u → b.CanGoOn u)
+      → (f → (x : A) (u : List Lexeme) → b.Is x u → b.IsPrefix u)
       → (IsOpenable n → Owes s f over within b starts ends read)
-      → Owes s f over within (opens m (behind l b)) test ends (opened_by test n read)
+      → Owes s f over within (opens m (preceded l b)) test ends (opened_by test n read)
   rule_opens zero zero fit deep part k = record {
     sound = λ q. none_sound s f over within l test holds one b starts ends read (let e = fit q in omega (arith, e));
     finds = λ q. cut_off_finds within test ends (opened_by test zero read) (zero_passes s f over within l test holds one b starts ends read);
@@ -184,7 +184,7 @@ module _ {A : Type 0} {s f : Type 0} {over : Limit → ℕ} {within : Limit → 
     finds = λ q. cut_off_finds within test ends (opened_by test (suc n) read) (more_passes s f over within l test holds one b starts ends read n ((k tt).finds q));
     solid = cut_off_solid;
   }
-  rule_opens (suc n) (suc m) fit deep part k = rule_read (opened_by test (suc n) read) (opened_same test n read) (rule_behind (rule_token (one_is l test holds one)) (k tt))
+  rule_opens (suc n) (suc m) fit deep part k = rule_read (opened_by test (suc n) read) (opened_same test n read) (rule_preceded (rule_token (one_is l test holds one)) (k tt))
 
 -- ---- a part in braces
 
@@ -199,13 +199,13 @@ lbrace_one t e = absurd cc
 abbrev pub inside : {A : Type 0} → Grammar A → Grammar A
 inside a = (a ∙ mark CloseBrace) ⇒ (λ p. p.0)
 
-braces_same : {A : Type 0} (a : Grammar A) → Same (behind (Mark OpenBrace) (inside a)) (braces a)
+braces_same : {A : Type 0} (a : Grammar A) → Same (preceded (Mark OpenBrace) (inside a)) (braces a)
 braces_same {A} a = record { to = record { is = to; on = λ u h. h }; back = record { is = back; on = λ u h. h } }
   where
-    to : (x : A) (u : List Lexeme) → (behind (Mark OpenBrace) (inside a)).Is x u → (braces a).Is x u
+    to : (x : A) (u : List Lexeme) → (preceded (Mark OpenBrace) (inside a)).Is x u → (braces a).Is x u
     to x u (p, d, (v, w, q, hv, (r, e, hw))) = ((p.0, r), d ⋆ e, (v, w, q, hv, hw))
 
-    back : (x : A) (u : List Lexeme) → (braces a).Is x u → (behind (Mark OpenBrace) (inside a)).Is x u
+    back : (x : A) (u : List Lexeme) → (braces a).Is x u → (preceded (Mark OpenBrace) (inside a)).Is x u
     back x u (p, d, (v, w, q, hv, hw)) = ((p.0, p.1.0), d, (v, w, q, hv, (p.1, refl, hw)))
 
 opens_same : {A : Type 0} (m : ℕ) (a b : Grammar A) → Same a b → Same (opens m a) (opens m b)
@@ -216,11 +216,11 @@ pub rule_braces : {A : Type 0} {s f : Type 0} {over : Limit → ℕ} {within : L
     {starts ends : Lexeme → Bool} {read : Reader A} (n m : ℕ)
     → (s → m ≡ over Nesting + n)
     → (f → within Nesting → m ≤ n)
-    → (f → (x : A) (u : List Lexeme) → (inside a).Is x u → (inside a).CanGoOn u)
+    → (f → (x : A) (u : List Lexeme) → (inside a).Is x u → (inside a).IsPrefix u)
     → (IsOpenable n → Owes s f over within (inside a) starts ends read)
     → Owes s f over within (opens m (braces a)) is_lbrace ends (opened_by is_lbrace n read)
 rule_braces a n m fit deep part k =
-    rule_same (opens m (braces a)) (opens_same m (behind (Mark OpenBrace) (inside a)) (braces a) (braces_same a)) (rule_opens (Mark OpenBrace) is_lbrace refl lbrace_one (inside a) n m fit deep part k)
+    rule_same (opens m (braces a)) (opens_same m (preceded (Mark OpenBrace) (inside a)) (braces a) (braces_same a)) (rule_opens (Mark OpenBrace) is_lbrace refl lbrace_one (inside a) n m fit deep part k)
 
 inside_same : {A : Type 0} (read : Reader A) (ts : List Lexeme)
     → then_read (λ (p : A × Unit {0}). p.0) read closed_at ts ≡ inside_at read ts
@@ -266,7 +266,7 @@ pub rule_in_braces : {A : Type 0} {s f : Type 0} {over : Limit → ℕ} {within 
     {starts : Lexeme → Bool} (read : Reader A) (n m : ℕ)
     → (s → m ≡ over Nesting + n)
     → (f → within Nesting → m ≤ n)
-    → (f → (x : A) (u : List Lexeme) → (inside a).Is x u → (inside a).CanGoOn u)
+    → (f → (x : A) (u : List Lexeme) → (inside a).Is x u → (inside a).IsPrefix u)
     → (IsOpenable n → Owes s f over within (inside a) starts no_lexeme (inside_at read))
     → Owes s f over within (opens m (braces a)) is_lbrace no_lexeme (braces_at n read)
 rule_in_braces {A} {s} {f} {over} {within} a {starts} read n m fit deep part k = rule_read (braces_at n read) (braces_read n read) (rule_braces a n m fit deep part k)

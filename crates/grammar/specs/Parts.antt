@@ -3,7 +3,7 @@ use Rattle.std.proofs.Common.{◌≡◌, ℕ, ◌≤◌, inl, inr, Bool, true, f
 use Rattle.grammar.specs.Lexeme.{Lexeme}
 use Rattle.grammar.specs.Grammar.{Grammar, token, ◌∙◌, ◌∣◌, ◌⇒◌, optional, cut_off}
 use Rattle.grammar.specs.Reading.{Limit, Read, Reader, ◌>>=◌, stop}
-use Rattle.grammar.specs.Laws.{Sound, Follows, Passes, ReadsAs, Finds, then_read, passes_made, stands_made, seq_front, seq_whole, seq_part}
+use Rattle.grammar.specs.Laws.{Sound, Follows, Passes, ReadsAs, Finds, then_read, passes_made, reads_as_made, seq_front, seq_whole, seq_part}
 use Rattle.grammar.specs.Lists.{IsSolid, head_is, seq_first, seq_solid, no_lexeme, left_sound, right_sound}
 
 abbrev pub SoundReader : {A : Type 0} → (Limit → ℕ) → Grammar A → Reader A → Type 0
@@ -56,14 +56,14 @@ module _ {A : Type 0} (kind : A → Lexeme) (test : Lexeme → Bool) (read : Rea
     front = front;
   }
     where
-      first : (t : Lexeme) (u : List Lexeme) → (token kind).CanGoOn (t ∷ u) → test t ≡ true
+      first : (t : Lexeme) (u : List Lexeme) → (token kind).IsPrefix (t ∷ u) → test t ≡ true
       first t u (inl e) = absurd cc
       first t u (inr (x, e)) = subst (λ (t : Lexeme). test t ≡ true) (sym (head_is t (kind x) u [] e)) (is.yes x)
 
       le : (us : List Lexeme) → length us ≤ length us
       le us = omega arith
 
-      front : (u us : List Lexeme) → (token kind).CanGoOn u → Passes within us (read (u ++ us))
+      front : (u us : List Lexeme) → (token kind).IsPrefix u → Passes within us (read (u ++ us))
       front u us (inl e) = subst (λ (l : List Lexeme). Passes within us (read (l ++ us))) (sym e) (token_passes within us)
       front u us (inr (x, e)) = subst (Passes within us) (sym (ap (λ (l : List Lexeme). read (l ++ us)) e ⋆ is.hit x us)) (le us)
 
@@ -97,7 +97,7 @@ made_finds {A} {B} within a f starts ends read fa = record {
         → (a ⇒ f).Is y u
         → Follows ends us
         → ReadsAs within (read (u ++ us) >>= λ x. Ok (f x.0, x.1)) y us
-    whole y u us (x, e, h) g = subst (λ (y : B). ReadsAs within (read (u ++ us) >>= λ x. Ok (f x.0, x.1)) y us) (sym e) (stands_made within us (read (u ++ us)) x f (fa.whole x u us h g))
+    whole y u us (x, e, h) g = subst (λ (y : B). ReadsAs within (read (u ++ us) >>= λ x. Ok (f x.0, x.1)) y us) (sym e) (reads_as_made within us (read (u ++ us)) x f (fa.whole x u us h g))
 
 pub made_solid : {A B : Type 0} (a : Grammar A) (f : A → B) → IsSolid a → IsSolid (a ⇒ f)
 made_solid a f s = record { no_empty = λ y h. s.no_empty h.0 h.2 }
@@ -147,9 +147,9 @@ open_finds {A} {B} within a b f starts starts-a ends-a starts-b ends-b ra rb fa 
     after y [] us h g = absurd (sb.no_empty y h)
     after y (t ∷ v) us h g = apart t (fb.first t v (fb.part y (t ∷ v) h))
 
-    first : (t : Lexeme) (u : List Lexeme) → (a ∙ b).CanGoOn (t ∷ u) → starts t ≡ true
+    first : (t : Lexeme) (u : List Lexeme) → (a ∙ b).IsPrefix (t ∷ u) → starts t ≡ true
     first t u (inl h) = ga t (fa.first t u h)
-    first t u (inr (x, [], w, e, ha, hb)) = gb t (fb.first t u (subst b.CanGoOn (sym e) hb))
+    first t u (inr (x, [], w, e, ha, hb)) = gb t (fb.first t u (subst b.IsPrefix (sym e) hb))
     first t u (inr (x, s ∷ v, w, e, ha, hb)) = ga t (subst (λ (t : Lexeme). starts-a t ≡ true) (sym (head_is t s u (v ++ w) e)) (fa.first s v (fa.part x (s ∷ v) ha)))
 
 pub open_solid : {A B C : Type 0} (a : Grammar A) (b : Grammar B) (f : A × B → C) → IsSolid b → IsSolid ((a ∙ b) ⇒ f)
@@ -231,7 +231,7 @@ module _ {A : Type 0} (within : Limit → Type 0) (a b : Grammar A)
     right_ends [] f = tt
     right_ends (t ∷ us) f = eb t f
 
-    pick_front : (u us : List Lexeme) → (a ∣ b).CanGoOn u → Passes within us (pick starts-a ra rb (u ++ us))
+    pick_front : (u us : List Lexeme) → (a ∣ b).IsPrefix u → Passes within us (pick starts-a ra rb (u ++ us))
     pick_front [] us h = pick_passes us
     pick_front (t ∷ u) us (inl h) =
         chosen_is (Passes within us) (starts-a t) (ra (t ∷ (u ++ us))) (rb (t ∷ (u ++ us))) (λ e. fa.front (t ∷ u) us h) (λ e. absurd (either_is (starts-a t) (fa.first t u h) e))
@@ -252,11 +252,11 @@ module _ {A : Type 0} (within : Limit → Type 0) (a b : Grammar A)
     pub pick_finds : Finds within (a ∣ b) starts ends (pick starts-a ra rb)
     pick_finds = record { nil = inl fa.nil; part = part; first = first; whole = pick_whole; front = pick_front }
       where
-        part : (x : A) (u : List Lexeme) → (a ∣ b).Is x u → (a ∣ b).CanGoOn u
+        part : (x : A) (u : List Lexeme) → (a ∣ b).Is x u → (a ∣ b).IsPrefix u
         part x u (inl h) = inl (fa.part x u h)
         part x u (inr h) = inr (fb.part x u h)
 
-        first : (t : Lexeme) (u : List Lexeme) → (a ∣ b).CanGoOn (t ∷ u) → starts t ≡ true
+        first : (t : Lexeme) (u : List Lexeme) → (a ∣ b).IsPrefix (t ∷ u) → starts t ≡ true
         first t u (inl h) = ga t (fa.first t u h)
         first t u (inr h) = gb t (fb.first t u h)
 
@@ -293,7 +293,7 @@ module _ {A : Type 0} (within : Limit → Type 0) (a : Grammar A) (starts ends e
       le : (us : List Lexeme) → length us ≤ length us
       le us = omega arith
 
-  perhaps_front : (u us : List Lexeme) → (optional a).CanGoOn u → Passes within us (perhaps starts read (u ++ us))
+  perhaps_front : (u us : List Lexeme) → (optional a).IsPrefix u → Passes within us (perhaps starts read (u ++ us))
   perhaps_front [] us h = perhaps_passes us
   perhaps_front (t ∷ u) us (inl e) = absurd cc
   perhaps_front (t ∷ u) us (inr h) =
@@ -314,16 +314,16 @@ module _ {A : Type 0} (within : Limit → Type 0) (a : Grammar A) (starts ends e
   perhaps_whole None u us h f = subst (λ (l : List Lexeme). ReadsAs within (perhaps starts read (l ++ us)) None us) (sym h) (none_whole us f)
   perhaps_whole (Some x) [] us h f = absurd (sa.no_empty x h)
   perhaps_whole (Some x) (t ∷ u) us h f =
-      chosen_is (λ (r : Read (Option A)). ReadsAs within r (Some x) us) (starts t) (read (t ∷ (u ++ us)) >>= λ x. Ok (Some x.0, x.1)) (Ok (None, t ∷ (u ++ us))) (λ e. stands_made within us (read (t ∷ (u ++ us))) x (λ x. Some x) (fa.whole x (t ∷ u) us h (part_ends us f))) (λ e. absurd (either_is (starts t) (fa.first t u (fa.part x (t ∷ u) h)) e))
+      chosen_is (λ (r : Read (Option A)). ReadsAs within r (Some x) us) (starts t) (read (t ∷ (u ++ us)) >>= λ x. Ok (Some x.0, x.1)) (Ok (None, t ∷ (u ++ us))) (λ e. reads_as_made within us (read (t ∷ (u ++ us))) x (λ x. Some x) (fa.whole x (t ∷ u) us h (part_ends us f))) (λ e. absurd (either_is (starts t) (fa.first t u (fa.part x (t ∷ u) h)) e))
 
   pub optional_finds : Finds within (optional a) starts ends' (perhaps starts read)
   optional_finds = record { nil = inl refl; part = part; first = first; whole = perhaps_whole; front = perhaps_front }
     where
-      part : (o : Option A) (u : List Lexeme) → (optional a).Is o u → (optional a).CanGoOn u
+      part : (o : Option A) (u : List Lexeme) → (optional a).Is o u → (optional a).IsPrefix u
       part None u h = inl h
       part (Some x) u h = inr (fa.part x u h)
 
-      first : (t : Lexeme) (u : List Lexeme) → (optional a).CanGoOn (t ∷ u) → starts t ≡ true
+      first : (t : Lexeme) (u : List Lexeme) → (optional a).IsPrefix (t ∷ u) → starts t ≡ true
       first t u (inl e) = absurd cc
       first t u (inr h) = fa.first t u h
 

@@ -47,7 +47,7 @@ Limited A = Limits → Grammar A
 abbrev pub free : {A : Type 0} → Limited A → Grammar A
 free g = record {
   Is = λ x ts. (a : Limits) × (g a).Is x ts;
-  CanGoOn = λ ts. (a : Limits) × (g a).CanGoOn ts;
+  IsPrefix = λ ts. (a : Limits) × (g a).IsPrefix ts;
 }
 
 -- the lexemes from place i up to place j
@@ -59,21 +59,21 @@ pub record IsRead {A : Type 0} (limited all : Grammar A) (ts : List Lexeme) (sta
   pub from : start ≤ end
   pub to : end ≤ length ts
   pub is : limited.Is x (between ts start end)
-  pub ends : end < length ts → all.CanGoOn (between ts start (end + 1)) → ⊥
+  pub ends : end < length ts → all.IsPrefix (between ts start (end + 1)) → ⊥
 
 module _ {A : Type 0} (g : Limited A) (a : Limits) (ts : List Lexeme) (start i : ℕ) where
   -- The longest prefix of the lexemes from `start` on that can continue within the limits ends before place i.
   pub record Stops : Type 0 where
     pub from : start ≤ i
     pub to : i ≤ length ts
-    pub before : (g a).CanGoOn (between ts start i)
-    pub longest : (j : ℕ) → i < j → j ≤ length ts → (g a).CanGoOn (between ts start j) → ⊥
+    pub before : (g a).IsPrefix (between ts start i)
+    pub longest : (j : ℕ) → i < j → j ≤ length ts → (g a).IsPrefix (between ts start j) → ⊥
 
   -- Nothing can continue at place i. That prefix is the longest under any limits, and it isn't a whole if the lexemes
   -- end there.
   pub record Ends : Type 0 where
     pub stops : Stops
-    pub always : (b : Limits) (j : ℕ) → i < j → j ≤ length ts → (g b).CanGoOn (between ts start j) → ⊥
+    pub always : (b : Limits) (j : ℕ) → i < j → j ≤ length ts → (g b).IsPrefix (between ts start j) → ⊥
     pub none : i ≡ length ts → (x : A) → (free g).Is x (between ts start i) → ⊥
 
   -- A limit is passed at place i: a longer prefix can continue if this limit alone is raised.
@@ -83,4 +83,4 @@ module _ {A : Type 0} (g : Limited A) (a : Limits) (ts : List Lexeme) (start i :
     pub further : ℕ
     pub longer : i < further
     pub to : further ≤ length ts
-    pub goes_on : (g (raised l a others)).CanGoOn (between ts start further)
+    pub goes_on : (g (raised l a others)).IsPrefix (between ts start further)

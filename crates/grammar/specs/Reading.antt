@@ -67,18 +67,18 @@ next_comma (Mark Comma ∷ rest) = Some rest
 next_comma ts = None
 
 -- The parts after the next commas. At most k of them are read; a caller gives the number of lexemes as k.
-unfoldable pub behind_commas_at : {A : Type 0} → Reader A → ℕ → Reader (List A)
-behind_commas_at read (suc k) (Mark Comma ∷ rest) = do
+unfoldable pub after_commas_at : {A : Type 0} → Reader A → ℕ → Reader (List A)
+after_commas_at read (suc k) (Mark Comma ∷ rest) = do
   x ← read rest
-  xs ← behind_commas_at read k x.1
+  xs ← after_commas_at read k x.1
   Ok (x.0 ∷ xs.0, xs.1)
-behind_commas_at read k ts = Ok ([], ts)
+after_commas_at read k ts = Ok ([], ts)
 
 -- at least one part, with commas between parts
 unfoldable pub listed_at : {A : Type 0} → Reader A → Reader (List A)
 listed_at read ts = do
   x ← read ts
-  xs ← behind_commas_at read (length x.1) x.1
+  xs ← after_commas_at read (length x.1) x.1
   Ok (x.0 ∷ xs.0, xs.1)
 
 -- a name, and then a part
@@ -127,7 +127,7 @@ next_marker ts = None
 
 -- the parts after the marker
 unfoldable pub additions_at : {A B : Type 0} → Reader B → Reader (Extensible A B)
-additions_at read ts = behind_commas_at read (length ts) ts >>= λ ys. Ok (([], Some ys.0), ys.1)
+additions_at read ts = after_commas_at read (length ts) ts >>= λ ys. Ok (([], Some ys.0), ys.1)
 
 abbrev pub put : {A B : Type 0} → A → Read (Extensible A B) → Read (Extensible A B)
 put x r = r >>= λ e. Ok ((x ∷ e.0.0, e.0.1), e.1)

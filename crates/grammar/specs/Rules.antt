@@ -2,13 +2,13 @@
 use Rattle.std.proofs.Common.{◌≡◌, ℕ, ◌≤◌, inl, inr, Bool, true, false, List, [], ◌∷◌, ◌++◌, length, Ok, Err, refl, sym, ap, subst, arith}
 use Rattle.text.specs.declared.token.Mark.TheVariants.{Comma}
 use Rattle.grammar.specs.Lexeme.{Lexeme, Number, Mark}
-use Rattle.grammar.specs.Grammar.{Grammar, token, number_of, ◌∙◌, ◌∣◌, ◌⇒◌, many, optional, behind, listed, only}
+use Rattle.grammar.specs.Grammar.{Grammar, token, number_of, ◌∙◌, ◌∣◌, ◌⇒◌, many, optional, preceded, listed, only}
 use Rattle.grammar.specs.Grows.{Grows}
 use Rattle.grammar.specs.Reading.{Limit, Integer, Read, Reader, ◌>>=◌, stop, fitting, many_at, listed_at}
 use Rattle.grammar.specs.Laws.{Sound, Follows, Passes, ReadsAs, Finds, then_read, seq_sound, seq_front, seq_whole, seq_part}
 use Rattle.grammar.specs.Lists.{IsSolid, no_lexeme, head_is, seq_first, seq_solid, with_comma, listed_sound, finds_listed}
 use Rattle.grammar.specs.Places.{Limits, Within}
-use Rattle.grammar.specs.Numbers.{Past, fitting_sound, fitting_passes, fitting_shrinks, fitting_stands}
+use Rattle.grammar.specs.Numbers.{Past, fitting_sound, fitting_passes, fitting_shrinks, fitting_reads_as}
 use Rattle.grammar.specs.Parts.{SoundReader, IsKind, token_sound, token_finds, token_solid, made_sound, made_finds, made_solid, seq_finds, open_finds, open_solid, pair_sound, pair_finds, pair_solid, pick, pick_sound, pick_finds, either_solid, perhaps, optional_sound, optional_finds, same_sound, same_finds}
 use Rattle.grammar.specs.Manies.{many_sound, many_finds}
 
@@ -93,12 +93,12 @@ module _ {s f : Type 0} {over : Limit → ℕ} {within : Limit → Type 0} where
   }
 
   -- a part after a lexeme that nothing else continues
-  pub rule_behind : {A : Type 0} {l : Lexeme} {a : Grammar A} {test starts ends : Lexeme → Bool}
+  pub rule_preceded : {A : Type 0} {l : Lexeme} {a : Grammar A} {test starts ends : Lexeme → Bool}
       {rs : Reader (Unit {0})} {ra : Reader A}
       → Owes s f over within (only l) test no_lexeme rs
       → Owes s f over within a starts ends ra
-      → Owes s f over within (behind l a) test ends (then_read (λ p. p.1) rs ra)
-  rule_behind ks ka = rule_seq (λ p. p.1) ks ka (λ t e. refl)
+      → Owes s f over within (preceded l a) test ends (then_read (λ p. p.1) rs ra)
+  rule_preceded ks ka = rule_seq (λ p. p.1) ks ka (λ t e. refl)
 
   -- a part that may be empty, after one that is never empty
   pub rule_tail : {A B C : Type 0} {a : Grammar A} {b : Grammar B} {starts-a ends-a starts-b ends-b : Lexeme → Bool}
@@ -199,7 +199,7 @@ module _ {s f : Type 0} {over : Limit → ℕ} {within : Limit → Type 0} where
   rule_listed {A} {a} {starts} {ends} {read} k e = record {
     sound = λ q. listed_sound over a read (k.sound q);
     finds = λ q. finds_listed within a starts ends read (k.finds q) e k.solid;
-    solid = seq_solid a (many (behind (Mark Comma) a)) (λ p. p.0 ∷ p.1) k.solid;
+    solid = seq_solid a (many (preceded (Mark Comma) a)) (λ p. p.0 ∷ p.1) k.solid;
   }
 
   -- for a reader with the same results
@@ -281,16 +281,16 @@ module _ (over : Limit → ℕ) (within : Limit → Type 0) (fits fits' : ℕ �
   number_passes (Number n ∷ us) = fitting_shrinks within (fits n) n us (Ok (n, us)) (le_same us)
   number_passes (t ∷ us) = le_same (t ∷ us)
 
-  number_front : (u us : List Lexeme) → (number_of fits').CanGoOn u → Passes within us (number_at fits (u ++ us))
+  number_front : (u us : List Lexeme) → (number_of fits').IsPrefix u → Passes within us (number_at fits (u ++ us))
   unfolding number_at
   number_front u us (inl e) = subst (λ (l : List Lexeme). Passes within us (number_at fits (l ++ us))) (sym e) (number_passes us)
   number_front u us (inr (n, f, e)) = subst (λ (l : List Lexeme). Passes within us (number_at fits (l ++ us))) (sym e) (fitting_passes within (fits n) us (Number n ∷ us) (Ok (n, us)) (room n f) (le_same us))
 
   number_whole : (n : ℕ) (u us : List Lexeme) → (number_of fits').Is n u → ReadsAs within (number_at fits (u ++ us)) n us
   unfolding number_at
-  number_whole n u us h = subst (λ (l : List Lexeme). ReadsAs within (number_at fits (l ++ us)) n us) (sym h.1) (fitting_stands within (fits n) (Number n ∷ us) us (Ok (n, us)) n (room n h.0) (inl refl))
+  number_whole n u us h = subst (λ (l : List Lexeme). ReadsAs within (number_at fits (l ++ us)) n us) (sym h.1) (fitting_reads_as within (fits n) (Number n ∷ us) us (Ok (n, us)) n (room n h.0) (inl refl))
 
-  number_first : (t : Lexeme) (u : List Lexeme) → (number_of fits').CanGoOn (t ∷ u) → is_number t ≡ true
+  number_first : (t : Lexeme) (u : List Lexeme) → (number_of fits').IsPrefix (t ∷ u) → is_number t ≡ true
   number_first t u (inl e) = absurd cc
   number_first t u (inr (n, f, e)) = subst (λ (t : Lexeme). is_number t ≡ true) (sym (head_is t (Number n) u [] e)) refl
 

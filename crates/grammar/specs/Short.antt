@@ -2,26 +2,26 @@
 use Rattle.std.proofs.Common.{◌≡◌, ℕ, zero, suc, ◌≤◌, Bool, true, false, List, [], ◌∷◌, length, Option, Some, None, Ok, Err, refl, ap, subst, arith}
 use Rattle.text.specs.declared.token.Mark.TheVariants.{Colon, Comma, Ellipsis, OpenBrace, CloseBrace, OpenParenthesis, CloseParenthesis, OpenVersion, CloseVersion}
 use Rattle.grammar.specs.Lexeme.{Lexeme, Ident, Number, Mark}
-use Rattle.grammar.specs.Reading.{Read, Reader, ◌>>=◌, fitting, opened, open_at, close_at, closed_at, parens_at, inside_at, braces_at, named_at, behind_commas_at, listed_at, Extensible, next_marker, additions_at, or_marker, more_at, extensible_at, rootless_at, colon_at, close_version_at, version_at, version_parts_at, addition_at}
+use Rattle.grammar.specs.Reading.{Read, Reader, ◌>>=◌, fitting, opened, open_at, close_at, closed_at, parens_at, inside_at, braces_at, named_at, after_commas_at, listed_at, Extensible, next_marker, additions_at, or_marker, more_at, extensible_at, rootless_at, colon_at, close_version_at, version_at, version_parts_at, addition_at}
 use Rattle.grammar.specs.Loops.{Shrinks}
 use Rattle.grammar.specs.Parts.{chosen_read, perhaps}
 
 -- a result leaves at most n lexemes
-abbrev pub Leaves : {A : Type 0} → ℕ → Read A → Type 0
-Leaves n (Ok x) = length x.1 ≤ n
-Leaves n (Err e) = Unit {0}
+abbrev pub RestAtMost : {A : Type 0} → ℕ → Read A → Type 0
+RestAtMost n (Ok x) = length x.1 ≤ n
+RestAtMost n (Err e) = Unit {0}
 
 abbrev pub Short : {A : Type 0} → Reader A → Type 0
-Short read = (ts : List Lexeme) → Leaves (length ts) (read ts)
+Short read = (ts : List Lexeme) → RestAtMost (length ts) (read ts)
 
-pub less : {A : Type 0} (m n : ℕ) (r : Read A) → m ≤ n → Leaves m r → Leaves n r
+pub less : {A : Type 0} (m n : ℕ) (r : Read A) → m ≤ n → RestAtMost m r → RestAtMost n r
 less m n (Ok x) le h = omega arith
 less m n (Err e) le h = tt
 
 pub bind_leaves : {A B : Type 0} (n : ℕ) (r : Read A) (f : A × List Lexeme → Read B)
-    → Leaves n r
-    → ((x : A × List Lexeme) → Leaves (length x.1) (f x))
-    → Leaves n (r >>= f)
+    → RestAtMost n r
+    → ((x : A × List Lexeme) → RestAtMost (length x.1) (f x))
+    → RestAtMost n (r >>= f)
 bind_leaves n (Ok x) f h k = less (length x.1) n (f x) h (k x)
 bind_leaves n (Err e) f h k = tt
 
@@ -32,12 +32,12 @@ one_less : (t : Lexeme) (ts : List Lexeme) → length ts ≤ length (t ∷ ts)
 one_less t ts = omega arith
 
 pub shrinks_of : {A : Type 0} (read : Reader A) → Short read → Shrinks read
-shrinks_of {A} read s = record { shorter = λ ts x e. subst (λ (r : Read A). Leaves (length ts) r) e (s ts) }
+shrinks_of {A} read s = record { shorter = λ ts x e. subst (λ (r : Read A). RestAtMost (length ts) r) e (s ts) }
 
 pub short_of : {A : Type 0} (read : Reader A) → Shrinks read → Short read
 short_of {A} read s ts = go (read ts) refl
   where
-    go : (r : Read A) → read ts ≡ r → Leaves (length ts) r
+    go : (r : Read A) → read ts ≡ r → RestAtMost (length ts) r
     go (Ok x) e = s.shorter ts x e
     go (Err f) e = tt
 
@@ -78,8 +78,8 @@ close_version_short (Mark CloseVersion ∷ ts) = one_less (Mark CloseVersion) ts
 close_version_short (t ∷ ts) = tt
 
 pub fitting_leaves : {A : Type 0} (n : ℕ) (b : Bool) (ts : List Lexeme) (r : Read A)
-    → Leaves n r
-    → Leaves n (fitting b ts r)
+    → RestAtMost n r
+    → RestAtMost n (fitting b ts r)
 fitting_leaves n true ts r h = h
 fitting_leaves n false ts r h = tt
 
@@ -98,7 +98,7 @@ module _ {A : Type 0} (read : Reader A) (s : Short read) where
   unfolding inside_at
   inside_short ts = bind_leaves (length ts) (read ts) _ (s ts) (λ x. bind_leaves (length x.1) (closed_at x.1) _ (closed_short x.1) (λ c. same (length c.1)))
 
-  opened_short : (n k : ℕ) (ts : List Lexeme) (r : Read A) → Leaves k r → Leaves k (opened n ts r)
+  opened_short : (n k : ℕ) (ts : List Lexeme) (r : Read A) → RestAtMost k r → RestAtMost k (opened n ts r)
   opened_short zero k ts r h = tt
   opened_short (suc n) k ts r h = h
 
@@ -119,20 +119,20 @@ module _ {A : Type 0} (read : Reader A) (s : Short read) where
   optional_short begins (t ∷ ts) = go (begins t)
     where
       go : (b : Bool)
-          → Leaves (length (t ∷ ts)) (chosen_read b (read (t ∷ ts) >>= λ x. Ok (Some x.0, x.1)) (Ok (None, t ∷ ts)))
+          → RestAtMost (length (t ∷ ts)) (chosen_read b (read (t ∷ ts) >>= λ x. Ok (Some x.0, x.1)) (Ok (None, t ∷ ts)))
       go true = bind_leaves (length (t ∷ ts)) (read (t ∷ ts)) _ (s (t ∷ ts)) (λ x. same (length x.1))
       go false = same (length (t ∷ ts))
 
-  pub commas_short : (k : ℕ) → Short (behind_commas_at read k)
-  unfolding behind_commas_at
+  pub commas_short : (k : ℕ) → Short (after_commas_at read k)
+  unfolding after_commas_at
   commas_short zero ts = same (length ts)
   commas_short (suc k) [] = same 0
-  commas_short (suc k) (Mark Comma ∷ ts) = less (length ts) (length (Mark Comma ∷ ts)) _ (one_less (Mark Comma) ts) (bind_leaves (length ts) (read ts) _ (s ts) (λ x. bind_leaves (length x.1) (behind_commas_at read k x.1) _ (commas_short k x.1) (λ xs. same (length xs.1))))
+  commas_short (suc k) (Mark Comma ∷ ts) = less (length ts) (length (Mark Comma ∷ ts)) _ (one_less (Mark Comma) ts) (bind_leaves (length ts) (read ts) _ (s ts) (λ x. bind_leaves (length x.1) (after_commas_at read k x.1) _ (commas_short k x.1) (λ xs. same (length xs.1))))
   commas_short (suc k) (t ∷ ts) = same (length (t ∷ ts))
 
   pub listed_short : Short (listed_at read)
   unfolding listed_at
-  listed_short ts = bind_leaves (length ts) (read ts) _ (s ts) (λ x. bind_leaves (length x.1) (behind_commas_at read (length x.1) x.1) _ (commas_short (length x.1) x.1) (λ xs. same (length xs.1)))
+  listed_short ts = bind_leaves (length ts) (read ts) _ (s ts) (λ x. bind_leaves (length x.1) (after_commas_at read (length x.1) x.1) _ (commas_short (length x.1) x.1) (λ xs. same (length xs.1)))
 
   pub version_parts_short : (fits : ℕ → Bool) → Short (version_parts_at fits read)
   unfolding version_parts_at
@@ -147,21 +147,21 @@ module _ {A : Type 0} (read : Reader A) (s : Short read) where
 module _ {A B : Type 0} (ra : Reader A) (rb : Reader B) (s : Short ra) (sb : Short rb) where
   additions_short : Short (additions_at {A = A} rb)
   unfolding additions_at
-  additions_short ts = bind_leaves (length ts) (behind_commas_at rb (length ts) ts) _ (commas_short rb sb (length ts) ts) (λ ys. same (length ys.1))
+  additions_short ts = bind_leaves (length ts) (after_commas_at rb (length ts) ts) _ (commas_short rb sb (length ts) ts) (λ ys. same (length ys.1))
 
-  behind_marker : (o : Option (List Lexeme)) (ts : List Lexeme)
+  after_marker : (o : Option (List Lexeme)) (ts : List Lexeme)
       → next_marker ts ≡ o
       → (more : Reader (Extensible A B))
       → Short more
-      → Leaves (length ts) (or_marker ra rb more o ts)
-  behind_marker None ts e more h = bind_leaves (length ts) (ra ts) _ (s ts) (λ x. bind_leaves (length x.1) (more x.1) _ (h x.1) (λ m. same (length m.1)))
-  behind_marker (Some rest) ts e more h = less (length rest) (length ts) (additions_at rb rest) (marker_less ts rest e) (additions_short rest)
+      → RestAtMost (length ts) (or_marker ra rb more o ts)
+  after_marker None ts e more h = bind_leaves (length ts) (ra ts) _ (s ts) (λ x. bind_leaves (length x.1) (more x.1) _ (h x.1) (λ m. same (length m.1)))
+  after_marker (Some rest) ts e more h = less (length rest) (length ts) (additions_at rb rest) (marker_less ts rest e) (additions_short rest)
 
   pub more_short : (k : ℕ) → Short (more_at ra rb k)
   unfolding more_at
   more_short zero ts = same (length ts)
   more_short (suc k) [] = same 0
-  more_short (suc k) (Mark Comma ∷ ts) = less (length ts) (length (Mark Comma ∷ ts)) _ (one_less (Mark Comma) ts) (behind_marker (next_marker ts) ts refl (more_at ra rb k) (more_short k))
+  more_short (suc k) (Mark Comma ∷ ts) = less (length ts) (length (Mark Comma ∷ ts)) _ (one_less (Mark Comma) ts) (after_marker (next_marker ts) ts refl (more_at ra rb k) (more_short k))
   more_short (suc k) (t ∷ ts) = same (length (t ∷ ts))
 
   pub extensible_short : Short (extensible_at ra rb)
@@ -170,4 +170,4 @@ module _ {A B : Type 0} (ra : Reader A) (rb : Reader B) (s : Short ra) (sb : Sho
 
   pub rootless_short : Short (rootless_at ra rb)
   unfolding rootless_at
-  rootless_short ts = behind_marker (next_marker ts) ts refl (λ us. more_at ra rb (length us) us) (λ us. more_short (length us) us)
+  rootless_short ts = after_marker (next_marker ts) ts refl (λ us. more_at ra rb (length us) us) (λ us. more_short (length us) us)

@@ -5,7 +5,7 @@ use Rattle.std.proofs.lemmas.Grind.{flat_map-append}
 use Rattle.std.proofs.Math.Seq.{take-append_seam, take-length}
 use Rattle.std.specs.Prelude.{flat_map}
 use Rattle.encodings.specs.Header.{Octets}
-use Rattle.header_listing.specs.Shown.{Line, octets_of, Shows, ends, primitive, within, after, none}
+use Rattle.header_listing.specs.Shown.{Line, octets_of, ShowsLines, ends, primitive, within, after, none}
 use Rattle.header_listing.specs.Listing.{IsListing}
 
 pub record Exactly (o : Octets) (m : ℕ) (shown : Octets) : Type 0 where
@@ -33,7 +33,7 @@ all_of x s r e l =
     let b = length-append s r in
     e ∙ ap (λ y. s ++ y) (none_left r (omega (arith, a, b, l))) ∙ append-nil s
 
-pub exact : {d n m : ℕ} {o : Octets} {ls : List Line} → Shows d n o m ls → Exactly o m (flat_map octets_of ls)
+pub exact : {d n m : ℕ} {o : Octets} {ls : List Line} → ShowsLines d n o m ls → Exactly o m (flat_map octets_of ls)
 exact {o = o} ends = record { rest = o; whole = refl; long = refl }
 exact (primitive {i = i} {z = z} {x = x} {ls = ls} f s) =
     let e = exact s in
@@ -71,14 +71,14 @@ exact (after {i = i} {z = z} {x = x} {rest = rest} {ks = ks} {ls = ls} f s t) =
     }
 exact {o = o} (none s h) = record { rest = []; whole = sym (append-nil (o ++ []) ∙ append-nil o); long = ap length (append-nil o) }
 
-pub joined_is : {d n m : ℕ} {o : Octets} {ls : List Line} → Shows d n o m ls → flat_map octets_of ls ≡ take m o
+pub joined_is : {d n m : ℕ} {o : Octets} {ls : List Line} → ShowsLines d n o m ls → flat_map octets_of ls ≡ take m o
 joined_is {m = m} {o = o} {ls = ls} s =
     let e = exact s in
     sym (take-append_seam (flat_map octets_of ls) e.rest)
     ∙ ap (λ k. take k (flat_map octets_of ls ++ e.rest)) e.long
     ∙ ap (λ y. take m y) (sym e.whole)
 
-pub is_there : {d n m : ℕ} {o : Octets} {ls : List Line} → Shows d n o m ls → m ≤ length o
+pub is_there : {d n m : ℕ} {o : Octets} {ls : List Line} → ShowsLines d n o m ls → m ≤ length o
 is_there {ls = ls} s =
     let e = exact s in
     let a = ap length e.whole in

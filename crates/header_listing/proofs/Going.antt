@@ -2,15 +2,15 @@
 use Rattle.std.proofs.Common.{arith, ◌≡◌, ℕ, suc, ◌+◌, ◌≤◌, Bool, true, false, List, [], ◌∷◌, ◌++◌, length, refl, sym, ap, subst, ◌∙◌, append_assoc, length-append}
 use Rattle.asn_base.specs.declared.tag.Tag.{Tag}
 use Rattle.encodings.specs.Header.{Octets, LengthOf, short, long}
-use Rattle.header_listing.specs.Shown.{IsFirst, HasNone, Line, header, others, Shows, ends, primitive, within, after, none}
+use Rattle.header_listing.specs.Shown.{IsFirst, HasNone, Line, header, others, ShowsLines, ends, primitive, within, after, none}
 use Rattle.header_listing.specs.proving.Going.{Goes, inside, out}
 
-pub as_many : {d n m k : ℕ} {o : Octets} {ls js : List Line} → Shows d n o m ls → m ≡ k → ls ≡ js → Shows d n o k js
+pub as_many : {d n m k : ℕ} {o : Octets} {ls js : List Line} → ShowsLines d n o m ls → m ≡ k → ls ≡ js → ShowsLines d n o k js
 as_many {d} {n} {m} {k} {o} {ls} {js} s e f =
-    subst (λ y. Shows d n o k y) f (subst (λ y. Shows d n o y ls) e s)
+    subst (λ y. ShowsLines d n o k y) f (subst (λ y. ShowsLines d n o y ls) e s)
 
-pub from_there : {d n p m : ℕ} {o : Octets} {ls : List Line} → Shows d n o m ls → n ≡ p → Shows d p o m ls
-from_there {d} {n} {p} {m} {o} {ls} s e = subst (λ y. Shows d y o m ls) e s
+pub from_there : {d n p m : ℕ} {o : Octets} {ls : List Line} → ShowsLines d n o m ls → n ≡ p → ShowsLines d p o m ls
+from_there {d} {n} {p} {m} {o} {ls} s e = subst (λ y. ShowsLines d y o m ls) e s
 
 pub goes_from : {outs : List Octets} {n p m : ℕ} {o : Octets} {ls : List Line} → Goes outs n o m ls → n ≡ p → Goes outs p o m ls
 goes_from {outs} {n} {p} {m} {o} {ls} g e = subst (λ y. Goes outs y o m ls) e g
@@ -41,7 +41,7 @@ pub not_empty : {t : Tag} {c : Bool} {i z x rest o : Octets} → IsFirst t c i z
 not_empty f e = let n = counted f in let s = sized_some f.sized in let l = ap length e in omega (arith, n, s, l)
 
 -- no octets are shown by no lines
-pub of_none : {d n m : ℕ} {o : Octets} {ls : List Line} → o ≡ [] → Shows d n o m ls → (m ≡ 0) × (ls ≡ [])
+pub of_none : {d n m : ℕ} {o : Octets} {ls : List Line} → o ≡ [] → ShowsLines d n o m ls → (m ≡ 0) × (ls ≡ [])
 of_none e ends = (refl, refl)
 of_none e (primitive f s) = absurd (not_empty f e)
 of_none e (within f s) = absurd (not_empty f e)

@@ -6,12 +6,12 @@ use Rattle.asn_base.specs.declared.tag.Tag.{Tag}
 use Rattle.encodings.specs.Header.{Octets}
 use Rattle.header_listing.specs.Lines.{AreLines}
 use Rattle.header_listing.specs.Listing.{IsListing}
-use Rattle.header_listing.specs.Shown.{IsFirst, HasNone, Line, header, others, offset_of, Shows, ends}
+use Rattle.header_listing.specs.Shown.{IsFirst, HasNone, Line, header, others, offset_of, ShowsLines, ends}
 use Rattle.header_listing.specs.declared.walk.Outer.{Outer}
 use Rattle.header_listing.specs.proving.Going.{Goes, inside, outs_of, total, measure, Going}
 use Rattle.header_listing.proofs.Going.{as_many, goes_from, go_primitive, go_within, go_none, go_out, counted, sized_some, unit_counted, header_counted}
 
-pub started : {m : ℕ} {o : Octets} {ls : List Line} → Goes [] 0 o m ls → Shows 0 0 o (0 + m) ([] ++ ls)
+pub started : {m : ℕ} {o : Octets} {ls : List Line} → Goes [] 0 o m ls → ShowsLines 0 0 o (0 + m) ([] ++ ls)
 started (inside s) = as_many s (omega arith) refl
 
 pub start : (o : Octets) (limit : ℕ) → Going o limit [] o 0 []

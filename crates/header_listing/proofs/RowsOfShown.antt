@@ -3,7 +3,7 @@ use Rattle.std.proofs.Common.{arith, lit<, ◌≡◌, ℕ, true, false, List, []
 use Rattle.asn_base.specs.declared.tag.Class.TheVariants.{Universal}
 use Rattle.asn_base.specs.declared.tag.Tag.{Tag}
 use Rattle.encodings.specs.Header.{identifier, short}
-use Rattle.header_listing.specs.Shown.{IsFirst, header, Shows, ends, primitive, within, after}
+use Rattle.header_listing.specs.Shown.{IsFirst, header, ShowsLines, ends, primitive, within, after}
 use Rattle.header_listing.proofs.Exact.{joined_is}
 
 abbrev integer : Tag
@@ -29,22 +29,22 @@ around : (rest : List ℕ) → IsFirst sequence true (48 ∷ []) (3 ∷ []) (2 �
 around rest = record { identified = sym of_sequence; sized = short (lit< tt); few = omega arith; whole = refl }
 
 -- a header and one within it
-pub both : Shows 0 0 (48 ∷ 3 ∷ 2 ∷ 1 ∷ 5 ∷ []) 5 (header 0 0 (48 ∷ []) (3 ∷ []) [] ∷ header 1 2 (2 ∷ []) (1 ∷ []) (5 ∷ []) ∷ [])
+pub both : ShowsLines 0 0 (48 ∷ 3 ∷ 2 ∷ 1 ∷ 5 ∷ []) 5 (header 0 0 (48 ∷ []) (3 ∷ []) [] ∷ header 1 2 (2 ∷ []) (1 ∷ []) (5 ∷ []) ∷ [])
 both = within (around []) (primitive (a_number []) ends)
 
 -- lines may end after the first header
-pub the_first : Shows 0 0 (48 ∷ 3 ∷ 2 ∷ 1 ∷ 5 ∷ []) 2 (header 0 0 (48 ∷ []) (3 ∷ []) [] ∷ [])
+pub the_first : ShowsLines 0 0 (48 ∷ 3 ∷ 2 ∷ 1 ∷ 5 ∷ []) 2 (header 0 0 (48 ∷ []) (3 ∷ []) [] ∷ [])
 the_first = within (around []) ends
 
 -- an encoding after a constructed one is at the depth of that
-pub one_after : Shows 0 0 (48 ∷ 3 ∷ 2 ∷ 1 ∷ 5 ∷ 2 ∷ 1 ∷ 5 ∷ []) 8 (header 0 0 (48 ∷ []) (3 ∷ []) []
+pub one_after : ShowsLines 0 0 (48 ∷ 3 ∷ 2 ∷ 1 ∷ 5 ∷ 2 ∷ 1 ∷ 5 ∷ []) 8 (header 0 0 (48 ∷ []) (3 ∷ []) []
     ∷ header 1 2 (2 ∷ []) (1 ∷ []) (5 ∷ []) ∷ header 0 5 (2 ∷ []) (1 ∷ []) (5 ∷ []) ∷ [])
 one_after = after (around (2 ∷ 1 ∷ 5 ∷ [])) (primitive (a_number []) ends) (primitive (a_number []) ends)
 
 -- the first header alone does not show all octets
-pub not_lost : Shows 0 0 (48 ∷ 3 ∷ 2 ∷ 1 ∷ 5 ∷ []) 5 (header 0 0 (48 ∷ []) (3 ∷ []) [] ∷ []) → ⊥
+pub not_lost : ShowsLines 0 0 (48 ∷ 3 ∷ 2 ∷ 1 ∷ 5 ∷ []) 5 (header 0 0 (48 ∷ []) (3 ∷ []) [] ∷ []) → ⊥
 not_lost s = let e = ap length (joined_is s) in absurd (omega arith)
 
 -- and both headers show more than the first two
-pub not_added : Shows 0 0 (48 ∷ 3 ∷ 2 ∷ 1 ∷ 5 ∷ []) 2 (header 0 0 (48 ∷ []) (3 ∷ []) [] ∷ header 1 2 (2 ∷ []) (1 ∷ []) (5 ∷ []) ∷ []) → ⊥
+pub not_added : ShowsLines 0 0 (48 ∷ 3 ∷ 2 ∷ 1 ∷ 5 ∷ []) 2 (header 0 0 (48 ∷ []) (3 ∷ []) [] ∷ header 1 2 (2 ∷ []) (1 ∷ []) (5 ∷ []) ∷ []) → ⊥
 not_added s = let e = ap length (joined_is s) in absurd (omega arith)

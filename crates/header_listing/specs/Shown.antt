@@ -37,23 +37,23 @@ offset_of (others d n x) = n
 -- The lines show the first m of octets o, which are at offset n within d encodings. They show each encoding in order: a
 -- primitive one by a line, and a constructed one by a line for its header and lines for its contents, which are
 -- encodings in turn (X.690, 8.1.1, 8.1.4). Lines may end after any header and after any encoding.
-pub data Shows : (d n : ℕ) → Octets → (m : ℕ) → List Line → Type 0 where
+pub data ShowsLines : (d n : ℕ) → Octets → (m : ℕ) → List Line → Type 0 where
   -- no more octets are shown
-  ends : {d n : ℕ} {o : Octets} → Shows d n o 0 []
+  ends : {d n : ℕ} {o : Octets} → ShowsLines d n o 0 []
   primitive : {d n m : ℕ} {t : Tag} {i z x rest o : Octets} {ls : List Line}
       → IsFirst t false i z x rest o
-      → Shows d (n + length (i ++ (z ++ x))) rest m ls
-      → Shows d n o (length (i ++ (z ++ x)) + m) (header d n i z x ∷ ls)
+      → ShowsLines d (n + length (i ++ (z ++ x))) rest m ls
+      → ShowsLines d n o (length (i ++ (z ++ x)) + m) (header d n i z x ∷ ls)
   -- some contents of a constructed encoding are shown, or all of them, and nothing after it
   within : {d n m : ℕ} {t : Tag} {i z x rest o : Octets} {ls : List Line}
       → IsFirst t true i z x rest o
-      → Shows (suc d) (n + length (i ++ z)) x m ls
-      → Shows d n o (length (i ++ z) + m) (header d n i z [] ∷ ls)
+      → ShowsLines (suc d) (n + length (i ++ z)) x m ls
+      → ShowsLines d n o (length (i ++ z) + m) (header d n i z [] ∷ ls)
   -- all contents of a constructed encoding are shown, and what is after it
   after : {d n m : ℕ} {t : Tag} {i z x rest o : Octets} {ks ls : List Line}
       → IsFirst t true i z x rest o
-      → Shows (suc d) (n + length (i ++ z)) x (length x) ks
-      → Shows d (n + length (i ++ z) + length x) rest m ls
-      → Shows d n o (length (i ++ z) + (length x + m)) (header d n i z [] ∷ (ks ++ ls))
+      → ShowsLines (suc d) (n + length (i ++ z)) x (length x) ks
+      → ShowsLines d (n + length (i ++ z) + length x) rest m ls
+      → ShowsLines d n o (length (i ++ z) + (length x + m)) (header d n i z [] ∷ (ks ++ ls))
   -- all of the octets are shown in one line if no encoding is at their start
-  none : {d n : ℕ} {o : Octets} → 1 ≤ length o → HasNone o → Shows d n o (length o) (others d n o ∷ [])
+  none : {d n : ℕ} {o : Octets} → 1 ≤ length o → HasNone o → ShowsLines d n o (length o) (others d n o ∷ [])

@@ -7,7 +7,7 @@ ghost use Rattle.encodings.specs.Header.{identifier};
 ghost use Rattle.std.specs.Prelude.{◌≡◌, ◌+◌, ◌≤◌, Bool, IfNone, IfSome, length};
 
 use asn_base::tag::Tag;
-use octets::law::one_front;
+use octets::law::lemma_one_front;
 use octets::{Form, Header, header_len, read_header};
 
 /// An encoding: its tag and form, its identifier octets, length octets and contents octets, and what follows it.
@@ -30,14 +30,14 @@ fn identifier_len(tag: Tag) -> usize
 }
 
 /// Splits octets into the parts of the encoding that has the header at their start.
-fn parted(octets: &[u8], header: Header) -> Encoding<'_>
+fn split_encoding(octets: &[u8], header: Header) -> Encoding<'_>
     requires { HeaderAt header.tag (is_constructed header.form) header.contents header.octets octets.now }
     ensures { IsFirst result.tag (is_constructed result.form) result.identifier.now result.size.now
         result.contents.now result.rest.now octets.now }
 {
     let (identifier, sized) = octets.split_at(identifier_len(header.tag));
-    let (size, behind) = sized.split_at(header.octets - identifier.len());
-    let (contents, rest) = behind.split_at(header.contents);
+    let (size, following) = sized.split_at(header.octets - identifier.len());
+    let (contents, rest) = following.split_at(header.contents);
     Encoding {
         tag: header.tag,
         form: header.form,
@@ -55,9 +55,9 @@ pub fn first_encoding(octets: &[u8]) -> Option<Encoding<'_>>
         e.contents.now e.rest.now octets.now) }
     ensures none { IfNone result (HasNone octets.now) }
 {
-    one_front();
+    lemma_one_front();
     match read_header(octets) {
-        Ok(header) => Some(parted(octets, header)),
+        Ok(header) => Some(split_encoding(octets, header)),
         Err(_) => None,
     }
 }

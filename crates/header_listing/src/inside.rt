@@ -59,7 +59,7 @@ pub(crate) struct Seen<'a> {
 }
 
 /// The words of an encoding of which the type says nothing: its contents octets, if it is primitive.
-fn told_octets(
+fn describe_octets(
     seen: Seen<'_>,
     mut words: String,
     next: Inside,
@@ -93,7 +93,7 @@ fn within(core: &Core, ty: TypeId) -> Inside {
 }
 
 /// The words of the header with the last tag of a type: the type's name and kind, and the value of what is primitive.
-fn told_contents(
+fn describe_contents(
     seen: Seen<'_>,
     mut words: String,
     ty: TypeId,
@@ -120,7 +120,7 @@ fn told_contents(
 }
 
 /// The words of the header with the tag at this place in the tags of a type. All but the last are explicit.
-fn told_tag(
+fn describe_tag(
     seen: Seen<'_>,
     mut words: String,
     ty: TypeId,
@@ -128,11 +128,11 @@ fn told_tag(
     next: Inside,
 ) -> Result<Description, AllocError> {
     let Some(resolved) = seen.types.schema.types().get(ty.index) else {
-        return told_octets(seen, words, next, false);
+        return describe_octets(seen, words, next, false);
     };
     let after = level.saturating_add(1);
     if after >= resolved.tags.len() {
-        return told_contents(seen, words, ty, resolved, next);
+        return describe_contents(seen, words, ty, resolved, next);
     }
     words.push_str(" ")?;
     push_tag(&mut words, seen.encoding.tag)?;
@@ -146,7 +146,7 @@ fn told_tag(
 }
 
 /// The words of a value whose type was chosen by its tag. The label is that of the component or element that it is.
-fn told_chosen(
+fn describe_chosen(
     seen: Seen<'_>,
     mut label: String,
     chosen: Chosen,
@@ -159,11 +159,11 @@ fn told_chosen(
         push_cut(&mut words, label.as_str())?;
         words.push_str(":")?;
     }
-    told_tag(seen, words, chosen.ty, 0, next)
+    describe_tag(seen, words, chosen.ty, 0, next)
 }
 
 /// The words of an encoding that the type doesn't have at this place.
-fn told_unexpected(
+fn describe_unexpected(
     seen: Seen<'_>,
     inside: Inside,
     unknown: usize,
@@ -172,23 +172,23 @@ fn told_unexpected(
     let mut words = String::new(seen.alloc);
     if !is_extensible {
         words.push_str(" unexpected")?;
-        return told_octets(seen, words, inside, false);
+        return describe_octets(seen, words, inside, false);
     }
     words.push_str(" unknown addition ")?;
     push_number(&mut words, unknown.saturating_add(1))?;
-    told_octets(seen, words, inside, true)
+    describe_octets(seen, words, inside, true)
 }
 
 /// The words of a value of a type, which is a component, an element or the message.
-fn told_value(
+fn describe_value(
     seen: Seen<'_>,
     label: String,
     ty: TypeId,
     next: Inside,
 ) -> Result<Description, AllocError> {
     match chosen_among(seen.alloc, seen.types.schema, ty, seen.encoding.tag)? {
-        Some(chosen) => told_chosen(seen, label, chosen, next),
-        None => told_unexpected(seen, next, 0, false),
+        Some(chosen) => describe_chosen(seen, label, chosen, next),
+        None => describe_unexpected(seen, next, 0, false),
     }
 }
 
@@ -205,7 +205,7 @@ fn is_extensible(schema: &Schema, ty: TypeId) -> bool {
 
 /// The words of a component of a SEQUENCE or SET, or of an addition that it lacks. The component of a SEQUENCE is at
 /// the place `from` or after it.
-fn told_component(
+fn describe_component(
     seen: Seen<'_>,
     ty: TypeId,
     from: usize,
@@ -219,7 +219,7 @@ fn told_component(
         Inside::Components(ty, from)
     };
     let Some((place, chosen)) = component_from(seen, ty, from)? else {
-        return told_unexpected(seen, same, unknown, is_extensible(schema, ty));
+        return describe_unexpected(seen, same, unknown, is_extensible(schema, ty));
     };
     let next = if is_set {
         Inside::Members(ty)
@@ -227,24 +227,28 @@ fn told_component(
         Inside::Components(ty, place.saturating_add(1))
     };
     let label = String::from_str(seen.alloc, component_at(schema, ty, place))?;
-    told_chosen(seen, label, chosen, next)
+    describe_chosen(seen, label, chosen, next)
 }
 
 /// The words of an element, which has this index.
-fn told_element(seen: Seen<'_>, element: TypeId, index: usize) -> Result<Description, AllocError> {
+fn describe_element(
+    seen: Seen<'_>,
+    element: TypeId,
+    index: usize,
+) -> Result<Description, AllocError> {
     let mut label = String::new(seen.alloc);
     label.push_str("[")?;
     push_number(&mut label, index)?;
     label.push_str("]")?;
     let next = Inside::Elements(element, index.saturating_add(1));
-    told_value(seen, label, element, next)
+    describe_value(seen, label, element, next)
 }
 
 /// The words of the encoding of an alternative of a CHOICE that has tags of its own.
-fn told_alternative(seen: Seen<'_>, ty: TypeId) -> Result<Description, AllocError> {
+fn describe_alternative(seen: Seen<'_>, ty: TypeId) -> Result<Description, AllocError> {
     match alternative_in(seen, ty)? {
-        Some(chosen) => told_chosen(seen, String::new(seen.alloc), chosen, Inside::Unknown),
-        None => told_unexpected(seen, Inside::Unknown, 0, false),
+        Some(chosen) => describe_chosen(seen, String::new(seen.alloc), chosen, Inside::Unknown),
+        None => describe_unexpected(seen, Inside::Unknown, 0, false),
     }
 }
 
@@ -257,20 +261,20 @@ pub(crate) fn described(
 ) -> Result<Description, AllocError> {
     let none = String::new(seen.alloc);
     match inside {
-        Inside::Value(ty) => told_value(seen, none, ty, Inside::Unknown),
-        Inside::Tagged(ty, level) => told_tag(seen, none, ty, level, Inside::Unknown),
-        Inside::Alternatives(ty) => told_alternative(seen, ty),
-        Inside::Components(ty, from) => told_component(seen, ty, from, false, unknown),
-        Inside::Members(ty) => told_component(seen, ty, 0, true, unknown),
-        Inside::Elements(element, index) => told_element(seen, element, index),
+        Inside::Value(ty) => describe_value(seen, none, ty, Inside::Unknown),
+        Inside::Tagged(ty, level) => describe_tag(seen, none, ty, level, Inside::Unknown),
+        Inside::Alternatives(ty) => describe_alternative(seen, ty),
+        Inside::Components(ty, from) => describe_component(seen, ty, from, false, unknown),
+        Inside::Members(ty) => describe_component(seen, ty, 0, true, unknown),
+        Inside::Elements(element, index) => describe_element(seen, element, index),
         Inside::Segments => {
-            told_octets(
+            describe_octets(
                 seen,
                 String::from_str(seen.alloc, " segment")?,
                 inside,
                 false,
             )
         }
-        Inside::Unknown => told_octets(seen, none, inside, false),
+        Inside::Unknown => describe_octets(seen, none, inside, false),
     }
 }

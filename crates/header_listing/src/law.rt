@@ -6,7 +6,7 @@ ghost use Rattle.std.specs.Prelude.{◌≡◌, ◌≤◌, ℕ, List, flat_map, l
 
 /// The octets of the lines in order are exactly those before the place where the lines stop: none is lost, and none is
 /// added.
-pub fn lines_are_exact()
+pub fn lemma_lines_are_exact()
     ensures joined { (o : List ℕ) (limit stop : ℕ) (text : List ℕ)
         → (l : IsListing o limit stop text)
         → flat_map octets_of l.lines ≡ take stop o }

@@ -5,7 +5,7 @@ use crate::type_names::push_cut;
 use asn_base::schema::{Core, Items, NamedBit};
 use asn_base::strings::StringKind;
 use encodings::LeafKind;
-use leaf_readings::{Leaf, read_arc, read_leaf};
+use primitive_reader::{Leaf, read_arc, read_leaf};
 use std::alloc::{AllocError, Global};
 use value_text::leaf::{
     append_arcs, append_bit_string, append_number, append_octets, append_truth,
@@ -234,7 +234,7 @@ fn arcs_of(alloc: Global, contents: &[u8], is_relative: bool) -> Result<Vec<u64>
     let mut arcs = Vec::new(alloc);
     let mut rest = contents;
     for _ in 0..MOST_ARCS {
-        let Some((Some(number), behind)) = read_arc(rest) else {
+        let Some((Some(number), following)) = read_arc(rest) else {
             return Ok(arcs);
         };
         if arcs.is_empty() && !is_relative {
@@ -242,7 +242,7 @@ fn arcs_of(alloc: Global, contents: &[u8], is_relative: bool) -> Result<Vec<u64>
         } else {
             push_arc(&mut arcs, number)?;
         }
-        rest = behind;
+        rest = following;
     }
     Ok(arcs)
 }

@@ -7,7 +7,7 @@ use std::io;
 use std::io::{ErrorKind, Read};
 
 /// How many octets are asked for in one read.
-const PART: usize = 65_536;
+const READ_SIZE: usize = 65_536;
 
 /// One read, which is tried again if a signal interrupts it.
 fn read_once<R: Read>(reader: &mut R, room: &mut [u8]) -> io::Result<usize>
@@ -34,7 +34,7 @@ pub(crate) fn fill<R: Read>(reader: &mut R, part: &mut Vec<u8>) -> io::Result<()
     ensures taken { OnOk result (Consumes (R.remaining reader.old) (R.remaining reader.new) part.new.items) }
     ensures end { OnOk result (part.new.items ≡ [] → IsAtEnd (R.remaining reader.new)) }
 {
-    part.resize(PART, 0)?;
+    part.resize(READ_SIZE, 0)?;
     match read_once(reader, part.as_mut_slice()) {
         Ok(count) => {
             part.truncate(count);

@@ -5,4 +5,4 @@ mod fill;
 mod lines;
 mod step;
 
-pub use lines::{InputLines, LONGEST, NextLine};
+pub use lines::{InputLines, MAX_LINE, NextLine};

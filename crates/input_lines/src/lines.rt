@@ -2,7 +2,7 @@
 
 ghost use Rattle.std.specs.Io.KnownBytes.{IsAtEnd, Keeps};
 ghost use Rattle.std.specs.Prelude.{◌≡◌, ◌<◌, ◌≤◌, ℕ, List, [], IfOk, OnOk, length};
-ghost use Rattle.input_lines.specs.Left.{left_of};
+ghost use Rattle.input_lines.specs.Remaining.{remaining_of};
 ghost use Rattle.input_lines.specs.Lines.{HasNoLine, TakesLine};
 ghost use Rattle.input_lines.specs.proving.Parts.{IsTaken};
 ghost use Rattle.input_lines.specs.declared.lines.NextLine.TheVariants.{End, Line, Long};
@@ -14,14 +14,14 @@ use std::io;
 use std::io::Read;
 
 /// How many octets a line may have, without its end.
-pub const LONGEST: usize = 33_554_432;
+pub const MAX_LINE: usize = 33_554_432;
 
 /// What comes next in a reader of lines.
 #[derive(Clone, Copy, Debug, PartialEq, Eq)]
 pub enum NextLine {
     /// A line.
     Line,
-    /// A line with more octets than [`LONGEST`].
+    /// A line with more octets than [`MAX_LINE`].
     Long,
     /// No further line.
     End,
@@ -53,7 +53,7 @@ fn whole(line: &[u8]) -> NextLine
     ensures line { length line.now ≤ 33554432 → result ≡ Line }
     ensures long { 33554432 < length line.now → result ≡ Long }
 {
-    if line.len() > LONGEST {
+    if line.len() > MAX_LINE {
         NextLine::Long
     } else {
         NextLine::Line
@@ -76,7 +76,7 @@ fn last(line: &[u8]) -> NextLine
 impl<R: Read> InputLines<R> {
     /// The lines of what this reader gives from here on.
     pub fn of(alloc: Global, reader: R) -> Self
-        ensures { left_of R.remaining result ≡ R.remaining reader }
+        ensures { remaining_of R.remaining result ≡ R.remaining reader }
     {
         InputLines {
             reader,
@@ -87,9 +87,9 @@ impl<R: Read> InputLines<R> {
 
     /// Reads the next part if all octets of the last one were taken.
     fn refill(&mut self) -> io::Result<()>
-        ensures kept { OnOk result (Keeps (left_of R.remaining self.old) (left_of R.remaining self.new)) }
+        ensures kept { OnOk result (Keeps (remaining_of R.remaining self.old) (remaining_of R.remaining self.new)) }
         ensures end { OnOk result (length self.new.part.items ≤ self.new.at
-            → IsAtEnd (left_of R.remaining self.new)) }
+            → IsAtEnd (remaining_of R.remaining self.new)) }
     {
         if self.at >= self.part.len() {
             self.at = 0;
@@ -100,7 +100,7 @@ impl<R: Read> InputLines<R> {
 
     /// Takes what there is of a line in the last part, or in the next one if that was taken.
     fn take_part(&mut self, line: &mut Vec<u8>) -> io::Result<Taken>
-        ensures { IfOk result (IsTaken (left_of R.remaining self.old) (left_of R.remaining self.new)
+        ensures { IfOk result (IsTaken (remaining_of R.remaining self.old) (remaining_of R.remaining self.new)
             line.old.items line.new.items) }
     {
         self.refill()?;
@@ -120,14 +120,14 @@ impl<R: Read> InputLines<R> {
     pub fn next(&mut self, line: &mut Vec<u8>) -> io::Result<NextLine>
         // The line is the first of those that were left, and the others are left.
         ensures line { IfOk result (λ r. r ≡ Line →
-            TakesLine (left_of R.remaining self.old) (left_of R.remaining self.new) line.new.items) }
+            TakesLine (remaining_of R.remaining self.old) (remaining_of R.remaining self.new) line.new.items) }
         ensures not_long { IfOk result (λ r. r ≡ Line → length line.new.items ≤ 33554432) }
         // The first line of those that were left is too long, and the others are left.
         ensures long { IfOk result (λ r. r ≡ Long → (full : List ℕ)
             × (33554432 < length full)
-            × TakesLine (left_of R.remaining self.old) (left_of R.remaining self.new) full) }
+            × TakesLine (remaining_of R.remaining self.old) (remaining_of R.remaining self.new) full) }
         // There is no line.
-        ensures end { IfOk result (λ r. r ≡ End → HasNoLine (left_of R.remaining self.old)) }
+        ensures end { IfOk result (λ r. r ≡ End → HasNoLine (remaining_of R.remaining self.old)) }
     {
         line.clear();
         for _ in 0..u64::MAX {

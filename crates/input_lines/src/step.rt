@@ -3,14 +3,14 @@
 ghost use Rattle.std.specs.Prelude.{◌≡◌, ◌≢◌, ◌≤◌, ℕ, List, ◌++◌, ◌∷◌, [], All, IfOk, OnOk, length};
 ghost use Rattle.input_lines.specs.proving.Parts.{IsKept, IsStep};
 
-use crate::lines::LONGEST;
+use crate::lines::MAX_LINE;
 use std::alloc::AllocError;
 
 /// Adds octets to a line, unless the line is too long already.
 fn keep(line: &mut Vec<u8>, octets: &[u8]) -> Result<(), AllocError>
     ensures { OnOk result ((full : List ℕ) → IsKept full line.old.items → IsKept (full ++ octets.now) line.new.items) }
 {
-    if line.len() <= LONGEST {
+    if line.len() <= MAX_LINE {
         line.extend_from_slice(octets)?;
     }
     Ok(())

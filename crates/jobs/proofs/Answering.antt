@@ -5,7 +5,7 @@ use Rattle.asn_base.specs.Types.{Resolved}
 use Rattle.resolve.specs.Program.{Program}
 use Rattle.check_jobs.specs.Inputs.{line_of}
 use Rattle.asnc.specs.messages.declared.fault.Fault.TheVariants as faults
-use Rattle.jobs.specs.Answers.{IsAnswer, IsLineRefused, IsMarkedReport, IsTextOf, comment_of, has_end, without_ends}
+use Rattle.jobs.specs.Answers.{IsLineAnswer, IsLineRefused, IsMarkedReport, IsTextOf, comment_of, has_end, without_ends}
 use Rattle.jobs.specs.declared.commands_of_lines.LineCommand.{LineCommand}
 use Rattle.jobs.specs.declared.refusals.LineFault.{LineFault}
 use Rattle.jobs.specs.declared.refusals.LineFault.TheVariants as line_faults
@@ -26,7 +26,7 @@ pub refused_line : (c : LineCommand) (p : Program) (s : List Resolved) (ty l : L
     → (fault ≡ line_faults.Refused faults.Memory → ⊥)
     → output ≡ line_of text
     → IsLineRefused c p s ty l fault
-    → IsAnswer c p s ty l false output
+    → IsLineAnswer c p s ty l false output
 refused_line c p s ty l fault text output m other e r = record {
   text = text;
   output_is = e;
@@ -42,7 +42,7 @@ pub printed_line : (c : LineCommand) (p : Program) (s : List Resolved) (ty l tex
     → has_end text ≡ false
     → length l ≤ 33554432
     → output ≡ line_of text
-    → IsAnswer c p s ty l true output
+    → IsLineAnswer c p s ty l true output
 printed_line c p s ty l text output t n w e = record {
   text = text;
   output_is = e;

@@ -8,21 +8,21 @@ use Rattle.asn_base.specs.Types.{Resolved}
 use Rattle.encodings.specs.Rules.{Basic, Distinguished}
 use Rattle.resolve.specs.Program.{Program}
 use Rattle.asnc.specs.front_end.Accepted.{Accepted, AreAccepted, octets_of}
-use Rattle.asnc.specs.front_end.declared.fault.FrontFault.{FrontFault}
+use Rattle.asnc.specs.front_end.declared.fault.CompileError.{CompileError}
 use Rattle.asnc.specs.Kits.{IsNotOpened}
 use Rattle.asnc.specs.Packing.{IsPacked}
 use Rattle.asnc.specs.Reading.{IsReadAs}
 use Rattle.asnc.specs.Showing.{IsNotShownAs, IsShownAs}
 use Rattle.asnc.specs.Unpacking.{IsUnpackedAs}
 use Rattle.asnc.specs.Differences.{AreCompared}
-use Rattle.later_versions.specs.Told.{says_later}
+use Rattle.later_versions.specs.DifferenceText.{says_later}
 use Rattle.later_versions.specs.declared.reason.Explained.TheVariants as explained
 use Rattle.asnc.specs.Writing.{IsAccountOf, IsEncoded}
 use Rattle.asnc.specs.messages.declared.fault.Fault.{Fault}
 use Rattle.asnc.specs.messages.declared.fault.Fault.TheVariants as faults
-use Rattle.asnc.specs.messages.declared.fault.Unread.{Unread}
+use Rattle.asnc.specs.messages.declared.fault.DecodeError.{DecodeError}
 use Rattle.later_versions.specs.declared.reason.Difference.{Difference}
-use Rattle.reports.specs.Heading.{heading_of, Begins}
+use Rattle.diagnostics.specs.Heading.{heading_of, Begins}
 use Rattle.sinks.specs.Sent.{SinkState, SentAll, SentFront}
 use Rattle.command_line.specs.declared.request.Job.{Job}
 use Rattle.command_line.specs.declared.request.Verb.TheVariants as verbs
@@ -135,14 +135,14 @@ shown_lines : (lines : List ℕ) → EndsInRefusal lines None true lines
 shown_lines lines = (refl, refl)
 
 -- the octets are refused: lines without a refusal are no output, nor is a yes
-no_yes_of_refused : (lines output : List ℕ) (u : Unread) → EndsInRefusal lines (Some u) true output → ⊥
+no_yes_of_refused : (lines output : List ℕ) (u : DecodeError) → EndsInRefusal lines (Some u) true output → ⊥
 no_yes_of_refused lines output u h = let e : true ≡ false = h.0 in cc
 
 no_no_of_accepted : (lines output : List ℕ) → EndsInRefusal lines None false output → ⊥
 no_no_of_accepted lines output h = let e : false ≡ true = h.0 in cc
 
-module _ (lines out : List ℕ) (u : Unread) (r : IsRefusalLine lines u out) where
-  refusal_begins : Begins (heading_of (faults.Unread u)) r.report
+module _ (lines out : List ℕ) (u : DecodeError) (r : IsRefusalLine lines u out) where
+  refusal_begins : Begins (heading_of (faults.DecodeError u)) r.report
   refusal_begins = r.begins
 
   refusal_line : out ≡ line_of (lines ++ r.report)
@@ -159,8 +159,8 @@ module _ (p : Program) (s : List Resolved) (ty o : List ℕ) (yes : Bool) (out :
 -- ---- jobs
 
 module _ (job : Job) (inputs : Inputs) (yes : Bool) (out : List ℕ) (r : IsShownOutput job inputs yes out) where
-  shown_texts : Accepted (map octets_of inputs.files.items) r.program r.types
-  shown_texts = r.accepted
+  source_text : Accepted (map octets_of inputs.files.items) r.program r.types
+  source_text = r.accepted
 
   shown_prints : PrintsShown r.program r.types (string_bytes job.ty) (octets_given job.octets inputs.octets) yes out
   shown_prints = r.prints
@@ -225,7 +225,7 @@ module _ (job : Job) (inputs : Inputs) (e : Fault) (r : IsNoOutput job inputs e)
       → IsNotOpened (map octets_of inputs.files.items) e ⊎ IsCommandRefused job inputs e
   no_output = r.command
 
-module _ (older newer : List (List ℕ)) (f : FrontFault) (r : AreNewerRefused older newer f) where
+module _ (older newer : List (List ℕ)) (f : CompileError) (r : AreNewerRefused older newer f) where
   older_are_accepted : AreAccepted older r.program
   older_are_accepted = r.accepted
 

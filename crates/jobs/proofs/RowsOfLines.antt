@@ -24,9 +24,9 @@ use Rattle.check_jobs.specs.declared.inputs.Inputs.{Inputs}
 use Rattle.asnc.specs.messages.declared.fault.Fault.{Fault}
 use Rattle.asnc.specs.messages.declared.fault.Fault.TheVariants as faults
 use Rattle.asnc.specs.named_values.Given.{written}
-use Rattle.reports.specs.Heading.{Begins}
+use Rattle.diagnostics.specs.Heading.{Begins}
 use Rattle.sinks.specs.Sent.{SinkState, SentAll, SentFront}
-use Rattle.jobs.specs.Answers.{HasEndInText, IsAnswer, IsBerText, IsDerText, IsLineRefused, IsMarkedReport, IsNotBerLine}
+use Rattle.jobs.specs.Answers.{HasEndInText, IsLineAnswer, IsBerText, IsDerText, IsLineRefused, IsMarkedReport, IsNotBerLine}
 use Rattle.jobs.specs.Answers.{IsNotUnperLine, IsRefusalText, IsTextOf, IsUnperText, IsUperText, comment_of, digits_of}
 use Rattle.jobs.specs.Answers.{has_end, line_command_of, line_heading, without_ends}
 use Rattle.jobs.specs.Streams.{AreAnswers, AreLinesDone, AreLinesDoneInPart, AreLinesStopped, AreReplies, EndsStream}
@@ -170,7 +170,7 @@ module _ (c : LineCommand) (p : Program) (s : List Resolved) (ty line text : Lis
   refusal_text = r.marked
 
 module _ (c : LineCommand) (p : Program) (s : List Resolved) (ty line : List ℕ) (yes : Bool) (out : List ℕ)
-    (r : IsAnswer c p s ty line yes out) where
+    (r : IsLineAnswer c p s ty line yes out) where
   answer_ends : out ≡ line_of r.text
   answer_ends = r.output_is
 

@@ -7,7 +7,7 @@ use Rattle.std.proofs.KnownBytes.{Appends-nil, Appends-trans}
 use Rattle.input_lines.specs.Lines.{HasNoLine, TakesLine, lines_of}
 use Rattle.sinks.specs.Sent.{SinkState, SentAll, SentFront}
 use Rattle.asnc.specs.messages.declared.fault.Fault.{Fault}
-use Rattle.jobs.specs.Answers.{IsAnswer}
+use Rattle.jobs.specs.Answers.{IsLineAnswer}
 use Rattle.jobs.specs.Streams.{AreAnswers, AreFirst, AreReplies, EndsStream, IsStopped, IsStreamed, IsStreamedInPart}
 use Rattle.jobs.specs.Streams.{Reply, Stream}
 
@@ -45,7 +45,7 @@ takes_all (Some xs) (Some ys) ls t n = sym (t ∙ ap (λ q. ls ++ q) n ∙ appen
 -- ---- answers
 
 replies_more : (m : Stream) (ls : List (List ℕ)) (rs : List Reply) (l : List ℕ) (r : Reply) → AreReplies m ls rs
-    → IsAnswer m.command m.program m.types m.ty l r.yes r.output
+    → IsLineAnswer m.command m.program m.types m.ty l r.yes r.output
     → AreReplies m (ls ++ l ∷ []) (rs ++ r ∷ [])
 replies_more m [] [] l r e h = (h, tt)
 replies_more m (x ∷ ls) (y ∷ rs) l r e h = (e.0, replies_more m ls rs l r e.1 h)
@@ -74,7 +74,7 @@ all_more (x ∷ rs) r =
 
 answers_more : (m : Stream) (ls : List (List ℕ)) (good : Bool) (out : List ℕ) (l : List ℕ) (y : Bool) (o : List ℕ)
     → AreAnswers m ls good out
-    → IsAnswer m.command m.program m.types m.ty l y o
+    → IsLineAnswer m.command m.program m.types m.ty l y o
     → AreAnswers m (ls ++ l ∷ []) (good && y) (out ++ o)
 answers_more m ls good out l y o a h =
     let r : Reply = record { yes = y; output = o } in
@@ -136,7 +136,7 @@ begun m i a = record {
 pub further : (m : Stream) (i j k : Option (List ℕ)) (n p : ℕ) (good y : Bool) (a b c : SinkState) (l o : List ℕ)
     → IsSoFar m i j n good a b
     → TakesLine j k l
-    → IsAnswer m.command m.program m.types m.ty l y o
+    → IsLineAnswer m.command m.program m.types m.ty l y o
     → SentAll b c o
     → p ≡ n + length o
     → IsSoFar m i k p (good && y) a c
@@ -152,7 +152,7 @@ further m i j k n p good y a b c l o s t h e q = record {
 pub in_part : (m : Stream) (i j k : Option (List ℕ)) (n p q : ℕ) (good y : Bool) (a b c : SinkState) (l o : List ℕ)
     → IsSoFar m i j n good a b
     → TakesLine j k l
-    → IsAnswer m.command m.program m.types m.ty l y o
+    → IsLineAnswer m.command m.program m.types m.ty l y o
     → p ≡ n + q
     → SentFront b c o q
     → IsStreamedInPart m i p a c

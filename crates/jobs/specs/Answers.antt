@@ -24,7 +24,7 @@ use Rattle.check_jobs.specs.Inputs.{line_of}
 use Rattle.asnc.specs.messages.declared.fault.Fault.{Fault}
 use Rattle.asnc.specs.messages.declared.fault.Fault.TheVariants as faults
 use Rattle.asnc.specs.named_values.Given.{written}
-use Rattle.reports.specs.Heading.{heading_of, Begins}
+use Rattle.diagnostics.specs.Heading.{heading_of, Begins}
 use Rattle.jobs.specs.declared.commands_of_lines.LineCommand.{LineCommand}
 use Rattle.jobs.specs.declared.commands_of_lines.LineCommand.TheVariants as commands
 use Rattle.jobs.specs.declared.refusals.LineFault.{LineFault}
@@ -169,7 +169,7 @@ pub record IsRefusalText (c : LineCommand) (p : Program) (s : List Resolved) (ty
 
 -- The answer to a line is one line of output: what the command prints of it, or the text of its refusal. `yes` says
 -- which. A line of more than 33,554,432 octets is refused.
-pub record IsAnswer (c : LineCommand) (p : Program) (s : List Resolved) (ty line : List ℕ) (yes : Bool)
+pub record IsLineAnswer (c : LineCommand) (p : Program) (s : List Resolved) (ty line : List ℕ) (yes : Bool)
     (output : List ℕ) : Type 0 where
   pub text : List ℕ
   pub output_is : output ≡ line_of text

@@ -10,7 +10,7 @@ use Rattle.asnc.specs.Packing.{IsPacked}
 use Rattle.asnc.specs.Reading.{IsReadAs}
 use Rattle.asnc.specs.Unpacking.{IsUnpackedAs}
 use Rattle.asnc.specs.Differences.{AreCompared}
-use Rattle.later_versions.specs.Told.{says_later}
+use Rattle.later_versions.specs.DifferenceText.{says_later}
 use Rattle.later_versions.specs.declared.reason.Explained.{Explained}
 use Rattle.later_versions.specs.declared.reason.Explained.TheVariants as explained
 use Rattle.asnc.specs.Writing.{IsAccountOf, IsEncoded}

@@ -3,7 +3,7 @@ use Rattle.std.specs.Prelude.{◌≡◌, ◌⊎◌, ⊤, ℕ, List, map, string_
 use Rattle.asn_base.specs.Types.{Resolved}
 use Rattle.resolve.specs.Program.{Program}
 use Rattle.asnc.specs.front_end.Accepted.{Accepted, AreAccepted, octets_of}
-use Rattle.asnc.specs.front_end.declared.fault.FrontFault.{FrontFault}
+use Rattle.asnc.specs.front_end.declared.fault.CompileError.{CompileError}
 use Rattle.asnc.specs.messages.declared.fault.Fault.{Fault}
 use Rattle.asnc.specs.messages.declared.fault.Fault.TheVariants as faults
 use Rattle.asnc.specs.Kits.{IsNotOpened}
@@ -42,7 +42,7 @@ pub record IsCommandRefused (job : Job) (inputs : Inputs) (e : Fault) : Type 0 w
   pub refuses : Refuses job.verb program types job (octets_given job.octets inputs.octets) e
 
 -- the older texts are accepted, and the newer ones have this first fault in reading order
-pub record AreNewerRefused (older newer : List (List ℕ)) (f : FrontFault) : Type 0 where
+pub record AreNewerRefused (older newer : List (List ℕ)) (f : CompileError) : Type 0 where
   pub program : Program
   pub accepted : AreAccepted older program
   pub refused : IsNotOpened newer (faults.Front f)

@@ -7,22 +7,22 @@ use Rattle.asnc.specs.Showing.{IsNotShownAs, IsShownAs}
 use Rattle.asnc.specs.declared.showing.Listing.{Listing}
 use Rattle.asnc.specs.messages.declared.fault.Fault.{Fault}
 use Rattle.asnc.specs.messages.declared.fault.Fault.TheVariants as faults
-use Rattle.asnc.specs.messages.declared.fault.Unread.{Unread}
-use Rattle.reports.specs.Heading.{heading_of, Begins}
+use Rattle.asnc.specs.messages.declared.fault.DecodeError.{DecodeError}
+use Rattle.diagnostics.specs.Heading.{heading_of, Begins}
 use Rattle.command_line.specs.declared.request.Job.{Job}
 use Rattle.check_jobs.specs.Inputs.{line_of, octets_given}
 use Rattle.check_jobs.specs.declared.inputs.Inputs.{Inputs}
 
 -- The output is these lines, and after them a line with the report of the refusal, which begins with the number and the
 -- name of the fault.
-pub record IsRefusalLine (lines : List ℕ) (u : Unread) (output : List ℕ) : Type 0 where
+pub record IsRefusalLine (lines : List ℕ) (u : DecodeError) (output : List ℕ) : Type 0 where
   pub report : List ℕ
-  pub begins : Begins (heading_of (faults.Unread u)) report
+  pub begins : Begins (heading_of (faults.DecodeError u)) report
   pub output_is : output ≡ line_of (lines ++ report)
 
 -- The octets are accepted: the output is the lines alone, and `yes` is true. Or they are refused: the report of that is
 -- after the lines, and `yes` is false.
-abbrev pub EndsInRefusal : (lines : List ℕ) → Option Unread → (yes : Bool) → (output : List ℕ) → Type 0
+abbrev pub EndsInRefusal : (lines : List ℕ) → Option DecodeError → (yes : Bool) → (output : List ℕ) → Type 0
 EndsInRefusal lines None accepted output = (accepted ≡ true) × (output ≡ lines)
 EndsInRefusal lines (Some u) accepted output = (accepted ≡ false) × IsRefusalLine lines u output
 

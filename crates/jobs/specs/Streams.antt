@@ -11,7 +11,7 @@ use Rattle.asnc.specs.messages.declared.fault.Fault.{Fault}
 use Rattle.asnc.specs.messages.declared.fault.Fault.TheVariants as faults
 use Rattle.asnc.specs.named_values.Named.{TypeNamed}
 use Rattle.sinks.specs.Sent.{SinkState, SentAll, SentFront}
-use Rattle.jobs.specs.Answers.{IsAnswer}
+use Rattle.jobs.specs.Answers.{IsLineAnswer}
 use Rattle.jobs.specs.declared.answers.Lines.{Lines}
 use Rattle.jobs.specs.declared.commands_of_lines.LineCommand.{LineCommand}
 use Rattle.check_jobs.specs.declared.inputs.Inputs.{Inputs}
@@ -41,7 +41,7 @@ pub record Reply : Type 0 where
 -- there is one answer for each line, in order
 abbrev pub AreReplies : Stream → (lines : List (List ℕ)) → List Reply → Type 0
 AreReplies m [] [] = ⊤
-AreReplies m (l ∷ ls) (r ∷ rs) = IsAnswer m.command m.program m.types m.ty l r.yes r.output × AreReplies m ls rs
+AreReplies m (l ∷ ls) (r ∷ rs) = IsLineAnswer m.command m.program m.types m.ty l r.yes r.output × AreReplies m ls rs
 AreReplies m [] (r ∷ rs) = ⊥
 AreReplies m (l ∷ ls) [] = ⊥
 

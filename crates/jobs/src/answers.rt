@@ -9,7 +9,7 @@ ghost use Rattle.asnc.specs.Reading.{rules_of};
 ghost use Rattle.asnc.specs.Writing.{IsNotEncoded};
 ghost use Rattle.asnc.specs.named_values.Given.{written};
 ghost use Rattle.resolve.specs.Program.{Program};
-ghost use Rattle.jobs.specs.Answers.{comment_of, digits_of, has_end, IsAnswer, IsBerText, IsDerText, IsLineRefused};
+ghost use Rattle.jobs.specs.Answers.{comment_of, digits_of, has_end, IsLineAnswer, IsBerText, IsDerText, IsLineRefused};
 ghost use Rattle.jobs.specs.Answers.{IsNotBerLine, IsNotHexadecimal, IsNotUnperLine, IsTextOf, IsUnperText};
 ghost use Rattle.jobs.specs.Answers.{IsUperText, RefusesLine};
 ghost use Rattle.jobs.specs.declared.commands_of_lines.LineCommand.{LineCommand as Command};
@@ -23,8 +23,8 @@ use asnc::{Kit, Rules, ValueGiven};
 use check_jobs::Output;
 use command_line::Job;
 use hex::FromHexError;
-use input_lines::LONGEST;
-use shown_texts::shown;
+use input_lines::MAX_LINE;
+use source_text::shown;
 use std::alloc::{AllocError, Global};
 
 /// What the answers to lines depend on, besides the lines.
@@ -210,7 +210,7 @@ fn line_text(alloc: Global, lines: &Lines<'_>, line: &[u8]) -> Result<Vec<u8>, L
     ensures refused { IfErr result (IsLineRefused lines.now.command lines.now.kit.now.program lines.now.kit.now.types
         (string_bytes lines.now.job.now.ty) line.now) }
 {
-    if line.len() > LONGEST {
+    if line.len() > MAX_LINE {
         return Err(LineFault::Limit);
     }
     match text_of(alloc, lines, line) {
@@ -250,7 +250,7 @@ fn refusal(
     // It is the answer to each line for which the fault is true.
     ensures answer { IfOk result (λ o. (c : Command) (p : Program) (s : List Resolved) (ty l : List ℕ)
         → IsLineRefused c p s ty l fault.now
-        → IsAnswer c p s ty l o.yes o.octets.items) }
+        → IsLineAnswer c p s ty l o.yes o.octets.items) }
     ensures memory { IfErr result (λ e. e ≡ Memory) }
 {
     let mut octets = refusal_text(alloc, lines.job, lines.texts, line, fault)?;
@@ -262,7 +262,7 @@ fn refusal(
 pub(crate) fn too_long(alloc: Global, lines: &Lines<'_>) -> Result<Output, Fault>
     ensures answer { IfOk result (λ o. (c : Command) (p : Program) (s : List Resolved) (ty l : List ℕ)
         → 33554432 < length l
-        → IsAnswer c p s ty l o.yes o.octets.items) }
+        → IsLineAnswer c p s ty l o.yes o.octets.items) }
     ensures memory { IfErr result (λ e. e ≡ Memory) }
 {
     match refusal(alloc, lines, &[], &LineFault::Limit) {
@@ -285,7 +285,7 @@ pub(crate) fn too_long(alloc: Global, lines: &Lines<'_>) -> Result<Output, Fault
 pub fn answer(alloc: Global, lines: &Lines<'_>, line: &[u8]) -> Result<Output, Fault>
     // The answer is exactly what the line asks for, or a refusal that is true.
     ensures answer { IfOk result (λ o.
-        IsAnswer lines.now.command lines.now.kit.now.program lines.now.kit.now.types
+        IsLineAnswer lines.now.command lines.now.kit.now.program lines.now.kit.now.types
         (string_bytes lines.now.job.now.ty) line.now o.yes o.octets.items) }
     ensures memory { IfErr result (λ e. e ≡ Memory) }
 {

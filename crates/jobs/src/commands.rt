@@ -14,7 +14,7 @@ ghost use Rattle.asnc.specs.messages.declared.fault.Fault.TheVariants.{Memory};
 
 use asnc::messages::Fault;
 use asnc::{Kit, Rules};
-use check_jobs::{ended, value_of};
+use check_jobs::{value_of, with_line_end};
 use command_line::{Job, Verb};
 use std::alloc::Global;
 
@@ -23,7 +23,7 @@ fn hex_text(alloc: Global, octets: &[u8]) -> Result<Vec<u8>, Fault>
     ensures line { IfOk result (λ v. v.items ≡ hex_line octets.now) }
     ensures memory { IfErr result (λ e. e ≡ Memory) }
 {
-    ended(hex::encode_upper(alloc, octets)?)
+    with_line_end(hex::encode_upper(alloc, octets)?)
 }
 
 /// A printed value, and how many additions were skipped, a line each.
@@ -34,7 +34,7 @@ fn value_text(alloc: Global, mut text: String, skipped: u64) -> Result<Vec<u8>, 
     let digits = skipped.to_string(alloc)?;
     text.push_str("\nskipped ")?;
     text.push_str(digits.as_str())?;
-    ended(text)
+    with_line_end(text)
 }
 
 /// What `der` prints.
@@ -82,7 +82,7 @@ fn account(alloc: Global, kit: &Kit, job: &Job) -> Result<Vec<u8>, Fault>
         Ok(text) => text,
         Err(fault) => return Err(fault),
     };
-    match ended(text) {
+    match with_line_end(text) {
         Ok(line) => Ok(line),
         Err(fault) => Err(fault),
     }

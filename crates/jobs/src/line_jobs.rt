@@ -1,7 +1,7 @@
 //! A job that takes lines of standard input.
 
 ghost use Rattle.std.specs.Prelude.{◌≡◌, ◌⊎◌, ◌<◌, ℕ, IfOk, IfErr, string_bytes};
-ghost use Rattle.input_lines.specs.Left.{left_of};
+ghost use Rattle.input_lines.specs.Remaining.{remaining_of};
 ghost use Rattle.jobs.specs.Streams.{AreLinesDone, AreLinesDoneInPart, AreLinesStopped, IsNotBegun, IsUnnamed};
 ghost use Rattle.asnc.specs.messages.declared.fault.Fault.TheVariants.{Device};
 ghost use Rattle.sinks.specs.Sent.{state};
@@ -50,14 +50,14 @@ pub fn work_lines<R: Read, S: Sink>(
     requires room { S.failed sink.old < u64.MAX }
     // The sink took exactly the answers to all lines, and no call failed.
     ensures done { IfOk result (λ yes. AreLinesDone asked.entry.job.now asked.entry.inputs.now asked.entry.command
-        (left_of R.remaining input.old) yes
+        (remaining_of R.remaining input.old) yes
         (state (S.taken sink.old) (S.failed sink.old))
         (state (S.taken sink.new) (S.failed sink.new))) }
     // The sink took exactly the first n octets of the answers to the first lines, and one call failed.
     ensures device { IfErr result (λ e. (n : ℕ) →
         e ≡ Device n →
         AreLinesDoneInPart asked.entry.job.now asked.entry.inputs.now asked.entry.command
-        (left_of R.remaining input.old) n
+        (remaining_of R.remaining input.old) n
         (state (S.taken sink.old) (S.failed sink.old))
         (state (S.taken sink.new) (S.failed sink.new))) }
     // Any other fault is true and no octet went out, or exactly the answers to the first lines did.
@@ -65,7 +65,7 @@ pub fn work_lines<R: Read, S: Sink>(
         ((n : ℕ) → e ≡ Device n → ⊥) →
         (IsNotBegun asked.entry.job.now asked.entry.inputs.now e × (sink.new ≡ sink.old))
         ⊎ AreLinesStopped asked.entry.job.now asked.entry.inputs.now asked.entry.command
-        (left_of R.remaining input.old)
+        (remaining_of R.remaining input.old)
         (state (S.taken sink.old) (S.failed sink.old))
         (state (S.taken sink.new) (S.failed sink.new))
         e) }

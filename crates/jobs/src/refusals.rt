@@ -2,11 +2,11 @@
 
 ghost use Rattle.std.specs.Prelude.{◌≡◌, ◌++◌, IfOk, codes, string_bytes};
 ghost use Rattle.jobs.specs.Answers.{line_heading, without_ends, IsMarkedReport};
-ghost use Rattle.reports.specs.Heading.{Begins};
+ghost use Rattle.diagnostics.specs.Heading.{Begins};
 
 use asnc::messages::Fault;
 use command_line::Job;
-use reports::report_line;
+use diagnostics::report_line;
 use std::alloc::{AllocError, Global};
 
 /// Why a line is refused.

@@ -8,11 +8,11 @@ ghost use Rattle.check_jobs.specs.Inputs.{octets_given};
 ghost use Rattle.jobs.specs.Shown.{EndsInRefusal, IsRefusalLine, IsShownOutput, IsShowRefused, PrintsShown};
 ghost use Rattle.asnc.specs.messages.declared.fault.Fault.TheVariants.{Memory};
 
-use asnc::messages::{Fault, Unread};
+use asnc::messages::{DecodeError, Fault};
 use asnc::{Kit, Listing};
-use check_jobs::{Inputs, Output, ended};
+use check_jobs::{Inputs, Output, with_line_end};
 use command_line::Job;
-use reports::report;
+use diagnostics::report;
 use std::alloc::Global;
 
 /// Lines, and after them a line with the report of a refusal. The report needs no texts.
@@ -20,18 +20,18 @@ fn with_refusal(
     alloc: Global,
     job: &Job,
     mut lines: String,
-    unread: Unread,
+    unread: DecodeError,
 ) -> Result<Vec<u8>, Fault>
     ensures printed { IfOk result (λ v. IsRefusalLine (string_bytes lines) unread v.items) }
     ensures memory { IfErr result (λ e. e ≡ Memory) }
 {
-    let line = report(alloc, job, &[], &[], &Fault::Unread(unread))?;
+    let line = report(alloc, job, &[], &[], &Fault::DecodeError(unread))?;
     lines.push_str(line.as_str())?;
-    ended(lines)
+    with_line_end(lines)
 }
 
 /// The output for a listing.
-fn told(alloc: Global, job: &Job, listing: Listing) -> Result<Output, Fault>
+fn listing_output(alloc: Global, job: &Job, listing: Listing) -> Result<Output, Fault>
     ensures printed { IfOk result (λ o.
         EndsInRefusal (string_bytes listing.lines) listing.refusal o.yes o.octets.items) }
     ensures memory { IfErr result (λ e. e ≡ Memory) }
@@ -59,7 +59,7 @@ fn shown(alloc: Global, kit: &Kit, job: &Job, octets: &[u8]) -> Result<Output, F
         Ok(listing) => listing,
         Err(fault) => return Err(fault),
     };
-    match told(alloc, job, listing) {
+    match listing_output(alloc, job, listing) {
         Ok(output) => Ok(output),
         Err(fault) => Err(fault),
     }

@@ -1,9 +1,9 @@
 //! The answers to all lines of standard input.
 
 ghost use Rattle.std.specs.Prelude.{◌≡◌, ◌<◌, ◌&&◌, ◌+◌, ℕ, List, IfOk, IfErr, MatchOption, OnOk, length, string_bytes};
-ghost use Rattle.input_lines.specs.Left.{left_of};
+ghost use Rattle.input_lines.specs.Remaining.{remaining_of};
 ghost use Rattle.input_lines.specs.Lines.{HasNoLine, TakesLine};
-ghost use Rattle.jobs.specs.Answers.{IsAnswer};
+ghost use Rattle.jobs.specs.Answers.{IsLineAnswer};
 ghost use Rattle.jobs.specs.Streams.{stream_of, EndsStream, IsStopped, IsStreamed, IsStreamedInPart};
 ghost use Rattle.asnc.specs.messages.declared.fault.Fault.TheVariants.{Device};
 ghost use Rattle.sinks.specs.Sent.{SentAll, SentFront, state};
@@ -45,9 +45,9 @@ fn next_answer<R: Read>(
     line: &mut Vec<u8>,
 ) -> Result<Option<Output>, Fault>
     ensures answer { IfOk result (λ o. MatchOption o
-        (HasNoLine (left_of R.remaining input.old))
-        (λ x. (l : List ℕ) × TakesLine (left_of R.remaining input.old) (left_of R.remaining input.new) l
-        × IsAnswer lines.now.command lines.now.kit.now.program lines.now.kit.now.types
+        (HasNoLine (remaining_of R.remaining input.old))
+        (λ x. (l : List ℕ) × TakesLine (remaining_of R.remaining input.old) (remaining_of R.remaining input.new) l
+        × IsLineAnswer lines.now.command lines.now.kit.now.program lines.now.kit.now.types
         (string_bytes lines.now.job.now.ty) l x.yes x.octets.items)) }
     ensures ends { IfErr result EndsStream }
 {
@@ -120,19 +120,19 @@ pub fn stream<R: Read, S: Sink>(
 ) -> Result<bool, Fault>
     requires room { S.failed sink.old < u64.MAX }
     // The sink took exactly the answers to all lines, and no call failed.
-    ensures done { IfOk result (λ yes. IsStreamed (stream_of lines.now) (left_of R.remaining input.old) yes
+    ensures done { IfOk result (λ yes. IsStreamed (stream_of lines.now) (remaining_of R.remaining input.old) yes
         (state (S.taken sink.old) (S.failed sink.old))
         (state (S.taken sink.new) (S.failed sink.new))) }
     // The sink took exactly the first n octets of the answers to the first lines, and one call failed.
     ensures device { IfErr result (λ e. (n : ℕ) →
         e ≡ Device n →
-        IsStreamedInPart (stream_of lines.now) (left_of R.remaining input.old) n
+        IsStreamedInPart (stream_of lines.now) (remaining_of R.remaining input.old) n
         (state (S.taken sink.old) (S.failed sink.old))
         (state (S.taken sink.new) (S.failed sink.new))) }
     // After any other fault the sink took exactly the answers to the first lines.
     ensures stopped { IfErr result (λ e.
         ((n : ℕ) → e ≡ Device n → ⊥) →
-        IsStopped (stream_of lines.now) (left_of R.remaining input.old)
+        IsStopped (stream_of lines.now) (remaining_of R.remaining input.old)
         (state (S.taken sink.old) (S.failed sink.old))
         (state (S.taken sink.new) (S.failed sink.new))
         e) }

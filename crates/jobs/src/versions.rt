@@ -2,7 +2,7 @@
 
 ghost use Rattle.std.specs.Prelude.{◌≡◌, ℕ, List, IfOk, IfErr, map, string_bytes};
 ghost use Rattle.asnc.specs.Differences.{AreCompared};
-ghost use Rattle.later_versions.specs.Told.{says_later as says_later'};
+ghost use Rattle.later_versions.specs.DifferenceText.{says_later as says_later'};
 ghost use Rattle.asnc.specs.Versions.{IsNotCompared};
 ghost use Rattle.check_jobs.specs.Inputs.{line_of};
 ghost use Rattle.asnc.specs.front_end.Accepted.{Accepted, octets_of};
@@ -12,7 +12,7 @@ ghost use Rattle.asnc.specs.messages.declared.fault.Fault.TheVariants.{Memory};
 
 use asnc::messages::Fault;
 use asnc::{Explained, Kit};
-use check_jobs::{Inputs, Output, ended};
+use check_jobs::{Inputs, Output, with_line_end};
 use command_line::Job;
 use std::alloc::Global;
 
@@ -32,11 +32,11 @@ fn line(alloc: Global, answer: &Explained) -> Result<Vec<u8>, Fault>
     ensures memory { IfErr result (λ e. e ≡ Memory) }
 {
     match answer {
-        Explained::Later => ended(String::from_str(alloc, "yes")?),
+        Explained::Later => with_line_end(String::from_str(alloc, "yes")?),
         Explained::Differs(_, text) => {
             let mut line = String::from_str(alloc, "no: ")?;
             line.push_str(text.as_str())?;
-            ended(line)
+            with_line_end(line)
         }
     }
 }

@@ -1,16 +1,29 @@
 -- What a verdict is worth, field by field: each row needs one of the definitions' premises.
 use Rattle.std.proofs.Common.{◌≡◌, ℕ, ◌≤◌, List, length, refl}
 use Rattle.std.specs.Prelude.{codes, IsUtf8}
+use Rattle.asn_base.specs.Abstract.{AbstractValue}
 use Rattle.asn_base.specs.Typed.{IsValue}
-use Rattle.encodings.specs.Account.{Account, Tells}
-use Rattle.encodings.specs.Encoding.{Ber}
+use Rattle.asn_base.specs.Types.{Resolved}
+use Rattle.encodings.specs.Account.{Account, Describes}
+use Rattle.encodings.specs.Encoding.{Ber, EncodesBy}
+use Rattle.encodings.specs.Rules.{Unsorted}
+use Rattle.account_checker.specs.Reasons.{Fails}
+use Rattle.account_checker.specs.declared.reason.Reason.{Reason}
 use Rattle.account_checker.specs.declared.reason.Reason.TheVariants.{NotOfType}
 use Rattle.account_checker.specs.declared.reason.Verdict.TheVariants.{Yes, No}
 use Rattle.account_text.specs.Text.{IsTextOf}
-use Rattle.named_values.specs.front_end.Accepted.{Accepted}
-use Rattle.named_values.specs.front_end.Untyped.{StandsFor}
-use Rattle.named_values.specs.Meant.{IsMeant}
-use Rattle.judging.specs.Judged.{IsAccountIn, IsConfirmed, IsVerdict, IsVerdictOn, IsJudged, answer_of}
+use Rattle.account_text.specs.declared.stop.Stop.{Stop}
+use Rattle.resolve.specs.Program.{Program}
+use Rattle.named_values.specs.front_end.Accepted.{Accepted, AreAccepted}
+use Rattle.named_values.specs.front_end.Faults.{IsRightFault}
+use Rattle.named_values.specs.front_end.declared.fault.CompileError.{CompileError}
+use Rattle.named_values.specs.front_end.declared.fault.CompileError.TheVariants as texts
+use Rattle.named_values.specs.messages.declared.fault.Fault.TheVariants as faults
+use Rattle.named_values.specs.messages.value_diagnostics.declared.value_diagnostic.ValueDiagnostic.{ValueDiagnostic}
+use Rattle.named_values.specs.Named.{AreGiven}
+use Rattle.named_values.specs.front_end.ValueError.{DenotesValue}
+use Rattle.named_values.specs.Meant.{IsMeant, IsNotMeant}
+use Rattle.judging.specs.Judged.{IsAccountIn, IsConfirmed, IsNotJudged, IsVerdict, IsVerdictOn, IsJudged, answer_of}
 use Rattle.named_values.specs.Given.{Given}
 
 -- no BER encoding of the value that was confirmed is shorter
@@ -30,7 +43,7 @@ is_value : {xs : List (List ℕ)} {first : List ℕ} {second : Given} {o : List 
 is_value c = c.is
 
 stands_for : {xs : List (List ℕ)} {first : List ℕ} {second : Given} {o : List ℕ} (c : IsConfirmed xs first second o)
-    → StandsFor c.program c.within c.type c.notation c.value
+    → DenotesValue c.program c.within c.type c.notation c.value
 stands_for c = c.stands
 
 -- the types are those of the texts
@@ -40,14 +53,14 @@ of_texts : {xs : List (List ℕ)} {first : List ℕ} {second : Given} {o account
 of_texts j = j.accepted
 
 -- after a yes the account is the one of the text, and describes how the octets are made up
-tells : {xs : List (List ℕ)} {first : List ℕ} {second : Given} {o account : List ℕ}
+describes : {xs : List (List ℕ)} {first : List ℕ} {second : Given} {o account : List ℕ}
     (j : IsJudged xs first second o account Yes)
-    → Tells j.types j.on.type j.on.value o j.on.told
-tells j = j.on.verdict.tells
+    → Describes j.types j.on.type j.on.value o j.on.described
+describes j = j.on.verdict.describes
 
 of_text : {xs : List (List ℕ)} {first : List ℕ} {second : Given} {o account : List ℕ}
     (j : IsJudged xs first second o account Yes)
-    → IsTextOf account j.on.told
+    → IsTextOf account j.on.described
 of_text j = j.on.read.is
 
 in_utf8 : {xs : List (List ℕ)} {first : List ℕ} {second : Given} {o account : List ℕ}
@@ -65,3 +78,41 @@ says_yes = refl
 
 says_no : answer_of (No NotOfType) ≡ codes "no NotOfType"
 says_no = refl
+
+-- ---- what is confirmed, and why there is no verdict
+
+module _ (xs : List (List ℕ)) (first : List ℕ) (second : Given) (o : List ℕ) (c : IsConfirmed xs first second o) where
+  confirmed_texts : Accepted xs c.program c.types
+  confirmed_texts = c.accepted
+
+  confirmed_names : AreGiven c.program first second c.type c.within c.notation
+  confirmed_names = c.named
+
+  confirmed_unsorted : EncodesBy Unsorted c.types c.type c.value 0 o
+  confirmed_unsorted = c.unsorted
+
+module _ (p : Program) (s : List Resolved) (first : List ℕ) (second : Given) (o account : List ℕ) where
+  verdict_yes : (d : IsVerdictOn p s first second o account Yes)
+      → IsValue s d.type d.value × Describes s d.type d.value o d.described
+  verdict_yes d = (d.verdict.value, d.verdict.describes)
+
+  verdict_no : (r : Reason) (d : IsVerdictOn p s first second o account (No r)) → Fails s d.type d.value o d.described r
+  verdict_no r d = d.verdict
+
+module _ (xs : List (List ℕ)) (first : List ℕ) (second : Given) (account : List ℕ) where
+  not_an_account : (e : Stop)
+      → IsNotJudged xs first second account (faults.NotAccount e)
+      → (p : Program) × AreAccepted xs p × (t : ℕ) × (v : AbstractValue) × IsMeant p first second t v
+      × ((a : Account) → IsUtf8 account → IsTextOf account a → ⊥)
+  not_an_account e j =
+      (j.program, j.accepted, j.on.type, j.on.value, j.on.meant, λ a u i. j.on.none a (record { utf8 = u; is = i }))
+
+  no_value_there : (t : ValueDiagnostic)
+      → IsNotJudged xs first second account (faults.Value t)
+      → (p : Program) × AreAccepted xs p × IsNotMeant p first second (faults.Value t)
+  no_value_there t j = (j.program, j.accepted, j.on)
+
+  texts_refused : (f : CompileError)
+      → IsNotJudged xs first second account (faults.Front f)
+      → (f ≡ texts.Memory → ⊥) × IsRightFault xs f
+  texts_refused f j = j

@@ -9,7 +9,7 @@ use Rattle.account_checker.specs.declared.reason.Verdict.{Verdict}
 use Rattle.account_checker.specs.declared.reason.Verdict.TheVariants.{Yes, No}
 use Rattle.account_text.specs.Text.{IsTextOf}
 use Rattle.resolve.specs.Program.{Program}
-use Rattle.named_values.specs.front_end.Accepted.{Keeps}
+use Rattle.named_values.specs.front_end.Accepted.{IsCheckedProgram}
 use Rattle.named_values.specs.Meant.{IsMeant}
 use Rattle.judging.specs.Judged.{IsVerdict, IsVerdictOn}
 use Rattle.named_values.specs.Given.{Given}
@@ -35,7 +35,7 @@ abbrev pub OneAccount : Type 0
 OneAccount = (text : List ℕ) (a b : Account) → IsTextOf text a → IsTextOf text b → a ≡ b
 
 abbrev pub OneMeaning : Type 0
-OneMeaning = (p : Program) (first : List ℕ) (second : Given) (t u : ℕ) (v w : AbstractValue) → Keeps p →
+OneMeaning = (p : Program) (first : List ℕ) (second : Given) (t u : ℕ) (v w : AbstractValue) → IsCheckedProgram p →
     IsMeant p first second t v →
     IsMeant p first second u w → (t ≡ u) × (v ≡ w)
 
@@ -49,14 +49,14 @@ one_of_two one none s t v o a Yes (No e) h k = absurd (none s t v o a e h k)
 one_of_two one none s t v o a (No r) Yes h k = absurd (none s t v o a r k h)
 one_of_two one none s t v o a (No r) (No e) h k = ap No (one s t v o a r e h k)
 
-pub one_verdict : OneReason → NoReason → OneAccount → OneMeaning → (p : Program) (s : List Resolved)
-    (first : List ℕ) (second : Given) (o account : List ℕ) (r e : Verdict) → Keeps p →
+pub lemma_one_verdict : OneReason → NoReason → OneAccount → OneMeaning → (p : Program) (s : List Resolved)
+    (first : List ℕ) (second : Given) (o account : List ℕ) (r e : Verdict) → IsCheckedProgram p →
     IsVerdictOn p s first second o account r →
     IsVerdictOn p s first second o account e → r ≡ e
-one_verdict one none account_of meaning p s first second o account r e kept a b =
+lemma_one_verdict one none account_of meaning p s first second o account r e kept a b =
     let m = meaning p first second a.type b.type a.value b.value kept a.meant b.meant in
-    let x = account_of account a.told b.told a.read.is b.read.is in
-    let h = subst (λ t. IsVerdict s t a.value o a.told r) m.0 a.verdict in
-    let k = subst (λ v. IsVerdict s b.type v o a.told r) m.1 h in
+    let x = account_of account a.described b.described a.read.is b.read.is in
+    let h = subst (λ t. IsVerdict s t a.value o a.described r) m.0 a.verdict in
+    let k = subst (λ v. IsVerdict s b.type v o a.described r) m.1 h in
     let l = subst (λ c. IsVerdict s b.type b.value o c r) x k in
-    one_of_two one none s b.type b.value o b.told r e l b.verdict
+    one_of_two one none s b.type b.value o b.described r e l b.verdict

@@ -15,9 +15,9 @@ use Rattle.account_text.specs.Text.{IsTextOf}
 use Rattle.trees.specs.Values.{Name, Tree}
 use Rattle.resolve.specs.Program.{Program}
 use Rattle.named_values.specs.front_end.Accepted.{Accepted, AreAccepted}
-use Rattle.named_values.specs.front_end.Faults.{Stands}
-use Rattle.named_values.specs.front_end.Untyped.{StandsFor}
-use Rattle.named_values.specs.front_end.declared.fault.FrontFault.TheVariants as texts
+use Rattle.named_values.specs.front_end.Faults.{IsRightFault}
+use Rattle.named_values.specs.front_end.ValueError.{DenotesValue}
+use Rattle.named_values.specs.front_end.declared.fault.CompileError.TheVariants as texts
 use Rattle.named_values.specs.messages.declared.fault.Fault.{Fault}
 use Rattle.named_values.specs.messages.declared.fault.Fault.TheVariants as faults
 use Rattle.named_values.specs.Meant.{IsMeant, IsNotMeant}
@@ -42,9 +42,9 @@ pub record IsVerdictOn (p : Program) (s : List Resolved) (first : List ℕ) (sec
   pub type : ℕ
   pub value : AbstractValue
   pub meant : IsMeant p first second type value
-  pub told : Account
-  pub read : IsAccountIn account told
-  pub verdict : IsVerdict s type value o told r
+  pub described : Account
+  pub read : IsAccountIn account described
+  pub verdict : IsVerdict s type value o described r
 
 -- The texts xs are accepted, as a program with its types, and verdict r is the one in this program. It is on the name
 -- of a type, a value that is given, octets o, and the text of an account.
@@ -69,7 +69,7 @@ pub record IsConfirmed (xs : List (List ℕ)) (first : List ℕ) (second : Given
   pub named : AreGiven program first second type within notation
   -- the notation means this value under the type, and the value is one of the type
   pub value : AbstractValue
-  pub stands : StandsFor program within type notation value
+  pub stands : DenotesValue program within type notation value
   pub is : IsValue types type value
   -- the octets are an encoding of the value by the distinguished rules, except for the order in SET and SET OF
   pub unsorted : EncodesBy Unsorted types type value 0 o
@@ -105,7 +105,7 @@ pub record IsNotJudgedIn (xs : List (List ℕ)) (first : List ℕ) (second : Giv
 -- in their program. `Memory` says nothing.
 abbrev pub IsNotJudged : List (List ℕ) → (first : List ℕ) → (second : Given) → (account : List ℕ) → Fault → Type 0
 IsNotJudged xs first second account faults.Memory = Unit {0}
-IsNotJudged xs first second account (faults.Front f) = (f ≡ texts.Memory → ⊥) × Stands xs f
+IsNotJudged xs first second account (faults.Front f) = (f ≡ texts.Memory → ⊥) × IsRightFault xs f
 IsNotJudged xs first second account fault = IsNotJudgedIn xs first second account fault
 
 -- a verdict in words: `yes`, or `no` and the name of the reason

@@ -4,7 +4,7 @@ ghost use Rattle.std.specs.Prelude.{◌≡◌, List, map, ℕ, IfOk, IfErr};
 ghost use Rattle.asn_base.specs.Abstract.{abstract};
 ghost use Rattle.encodings.specs.Account.{Account as Account'};
 ghost use Rattle.named_values.specs.front_end.Accepted.{octets_of};
-ghost use Rattle.named_values.specs.front_end.Faults.{Stands};
+ghost use Rattle.named_values.specs.front_end.Faults.{IsRightFault};
 ghost use Rattle.judging.specs.Judged.{IsAccountIn, IsJudged, IsVerdict, IsVerdictOn};
 ghost use Rattle.judging.specs.Judged.{IsNoAccount, IsNotJudged, IsNotJudgedOn};
 ghost use Rattle.named_values.specs.Given.{Given, as_given};
@@ -14,7 +14,7 @@ use account_checker::reason::Verdict;
 use account_text::{AccountFault, from_json, stop_of};
 use asn_base::schema::{Schema, TypeId};
 use asn_base::value::Value;
-use named_values::front_end::{FrontFault, Modules};
+use named_values::front_end::{CompileError, Modules};
 use named_values::messages::Fault;
 use named_values::{ValueGiven, meant};
 use octet_account::account::Account;
@@ -30,13 +30,13 @@ struct Claim<'a> {
 }
 
 /// A fault of texts, as a user sees it.
-fn refusal(fault: FrontFault) -> Fault
+fn refusal(fault: CompileError) -> Fault
     ensures { (xs : List (List ℕ)) (first : List ℕ) (second : Given) (account : List ℕ) →
-        Stands xs fault →
+        IsRightFault xs fault →
         IsNotJudged xs first second account result }
 {
     match fault {
-        FrontFault::Memory => Fault::Memory,
+        CompileError::Memory => Fault::Memory,
         fault => Fault::Front(fault),
     }
 }

@@ -4,7 +4,7 @@ use Rattle.std.specs.Prelude.{◌⊎◌, ◌↔◌, List, [], ◌∷◌, ◌++�
 use Rattle.std.proofs.lemmas.Int.{ints, by_lt_z}
 use Rattle.asn_base.specs.Types.{Range}
 use Rattle.asn_base.specs.Typed.{IsInSome}
-use Rattle.later_versions.specs.proving.Edges.{HasNoBeginning, IsBehind, IsEdge, IsEdgeOfSome}
+use Rattle.later_versions.specs.proving.Edges.{HasNoBeginning, IsAfter, IsEdge, IsEdgeOfSome}
 
 -- e is the last of some numbers up to z of which P holds, or z is below all
 abbrev LastOrNone : (ℤ → Type 0) → ℤ → Type 0
@@ -67,7 +67,7 @@ carried P Q z f g (inl h) = inl (h.0, f h.0 h.1, h.2, λ e q l. h.3 e (g e q) l)
 carried P Q z f g (inr h) = inr (λ e q. h e (g e q))
 
 abbrev IsEnd : Option ℤ → ℤ → Type 0
-IsEnd o z = (g : ℤ) × (o ≡ Some g) × IsBehind g z
+IsEnd o z = (g : ℤ) × (o ≡ Some g) × IsAfter g z
 
 with_least : (P : ℤ → Type 0) (o : Option ℤ) (z : ℤ) → LastOrNone P z → LastOrNone (λ e. (o ≡ Some e) ⊎ P e) z
 with_least P None z h =
@@ -251,7 +251,7 @@ agree_not rs ss e es left q f w p = f (λ z h. w.0 p z (subst (λ x. IsEdgeOfSom
 -- the edges of a range are its beginning and the number after its end
 pub at_edges : (P : ℤ → Type 0) (r : Range)
     → ((z : ℤ) → r.least ≡ Some z → P z)
-    → ((g : ℤ) → r.greatest ≡ Some g → (z : ℤ) → IsBehind g z → P z)
+    → ((g : ℤ) → r.greatest ≡ Some g → (z : ℤ) → IsAfter g z → P z)
     → (z : ℤ)
     → IsEdge r z
     → P z
@@ -283,9 +283,9 @@ same_below rs ss xs ys e f h =
 
 pub end_only : {B : Type 0} (P : ℤ → Type 0) (o : Option ℤ) (k : ℤ)
     → o ≡ Some k
-    → B ↔ ((z : ℤ) → IsBehind k z → P z)
-    → B ↔ ((g : ℤ) → o ≡ Some g → (z : ℤ) → IsBehind g z → P z)
+    → B ↔ ((z : ℤ) → IsAfter k z → P z)
+    → B ↔ ((g : ℤ) → o ≡ Some g → (z : ℤ) → IsAfter g z → P z)
 end_only P o k e h = (
-  λ b g f z i. h.0 b z (let s : g ≡ k = (let q = sym f ∙ e in cc) in subst (λ x. IsBehind x z) s i),
+  λ b g f z i. h.0 b z (let s : g ≡ k = (let q = sym f ∙ e in cc) in subst (λ x. IsAfter x z) s i),
   λ a. h.1 (a k e),
 )

@@ -1,21 +1,20 @@
 -- What differs contradicts what holds for a later version.
-use Rattle.std.proofs.Common.{arith, ◌≡◌, ℕ, ◌+◌, ◌<◌, ◌≤◌, ◌⊎◌, inl, inr, List, length, map, refl, sym, ap, subst, ◌∙◌, Bool, true, false, Some, None}
-use Rattle.std.specs.Prelude.{slice_get, ◌↔◌, IsTrue, MatchOption, Option}
-use Rattle.std.proofs.lemmas.Option.{same_Some, slice_get_within}
+use Rattle.std.proofs.Common.{arith, ◌≡◌, ℕ, inl, inr, List, length, refl, sym, ap, subst, ◌∙◌, Bool, false, Some, None}
+use Rattle.std.specs.Prelude.{◌↔◌, IsTrue, MatchOption, Option}
 use Rattle.asn_base.specs.Abstract.{AbstractValue}
-use Rattle.asn_base.specs.Types.{Alternative, Component, Constraint, Item, Kind, NamedBit, Presence, Resolved, a_boolean, an_integer, an_enumerated, a_bit_string, a_named_bit_string, an_octet_string, a_null, an_object_identifier, a_relative_oid, a_utf8_string, a_restricted_string, a_sequence, a_set, a_sequence_of, a_set_of, a_choice, default, addition}
-use Rattle.asn_base.specs.Schemas.{IsNumber, IsSize, is_addition}
+use Rattle.asn_base.specs.Types.{Component, Constraint, Kind, Presence, Resolved, an_integer, an_enumerated, a_bit_string, a_named_bit_string, an_octet_string, a_utf8_string, a_restricted_string, a_sequence, a_set, a_sequence_of, a_set_of, a_choice, default, addition}
+use Rattle.asn_base.specs.Schemas.{IsNumber, IsSize}
 use Rattle.asn_base.specs.Same.{Same}
-use Rattle.later_versions.specs.Kept.{kept, left_out}
+use Rattle.later_versions.specs.Projected.{projected, left_out}
 use Rattle.later_versions.specs.declared.reason.Reason.TheVariants.{Default, Presence as Presence'}
 use Rattle.later_versions.specs.Later.{AreLater, IsFront, IsLaterKind, IsLaterType, IsMarkedAlike, IsSameComponent, Later, LeaveSame, NameSame, both_mandatory, both_optional, both_default, both_additions, later_boolean, later_integer, later_enumerated, later_bit_string, later_named_bits, later_octet_string, later_null, later_object_identifier, later_relative_oid, later_utf8_string, later_restricted_string, later_sequence, later_set, later_sequence_of, later_set_of, later_choice}
-use Rattle.later_versions.specs.Differences.{AllowSame, AreSameTo, AreSameBefore, ComponentDiffers, ComponentsDiffer, ConstraintDiffers, IsComparison, IsDifference, is_later, IsOneKind, IsOnePresence, KindDiffers, ListsDiffer, PresenceDiffers, TypeDiffers}
+use Rattle.later_versions.specs.Differences.{ComponentDiffers, ComponentsDiffer, ConstraintDiffers, IsComparison, IsDifference, is_later, IsOneKind, IsOnePresence, KindDiffers, ListsDiffer, PresenceDiffers, TypeDiffers}
 use Rattle.later_versions.specs.Differences.{other_allowed, other_bounds, other_marker, other_root, other_addition, other_presence, other_default, other_name, other_mark, is_removed, is_other, is_no_addition, other_brackets, other_tags, with_tags}
 use Rattle.later_versions.specs.Differences.{two_booleans, two_integers, two_enumerated, two_bit_strings, two_named_bits, two_octet_strings, two_nulls, two_object_identifiers, two_relative_oids, two_utf8_strings, two_restricted_strings, two_sequences, two_sets, two_sequences_of, two_sets_of, two_choices, two_mandatory, two_optional, two_defaults, two_additions}
 use Rattle.later_versions.specs.Differences.{other_kind, other_integer, other_enumerated, other_bit_string, other_bits, other_octet_string, other_utf8_string, other_alphabet, other_restricted_string, other_sequence_marker, other_sequence, other_set_marker, other_set, other_sequence_of, other_set_of, other_choice}
 use Rattle.later_versions.specs.declared.reason.Difference.{Difference}
 use Rattle.later_versions.specs.declared.reason.Reason.{Reason}
-use Rattle.later_versions.specs.Told.{comparison_of, says_later}
+use Rattle.later_versions.specs.DifferenceText.{comparison_of, says_later}
 use Rattle.later_versions.specs.declared.reason.Explained.{Explained}
 use Rattle.later_versions.specs.declared.reason.Explained.TheVariants as explained
 use Rattle.later_versions.specs.declared.reason.Comparison.{Comparison}
@@ -68,7 +67,7 @@ components_not : {s : List Resolved} {cs ds : List Component} {e : Reason}
     → AreLater s cs ds
     → ⊥
 components_not (is_removed b l m) h = absurd (let n = h.front.none_dropped in omega (arith, l, m, n))
-components_not (is_other i c d b e f p) h = component_not p (h.front.kept i c d e f)
+components_not (is_other i c d b e f p) h = component_not p (h.front.projected i c d e f)
 components_not (is_no_addition {i = i} d f l a e n) h = absurd (let q = h.appended i d l e in cc)
 components_not {s = s} {cs = cs} {ds = ds} (other_brackets {i = i} f a l n) h =
     groups_not s cs ds i (record { within = l; other = n }) h
@@ -180,7 +179,7 @@ component_judged s i c d (Some e) n h = other_mark n h
 pub default_differs : (s : List Resolved) (t i : ℕ) (p q : Presence) (d e : AbstractValue)
     → p ≡ default d
     → q ≡ default e
-    → ((left_out s t e ≡ 0) × Same s t d (kept s t e) → ⊥)
+    → ((left_out s t e ≡ 0) × Same s t d (projected s t e) → ⊥)
     → PresenceDiffers s t i p q (Default i)
 default_differs s t i p q d e f g n =
     subst (λ x. PresenceDiffers s t i x q (Default i)) (sym f)

@@ -4,7 +4,7 @@ use Rattle.std.specs.Prelude.{slice_get, Option}
 use Rattle.std.proofs.lemmas.List.{length-map}
 use Rattle.asn_base.specs.Types.{Component, Kind, Resolved, a_boolean, an_integer, an_enumerated, a_bit_string, a_named_bit_string, an_octet_string, a_null, an_object_identifier, a_relative_oid, a_utf8_string, a_restricted_string, a_sequence, a_set, a_sequence_of, a_set_of, a_choice}
 use Rattle.asn_base.specs.Schemas.{AreListed, IsSchema, IsSound, types_in}
-use Rattle.later_versions.specs.Kept.{members_of}
+use Rattle.later_versions.specs.Projected.{members_of}
 
 length_both : {A : Type 0} (xs ys : List A) → length (xs ++ ys) ≡ length xs + length ys
 length_both [] ys = omega arith

@@ -59,7 +59,7 @@ pub front_all : {A B : Type 0} (f : A → B) (R : B → B → Type 0) (xs ys : L
     → IsFront R (map f xs) (map f ys)
 front_all f R xs ys i l m so = record {
   none_dropped = (let a = length-map xs f in let b = length-map ys f in omega (arith, a, b, m));
-  kept = λ j u v a b. so j u v (let w = slice_get_within (map f xs) j u a in let n = length-map xs f in omega (arith, w, n, l)) a b;
+  projected = λ j u v a b. so j u v (let w = slice_get_within (map f xs) j u a in let n = length-map xs f in omega (arith, w, n, l)) a b;
 }
 
 -- the lists are the same up to a place where one of them ends
@@ -106,7 +106,7 @@ pub front_whole : {A : Type 0} {R : A → A → Type 0} {xs ys : List A} {i : �
     → IsFront R xs ys
 front_whole {xs = xs} h l = record {
   none_dropped = (let b = h.in_second in omega (arith, b, l));
-  kept = λ j x y a b. h.before j x y (let w = slice_get_within xs j x a in omega (arith, w, l)) a b;
+  projected = λ j x y a b. h.before j x y (let w = slice_get_within xs j x a in omega (arith, w, l)) a b;
 }
 
 -- and those that are not
@@ -119,14 +119,14 @@ front_other {xs = xs} {ys = ys} {i = i} h l f =
     let m : i < length ys = (let d = f.none_dropped in omega (arith, d, l)) in
     let a = slice_get_some xs i l in
     let b = slice_get_some ys i m in
-    h.other a.0 b.0 a.1 b.1 (f.kept i a.0 b.0 a.1 b.1)
+    h.other a.0 b.0 a.1 b.1 (f.projected i a.0 b.0 a.1 b.1)
 
 front_tail : {A : Type 0} {R : A → A → Type 0} {x y : A} {xs ys : List A}
     → IsFront R (x ∷ xs) (y ∷ ys)
     → IsFront R xs ys
 front_tail h = record {
   none_dropped = (let a = h.none_dropped in omega (arith, a));
-  kept = λ i. h.kept (suc i);
+  projected = λ i. h.projected (suc i);
 }
 
 -- if both have as many elements, what is compared is the same
@@ -138,7 +138,7 @@ same_mapped f [] [] l h = refl
 same_mapped f [] (y ∷ ys) l h = absurd (omega (arith, l))
 same_mapped f (x ∷ xs) [] l h = absurd (omega (arith, l))
 same_mapped f (x ∷ xs) (y ∷ ys) l h =
-    ap (λ q. q ∷ map f xs) (h.kept 0 x y refl refl)
+    ap (λ q. q ∷ map f xs) (h.projected 0 x y refl refl)
     ∙ ap (λ q. f y ∷ q) (same_mapped f xs ys (omega (arith, l)) (front_tail h))
 
 pub same_lists : {A : Type 0} (xs ys : List A) → length xs ≡ length ys → IsFront (λ x y. x ≡ y) xs ys → xs ≡ ys
@@ -146,7 +146,7 @@ same_lists [] [] l h = refl
 same_lists [] (y ∷ ys) l h = absurd (omega (arith, l))
 same_lists (x ∷ xs) [] l h = absurd (omega (arith, l))
 same_lists (x ∷ xs) (y ∷ ys) l h =
-    ap (λ q. q ∷ xs) (h.kept 0 x y refl refl)
+    ap (λ q. q ∷ xs) (h.projected 0 x y refl refl)
     ∙ ap (λ q. y ∷ q) (same_lists xs ys (omega (arith, l)) (front_tail h))
 
 -- and back
@@ -158,7 +158,7 @@ mapped_same f xs ys e =
       many,
       record {
         none_dropped = omega (arith, many);
-        kept = λ i x y a b. same_Some (f x) (f y)
+        projected = λ i x y a b. same_Some (f x) (f y)
             (sym (slice_get-map f xs i ∙ ap (option_map f) a) ∙ ap (λ q. slice_get q i) e ∙ slice_get-map f ys i ∙ ap (option_map f) b);
       },
     )
@@ -168,7 +168,7 @@ lists_same xs ys e = (
   ap length e,
   record {
     none_dropped = (let l = ap length e in omega (arith, l));
-    kept = λ i x y a b. same_Some x y (sym a ∙ ap (λ q. slice_get q i) e ∙ b);
+    projected = λ i x y a b. same_Some x y (sym a ∙ ap (λ q. slice_get q i) e ∙ b);
   },
 )
 

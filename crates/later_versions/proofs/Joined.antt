@@ -152,7 +152,7 @@ groups_whole cs ds u h i j l m o =
     let p : suc (n - 1) ≡ n = omega (arith, l) in
     let b = between o.group ds i n (j - n) u (left_of o) (subst (IsAt o.group ds) (sym e) (right_of o)) (omega (arith, l)) in
     let a = before_last o.group ds i (n - 1) u (left_of o) (subst (IsAt o.group ds) (sym p) b) (omega (arith, l)) in
-    h.behind (record { before = n - 1; next = omega (arith, l); one = one_of ds (n - 1) n o.group a b })
+    h.after (record { before = n - 1; next = omega (arith, l); one = one_of ds (n - 1) n o.group a b })
 
 -- ---- components of a schema
 
@@ -202,7 +202,7 @@ pub same_all : (cs ds : List Component) (n : ℕ) → length cs ≤ n → (AreJo
 same_all cs ds n l b so = record {
   grouped = λ i h. so.grouped i (omega (arith, h, l));
   joined = λ i h. so.joined i (omega (arith, h, l));
-  behind = b;
+  after = b;
 }
 
 -- groups that differ

@@ -2,7 +2,7 @@
 use Rattle.std.proofs.Common.{◌≡◌, ℕ, List, map, refl, sym, subst, Bool, false, Some, None}
 use Rattle.std.specs.Prelude.{◌↔◌, IsTrue, MatchOption, Option}
 use Rattle.asn_base.specs.declared.strings.StringKind.{StringKind}
-use Rattle.asn_base.specs.Types.{Alternative, Component, Constraint, Item, Kind, NamedBit, Resolved, a_boolean, an_integer, an_enumerated, a_bit_string, a_named_bit_string, an_octet_string, a_null, an_object_identifier, a_relative_oid, a_utf8_string, a_restricted_string, a_sequence, a_set, a_sequence_of, a_set_of, a_choice}
+use Rattle.asn_base.specs.Types.{Alternative, Component, Constraint, Item, Kind, Resolved, an_integer, an_enumerated, a_bit_string, an_octet_string, a_utf8_string, a_restricted_string, a_sequence, a_set, a_sequence_of, a_set_of, a_choice}
 use Rattle.asn_base.specs.Schemas.{IsNumber, IsSize}
 use Rattle.later_versions.specs.Later.{AreLater, IsFront, IsLaterKind, LeaveSame, later_integer, later_enumerated, later_bit_string, later_octet_string, later_utf8_string, later_restricted_string, later_sequence, later_set, later_sequence_of, later_set_of, later_choice}
 use Rattle.later_versions.specs.Differences.{ComponentsDiffer, ConstraintDiffers, IsOneKind, KindDiffers, ListsDiffer, two_restricted_strings, other_alphabet, other_kind, other_integer, other_enumerated, other_bit_string, other_octet_string, other_utf8_string, other_restricted_string, other_sequence, other_set, other_sequence_of, other_set_of, other_choice}

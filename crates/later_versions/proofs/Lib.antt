@@ -12,3 +12,4 @@ mod Kindred
 mod Differing
 mod Few
 mod Paths
+mod RowsOfDifferences

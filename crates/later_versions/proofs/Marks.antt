@@ -11,7 +11,7 @@ use Rattle.asn_base.specs.Types.{Component, Constraint, Kind, NamedBit, Presence
 use Rattle.asn_base.specs.Typed.{IsAllowed, IsInRange, IsInSome, IsOfGroup}
 use Rattle.asn_base.specs.Same.{Same}
 use Rattle.asn_base.specs.Schemas.{AreListed, AreNamedBits, GroupsTogether, HasTag, IsNumber, IsSize, IsSound, is_addition}
-use Rattle.later_versions.specs.Kept.{kept, left_out}
+use Rattle.later_versions.specs.Projected.{projected, left_out}
 use Rattle.later_versions.specs.Differences.{AllowSame}
 use Rattle.later_versions.specs.Later.{AreInOneGroup, AreLater, IsFront, IsMarkedAlike, IsSameComponent, both_mandatory, both_optional, both_default, both_additions}
 use Rattle.later_versions.specs.proving.Groups.{AreJoined, AreOfOne, HaveSameGroups}
@@ -36,13 +36,13 @@ alike_optional s t p q e f =
 
 defaults_of : {s : List Resolved} {t : ℕ} {d e : AbstractValue}
     → IsMarkedAlike s t (default d) (default e)
-    → (left_out s t e ≡ 0) × Same s t d (kept s t e)
+    → (left_out s t e ≡ 0) × Same s t d (projected s t e)
 defaults_of (both_default a b) = (a, b)
 
 pub alike_default : {B : Type 0} (s : List Resolved) (t : ℕ) (p q : Presence) (d e : AbstractValue)
     → p ≡ default d
     → q ≡ default e
-    → B ↔ ((left_out s t e ≡ 0) × Same s t d (kept s t e))
+    → B ↔ ((left_out s t e ≡ 0) × Same s t d (projected s t e))
     → B ↔ IsMarkedAlike s t p q
 alike_default {B} s t p q d e f g h =
     subst (λ x. B ↔ IsMarkedAlike s t x q) (sym f) (subst (λ x. B ↔ IsMarkedAlike s t (default d) x) (sym g) (

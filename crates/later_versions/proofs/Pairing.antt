@@ -1,7 +1,8 @@
 -- Pairs of types, one after the other.
 use Rattle.std.proofs.Common.{arith, inl, inr, ◌≡◌, ℕ, zero, suc, ◌+◌, ◌<◌, ◌≤◌, List, [], ◌∷◌, ◌++◌, length, map, refl, sym, ap, subst, ◌∙◌, Bool, true, false, cond, append_assoc}
-use Rattle.std.specs.Prelude.{slice_get, ◌⊎◌, ◌↔◌, Some, None, MatchOption, Option, option_map}
-use Rattle.std.specs.List.{AllByRecursion, list_any}
+use Rattle.std.specs.Prelude.{slice_get, ◌/◌, ◌%◌, ◌⊎◌, ◌↔◌, Some, None, MatchOption, Option, option_map}
+use Rattle.std.specs.BTreeMap.{BTreeMap, get, is_at}
+use Rattle.std.specs.List.{AllByRecursion}
 use Rattle.std.specs.Ordering.{is_eq, nat_cmp, ordering_then, MatchOrdering}
 use Rattle.std.specs.declared.cmp.Ordering.{Ordering}
 use Rattle.std.specs.declared.cmp.Ordering.TheVariants.{Less, Equal, Greater}
@@ -11,12 +12,13 @@ use Rattle.std.proofs.lemmas.List.{length-map, map-append}
 use Rattle.std.proofs.lemmas.Option.{slice_get_within, slice_get-map, same_Some}
 use Rattle.asn_base.specs.Names.{IsMember, is_first, is_later}
 use Rattle.asn_base.specs.Types.{Resolved}
-use Rattle.later_versions.specs.Kept.{members_of}
+use Rattle.ranges.specs.proving.Masking.{IsBetween}
+use Rattle.later_versions.specs.Projected.{members_of}
 use Rattle.later_versions.specs.Later.{IsLaterKind, IsLaterType, Later, leads}
 use Rattle.later_versions.proofs.Fronts.{slice_get_some}
 use Rattle.later_versions.proofs.Placing.{at_place}
 use Rattle.later_versions.specs.Differences.{KindDiffers, with_tags}
-use Rattle.later_versions.specs.proving.Pairs.{AreKnown, AreMembersNoted, IsFine, IsIn, IsMemberPair, IsMemberPairAt, IsMetAt, IsNotedOnce, IsSoFar, HasMet, PairDiffers, met, met_pair, pair_cmp}
+use Rattle.later_versions.specs.proving.Pairs.{AreKnown, AreMembersNoted, IsFine, IsIn, IsMemberPair, IsMemberPairAt, IsMetAt, IsNotedOnce, IsSoFar, HasMet, PairDiffers, codes_in, entry_codes, key_of, met, met_pair, pair_cmp}
 use Rattle.later_versions.specs.declared.reason.Reason.{Reason}
 use Rattle.later_versions.specs.declared.pairs.Met.{Met}
 use Rattle.later_versions.specs.declared.pairs.Pairs.{Pairs}
@@ -107,10 +109,10 @@ reached_next s t s' t' ps new at p e f n m so =
     let within = slice_get_within ps at p e in
     let old : (i : ℕ) → i < at + 1 → slice_get new i ≡ slice_get ps i =
     λ i l. ap (λ q. slice_get q i) n.1 ∙ get_left ps n.0 i (omega (arith, l, within)) in
-    let kept : (q : ℕ × ℕ) → IsMember q ps → IsMember q new =
+    let projected : (q : ℕ × ℕ) → IsMember q ps → IsMember q new =
     λ q h. subst (IsMember q) (sym n.1) (member_left n.0 h) in
     record {
-      start = kept (t, t') so.start;
+      start = projected (t, t') so.start;
       reached = λ q h. elim (member_of_two ps n.0 (subst (IsMember q) n.1 h)) [
         | inl a ↦ so.reached q a
         | inr b ↦ (
@@ -124,7 +126,7 @@ reached_next s t s' t' ps new at p e f n m so =
         | inr b ↦ subst (IsFine s s') (same_here i l b q (sym (old i l) ∙ g)) f
       ];
       members = λ i q r l g h. elim (cases_lt i at) [
-        | inl b ↦ kept r (so.members i q r b (sym (old i l) ∙ g) h)
+        | inl b ↦ projected r (so.members i q r b (sym (old i l) ∙ g) h)
         | inr b ↦ m r (subst (λ z. IsMemberPair s s' z r) (sym (same_here i l b q (sym (old i l) ∙ g))) h)
       ];
     }
@@ -186,18 +188,42 @@ key_exact x y e =
     let b : x.1 ≡ y.1 = equal_by (x.1 < y.1) (x.1 ≡ y.1) (y.1 < x.1) (nat_cmp x.1 y.1) (then_right (nat_cmp x.0 y.0) (nat_cmp x.1 y.1) e) (ranked x.1 y.1 (nat_cmp x.1 y.1) refl) in
     ap (λ z. (z, x.1)) a ∙ ap (λ z. (y.0, z)) b
 
-split_cond : (k x : ℕ × ℕ) (a b : Bool) → is_eq (pair_cmp k x) ≡ b → cond b true a ≡ true → (a ≡ true) ⊎ (k ≡ x)
-split_cond k x a true e f = inr (key_exact k x e)
-split_cond k x a false e f = inl f
+split_entry : (k q : ℕ × ℕ) (cs : List ℕ) (o : Option (List ℕ)) (c : ℕ) (t : Bool)
+    → is_eq (pair_cmp k q) ≡ t
+    → IsMember c (entry_codes (cond t (Some cs) o))
+    → ((k ≡ q) × IsMember c cs) ⊎ IsMember c (entry_codes o)
+split_entry k q cs o c true e h = inl (key_exact k q e, h)
+split_entry k q cs o c false e h = inr h
 
--- the new set has what the old one has, and pair k
-put_pair : (old new : List (ℕ × ℕ)) (k : ℕ × ℕ)
-    → ((q : ℕ × ℕ) → list_any (λ y. is_eq (pair_cmp q y)) new
-    ≡ cond (is_eq (pair_cmp k q)) true (list_any (λ y. is_eq (pair_cmp q y)) old))
-    → (x : ℕ × ℕ)
-    → IsIn new x
-    → IsIn old x ⊎ (k ≡ x)
-put_pair old new k f x h = split_cond k x (list_any (λ y. is_eq (pair_cmp x y)) old) (is_eq (pair_cmp k x)) refl (sym (f x) ∙ h)
+same_number : (a b : ℕ) → a / 128 ≡ b / 128 → a % 128 ≡ b % 128 → a ≡ b
+same_number a b e f = omega (arith, e, f)
+
+same_pair : (p q : ℕ × ℕ) → key_of p ≡ key_of q → p.1 % 128 ≡ q.1 % 128 → p ≡ q
+same_pair p q e f =
+    let a : p.0 ≡ q.0 = ap (λ (x : ℕ × ℕ). x.0) e in
+    let b : p.1 ≡ q.1 = same_number p.1 q.1 (ap (λ (x : ℕ × ℕ). x.1) e) f in
+    ap (λ z. (z, p.1)) a ∙ ap (λ z. (q.0, z)) b
+
+only_between : (a c : ℕ) → IsBetween a a c → a ≡ c
+only_between a c b = let l = b.0 in let g = b.1 in omega (arith, l, g)
+
+-- the new set has what the old one has, and pair p, whose entry has these numbers now
+pub put_pair : (m n : BTreeMap (ℕ × ℕ) (List ℕ)) (p : ℕ × ℕ) (cs : List ℕ)
+    → ((k : ℕ × ℕ) → get pair_cmp n k ≡ cond (is_at (pair_cmp (key_of p)) k) (Some cs) (get pair_cmp m k))
+    → ((c : ℕ) → IsMember c cs
+    ↔ (IsMember c (codes_in m (key_of p)) ⊎ (IsBetween (p.1 % 128) (p.1 % 128) c × (c < 128))))
+    → (q : ℕ × ℕ)
+    → IsIn n q
+    → IsIn m q ⊎ (p ≡ q)
+put_pair m n p cs f g q h =
+    let there = subst (λ o. IsMember (q.1 % 128) (entry_codes o)) (f (key_of q)) h in
+    elim (split_entry (key_of p) (key_of q) cs (get pair_cmp m (key_of q)) (q.1 % 128) (is_eq (pair_cmp (key_of p) (key_of q))) refl there) [
+      | inl a ↦ elim ((g (q.1 % 128)).0 a.1) [
+        | inl b ↦ inl (subst (λ z. IsMember (q.1 % 128) (codes_in m z)) a.0 b)
+        | inr b ↦ inr (same_pair p q a.0 (only_between (p.1 % 128) (q.1 % 128) b.0))
+      ]
+      | inr b ↦ inl b
+    ]
 
 -- ---- what is noted
 
@@ -375,16 +401,15 @@ members_noted s s' at p old new h q m = subst (IsMember q) (sym (met_more old ne
     member_right [] h = h
     member_right (y ∷ xs) h = is_later (member_right xs h)
 
-pub put_known : (old new : List (ℕ × ℕ)) (ps qs : List (ℕ × ℕ)) (k : ℕ × ℕ)
-    → ((q : ℕ × ℕ) → list_any (λ y. is_eq (pair_cmp q y)) new
-    ≡ cond (is_eq (pair_cmp k q)) true (list_any (λ y. is_eq (pair_cmp q y)) old))
-    → ((p : ℕ × ℕ) → IsIn old p → IsMember p ps)
+pub put_known : (m n : BTreeMap (ℕ × ℕ) (List ℕ)) (ps qs : List (ℕ × ℕ)) (k : ℕ × ℕ)
+    → ((q : ℕ × ℕ) → IsIn n q → IsIn m q ⊎ (k ≡ q))
+    → ((p : ℕ × ℕ) → IsIn m p → IsMember p ps)
     → qs ≡ ps ++ k ∷ []
     → (p : ℕ × ℕ)
-    → IsIn new p
+    → IsIn n p
     → IsMember p qs
-put_known old new ps qs k f known e p h =
-    subst (IsMember p) (sym e) (elim (put_pair old new k f p h) [
+put_known m n ps qs k f known e p h =
+    subst (IsMember p) (sym e) (elim (f p h) [
       | inl a ↦ member_left (k ∷ []) (known p a)
       | inr b ↦ subst (λ x. IsMember x (ps ++ k ∷ [])) b (member_last k ps)
     ])

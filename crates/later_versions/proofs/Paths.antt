@@ -2,8 +2,8 @@
 use Rattle.std.proofs.Common.{◌≡◌, ℕ, List, [], ◌∷◌, ap, cond, length, refl, true}
 use Rattle.std.specs.Prelude.{nat_lt}
 use Rattle.asn_base.specs.Types.{Resolved}
-use Rattle.later_versions.specs.Kept.{member_of}
-use Rattle.later_versions.specs.Told.{name_at, with_members, with_name}
+use Rattle.later_versions.specs.Projected.{member_of}
+use Rattle.later_versions.specs.DifferenceText.{name_at, with_members, with_name}
 
 -- a long path isn't followed by others
 pub long_path : (s : List Resolved) (t : ℕ) (p : List ℕ) (places : List ℕ) → nat_lt 60 (length p) ≡ true → with_members s t p places ≡ p

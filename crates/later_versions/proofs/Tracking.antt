@@ -6,7 +6,7 @@ use Rattle.std.proofs.lemmas.Bool.{cases_lt}
 use Rattle.std.proofs.lemmas.List.{length-map}
 use Rattle.std.proofs.lemmas.Option.{slice_get_within, slice_get-map, same_Some}
 use Rattle.asn_base.specs.Types.{Resolved}
-use Rattle.later_versions.specs.Kept.{members_of}
+use Rattle.later_versions.specs.Projected.{members_of}
 use Rattle.later_versions.specs.Differences.{AreLaterBefore, IsBefore, IsDifference}
 use Rattle.later_versions.specs.Later.{leads}
 use Rattle.later_versions.specs.proving.Pairs.{AreBack, AreLed, AreMembersNoted, ArePaths, IsMemberPairAt, IsMetAt, IsSoFar, PairDiffers, met, met_pair}

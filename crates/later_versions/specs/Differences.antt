@@ -12,7 +12,7 @@ use Rattle.asn_base.specs.Types.{Resolved}
 use Rattle.asn_base.specs.Typed.{IsAllowed}
 use Rattle.asn_base.specs.Same.{Same}
 use Rattle.asn_base.specs.Schemas.{IsNumber, IsSize, is_addition}
-use Rattle.later_versions.specs.Kept.{kept, left_out}
+use Rattle.later_versions.specs.Projected.{projected, left_out}
 use Rattle.later_versions.specs.Later.{AreInOneGroup, IsFront, IsLaterType, IsSameComponent, Later, NameSame, leads}
 use Rattle.later_versions.specs.declared.reason.Reason.{Reason}
 use Rattle.later_versions.specs.declared.reason.Reason.TheVariants as reasons
@@ -94,7 +94,7 @@ pub data IsOnePresence : Presence → Presence → Type 0 where
 pub data PresenceDiffers (s : List Resolved) (t i : ℕ) : Presence → Presence → Reason → Type 0 where
   other_presence : {p q : Presence} → (IsOnePresence p q → ⊥) → PresenceDiffers s t i p q (reasons.Presence i)
   other_default : {d e : AbstractValue}
-      → ((left_out s t e ≡ 0) × Same s t d (kept s t e) → ⊥)
+      → ((left_out s t e ≡ 0) × Same s t d (projected s t e) → ⊥)
       → PresenceDiffers s t i (default d) (default e) (reasons.Default i)
 
 -- what differs in the components at place i, first their names

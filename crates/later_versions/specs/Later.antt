@@ -13,7 +13,7 @@ use Rattle.asn_base.specs.Types.{optional, default, addition, Component, Resolve
 use Rattle.asn_base.specs.Typed.{IsAllowed, IsOfGroup}
 use Rattle.asn_base.specs.Schemas.{IsNumber, IsSize, is_addition}
 use Rattle.asn_base.specs.Same.{Same}
-use Rattle.later_versions.specs.Kept.{members_of, kept, left_out}
+use Rattle.later_versions.specs.Projected.{members_of, projected, left_out}
 
 -- two constraints allow the same of the numbers or sizes for which P holds, and give the packed encoding the same
 -- bounds
@@ -24,7 +24,7 @@ pub record LeaveSame (P : ℤ → Type 0) (c d : Constraint) : Type 0 where
 -- the second list begins with the elements of the first, one for one related by R; more may follow
 pub record IsFront {A : Type 0} (R : A → A → Type 0) (xs ys : List A) : Type 0 where
   pub none_dropped : length xs ≤ length ys
-  pub kept : (i : ℕ) (x y : A) → slice_get xs i ≡ Some x → slice_get ys i ≡ Some y → R x y
+  pub projected : (i : ℕ) (x y : A) → slice_get xs i ≡ Some x → slice_get ys i ≡ Some y → R x y
 
 -- the same bits have the same names, in any order
 abbrev pub NameSame : List NamedBit → List NamedBit → Type 0
@@ -39,7 +39,7 @@ pub data IsMarkedAlike (s : List Resolved) (t : ℕ) : Presence → Presence →
   both_optional : IsMarkedAlike s t optional optional
   both_default : {d e : AbstractValue}
       → left_out s t e ≡ 0
-      → Same s t d (kept s t e)
+      → Same s t d (projected s t e)
       → IsMarkedAlike s t (default d) (default e)
   both_additions : {o : Bool} {g h : Option ℕ} → IsMarkedAlike s t (addition o g) (addition o h)
 

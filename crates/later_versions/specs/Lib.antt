@@ -1,8 +1,8 @@
--- The definitions that a user must believe. They say what an older version keeps of a value (`Kept`), when a type is a
+-- The definitions that a user must believe. They say what an older version keeps of a value (`Projected`), when a type is a
 -- later version of another one (`Later`), and where and why it is none (`Differences`), and the text that says so
--- (`Told`). The definitions in `proving` serve contracts inside the crate, and proofs.
-pub mod Kept
+-- (`DifferenceText`). The definitions in `proving` serve contracts inside the crate, and proofs.
+pub mod Projected
 pub mod Later
 pub mod Differences
-pub mod Told
+pub mod DifferenceText
 pub mod proving

@@ -9,11 +9,11 @@ ghost use Rattle.asn_base.specs.Seen.{component_of, presence_of};
 ghost use Rattle.asn_base.specs.Typed.{group_of};
 ghost use Rattle.asn_base.specs.Types.{Component as Component'};
 ghost use Rattle.later_versions.specs.Differences.{AreAdditions, ComponentDiffers, ComponentsDiffer, PresenceDiffers};
-ghost use Rattle.later_versions.specs.Kept.{kept, left_out};
+ghost use Rattle.later_versions.specs.Projected.{projected, left_out};
 ghost use Rattle.later_versions.specs.Later.{AreInOneGroup, AreLater, IsFront, IsMarkedAlike, IsSameComponent};
 ghost use Rattle.later_versions.specs.proving.Groups.{AreOfOne, AreJoined, HaveOtherGroups, HaveSameGroups};
 
-use crate::keeping::keep;
+use crate::projection::project;
 use crate::reason::Reason;
 use asn_base::same::same;
 use asn_base::schema::{Component, Presence, Schema, TypeId};
@@ -30,9 +30,9 @@ fn has_same_default(
 ) -> Result<bool, AllocError>
     ensures { IfOk result (λ b. IsTrue b
         ↔ ((left_out schema.now id.index (abstract later.now) ≡ 0)
-        × Same schema.now id.index (abstract value.now) (kept schema.now id.index (abstract later.now)))) }
+        × Same schema.now id.index (abstract value.now) (projected schema.now id.index (abstract later.now)))) }
 {
-    match keep(alloc, schema, id, later) {
+    match project(alloc, schema, id, later) {
         Ok(Some(known)) => Ok(same(value, &known, schema, id)),
         Ok(None) => Ok(false),
         Err(fault) => Err(fault),

@@ -4,15 +4,15 @@
 mod bits;
 mod components;
 mod constraints;
-mod keeping;
 mod kinds;
 mod lists;
 mod members;
 mod pairs;
+mod projection;
 mod reason;
 mod sets;
 mod tags;
-mod told;
+mod text_of;
 mod versions;
 
 pub use reason::{Comparison, Difference, Explained, Reason};

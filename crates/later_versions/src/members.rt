@@ -3,7 +3,7 @@
 ghost use Rattle.std.specs.Prelude.{◌≡◌, ◌++◌, ◌∷◌, [], map, option_map, slice_get};
 ghost use Rattle.asn_base.specs.Seen.{alternative_of, component_of, kind_of};
 ghost use Rattle.asn_base.specs.Schemas.{types_in};
-ghost use Rattle.later_versions.specs.Kept.{member_of, members_of};
+ghost use Rattle.later_versions.specs.Projected.{member_of, members_of};
 
 use asn_base::schema::{Alternatives, Component, Core, Schema, TypeId};
 

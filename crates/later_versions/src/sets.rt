@@ -3,10 +3,10 @@
 ghost use Rattle.std.specs.Prelude.{◌≡◌, ◌↔◌, ◌^◌, ℤ, pos, None, Some, IsTrue, map};
 ghost use Rattle.asn_base.specs.Seen.{range_of};
 ghost use Rattle.asn_base.specs.Typed.{IsInRange, IsInSome};
-ghost use Rattle.later_versions.specs.proving.Edges.{HasNoBeginning, IsBehind, IsEdge, IsEdgeOfSome};
+ghost use Rattle.later_versions.specs.proving.Edges.{HasNoBeginning, IsAfter, IsEdge, IsEdgeOfSome};
 
 use asn_base::constraint::Range;
-use asn_base::law::integer_within_limit;
+use asn_base::law::lemma_integer_within_limit;
 use ranges::Ranges;
 
 /// Whether the range has no upper end.
@@ -14,12 +14,12 @@ fn goes_up(range: &Range) -> bool
     ensures { IsTrue result ↔ IsInRange (pos (2 ^ 127)) (range_of range.now) }
 {
     match range.least {
-        Some(least) => integer_within_limit(least),
+        Some(least) => lemma_integer_within_limit(least),
         None => {}
     }
     match range.greatest {
         Some(greatest) => {
-            integer_within_limit(greatest);
+            lemma_integer_within_limit(greatest);
             false
         }
         None => true,
@@ -68,8 +68,8 @@ fn agree_at(number: i128, one: &Ranges, other: &Ranges) -> bool
 }
 
 /// Whether the number after this one is in both sets or in none.
-fn agree_behind(number: i128, one: &Ranges, other: &Ranges) -> bool
-    ensures { IsTrue result ↔ ((z : ℤ) → IsBehind number z → (IsInSome z one.now ↔ IsInSome z other.now)) }
+fn agree_after(number: i128, one: &Ranges, other: &Ranges) -> bool
+    ensures { IsTrue result ↔ ((z : ℤ) → IsAfter number z → (IsInSome z one.now ↔ IsInSome z other.now)) }
 {
     if number == i128::MAX {
         return reach_up(one.ranges()) == reach_up(other.ranges());
@@ -90,10 +90,10 @@ fn agree_at_least(least: Option<i128>, one: &Ranges, other: &Ranges) -> bool
 /// Whether the number after the upper end, if there is one, is in both sets or in none.
 fn agree_at_end(greatest: Option<i128>, one: &Ranges, other: &Ranges) -> bool
     ensures { IsTrue result ↔ ((g : ℤ) → greatest ≡ Some g → (z : ℤ) →
-        IsBehind g z → (IsInSome z one.now ↔ IsInSome z other.now)) }
+        IsAfter g z → (IsInSome z one.now ↔ IsInSome z other.now)) }
 {
     match greatest {
-        Some(number) => agree_behind(number, one, other),
+        Some(number) => agree_after(number, one, other),
         None => true,
     }
 }

@@ -4,7 +4,7 @@ ghost use Rattle.std.specs.Prelude.{◌≡◌, ◌↔◌, ◌<◌, ℕ, IsTrue, 
 ghost use Rattle.asn_base.specs.Types.{Resolved};
 ghost use Rattle.later_versions.specs.Differences.{AreLaterBefore, IsComparison, is_later};
 ghost use Rattle.later_versions.specs.Later.{Later};
-ghost use Rattle.later_versions.specs.Told.{IsTold, comparison_of, says_later};
+ghost use Rattle.later_versions.specs.DifferenceText.{HasText, comparison_of, says_later};
 ghost use Rattle.later_versions.specs.proving.Pairs.{AreBack, AreKnown, AreLed, AreMembersNoted, ArePaths, IsFine};
 ghost use Rattle.later_versions.specs.proving.Pairs.{PairDiffers, met_pair, pair_of};
 
@@ -13,10 +13,10 @@ use crate::members::member_at;
 use crate::pairs::{Met, Pair, Pairs, note, places_to};
 use crate::reason::{Comparison, Difference, Explained, Reason};
 use crate::tags::are_same_tags;
-use crate::told::explained;
+use crate::text_of::explained;
 use asn_base::schema::{Schema, TypeId};
 use std::alloc::{AllocError, Global};
-use std::collections::BTreeSet;
+use std::collections::BTreeMap;
 
 /// What differs in the types of a pair, or None if the second one can be a later version of the first, apart from the
 /// types of members.
@@ -56,7 +56,7 @@ fn note_members(
     ensures known { OnOk result (AreKnown pairs.new) }
     ensures noted { OnOk result (AreMembersNoted first.now second.now at (pair_of pair) pairs.old pairs.new) }
 {
-    first.accepted();
+    first.lemma_invariant();
     for place in 0..320 {
         match (
             member_at(first, pair.first, place),
@@ -121,7 +121,7 @@ fn compare_from(
 {
     let mut pairs = Pairs {
         list: Vec::new(alloc),
-        known: BTreeSet::new(alloc),
+        known: BTreeMap::new(alloc),
     };
     note(
         &mut pairs,
@@ -170,7 +170,7 @@ pub fn compare(
     ensures compared { IfOk result (IsComparison first.now ty.index second.now later_ty.index) }
 {
     let mut measured = first.copy(alloc)?;
-    measured.measure(alloc)?;
+    measured.cache_default_depths(alloc)?;
     let start = Pair {
         first: ty,
         second: later_ty,
@@ -215,7 +215,7 @@ pub fn explain(
     ensures compared { IfOk result (λ answer.
         IsComparison first.now ty.index second.now later_ty.index (comparison_of answer)) }
     // The text is that of the difference.
-    ensures told { IfOk result (IsTold first.now ty.index second.now) }
+    ensures text_of { IfOk result (HasText first.now ty.index second.now) }
 {
     let comparison = match compare(alloc, first, ty, second, later_ty) {
         Ok(comparison) => comparison,

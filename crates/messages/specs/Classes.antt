@@ -1,11 +1,11 @@
 -- The class of each fault: a number and a name.
 use Rattle.std.specs.Prelude.{◌≡◌, ℕ, List, codes}
-use Rattle.text.specs.declared.fault.LexFault.{LexFault}
-use Rattle.text.specs.declared.fault.LexFault.TheVariants as texts
-use Rattle.text.specs.declared.fault.Limit.TheVariants as text_limits
-use Rattle.kernel.specs.declared.fault.Limit.TheVariants as tree_limits
-use Rattle.notation.specs.declared.fault.SyntaxFault.{SyntaxFault}
-use Rattle.notation.specs.declared.fault.SyntaxFault.TheVariants as trees
+use Rattle.text.specs.declared.lex_fault.LexFault.{LexFault}
+use Rattle.text.specs.declared.lex_fault.LexFault.TheVariants as texts
+use Rattle.text.specs.declared.lex_fault.Limit.TheVariants as text_limits
+use Rattle.parser_combinators.specs.declared.read_error.Limit.TheVariants as tree_limits
+use Rattle.notation.specs.declared.syntax_fault.SyntaxFault.{SyntaxFault}
+use Rattle.notation.specs.declared.syntax_fault.SyntaxFault.TheVariants as trees
 use Rattle.names.specs.declared.fault.Limit.TheVariants as name_limits
 use Rattle.names.specs.declared.fault.NameFault.{NameFault}
 use Rattle.names.specs.declared.fault.NameFault.TheVariants as names
@@ -20,10 +20,10 @@ use Rattle.decode_faults.specs.declared.read_fault.ReadFault.{ReadFault}
 use Rattle.decode_faults.specs.declared.read_fault.ReadFault.TheVariants as readings
 use Rattle.decode_faults.specs.declared.refusal.Refusal.{Refusal}
 use Rattle.decode_faults.specs.declared.refusal.Refusal.TheVariants as packed
-use Rattle.front_end.specs.told_values.declared.telling.Reason.{Reason}
-use Rattle.front_end.specs.told_values.declared.telling.Reason.TheVariants as reasons
-use Rattle.front_end.specs.declared.fault.FrontFault.{FrontFault}
-use Rattle.front_end.specs.declared.fault.FrontFault.TheVariants as fronts
+use Rattle.front_end.specs.value_diagnostics.declared.value_diagnostic.Reason.{Reason}
+use Rattle.front_end.specs.value_diagnostics.declared.value_diagnostic.Reason.TheVariants as reasons
+use Rattle.front_end.specs.declared.fault.CompileError.{CompileError}
+use Rattle.front_end.specs.declared.fault.CompileError.TheVariants as fronts
 use Rattle.messages.specs.declared.fault.NotationFault.{NotationFault}
 use Rattle.messages.specs.declared.fault.NotationFault.TheVariants as notations
 use Rattle.messages.specs.declared.fault.Fault.{Fault}
@@ -99,8 +99,8 @@ abbrev pub reason_class_of : Reason → ℕ × List ℕ
 reason_class_of reasons.Depth = (2, codes "Limit(Depth)")
 reason_class_of reasons.Nodes = (2, codes "Limit(Nodes)")
 reason_class_of reasons.Oid = (2, codes "Limit(Oid)")
-reason_class_of reasons.LostName = (31, codes "UnknownName")
-reason_class_of reasons.LostItem = (62, codes "UnknownItem")
+reason_class_of reasons.NoSuchName = (31, codes "UnknownName")
+reason_class_of reasons.NoSuchItem = (62, codes "UnknownItem")
 reason_class_of reasons.Circular = (33, codes "Circular")
 reason_class_of reasons.NotOfType = (60, codes "NotOfType")
 reason_class_of reasons.UnknownBit = (62, codes "UnknownItem")
@@ -108,7 +108,7 @@ reason_class_of reasons.UnknownAlternative = (62, codes "UnknownItem")
 reason_class_of reasons.UnknownField = (62, codes "UnknownItem")
 reason_class_of reasons.Repeated = (64, codes "Repeated")
 reason_class_of reasons.Missing = (63, codes "Missing")
-reason_class_of reasons.Behind = (60, codes "NotOfType")
+reason_class_of reasons.OutOfOrder = (60, codes "NotOfType")
 reason_class_of reasons.Outside = (61, codes "OutsideConstraint")
 
 -- the text of a notation in place of the name of a value: its octets, its tokens or its value
@@ -150,7 +150,7 @@ bit_class_of packed.Padding = (94, codes "Padding")
 bit_class_of packed.TooDeep = (95, codes "TooDeep")
 bit_class_of packed.TooManyAdditions = (97, codes "TooManyAdditions")
 
-abbrev pub front_class_of : FrontFault → ℕ × List ℕ
+abbrev pub front_class_of : CompileError → ℕ × List ℕ
 front_class_of fronts.Memory = (1, codes "Memory")
 front_class_of (fronts.Text k f) = text_class_of f
 front_class_of (fronts.Tree k f) = tree_class_of f
@@ -177,8 +177,8 @@ class_of (faults.Value t) = reason_class_of t.reason
 class_of (faults.Notation f) = notation_class_of f
 class_of faults.TooLong = (71, codes "TooLong")
 class_of (faults.Device n) = (72, codes "Device")
-class_of (faults.Unread u) = read_class_of u.fault
-class_of (faults.UnreadBits u) = bit_class_of u.refusal
+class_of (faults.DecodeError u) = read_class_of u.fault
+class_of (faults.BitDecodeError u) = bit_class_of u.refusal
 class_of faults.MessageLimit = (2, codes "Limit(Message)")
 class_of (faults.NotAccount s) = (100, codes "NotAccount")
 

@@ -6,11 +6,11 @@ ghost use Rattle.messages.specs.Classes.{addition_class_of, notation_class_of, r
 
 use crate::fault::{Fault, NotationFault};
 use decode_faults::{ReadFault, Refusal};
-use front_end::FrontFault;
+use front_end::CompileError;
 use front_end::additions::ExtFault;
 use front_end::constraints::BoundFault;
 use front_end::tagging::TagFault;
-use front_end::told_values::Reason;
+use front_end::value_diagnostics::Reason;
 use names::{Limit, NameFault};
 use notation::SyntaxFault;
 use text::LexFault;
@@ -30,7 +30,7 @@ fn is(number: u8, name: &'static str) -> Class
 }
 
 /// The class of a fault.
-pub(crate) fn told_class(fault: &Fault) -> Class
+pub(crate) fn fault_class(fault: &Fault) -> Class
     ensures { IsClass result (class_of fault.now) }
 {
     match fault {
@@ -40,29 +40,31 @@ pub(crate) fn told_class(fault: &Fault) -> Class
         Fault::Help(_) => is(5, "Help"),
         Fault::Front(fault) | Fault::Newer(fault) => of_front(fault),
         Fault::NoType(_) | Fault::NoNewerType(_) | Fault::NoValue(_) => is(31, "UnknownName"),
-        Fault::Value(told) => of_reason(told.reason),
+        Fault::Value(value_error) => of_reason(value_error.reason),
         Fault::Notation(fault) => of_notation(fault),
         Fault::TooLong => is(71, "TooLong"),
         Fault::Device(_) => is(72, "Device"),
-        Fault::Unread(unread) => of_reading(unread.fault),
-        Fault::UnreadBits(unread) => of_bits(unread.refusal),
+        Fault::DecodeError(unread) => of_reading(unread.fault),
+        Fault::BitDecodeError(unread) => of_bits(unread.refusal),
         Fault::MessageLimit => is(2, "Limit(Message)"),
         Fault::NotAccount(_) => is(100, "NotAccount"),
     }
 }
 
-fn of_front(fault: &FrontFault) -> Class
+fn of_front(fault: &CompileError) -> Class
     ensures { IsClass result (front_class_of fault.now) }
 {
     match fault {
-        FrontFault::Memory => is(1, "Memory"),
-        FrontFault::Text(_, fault) => of_text(fault),
-        FrontFault::Tree(_, fault) => of_tree(fault),
-        FrontFault::Name(fault) => of_name(fault),
-        FrontFault::Tag(fault) => of_tag(fault),
-        FrontFault::Bound(fault) => of_bound(fault),
-        FrontFault::Additions(fault) => of_addition(fault),
-        FrontFault::Default(told) | FrontFault::Assigned(told) => of_reason(told.reason),
+        CompileError::Memory => is(1, "Memory"),
+        CompileError::Text(_, fault) => of_text(fault),
+        CompileError::Tree(_, fault) => of_tree(fault),
+        CompileError::Name(fault) => of_name(fault),
+        CompileError::Tag(fault) => of_tag(fault),
+        CompileError::Bound(fault) => of_bound(fault),
+        CompileError::Additions(fault) => of_addition(fault),
+        CompileError::Default(value_error) | CompileError::Assigned(value_error) => of_reason(
+            value_error.reason,
+        ),
     }
 }
 
@@ -87,9 +89,9 @@ fn of_tree(fault: &SyntaxFault) -> Class
 {
     match fault {
         SyntaxFault::Memory => is(1, "Memory"),
-        SyntaxFault::Limit(kernel::Limit::Nesting, _) => is(2, "Limit(Nesting)"),
-        SyntaxFault::Limit(kernel::Limit::Integer, _) => is(2, "Limit(Integer)"),
-        SyntaxFault::Limit(kernel::Limit::TagNumber, _) => is(2, "Limit(TagNumber)"),
+        SyntaxFault::Limit(parser_combinators::Limit::Nesting, _) => is(2, "Limit(Nesting)"),
+        SyntaxFault::Limit(parser_combinators::Limit::Integer, _) => is(2, "Limit(Integer)"),
+        SyntaxFault::Limit(parser_combinators::Limit::TagNumber, _) => is(2, "Limit(TagNumber)"),
         SyntaxFault::Unexpected(_) => is(20, "Unexpected"),
         SyntaxFault::OutOfProfile(_) => is(21, "OutOfProfile"),
     }
@@ -161,11 +163,11 @@ fn of_reason(reason: Reason) -> Class
         Reason::Depth => is(2, "Limit(Depth)"),
         Reason::Nodes => is(2, "Limit(Nodes)"),
         Reason::Oid => is(2, "Limit(Oid)"),
-        Reason::LostName => is(31, "UnknownName"),
+        Reason::NoSuchName => is(31, "UnknownName"),
         Reason::Circular => is(33, "Circular"),
-        Reason::NotOfType | Reason::Behind => is(60, "NotOfType"),
+        Reason::NotOfType | Reason::OutOfOrder => is(60, "NotOfType"),
         Reason::Outside => is(61, "OutsideConstraint"),
-        Reason::LostItem | Reason::UnknownBit => is(62, "UnknownItem"),
+        Reason::NoSuchItem | Reason::UnknownBit => is(62, "UnknownItem"),
         Reason::UnknownAlternative | Reason::UnknownField => is(62, "UnknownItem"),
         Reason::Missing => is(63, "Missing"),
         Reason::Repeated => is(64, "Repeated"),
@@ -178,7 +180,7 @@ fn of_notation(fault: &NotationFault) -> Class
     match fault {
         NotationFault::Octets(fault) => of_text(fault),
         NotationFault::Tokens(fault) => of_tree(fault),
-        NotationFault::Value(told) => of_reason(told.reason),
+        NotationFault::Value(value_error) => of_reason(value_error.reason),
     }
 }
 

@@ -5,11 +5,11 @@ ghost use Rattle.messages.specs.Classes.{class_of, number_of, name_of};
 ghost use Rattle.messages.specs.Status.{status_of};
 ghost use Rattle.messages.specs.declared.fault.Fault.TheVariants.{Memory};
 
-use crate::classes::told_class;
+use crate::classes::fault_class;
 use account_text::Stop;
 use decode_faults::{ReadFault, Refusal};
-use front_end::FrontFault;
-use front_end::told_values::ValueTold;
+use front_end::CompileError;
+use front_end::value_diagnostics::ValueDiagnostic;
 use notation::SyntaxFault;
 use std::alloc::{AllocError, AllocFailed};
 use text::LexFault;
@@ -26,20 +26,20 @@ pub struct Finding {
 /// being read there. The part is given from the outermost one in, as `a.b[2].c`; it is empty if it was the whole value.
 /// There is a finding if more can be said than the fault alone says.
 #[derive(Debug, Drop, Error)]
-#[error("{fault} at octet {octet}")]
-pub struct Unread {
+#[error("{fault} at octet {offset}")]
+pub struct DecodeError {
     pub fault: ReadFault,
-    pub octet: usize,
+    pub offset: usize,
     pub path: String,
     pub finding: Option<Finding>,
 }
 
 /// Why bits can't be read as a value, and where: the place of the bit, from 0, and the part of the value that was being
-/// read there. The part is given as that of [`Unread`]; `allowed` says in words what the constraints of its type allow,
+/// read there. The part is given as that of [`DecodeError`]; `allowed` says in words what the constraints of its type allow,
 /// if that is why.
 #[derive(Debug, Drop, Error)]
 #[error("{refusal} at bit {bit}")]
-pub struct UnreadBits {
+pub struct BitDecodeError {
     pub refusal: Refusal,
     pub bit: usize,
     pub path: String,
@@ -59,7 +59,7 @@ pub enum NotationFault {
     /// The notation stands for no value of the type. The offset is that of an octet of the text, and the module is the
     /// one in which the names of the notation are read.
     #[error("{0}")]
-    Value(ValueTold),
+    Value(ValueDiagnostic),
 }
 
 /// A refusal: its text begins with its number and name, except for help that was asked for.
@@ -85,10 +85,10 @@ pub enum Fault {
     Help(String),
     /// The texts are not accepted.
     #[error("error {0}")]
-    Front(FrontFault),
+    Front(CompileError),
     /// The newer texts are not accepted, where versions are compared.
     #[error("error {0}")]
-    Newer(FrontFault),
+    Newer(CompileError),
     /// The name of a type, as the caller wrote it, that no module has.
     #[error("error 31 UnknownName: {0}")]
     NoType(String),
@@ -101,7 +101,7 @@ pub enum Fault {
     /// The notation of the value stands for no value of the type. The place is in the text of the module that the fault
     /// names.
     #[error("error {0}")]
-    Value(ValueTold),
+    Value(ValueDiagnostic),
     /// The text of a notation stands for no value of the type. The place is in that text.
     #[error("error {0}")]
     Notation(NotationFault),
@@ -113,10 +113,10 @@ pub enum Fault {
     Device(u64),
     /// The octets can't be read as a value of the type.
     #[error("error {0}")]
-    Unread(Unread),
+    DecodeError(DecodeError),
     /// The bits of the octets can't be read as a value of the type.
     #[error("error {0}")]
-    UnreadBits(UnreadBits),
+    BitDecodeError(BitDecodeError),
     /// There are more octets than a message has.
     #[error("error 2 Limit(Message): a message has at most 16777216 octets")]
     MessageLimit,
@@ -145,14 +145,14 @@ impl From<AllocError> for Fault {
 pub fn number(fault: &Fault) -> u8
     ensures { result ≡ number_of fault.now }
 {
-    told_class(fault).number
+    fault_class(fault).number
 }
 
 /// The name of a fault's class, which its text contains after the number; the name of a limit is in parentheses.
 pub fn name(fault: &Fault) -> &'static str
     ensures { result.now ≡ name_of fault.now }
 {
-    told_class(fault).name
+    fault_class(fault).name
 }
 
 /// The exit status of a program that ends with this fault. It is 0 if help was asked for, 2 for a bad command line, and

@@ -4,8 +4,8 @@
 mod classes;
 mod fault;
 
-pub use fault::{Fault, Finding, NotationFault, Unread, UnreadBits, name, number, status};
+pub use fault::{BitDecodeError, DecodeError, Fault, Finding, NotationFault, name, number, status};
 
 // Libraries that crates above name through this one.
 pub use front_end;
-pub use front_end::told_values;
+pub use front_end::value_diagnostics;

@@ -10,7 +10,7 @@ use Rattle.grammar.specs.Lists.{no_lexeme, is_ident, with_comma}
 use Rattle.grammar.specs.Loops.{sound_short}
 use Rattle.grammar.specs.Short.{Short, short_of}
 use Rattle.grammar.specs.Parts.{IsKind, pick, perhaps}
-use Rattle.grammar.specs.Rules.{Rules, either, rule_token, rule_made, rule_seq, rule_behind, rule_lead, rule_pick, rule_listed, loose_optional, rule_read, made, read_again, one_at, one_is}
+use Rattle.grammar.specs.Rules.{Rules, either, rule_token, rule_made, rule_seq, rule_preceded, rule_lead, rule_pick, rule_listed, loose_optional, rule_read, made, read_again, one_at, one_is}
 use Rattle.trees.specs.Values.{Name}
 use Rattle.trees.specs.declared.module.TagDefault.{TagDefault}
 use Rattle.trees.specs.declared.module.TagDefault.TheVariants as defaults
@@ -221,7 +221,7 @@ module _ {over : Limit → ℕ} {within : Limit → Type 0} where
   rule_exported = rule_read exported_at exported_same (rule_pick (rule_seq (λ _. None) rule_all_word rule_end (λ t e. refl)) (rule_lead (λ p. Some (names_in p.0)) (loose_optional rule_symbols) rule_end semicolon_after) list_no_all)
 
   pub rule_exports : Rules over within exports is_exports_word (either no_lexeme no_lexeme) exports_at
-  rule_exports = rule_read exports_at exports_same (rule_behind rule_exports_word rule_exported)
+  rule_exports = rule_read exports_at exports_same (rule_preceded rule_exports_word rule_exported)
 
 pub symbol_short : Short symbol_at
 symbol_short = short_of symbol_at (record { shorter = λ ts x e. sound_short symbol ts (symbol_at ts) x e ((rule_symbol {over = nowhere} {within = everywhere}).sound tt ts) })

@@ -3,14 +3,14 @@ use Rattle.std.proofs.Common.{◌≡◌, ℕ, inl, inr, Bool, true, false, List,
 use Rattle.text.specs.declared.token.Mark.TheVariants.{Assign, OpenParenthesis, CloseParenthesis, Semicolon}
 use Rattle.text.specs.declared.reserved.Word.TheVariants.{Explicit, Implicit, Automatic, Definitions, Begin, Exports, Imports, From}
 use Rattle.grammar.specs.Lexeme.{Lexeme, TypeRef, Ident, Word, Mark}
-use Rattle.grammar.specs.Grammar.{Grammar, token, mark, word, only as lexeme, number_of, ◌∙◌, ◌⇒◌, many, optional, behind}
-use Rattle.grammar.specs.Grows.{Grows, same_grows, number_grows, seq_grows, made_grows, either_grows, many_grows, behind_grows, braces_grows}
+use Rattle.grammar.specs.Grammar.{Grammar, token, mark, word, only as lexeme, number_of, ◌∙◌, ◌⇒◌, many, optional, preceded}
+use Rattle.grammar.specs.Grows.{Grows, same_grows, number_grows, seq_grows, made_grows, either_grows, many_grows, preceded_grows, braces_grows}
 use Rattle.grammar.specs.Numbers.{Past}
 use Rattle.grammar.specs.Reading.{Limit, Integer, Read, Reader}
 use Rattle.grammar.specs.Lists.{no_lexeme}
 use Rattle.grammar.specs.Parts.{perhaps, made_sound, made_finds, same_sound, same_finds}
 use Rattle.grammar.specs.Grammar.{parens}
-use Rattle.grammar.specs.Rules.{Rules, Loose, either, rule_token, rule_seq, rule_behind, rule_tail, rule_lead, rule_pair, loose_optional, rule_tests, made}
+use Rattle.grammar.specs.Rules.{Rules, Loose, either, rule_token, rule_seq, rule_preceded, rule_tail, rule_lead, rule_pair, loose_optional, rule_tests, made}
 use Rattle.grammar.specs.Single.{definitions_at, assign_at, begin_at}
 use Rattle.module_head.specs.Heading.{default_or, tag_default, exports_or, export_list, imports_or, imports, import_list, symbols, arc, oid, module_ref, import_from, heading, head_of, head}
 use Rattle.module_head.specs.HeadingReading.{default_words_at, exports_at}
@@ -101,9 +101,9 @@ module _ {over : Limit → ℕ} {within : Limit → Type 0} where
   loose_default = loose_made default_or tag_default_at default_same (loose_optional rule_default_words)
 
   rule_begun :
-      Rules over within ((tag_default ∙ behind (Mark Assign) (word Begin)) ⇒ (λ p. p.0)) (either is_default_word is_assign) no_lexeme begun_at
+      Rules over within ((tag_default ∙ preceded (Mark Assign) (word Begin)) ⇒ (λ p. p.0)) (either is_default_word is_assign) no_lexeme begun_at
   unfolding begun_at
-  rule_begun = rule_lead (λ p. p.0) loose_default (rule_behind rule_assign rule_begin) assign_no_default
+  rule_begun = rule_lead (λ p. p.0) loose_default (rule_preceded rule_assign rule_begin) assign_no_default
 
   loose_exports :
       Loose over within export_list is_exports_word (either is_exports_word (either no_lexeme no_lexeme)) export_list_at
@@ -121,7 +121,7 @@ module _ (over : Limit → ℕ) (within : Limit → Type 0) (fits fits' : ℕ �
   unfolding heading_at
   rule_heading =
       let k = rule_module over within fits fits' grows past room in
-      rule_pair (module_ref fits') (behind (Word Definitions) ((tag_default ∙ behind (Mark Assign) (word Begin)) ⇒ (λ p. p.0))) k.solid (rule_seq (λ p. p) k (rule_behind rule_definitions rule_begun) definitions_no_brace)
+      rule_pair (module_ref fits') (preceded (Word Definitions) ((tag_default ∙ preceded (Mark Assign) (word Begin)) ⇒ (λ p. p.0))) k.solid (rule_seq (λ p. p) k (rule_preceded rule_definitions rule_begun) definitions_no_brace)
 
   rule_exporting : Rules over within (heading fits' ∙ export_list) is_typeref exports_end (exporting_at fits)
   unfolding exporting_at
@@ -149,7 +149,7 @@ more_optional {A} {a} {a'} g = record { is = is; on = on }
     is None u h = h
     is (Some x) u h = g.is x u h
 
-    on : (u : List Lexeme) → (optional a).CanGoOn u → (optional a').CanGoOn u
+    on : (u : List Lexeme) → (optional a).IsPrefix u → (optional a').IsPrefix u
     on u (inl e) = inl e
     on u (inr h) = inr (g.on u h)
 
@@ -167,15 +167,15 @@ module _ (fits fits' : ℕ → Bool) (grows : (n : ℕ) → fits n ≡ true → 
   ref_grows = more_made (λ p. p.0) (more_seq (same_grows (token TypeRef)) (more_optional oid_grows))
 
   import_grows : Grows (import_from fits) (import_from fits')
-  import_grows = more_made (λ p. record { names = p.0; from = p.1 }) (more_seq (same_grows symbols) (behind_grows (Word From) (module_ref fits) (module_ref fits') ref_grows))
+  import_grows = more_made (λ p. record { names = p.0; from = p.1 }) (more_seq (same_grows symbols) (preceded_grows (Word From) (module_ref fits) (module_ref fits') ref_grows))
 
   imports_grow : Grows (imports fits) (imports fits')
   imports_grow =
-      behind_grows (Word Imports) ((many (import_from fits) ∙ mark Semicolon) ⇒ (λ p. p.0)) ((many (import_from fits') ∙ mark Semicolon) ⇒ (λ p. p.0))
+      preceded_grows (Word Imports) ((many (import_from fits) ∙ mark Semicolon) ⇒ (λ p. p.0)) ((many (import_from fits') ∙ mark Semicolon) ⇒ (λ p. p.0))
       (more_made (λ p. p.0) (more_seq (more_many import_grows) (same_grows (mark Semicolon))))
 
   heading_grows : Grows (heading fits) (heading fits')
-  heading_grows = more_seq ref_grows (same_grows (behind (Word Definitions) ((tag_default ∙ behind (Mark Assign) (word Begin)) ⇒ (λ p. p.0))))
+  heading_grows = more_seq ref_grows (same_grows (preceded (Word Definitions) ((tag_default ∙ preceded (Mark Assign) (word Begin)) ⇒ (λ p. p.0))))
 
   pub head_grows : Grows (head fits) (head fits')
   head_grows = more_made head_of (more_seq (more_seq heading_grows (same_grows export_list)) (more_made imports_or (more_optional imports_grow)))

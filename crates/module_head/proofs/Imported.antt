@@ -3,26 +3,26 @@ use Rattle.std.proofs.Common.{◌≡◌, ℕ, Bool, true, false, List, [], ◌�
 use Rattle.text.specs.declared.token.Mark.TheVariants.{OpenBrace, CloseBrace, OpenParenthesis, Semicolon}
 use Rattle.text.specs.declared.reserved.Word.TheVariants.{Imports, From}
 use Rattle.grammar.specs.Lexeme.{Lexeme, TypeRef, Ident, Number, Word, Mark}
-use Rattle.grammar.specs.Grammar.{token, mark, only as lexeme, number_of, ◌∙◌, ◌⇒◌, many, optional, behind}
+use Rattle.grammar.specs.Grammar.{token, mark, only as lexeme, number_of, ◌∙◌, ◌⇒◌, many, optional, preceded}
 use Rattle.grammar.specs.Reading.{Limit, Integer, Fault, Read, Reader, ◌>>=◌, closed_at, many_at, with_front}
 use Rattle.grammar.specs.Laws.{everywhere, nowhere, then_read, after_read}
 use Rattle.grammar.specs.Manies.{Consumes, consumes, is_begun_by, many_more, many_end, many_fail}
 use Rattle.grammar.specs.Places.{small}
-use Rattle.kernel.specs.declared.fault.ReadError.{ReadError}
-use Rattle.kernel.specs.declared.fault.ReadError.TheVariants as errors
-use Rattle.kernel.specs.Given.{Fails}
+use Rattle.parser_combinators.specs.declared.read_error.ReadError.{ReadError}
+use Rattle.parser_combinators.specs.declared.read_error.ReadError.TheVariants as errors
+use Rattle.parser_combinators.specs.Given.{Fails}
 use Rattle.grammar.specs.Lists.{no_lexeme, is_ident, with_comma}
 use Rattle.grammar.specs.Numbers.{Past}
 use Rattle.grammar.specs.Parts.{pick, perhaps}
 use Rattle.grammar.specs.Parens.{rule_parens}
-use Rattle.grammar.specs.Rules.{Rules, either, rule_token, rule_made, rule_seq, rule_behind, rule_tail, rule_lead, rule_pair, rule_pick, loose_optional, loose_many, rule_read, rule_tests, is_number, number_at, rule_number, fitting_made, made, read_again, one_at, one_is}
+use Rattle.grammar.specs.Rules.{Rules, either, rule_token, rule_made, rule_seq, rule_preceded, rule_tail, rule_lead, rule_pair, rule_pick, loose_optional, loose_many, rule_read, rule_tests, is_number, number_at, rule_number, fitting_made, made, read_again, one_at, one_is}
 use Rattle.grammar.specs.Reading.{is_open, parens_at}
 use Rattle.grammar.specs.Grammar.{parens}
 use Rattle.trees.specs.Values.{Name}
 use Rattle.trees.specs.Modules.{ImportTree}
 use Rattle.grammar.specs.Single.{module_name_at}
 use Rattle.module_head.specs.Heading.{arc, oid, import_from, imports}
-use Rattle.module_head.specs.ImportReading.{begins_arc, begins_symbol, arc_number_at, behind_arc_at, arc_at, more_arcs_at, arcs_at, oid_at, behind_module_at, module_ref_at, from_module_at, import_from_at, imported_at, imports_at}
+use Rattle.module_head.specs.ImportReading.{begins_arc, begins_symbol, arc_number_at, after_arc_at, arc_at, more_arcs_at, arcs_at, oid_at, after_module_at, module_ref_at, from_module_at, import_from_at, imported_at, imports_at}
 use Rattle.grammar.specs.Single.{is_typeref, typeref_is}
 use Rattle.module_head.proofs.Headings.{name_at, name_is, is_semicolon, rule_end, rule_symbols, is_symbol}
 
@@ -92,25 +92,25 @@ module _ (over : Limit → ℕ) (within : Limit → Type 0) (fits fits' : ℕ �
   abbrev named_read : Reader (Unit {0})
   named_read = then_read (λ (p : Name × Option ℕ). tt) name_at (perhaps is_open (parens_at (number_at fits)))
 
-  behind_same : (x : Name) (ts : List Lexeme)
+  after_arc_same : (x : Name) (ts : List Lexeme)
       →
-      made {B = Unit {0}} (λ (o : Option ℕ). tt) (perhaps is_open (parens_at (number_at fits)) ts) ≡ behind_arc_at fits ts
-  unfolding behind_arc_at arc_number_at
-  behind_same x [] = refl
-  behind_same x (Mark OpenParenthesis ∷ ts) = go (parens_at (number_at fits) (Mark OpenParenthesis ∷ ts))
+      made {B = Unit {0}} (λ (o : Option ℕ). tt) (perhaps is_open (parens_at (number_at fits)) ts) ≡ after_arc_at fits ts
+  unfolding after_arc_at arc_number_at
+  after_arc_same x [] = refl
+  after_arc_same x (Mark OpenParenthesis ∷ ts) = go (parens_at (number_at fits) (Mark OpenParenthesis ∷ ts))
     where
       go : (r : Read ℕ)
           → made {B = Unit {0}} (λ (o : Option ℕ). tt) (made Some r) ≡ made {B = Unit {0}} (λ (n : ℕ). tt) r
       go (Ok n) = refl
       go (Err f) = refl
-  behind_same x (t ∷ ts) = refl
+  after_arc_same x (t ∷ ts) = refl
 
   arc_same : (ts : List Lexeme)
       → pick is_number (λ ts. number_at fits ts >>= λ n. Ok (tt, n.1)) named_read ts ≡ arc_at fits ts
   unfolding number_at name_at arc_at
   arc_same [] = refl
   arc_same (Number n ∷ ts) = fitting_made (λ n. tt) (fits n) n (Number n ∷ ts) ts
-  arc_same (Ident x ∷ ts) = behind_same x ts
+  arc_same (Ident x ∷ ts) = after_arc_same x ts
   arc_same (t ∷ ts) = refl
 
   ident_no_number : (t : Lexeme) → is_ident t ≡ true → is_number t ≡ false
@@ -187,22 +187,22 @@ module _ (over : Limit → ℕ) (within : Limit → Type 0) (fits fits' : ℕ �
   abbrev name_of : Name × Option (Unit {0}) → Name
   name_of p = p.0
 
-  behind_module_same : (m : Name) (ts : List Lexeme)
-      → made (λ (o : Option (Unit {0})). m) (perhaps is_open_brace (oid_at fits) ts) ≡ behind_module_at fits m ts
-  unfolding behind_module_at
-  behind_module_same m [] = refl
-  behind_module_same m (Mark OpenBrace ∷ ts) = go (oid_at fits (Mark OpenBrace ∷ ts))
+  after_module_same : (m : Name) (ts : List Lexeme)
+      → made (λ (o : Option (Unit {0})). m) (perhaps is_open_brace (oid_at fits) ts) ≡ after_module_at fits m ts
+  unfolding after_module_at
+  after_module_same m [] = refl
+  after_module_same m (Mark OpenBrace ∷ ts) = go (oid_at fits (Mark OpenBrace ∷ ts))
     where
       go : (r : Read (Unit {0})) → made (λ (o : Option (Unit {0})). m) (made Some r) ≡ made (λ (u : Unit {0}). m) r
       go (Ok u) = refl
       go (Err f) = refl
-  behind_module_same m (t ∷ ts) = refl
+  after_module_same m (t ∷ ts) = refl
 
   module_same : (ts : List Lexeme)
       → then_read name_of module_name_at (perhaps is_open_brace (oid_at fits)) ts ≡ module_ref_at fits ts
   unfolding module_name_at module_ref_at
   module_same [] = refl
-  module_same (TypeRef m ∷ ts) = behind_module_same m ts
+  module_same (TypeRef m ∷ ts) = after_module_same m ts
   module_same (t ∷ ts) = refl
 
   pub rule_module :
@@ -217,8 +217,8 @@ module _ (over : Limit → ℕ) (within : Limit → Type 0) (fits fits' : ℕ �
   from_same (t ∷ ts) = refl
 
   rule_from :
-      Rules over within (behind (Word From) ((token TypeRef ∙ optional (oid fits')) ⇒ (λ p. p.0))) is_from_word (either no_lexeme (either is_open_brace no_lexeme)) (from_module_at fits)
-  rule_from = rule_read (from_module_at fits) from_same (rule_behind rule_from_word rule_module)
+      Rules over within (preceded (Word From) ((token TypeRef ∙ optional (oid fits')) ⇒ (λ p. p.0))) is_from_word (either no_lexeme (either is_open_brace no_lexeme)) (from_module_at fits)
+  rule_from = rule_read (from_module_at fits) from_same (rule_preceded rule_from_word rule_module)
 
   abbrev an_import : List Name × Name → ImportTree
   an_import p = record { names = p.0; from = p.1 }
@@ -261,7 +261,7 @@ module _ (over : Limit → ℕ) (within : Limit → Type 0) (fits fits' : ℕ �
   imports_same (t ∷ ts) = refl
 
   pub rule_imports : Rules over within (imports fits') is_imports_word no_lexeme (imports_at fits)
-  rule_imports = rule_read (imports_at fits) imports_same (rule_behind rule_imports_word rule_imported)
+  rule_imports = rule_read (imports_at fits) imports_same (rule_preceded rule_imports_word rule_imported)
 
 -- ---- what the loops keep
 

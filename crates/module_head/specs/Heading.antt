@@ -3,7 +3,7 @@ use Rattle.std.specs.Prelude.{ℕ, Bool, List, [], Option, Some, None}
 use Rattle.text.specs.declared.token.Mark.TheVariants.{Assign, Semicolon}
 use Rattle.text.specs.declared.reserved.Word.TheVariants.{Definitions, Explicit, Implicit, Automatic, Tags, Begin, Exports, All, Imports, From}
 use Rattle.grammar.specs.Lexeme.{TypeRef, Ident, Word, Mark}
-use Rattle.grammar.specs.Grammar.{Grammar, token, mark, word, number_of, ◌∙◌, ◌∣◌, ◌⇒◌, many, optional, behind, listed, braces}
+use Rattle.grammar.specs.Grammar.{Grammar, token, mark, word, number_of, ◌∙◌, ◌∣◌, ◌⇒◌, many, optional, preceded, listed, braces}
 use Rattle.trees.specs.Values.{Name}
 use Rattle.grammar.specs.Grammar.{parens}
 use Rattle.trees.specs.declared.module.TagDefault.{TagDefault}
@@ -44,7 +44,7 @@ names_in (Some xs) = xs
 -- the names that are exported, None for ALL
 abbrev pub exports : Grammar (Option (List Name))
 exports =
-    behind (Word Exports) (
+    preceded (Word Exports) (
     (word All ∙ mark Semicolon) ⇒ (λ _. None)
     ∣ (optional symbols ∙ mark Semicolon) ⇒ (λ p. Some (names_in p.0)))
 
@@ -91,11 +91,11 @@ module _ (fits : ℕ → Bool) where
 
   -- names, FROM, and the module that they are imported from
   abbrev pub import_from : Grammar ImportTree
-  import_from = (symbols ∙ behind (Word From) module_ref) ⇒ (λ p. record { names = p.0; from = p.1 })
+  import_from = (symbols ∙ preceded (Word From) module_ref) ⇒ (λ p. record { names = p.0; from = p.1 })
 
   -- IMPORTS, any number of imports from modules, and a semicolon
   abbrev pub imports : Grammar (List ImportTree)
-  imports = behind (Word Imports) ((many import_from ∙ mark Semicolon) ⇒ (λ p. p.0))
+  imports = preceded (Word Imports) ((many import_from ∙ mark Semicolon) ⇒ (λ p. p.0))
 
   -- the imports of a module, an empty list if there is no IMPORTS
   abbrev pub import_list : Grammar (List ImportTree)
@@ -105,7 +105,7 @@ module _ (fits : ℕ → Bool) where
   abbrev pub heading : Grammar (Name × TagDefault)
   heading =
       module_ref
-      ∙ behind (Word Definitions) ((tag_default ∙ behind (Mark Assign) (word Begin)) ⇒ (λ p. p.0))
+      ∙ preceded (Word Definitions) ((tag_default ∙ preceded (Mark Assign) (word Begin)) ⇒ (λ p. p.0))
 
   -- what comes before the assignments of a module: up to BEGIN, the exports and the imports
   abbrev pub head : Grammar HeadTree

@@ -26,13 +26,13 @@ module _ (fits : ℕ → Bool) where
   arc_number_at ts = parens_at (number_at fits) ts >>= λ n. Ok (tt, n.1)
 
   -- what comes after an identifier
-  unfoldable pub behind_arc_at : Reader (Unit {0})
-  behind_arc_at (Mark OpenParenthesis ∷ rest) = arc_number_at (Mark OpenParenthesis ∷ rest)
-  behind_arc_at ts = Ok (tt, ts)
+  unfoldable pub after_arc_at : Reader (Unit {0})
+  after_arc_at (Mark OpenParenthesis ∷ rest) = arc_number_at (Mark OpenParenthesis ∷ rest)
+  after_arc_at ts = Ok (tt, ts)
 
   unfoldable pub arc_at : Reader (Unit {0})
   arc_at (Number n ∷ rest) = fitting (fits n) (Number n ∷ rest) (Ok (tt, rest))
-  arc_at (Ident x ∷ rest) = behind_arc_at rest
+  arc_at (Ident x ∷ rest) = after_arc_at rest
   arc_at ts = stop ts
 
   unfoldable pub more_arcs_at : Reader (Unit {0})
@@ -46,12 +46,12 @@ module _ (fits : ℕ → Bool) where
   oid_at ts = stop ts
 
   -- what comes after a module's name
-  unfoldable pub behind_module_at : Name → Reader Name
-  behind_module_at m (Mark OpenBrace ∷ rest) = oid_at (Mark OpenBrace ∷ rest) >>= λ o. Ok (m, o.1)
-  behind_module_at m ts = Ok (m, ts)
+  unfoldable pub after_module_at : Name → Reader Name
+  after_module_at m (Mark OpenBrace ∷ rest) = oid_at (Mark OpenBrace ∷ rest) >>= λ o. Ok (m, o.1)
+  after_module_at m ts = Ok (m, ts)
 
   unfoldable pub module_ref_at : Reader Name
-  module_ref_at (TypeRef m ∷ rest) = behind_module_at m rest
+  module_ref_at (TypeRef m ∷ rest) = after_module_at m rest
   module_ref_at ts = stop ts
 
   unfoldable pub from_module_at : Reader Name

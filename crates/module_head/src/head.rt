@@ -3,14 +3,14 @@
 ghost use Rattle.std.specs.Prelude.{IfOk};
 ghost use Rattle.grammar.specs.Places.{small};
 ghost use Rattle.grammar.specs.Single.{assign_at};
-ghost use Rattle.kernel.specs.Reads.{ReadsAs, SkipsAs};
-ghost use Rattle.kernel.specs.Given.{AreTokens};
+ghost use Rattle.parser_combinators.specs.Reads.{ReadsAs, SkipsAs};
+ghost use Rattle.parser_combinators.specs.Given.{AreTokens};
 ghost use Rattle.trees.specs.Values.{name_at};
 ghost use Rattle.module_head.specs.HeadReading.{begun_at, heading_at, head_at, head_tree_of};
 
 use crate::heading::{export_list, tag_default};
 use crate::importing::{import_list, module_ref};
-use kernel::{Read, ReadError};
+use parser_combinators::{Read, ReadError};
 use std::alloc::Global;
 use text::{Token, mark, word};
 use trees::{At, Import, TagDefault};

@@ -2,14 +2,14 @@
 
 ghost use Rattle.std.specs.Prelude.{map, option_map, IfOk};
 ghost use Rattle.grammar.specs.Reading.{listed_at};
-ghost use Rattle.kernel.specs.Reads.{ReadsAs, SkipsAs};
-ghost use Rattle.kernel.specs.Given.{AreTokens};
+ghost use Rattle.parser_combinators.specs.Reads.{ReadsAs, SkipsAs};
+ghost use Rattle.parser_combinators.specs.Given.{AreTokens};
 ghost use Rattle.trees.specs.Values.{name_at};
 ghost use Rattle.module_head.specs.HeadingReading.{tag_word_at, default_words_at, semicolon_at, symbol_at, some_exports_at, exported_at};
 ghost use Rattle.module_head.specs.HeadReading.{tag_default_at, export_list_at};
 
-use kernel::decode::name_at;
-use kernel::{Listed, Part, Read, ReadError};
+use parser_combinators::decode::name_at;
+use parser_combinators::{CommaList, Parser, Read, ReadError};
 use std::alloc::Global;
 use text::{Token, kind, mark, word};
 use trees::{At, TagDefault};
@@ -72,7 +72,7 @@ pub fn semicolon<'a>(text: &[u8], tokens: &'a [Token]) -> Result<&'a [Token], Re
 /// A name, as a part of a list.
 struct OneSymbol;
 
-impl<'t> Part<'t> for OneSymbol {
+impl<'t> Parser<'t> for OneSymbol {
     ghost use Rattle.grammar.specs.Short.{Short};
     ghost use Rattle.trees.specs.Values.{Name, name_at};
     ghost use Rattle.module_head.specs.HeadingReading.{symbol_at};
@@ -108,7 +108,7 @@ pub fn symbols<'a>(alloc: Global, text: &[u8], tokens: &'a [Token]) -> Read<'a, 
     ensures read { ReadsAs (λ x. map name_at x.items) (listed_at symbol_at) text.now tokens.now result }
     ensures rest { IfOk result (λ x. AreTokens text.now x.1.now) }
 {
-    Listed { part: OneSymbol }.read(alloc, text, tokens)
+    CommaList { part: OneSymbol }.read(alloc, text, tokens)
 }
 
 /// Reads the names that are exported, and the semicolon.

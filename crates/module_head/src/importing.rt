@@ -5,18 +5,18 @@ ghost use Rattle.text.specs.declared.token.TokenKind.TheVariants as kinds;
 ghost use Rattle.grammar.specs.Lexeme.{lexemes};
 ghost use Rattle.grammar.specs.Manies.{is_begun_by};
 ghost use Rattle.grammar.specs.Places.{small};
-ghost use Rattle.kernel.specs.Reads.{ReadsAs, SkipsAs, name_in};
-ghost use Rattle.kernel.specs.Given.{IsTokenOf, AreTokens};
+ghost use Rattle.parser_combinators.specs.Reads.{ReadsAs, SkipsAs, name_in};
+ghost use Rattle.parser_combinators.specs.Given.{IsTokenIn, AreTokens};
 ghost use Rattle.grammar.specs.Rules.{number_at};
 ghost use Rattle.trees.specs.Values.{name_at};
 ghost use Rattle.trees.specs.Modules.{import_of};
-ghost use Rattle.module_head.specs.ImportReading.{begins_arc, begins_symbol, arc_number_at, behind_arc_at, arc_at, more_arcs_at, arcs_at, oid_at, behind_module_at, module_ref_at, from_module_at, import_from_at, imports_from_at, imported_at};
+ghost use Rattle.module_head.specs.ImportReading.{begins_arc, begins_symbol, arc_number_at, after_arc_at, arc_at, more_arcs_at, arcs_at, oid_at, after_module_at, module_ref_at, from_module_at, import_from_at, imports_from_at, imported_at};
 ghost use Rattle.module_head.specs.HeadReading.{import_list_at};
 
 use crate::heading::{semicolon, symbols};
-use kernel::decode::{name_at, small_number};
-use kernel::marks::{close, closed, open};
-use kernel::{Read, ReadError};
+use parser_combinators::decode::{name_at, small_number};
+use parser_combinators::punctuation::{close, closed, open};
+use parser_combinators::{Read, ReadError};
 use std::alloc::Global;
 use text::{Token, kind, mark, word};
 use trees::{At, Import};
@@ -51,10 +51,10 @@ fn arc_number<'a>(text: &[u8], tokens: &'a [Token]) -> Result<&'a [Token], ReadE
 }
 
 /// Reads what comes after a name.
-#[tactic(auto, unfolding(crate::specs::ImportReading::behind_arc_at))]
-fn behind_arc<'a>(text: &[u8], tokens: &'a [Token]) -> Result<&'a [Token], ReadError>
+#[tactic(auto, unfolding(crate::specs::ImportReading::after_arc_at))]
+fn after_arc<'a>(text: &[u8], tokens: &'a [Token]) -> Result<&'a [Token], ReadError>
     requires tokens { AreTokens text.now tokens.now }
-    ensures read { SkipsAs (behind_arc_at small) text.now tokens.now result }
+    ensures read { SkipsAs (after_arc_at small) text.now tokens.now result }
     ensures rest { IfOk result (λ x. AreTokens text.now x.now) }
 {
     match tokens {
@@ -75,7 +75,7 @@ fn arc<'a>(text: &[u8], tokens: &'a [Token]) -> Result<&'a [Token], ReadError>
             small_number(text, *number, tokens.len())?;
             Ok(rest)
         }
-        [kind!(Identifier), rest @ ..] => behind_arc(text, rest),
+        [kind!(Identifier), rest @ ..] => after_arc(text, rest),
         _ => Err(ReadError::Unexpected(tokens.len())),
     }
 }
@@ -136,17 +136,17 @@ fn oid<'a>(text: &[u8], tokens: &'a [Token]) -> Result<&'a [Token], ReadError>
 }
 
 /// Reads what comes after a module's name.
-#[tactic(auto, unfolding(crate::specs::ImportReading::behind_module_at))]
-fn behind_module<'a>(
+#[tactic(auto, unfolding(crate::specs::ImportReading::after_module_at))]
+fn after_module<'a>(
     alloc: Global,
     text: &[u8],
     module_name: Token,
     tokens: &'a [Token],
 ) -> Read<'a, At<String>>
     requires tokens { AreTokens text.now tokens.now }
-    requires before { IsTokenOf text.now module_name }
+    requires before { IsTokenIn text.now module_name }
     requires name { module_name.kind ≡ kinds.TypeReference }
-    ensures read { ReadsAs name_at (behind_module_at small (name_in text.now module_name))
+    ensures read { ReadsAs name_at (after_module_at small (name_in text.now module_name))
         text.now tokens.now result }
     ensures rest { IfOk result (λ x. AreTokens text.now x.1.now) }
 {
@@ -167,7 +167,7 @@ pub fn module_ref<'a>(alloc: Global, text: &[u8], tokens: &'a [Token]) -> Read<'
     ensures rest { IfOk result (λ x. AreTokens text.now x.1.now) }
 {
     match tokens {
-        [name @ kind!(TypeReference), rest @ ..] => behind_module(alloc, text, *name, rest),
+        [name @ kind!(TypeReference), rest @ ..] => after_module(alloc, text, *name, rest),
         _ => Err(ReadError::Unexpected(tokens.len())),
     }
 }

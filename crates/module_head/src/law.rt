@@ -3,6 +3,6 @@
 ghost use Rattle.module_head.specs.HeadLaws.{HeadLaws};
 
 /// What is read as a module's head is one, each head is read, and a fault is the first one.
-pub fn heads_are_read()
+pub fn lemma_heads_are_read()
     ensures { HeadLaws }
 {}

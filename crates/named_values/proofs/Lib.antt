@@ -1,3 +1,4 @@
 pub mod Dots
 pub mod Once
 pub mod Rows
+pub mod RowsOfMeanings

@@ -6,24 +6,24 @@ use Rattle.asn_base.specs.Abstract.{AbstractValue}
 use Rattle.trees.specs.Values.{Name, Tree}
 use Rattle.names.specs.declared.scope.Assigned.{Assigned}
 use Rattle.names.specs.declared.scope.Assigned.TheVariants as assigned
-use Rattle.names.specs.Faults.{module_told}
+use Rattle.names.specs.Faults.{fault_module}
 use Rattle.names.specs.Names.{Module, Meaning, own, imported, IsApart, under}
 use Rattle.range_ends.specs.Ends.{IsValueAt}
 use Rattle.resolve.specs.Program.{Program}
-use Rattle.messages.specs.front_end.Accepted.{Keeps}
-use Rattle.messages.specs.front_end.Untyped.{StandsFor}
-use Rattle.messages.specs.told_values.declared.telling.ValueTold.{ValueTold}
-use Rattle.text.specs.declared.fault.LexFault.{LexFault}
-use Rattle.notation.specs.declared.fault.SyntaxFault.{SyntaxFault}
+use Rattle.messages.specs.front_end.Accepted.{IsCheckedProgram}
+use Rattle.messages.specs.front_end.ValueError.{DenotesValue}
+use Rattle.messages.specs.value_diagnostics.declared.value_diagnostic.ValueDiagnostic.{ValueDiagnostic}
+use Rattle.text.specs.declared.lex_fault.LexFault.{LexFault}
+use Rattle.notation.specs.declared.syntax_fault.SyntaxFault.{SyntaxFault}
 use Rattle.messages.specs.declared.fault.Fault.{Fault}
 use Rattle.messages.specs.declared.fault.Fault.TheVariants as faults
 use Rattle.messages.specs.declared.fault.NotationFault.{NotationFault}
 use Rattle.messages.specs.declared.fault.NotationFault.TheVariants as texts
 use Rattle.written_values.specs.Written.{IsNotation, IsNoNotation}
-use Rattle.written_values.specs.declared.written.WrittenFault.{WrittenFault}
-use Rattle.written_values.specs.declared.written.WrittenFault.TheVariants as wrong
+use Rattle.written_values.specs.declared.written.ValueTextFault.{ValueTextFault}
+use Rattle.written_values.specs.declared.written.ValueTextFault.TheVariants as wrong
 use Rattle.named_values.specs.Given.{Given, named, written}
-use Rattle.named_values.specs.Meant.{IsMeant, IsNotMeant, IsWrongText, IsWrongWithin, NamesNoValue, NamesType, StandsForNone}
+use Rattle.named_values.specs.Meant.{IsMeant, IsNotMeant, IsWrongText, IsWrongWithin, NamesNoValue, NamesType, DenotesNoValue}
 use Rattle.named_values.specs.Named.{AreGiven, IsGivenAs, IsNamed, IsQualified, IsWithin}
 
 -- ---- the parts of a text
@@ -100,7 +100,7 @@ abbrev pub OneNotation : Type 0
 OneNotation = (x : List ℕ) (n m : Tree) → IsNotation x n → IsNotation x m → n ≡ m
 
 abbrev pub WrongAreNone : Type 0
-WrongAreNone = (x : List ℕ) (n : Tree) (f : WrittenFault) → (f ≡ wrong.Memory → ⊥) → IsNoNotation x f → IsNotation x n
+WrongAreNone = (x : List ℕ) (n : Tree) (f : ValueTextFault) → (f ≡ wrong.Memory → ⊥) → IsNoNotation x f → IsNotation x n
     → ⊥
 
 one_given : OneNotation → (p : Program) (first : List ℕ) (second : Given) (M N : Name) (n m : Tree)
@@ -130,25 +130,25 @@ one_pair one p first second t u M N n m apart a b =
 
 -- the value of a notation doesn't depend on how the notation is given
 moved : {p : Program} {t u : ℕ} {M N : Name} {n m : Tree} {v : AbstractValue} → AreSame t u M N n m →
-    StandsFor p M t n v → StandsFor p N u m v
+    DenotesValue p M t n v → DenotesValue p N u m v
 moved {p} {t} {u} {M} {N} {n} {m} {v} e h =
-    subst (λ k. StandsFor p N u k v) e.notation (subst (λ L. StandsFor p L u n v) e.within (subst (λ i. StandsFor p M i n v) e.type h))
+    subst (λ k. DenotesValue p N u k v) e.notation (subst (λ L. DenotesValue p L u n v) e.within (subst (λ i. DenotesValue p M i n v) e.type h))
 
 none_is_one : OneNotation → {p : Program} {first : List ℕ} {second : Given} {i : ℕ} {v : AbstractValue}
-    {t : ValueTold}
+    {t : ValueDiagnostic}
     → IsApart p.modules
     → IsMeant p first second i v
-    → StandsForNone p first second t
+    → DenotesNoValue p first second t
     → ⊥
 none_is_one one {p} {first} {second} {i} {v} apart k n =
     n.none.none v (moved (one_pair one p first second i n.type k.within n.within k.notation n.notation apart k.named n.named) k.stands)
 
 abbrev pub OneValue : Type 0
-OneValue = (p : Program) (M : Name) (i : ℕ) (n : Tree) (v w : AbstractValue) → Keeps p → StandsFor p M i n v →
-    StandsFor p M i n w → v ≡ w
+OneValue = (p : Program) (M : Name) (i : ℕ) (n : Tree) (v w : AbstractValue) → IsCheckedProgram p → DenotesValue p M i n v →
+    DenotesValue p M i n w → v ≡ w
 
 pub one_meant : OneNotation → OneValue → (p : Program) (first : List ℕ) (second : Given) (t u : ℕ) (v w : AbstractValue)
-    → Keeps p
+    → IsCheckedProgram p
     → IsMeant p first second t v
     → IsMeant p first second u w
     → (t ≡ u) × (v ≡ w)
@@ -184,9 +184,9 @@ tokens_refused none p first (named text) M n f g h = h
 tokens_refused none p first (written x) M n f g h = none x n (wrong.Tokens f) (λ e. absurd cc) h.1 g.is
 
 -- a fault of the value of a text is one of its notation
-pub value_refused : (p : Program) (first : List ℕ) (second : Given) (t : ValueTold)
+pub value_refused : (p : Program) (first : List ℕ) (second : Given) (t : ValueDiagnostic)
     → IsWrongText p first second (texts.Value t)
-    → StandsForNone p first second t
+    → DenotesNoValue p first second t
 value_refused p first (named text) t h = absurd h
 value_refused p first (written x) t h = h.none
 
@@ -202,7 +202,7 @@ text_refused one none p first second t v (texts.Value x) apart m h = none_is_one
 
 pub meant_refused : OneNotation → WrongAreNone → (p : Program) (first : List ℕ) (second : Given) (t : ℕ)
     (v : AbstractValue) (e : Fault)
-    → Keeps p
+    → IsCheckedProgram p
     → IsMeant p first second t v
     → IsNotMeant p first second e
     → e ≡ faults.Memory
@@ -212,7 +212,7 @@ meant_refused one none p first second t v (faults.NoValue x) kept m h = absurd (
 meant_refused one none p first second t v (faults.Value x) kept m h = absurd (none_is_one one kept.read.apart m h)
 meant_refused one none p first second t v (faults.Notation f) kept m h = absurd (text_refused one none p first second t v f kept.read.apart m h)
 meant_refused one none p first second t v (faults.Front f) kept m h = absurd h
-meant_refused one none p first second t v (faults.Unread u) kept m h = absurd h
+meant_refused one none p first second t v (faults.DecodeError u) kept m h = absurd h
 meant_refused one none p first second t v (faults.BadWords x) kept m h = absurd h
 meant_refused one none p first second t v (faults.Help x) kept m h = absurd h
 meant_refused one none p first second t v (faults.File x) kept m h = absurd h
@@ -221,7 +221,7 @@ meant_refused one none p first second t v (faults.Folder x) kept m h = absurd h
 meant_refused one none p first second t v (faults.Newer x) kept m h = absurd h
 meant_refused one none p first second t v (faults.NoNewerType x) kept m h = absurd h
 meant_refused one none p first second t v faults.TooLong kept m h = absurd h
-meant_refused one none p first second t v (faults.UnreadBits u) kept m h = absurd h
+meant_refused one none p first second t v (faults.BitDecodeError u) kept m h = absurd h
 meant_refused one none p first second t v faults.MessageLimit kept m h = absurd h
 meant_refused one none p first second t v (faults.Device n) kept m h = absurd h
 meant_refused one none p first second t v (faults.NotAccount x) kept m h = absurd h
@@ -246,7 +246,7 @@ name_or_text p first (named text) x f a b = b
 name_or_text p first (written y) x f a b = a
 
 abbrev pub OneFault : Type 0
-OneFault = (x : List ℕ) (f g : WrittenFault) → (f ≡ wrong.Memory → ⊥) → (g ≡ wrong.Memory → ⊥) → IsNoNotation x f
+OneFault = (x : List ℕ) (f g : ValueTextFault) → (f ≡ wrong.Memory → ⊥) → (g ≡ wrong.Memory → ⊥) → IsNoNotation x f
     → IsNoNotation x g
     → f ≡ g
 
@@ -280,11 +280,11 @@ octets_or_tokens one p first (written x) f g a b =
 -- ---- the place of a fault
 
 -- a place in the text, if the fault has the module in which the text is read
-pub place_in_text : (p : Program) (first x : List ℕ) (W : Name) (t : ValueTold)
-    → module_told t.spot ≡ W
-    → t.spot.at < length x
+pub place_in_text : (p : Program) (first x : List ℕ) (W : Name) (t : ValueDiagnostic)
+    → fault_module t.source_location ≡ W
+    → t.source_location.at < length x
     → IsWithin first W
-    → StandsForNone p first (written x) t
+    → DenotesNoValue p first (written x) t
     → IsWrongWithin p first x t
 place_in_text p first x W t e l w n = record {
   none = n;

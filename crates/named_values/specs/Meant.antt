@@ -4,10 +4,10 @@ use Rattle.std.specs.Prelude.{◌≡◌, ℕ, ◌<◌, List, length, string_byte
 use Rattle.std.specs.Global.{Global}
 use Rattle.asn_base.specs.Abstract.{AbstractValue}
 use Rattle.trees.specs.Values.{Name, Tree}
-use Rattle.names.specs.Faults.{module_told}
+use Rattle.names.specs.Faults.{fault_module}
 use Rattle.resolve.specs.Program.{Program}
-use Rattle.messages.specs.front_end.Untyped.{StandsFor, IsNone}
-use Rattle.messages.specs.told_values.declared.telling.ValueTold.{ValueTold}
+use Rattle.messages.specs.front_end.ValueError.{DenotesValue, HasNoValue}
+use Rattle.messages.specs.value_diagnostics.declared.value_diagnostic.ValueDiagnostic.{ValueDiagnostic}
 use Rattle.messages.specs.declared.fault.Fault.{Fault}
 use Rattle.messages.specs.declared.fault.Fault.TheVariants as faults
 use Rattle.messages.specs.declared.fault.NotationFault.{NotationFault}
@@ -22,16 +22,16 @@ pub record IsMeant (p : Program) (first : List ℕ) (second : Given) (t : ℕ) (
   pub within : Name
   pub notation : Tree
   pub named : AreGiven p first second t within notation
-  pub stands : StandsFor p within t notation v
+  pub stands : DenotesValue p within t notation v
 
--- The first name is that of a type, and the notation of the value that is given stands for no value of the type. `told`
+-- The first name is that of a type, and the notation of the value that is given stands for no value of the type. `diagnostic`
 -- is a fault of that notation.
-pub record StandsForNone (p : Program) (first : List ℕ) (second : Given) (told : ValueTold) : Type 0 where
+pub record DenotesNoValue (p : Program) (first : List ℕ) (second : Given) (diagnostic : ValueDiagnostic) : Type 0 where
   pub type : ℕ
   pub within : Name
   pub notation : Tree
   pub named : AreGiven p first second type within notation
-  pub none : IsNone p within type notation told
+  pub none : HasNoValue p within type notation diagnostic
 
 -- the first text names a type
 abbrev pub NamesType : Program → List ℕ → Type 0
@@ -44,10 +44,10 @@ NamesNoValue p (written text) x = ⊥
 
 -- The notation that the text x is stands for no value of the type, and the place of the fault is in that text. The
 -- module of the fault is the one in which the notation is read.
-pub record IsWrongWithin (p : Program) (first x : List ℕ) (told : ValueTold) : Type 0 where
-  pub none : StandsForNone p first (written x) told
-  pub within : module_told told.spot ≡ none.within
-  pub at : told.spot.at < length x
+pub record IsWrongWithin (p : Program) (first x : List ℕ) (diagnostic : ValueDiagnostic) : Type 0 where
+  pub none : DenotesNoValue p first (written x) diagnostic
+  pub within : fault_module diagnostic.source_location ≡ none.within
+  pub at : diagnostic.source_location.at < length x
 
 -- The first text names a type, and the value is given by a text with this fault. The text has no tokens, or its tokens
 -- aren't those of one value, or the notation stands for no value of the type.
@@ -65,6 +65,6 @@ abbrev pub IsNotMeant : Program → (first : List ℕ) → (second : Given) → 
 IsNotMeant p first second faults.Memory = Unit {0}
 IsNotMeant p first second (faults.NoType x) = (string_bytes x ≡ first) × ((t : ℕ) → TypeNamed p first t → ⊥)
 IsNotMeant p first second (faults.NoValue x) = NamesType p first × NamesNoValue p second x
-IsNotMeant p first second (faults.Value t) = StandsForNone p first second t
+IsNotMeant p first second (faults.Value t) = DenotesNoValue p first second t
 IsNotMeant p first second (faults.Notation f) = IsWrongText p first second f
 IsNotMeant p first second fault = ⊥

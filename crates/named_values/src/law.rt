@@ -6,43 +6,43 @@ ghost use Rattle.std.specs.Global.{Global};
 ghost use Rattle.asn_base.specs.Abstract.{AbstractValue};
 ghost use Rattle.names.specs.declared.scope.Assigned.{Assigned};
 ghost use Rattle.resolve.specs.Program.{Program};
-ghost use Rattle.messages.specs.front_end.Accepted.{Keeps};
-ghost use Rattle.text.specs.declared.fault.LexFault.{LexFault};
-ghost use Rattle.notation.specs.declared.fault.SyntaxFault.{SyntaxFault};
+ghost use Rattle.messages.specs.front_end.Accepted.{IsCheckedProgram};
+ghost use Rattle.text.specs.declared.lex_fault.LexFault.{LexFault};
+ghost use Rattle.notation.specs.declared.syntax_fault.SyntaxFault.{SyntaxFault};
 ghost use Rattle.messages.specs.declared.fault.Fault.{Fault};
 ghost use Rattle.messages.specs.declared.fault.Fault.TheVariants.{Memory, NoType, NoValue, Notation, Value};
 ghost use Rattle.messages.specs.declared.fault.NotationFault.{NotationFault as NotationFault'};
 ghost use Rattle.messages.specs.declared.fault.NotationFault.TheVariants.{Octets, Tokens};
-ghost use Rattle.messages.specs.told_values.declared.telling.ValueTold.{ValueTold};
+ghost use Rattle.messages.specs.value_diagnostics.declared.value_diagnostic.ValueDiagnostic.{ValueDiagnostic};
 ghost use Rattle.named_values.specs.Given.{Given};
-ghost use Rattle.named_values.specs.Meant.{IsMeant, IsNotMeant, StandsForNone};
+ghost use Rattle.named_values.specs.Meant.{IsMeant, IsNotMeant, DenotesNoValue};
 ghost use Rattle.named_values.specs.Named.{IsNamed};
 
 use messages::front_end::law::one_value;
-use written_values::law::{one_fault, one_notation, wrong_texts_are_none};
+use written_values::law::{lemma_one_fault, lemma_one_notation, lemma_wrong_texts_are_none};
 
 /// A name of a type and a value that is given mean at most one value of one type. If they mean one, the only refusal is
 /// `Memory`.
 pub fn one_meaning()
     ensures one { (p : Program) (first : List ℕ) (second : Given) (t u : ℕ) (v w : AbstractValue) →
-        Keeps p →
+        IsCheckedProgram p →
         IsMeant p first second t v →
         IsMeant p first second u w →
         (t ≡ u) × (v ≡ w) }
     ensures refused { (p : Program) (first : List ℕ) (second : Given) (t : ℕ) (v : AbstractValue) (e : Fault) →
-        Keeps p →
+        IsCheckedProgram p →
         IsMeant p first second t v →
         IsNotMeant p first second e →
         e ≡ Memory }
 {
     one_value();
-    one_notation();
-    wrong_texts_are_none();
+    lemma_one_notation();
+    lemma_wrong_texts_are_none();
 }
 
 /// A text names at most one type or value.
 pub fn one_name()
-    ensures { (p : Program) (text : List ℕ) (a b : Assigned) → Keeps p → IsNamed p text a → IsNamed p text b → a ≡ b }
+    ensures { (p : Program) (text : List ℕ) (a b : Assigned) → IsCheckedProgram p → IsNamed p text a → IsNamed p text b → a ≡ b }
 {}
 
 /// Refusals come in one order: that of the type's name, then that of the value's name or of the text's octets and
@@ -53,12 +53,12 @@ pub fn one_refusal()
         IsNotMeant p first second (NoValue y) →
         ⊥ }
     ensures type_before_notation { (p : Program) (first : List ℕ) (second : Given) (x : String Global)
-        (t : ValueTold) →
+        (t : ValueDiagnostic) →
         IsNotMeant p first second (NoType x) →
         IsNotMeant p first second (Value t) →
         ⊥ }
     ensures value_before_notation { (p : Program) (first : List ℕ) (second : Given) (x : String Global)
-        (t : ValueTold) →
+        (t : ValueDiagnostic) →
         IsNotMeant p first second (NoValue x) →
         IsNotMeant p first second (Value t) →
         ⊥ }
@@ -73,14 +73,14 @@ pub fn one_refusal()
         IsNotMeant p first second (NoValue x) →
         IsNotMeant p first second (Notation f) →
         ⊥ }
-    ensures octets_before_notation { (p : Program) (first : List ℕ) (second : Given) (f : LexFault) (t : ValueTold) →
+    ensures octets_before_notation { (p : Program) (first : List ℕ) (second : Given) (f : LexFault) (t : ValueDiagnostic) →
         IsNotMeant p first second (Notation (Octets f)) →
-        StandsForNone p first second t →
+        DenotesNoValue p first second t →
         ⊥ }
     ensures tokens_before_notation { (p : Program) (first : List ℕ) (second : Given) (f : SyntaxFault)
-        (t : ValueTold) →
+        (t : ValueDiagnostic) →
         IsNotMeant p first second (Notation (Tokens f)) →
-        StandsForNone p first second t →
+        DenotesNoValue p first second t →
         ⊥ }
     // The text of a notation has one fault of its octets and tokens.
     ensures one_text { (p : Program) (first : List ℕ) (second : Given) (f g : LexFault) →
@@ -96,7 +96,7 @@ pub fn one_refusal()
         IsNotMeant p first second (Notation (Tokens g)) →
         ⊥ }
 {
-    one_fault();
-    one_notation();
-    wrong_texts_are_none();
+    lemma_one_fault();
+    lemma_one_notation();
+    lemma_wrong_texts_are_none();
 }

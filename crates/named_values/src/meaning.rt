@@ -2,22 +2,22 @@
 
 ghost use Rattle.std.specs.Prelude.{◌≡◌, ◌<◌, ℕ, List, IfOk, IfErr, length, true};
 ghost use Rattle.asn_base.specs.Abstract.{abstract};
-ghost use Rattle.names.specs.Faults.{module_told};
+ghost use Rattle.names.specs.Faults.{fault_module};
 ghost use Rattle.resolve.specs.Program.{Program};
 ghost use Rattle.written_values.specs.Written.{IsNoNotation};
 ghost use Rattle.named_values.specs.Given.{as_given, named, written};
-ghost use Rattle.named_values.specs.Meant.{IsMeant, IsNotMeant, NamesType, StandsForNone};
+ghost use Rattle.named_values.specs.Meant.{IsMeant, IsNotMeant, NamesType, DenotesNoValue};
 ghost use Rattle.named_values.specs.Named.{IsWithin, TypeNamed, ValueNamed};
 
 use crate::given::ValueGiven;
 use crate::naming::{module_in, notation_at, type_number, value_number};
 use asn_base::schema::TypeId;
 use asn_base::value::Value;
-use messages::front_end::{Modules, Untyped};
-use messages::told_values::ValueTold;
+use messages::front_end::{Modules, ValueError};
+use messages::value_diagnostics::ValueDiagnostic;
 use messages::{Fault, NotationFault};
 use std::alloc::{AllocError, Global};
-use written_values::{WrittenFault, notation_of};
+use written_values::{ValueTextFault, parse_value};
 
 /// The value that the notation of a value stands for under a type, both found by their names.
 fn typed(
@@ -38,8 +38,8 @@ fn typed(
     let (within, notation) = notation_at(modules.linked(), number);
     match modules.typed(alloc, id, within, notation) {
         Ok(value) => Ok(value),
-        Err(Untyped::Memory) => Err(Fault::Memory),
-        Err(Untyped::Told(told)) => Err(Fault::Value(told)),
+        Err(ValueError::Memory) => Err(Fault::Memory),
+        Err(ValueError::Diagnosed(diagnostic)) => Err(Fault::Value(diagnostic)),
     }
 }
 
@@ -66,16 +66,16 @@ fn of_name(
 }
 
 /// A fault of a text that is no notation.
-fn unread(fault: WrittenFault) -> Fault
+fn unread(fault: ValueTextFault) -> Fault
     ensures { (p : Program) (first x : List ℕ) →
         NamesType p first →
         IsNoNotation x fault →
         IsNotMeant p first (written x) result }
 {
     match fault {
-        WrittenFault::Memory => Fault::Memory,
-        WrittenFault::Octets(fault) => Fault::Notation(NotationFault::Octets(fault)),
-        WrittenFault::Tokens(fault) => Fault::Notation(NotationFault::Tokens(fault)),
+        ValueTextFault::Memory => Fault::Memory,
+        ValueTextFault::Octets(fault) => Fault::Notation(NotationFault::Octets(fault)),
+        ValueTextFault::Tokens(fault) => Fault::Notation(NotationFault::Tokens(fault)),
     }
 }
 
@@ -93,15 +93,15 @@ fn moved(
     let mut spaced = Vec::new(alloc);
     spaced.push(b' ')?;
     spaced.extend_from_slice(text)?;
-    let notation = match notation_of(alloc, spaced.as_slice()) {
+    let notation = match parse_value(alloc, spaced.as_slice()) {
         Ok(notation) => notation,
-        Err(WrittenFault::Memory) => return Err(AllocError),
+        Err(ValueTextFault::Memory) => return Err(AllocError),
         Err(_) => return Ok(None),
     };
     match modules.typed(alloc, id, within, &notation) {
         Ok(_) => Ok(None),
-        Err(Untyped::Memory) => Err(AllocError),
-        Err(Untyped::Told(told)) => Ok(Some(told.spot.at)),
+        Err(ValueError::Memory) => Err(AllocError),
+        Err(ValueError::Diagnosed(diagnostic)) => Ok(Some(diagnostic.source_location.at)),
     }
 }
 
@@ -113,17 +113,19 @@ fn is_in_text(
     id: TypeId,
     within: &str,
     text: &[u8],
-    told: &ValueTold,
+    diagnostic: &ValueDiagnostic,
 ) -> Result<bool, AllocError>
     requires { id.index < length modules.now.types }
-    ensures within { IfOk result (λ b. b ≡ true → module_told told.now.spot ≡ within.now) }
-    ensures at { IfOk result (λ b. b ≡ true → told.now.spot.at < length text.now) }
+    ensures within { IfOk result (λ b. b ≡ true → fault_module diagnostic.now.source_location ≡ within.now) }
+    ensures at { IfOk result (λ b. b ≡ true → diagnostic.now.source_location.at < length text.now) }
 {
-    if told.spot.module.as_str() != within || told.spot.at >= text.len() {
+    if diagnostic.source_location.module.as_str() != within
+        || diagnostic.source_location.at >= text.len()
+    {
         return Ok(false);
     }
     match moved(alloc, modules, id, within, text)? {
-        Some(at) => Ok(at != told.spot.at),
+        Some(at) => Ok(at != diagnostic.source_location.at),
         None => Ok(true),
     }
 }
@@ -135,17 +137,17 @@ fn placed(
     id: TypeId,
     within: &str,
     text: &[u8],
-    told: ValueTold,
+    diagnostic: ValueDiagnostic,
 ) -> Fault
     requires { id.index < length modules.now.types }
     ensures { (first : List ℕ) →
         IsWithin first within.now →
-        StandsForNone modules.now first (written text.now) told →
+        DenotesNoValue modules.now first (written text.now) diagnostic →
         IsNotMeant modules.now first (written text.now) result }
 {
-    match is_in_text(alloc, modules, id, within, text, &told) {
-        Ok(true) => Fault::Notation(NotationFault::Value(told)),
-        Ok(false) => Fault::Value(told),
+    match is_in_text(alloc, modules, id, within, text, &diagnostic) {
+        Ok(true) => Fault::Notation(NotationFault::Value(diagnostic)),
+        Ok(false) => Fault::Value(diagnostic),
         Err(_) => Fault::Memory,
     }
 }
@@ -164,14 +166,16 @@ fn of_text(
     ensures refused { IfErr result (IsNotMeant modules.now ty.now (written text.now)) }
 {
     let within = module_in(modules, ty, id);
-    let notation = match notation_of(alloc, text) {
+    let notation = match parse_value(alloc, text) {
         Ok(notation) => notation,
         Err(fault) => return Err(unread(fault)),
     };
     match modules.typed(alloc, id, within, &notation) {
         Ok(value) => Ok(value),
-        Err(Untyped::Memory) => Err(Fault::Memory),
-        Err(Untyped::Told(told)) => Err(placed(alloc, modules, id, within, text, told)),
+        Err(ValueError::Memory) => Err(Fault::Memory),
+        Err(ValueError::Diagnosed(diagnostic)) => Err(placed(
+            alloc, modules, id, within, text, diagnostic,
+        )),
     }
 }
 

@@ -2,9 +2,8 @@
 use Rattle.std.proofs.Common.{ℕ, pos, false, List, [], ◌∷◌, refl}
 use Rattle.std.specs.Prelude.{codes}
 use Rattle.asn_base.specs.Types.{Item, Alternative, Component, Resolved, any_number, any_size, mandatory, optional, a_sequence, an_integer, an_enumerated, a_sequence_of, a_choice}
-use Rattle.views.specs.Nodes.{nodes, member_nodes}
 use Rattle.views.specs.Tree.{Tree, Members, leaf, fields, list, alternative, integer, enumerated, member, no_member}
-use Rattle.named_views.specs.Typed.{Typed, TypedMembers, IsField, IsChosen, IsNamedItem, AreElements, IsNextElement}
+use Rattle.named_views.specs.Typed.{Typed, TypedMembers, NamedMembers, IsField, IsChosen, IsNamedItem, AreElements, IsNextElement, AreFields, IsNextField}
 
 abbrev count : Component
 count = record { name = codes "count"; type = 1; presence = mandatory }
@@ -36,10 +35,10 @@ seven = leaf (enumerated (pos 7))
 abbrev reading : Tree
 reading = fields 2 (member 0 five (member 1 seven no_member))
 
-abbrev typed : ℕ → ℕ → Tree → Typed
-typed k t x = record { schema = types; type = t; nodes = nodes k x }
+abbrev typed : ℕ → Tree → Typed
+typed t x = record { schema = types; type = t; tree = x }
 
-the_count : IsField (typed 0 0 reading) (codes "count") reading (typed 0 1 five)
+the_count : IsField (typed 0 reading) (codes "count") (typed 1 five)
 the_count = record {
   components = count ∷ state ∷ [];
   of = record { kind = a_sequence false (count ∷ state ∷ []); is = refl; are = refl };
@@ -47,14 +46,12 @@ the_count = record {
   named = refl;
   component = count;
   at = refl;
-  tree = five;
   there = refl;
-  is = record { number = 0; spelled = refl };
   type = refl;
   schema = refl;
 }
 
-the_state : IsField (typed 0 0 reading) (codes "state") reading (typed 1 2 seven)
+the_state : IsField (typed 0 reading) (codes "state") (typed 2 seven)
 the_state = record {
   components = count ∷ state ∷ [];
   of = record { kind = a_sequence false (count ∷ state ∷ []); is = refl; are = refl };
@@ -62,27 +59,23 @@ the_state = record {
   named = refl;
   component = state;
   at = refl;
-  tree = seven;
   there = refl;
-  is = record { number = 1; spelled = refl };
   type = refl;
   schema = refl;
 }
 
-the_item : IsNamedItem (typed 1 2 seven) seven (codes "failed")
+the_item : IsNamedItem (typed 2 seven) (codes "failed")
 the_item = record { kind = an_enumerated (failed ∷ []) false []; of = refl; number = pos 7; item = refl; named = refl }
 
-the_alternative : IsChosen (typed 0 4 (alternative 0 five)) (alternative 0 five) (codes "one") (typed 0 1 five)
+the_alternative : IsChosen (typed 4 (alternative 0 five)) (codes "one") (typed 1 five)
 the_alternative = record {
   kind = a_choice (one ∷ []) false [];
   of = refl;
   number = 0;
-  tree = five;
   chosen = refl;
   alternative = one;
   at = refl;
   named = refl;
-  is = record { number = 0; spelled = refl };
   type = refl;
   schema = refl;
 }
@@ -91,21 +84,41 @@ abbrev fives : Members
 fives = member 0 five no_member
 
 abbrev typed_members : Members → TypedMembers
-typed_members ms = record { schema = types; type = 1; nodes = member_nodes ms }
+typed_members ms = record { schema = types; type = 1; members = ms }
 
-the_elements : AreElements (typed 0 3 (list fives)) (list fives) (typed_members fives)
-the_elements = record { kind = a_sequence_of any_size 1; of = refl; element = refl; are = record { spelled = refl }; schema = refl }
+the_elements : AreElements (typed 3 (list fives)) (typed_members fives)
+the_elements = record { kind = a_sequence_of any_size 1; of = refl; element = refl; are = refl; schema = refl }
 
-the_first : IsNextElement (typed_members fives) fives (typed 0 1 five) (typed_members no_member)
+the_first : IsNextElement (typed_members fives) (typed 1 five) (typed_members no_member)
 the_first = record {
   number = 0;
-  tree = five;
-  rest = no_member;
   are = refl;
-  is = record { number = 0; spelled = refl };
   type = refl;
   schema = refl;
-  behind = record { spelled = refl };
   same_type = refl;
+  same_schema = refl;
+}
+
+abbrev named_members : Members → NamedMembers
+named_members ms = record { schema = types; components = count ∷ state ∷ []; members = ms }
+
+the_fields : AreFields (typed 0 reading) (named_members (member 0 five (member 1 seven no_member)))
+the_fields = record {
+  of = record { kind = a_sequence false (count ∷ state ∷ []); is = refl; are = refl };
+  are = refl;
+  schema = refl;
+}
+
+-- the second component follows the first
+the_next_field : IsNextField (named_members (member 1 seven no_member)) (codes "state") (typed 2 seven) (named_members no_member)
+the_next_field = record {
+  number = 1;
+  are = refl;
+  component = state;
+  at = refl;
+  named = refl;
+  type = refl;
+  schema = refl;
+  same_components = refl;
   same_schema = refl;
 }

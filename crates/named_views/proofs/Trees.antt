@@ -1,5 +1,5 @@
--- Parts and the trees that they are.
-use Rattle.std.proofs.Common.{arith, ◌≡◌, ℕ, suc, ◌<◌, ◌≤◌, Bool, true, false, List, [], ◌∷◌, length, map, drop, get_or, refl, sym, ap, ◌∙◌, cond, length-append}
+-- Components of a type, and their places.
+use Rattle.std.proofs.Common.{arith, ◌≡◌, ℕ, suc, ◌<◌, ◌≤◌, Bool, true, false, List, [], ◌∷◌, length, map, get_or, refl, sym, ap, ◌∙◌, cond, length-append}
 use Rattle.std.specs.Prelude.{Option, Some, None, option_map, slice_get}
 use Rattle.std.proofs.lemmas.Option.{slice_get-map, slice_get_read}
 use Rattle.asn_base.specs.Types.{Component, Kind, a_boolean, an_integer, an_enumerated, a_bit_string, a_named_bit_string, an_octet_string, a_null, an_object_identifier, a_relative_oid, a_utf8_string, a_restricted_string, a_sequence, a_set, a_sequence_of, a_set_of, a_choice, Resolved}
@@ -7,24 +7,6 @@ use Rattle.asn_base.specs.declared.schema.Component.{Component as Component'}
 use Rattle.asn_base.specs.Seen.{component_of}
 use Rattle.asn_base.specs.Schemas.{IsSound, AreListed}
 use Rattle.value_builders.specs.Named.{components_in, place_of}
-use Rattle.views.specs.declared.part.Part.{Part}
-use Rattle.views.specs.declared.part.Parts.{Parts}
-use Rattle.views.specs.Seen.{IsPart, AreParts, nodes_of, beside_of}
-use Rattle.views.specs.Tree.{Tree, Members}
-use Rattle.named_views.specs.Typed.{Typed, TypedMembers, IsTree, AreMembers}
-
--- a typed part with these nodes is the tree that its part is
-pub part_is : (p : Part) (d : Typed) (t : Tree) → d.nodes ≡ nodes_of (beside_of p.lists.now) p.nodes.now → (u : Tree) × IsPart p u → IsTree d t → IsPart p t
-part_is p d t e i h = record { number = h.number; spell = record { nodes = sym e ∙ h.spelled; within = i.1.spell.within } }
-
-pub tree_is : (p : Part) (d : Typed) (t : Tree) → d.nodes ≡ nodes_of (beside_of p.lists.now) p.nodes.now → IsPart p t → IsTree d t
-tree_is p d t e h = record { number = h.number; spelled = e ∙ h.spell.nodes }
-
-pub parts_are : (p : Parts) (d : TypedMembers) (ms : Members) → d.nodes ≡ nodes_of (beside_of p.lists.now) (drop p.at p.nodes.now) → (ns : Members) × AreParts p ns → AreMembers d ms → AreParts p ms
-parts_are p d ms e i h = record { nodes = sym e ∙ h.spelled; within = i.1.within }
-
-pub members_are : (p : Parts) (d : TypedMembers) (ms : Members) → d.nodes ≡ nodes_of (beside_of p.lists.now) (drop p.at p.nodes.now) → AreParts p ms → AreMembers d ms
-members_are p d ms e h = record { spelled = e ∙ h.nodes }
 
 -- ---- a type has few components
 

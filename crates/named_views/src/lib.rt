@@ -2,7 +2,9 @@
 #![tactic(auto)]
 
 mod elements;
+mod named_fields;
 mod part;
 
 pub use elements::Elements;
-pub use part::NamedPart;
+pub use named_fields::NamedFields;
+pub use part::NamedValueRef;

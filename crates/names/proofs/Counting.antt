@@ -12,9 +12,9 @@ use Rattle.names.specs.proving.Limiting.{IsPastCount}
 use Rattle.names.specs.First.{IsLimitAt}
 use Rattle.names.specs.proving.Gathering.{IsNamingFault, IsSomeLimit}
 use Rattle.names.specs.Modules.{name_of, type_count, value_count, all_assignments}
-use Rattle.names.specs.Faults.{IsPastHere, IsPast, module_told, name_told}
+use Rattle.names.specs.Faults.{IsPastHere, IsPast, fault_module, fault_name}
 use Rattle.names.specs.proving.Distinct.{drop_at}
-use Rattle.names.proofs.Behind.{types_count, values_count, all_behind}
+use Rattle.names.proofs.After.{types_count, values_count, all_after}
 
 -- one module more
 pub types_drop_module : (ms : List Module) (i : ℕ) (m : Module) → i < length ms → m ≡ get_or ms i m →
@@ -42,11 +42,11 @@ module _ (count : List AssignmentTree → ℕ) (add : (gs ks : List AssignmentTr
       (x : Name) → name_of (given_of g) ≡ x → IsPastHere count n k (map given_of gs) x
   past_here gs i g k now l e full sum one x q =
       let before = map given_of (take i gs) in
-      let behind = map given_of (drop (i + 1) gs) in
-      let s : before ++ given_of g ∷ behind ≡ map given_of gs = sym (map-append given_of (take i gs) (g ∷ drop (i + 1) gs)) ∙ ap (map given_of) (around gs i g l e) in
-      let d : count (map given_of (drop i gs)) ≡ count (given_of g ∷ behind) = ap (λ z. count (map given_of z)) (drop_at gs i g l e) in
-      let a : count (map given_of gs) ≡ count before + count (given_of g ∷ behind) = ap count (sym s) ∙ add before (given_of g ∷ behind) in
-      record { before = before; given = given_of g; behind = behind; splits = s; assigns = q; full = omega (arith, full, sum, d, a); counted = one }
+      let after = map given_of (drop (i + 1) gs) in
+      let s : before ++ given_of g ∷ after ≡ map given_of gs = sym (map-append given_of (take i gs) (g ∷ drop (i + 1) gs)) ∙ ap (map given_of) (around gs i g l e) in
+      let d : count (map given_of (drop i gs)) ≡ count (given_of g ∷ after) = ap (λ z. count (map given_of z)) (drop_at gs i g l e) in
+      let a : count (map given_of gs) ≡ count before + count (given_of g ∷ after) = ap count (sym s) ∙ add before (given_of g ∷ after) in
+      record { before = before; given = given_of g; after = after; splits = s; assigns = q; full = omega (arith, full, sum, d, a); counted = one }
 
   past_module : (ms : List Module) (i : ℕ) (m : Module) (k : ℕ) (M x : Name) → i < length ms → m ≡ get_or ms i m →
       M ≡ name_at m.name →
@@ -54,13 +54,13 @@ module _ (count : List AssignmentTree → ℕ) (add : (gs ks : List AssignmentTr
       IsPastHere count n k (map given_of m.assignments.items) x → IsPast count n (map module_tree_of ms) M x
   past_module ms i m k M x l e q sum h =
       let before = map module_tree_of (take i ms) in
-      let behind = map module_tree_of (drop (i + 1) ms) in
-      let s : before ++ module_tree_of m ∷ behind ≡ map module_tree_of ms = sym (map-append module_tree_of (take i ms) (m ∷ drop (i + 1) ms)) ∙ ap (map module_tree_of) (around ms i m l e) in
-      let d : count (all_assignments (map module_tree_of (drop i ms))) ≡ count (all_assignments (module_tree_of m ∷ behind)) = ap (λ z. count (all_assignments (map module_tree_of z))) (drop_at ms i m l e) in
-      let a : count (all_assignments (map module_tree_of ms)) ≡ count (all_assignments before) + count (all_assignments (module_tree_of m ∷ behind)) =
-      ap (λ z. count (all_assignments z)) (sym s) ∙ ap count (all_behind before (module_tree_of m ∷ behind)) ∙ add (all_assignments before) (all_assignments (module_tree_of m ∷ behind)) in
+      let after = map module_tree_of (drop (i + 1) ms) in
+      let s : before ++ module_tree_of m ∷ after ≡ map module_tree_of ms = sym (map-append module_tree_of (take i ms) (m ∷ drop (i + 1) ms)) ∙ ap (map module_tree_of) (around ms i m l e) in
+      let d : count (all_assignments (map module_tree_of (drop i ms))) ≡ count (all_assignments (module_tree_of m ∷ after)) = ap (λ z. count (all_assignments (map module_tree_of z))) (drop_at ms i m l e) in
+      let a : count (all_assignments (map module_tree_of ms)) ≡ count (all_assignments before) + count (all_assignments (module_tree_of m ∷ after)) =
+      ap (λ z. count (all_assignments z)) (sym s) ∙ ap count (all_after before (module_tree_of m ∷ after)) ∙ add (all_assignments before) (all_assignments (module_tree_of m ∷ after)) in
       let same : k ≡ count (all_assignments before) = omega (arith, sum, d, a) in
-      record { before = before; tree = module_tree_of m; behind = behind; splits = s; named = sym q; here = subst (λ j. IsPastHere count n j (map given_of m.assignments.items) x) same h }
+      record { before = before; tree = module_tree_of m; after = after; splits = s; named = sym q; here = subst (λ j. IsPastHere count n j (map given_of m.assignments.items) x) same h }
 
 -- what passes a limit in one module passes it in all
 pub past_naming : (ms : List Module) (i : ℕ) (m : Module) (t v : ℕ) (M : Name) (gs : List AssignmentTree)
@@ -69,9 +69,9 @@ pub past_naming : (ms : List Module) (i : ℕ) (m : Module) (t v : ℕ) (M : Nam
     IsPastCount t v M gs e → IsNamingFault (map module_tree_of ms) e
 past_naming ms i m t v M gs faults.Memory l d q r a b p = tt
 past_naming ms i m t v M gs (faults.Limit limits.Types s) l d q r a b p =
-    past_module type_count types_count 4096 ms i m t (module_told s) (name_told s) l d (p.0 ∙ q) a (subst (λ w. IsPastHere type_count 4096 t w (name_told s)) r p.1)
+    past_module type_count types_count 4096 ms i m t (fault_module s) (fault_name s) l d (p.0 ∙ q) a (subst (λ w. IsPastHere type_count 4096 t w (fault_name s)) r p.1)
 past_naming ms i m t v M gs (faults.Limit limits.Values s) l d q r a b p =
-    past_module value_count values_count 65536 ms i m v (module_told s) (name_told s) l d (p.0 ∙ q) b (subst (λ w. IsPastHere value_count 65536 v w (name_told s)) r p.1)
+    past_module value_count values_count 65536 ms i m v (fault_module s) (fault_name s) l d (p.0 ∙ q) b (subst (λ w. IsPastHere value_count 65536 v w (fault_name s)) r p.1)
 past_naming ms i m t v M gs (faults.Limit limits.Modules s) l d q r a b p = absurd p
 past_naming ms i m t v M gs (faults.Limit limits.Members s) l d q r a b p = absurd p
 past_naming ms i m t v M gs (faults.Limit limits.Items s) l d q r a b p = absurd p
@@ -89,11 +89,11 @@ pub past_more : (count : List AssignmentTree → ℕ) →
     (M x : Name) → IsPast count n ms M x → n < count (all_assignments ms)
 past_more count add n ms M x p =
     let h = p.here in
-    let a : count (all_assignments ms) ≡ count (all_assignments p.before) + count (all_assignments (p.tree ∷ p.behind)) =
-    ap (λ z. count (all_assignments z)) (sym p.splits) ∙ ap count (all_behind p.before (p.tree ∷ p.behind)) ∙ add (all_assignments p.before) (all_assignments (p.tree ∷ p.behind)) in
-    let b : count (all_assignments (p.tree ∷ p.behind)) ≡ count p.tree.assignments + count (all_assignments p.behind) = add p.tree.assignments (all_assignments p.behind) in
-    let c : count p.tree.assignments ≡ count h.before + count (h.given ∷ h.behind) = ap count (sym h.splits) ∙ add h.before (h.given ∷ h.behind) in
-    let d : count (h.given ∷ h.behind) ≡ count (h.given ∷ []) + count h.behind = add (h.given ∷ []) h.behind in
+    let a : count (all_assignments ms) ≡ count (all_assignments p.before) + count (all_assignments (p.tree ∷ p.after)) =
+    ap (λ z. count (all_assignments z)) (sym p.splits) ∙ ap count (all_after p.before (p.tree ∷ p.after)) ∙ add (all_assignments p.before) (all_assignments (p.tree ∷ p.after)) in
+    let b : count (all_assignments (p.tree ∷ p.after)) ≡ count p.tree.assignments + count (all_assignments p.after) = add p.tree.assignments (all_assignments p.after) in
+    let c : count p.tree.assignments ≡ count h.before + count (h.given ∷ h.after) = ap count (sym h.splits) ∙ add h.before (h.given ∷ h.after) in
+    let d : count (h.given ∷ h.after) ≡ count (h.given ∷ []) + count h.after = add (h.given ∷ []) h.after in
     omega (arith, a, b, c, d, h.full, h.counted)
 
 -- a fault with the offset of an assignment's name is a passed limit

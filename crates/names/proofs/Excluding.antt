@@ -7,18 +7,18 @@ use Rattle.trees.specs.Modules.{ModuleTree}
 use Rattle.names.specs.declared.fault.NameFault.{NameFault}
 use Rattle.names.specs.declared.fault.NameFault.TheVariants as faults
 use Rattle.names.specs.declared.fault.Limit.TheVariants as limits
-use Rattle.names.specs.Faults.{IsNamesFault, module_told, name_told}
-use Rattle.names.specs.Modules.{StandsIn, AreDistinct, assigned_names, type_count, value_count, IsExported, AreNamed, AreFew}
-use Rattle.names.proofs.Behind.{types_count, values_count}
+use Rattle.names.specs.Faults.{IsNamesFault, fault_module, fault_name}
+use Rattle.names.specs.Modules.{OccursIn, AreDistinct, assigned_names, type_count, value_count, IsExported, AreNamed, AreFew}
+use Rattle.names.proofs.After.{types_count, values_count}
 use Rattle.names.proofs.Counting.{past_more}
-use Rattle.names.specs.proving.Distinct.{stands_map}
+use Rattle.names.specs.proving.Distinct.{occurs_map}
 
 -- two modules of one name are one module
-one_module : (ms : List ModuleTree) (a b : ModuleTree) → AreDistinct (map (λ m. m.name) ms) → StandsIn ms a →
-    StandsIn ms b → a.name ≡ b.name → a ≡ b
+one_module : (ms : List ModuleTree) (a b : ModuleTree) → AreDistinct (map (λ m. m.name) ms) → OccursIn ms a →
+    OccursIn ms b → a.name ≡ b.name → a ≡ b
 one_module ms a b d s t e =
-    let x = stands_map (λ (m : ModuleTree). m.name) ms s.0 a s.1 in
-    let y = stands_map (λ (m : ModuleTree). m.name) ms t.0 b t.1 ∙ ap Some (sym e) in
+    let x = occurs_map (λ (m : ModuleTree). m.name) ms s.0 a s.1 in
+    let y = occurs_map (λ (m : ModuleTree). m.name) ms t.0 b t.1 ∙ ap Some (sym e) in
     elim (cases_order s.0 t.0) [
       | inl q ↦ same_Some a b (sym s.1 ∙ ap (λ k. slice_get ms k) q ∙ t.1)
       | inr r ↦ elim r [
@@ -29,23 +29,23 @@ one_module ms a b d s t e =
 
 pub names_exclude : (ms : List ModuleTree) (e : NameFault) → IsNamesFault ms e → AreNamed ms → AreFew ms → ⊥
 names_exclude ms faults.Memory f n w = f
-names_exclude ms (faults.Twice s) f n w = elim f [ inl t ↦ n.modules (name_told s) t.1 | inr r ↦ n.names r.tree (r.number, r.there) (name_told s) r.twice ]
+names_exclude ms (faults.Twice s) f n w = elim f [ inl t ↦ n.modules (fault_name s) t.1 | inr r ↦ n.names r.tree (r.number, r.there) (fault_name s) r.twice ]
 names_exclude ms (faults.UnknownName s) f n w =
     elim f [
-      | inl r ↦ r.unassigned (n.exports r.tree r.names (name_told s) r.there r.list r.listed)
-      | inr r ↦ (let o = n.imports r.tree r.other.name (name_told s) r.there r.imports in
-          r.such (subst (λ t. StandsIn (assigned_names t) (name_told s)) (one_module ms o.tree r.other n.modules o.there r.given o.named) o.assigns))
+      | inl r ↦ r.unassigned (n.exports r.tree r.names (fault_name s) r.there r.list r.listed)
+      | inr r ↦ (let o = n.imports r.tree r.other.name (fault_name s) r.there r.imports in
+          r.such (subst (λ t. OccursIn (assigned_names t) (fault_name s)) (one_module ms o.tree r.other n.modules o.there r.given o.named) o.assigns))
     ]
 names_exclude ms (faults.NotExported s) f n w =
-    let o = n.imports f.tree f.other.name (name_told s) f.there f.imports in
-    f.such.1 (subst (λ (t : ModuleTree). IsExported t.exports (name_told s)) (one_module ms o.tree f.other n.modules o.there f.given o.named) o.exported)
+    let o = n.imports f.tree f.other.name (fault_name s) f.there f.imports in
+    f.such.1 (subst (λ (t : ModuleTree). IsExported t.exports (fault_name s)) (one_module ms o.tree f.other n.modules o.there f.given o.named) o.exported)
 names_exclude ms (faults.UnknownModule s) f n w =
-    let o = n.imports f.tree (name_told s) f.name f.there f.imports in
-    f.nowhere (o.there.0, stands_map (λ (m : ModuleTree). m.name) ms o.there.0 o.tree o.there.1 ∙ ap Some o.named)
+    let o = n.imports f.tree (fault_name s) f.name f.there f.imports in
+    f.nowhere (o.there.0, occurs_map (λ (m : ModuleTree). m.name) ms o.there.0 o.tree o.there.1 ∙ ap Some o.named)
 names_exclude ms (faults.Circular s) f n w = f
 names_exclude ms (faults.Limit limits.Modules s) f n w = let a = w.modules in let b = slice_get_within ms 256 f.tree f.there in absurd (omega (arith, a, b))
-names_exclude ms (faults.Limit limits.Types s) f n w = let a = w.types in let b = past_more type_count types_count 4096 ms (module_told s) (name_told s) f in absurd (omega (arith, a, b))
-names_exclude ms (faults.Limit limits.Values s) f n w = let a = w.values in let b = past_more value_count values_count 65536 ms (module_told s) (name_told s) f in absurd (omega (arith, a, b))
+names_exclude ms (faults.Limit limits.Types s) f n w = let a = w.types in let b = past_more type_count types_count 4096 ms (fault_module s) (fault_name s) f in absurd (omega (arith, a, b))
+names_exclude ms (faults.Limit limits.Values s) f n w = let a = w.values in let b = past_more value_count values_count 65536 ms (fault_module s) (fault_name s) f in absurd (omega (arith, a, b))
 names_exclude ms (faults.Limit limits.Members s) f n w = f
 names_exclude ms (faults.Limit limits.Items s) f n w = f
 names_exclude ms (faults.Limit limits.NamedBit s) f n w = f

@@ -4,7 +4,7 @@ use Rattle.std.specs.Prelude.{slice_get}
 use Rattle.std.proofs.Math.Seq.{take-append_seam}
 use Rattle.std.proofs.lemmas.List.{append-nil, length-map, map-append, take-append-le}
 use Rattle.std.proofs.lemmas.Option.{slice_get_within}
-use Rattle.trees.specs.declared.place.Spot.{Spot}
+use Rattle.trees.specs.declared.location.SourceLocation.{SourceLocation}
 use Rattle.trees.specs.Values.{Name}
 use Rattle.trees.specs.Modules.{AssignmentTree, ModuleTree}
 use Rattle.names.specs.declared.fault.NameFault.{NameFault}
@@ -12,15 +12,15 @@ use Rattle.names.specs.declared.fault.NameFault.TheVariants as faults
 use Rattle.names.specs.declared.gather.ModuleTables.{ModuleTables}
 use Rattle.names.specs.declared.gather.Tables.{Tables}
 use Rattle.names.specs.declared.scope.Assigned.{Assigned}
-use Rattle.names.specs.proving.Gathering.{TellsTwice, IsTwice, IsTaken, IsRepeated, IsTwiceFirst, Adds, HasGathered, IsNamingFault}
-use Rattle.names.specs.Faults.{IsFirstAgain, IsFirstTwice, module_told, name_told}
+use Rattle.names.specs.proving.Gathering.{ReportsTwice, IsTwice, IsTaken, IsRepeated, IsTwiceFirst, Adds, HasGathered, IsNamingFault}
+use Rattle.names.specs.Faults.{IsFirstAgain, IsFirstTwice, fault_module, fault_name}
 use Rattle.names.specs.Names.{names_of, Module, under}
-use Rattle.names.specs.Modules.{name_of, StandsIn, StandsTwice, AreDistinct, names_in, value_count, all_assignments}
+use Rattle.names.specs.Modules.{name_of, OccursIn, OccursTwice, AreDistinct, names_in, value_count, all_assignments}
 use Rattle.names.specs.ByNumber.{named_from, roots_from, values_from, owned_by, scope_of, scopes_from, owned_from}
 use Rattle.names.specs.Scopes.{scopes}
 use Rattle.names.specs.Sources.{assignment_of, header_of, sources_of, value_of}
-use Rattle.names.proofs.Behind.{named_behind, roots_behind, values_behind, names_named, length_values, length_owned, length_all_owned, all_behind, scopes_behind, owned_behind, names_scopes}
-use Rattle.names.specs.proving.Distinct.{again_twice, either, left, right, stands_either, stands_one, twice_across, distinct_none, distinct_more, under_none, name_under}
+use Rattle.names.proofs.After.{named_after, roots_after, values_after, names_named, length_values, length_owned, length_all_owned, all_after, scopes_after, owned_after, names_scopes}
+use Rattle.names.specs.proving.Distinct.{again_twice, either, left, right, occurs_either, occurs_once, twice_across, distinct_none, distinct_more, under_none, name_under}
 
 -- ---- assignments
 
@@ -59,8 +59,8 @@ adds_more k gs ks old now new a b =
     let la = more_owned k gs old now a in
     record {
       owned = b.owned ∙ ap (λ z. z ++ owned_by k ks) a.owned ∙ append_assoc (map assignment_of old.assignments.items) (owned_by k gs) (owned_by k ks) ∙ ap (λ z. map assignment_of old.assignments.items ++ z) (sym (map-append (λ g. (k, name_of g)) gs ks));
-      roots = b.roots ∙ ap (λ z. sources_of now.roots.items ++ roots_from z ks) la ∙ ap (λ z. z ++ roots_from (n + length gs) ks) a.roots ∙ append_assoc (sources_of old.roots.items) (roots_from n gs) (roots_from (n + length gs) ks) ∙ ap (λ z. sources_of old.roots.items ++ z) (sym (roots_behind n gs ks));
-      values = b.values ∙ ap (λ z. map value_of now.values.items ++ values_from z ks) la ∙ ap (λ z. z ++ values_from (n + length gs) ks) a.values ∙ append_assoc (map value_of old.values.items) (values_from n gs) (values_from (n + length gs) ks) ∙ ap (λ z. map value_of old.values.items ++ z) (sym (values_behind n gs ks));
+      roots = b.roots ∙ ap (λ z. sources_of now.roots.items ++ roots_from z ks) la ∙ ap (λ z. z ++ roots_from (n + length gs) ks) a.roots ∙ append_assoc (sources_of old.roots.items) (roots_from n gs) (roots_from (n + length gs) ks) ∙ ap (λ z. sources_of old.roots.items ++ z) (sym (roots_after n gs ks));
+      values = b.values ∙ ap (λ z. map value_of now.values.items ++ values_from z ks) la ∙ ap (λ z. z ++ values_from (n + length gs) ks) a.values ∙ append_assoc (map value_of old.values.items) (values_from n gs) (values_from (n + length gs) ks) ∙ ap (λ z. map value_of old.values.items ++ z) (sym (values_after n gs ks));
     }
 
 pub placed_step : (k : ℕ) (all rest : List AssignmentTree) (g : AssignmentTree) (old now new : Tables)
@@ -75,8 +75,8 @@ placed_step k all rest g old now new names names' p e u b =
     record {
       done = p.done ++ g ∷ [];
       splits = append_assoc p.done (g ∷ []) rest ∙ p.splits;
-      named = e ∙ ap (λ z. names ++ named_from z (length now.values.items) (g ∷ [])) la ∙ ap (λ z. names ++ named_from (n + length p.done) z (g ∷ [])) lv ∙ ap (λ z. z ++ named_from (n + length p.done) (v + value_count p.done) (g ∷ [])) p.named ∙ sym (named_behind n v p.done (g ∷ []));
-      distinct = subst AreDistinct (sym (map-append name_of p.done (g ∷ []))) (distinct_more (map name_of p.done) (name_of g) p.distinct (λ s. under_none (name_of g) names u (subst (λ l. StandsIn l (name_of g)) (sym same) s)));
+      named = e ∙ ap (λ z. names ++ named_from z (length now.values.items) (g ∷ [])) la ∙ ap (λ z. names ++ named_from (n + length p.done) z (g ∷ [])) lv ∙ ap (λ z. z ++ named_from (n + length p.done) (v + value_count p.done) (g ∷ [])) p.named ∙ sym (named_after n v p.done (g ∷ []));
+      distinct = subst AreDistinct (sym (map-append name_of p.done (g ∷ []))) (distinct_more (map name_of p.done) (name_of g) p.distinct (λ s. under_none (name_of g) names u (subst (λ l. OccursIn l (name_of g)) (sym same) s)));
       adds = adds_more k p.done (g ∷ []) old now new p.adds b;
     }
 
@@ -89,7 +89,7 @@ placed_end k all old now names p =
 
 -- what follows from `Twice` or `Memory`
 tells : (Q : Name → Name → Type 0) (P : NameFault → Type 0) → P faults.Memory →
-    ((s : Spot) → Q (module_told s) (name_told s) → P (faults.Twice s)) → (e : NameFault) → TellsTwice Q e → P e
+    ((s : SourceLocation) → Q (fault_module s) (fault_name s) → P (faults.Twice s)) → (e : NameFault) → ReportsTwice Q e → P e
 tells Q P m t faults.Memory q = m
 tells Q P m t (faults.Twice s) q = t s q
 tells Q P m t (faults.UnknownName s) q = absurd q
@@ -99,14 +99,14 @@ tells Q P m t (faults.Circular s) q = absurd q
 tells Q P m t (faults.UnknownModule s) q = absurd q
 
 -- a name after distinct ones that is one of them is the first of all that is also before its place
-first_again : (x : Name) (xs ys : List Name) → AreDistinct xs → StandsIn xs x → IsFirstAgain (xs ++ x ∷ ys) x
+first_again : (x : Name) (xs ys : List Name) → AreDistinct xs → OccursIn xs x → IsFirstAgain (xs ++ x ∷ ys) x
 first_again x xs ys d s =
     let z : length xs ≡ length xs + 0 = omega arith in
     let f : take (length xs) (xs ++ x ∷ ys) ≡ xs = take-append_seam xs (x ∷ ys) in
     record {
       number = length xs;
       there = ap (λ k. slice_get (xs ++ x ∷ ys) k) z ∙ right xs (x ∷ ys) 0;
-      again = subst (λ l. StandsIn l x) (sym f) s;
+      again = subst (λ l. OccursIn l x) (sym f) s;
       before = subst AreDistinct (sym f) d;
     }
 
@@ -114,7 +114,7 @@ first_again x xs ys d s =
 taken_twice : (M x : Name) (xs ys all : List Name) (e : NameFault) → xs ++ x ∷ ys ≡ all → AreDistinct xs →
     IsTaken M x xs e → IsRepeated M all e
 taken_twice M x xs ys all e q d t =
-    tells (λ m y. (m ≡ M) × (y ≡ x) × StandsIn xs x) (IsRepeated M all) tt (λ s u. (u.0, subst (λ z. IsFirstAgain all z) (sym u.1) (subst (λ l. IsFirstAgain l x) q (first_again x xs ys d u.2)))) e t
+    tells (λ m y. (m ≡ M) × (y ≡ x) × OccursIn xs x) (IsRepeated M all) tt (λ s u. (u.0, subst (λ z. IsFirstAgain all z) (sym u.1) (subst (λ l. IsFirstAgain l x) q (first_again x xs ys d u.2)))) e t
 
 twice_taken : {X : Type 0} (M x : Name) (es : List (Name × X)) (e : NameFault) → IsTwice M x es e →
     IsTaken M x (names_of es) e
@@ -135,7 +135,7 @@ pub import_distinct : (as' : List (Name × Assigned)) (is is' : List (Name × Na
     AreDistinct (names_of as' ++ names_of is')
 import_distinct as' is is' x N d u w e =
     let same : (names_of as' ++ names_of is) ++ x ∷ [] ≡ names_of as' ++ names_of is' = append_assoc (names_of as') (names_of is) (x ∷ []) ∙ ap (λ l. names_of as' ++ l) (sym (ap names_of e ∙ map-append (λ (p : Name × Name). p.0) is ((x, N) ∷ []))) in
-    subst AreDistinct same (distinct_more (names_of as' ++ names_of is) x d (λ s. elim (stands_either (names_of as') (names_of is) x s) [
+    subst AreDistinct same (distinct_more (names_of as' ++ names_of is) x d (λ s. elim (occurs_either (names_of as') (names_of is) x s) [
       | inl a ↦ under_none x as' u a
       | inr b ↦ under_none x is w b
     ]))
@@ -161,14 +161,14 @@ again_left xs ys x a =
     record {
       number = a.number;
       there = left xs ys a.number x a.there;
-      again = subst (λ l. StandsIn l x) (sym f) a.again;
+      again = subst (λ l. OccursIn l x) (sym f) a.again;
       before = subst AreDistinct (sym f) a.before;
     }
 
 pub repeated_more : (M : Name) (xs ys all : List Name) (e : NameFault) → xs ++ ys ≡ all → IsRepeated M xs e →
     IsRepeated M all e
 repeated_more M xs ys all e q t =
-    tells (λ m y. (m ≡ M) × IsFirstAgain xs y) (IsRepeated M all) tt (λ s u. (u.0, subst (λ l. IsFirstAgain l (name_told s)) q (again_left xs ys (name_told s) u.1))) e t
+    tells (λ m y. (m ≡ M) × IsFirstAgain xs y) (IsRepeated M all) tt (λ s u. (u.0, subst (λ l. IsFirstAgain l (fault_name s)) q (again_left xs ys (fault_name s) u.1))) e t
 
 pub imports_fault : (M : Name) (xs : List Name) (is one rest all : List (Name × Name)) (e : NameFault) →
     is ++ (one ++ rest) ≡ all → IsRepeated M (xs ++ names_of (is ++ one)) e → IsRepeated M (xs ++ names_of all) e
@@ -177,12 +177,12 @@ imports_fault M xs is one rest all e q t =
 
 -- ---- modules
 
-stands_last : {X : Type 0} (P : X → Type 0) (xs : List X) (x : X) → ((y : X) → StandsIn xs y → P y) → P x →
-    (y : X) → StandsIn (xs ++ x ∷ []) y → P y
-stands_last P xs x f p y s =
-    elim (stands_either xs (x ∷ []) y s) [
+occurs_last : {X : Type 0} (P : X → Type 0) (xs : List X) (x : X) → ((y : X) → OccursIn xs y → P y) → P x →
+    (y : X) → OccursIn (xs ++ x ∷ []) y → P y
+occurs_last P xs x f p y s =
+    elim (occurs_either xs (x ∷ []) y s) [
       | inl a ↦ f y a
-      | inr b ↦ subst P (stands_one x y b) p
+      | inr b ↦ subst P (occurs_once x y b) p
     ]
 
 pub gathered_more : (ms : List ModuleTree) (t : ModuleTree) (g g' : ModuleTables) → HasGathered ms g →
@@ -198,30 +198,30 @@ gathered_more ms t g g' h u s d a n =
     let zg : length gs ≡ 0 + length gs = omega arith in
     let zv : value_count gs ≡ 0 + value_count gs = omega arith in
     let zh : length ms ≡ 0 + length ms = omega arith in
-    let all : all_assignments (ms ++ t ∷ []) ≡ gs ++ t.assignments = all_behind ms (t ∷ []) ∙ ap (λ l. gs ++ l) (append-nil t.assignments) in
+    let all : all_assignments (ms ++ t ∷ []) ≡ gs ++ t.assignments = all_after ms (t ∷ []) ∙ ap (λ l. gs ++ l) (append-nil t.assignments) in
     let same : names_of (scopes g.modules.entries) ≡ map (λ m. m.name) ms = ap names_of h.scopes ∙ names_scopes 0 0 ms in
     record {
-      scopes = s ∙ ap (λ z. scopes g.modules.entries ++ scopes_from z (length g.tables.values.items) (t ∷ [])) (lg ∙ zg) ∙ ap (λ z. scopes g.modules.entries ++ scopes_from (0 + length gs) z (t ∷ [])) (lv ∙ zv) ∙ ap (λ z. z ++ scopes_from (0 + length gs) (0 + value_count gs) (t ∷ [])) h.scopes ∙ sym (scopes_behind 0 0 ms (t ∷ []));
+      scopes = s ∙ ap (λ z. scopes g.modules.entries ++ scopes_from z (length g.tables.values.items) (t ∷ [])) (lg ∙ zg) ∙ ap (λ z. scopes g.modules.entries ++ scopes_from (0 + length gs) z (t ∷ [])) (lv ∙ zv) ∙ ap (λ z. z ++ scopes_from (0 + length gs) (0 + value_count gs) (t ∷ [])) h.scopes ∙ sym (scopes_after 0 0 ms (t ∷ []));
       headers = d ∙ ap (λ z. z ++ (t.name, t.tag_default) ∷ []) h.headers ∙ sym (map-append (λ m. (m.name, m.tag_default)) ms (t ∷ []));
-      assignments = a.owned ∙ ap (λ z. map assignment_of g.tables.assignments.items ++ owned_by z t.assignments) (lh ∙ zh) ∙ ap (λ z. z ++ owned_by (0 + length ms) t.assignments) h.assignments ∙ ap (λ z. owned_from 0 ms ++ z) (sym (append-nil (owned_by (0 + length ms) t.assignments))) ∙ sym (owned_behind 0 ms (t ∷ []));
-      roots = a.roots ∙ ap (λ z. sources_of g.tables.roots.items ++ roots_from z t.assignments) (lg ∙ zg) ∙ ap (λ z. z ++ roots_from (0 + length gs) t.assignments) h.roots ∙ sym (roots_behind 0 gs t.assignments) ∙ ap (roots_from 0) (sym all);
-      values = a.values ∙ ap (λ z. map value_of g.tables.values.items ++ values_from z t.assignments) (lg ∙ zg) ∙ ap (λ z. z ++ values_from (0 + length gs) t.assignments) h.values ∙ sym (values_behind 0 gs t.assignments) ∙ ap (values_from 0) (sym all);
-      distinct = subst AreDistinct (sym (map-append (λ m. m.name) ms (t ∷ []))) (distinct_more (map (λ m. m.name) ms) t.name h.distinct (λ z. under_none t.name (scopes g.modules.entries) u (subst (λ l. StandsIn l t.name) (sym same) z)));
-      apart = stands_last (λ m. AreDistinct (names_in m)) ms t h.apart n;
+      assignments = a.owned ∙ ap (λ z. map assignment_of g.tables.assignments.items ++ owned_by z t.assignments) (lh ∙ zh) ∙ ap (λ z. z ++ owned_by (0 + length ms) t.assignments) h.assignments ∙ ap (λ z. owned_from 0 ms ++ z) (sym (append-nil (owned_by (0 + length ms) t.assignments))) ∙ sym (owned_after 0 ms (t ∷ []));
+      roots = a.roots ∙ ap (λ z. sources_of g.tables.roots.items ++ roots_from z t.assignments) (lg ∙ zg) ∙ ap (λ z. z ++ roots_from (0 + length gs) t.assignments) h.roots ∙ sym (roots_after 0 gs t.assignments) ∙ ap (roots_from 0) (sym all);
+      values = a.values ∙ ap (λ z. map value_of g.tables.values.items ++ values_from z t.assignments) (lg ∙ zg) ∙ ap (λ z. z ++ values_from (0 + length gs) t.assignments) h.values ∙ sym (values_after 0 gs t.assignments) ∙ ap (values_from 0) (sym all);
+      distinct = subst AreDistinct (sym (map-append (λ m. m.name) ms (t ∷ []))) (distinct_more (map (λ m. m.name) ms) t.name h.distinct (λ z. under_none t.name (scopes g.modules.entries) u (subst (λ l. OccursIn l t.name) (sym same) z)));
+      apart = occurs_last (λ m. AreDistinct (names_in m)) ms t h.apart n;
     }
 
 -- the name of a module is that of one before it
 pub module_twice : (ms rest : List ModuleTree) (t : ModuleTree) (g : ModuleTables) (m : Module) → HasGathered ms g →
-    under t.name (scopes g.modules.entries) ≡ Some m → StandsTwice (map (λ m. m.name) (ms ++ t ∷ rest)) t.name
+    under t.name (scopes g.modules.entries) ≡ Some m → OccursTwice (map (λ m. m.name) (ms ++ t ∷ rest)) t.name
 module_twice ms rest t g m h u =
     let same : names_of (scopes g.modules.entries) ≡ map (λ m. m.name) ms = ap names_of h.scopes ∙ names_scopes 0 0 ms in
-    let s = subst (λ l. StandsIn l t.name) same (name_under t.name (scopes g.modules.entries) m u) in
-    subst (λ l. StandsTwice l t.name) (sym (map-append (λ m. m.name) ms (t ∷ rest))) (twice_across (map (λ m. m.name) ms) (t.name ∷ map (λ m. m.name) rest) t.name s (0, refl))
+    let s = subst (λ l. OccursIn l t.name) same (name_under t.name (scopes g.modules.entries) m u) in
+    subst (λ l. OccursTwice l t.name) (sym (map-append (λ m. m.name) ms (t ∷ rest))) (twice_across (map (λ m. m.name) ms) (t.name ∷ map (λ m. m.name) rest) t.name s (0, refl))
 
 pub scope_fault : (ms rest : List ModuleTree) (t : ModuleTree) (M : Name) (e : NameFault) → M ≡ t.name →
     IsRepeated M (names_in t) e → IsNamingFault (ms ++ t ∷ rest) e
 scope_fault ms rest t M e q r =
-    tells (λ m y. (m ≡ M) × IsFirstAgain (names_in t) y) (IsNamingFault (ms ++ t ∷ rest)) tt (λ s u. inr (record { number = length ms + 0; tree = t; there = right ms (t ∷ rest) 0; named = sym q ∙ sym u.0; twice = again_twice (names_in t) (name_told s) u.1 })) e r
+    tells (λ m y. (m ≡ M) × IsFirstAgain (names_in t) y) (IsNamingFault (ms ++ t ∷ rest)) tt (λ s u. inr (record { number = length ms + 0; tree = t; there = right ms (t ∷ rest) 0; named = sym q ∙ sym u.0; twice = again_twice (names_in t) (fault_name s) u.1 })) e r
 
 -- ---- the first name that is given twice
 
@@ -244,11 +244,11 @@ module _ (ms rest : List ModuleTree) (t : ModuleTree) (g : ModuleTables) (h : Ha
   same_names : names_of (scopes g.modules.entries) ≡ map (λ m. m.name) ms
   same_names = ap names_of h.scopes ∙ names_scopes 0 0 ms
 
-  modules_first : (s : Spot) (m : Module) → under t.name (scopes g.modules.entries) ≡ Some m → module_told s ≡ t.name →
-      name_told s ≡ t.name → IsFirstTwice (ms ++ t ∷ rest) (module_told s) (name_told s)
+  modules_first : (s : SourceLocation) (m : Module) → under t.name (scopes g.modules.entries) ≡ Some m → fault_module s ≡ t.name →
+      fault_name s ≡ t.name → IsFirstTwice (ms ++ t ∷ rest) (fault_module s) (fault_name s)
   modules_first s m u a b =
-      let there = subst (λ l. StandsIn l t.name) same_names (name_under t.name (scopes g.modules.entries) m u) in
-      let known = subst (λ l. StandsIn (map (λ m. m.name) l) t.name) (sym taken_modules) there in
+      let there = subst (λ l. OccursIn l t.name) same_names (name_under t.name (scopes g.modules.entries) m u) in
+      let known = subst (λ l. OccursIn (map (λ m. m.name) l) t.name) (sym taken_modules) there in
       record {
         number = length ms;
         tree = t;
@@ -256,18 +256,18 @@ module _ (ms rest : List ModuleTree) (t : ModuleTree) (g : ModuleTables) (h : Ha
         named = a;
         modules = subst (λ l. AreDistinct (map (λ m. m.name) l)) (sym taken_modules) h.distinct;
         names = earlier;
-        first = inl (b ∙ sym a, subst (λ z. StandsIn (map (λ m. m.name) (take (length ms) (ms ++ t ∷ rest))) z) (sym a) known);
+        first = inl (b ∙ sym a, subst (λ z. OccursIn (map (λ m. m.name) (take (length ms) (ms ++ t ∷ rest))) z) (sym a) known);
       }
 
   pub module_first : (e : NameFault) (m : Module) → under t.name (scopes g.modules.entries) ≡ Some m →
-      TellsTwice (λ M x. (M ≡ t.name) × (x ≡ t.name)) e → IsTwiceFirst (ms ++ t ∷ rest) e
+      ReportsTwice (λ M x. (M ≡ t.name) × (x ≡ t.name)) e → IsTwiceFirst (ms ++ t ∷ rest) e
   module_first e m u r =
       tells (λ M x. (M ≡ t.name) × (x ≡ t.name)) (IsTwiceFirst (ms ++ t ∷ rest)) tt (λ s v. modules_first s m u v.0 v.1) e r
 
   pub scope_first : (M : Name) (e : NameFault) → M ≡ t.name → under t.name (scopes g.modules.entries) ≡ None →
       IsRepeated M (names_in t) e → IsTwiceFirst (ms ++ t ∷ rest) e
   scope_first M e q u r =
-      let fresh : StandsIn (map (λ m. m.name) (take (length ms) (ms ++ t ∷ rest))) t.name → ⊥ = λ z. under_none t.name (scopes g.modules.entries) u (subst (λ l. StandsIn l t.name) (sym same_names) (subst (λ l. StandsIn (map (λ m. m.name) l) t.name) taken_modules z)) in
+      let fresh : OccursIn (map (λ m. m.name) (take (length ms) (ms ++ t ∷ rest))) t.name → ⊥ = λ z. under_none t.name (scopes g.modules.entries) u (subst (λ l. OccursIn l t.name) (sym same_names) (subst (λ l. OccursIn (map (λ m. m.name) l) t.name) taken_modules z)) in
       tells (λ m y. (m ≡ M) × IsFirstAgain (names_in t) y) (IsTwiceFirst (ms ++ t ∷ rest)) tt
       (λ s v. record {
         number = length ms;
@@ -276,7 +276,7 @@ module _ (ms rest : List ModuleTree) (t : ModuleTree) (g : ModuleTables) (h : Ha
         named = v.0 ∙ q;
         modules = subst (λ l. AreDistinct (map (λ m. m.name) l)) (sym taken_modules) h.distinct;
         names = earlier;
-        first = inr (subst (λ z. StandsIn (map (λ m. m.name) (take (length ms) (ms ++ t ∷ rest))) z → ⊥) (sym (v.0 ∙ q)) fresh, v.1);
+        first = inr (subst (λ z. OccursIn (map (λ m. m.name) (take (length ms) (ms ++ t ∷ rest))) z → ⊥) (sym (v.0 ∙ q)) fresh, v.1);
       }) e r
 
 -- modules that are gathered so far, and those that wait

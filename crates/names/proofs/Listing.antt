@@ -7,26 +7,26 @@ use Rattle.std.proofs.Math.Bool.{or-false, or-true}
 use Rattle.std.proofs.lemmas.Bool.{or_cases}
 use Rattle.std.proofs.lemmas.List.Folds.{list_any_more}
 use Rattle.std.proofs.lemmas.Map.Keys.{any_passes_from_place}
-use Rattle.trees.specs.declared.place.At.{At}
+use Rattle.trees.specs.declared.location.At.{At}
 use Rattle.trees.specs.Values.{Name, name_at}
-use Rattle.names.specs.Modules.{StandsIn}
+use Rattle.names.specs.Modules.{OccursIn}
 use Rattle.names.specs.proving.Distinct.{mapped, same_bytes, equal_bytes}
 
 abbrev is_name : Name → At (String Global) → Bool
 is_name x n = bytes_eq x (name_at n)
 
-pub any_stands : (x : Name) (ns : List (At (String Global))) → list_any (λ n. bytes_eq x (name_at n)) ns ≡ true →
-    StandsIn (map name_at ns) x
-any_stands x [] e = absurd cc
-any_stands x (n ∷ ns) e =
+pub any_occurs : (x : Name) (ns : List (At (String Global))) → list_any (λ n. bytes_eq x (name_at n)) ns ≡ true →
+    OccursIn (map name_at ns) x
+any_occurs x [] e = absurd cc
+any_occurs x (n ∷ ns) e =
     elim (or_cases (bytes_eq x (name_at n)) (list_any (is_name x) ns) e) [
       | inl a ↦ (0, ap Some (sym (equal_bytes x (name_at n) a)))
-      | inr b ↦ (let s = any_stands x ns b in (suc s.0, s.1))
+      | inr b ↦ (let s = any_occurs x ns b in (suc s.0, s.1))
     ]
 
-pub stands_any : (x : Name) (ns : List (At (String Global))) → StandsIn (map name_at ns) x →
+pub occurs_any : (x : Name) (ns : List (At (String Global))) → OccursIn (map name_at ns) x →
     list_any (λ n. bytes_eq x (name_at n)) ns ≡ true
-stands_any x ns s =
+occurs_any x ns s =
     let m = mapped name_at ns s.0 x s.1 in
     any_passes_from_place (is_name x) ns s.0 m.0 m.1 (ap (bytes_eq x) m.2 ∙ same_bytes x)
 

@@ -10,12 +10,12 @@ use Rattle.names.specs.declared.scope.Assigned.{Assigned}
 use Rattle.names.specs.declared.scope.Assigned.TheVariants as assigned
 use Rattle.names.specs.proving.Gathering.{HasGathered}
 use Rattle.names.specs.proving.Ready.{IsReady, IsGiven}
-use Rattle.names.specs.Modules.{name_of, StandsIn, value_count, all_assignments}
+use Rattle.names.specs.Modules.{name_of, OccursIn, value_count, all_assignments}
 use Rattle.names.specs.ByNumber.{named_from, roots_from, values_from, owned_by, scopes_from, owned_from}
 use Rattle.names.specs.Names.{Module, Meaning, own, imported, IsApart}
 use Rattle.names.specs.Sources.{AllAssigned, HaveNoPlace, Value, assignment_of, header_of, source_of, value_of}
-use Rattle.names.proofs.Behind.{length_roots, length_values, length_all_owned, values_count}
-use Rattle.names.specs.proving.Distinct.{either, stands_map, under_some}
+use Rattle.names.proofs.After.{length_roots, length_values, length_all_owned, values_count}
+use Rattle.names.specs.proving.Distinct.{either, occurs_map, under_some}
 use Rattle.names.proofs.Standings.{are_apart}
 
 all_roots : (n t : ℕ) (gs : List AssignmentTree) → n + length gs ≤ t → AllAssigned t (roots_from n gs)
@@ -70,7 +70,7 @@ given_there n v t w (assigns_value y u z ∷ gs) h k (suc i) x a e = given_there
 scopes_there : (n v t w : ℕ) (ms : List ModuleTree) → n + length (all_assignments ms) ≤ t →
     v + value_count (all_assignments ms) ≤ w → (k : ℕ) (M : Name) (m : Module) →
     slice_get (scopes_from n v ms) k ≡ Some (M, m) →
-    (x : Name) (a : Assigned) → StandsIn m.assigned (x, a) → IsGiven t w a
+    (x : Name) (a : Assigned) → OccursIn m.assigned (x, a) → IsGiven t w a
 scopes_there n v t w [] h j k M m e x a s = absurd cc
 scopes_there n v t w (u ∷ ms) h j zero M m e x a s =
     let q = ap (λ z. z.1.assigned) (sym (same_Some _ (M, m) e)) in
@@ -105,10 +105,10 @@ ready ms g h =
       assigned = subst (AllAssigned (length g.tables.assignments.items)) (sym h.roots) (all_roots 0 (length g.tables.assignments.items) gs (omega (arith, lg)));
       unplaced = subst HaveNoPlace (sym h.roots) (no_places 0 gs);
       placed = λ k a e.
-          let w = owned_there 0 ms k (assignment_of a) (ap (λ l. slice_get l k) (sym h.assignments) ∙ stands_map assignment_of g.tables.assignments.items k a e) in
+          let w = owned_there 0 ms k (assignment_of a) (ap (λ l. slice_get l k) (sym h.assignments) ∙ occurs_map assignment_of g.tables.assignments.items k a e) in
           omega (arith, w, lh);
       named = λ M x a m. meaning_there ms (length g.tables.roots.items) (length g.tables.values.items) (omega (arith, lr)) (omega (arith, lv)) M x a (subst (λ l. Meaning l M x a) h.scopes m);
       valued = λ k v e.
-          let w = valued_there 0 (length gs) gs (omega arith) k (value_of v) (ap (λ l. slice_get l k) (sym h.values) ∙ stands_map value_of g.tables.values.items k v e) in
+          let w = valued_there 0 (length gs) gs (omega arith) k (value_of v) (ap (λ l. slice_get l k) (sym h.values) ∙ occurs_map value_of g.tables.values.items k v e) in
           (omega (arith, w.0, lr), omega (arith, w.1, lg));
     }

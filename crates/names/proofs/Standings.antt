@@ -11,32 +11,32 @@ use Rattle.names.specs.declared.gather.ModuleTables.{ModuleTables}
 use Rattle.names.specs.declared.scope.Assigned.{Assigned}
 use Rattle.names.specs.Names.{names_of, Module, under, IsApart}
 use Rattle.names.specs.proving.Gathering.{HasGathered, IsNamingFault}
-use Rattle.names.specs.proving.Standing.{IsOffered, IsExportFault, IsImportFault, IsImportsFault, AreStanding, IsStandingFault}
+use Rattle.names.specs.proving.Standing.{IsOffered, IsExportFault, IsImportFault, IsImportsFault, AreExportsSound, IsExportsFault}
 use Rattle.names.specs.ByNumber.{scope_of, scopes_from}
-use Rattle.names.specs.Faults.{name_told}
-use Rattle.names.specs.Modules.{imports_of, StandsIn, AreDistinct, IsExported, AreNamed, Offers, assigned_names, value_count, names_in}
+use Rattle.names.specs.Faults.{fault_name}
+use Rattle.names.specs.Modules.{imports_of, OccursIn, AreDistinct, IsExported, AreNamed, Offers, assigned_names, value_count, names_in}
 use Rattle.names.specs.Scopes.{seen, scopes}
-use Rattle.names.proofs.Behind.{names_named, names_scopes}
+use Rattle.names.proofs.After.{names_named, names_scopes}
 use Rattle.names.specs.proving.Distinct.{under_none, under_some, name_under, twice_across}
 
 -- what holds of all
-pub all_stood : {Y : Type 0} (ys : List Y) (P : Y → Type 0) (n : ℕ) → n ≡ length ys →
-    ((k : ℕ) (y : Y) → k < n → slice_get ys k ≡ Some y → P y) → (y : Y) → StandsIn ys y → P y
-all_stood ys P n e f y s = let w = slice_get_within ys s.0 y s.1 in f s.0 y (omega (arith, w, e)) s.1
+pub all_checked : {Y : Type 0} (ys : List Y) (P : Y → Type 0) (n : ℕ) → n ≡ length ys →
+    ((k : ℕ) (y : Y) → k < n → slice_get ys k ≡ Some y → P y) → (y : Y) → OccursIn ys y → P y
+all_checked ys P n e f y s = let w = slice_get_within ys s.0 y s.1 in f s.0 y (omega (arith, w, e)) s.1
 
 -- ---- the modules of a table of names
 
 -- what is in the table of a module
-pub record Tells (ms : List ModuleTree) (M : Name) (m : Module) : Type 0 where
+pub record Reports (ms : List ModuleTree) (M : Name) (m : Module) : Type 0 where
   pub tree : ModuleTree
-  pub there : StandsIn ms tree
+  pub there : OccursIn ms tree
   pub named : M ≡ tree.name
   pub assigned : names_of m.assigned ≡ assigned_names tree
   pub imports : m.imports ≡ imports_of tree.imports
   pub exports : m.exports ≡ tree.exports
 
 pub tells : (n v : ℕ) (ms : List ModuleTree) (k : ℕ) (M : Name) (m : Module) →
-    slice_get (scopes_from n v ms) k ≡ Some (M, m) → Tells ms M m
+    slice_get (scopes_from n v ms) k ≡ Some (M, m) → Reports ms M m
 tells n v [] k M m e = absurd cc
 tells n v (t ∷ ms) zero M m e =
     let q : (t.name, scope_of n v t) ≡ (M, m) = same_Some _ _ e in
@@ -53,21 +53,21 @@ tells n v (t ∷ ms) (suc k) M m e =
     record { tree = r.tree; there = (suc r.there.0, r.there.1); named = r.named; assigned = r.assigned; imports = r.imports; exports = r.exports }
 
 -- the table of a module
-pub record Told (ss : List (Name × Module)) (t : ModuleTree) : Type 0 where
+pub record HasTable (ss : List (Name × Module)) (t : ModuleTree) : Type 0 where
   pub scope : Module
-  pub there : StandsIn ss (t.name, scope)
+  pub there : OccursIn ss (t.name, scope)
   pub assigned : names_of scope.assigned ≡ assigned_names t
   pub imports : scope.imports ≡ imports_of t.imports
   pub exports : scope.exports ≡ t.exports
 
-pub told : (n v : ℕ) (ms : List ModuleTree) (k : ℕ) (t : ModuleTree) → slice_get ms k ≡ Some t →
-    Told (scopes_from n v ms) t
-told n v [] k t e = absurd cc
-told n v (u ∷ ms) zero t e =
+pub reported : (n v : ℕ) (ms : List ModuleTree) (k : ℕ) (t : ModuleTree) → slice_get ms k ≡ Some t →
+    HasTable (scopes_from n v ms) t
+reported n v [] k t e = absurd cc
+reported n v (u ∷ ms) zero t e =
     let q : u ≡ t = same_Some u t e in
-    subst (λ z. Told (scopes_from n v (u ∷ ms)) z) q (record { scope = scope_of n v u; there = (0, refl); assigned = names_named n v u.assignments; imports = refl; exports = refl })
-told n v (u ∷ ms) (suc k) t e =
-    let r = told (n + length u.assignments) (v + value_count u.assignments) ms k t e in
+    subst (λ z. HasTable (scopes_from n v (u ∷ ms)) z) q (record { scope = scope_of n v u; there = (0, refl); assigned = names_named n v u.assignments; imports = refl; exports = refl })
+reported n v (u ∷ ms) (suc k) t e =
+    let r = reported (n + length u.assignments) (v + value_count u.assignments) ms k t e in
     record { scope = r.scope; there = (suc r.there.0, r.there.1); assigned = r.assigned; imports = r.imports; exports = r.exports }
 
 -- what is offered by a table is offered by its module
@@ -75,45 +75,45 @@ offers : (ms : List ModuleTree) (N x : Name) → IsOffered (scopes_from 0 0 ms) 
 offers ms N x o =
     let s = under_some N (scopes_from 0 0 ms) o.other o.there in
     let t = tells 0 0 ms s.0 N o.other s.1 in
-    record { tree = t.tree; there = t.there; named = sym t.named; assigns = subst (λ l. StandsIn l x) t.assigned (name_under x o.other.assigned o.assigned o.assigns); exported = subst (λ z. IsExported z x) t.exports o.exported }
+    record { tree = t.tree; there = t.there; named = sym t.named; assigns = subst (λ l. OccursIn l x) t.assigned (name_under x o.other.assigned o.assigned o.assigns); exported = subst (λ z. IsExported z x) t.exports o.exported }
 
-pub are_named : (ms : List ModuleTree) (g : ModuleTables) → HasGathered ms g → AreStanding (scopes g.modules.entries) →
+pub are_named : (ms : List ModuleTree) (g : ModuleTables) → HasGathered ms g → AreExportsSound (scopes g.modules.entries) →
     AreNamed ms
 are_named ms g h s =
-    let a = subst AreStanding h.scopes s in
+    let a = subst AreExportsSound h.scopes s in
     record {
       modules = h.distinct;
       names = h.apart;
       exports = λ m xs x there e listed.
-          let r = told 0 0 ms there.0 m there.1 in
-          subst (λ l. StandsIn l x) r.assigned ((a m.name r.scope r.there).0 xs x (r.exports ∙ e) listed);
+          let r = reported 0 0 ms there.0 m there.1 in
+          subst (λ l. OccursIn l x) r.assigned ((a m.name r.scope r.there).0 xs x (r.exports ∙ e) listed);
       imports = λ m N x there i.
-          let r = told 0 0 ms there.0 m there.1 in
-          offers ms N x ((a m.name r.scope r.there).1 N x (subst (λ l. StandsIn l (x, N)) (sym r.imports) i));
+          let r = reported 0 0 ms there.0 m there.1 in
+          offers ms N x ((a m.name r.scope r.there).1 N x (subst (λ l. OccursIn l (x, N)) (sym r.imports) i));
     }
 
-absent : (ms : List ModuleTree) (N : Name) → under N (scopes_from 0 0 ms) ≡ None → StandsIn (map (λ m. m.name) ms) N → ⊥
-absent ms N u s = under_none N (scopes_from 0 0 ms) u (subst (λ l. StandsIn l N) (sym (names_scopes 0 0 ms)) s)
+absent : (ms : List ModuleTree) (N : Name) → under N (scopes_from 0 0 ms) ≡ None → OccursIn (map (λ m. m.name) ms) N → ⊥
+absent ms N u s = under_none N (scopes_from 0 0 ms) u (subst (λ l. OccursIn l N) (sym (names_scopes 0 0 ms)) s)
 
 unassigned : (m : Module) (t : ModuleTree) (x : Name) → names_of m.assigned ≡ assigned_names t →
-    under x m.assigned ≡ None → StandsIn (assigned_names t) x → ⊥
-unassigned m t x e u s = under_none x m.assigned u (subst (λ l. StandsIn l x) (sym e) s)
+    under x m.assigned ≡ None → OccursIn (assigned_names t) x → ⊥
+unassigned m t x e u s = under_none x m.assigned u (subst (λ l. OccursIn l x) (sym e) s)
 
-export_fault : (ms : List ModuleTree) (M : Name) (m : Module) (e : NameFault) → Tells ms M m → IsExportFault M m e →
+export_fault : (ms : List ModuleTree) (M : Name) (m : Module) (e : NameFault) → Reports ms M m → IsExportFault M m e →
     IsNamingFault ms e
 export_fault ms M m faults.Memory t f = tt
 export_fault ms M m (faults.UnknownName s) t f =
-    inl (record { tree = t.tree; there = t.there; named = sym t.named ∙ sym f.2.0; names = f.0; list = sym t.exports ∙ f.1; listed = f.2.1; unassigned = unassigned m t.tree (name_told s) t.assigned f.2.2 })
+    inl (record { tree = t.tree; there = t.there; named = sym t.named ∙ sym f.2.0; names = f.0; list = sym t.exports ∙ f.1; listed = f.2.1; unassigned = unassigned m t.tree (fault_name s) t.assigned f.2.2 })
 export_fault ms M m (faults.Limit l s) t f = absurd f.2
 export_fault ms M m (faults.Twice s) t f = absurd f.2
 export_fault ms M m (faults.NotExported s) t f = absurd f.2
 export_fault ms M m (faults.Circular s) t f = absurd f.2
 export_fault ms M m (faults.UnknownModule s) t f = absurd f.2
 
-module _ (ms : List ModuleTree) (M : Name) (m : Module) (t : Tells ms M m) (N x : Name) (s : StandsIn m.imports (x, N)) where
-  taken_from : (y : Name) → y ≡ x → (n : Module) (r : Tells ms N n) →
-      StandsIn (imports_of t.tree.imports) (y, r.tree.name)
-  taken_from y e n r = subst (λ l. StandsIn l (y, r.tree.name)) t.imports (subst (λ z. StandsIn m.imports (z, r.tree.name)) (sym e) (subst (λ z. StandsIn m.imports (x, z)) r.named s))
+module _ (ms : List ModuleTree) (M : Name) (m : Module) (t : Reports ms M m) (N x : Name) (s : OccursIn m.imports (x, N)) where
+  taken_from : (y : Name) → y ≡ x → (n : Module) (r : Reports ms N n) →
+      OccursIn (imports_of t.tree.imports) (y, r.tree.name)
+  taken_from y e n r = subst (λ l. OccursIn l (y, r.tree.name)) t.imports (subst (λ z. OccursIn m.imports (z, r.tree.name)) (sym e) (subst (λ z. OccursIn m.imports (x, z)) r.named s))
 
   import_fault : (e : NameFault) → IsImportFault (scopes_from 0 0 ms) M N x e → IsNamingFault ms e
   import_fault faults.Memory f = tt
@@ -123,13 +123,13 @@ module _ (ms : List ModuleTree) (M : Name) (m : Module) (t : Tells ms M m) (N x 
         there = t.there;
         named = sym t.named ∙ sym f.0;
         name = x;
-        imports = subst (λ l. StandsIn l (x, name_told a)) t.imports (subst (λ z. StandsIn m.imports (x, z)) (sym f.1) s);
-        nowhere = subst (λ z. StandsIn (map (λ m. m.name) ms) z → ⊥) (sym f.1) (absent ms N f.2);
+        imports = subst (λ l. OccursIn l (x, fault_name a)) t.imports (subst (λ z. OccursIn m.imports (x, z)) (sym f.1) s);
+        nowhere = subst (λ z. OccursIn (map (λ m. m.name) ms) z → ⊥) (sym f.1) (absent ms N f.2);
       }
   import_fault (faults.UnknownName a) f =
       let o = under_some N (scopes_from 0 0 ms) f.2 f.3 in
       let r = tells 0 0 ms o.0 N f.2 o.1 in
-      inr (record { tree = t.tree; there = t.there; named = sym t.named ∙ sym f.0; other = r.tree; given = r.there; imports = taken_from (name_told a) f.1 f.2 r; such = subst (λ z. StandsIn (assigned_names r.tree) z → ⊥) (sym f.1) (unassigned f.2 r.tree x r.assigned f.4) })
+      inr (record { tree = t.tree; there = t.there; named = sym t.named ∙ sym f.0; other = r.tree; given = r.there; imports = taken_from (fault_name a) f.1 f.2 r; such = subst (λ z. OccursIn (assigned_names r.tree) z → ⊥) (sym f.1) (unassigned f.2 r.tree x r.assigned f.4) })
   import_fault (faults.NotExported a) f =
       let o = under_some N (scopes_from 0 0 ms) f.2 f.3 in
       let r = tells 0 0 ms o.0 N f.2 o.1 in
@@ -139,9 +139,9 @@ module _ (ms : List ModuleTree) (M : Name) (m : Module) (t : Tells ms M m) (N x 
         named = sym t.named ∙ sym f.0;
         other = r.tree;
         given = r.there;
-        imports = taken_from (name_told a) f.1 f.2 r;
+        imports = taken_from (fault_name a) f.1 f.2 r;
         such = (
-          subst (λ z. StandsIn (assigned_names r.tree) z) (sym f.1) (subst (λ l. StandsIn l x) r.assigned (name_under x f.2.assigned f.4 f.5)),
+          subst (λ z. OccursIn (assigned_names r.tree) z) (sym f.1) (subst (λ l. OccursIn l x) r.assigned (name_under x f.2.assigned f.4 f.5)),
           subst (λ z. IsExported r.tree.exports z → ⊥) (sym f.1) (subst (λ z. IsExported z x → ⊥) r.exports f.6),
         );
       }
@@ -149,20 +149,20 @@ module _ (ms : List ModuleTree) (M : Name) (m : Module) (t : Tells ms M m) (N x 
   import_fault (faults.Twice a) f = absurd f
   import_fault (faults.Circular a) f = absurd f
 
-one_fault : (ms : List ModuleTree) (M : Name) (m : Module) (e : NameFault) → Tells ms M m →
+one_fault : (ms : List ModuleTree) (M : Name) (m : Module) (e : NameFault) → Reports ms M m →
     IsExportFault M m e ⊎ IsImportsFault (scopes_from 0 0 ms) M m.imports e → IsNamingFault ms e
 one_fault ms M m e t (inl f) = export_fault ms M m e t f
 one_fault ms M m e t (inr f) = import_fault ms M m t f.0 f.1 f.2 e f.3
 
-scopes_fault : (ms : List ModuleTree) (e : NameFault) → IsStandingFault (scopes_from 0 0 ms) e → IsNamingFault ms e
+scopes_fault : (ms : List ModuleTree) (e : NameFault) → IsExportsFault (scopes_from 0 0 ms) e → IsNamingFault ms e
 scopes_fault ms e f = one_fault ms f.0 f.1 e (tells 0 0 ms f.2.0 f.0 f.1 f.2.1) f.3
 
 pub standing_fault : (ms : List ModuleTree) (g : ModuleTables) (e : NameFault) → HasGathered ms g →
-    IsStandingFault (scopes g.modules.entries) e → IsNamingFault ms e
-standing_fault ms g e h f = scopes_fault ms e (subst (λ z. IsStandingFault z e) h.scopes f)
+    IsExportsFault (scopes g.modules.entries) e → IsNamingFault ms e
+standing_fault ms g e h f = scopes_fault ms e (subst (λ z. IsExportsFault z e) h.scopes f)
 
 -- no module imports a name that it assigns
-pub are_apart : (ms : List ModuleTree) → ((m : ModuleTree) → StandsIn ms m → AreDistinct (names_in m)) →
+pub are_apart : (ms : List ModuleTree) → ((m : ModuleTree) → OccursIn ms m → AreDistinct (names_in m)) →
     IsApart (scopes_from 0 0 ms)
 are_apart ms d M x N m u i = by (under x m.assigned) refl
   where
@@ -171,8 +171,8 @@ are_apart ms d M x N m u i = by (under x m.assigned) refl
     by (Some a) e =
         let s = under_some M (scopes_from 0 0 ms) m u in
         let t = tells 0 0 ms s.0 M m s.1 in
-        let one = subst (λ l. StandsIn l x) t.assigned (name_under x m.assigned a e) in
-        let two = subst (λ l. StandsIn (names_of l) x) t.imports (name_under x m.imports N i) in
+        let one = subst (λ l. OccursIn l x) t.assigned (name_under x m.assigned a e) in
+        let two = subst (λ l. OccursIn (names_of l) x) t.imports (name_under x m.imports N i) in
         absurd (d t.tree t.there x (twice_across (assigned_names t.tree) (names_of (imports_of t.tree.imports)) x one two))
 
 -- what a module's name stands for, once the name is read

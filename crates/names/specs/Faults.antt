@@ -1,27 +1,27 @@
 -- What faults of names say: the module and the name in them (X.680, clauses 13 and 16). `First` says where in the text
 -- they are.
 use Rattle.std.specs.Prelude.{◌≡◌, ◌<◌, ◌+◌, ℕ, List, Some, string_bytes, slice_get, take, ◌⊎◌, ◌++◌, [], ◌∷◌, map}
-use Rattle.trees.specs.declared.place.Spot.{Spot}
+use Rattle.trees.specs.declared.location.SourceLocation.{SourceLocation}
 use Rattle.trees.specs.Values.{Name}
 use Rattle.trees.specs.Modules.{AssignmentTree, ModuleTree}
 use Rattle.names.specs.declared.fault.NameFault.{NameFault}
 use Rattle.names.specs.declared.fault.NameFault.TheVariants as faults
 use Rattle.names.specs.declared.fault.Limit.TheVariants as limits
-use Rattle.names.specs.Modules.{AreDistinct, StandsIn, StandsTwice, name_of, assigned_names, names_in, IsExported, Imports, type_count, value_count, all_assignments}
+use Rattle.names.specs.Modules.{AreDistinct, OccursIn, OccursTwice, name_of, assigned_names, names_in, IsExported, Imports, type_count, value_count, all_assignments}
 
 -- the name of the module in a fault
-abbrev pub module_told : Spot → Name
-module_told s = string_bytes s.module
+abbrev pub fault_module : SourceLocation → Name
+fault_module s = string_bytes s.module
 
 -- the name in a fault
-abbrev pub name_told : Spot → Name
-name_told s = string_bytes s.name
+abbrev pub fault_name : SourceLocation → Name
+fault_name s = string_bytes s.name
 
 -- name x is the first of these that is also before its place
 pub record IsFirstAgain (xs : List Name) (x : Name) : Type 0 where
   pub number : ℕ
   pub there : slice_get xs number ≡ Some x
-  pub again : StandsIn (take number xs) x
+  pub again : OccursIn (take number xs) x
   pub before : AreDistinct (take number xs)
 
 -- Name x of module M is the first one that is given twice. The modules before this one have distinct names, and so have
@@ -34,8 +34,8 @@ pub record IsFirstTwice (ms : List ModuleTree) (M x : Name) : Type 0 where
   pub modules : AreDistinct (map (λ m. m.name) (take number ms))
   pub names : (k : ℕ) (m : ModuleTree) → k < number → slice_get ms k ≡ Some m → AreDistinct (names_in m)
   pub first :
-      ((x ≡ M) × StandsIn (map (λ m. m.name) (take number ms)) M)
-      ⊎ ((StandsIn (map (λ m. m.name) (take number ms)) M → ⊥) × IsFirstAgain (names_in tree) x)
+      ((x ≡ M) × OccursIn (map (λ m. m.name) (take number ms)) M)
+      ⊎ ((OccursIn (map (λ m. m.name) (take number ms)) M → ⊥) × IsFirstAgain (names_in tree) x)
 
 -- name x has two meanings in module M
 pub record IsNamedTwice (ms : List ModuleTree) (M x : Name) : Type 0 where
@@ -43,7 +43,7 @@ pub record IsNamedTwice (ms : List ModuleTree) (M x : Name) : Type 0 where
   pub tree : ModuleTree
   pub there : slice_get ms number ≡ Some tree
   pub named : tree.name ≡ M
-  pub twice : StandsTwice (names_in tree) x
+  pub twice : OccursTwice (names_in tree) x
 
 -- module M is the one after 256 others; the fault has its name as the module and as the name
 pub record IsPastModules (ms : List ModuleTree) (M x : Name) : Type 0 where
@@ -56,8 +56,8 @@ pub record IsPastModules (ms : List ModuleTree) (M x : Name) : Type 0 where
 pub record IsPastHere (count : List AssignmentTree → ℕ) (n k : ℕ) (gs : List AssignmentTree) (x : Name) : Type 0 where
   pub before : List AssignmentTree
   pub given : AssignmentTree
-  pub behind : List AssignmentTree
-  pub splits : before ++ given ∷ behind ≡ gs
+  pub after : List AssignmentTree
+  pub splits : before ++ given ∷ after ≡ gs
   pub assigns : name_of given ≡ x
   pub full : k + count before ≡ n
   pub counted : count (given ∷ []) ≡ 1
@@ -66,59 +66,59 @@ pub record IsPastHere (count : List AssignmentTree → ℕ) (n k : ℕ) (gs : Li
 pub record IsPast (count : List AssignmentTree → ℕ) (n : ℕ) (ms : List ModuleTree) (M x : Name) : Type 0 where
   pub before : List ModuleTree
   pub tree : ModuleTree
-  pub behind : List ModuleTree
-  pub splits : before ++ tree ∷ behind ≡ ms
+  pub after : List ModuleTree
+  pub splits : before ++ tree ∷ after ≡ ms
   pub named : tree.name ≡ M
   pub here : IsPastHere count n (count (all_assignments before)) tree.assignments x
 
 -- module M exports name x, which it doesn't assign
 pub record ExportsNothing (ms : List ModuleTree) (M x : Name) : Type 0 where
   pub tree : ModuleTree
-  pub there : StandsIn ms tree
+  pub there : OccursIn ms tree
   pub named : tree.name ≡ M
   pub names : List Name
   pub list : tree.exports ≡ Some names
-  pub listed : StandsIn names x
-  pub unassigned : StandsIn (assigned_names tree) x → ⊥
+  pub listed : OccursIn names x
+  pub unassigned : OccursIn (assigned_names tree) x → ⊥
 
 -- module M imports name x from a module for which Q is true
 pub record ImportsFrom (ms : List ModuleTree) (M x : Name) (Q : ModuleTree → Type 0) : Type 0 where
   pub tree : ModuleTree
-  pub there : StandsIn ms tree
+  pub there : OccursIn ms tree
   pub named : tree.name ≡ M
   pub other : ModuleTree
-  pub given : StandsIn ms other
+  pub given : OccursIn ms other
   pub imports : Imports tree other.name x
   pub such : Q other
 
 -- module M imports from N, and no module has this name
 pub record ImportsNowhere (ms : List ModuleTree) (M N : Name) : Type 0 where
   pub tree : ModuleTree
-  pub there : StandsIn ms tree
+  pub there : OccursIn ms tree
   pub named : tree.name ≡ M
   pub name : Name
   pub imports : Imports tree N name
-  pub nowhere : StandsIn (map (λ m. m.name) ms) N → ⊥
+  pub nowhere : OccursIn (map (λ m. m.name) ms) N → ⊥
 
 -- two modules have the name x, which the fault has for M too, or x has two meanings in module M
 abbrev pub IsGivenTwice : List ModuleTree → Name → Name → Type 0
-IsGivenTwice ms M x = ((M ≡ x) × StandsTwice (map (λ m. m.name) ms) x) ⊎ IsNamedTwice ms M x
+IsGivenTwice ms M x = ((M ≡ x) × OccursTwice (map (λ m. m.name) ms) x) ⊎ IsNamedTwice ms M x
 
 -- module M exports name x without assigning it, or imports it from a module that doesn't assign it
 abbrev pub IsUnassigned : List ModuleTree → Name → Name → Type 0
-IsUnassigned ms M x = ExportsNothing ms M x ⊎ ImportsFrom ms M x (λ m. StandsIn (assigned_names m) x → ⊥)
+IsUnassigned ms M x = ExportsNothing ms M x ⊎ ImportsFrom ms M x (λ m. OccursIn (assigned_names m) x → ⊥)
 
 -- module M imports name x from a module that assigns it and doesn't export it
 abbrev pub IsKeptBack : List ModuleTree → Name → Name → Type 0
-IsKeptBack ms M x = ImportsFrom ms M x (λ m. StandsIn (assigned_names m) x × (IsExported m.exports x → ⊥))
+IsKeptBack ms M x = ImportsFrom ms M x (λ m. OccursIn (assigned_names m) x × (IsExported m.exports x → ⊥))
 
 -- why the names of modules have no meaning, or more than one
 abbrev pub IsNamesFault : List ModuleTree → NameFault → Type 0
-IsNamesFault ms (faults.Twice s) = IsGivenTwice ms (module_told s) (name_told s)
-IsNamesFault ms (faults.UnknownName s) = IsUnassigned ms (module_told s) (name_told s)
-IsNamesFault ms (faults.NotExported s) = IsKeptBack ms (module_told s) (name_told s)
-IsNamesFault ms (faults.UnknownModule s) = ImportsNowhere ms (module_told s) (name_told s)
-IsNamesFault ms (faults.Limit limits.Modules s) = IsPastModules ms (module_told s) (name_told s)
-IsNamesFault ms (faults.Limit limits.Types s) = IsPast type_count 4096 ms (module_told s) (name_told s)
-IsNamesFault ms (faults.Limit limits.Values s) = IsPast value_count 65536 ms (module_told s) (name_told s)
+IsNamesFault ms (faults.Twice s) = IsGivenTwice ms (fault_module s) (fault_name s)
+IsNamesFault ms (faults.UnknownName s) = IsUnassigned ms (fault_module s) (fault_name s)
+IsNamesFault ms (faults.NotExported s) = IsKeptBack ms (fault_module s) (fault_name s)
+IsNamesFault ms (faults.UnknownModule s) = ImportsNowhere ms (fault_module s) (fault_name s)
+IsNamesFault ms (faults.Limit limits.Modules s) = IsPastModules ms (fault_module s) (fault_name s)
+IsNamesFault ms (faults.Limit limits.Types s) = IsPast type_count 4096 ms (fault_module s) (fault_name s)
+IsNamesFault ms (faults.Limit limits.Values s) = IsPast value_count 65536 ms (fault_module s) (fault_name s)
 IsNamesFault ms e = ⊥

@@ -2,8 +2,8 @@
 -- module the fault of an export goes before that of an import (X.680, clause 13).
 use Rattle.std.specs.Prelude.{◌≡◌, ◌⊎◌, ◌<◌, ℕ, List, Option, Some, None, String, map, slice_get, string_bytes}
 use Rattle.std.specs.Global.{Global}
-use Rattle.trees.specs.declared.place.At.{At}
-use Rattle.trees.specs.declared.place.Spot.{Spot}
+use Rattle.trees.specs.declared.location.At.{At}
+use Rattle.trees.specs.declared.location.SourceLocation.{SourceLocation}
 use Rattle.trees.specs.declared.module.Assignment.{Assignment}
 use Rattle.trees.specs.declared.module.Assignment.TheVariants as givens
 use Rattle.trees.specs.Values.{Name, name_at}
@@ -12,8 +12,8 @@ use Rattle.names.specs.declared.fault.NameFault.TheVariants as faults
 use Rattle.names.specs.declared.scope.Assigned.{Assigned}
 use Rattle.names.specs.declared.scope.Origin.{Origin}
 use Rattle.names.specs.declared.scope.Scope.{Scope}
-use Rattle.names.specs.Faults.{name_told}
-use Rattle.names.specs.Modules.{StandsIn}
+use Rattle.names.specs.Faults.{fault_name}
+use Rattle.names.specs.Modules.{OccursIn}
 use Rattle.names.specs.Names.{Module, under, names_of}
 use Rattle.names.specs.Scopes.{module_of, origin_of, origins, scopes}
 use Rattle.names.specs.proving.Standing.{ExportAssigned, ImportOffered, IsOffered, IsImportFault}
@@ -32,29 +32,29 @@ name_place (givens.Value a) = a.name.at
 -- Limit has the offset of the name of one of these assignments
 abbrev pub IsLimitAt : List Assignment → NameFault → Type 0
 IsLimitAt gs faults.Memory = Unit {0}
-IsLimitAt gs (faults.Limit l s) = (g : Assignment) × StandsIn gs g × (s.at ≡ name_place g)
+IsLimitAt gs (faults.Limit l s) = (g : Assignment) × OccursIn gs g × (s.at ≡ name_place g)
 IsLimitAt gs e = ⊥
 
 -- ---- exports
 
 -- the fault has the first of these names without an assignment, and its offset
-pub record IsFirstLost (ns : List (At (String Global))) (as' : List (Name × Assigned)) (s : Spot) : Type 0 where
+pub record IsFirstLost (ns : List (At (String Global))) (as' : List (Name × Assigned)) (s : SourceLocation) : Type 0 where
   pub number : ℕ
   pub name : At (String Global)
   pub there : slice_get ns number ≡ Some name
-  pub told : name_told s ≡ name_at name
+  pub reported : fault_name s ≡ name_at name
   pub at : s.at ≡ name.at
-  pub before : (k : ℕ) (x : Name) → k < number → slice_get (map name_at ns) k ≡ Some x → StandsIn (names_of as') x
+  pub before : (k : ℕ) (x : Name) → k < number → slice_get (map name_at ns) k ≡ Some x → OccursIn (names_of as') x
 
 -- UnknownName has the first of these names without an assignment; `Memory` says nothing
-abbrev pub TellsLost : List (At (String Global)) → List (Name × Assigned) → NameFault → Type 0
-TellsLost ns as' faults.Memory = Unit {0}
-TellsLost ns as' (faults.UnknownName s) = IsFirstLost ns as' s
-TellsLost ns as' e = ⊥
+abbrev pub ReportsUnknown : List (At (String Global)) → List (Name × Assigned) → NameFault → Type 0
+ReportsUnknown ns as' faults.Memory = Unit {0}
+ReportsUnknown ns as' (faults.UnknownName s) = IsFirstLost ns as' s
+ReportsUnknown ns as' e = ⊥
 
 -- the same of the names that a module exports
 abbrev pub IsFirstExport : Module → NameFault → Type 0
-IsFirstExport m e = (ns : List (At (String Global))) × (m.exports ≡ Some (map name_at ns)) × TellsLost ns m.assigned e
+IsFirstExport m e = (ns : List (At (String Global))) × (m.exports ≡ Some (map name_at ns)) × ReportsUnknown ns m.assigned e
 
 -- ---- imports
 
@@ -85,7 +85,7 @@ IsFirstOf ss M s e =
     IsFirstExport (module_of s) e ⊎ (ExportAssigned (module_of s) × IsFirstImport ss M s.imports.entries e)
 
 -- the fault is that of the first module with an unassigned export or with an import that isn't offered
-pub record IsFirstStanding (es : List (String Global × Scope)) (e : NameFault) : Type 0 where
+pub record IsFirstExports (es : List (String Global × Scope)) (e : NameFault) : Type 0 where
   pub number : ℕ
   pub name : String Global
   pub scope : Scope

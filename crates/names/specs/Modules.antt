@@ -4,11 +4,11 @@ use Rattle.trees.specs.Values.{Name}
 use Rattle.trees.specs.Modules.{AssignmentTree, assigns_type, assigns_value, ImportTree, ModuleTree}
 
 -- x is in the list, at some place
-abbrev pub StandsIn : {A : Type 0} → List A → A → Type 0
-StandsIn xs x = (i : ℕ) × (slice_get xs i ≡ Some x)
+abbrev pub OccursIn : {A : Type 0} → List A → A → Type 0
+OccursIn xs x = (i : ℕ) × (slice_get xs i ≡ Some x)
 
 -- x is at two places of the list
-pub record StandsTwice {A : Type 0} (xs : List A) (x : A) : Type 0 where
+pub record OccursTwice {A : Type 0} (xs : List A) (x : A) : Type 0 where
   pub first : ℕ
   pub second : ℕ
   pub apart : first < second
@@ -17,7 +17,7 @@ pub record StandsTwice {A : Type 0} (xs : List A) (x : A) : Type 0 where
 
 -- the elements of the list are distinct: none is at two places of it
 abbrev pub AreDistinct : {A : Type 0} → List A → Type 0
-AreDistinct {A} xs = (x : A) → StandsTwice xs x → ⊥
+AreDistinct {A} xs = (x : A) → OccursTwice xs x → ⊥
 
 -- the name that a type or a value is assigned to (X.680, clause 16)
 abbrev pub name_of : AssignmentTree → Name
@@ -44,18 +44,18 @@ names_in m = assigned_names m ++ imported_names m
 -- other modules may import name x from a module with these exports; None exports every name
 abbrev pub IsExported : Option (List Name) → Name → Type 0
 IsExported None x = Unit {0}
-IsExported (Some xs) x = StandsIn xs x
+IsExported (Some xs) x = OccursIn xs x
 
 -- the module imports name x from module N
 abbrev pub Imports : ModuleTree → Name → Name → Type 0
-Imports m N x = StandsIn (imports_of m.imports) (x, N)
+Imports m N x = OccursIn (imports_of m.imports) (x, N)
 
 -- one of the modules has this name, assigns x and exports it
 pub record Offers (ms : List ModuleTree) (N x : Name) : Type 0 where
   pub tree : ModuleTree
-  pub there : StandsIn ms tree
+  pub there : OccursIn ms tree
   pub named : tree.name ≡ N
-  pub assigns : StandsIn (assigned_names tree) x
+  pub assigns : OccursIn (assigned_names tree) x
   pub exported : IsExported tree.exports x
 
 -- in these modules each name has one meaning at most, and an exported or imported name has one (X.680, clause 13)
@@ -63,15 +63,15 @@ pub record AreNamed (ms : List ModuleTree) : Type 0 where
   -- the modules' names are distinct
   pub modules : AreDistinct (map (λ m. m.name) ms)
   -- a name is assigned once in a module, or else imported once
-  pub names : (m : ModuleTree) → StandsIn ms m → AreDistinct (names_in m)
+  pub names : (m : ModuleTree) → OccursIn ms m → AreDistinct (names_in m)
   -- a module assigns each name that it exports
   pub exports : (m : ModuleTree) (xs : List Name) (x : Name) →
-      StandsIn ms m →
+      OccursIn ms m →
       m.exports ≡ Some xs →
-      StandsIn xs x →
-      StandsIn (assigned_names m) x
+      OccursIn xs x →
+      OccursIn (assigned_names m) x
   -- each name that a module imports is assigned and exported by the other module
-  pub imports : (m : ModuleTree) (N x : Name) → StandsIn ms m → Imports m N x → Offers ms N x
+  pub imports : (m : ModuleTree) (N x : Name) → OccursIn ms m → Imports m N x → Offers ms N x
 
 -- how many of these assignments are of types
 abbrev pub type_count : List AssignmentTree → ℕ

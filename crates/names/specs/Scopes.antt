@@ -2,7 +2,7 @@
 -- memory (X.680, clause 13).
 use Rattle.std.specs.Prelude.{List, map, string_bytes, String}
 use Rattle.std.specs.Global.{Global}
-use Rattle.trees.specs.declared.place.At.{At}
+use Rattle.trees.specs.declared.location.At.{At}
 use Rattle.trees.specs.Values.{Name, name_at}
 use Rattle.names.specs.declared.scope.Assigned.{Assigned}
 use Rattle.names.specs.declared.scope.Origin.{Origin}

@@ -5,7 +5,7 @@ use Rattle.std.specs.List.{AllByRecursion}
 use Rattle.trees.specs.Values.{Name, Tree, name_at, tree_of}
 use Rattle.trees.specs.declared.module.TagDefault.{TagDefault}
 use Rattle.trees.specs.Types.{TypeTree, type_tree_of}
-use Rattle.names.specs.declared.sources.Place.{Place}
+use Rattle.names.specs.declared.sources.MemberIndex.{MemberIndex}
 use Rattle.names.specs.declared.sources.AssignedAt.{AssignedAt}
 use Rattle.names.specs.declared.sources.Header.{Header}
 use Rattle.names.specs.declared.sources.ValueAt.{ValueAt}
@@ -32,7 +32,7 @@ pub record Value : Type 0 where
   pub notation : Tree
 
 -- the number of the list that a member is in, and its number there; None for a type that is no member
-abbrev pub place_of : Option Place → Option (ℕ × ℕ)
+abbrev pub place_of : Option MemberIndex → Option (ℕ × ℕ)
 place_of None = None
 place_of (Some p) = Some (p.list, p.number)
 

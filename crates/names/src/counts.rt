@@ -7,7 +7,7 @@ ghost use Rattle.names.specs.Modules.{AreFew, type_count, value_count, all_assig
 ghost use Rattle.names.specs.proving.Gathering.{IsNamingFault, IsSomeLimit};
 ghost use Rattle.names.specs.proving.Limiting.{IsPastCount};
 
-use crate::fault::{Limit, NameFault, spot};
+use crate::fault::{Limit, NameFault, source_location};
 use limits::{MAX_MODULES, MAX_TYPES, MAX_VALUES};
 use std::alloc::Global;
 use trees::{Assignment, Module};
@@ -43,7 +43,7 @@ fn count(
                     let name = &assigned.name;
                     return Err(NameFault::Limit(
                         Limit::Types,
-                        spot(alloc, within, name.it.as_str(), name.at)?,
+                        source_location(alloc, within, name.it.as_str(), name.at)?,
                     ));
                 }
                 counts.types += 1;
@@ -53,7 +53,7 @@ fn count(
                     let name = &assigned.name;
                     return Err(NameFault::Limit(
                         Limit::Values,
-                        spot(alloc, within, name.it.as_str(), name.at)?,
+                        source_location(alloc, within, name.it.as_str(), name.at)?,
                     ));
                 }
                 counts.values += 1;
@@ -91,7 +91,7 @@ pub fn within_limits(alloc: Global, modules: &[Module]) -> Result<(), NameFault>
         let name = &modules[MAX_MODULES].name;
         return Err(NameFault::Limit(
             Limit::Modules,
-            spot(alloc, name.it.as_str(), name.it.as_str(), name.at)?,
+            source_location(alloc, name.it.as_str(), name.it.as_str(), name.at)?,
         ));
     }
     let mut counts = Counts {

@@ -3,7 +3,7 @@
 ghost use Rattle.std.specs.Prelude.{◌≡◌, ◌↔◌, true, [], IfOk, IfErr, OnOk, map};
 ghost use Rattle.trees.specs.Values.{name_at};
 ghost use Rattle.names.specs.proving.Tabled.{IsTableOf};
-ghost use Rattle.names.specs.Modules.{StandsIn};
+ghost use Rattle.names.specs.Modules.{OccursIn};
 ghost use Rattle.names.specs.declared.fault.NameFault.TheVariants as faults;
 
 use crate::fault::NameFault;
@@ -58,7 +58,7 @@ impl Exports {
 
     /// Whether this is one of the names.
     pub(crate) fn has(&self, name: &str) -> bool
-        ensures { result ≡ true ↔ StandsIn self.now name.now }
+        ensures { result ≡ true ↔ OccursIn self.now name.now }
     {
         self.table.contains(name)
     }

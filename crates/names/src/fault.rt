@@ -1,12 +1,12 @@
 //! Why modules could not be linked.
 
 ghost use Rattle.std.specs.Prelude.{◌≡◌, IfOk};
-ghost use Rattle.names.specs.Faults.{module_told, name_told};
+ghost use Rattle.names.specs.Faults.{fault_module, fault_name};
 ghost use Rattle.names.specs.declared.fault.NameFault.TheVariants as faults;
 
 use std::alloc::{AllocError, AllocFailed, Global};
 use thiserror::Error;
-use trees::Spot;
+use trees::SourceLocation;
 
 /// A limit that is passed.
 #[derive(Clone, Copy, Debug, PartialEq, Eq)]
@@ -35,23 +35,23 @@ pub enum NameFault {
     Memory,
     /// A limit is passed in this assignment.
     #[error("2 Limit({0:?}): {1}")]
-    Limit(Limit, Spot),
+    Limit(Limit, SourceLocation),
     /// This name is given twice in the module: by modules, by assignments and imports, by the identifiers of one list,
     /// or by the names of one number. The offset is that of the second of two names.
     #[error("30 Twice: {0}")]
-    Twice(Spot),
+    Twice(SourceLocation),
     /// This name has no meaning in the module.
     #[error("31 UnknownName: {0}")]
-    UnknownName(Spot),
+    UnknownName(SourceLocation),
     /// The module imports a name that the other module doesn't export.
     #[error("32 NotExported: {0}")]
-    NotExported(Spot),
+    NotExported(SourceLocation),
     /// This type of the module comes back to itself.
     #[error("33 Circular: {0}")]
-    Circular(Spot),
+    Circular(SourceLocation),
     /// The module imports names from a module that isn't there.
     #[error("34 UnknownModule: {0}")]
-    UnknownModule(Spot),
+    UnknownModule(SourceLocation),
 }
 
 impl From<AllocError> for NameFault {
@@ -71,12 +71,17 @@ impl<T: Drop> From<AllocFailed<T>> for NameFault {
 }
 
 /// The spot of a name in a module.
-pub fn spot(alloc: Global, within: &str, name: &str, at: usize) -> Result<Spot, AllocError>
-    ensures within { IfOk result (λ s. module_told s ≡ within.now) }
-    ensures name { IfOk result (λ s. name_told s ≡ name.now) }
+pub fn source_location(
+    alloc: Global,
+    within: &str,
+    name: &str,
+    at: usize,
+) -> Result<SourceLocation, AllocError>
+    ensures within { IfOk result (λ s. fault_module s ≡ within.now) }
+    ensures name { IfOk result (λ s. fault_name s ≡ name.now) }
     ensures at { IfOk result (λ s. s.at ≡ at) }
 {
-    Ok(Spot {
+    Ok(SourceLocation {
         module: String::from_str(alloc, within)?,
         name: String::from_str(alloc, name)?,
         at,

@@ -14,7 +14,7 @@ ghost use Rattle.names.specs.Sources.{assignment_of, value_of, sources_of};
 ghost use Rattle.names.specs.proving.Gathering.{named_by, named_next, IsTwice, IsTaken, IsRepeated, Adds, HasGathered, IsNamingFault, IsTwiceFirst};
 
 use crate::exports::Exports;
-use crate::fault::{NameFault, spot};
+use crate::fault::{NameFault, source_location};
 use crate::scope::{Assigned, Origin, Scope, scope_of};
 use crate::sources::{AssignedAt, Header, Source, ValueAt};
 use indexmap::IndexMap;
@@ -64,7 +64,7 @@ fn name_once(
 {
     let text = name.it.as_str();
     match given_in(assigned, text) {
-        Some(_) => Err(NameFault::Twice(spot(alloc, within, text, name.at)?)),
+        Some(_) => Err(NameFault::Twice(source_location(alloc, within, text, name.at)?)),
         None => {
             let given = At {
                 at: name.at,
@@ -249,12 +249,22 @@ fn import_once(
 {
     match given_in(assigned, name.it.as_str()) {
         Some(given) => {
-            return Err(NameFault::Twice(spot(alloc, within, name.it.as_str(), given.at)?));
+            return Err(NameFault::Twice(source_location(
+                alloc,
+                within,
+                name.it.as_str(),
+                given.at,
+            )?));
         }
         None => {}
     }
     match origin_in(imports, name.it.as_str()) {
-        Some(_) => Err(NameFault::Twice(spot(alloc, within, name.it.as_str(), name.at)?)),
+        Some(_) => Err(NameFault::Twice(source_location(
+            alloc,
+            within,
+            name.it.as_str(),
+            name.at,
+        )?)),
         None => {
             let it = String::from_str(alloc, from.it.as_str())?;
             let module = At { at: from.at, it };
@@ -408,8 +418,8 @@ fn add_module(alloc: Global, given: Module, gathered: &mut ModuleTables) -> Resu
     } = given;
     match scope_of(&gathered.modules, name.it.as_str()) {
         Some(_) => {
-            let told = spot(alloc, name.it.as_str(), name.it.as_str(), name.at)?;
-            return Err(NameFault::Twice(told));
+            let reported = source_location(alloc, name.it.as_str(), name.it.as_str(), name.at)?;
+            return Err(NameFault::Twice(reported));
         }
         None => {}
     }

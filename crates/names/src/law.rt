@@ -6,22 +6,22 @@ ghost use Rattle.names.specs.declared.fault.NameFault.{NameFault};
 ghost use Rattle.names.specs.declared.gather.ModuleTables.{ModuleTables};
 ghost use Rattle.names.specs.Faults.{IsNamesFault};
 ghost use Rattle.names.specs.ByNumber.{scopes_from};
-ghost use Rattle.names.specs.Modules.{AreDistinct, AreFew, AreNamed, StandsIn, names_in};
+ghost use Rattle.names.specs.Modules.{AreDistinct, AreFew, AreNamed, OccursIn, names_in};
 ghost use Rattle.names.specs.Names.{IsApart};
 ghost use Rattle.names.specs.Scopes.{meanings, scopes};
 ghost use Rattle.names.specs.proving.Gathering.{HasGathered, IsNamingFault};
 ghost use Rattle.names.specs.proving.Ready.{IsReady};
-ghost use Rattle.names.specs.proving.Standing.{AreStanding, IsStandingFault};
+ghost use Rattle.names.specs.proving.Standing.{AreExportsSound, IsExportsFault};
 
 /// Modules whose names have a fault do not fulfil the rules on names, or are too many.
-pub fn name_faults_exclude()
+pub fn lemma_name_faults_exclude()
     ensures { (ms : List ModuleTree) (e : NameFault) → IsNamesFault ms e → AreNamed ms → AreFew ms → ⊥ }
 {}
 
 /// If no name has two meanings in a module, no module imports a name that it assigns.
 pub fn apart()
     ensures { (ms : List ModuleTree) →
-        ((m : ModuleTree) → StandsIn ms m → AreDistinct (names_in m)) →
+        ((m : ModuleTree) → OccursIn ms m → AreDistinct (names_in m)) →
         IsApart (scopes_from 0 0 ms) }
 {}
 
@@ -32,13 +32,13 @@ pub fn ready()
 
 /// Modules fulfil the rules on names if, in what is gathered from them, exports are assigned and imports are offered. A
 /// fault of what is gathered is a fault of the modules.
-pub fn stood()
+pub fn lemma_all_named()
     ensures named { (ms : List ModuleTree) (g : ModuleTables) →
         HasGathered ms g →
-        AreStanding (scopes g.modules.entries) →
+        AreExportsSound (scopes g.modules.entries) →
         AreNamed ms }
     ensures fault { (ms : List ModuleTree) (g : ModuleTables) (e : NameFault) →
         HasGathered ms g →
-        IsStandingFault (scopes g.modules.entries) e →
+        IsExportsFault (scopes g.modules.entries) e →
         IsNamingFault ms e }
 {}

@@ -13,5 +13,5 @@ pub mod standing;
 pub use counts::within_limits;
 pub use fault::{Limit, NameFault};
 pub use scope::{Assigned, Names, Origin, Scope};
-pub use sources::{AssignedAt, Header, Place, Source, ValueAt};
-pub use standing::all_stand;
+pub use sources::{AssignedAt, Header, MemberIndex, Source, ValueAt};
+pub use standing::check_all;

@@ -4,7 +4,7 @@ use trees::{At, TagDefault, TypeSyntax, ValueSyntax};
 
 /// The list that a type is a member of, by its type's number, and which member it is, counted from 0.
 #[derive(Clone, Copy, Debug, PartialEq, Eq)]
-pub struct Place {
+pub struct MemberIndex {
     pub list: usize,
     pub number: usize,
 }
@@ -15,7 +15,7 @@ pub struct Place {
 pub struct Source {
     pub syntax: TypeSyntax,
     pub assignment: usize,
-    pub place: Option<Place>,
+    pub place: Option<MemberIndex>,
 }
 
 /// A module: its name, and its tag default, which holds for tags without a keyword.

@@ -2,13 +2,13 @@
 
 ghost use Rattle.std.specs.Prelude.{◌≡◌, ◌<◌, ◌↔◌, ◌⊎◌, true, Some, length, slice_get, IfErr, OnOk, map, string_bytes};
 ghost use Rattle.trees.specs.Values.{Name, name_at};
-ghost use Rattle.names.specs.Modules.{StandsIn, IsExported};
+ghost use Rattle.names.specs.Modules.{OccursIn, IsExported};
 ghost use Rattle.names.specs.Names.{names_of};
 ghost use Rattle.names.specs.Scopes.{module_of, origin_of, origins, scopes};
-ghost use Rattle.names.specs.First.{TellsLost, IsFirstExport, IsImportAt, IsFirstImport, IsFirstOf, IsFirstStanding};
-ghost use Rattle.names.specs.proving.Standing.{IsOffered, ExportAssigned, ImportOffered, HasNoAssignment, IsExportFault, IsImportFault, IsImportsFault, AreStanding, IsStandingFault};
+ghost use Rattle.names.specs.First.{ReportsUnknown, IsFirstExport, IsImportAt, IsFirstImport, IsFirstOf, IsFirstExports};
+ghost use Rattle.names.specs.proving.Standing.{IsOffered, ExportAssigned, ImportOffered, HasNoAssignment, IsExportFault, IsImportFault, IsImportsFault, AreExportsSound, IsExportsFault};
 
-use crate::fault::{NameFault, spot};
+use crate::fault::{NameFault, source_location};
 use crate::scope::{Origin, Scope, assigned_to, scope_of};
 use indexmap::IndexMap;
 use std::alloc::Global;
@@ -22,18 +22,18 @@ fn all_assigned(
     scope: &Scope,
 ) -> Result<(), NameFault>
     ensures ok { OnOk result ((x : Name) →
-        StandsIn (map name_at names.now) x →
-        StandsIn (names_of (module_of scope.now).assigned) x) }
+        OccursIn (map name_at names.now) x →
+        OccursIn (names_of (module_of scope.now).assigned) x) }
     ensures fault { IfErr result (HasNoAssignment within.now (map name_at names.now) (module_of scope.now).assigned) }
-    ensures first { IfErr result (TellsLost names.now (module_of scope.now).assigned) }
+    ensures first { IfErr result (ReportsUnknown names.now (module_of scope.now).assigned) }
 {
     for i in 0..names.len() {
         let name = &names[i];
         match assigned_to(scope, name.it.as_str()) {
             Some(_) => {}
             None => {
-                let told = spot(alloc, within, name.it.as_str(), name.at)?;
-                return Err(NameFault::UnknownName(told));
+                let reported = source_location(alloc, within, name.it.as_str(), name.at)?;
+                return Err(NameFault::UnknownName(reported));
             }
         }
     }
@@ -41,7 +41,7 @@ fn all_assigned(
 }
 
 /// Checks that each name is assigned that a module exports (X.680, clause 13.9).
-fn exports_stand(alloc: Global, within: &str, scope: &Scope) -> Result<(), NameFault>
+fn check_exports(alloc: Global, within: &str, scope: &Scope) -> Result<(), NameFault>
     ensures ok { OnOk result (ExportAssigned (module_of scope.now)) }
     ensures fault { IfErr result (IsExportFault within.now (module_of scope.now)) }
     ensures first { IfErr result (IsFirstExport (module_of scope.now)) }
@@ -66,7 +66,7 @@ fn exports(scope: &Scope, name: &str) -> bool
 }
 
 /// Checks that a name may be imported from a module.
-fn import_stands(
+fn check_import(
     alloc: Global,
     modules: &IndexMap<String, Scope>,
     within: &str,
@@ -80,14 +80,19 @@ fn import_stands(
 {
     let from = &origin.module;
     match scope_of(modules, from.it.as_str()) {
-        None => Err(NameFault::UnknownModule(spot(alloc, within, from.it.as_str(), from.at)?)),
+        None => Err(NameFault::UnknownModule(source_location(
+            alloc,
+            within,
+            from.it.as_str(),
+            from.at,
+        )?)),
         Some(other) => match assigned_to(other, name) {
-            None => Err(NameFault::UnknownName(spot(alloc, within, name, origin.at)?)),
+            None => Err(NameFault::UnknownName(source_location(alloc, within, name, origin.at)?)),
             Some(_) => {
                 if exports(other, name) {
                     Ok(())
                 } else {
-                    Err(NameFault::NotExported(spot(alloc, within, name, origin.at)?))
+                    Err(NameFault::NotExported(source_location(alloc, within, name, origin.at)?))
                 }
             }
         },
@@ -113,7 +118,7 @@ fn module_at<'a>(modules: &'a IndexMap<String, Scope>, i: usize) -> (&'a String,
 }
 
 /// Checks that each name may be imported that a module imports (X.680, clauses 13.13 to 13.16).
-fn imports_stand(
+fn check_imports(
     alloc: Global,
     modules: &IndexMap<String, Scope>,
     within: &str,
@@ -127,7 +132,7 @@ fn imports_stand(
 {
     for i in 0..imports.len() {
         let (name, origin) = entry_at(imports, i);
-        match import_stands(alloc, modules, within, name.as_str(), origin) {
+        match check_import(alloc, modules, within, name.as_str(), origin) {
             Ok(()) => {}
             Err(fault) => return Err(fault),
         }
@@ -136,7 +141,7 @@ fn imports_stand(
 }
 
 /// Checks the exports and imports of one module.
-fn one_stands(
+fn check_one(
     alloc: Global,
     modules: &IndexMap<String, Scope>,
     within: &str,
@@ -149,25 +154,25 @@ fn one_stands(
         ⊎ IsImportsFault (scopes modules.now.entries) within.now (module_of scope.now).imports e) }
     ensures first { IfErr result (IsFirstOf (scopes modules.now.entries) within.now scope.now) }
 {
-    match exports_stand(alloc, within, scope) {
+    match check_exports(alloc, within, scope) {
         Ok(()) => {}
         Err(fault) => return Err(fault),
     }
-    match imports_stand(alloc, modules, within, &scope.imports) {
+    match check_imports(alloc, modules, within, &scope.imports) {
         Ok(()) => Ok(()),
         Err(fault) => Err(fault),
     }
 }
 
 /// Checks the exports and imports of all modules.
-pub fn all_stand(alloc: Global, modules: &IndexMap<String, Scope>) -> Result<(), NameFault>
-    ensures ok { OnOk result (AreStanding (scopes modules.now.entries)) }
-    ensures fault { IfErr result (IsStandingFault (scopes modules.now.entries)) }
-    ensures first { IfErr result (IsFirstStanding modules.now.entries) }
+pub fn check_all(alloc: Global, modules: &IndexMap<String, Scope>) -> Result<(), NameFault>
+    ensures ok { OnOk result (AreExportsSound (scopes modules.now.entries)) }
+    ensures fault { IfErr result (IsExportsFault (scopes modules.now.entries)) }
+    ensures first { IfErr result (IsFirstExports modules.now.entries) }
 {
     for i in 0..modules.len() {
         let (name, scope) = module_at(modules, i);
-        match one_stands(alloc, modules, name.as_str(), scope) {
+        match check_one(alloc, modules, name.as_str(), scope) {
             Ok(()) => {}
             Err(fault) => return Err(fault),
         }

@@ -94,22 +94,22 @@ from_start s g all = record {
   none = λ n. n;
 }
 
-pub step_over : (s : List Resolved) (g : Tag) (all rest behind : List Step) (n : ℕ) (p : Step)
+pub step_over : (s : List Resolved) (g : Tag) (all rest following : List Step) (n : ℕ) (p : Step)
     → Searched s g all n rest
-    → rest ≡ p ∷ behind
+    → rest ≡ p ∷ following
     → NoCall s g p
-    → Searched s g all (n + 1) behind
-step_over s g all rest behind n p h e m = record {
-  long = (let l = h.long in let k : length rest ≡ suc (length behind) = ap length e in omega (arith, l, k));
-  some = λ i t c. (let k : n + suc i ≡ (n + 1) + i = omega arith in subst (λ q. IsChosen s g all q t) k (h.some (suc i) t (chosen_later s g rest p behind i t e m c)));
-  none = λ c. h.none (not_chosen s g rest p behind e m c);
+    → Searched s g all (n + 1) following
+step_over s g all rest following n p h e m = record {
+  long = (let l = h.long in let k : length rest ≡ suc (length following) = ap length e in omega (arith, l, k));
+  some = λ i t c. (let k : n + suc i ≡ (n + 1) + i = omega arith in subst (λ q. IsChosen s g all q t) k (h.some (suc i) t (chosen_later s g rest p following i t e m c)));
+  none = λ c. h.none (not_chosen s g rest p following e m c);
 }
 
-pub called_here : (s : List Resolved) (g : Tag) (all rest behind : List Step) (n : ℕ) (p : Step) (t : TypeId)
+pub called_here : (s : List Resolved) (g : Tag) (all rest following : List Step) (n : ℕ) (p : Step) (t : TypeId)
     → Searched s g all n rest
-    → rest ≡ p ∷ behind
+    → rest ≡ p ∷ following
     → (p ≡ Call t) × First s t.index g
     → IsChosen s g all n t
-called_here s g all rest behind n p t h e c =
+called_here s g all rest following n p t h e c =
     let k : n + 0 ≡ n = omega arith in
-    subst (λ q. IsChosen s g all q t) k (h.some 0 t (chosen_here s g rest p behind t e c.0 c.1))
+    subst (λ q. IsChosen s g all q t) k (h.some 0 t (chosen_here s g rest p following t e c.0 c.1))

@@ -8,7 +8,7 @@ use Rattle.asn_base.specs.Tags.{First, first_tag, first_of_choice}
 use Rattle.asn_base.specs.Types.{Alternative, Kind, a_boolean, an_integer, an_enumerated, a_bit_string, a_named_bit_string, an_octet_string, a_null, an_object_identifier, a_relative_oid, a_utf8_string, a_restricted_string, a_sequence, a_set, a_sequence_of, a_set_of, a_choice, Resolved, Is}
 use Rattle.asn_base.specs.declared.schema.TypeId.{TypeId}
 use Rattle.codec_code.specs.declared.step.Step.{Step}
-use Rattle.codec_code.specs.declared.step.Step.TheVariants.{Head, Leaf, Field, Ranked, Each, EachSorted, Pick, Call, Rest, End}
+use Rattle.codec_code.specs.declared.step.Step.TheVariants.{Head, Leaf, Field, SetComponent, Each, EachSorted, Pick, Call, Rest, End}
 use Rattle.codec_code.specs.Routines.{row_of, heads, ends, outermost, tags_at, calls, body, routine_of, routine_at}
 use Rattle.next_tags.specs.Firsts.{head_tag, Begins, begins, AnyBegins, this_begins, later_begins, BeginsWith}
 
@@ -80,7 +80,7 @@ any_of s g (b ∷ as') xs (suc i) a e h = later_begins (any_of s g as' xs i a e 
 record IsOne (s : List Resolved) (g : Tag) (as' : List Alternative) : Type 0 where
   index : ℕ
   alternative : Alternative
-  stands : slice_get as' index ≡ Some alternative
+  is_at : slice_get as' index ≡ Some alternative
   tagged : tags_at s alternative.type ≡ Some g
 
 begun_call : {s : List Resolved} {g : Tag} {t : TypeId} → Begins s g (Call t) → tags_at s t.index ≡ Some g
@@ -88,10 +88,10 @@ begun_call (begins e) = e
 
 one_of : (s : List Resolved) (g : Tag) (as' : List Alternative) → AnyBegins s g (calls as' ++ []) → IsOne s g as'
 one_of s g [] h = elim h [ ]
-one_of s g (b ∷ as') (this_begins c) = record { index = 0; alternative = b; stands = refl; tagged = begun_call c }
+one_of s g (b ∷ as') (this_begins c) = record { index = 0; alternative = b; is_at = refl; tagged = begun_call c }
 one_of s g (b ∷ as') (later_begins h) =
     let r = one_of s g as' h in
-    record { index = suc r.index; alternative = r.alternative; stands = r.stands; tagged = r.tagged }
+    record { index = suc r.index; alternative = r.alternative; is_at = r.is_at; tagged = r.tagged }
 
 with_tags : (s : List Resolved) (t : ℕ) (g : Tag) (gs : List Tag) (k : Kind) → Is s t gs k → outermost gs ≡ Some g → First s t g
 with_tags s t g [] k i e = absurd (none_some e)
@@ -127,7 +127,7 @@ untagged s t g (a_sequence_of c u) i h = absurd h
 untagged s t g (a_set_of c u) i h = absurd h
 untagged s t g (a_choice root e more) i h =
     let r = one_of s g (root ++ more) h in
-    first_of_choice r.index i r.stands (tagged_first s r.alternative.type g r.tagged)
+    first_of_choice r.index i r.is_at (tagged_first s r.alternative.type g r.tagged)
 
 begun_steps : (s : List Resolved) (t : ℕ) (g : Tag) (gs : List Tag) (k : Kind) → Is s t gs k → BeginsWith s g (heads gs (row_of k) ++ (body s k ++ ends (length gs))) → First s t g
 begun_steps s t g [] k i h = untagged s t g k i h
@@ -160,7 +160,7 @@ headed s [] g f e = absurd (none_some e)
 headed s (Head h ∷ ss) g f e = let t = tag_same e in (λ x. sym t ∙ x, λ y. t ∙ y)
 headed s (Leaf k ∷ ss) g f e = absurd (none_some e)
 headed s (Field p ∷ ss) g f e = absurd (none_some e)
-headed s (Ranked p r ∷ ss) g f e = absurd (none_some e)
+headed s (SetComponent p r ∷ ss) g f e = absurd (none_some e)
 headed s (Each t ∷ ss) g f e = absurd (none_some e)
 headed s (EachSorted t ∷ ss) g f e = absurd (none_some e)
 headed s (Pick n ∷ ss) g f e = absurd (none_some e)

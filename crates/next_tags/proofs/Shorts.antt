@@ -22,15 +22,15 @@ one_octet class number bits octet b l e =
     low class number l ∙ ap (λ q. q ∷ []) f
 
 -- an encoding whose header is that octet and a length below 128
-pub short_at : (t : Tag) (first size : ℕ) (inner x r o behind : List ℕ)
+pub short_at : (t : Tag) (first size : ℕ) (inner x r o following : List ℕ)
     → identifier t.class t.number false ≡ first ∷ []
-    → o ≡ first ∷ behind
-    → behind ≡ size ∷ inner
+    → o ≡ first ∷ following
+    → following ≡ size ∷ inner
     → inner ≡ x ++ r
     → length x ≡ size
     → size < 128
     → UnitAt t false 2 x r o
-short_at t first size inner x r o behind i e f g h l = record {
+short_at t first size inner x r o following i e f g h l = record {
   header = first ∷ size ∷ [];
   is_header = record {
     size = length x ∷ [];

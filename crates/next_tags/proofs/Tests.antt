@@ -37,12 +37,12 @@ read_none marks ss e = subst (AreRead marks) (sym (none_left ss e)) are_read
 abbrev pub IsReadAt : List ℕ → Step → Type 0
 IsReadAt marks p = (f : Field') → field_in p ≡ Some f → may_be_absent f.need ≡ false → IsMember f.place marks
 
-behind_read : {marks : List ℕ} {p : Step} {ss : List Step} → AreRead marks (p ∷ ss) → AreRead marks ss
-behind_read (is_read h k) = k
+after_read : {marks : List ℕ} {p : Step} {ss : List Step} → AreRead marks (p ∷ ss) → AreRead marks ss
+after_read (is_read h k) = k
 
 pub read_more : (b : Bool) (marks : List ℕ) (ss : List Step) (p : Step) (rest : List Step) → ss ≡ p ∷ rest → IsReadAt marks p → IsTrue b ↔ AreRead marks rest → IsTrue b ↔ AreRead marks ss
 read_more b marks ss p rest e a h =
-    (λ t. subst (AreRead marks) (sym e) (is_read a (h.0 t)), λ q. h.1 (behind_read (subst (AreRead marks) e q)))
+    (λ t. subst (AreRead marks) (sym e) (is_read a (h.0 t)), λ q. h.1 (after_read (subst (AreRead marks) e q)))
 
 called : {s : List Resolved} {g : Tag} {t : TypeId} → Begins s g (Call t) → tags_at s t.index ≡ Some g
 called (begins e) = e

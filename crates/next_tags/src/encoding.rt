@@ -4,11 +4,11 @@ ghost use Rattle.asn_base.specs.declared.tag.Tag.{Tag as Tag'};
 ghost use Rattle.encodings.specs.Header.{class_bits, identifier};
 ghost use Rattle.octet_answers.specs.Units.{UnitAt};
 ghost use Rattle.octets.specs.Forms.{is_constructed};
-ghost use Rattle.octets.specs.Fronts.{HeaderAt, Stands};
+ghost use Rattle.octets.specs.Fronts.{HeaderAt, IsRightFault};
 ghost use Rattle.std.specs.Prelude.{◌≡◌, ◌≤◌, ◌∷◌, [], Bool, false, IfErr, IfOk, IfSome, List, true, ℕ};
 
 use asn_base::tag::{Class, Tag};
-use octets::law::one_front;
+use octets::law::lemma_one_front;
 use octets::{Form, Header, HeaderFault, read_header};
 
 /// A header of `count` octets, its contents, and what follows them.
@@ -27,23 +27,23 @@ pub struct Unit<'a> {
 pub fn next_unit(octets: &[u8]) -> Result<Unit<'_>, HeaderFault>
     ensures ok { IfOk result (λ u. UnitAt u.tag (is_constructed u.form) u.count u.contents.now u.rest.now octets.now) }
     ensures none { IfErr result (λ e. (g : Tag') (c : Bool) (k : ℕ) (x r : List ℕ) → UnitAt g c k x r octets.now → ⊥) }
-    ensures err { IfErr result (λ e. Stands e octets.now) }
+    ensures err { IfErr result (λ e. IsRightFault e octets.now) }
 {
-    one_front();
+    lemma_one_front();
     match read_header(octets) {
-        Ok(header) => Ok(parted(octets, header)),
+        Ok(header) => Ok(split_unit(octets, header)),
         Err(fault) => Err(fault),
     }
 }
 
 /// Splits octets into the contents that a header promises, and what follows them.
 #[inline(always)]
-fn parted(octets: &[u8], header: Header) -> Unit<'_>
+fn split_unit(octets: &[u8], header: Header) -> Unit<'_>
     requires { HeaderAt header.tag (is_constructed header.form) header.contents header.octets octets.now }
     ensures { UnitAt result.tag (is_constructed result.form) result.count result.contents.now result.rest.now octets.now }
 {
-    let (_, behind) = octets.split_at(header.octets);
-    let (contents, rest) = behind.split_at(header.contents);
+    let (_, following) = octets.split_at(header.octets);
+    let (contents, rest) = following.split_at(header.contents);
     Unit {
         tag: header.tag,
         form: header.form,
@@ -88,10 +88,10 @@ fn is_identifier(octet: u8, tag: Tag) -> bool
 pub fn short_unit(octets: &[u8], tag: Tag) -> Option<(&[u8], &[u8])>
     ensures { IfSome result (λ r. UnitAt tag false 2 r.0.now r.1.now octets.now) }
 {
-    let Some((first, behind)) = octets.split_first() else {
+    let Some((first, following)) = octets.split_first() else {
         return None;
     };
-    let Some((size, inner)) = behind.split_first() else {
+    let Some((size, inner)) = following.split_first() else {
         return None;
     };
     if !is_identifier(*first, tag) {

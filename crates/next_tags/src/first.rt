@@ -7,7 +7,7 @@ ghost use Rattle.std.specs.Prelude.{◌≡◌, ◌↔◌, IfSome, IsTrue, Some};
 
 use asn_base::schema::TypeId;
 use asn_base::tag::Tag;
-use codec_code::{Brief, Code, Coding, Step};
+use codec_code::{Code, Coding, Step, Summary};
 
 /// Whether the tags are equal.
 #[tactic(auto, using(crate::proofs::Tags::tag_same))]
@@ -25,7 +25,7 @@ fn tag_in(step: Step) -> Option<Tag>
     match step {
         Step::Head(head) => Some(head.tag),
         Step::Field(_) => None,
-        Step::Ranked(_, _) => None,
+        Step::SetComponent(_, _) => None,
         Step::Leaf(_) => None,
         Step::Each(_) => None,
         Step::EachSorted(_) => None,
@@ -46,16 +46,16 @@ fn head_of(steps: &[Step]) -> Option<Tag>
     }
 }
 
-/// The tag of the header that the routine of the type begins with, if the type's `Brief` has it.
+/// The tag of the header that the routine of the type begins with, if the type's `Summary` has it.
 #[inline(always)]
 fn first_tag(code: &Code, id: TypeId) -> Option<Tag>
     ensures { IfSome result (λ g. head_tag (routine_at code.now id.index) ≡ Some g) }
 {
-    match code.brief(id) {
-        Brief::Leaf(head, _) => Some(head.tag),
-        Brief::Components(head, _) => Some(head.tag),
-        Brief::Elements(head) => Some(head.tag),
-        Brief::Any => None,
+    match code.summary(id) {
+        Summary::Leaf(head, _) => Some(head.tag),
+        Summary::Components(head, _) => Some(head.tag),
+        Summary::Elements(head) => Some(head.tag),
+        Summary::Any => None,
     }
 }
 
@@ -84,13 +84,13 @@ fn is_outermost(code: &Code, id: TypeId, tag: Tag) -> bool
 fn any_begins(code: &Code, calls: &[Step], tag: Tag) -> bool
     ensures { IsTrue result ↔ AnyBegins code.now tag calls.now }
 {
-    let Some((step, behind)) = calls.split_first() else {
+    let Some((step, following)) = calls.split_first() else {
         return false;
     };
     if begins_call(code, *step, tag) {
         return true;
     }
-    any_begins(code, behind, tag)
+    any_begins(code, following, tag)
 }
 
 /// Whether the step is the call of a type with this outermost tag.
@@ -100,7 +100,7 @@ fn begins_call(code: &Code, step: Step, tag: Tag) -> bool
     match step {
         Step::Call(id) => is_outermost(code, id, tag),
         Step::Field(_) => false,
-        Step::Ranked(_, _) => false,
+        Step::SetComponent(_, _) => false,
         Step::Leaf(_) => false,
         Step::Each(_) => false,
         Step::EachSorted(_) => false,
@@ -113,14 +113,14 @@ fn begins_call(code: &Code, step: Step, tag: Tag) -> bool
 
 /// Whether a step begins with the tag: a header does by itself, and a choice by one of the calls that follow it.
 #[inline(always)]
-fn begins_step(code: &Code, step: Step, behind: &[Step], tag: Tag) -> bool
-    ensures { IsTrue result ↔ BeginsBy code.now tag step behind.now }
+fn begins_step(code: &Code, step: Step, following: &[Step], tag: Tag) -> bool
+    ensures { IsTrue result ↔ BeginsBy code.now tag step following.now }
 {
     match step {
         Step::Head(head) => same_tag(head.tag, tag),
-        Step::Pick(_) => any_begins(code, behind, tag),
+        Step::Pick(_) => any_begins(code, following, tag),
         Step::Field(_) => false,
-        Step::Ranked(_, _) => false,
+        Step::SetComponent(_, _) => false,
         Step::Leaf(_) => false,
         Step::Each(_) => false,
         Step::EachSorted(_) => false,
@@ -136,7 +136,7 @@ fn begins_with(code: &Code, steps: &[Step], tag: Tag) -> bool
     ensures { IsTrue result ↔ BeginsWith code.now tag steps.now }
 {
     match steps.split_first() {
-        Some((step, behind)) => begins_step(code, *step, behind, tag),
+        Some((step, following)) => begins_step(code, *step, following, tag),
         None => false,
     }
 }
@@ -147,7 +147,7 @@ fn begins_with(code: &Code, steps: &[Step], tag: Tag) -> bool
 pub fn can_begin(code: &Code, id: TypeId, tag: Tag) -> bool
     ensures { IsTrue result ↔ First code.now id.index tag }
 {
-    code.accepted();
+    code.lemma_invariant();
     match first_tag(code, id) {
         Some(first) => same_tag(first, tag),
         None => begins_with(code, code.steps(id, Coding::Tagged), tag),

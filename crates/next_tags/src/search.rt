@@ -3,7 +3,7 @@
 ghost use Rattle.asn_base.specs.Names.{IsMember};
 ghost use Rattle.asn_base.specs.Tags.{First};
 ghost use Rattle.codec_code.specs.declared.step.Step.TheVariants.{Call};
-ghost use Rattle.octet_answers.specs.Found.{AreRead, IsChosen, IsFound, field_in as field_in', is_extensible as is_extensible', is_rest as is_rest', last_from as last_from', last_steps as last_steps', must_stand as must_stand'};
+ghost use Rattle.octet_answers.specs.Found.{AreRead, IsChosen, IsFound, field_in as field_in', is_extensible as is_extensible', is_rest as is_rest', last_from as last_from', last_steps as last_steps', must_be_present as must_be_present'};
 ghost use Rattle.codec_code.specs.declared.step.Field.{Field as Field'};
 ghost use Rattle.asn_base.specs.declared.schema.TypeId.{TypeId as TypeId'};
 ghost use Rattle.codec_code.specs.Steps.{may_be_absent as may_be_absent'};
@@ -12,17 +12,17 @@ ghost use Rattle.std.specs.Prelude.{◌≡◌, ◌<◌, ◌↔◌, IfNone, IfSom
 use crate::first::can_begin;
 use asn_base::schema::TypeId;
 use asn_base::tag::Tag;
-use codec_code::{Code, Field, Need, Step};
+use codec_code::{Code, Field, FieldPresence, Step};
 
 /// Whether a component with this need may be absent.
-pub fn may_be_absent(need: Need) -> bool
+pub fn may_be_absent(need: FieldPresence) -> bool
     ensures { result ≡ may_be_absent' need }
 {
     match need {
-        Need::Mandatory => false,
-        Need::Optional => true,
-        Need::Default => true,
-        Need::Addition => true,
+        FieldPresence::Mandatory => false,
+        FieldPresence::Optional => true,
+        FieldPresence::Default => true,
+        FieldPresence::Addition => true,
     }
 }
 
@@ -32,7 +32,7 @@ fn field_in(step: Step) -> Option<Field>
 {
     match step {
         Step::Field(field) => Some(field),
-        Step::Ranked(field, _) => Some(field),
+        Step::SetComponent(field, _) => Some(field),
         Step::Head(_) => None,
         Step::Leaf(_) => None,
         Step::Each(_) => None,
@@ -45,12 +45,12 @@ fn field_in(step: Step) -> Option<Field>
 }
 
 /// Whether the step reads a component that must be present.
-fn must_stand(step: Step) -> bool
-    ensures { result ≡ must_stand' step }
+fn must_be_present(step: Step) -> bool
+    ensures { result ≡ must_be_present' step }
 {
     match step {
         Step::Field(field) => !may_be_absent(field.need),
-        Step::Ranked(field, _) => !may_be_absent(field.need),
+        Step::SetComponent(field, _) => !may_be_absent(field.need),
         Step::Head(_) => false,
         Step::Leaf(_) => false,
         Step::Each(_) => false,
@@ -69,7 +69,7 @@ fn is_rest(step: Step) -> bool
     match step {
         Step::Rest => true,
         Step::Field(_) => false,
-        Step::Ranked(_, _) => false,
+        Step::SetComponent(_, _) => false,
         Step::Head(_) => false,
         Step::Leaf(_) => false,
         Step::Each(_) => false,
@@ -84,26 +84,26 @@ fn is_rest(step: Step) -> bool
 pub fn is_extensible(steps: &[Step]) -> bool
     ensures { result ≡ is_extensible' steps.now }
 {
-    let Some((step, behind)) = steps.split_first() else {
+    let Some((step, following)) = steps.split_first() else {
         return false;
     };
     if is_rest(*step) {
         return true;
     }
-    is_extensible(behind)
+    is_extensible(following)
 }
 
 /// The steps after the last one that reads a component that must be present; `others` if no step does.
 fn last_from<'s>(others: &'s [Step], steps: &'s [Step]) -> &'s [Step]
     ensures { result.now ≡ last_from' others.now steps.now }
 {
-    let Some((step, behind)) = steps.split_first() else {
+    let Some((step, following)) = steps.split_first() else {
         return others;
     };
-    if must_stand(*step) {
-        last_from(behind, behind)
+    if must_be_present(*step) {
+        last_from(following, following)
     } else {
-        last_from(others, behind)
+        last_from(others, following)
     }
 }
 
@@ -119,7 +119,7 @@ pub fn find(code: &Code, steps: &[Step], tag: Tag) -> Option<Field>
     ensures some { IfSome result (λ f. IsFound code.now tag steps.now f) }
     ensures none { IfNone result ((f : Field') → IsFound code.now tag steps.now f → ⊥) }
 {
-    let Some((step, behind)) = steps.split_first() else {
+    let Some((step, following)) = steps.split_first() else {
         return None;
     };
     match field_in(*step) {
@@ -127,9 +127,9 @@ pub fn find(code: &Code, steps: &[Step], tag: Tag) -> Option<Field>
             if can_begin(code, field.ty, tag) {
                 return Some(field);
             }
-            find(code, behind, tag)
+            find(code, following, tag)
         }
-        None => find(code, behind, tag),
+        None => find(code, following, tag),
     }
 }
 
@@ -159,12 +159,12 @@ pub fn choose(code: &Code, calls: &[Step], tag: Tag) -> Option<(usize, TypeId)>
 {
     let mut rest = calls;
     let mut index = 0;
-    while let Some((step, behind)) = rest.split_first() {
+    while let Some((step, following)) = rest.split_first() {
         match called(code, *step, tag) {
             Some(id) => return Some((index, id)),
             None => {}
         }
-        rest = behind;
+        rest = following;
         index += 1;
     }
     None
@@ -174,26 +174,26 @@ pub fn choose(code: &Code, calls: &[Step], tag: Tag) -> Option<(usize, TypeId)>
 pub fn is_in(place: usize, marks: &[usize]) -> bool
     ensures { IsTrue result ↔ IsMember place marks.now }
 {
-    let Some((mark, behind)) = marks.split_first() else {
+    let Some((mark, following)) = marks.split_first() else {
         return false;
     };
     if *mark == place {
         return true;
     }
-    is_in(place, behind)
+    is_in(place, following)
 }
 
 /// Whether each component that must be present was read.
 pub fn are_read(marks: &[usize], steps: &[Step]) -> bool
     ensures { IsTrue result ↔ AreRead marks.now steps.now }
 {
-    let Some((step, behind)) = steps.split_first() else {
+    let Some((step, following)) = steps.split_first() else {
         return true;
     };
     if !is_read(marks, *step) {
         return false;
     }
-    are_read(marks, behind)
+    are_read(marks, following)
 }
 
 /// Whether the component that the step reads was read, if it must be present.

@@ -3,11 +3,11 @@ use Rattle.std.proofs.Common.{ℕ, zero, suc, ◌-◌, List, [], ◌∷◌, leng
 use Rattle.std.specs.List.{All, AllByRecursion}
 use Rattle.text.specs.declared.token.Token.{Token}
 use Rattle.text.specs.Items.{IsToken}
-use Rattle.text.specs.Text.{IsText, IsSmall, IsSpanWithin, Holds, holds_none, holds_gap, holds_token}
+use Rattle.text.specs.Text.{IsText, IsSmall, IsSpanWithin, HoldsTokens, holds_none, holds_gap, holds_token}
 use Rattle.grammar.specs.Texts.{from_slice}
-use Rattle.kernel.specs.Given.{AreTokens, IsLexed}
+use Rattle.parser_combinators.specs.Given.{AreTokens, IsLexed}
 
-holds_tokens : (x : List ℕ) (i j : ℕ) (ts : List Token) → Holds x i j ts → AllByRecursion (IsToken x) ts
+holds_tokens : (x : List ℕ) (i j : ℕ) (ts : List Token) → HoldsTokens x i j ts → AllByRecursion (IsToken x) ts
 holds_tokens x i j ts (holds_none e) = tt
 holds_tokens x i j ts (holds_gap k g h) = holds_tokens x k j ts h
 holds_tokens x i j (t ∷ ts) (holds_token t' e p h) = (p, holds_tokens x t.span.end j ts h)

@@ -5,7 +5,7 @@ use Rattle.std.proofs.lemmas.List.{append-nil}
 use Rattle.text.specs.declared.token.Mark.TheVariants.{Range, Dot, Bar, Minus, Comma, Ellipsis}
 use Rattle.text.specs.declared.reserved.Word.TheVariants.{From, Size, Union, Min, Max}
 use Rattle.grammar.specs.Lexeme.{Lexeme, TypeRef, Ident, Number, CString, Word, Mark}
-use Rattle.grammar.specs.Grammar.{Grammar, token, word, only as lexeme, ◌∙◌, ◌∣◌, ◌⇒◌, optional, behind}
+use Rattle.grammar.specs.Grammar.{Grammar, token, word, only as lexeme, ◌∙◌, ◌∣◌, ◌⇒◌, optional, preceded}
 use Rattle.grammar.specs.Reading.{Limit, Integer, Read, Reader, ◌>>=◌, stop}
 use Rattle.grammar.specs.Laws.{everywhere, nowhere, then_read, after_read, is_comma}
 use Rattle.grammar.specs.Loops.{sound_short}
@@ -15,13 +15,13 @@ use Rattle.grammar.specs.Lists.{no_lexeme}
 use Rattle.grammar.specs.Single.{is_ident, ident_at, ident_is, module_name_at, is_typeref, typeref_is}
 use Rattle.grammar.specs.Numbers.{Past}
 use Rattle.grammar.specs.Parts.{IsKind, pick, perhaps, token_solid}
-use Rattle.grammar.specs.Rules.{Rules, Same, either, rule_token, rule_made, rule_seq, rule_behind, rule_tail, rule_pair, rule_pick, Loose, loose_optional, loose_many, loose_made, rule_read, rule_tests, rule_same, is_number, number_at, rule_number, fitting_made, made, read_again, one_at, one_is}
+use Rattle.grammar.specs.Rules.{Rules, Same, either, rule_token, rule_made, rule_seq, rule_preceded, rule_tail, rule_pair, rule_pick, Loose, loose_optional, loose_many, loose_made, rule_read, rule_tests, rule_same, is_number, number_at, rule_number, fitting_made, made, read_again, one_at, one_is}
 use Rattle.grammar.specs.Parens.{rule_parens}
 use Rattle.trees.specs.Values.{Name}
 use Rattle.trees.specs.Constraints.{EndTree, name_end, RangeTree, only, between, RangesTree, ConstraintTree, values_in, sizes_in, chars_in}
-use Rattle.notation.specs.ConstraintGrammar.{positive_end, negative_end, marker, marked, or, by_or, ref, chars, end, range, ranges, size, constraint}
+use Rattle.notation.specs.ConstraintGrammar.{positive_end, negative_end, marker, marked, union_mark, by_union_mark, ref, chars, end, range, ranges, size, constraint}
 use Rattle.grammar.specs.Grammar.{parens}
-use Rattle.notation.specs.ConstraintReading.{is_size, is_or, or_then_at, by_or_at, last_chars_at, more_chars_at, chars_at, from_at, minus_at, ellipsis_at, marker_at, end_at, some_end_at, upper_at, behind_min_at, behind_end_at, single_at, range_at, ranges_at, size_at, from_in_at, values_in_at, inside_at, constraint_at}
+use Rattle.notation.specs.ConstraintReading.{is_size, is_union_mark, union_mark_then_at, by_union_mark_at, last_chars_at, more_chars_at, chars_at, from_at, minus_at, ellipsis_at, marker_at, end_at, some_end_at, upper_at, after_min_at, after_end_at, single_at, range_at, ranges_at, size_at, from_in_at, values_in_at, inside_at, constraint_at}
 use Rattle.grammar.specs.Reading.{is_open, parens_at}
 use Rattle.notation.specs.Reading.{ref_name_at, ref_dot_at}
 
@@ -155,7 +155,7 @@ marker_same (Mark Comma ∷ Mark Ellipsis ∷ ts) = refl
 marker_same (Mark Comma ∷ t ∷ ts) = refl
 marker_same (t ∷ ts) = refl
 
-or_is : (t : Lexeme) → either is_bar is_union t ≡ true → is_or t ≡ true
+or_is : (t : Lexeme) → either is_bar is_union t ≡ true → is_union_mark t ≡ true
 or_is (Mark Bar) e = refl
 or_is (Word Union) e = refl
 or_is t e = absurd cc
@@ -198,7 +198,7 @@ module _ {over : Limit → ℕ} {within : Limit → Type 0} where
   -- ---- "|" and UNION
 
   rule_or :
-      Rules over within or (either is_bar is_union) (either no_lexeme no_lexeme) (pick is_bar (one_at is_bar) (one_at is_union))
+      Rules over within union_mark (either is_bar is_union) (either no_lexeme no_lexeme) (pick is_bar (one_at is_bar) (one_at is_union))
   rule_or = rule_pick rule_bar rule_union apart
     where
       apart : (t : Lexeme) → is_union t ≡ true → is_bar t ≡ false
@@ -207,24 +207,24 @@ module _ {over : Limit → ℕ} {within : Limit → Type 0} where
   -- a part after "|" or UNION
   or_then_rule : {A : Type 0} {a : Grammar A} {starts ends : Lexeme → Bool} {read : Reader A}
       → Rules over within a starts ends read
-      → Rules over within ((or ∙ a) ⇒ (λ p. p.1)) is_or ends (or_then_at read)
-  unfolding or_then_at
-  or_then_rule {A} {a} {starts} {ends} {read} k = rule_tests is_or ends or_is (λ t e. e) (rule_read (or_then_at read) same (rule_seq (λ p. p.1) rule_or k (λ t e. refl)))
+      → Rules over within ((union_mark ∙ a) ⇒ (λ p. p.1)) is_union_mark ends (union_mark_then_at read)
+  unfolding union_mark_then_at
+  or_then_rule {A} {a} {starts} {ends} {read} k = rule_tests is_union_mark ends or_is (λ t e. e) (rule_read (union_mark_then_at read) same (rule_seq (λ p. p.1) rule_or k (λ t e. refl)))
     where
       same : (ts : List Lexeme)
           →
-          then_read (λ (p : Unit {0} × A). p.1) (pick is_bar (one_at is_bar) (one_at is_union)) read ts ≡ or_then_at read ts
+          then_read (λ (p : Unit {0} × A). p.1) (pick is_bar (one_at is_bar) (one_at is_union)) read ts ≡ union_mark_then_at read ts
       same [] = refl
       same (Mark Bar ∷ ts) = read_again (read ts)
       same (Word Union ∷ ts) = read_again (read ts)
       same (t ∷ ts) = refl
 
-  pub rule_by_or : {A : Type 0} {a : Grammar A} {starts ends : Lexeme → Bool} {read : Reader A}
+  pub rule_by_union_mark : {A : Type 0} {a : Grammar A} {starts ends : Lexeme → Bool} {read : Reader A}
       → Rules over within a starts ends read
-      → ((t : Lexeme) → is_or t ≡ true → ends t ≡ false)
-      → Rules over within (by_or a) starts (either ends (either is_or ends)) (by_or_at read)
-  unfolding by_or_at
-  rule_by_or k apart = rule_tail (λ p. p.0 ∷ p.1) k (loose_many (or_then_rule k) apart) apart
+      → ((t : Lexeme) → is_union_mark t ≡ true → ends t ≡ false)
+      → Rules over within (by_union_mark a) starts (either ends (either is_union_mark ends)) (by_union_mark_at read)
+  unfolding by_union_mark_at
+  rule_by_union_mark k apart = rule_tail (λ p. p.0 ∷ p.1) k (loose_many (or_then_rule k) apart) apart
 
   -- ---- the marker
 
@@ -232,17 +232,17 @@ module _ {over : Limit → ℕ} {within : Limit → Type 0} where
       Loose over within marker is_comma (either is_comma no_lexeme) (λ ts. made is_some (perhaps is_comma dots_read ts))
   loose_marker =
       loose_made is_some
-      (loose_optional (rule_behind (rule_token (one_is (Mark Comma) is_comma refl comma_one)) (rule_token (one_is (Mark Ellipsis) is_ellipsis refl ellipsis_one))))
+      (loose_optional (rule_preceded (rule_token (one_is (Mark Comma) is_comma refl comma_one)) (rule_token (one_is (Mark Ellipsis) is_ellipsis refl ellipsis_one))))
 
   -- ---- characters
 
   range_then_text :
-      Rules over within (behind (Mark Range) (token CString)) is_range no_lexeme (then_read (λ p. p.1) (one_at is_range) text_at)
-  range_then_text = rule_behind rule_dots (rule_token text_is)
+      Rules over within (preceded (Mark Range) (token CString)) is_range no_lexeme (then_read (λ p. p.1) (one_at is_range) text_at)
+  range_then_text = rule_preceded rule_dots (rule_token text_is)
 
   pub rule_chars : Rules over within chars is_text (either no_lexeme (either is_range no_lexeme)) chars_at
   unfolding text_at chars_at last_chars_at more_chars_at
-  rule_chars = rule_read chars_at same (rule_pair (token CString) (optional (behind (Mark Range) (token CString))) (token_solid CString) (rule_tail (λ p. p) (rule_token text_is) (loose_optional range_then_text) (λ t e. refl)))
+  rule_chars = rule_read chars_at same (rule_pair (token CString) (optional (preceded (Mark Range) (token CString))) (token_solid CString) (rule_tail (λ p. p) (rule_token text_is) (loose_optional range_then_text) (λ t e. refl)))
     where
       last : (c : List ℕ) (ts : List Lexeme)
           →
@@ -266,32 +266,32 @@ module _ {over : Limit → ℕ} {within : Limit → Type 0} where
       same (t ∷ ts) = refl
 
   -- after FROM
-  pub rule_from : Rules over within (behind (Word From) (parens (by_or chars))) is_from no_lexeme from_at
+  pub rule_from : Rules over within (preceded (Word From) (parens (by_union_mark chars))) is_from no_lexeme from_at
   unfolding from_at
-  rule_from = rule_read from_at same (rule_behind rule_from_w (rule_parens (rule_by_or rule_chars or_apart) refl))
+  rule_from = rule_read from_at same (rule_preceded rule_from_w (rule_parens (rule_by_union_mark rule_chars or_apart) refl))
     where
-      or_apart : (t : Lexeme) → is_or t ≡ true → either no_lexeme (either is_range no_lexeme) t ≡ false
+      or_apart : (t : Lexeme) → is_union_mark t ≡ true → either no_lexeme (either is_range no_lexeme) t ≡ false
       or_apart (Mark Bar) e = refl
       or_apart (Word Union) e = refl
       or_apart t e = absurd cc
 
       same : (ts : List Lexeme)
           →
-          then_read (λ (p : Unit {0} × List (List ℕ × Option (List ℕ))). p.1) (one_at is_from) (parens_at (by_or_at chars_at)) ts ≡ from_at ts
+          then_read (λ (p : Unit {0} × List (List ℕ × Option (List ℕ))). p.1) (one_at is_from) (parens_at (by_union_mark_at chars_at)) ts ≡ from_at ts
       same [] = refl
-      same (Word From ∷ ts) = read_again (parens_at (by_or_at chars_at) ts)
+      same (Word From ∷ ts) = read_again (parens_at (by_union_mark_at chars_at) ts)
       same (t ∷ ts) = refl
 
   -- ---- names
 
   dot_then_name :
-      Rules over within (behind (Mark Dot) (token Ident)) is_dot no_lexeme (then_read (λ p. p.1) (one_at is_dot) ident_at)
-  dot_then_name = rule_behind rule_dot (rule_token ident_is)
+      Rules over within (preceded (Mark Dot) (token Ident)) is_dot no_lexeme (then_read (λ p. p.1) (one_at is_dot) ident_at)
+  dot_then_name = rule_preceded rule_dot (rule_token ident_is)
 
   rule_ref : Rules over within ref (either is_ident is_typeref) (either no_lexeme no_lexeme) ref_read
   rule_ref =
       rule_pick (rule_made (λ x. (None, x)) (rule_token ident_is))
-      (rule_made (λ p. (Some p.0, p.1)) (rule_pair (token TypeRef) (behind (Mark Dot) (token Ident)) (token_solid TypeRef) (rule_seq (λ p. p) (rule_token typeref_is) dot_then_name (λ t e. refl))))
+      (rule_made (λ p. (Some p.0, p.1)) (rule_pair (token TypeRef) (preceded (Mark Dot) (token Ident)) (token_solid TypeRef) (rule_seq (λ p. p) (rule_token typeref_is) dot_then_name (λ t e. refl))))
       typeref_no_ident
 
 -- fits is the reader's test on numbers, fits' the grammar's
@@ -363,7 +363,7 @@ module _ (over : Limit → ℕ) (within : Limit → Type 0) (fits fits' : ℕ �
       rule_tests ends_start no_lexeme end_tests (λ t e. refl)
       (rule_read (end_at fits) end_same
       (rule_pick (rule_made (positive_end) (rule_number over within fits fits' grows past room))
-      (rule_pick (rule_made (negative_end) (rule_behind rule_minus (rule_token digits_is))) (rule_made (λ p. name_end p.0 p.1) rule_ref) ref_no_minus) rest_no_number))
+      (rule_pick (rule_made (negative_end) (rule_preceded rule_minus (rule_token digits_is))) (rule_made (λ p. name_end p.0 p.1) rule_ref) ref_no_minus) rest_no_number))
 
   -- ---- ranges
 
@@ -387,31 +387,31 @@ module _ (over : Limit → ℕ) (within : Limit → Type 0) (fits fits' : ℕ �
   rule_bound = rule_read (upper_at fits) upper_same (rule_pick (rule_made Some rule_end) (rule_made (λ _. None) rule_max) max_no_end)
 
   abbrev upper : Grammar (Option EndTree)
-  upper = behind (Mark Range) bound
+  upper = preceded (Mark Range) bound
 
   abbrev upper_read : Reader (Option EndTree)
   upper_read = then_read (λ p. p.1) (one_at is_range) (upper_at fits)
 
   rule_upper : Rules over within upper is_range (either no_lexeme no_lexeme) upper_read
-  rule_upper = rule_behind rule_dots rule_bound
+  rule_upper = rule_preceded rule_dots rule_bound
 
   abbrev of_ends : EndTree × Option (Option EndTree) → RangeTree
   of_ends (a, None) = only a
   of_ends (a, Some b) = between (Some a) b
 
-  behind_same : (a : EndTree) (ts : List Lexeme)
+  after_end_same : (a : EndTree) (ts : List Lexeme)
       →
-      made (λ (y : Option (Option EndTree)). of_ends (a, y)) (perhaps is_range upper_read ts) ≡ behind_end_at fits a ts
-  unfolding behind_end_at
-  behind_same a [] = refl
-  behind_same a (Mark Range ∷ ts) = go (upper_at fits ts)
+      made (λ (y : Option (Option EndTree)). of_ends (a, y)) (perhaps is_range upper_read ts) ≡ after_end_at fits a ts
+  unfolding after_end_at
+  after_end_same a [] = refl
+  after_end_same a (Mark Range ∷ ts) = go (upper_at fits ts)
     where
       go : (r : Read (Option EndTree))
           →
           made (λ (y : Option (Option EndTree)). of_ends (a, y)) (made Some (made (λ (b : Option EndTree). b) r)) ≡ made (between (Some a)) r
       go (Ok x) = refl
       go (Err f) = refl
-  behind_same a (t ∷ ts) = refl
+  after_end_same a (t ∷ ts) = refl
 
   single_same : (ts : List Lexeme)
       → then_read of_ends (end_at fits) (perhaps is_range upper_read) ts ≡ single_at fits ts
@@ -419,16 +419,16 @@ module _ (over : Limit → ℕ) (within : Limit → Type 0) (fits fits' : ℕ �
   single_same ts = go (end_at fits ts)
     where
       go : (r : Read EndTree)
-          → after_read of_ends r (perhaps is_range upper_read) ≡ (r >>= λ a. behind_end_at fits a.0 a.1)
-      go (Ok x) = behind_same x.0 x.1
+          → after_read of_ends r (perhaps is_range upper_read) ≡ (r >>= λ a. after_end_at fits a.0 a.1)
+      go (Ok x) = after_end_same x.0 x.1
       go (Err f) = refl
 
   rule_single :
       Rules over within ((end fits' ∙ optional upper) ⇒ of_ends) ends_start (either no_lexeme (either is_range (either no_lexeme no_lexeme))) (single_at fits)
   rule_single = rule_read (single_at fits) single_same (rule_tail of_ends rule_end (loose_optional rule_upper) (λ t e. refl))
 
-  min_same : (ts : List Lexeme) → made (between None) (upper_read ts) ≡ behind_min_at fits ts
-  unfolding behind_min_at
+  min_same : (ts : List Lexeme) → made (between None) (upper_read ts) ≡ after_min_at fits ts
+  unfolding after_min_at
   min_same [] = refl
   min_same (Mark Range ∷ ts) = go (upper_at fits ts)
     where
@@ -438,8 +438,8 @@ module _ (over : Limit → ℕ) (within : Limit → Type 0) (fits fits' : ℕ �
       go (Err f) = refl
   min_same (t ∷ ts) = refl
 
-  rule_behind_min : Rules over within (upper ⇒ between None) is_range (either no_lexeme no_lexeme) (behind_min_at fits)
-  rule_behind_min = rule_read (behind_min_at fits) min_same (rule_made (between None) rule_upper)
+  rule_after_min : Rules over within (upper ⇒ between None) is_range (either no_lexeme no_lexeme) (after_min_at fits)
+  rule_after_min = rule_read (after_min_at fits) min_same (rule_made (between None) rule_upper)
 
   single_no_min : (t : Lexeme) → ends_start t ≡ true → is_min t ≡ false
   single_no_min (Word Min) e = absurd cc
@@ -447,17 +447,17 @@ module _ (over : Limit → ℕ) (within : Limit → Type 0) (fits fits' : ℕ �
 
   range_same : (ts : List Lexeme)
       →
-      pick is_min (then_read (λ (p : Unit {0} × RangeTree). p.1) (one_at is_min) (behind_min_at fits)) (single_at fits) ts ≡ range_at fits ts
+      pick is_min (then_read (λ (p : Unit {0} × RangeTree). p.1) (one_at is_min) (after_min_at fits)) (single_at fits) ts ≡ range_at fits ts
   unfolding range_at
   range_same [] = refl
-  range_same (Word Min ∷ ts) = read_again (behind_min_at fits ts)
+  range_same (Word Min ∷ ts) = read_again (after_min_at fits ts)
   range_same (t ∷ ts) = refl
 
   -- what begins with MIN, and what begins with an end
   abbrev split_range : Grammar RangeTree
-  split_range = behind (Word Min) (upper ⇒ between None) ∣ (end fits' ∙ optional upper) ⇒ of_ends
+  split_range = preceded (Word Min) (upper ⇒ between None) ∣ (end fits' ∙ optional upper) ⇒ of_ends
 
-  end_part : (a : EndTree) (u : List Lexeme) → (end fits').Is a u → (end fits').CanGoOn u
+  end_part : (a : EndTree) (u : List Lexeme) → (end fits').Is a u → (end fits').IsPrefix u
   end_part = (rule_end.finds tt).part
 
   range_is_split : Same split_range (range fits')
@@ -468,11 +468,11 @@ module _ (over : Limit → ℕ) (within : Limit → Type 0) (fits fits' : ℕ �
       to_is x u (inr ((a, None), d, (v, w, q, hv, hw))) = inl (a, d, subst (λ (l : List Lexeme). (end fits').Is a l) (sym (q ⋆ ap (λ (l : List Lexeme). v ++ l) hw ⋆ append-nil v)) hv)
       to_is x u (inr ((a, Some b), d, (v, w, q, hv, hw))) = inr ((Some a, b), d, (v, w, q, inl (a, refl, hv), hw))
 
-      to_on : (u : List Lexeme) → split_range.CanGoOn u → (range fits').CanGoOn u
+      to_on : (u : List Lexeme) → split_range.IsPrefix u → (range fits').IsPrefix u
       to_on u (inl (inl h)) = inr (inl (inr h))
       to_on u (inl (inr (t, v, w, q, hv, hw))) = inr (inr (None, v, w, q, inr (tt, refl, hv), hw))
       to_on u (inr (inl h)) = inl h
-      to_on u (inr (inr (a, v, w, q, hv, inl e))) = inl (subst (end fits').CanGoOn (sym (q ⋆ ap (λ (l : List Lexeme). v ++ l) e ⋆ append-nil v)) (end_part a v hv))
+      to_on u (inr (inr (a, v, w, q, hv, inl e))) = inl (subst (end fits').IsPrefix (sym (q ⋆ ap (λ (l : List Lexeme). v ++ l) e ⋆ append-nil v)) (end_part a v hv))
       to_on u (inr (inr (a, v, w, q, hv, inr h))) = inr (inr (Some a, v, w, q, inl (a, refl, hv), h))
 
       back_is : (x : RangeTree) (u : List Lexeme) → (range fits').Is x u → split_range.Is x u
@@ -480,7 +480,7 @@ module _ (over : Limit → ℕ) (within : Limit → Type 0) (fits fits' : ℕ �
       back_is x u (inr ((c, b), d, (v, w, q, inl (a, e, hv), hw))) = inr ((a, Some b), d ⋆ ap (λ (c : Option EndTree). between c b) e, (v, w, q, hv, hw))
       back_is x u (inr ((c, b), d, (v, w, q, inr (t, e, hv), hw))) = inl ((tt, between None b), d ⋆ ap (λ (c : Option EndTree). between c b) e, (v, w, q, hv, (b, refl, hw)))
 
-      back_on : (u : List Lexeme) → (range fits').CanGoOn u → split_range.CanGoOn u
+      back_on : (u : List Lexeme) → (range fits').IsPrefix u → split_range.IsPrefix u
       back_on u (inl h) = inr (inl h)
       back_on u (inr (inl (inl h))) = inr (inl h)
       back_on u (inr (inl (inr h))) = inl (inl h)
@@ -499,24 +499,24 @@ module _ (over : Limit → ℕ) (within : Limit → Type 0) (fits fits' : ℕ �
   pub rule_range : Rules over within (range fits') range_starts is_range (range_at fits)
   rule_range =
       rule_same (range fits') range_is_split
-      (rule_tests range_starts is_range (λ t e. e) range_ends (rule_read (range_at fits) range_same (rule_pick (rule_behind rule_min rule_behind_min) rule_single single_no_min)))
+      (rule_tests range_starts is_range (λ t e. e) range_ends (rule_read (range_at fits) range_same (rule_pick (rule_preceded rule_min rule_after_min) rule_single single_no_min)))
 
-  or_no_range : (t : Lexeme) → is_or t ≡ true → is_range t ≡ false
+  or_no_range : (t : Lexeme) → is_union_mark t ≡ true → is_range t ≡ false
   or_no_range (Mark Bar) e = refl
   or_no_range (Word Union) e = refl
   or_no_range t e = absurd cc
 
   abbrev ranges_end : Lexeme → Bool
-  ranges_end = either (either is_range (either is_or is_range)) (either is_comma no_lexeme)
+  ranges_end = either (either is_range (either is_union_mark is_range)) (either is_comma no_lexeme)
 
-  comma_ends : (t : Lexeme) → is_comma t ≡ true → either is_range (either is_or is_range) t ≡ false
-  comma_ends t e = subst (λ (t : Lexeme). either is_range (either is_or is_range) t ≡ false) (sym (comma_one t e)) refl
+  comma_ends : (t : Lexeme) → is_comma t ≡ true → either is_range (either is_union_mark is_range) t ≡ false
+  comma_ends t e = subst (λ (t : Lexeme). either is_range (either is_union_mark is_range) t ≡ false) (sym (comma_one t e)) refl
 
   ranges_same : (ts : List Lexeme)
       →
-      then_read marked (by_or_at (range_at fits)) (λ us. made is_some (perhaps is_comma dots_read us)) ts ≡ ranges_at fits ts
+      then_read marked (by_union_mark_at (range_at fits)) (λ us. made is_some (perhaps is_comma dots_read us)) ts ≡ ranges_at fits ts
   unfolding ranges_at
-  ranges_same ts = go (by_or_at (range_at fits) ts)
+  ranges_same ts = go (by_union_mark_at (range_at fits) ts)
     where
       go : (r : Read (List RangeTree))
           →
@@ -525,7 +525,7 @@ module _ (over : Limit → ℕ) (within : Limit → Type 0) (fits fits' : ℕ �
       go (Err f) = refl
 
   pub rule_ranges : Rules over within (ranges fits') range_starts ranges_end (ranges_at fits)
-  rule_ranges = rule_read (ranges_at fits) ranges_same (rule_tail marked (rule_by_or rule_range or_no_range) loose_marker comma_ends)
+  rule_ranges = rule_read (ranges_at fits) ranges_same (rule_tail marked (rule_by_union_mark rule_range or_no_range) loose_marker comma_ends)
 
   -- ---- sizes and constraints
 
@@ -538,17 +538,17 @@ module _ (over : Limit → ℕ) (within : Limit → Type 0) (fits fits' : ℕ �
   size_same (t ∷ ts) = refl
 
   pub rule_size : Rules over within (size fits') is_size no_lexeme (size_at fits)
-  rule_size = rule_read (size_at fits) size_same (rule_made sizes_in (rule_behind rule_size_w (rule_parens rule_ranges refl)))
+  rule_size = rule_read (size_at fits) size_same (rule_made sizes_in (rule_preceded rule_size_w (rule_parens rule_ranges refl)))
 
   abbrev inner : Grammar ConstraintTree
-  inner = ranges fits' ⇒ values_in ∣ size fits' ∣ behind (Word From) (parens (by_or chars)) ⇒ chars_in
+  inner = ranges fits' ⇒ values_in ∣ size fits' ∣ preceded (Word From) (parens (by_union_mark chars)) ⇒ chars_in
 
   rule_values_in : Rules over within (ranges fits' ⇒ values_in) range_starts ranges_end (values_in_at fits)
   unfolding values_in_at
   rule_values_in = rule_made values_in rule_ranges
 
   rule_from_in :
-      Rules over within (behind (Word From) (parens (by_or chars)) ⇒ chars_in) is_from no_lexeme (from_in_at fits)
+      Rules over within (preceded (Word From) (parens (by_union_mark chars)) ⇒ chars_in) is_from no_lexeme (from_in_at fits)
   unfolding from_in_at
   rule_from_in = rule_made chars_in rule_from
 
@@ -562,7 +562,7 @@ module _ (over : Limit → ℕ) (within : Limit → Type 0) (fits fits' : ℕ �
 
   inside_same : (ts : List Lexeme)
       → pick range_starts (values_in_at fits) (pick is_size (size_at fits) (from_in_at fits)) ts ≡ inside_at fits ts
-  unfolding inside_at values_in_at from_in_at ranges_at by_or_at range_at single_at end_at from_at size_at
+  unfolding inside_at values_in_at from_in_at ranges_at by_union_mark_at range_at single_at end_at from_at size_at
   inside_same [] = refl
   inside_same (Word Size ∷ ts) = refl
   inside_same (Word From ∷ ts) = refl
@@ -586,7 +586,7 @@ module _ (over : Limit → ℕ) (within : Limit → Type 0) (fits fits' : ℕ �
       to_is x u (p, d, (m, v, q, hm, (w, c, e, inr (inl ha), hc))) = inr (inl (p, d, (m, v, q, hm, (w, c, e, ha, hc))))
       to_is x u (p, d, (m, v, q, hm, (w, c, e, inr (inr (a, f, ha)), hc))) = inr (inr (a, d ⋆ f, ((tt, (a, tt)), refl, (m, v, q, hm, (w, c, e, ha, hc)))))
 
-      to_on : (u : List Lexeme) → split_constraint.CanGoOn u → (constraint fits').CanGoOn u
+      to_on : (u : List Lexeme) → split_constraint.IsPrefix u → (constraint fits').IsPrefix u
       to_on u (inl h) = inl (inl h)
       to_on u (inr (o, m, v, q, hm, inl (inl h))) = inl (inr (o, m, v, q, hm, inl h))
       to_on u (inr (o, m, v, q, hm, inl (inr (inl h)))) = inr (inl (inr (o, m, v, q, hm, inl h)))
@@ -600,7 +600,7 @@ module _ (over : Limit → ℕ) (within : Limit → Type 0) (fits fits' : ℕ �
       back_is x u (inr (inl (p, d, (m, v, q, hm, (w, c, e, ha, hc))))) = (p, d, (m, v, q, hm, (w, c, e, inr (inl ha), hc)))
       back_is x u (inr (inr (a, d, (p, f, (m, v, q, hm, (w, c, e, ha, hc)))))) = ((tt, (x, tt)), refl, (m, v, q, hm, (w, c, e, inr (inr (p.1.0, d ⋆ ap chars_in f, ha)), hc)))
 
-      back_on : (u : List Lexeme) → (constraint fits').CanGoOn u → split_constraint.CanGoOn u
+      back_on : (u : List Lexeme) → (constraint fits').IsPrefix u → split_constraint.IsPrefix u
       back_on u (inl (inl h)) = inl h
       back_on u (inl (inr (o, m, v, q, hm, inl h))) = inr (o, m, v, q, hm, inl (inl h))
       back_on u (inl (inr (o, m, v, q, hm, inr (a, w, c, e, ha, hc)))) = inr (o, m, v, q, hm, inr (values_in a, w, c, e, inl (a, refl, ha), hc))

@@ -3,8 +3,8 @@ use Rattle.std.proofs.Common.{◌≡◌, ℕ, ◌||◌, inl, inr, Bool, true, Li
 use Rattle.text.specs.declared.token.Mark.TheVariants.{Range, OpenParenthesis, CloseParenthesis, Minus}
 use Rattle.text.specs.declared.reserved.Word.TheVariants.{From, Size, Min, Max}
 use Rattle.grammar.specs.Lexeme.{Lexeme, Number, Word, Mark}
-use Rattle.grammar.specs.Grammar.{Grammar, token, mark, word, number_of, ◌∙◌, ◌∣◌, ◌⇒◌, many, behind}
-use Rattle.grammar.specs.Grows.{Grows, same_grows, number_grows, seq_grows, made_grows, either_grows, many_grows, behind_grows}
+use Rattle.grammar.specs.Grammar.{Grammar, token, mark, word, number_of, ◌∙◌, ◌∣◌, ◌⇒◌, many, preceded}
+use Rattle.grammar.specs.Grows.{Grows, same_grows, number_grows, seq_grows, made_grows, either_grows, many_grows, preceded_grows}
 use Rattle.grammar.specs.Reading.{Limit, Nesting, Integer, TagNumber, Read, Reader}
 use Rattle.grammar.specs.Laws.{nowhere, deeper, wider, higher, past, Sound, Follows, ReadsAs, Finds}
 use Rattle.grammar.specs.Lists.{no_lexeme}
@@ -13,7 +13,7 @@ use Rattle.grammar.specs.Places.{Limits, any, small, bounded, Within, raised}
 use Rattle.grammar.specs.Answers.{joined, joined_first, joined_second, within_all, Reads}
 use Rattle.grammar.specs.Rules.{Rules, Ruled}
 use Rattle.trees.specs.Constraints.{EndTree, name_end, only, between, values_in, sizes_in, chars_in}
-use Rattle.notation.specs.ConstraintGrammar.{positive_end, negative_end, marker, marked, or, by_or, ref, chars, end, range, ranges, size, constraint, flat}
+use Rattle.notation.specs.ConstraintGrammar.{positive_end, negative_end, marker, marked, union_mark, by_union_mark, ref, chars, end, range, ranges, size, constraint, flat}
 use Rattle.grammar.specs.Grammar.{parens}
 use Rattle.notation.specs.ConstraintReading.{is_size, size_at, constraint_at}
 use Rattle.grammar.specs.Reading.{is_open}
@@ -26,17 +26,17 @@ parens_grows a b g =
     made_grows (mark OpenParenthesis ∙ (a ∙ mark CloseParenthesis)) (mark OpenParenthesis ∙ (b ∙ mark CloseParenthesis)) (λ p. p.1.0)
     (seq_grows (mark OpenParenthesis) (mark OpenParenthesis) (a ∙ mark CloseParenthesis) (b ∙ mark CloseParenthesis) (same_grows (mark OpenParenthesis)) (seq_grows a b (mark CloseParenthesis) (mark CloseParenthesis) g (same_grows (mark CloseParenthesis))))
 
-by_or_grows : {A : Type 0} (a b : Grammar A) → Grows a b → Grows (by_or a) (by_or b)
-by_or_grows a b g =
-    made_grows (a ∙ many ((or ∙ a) ⇒ (λ p. p.1))) (b ∙ many ((or ∙ b) ⇒ (λ p. p.1))) (λ p. p.0 ∷ p.1)
-    (seq_grows a b (many ((or ∙ a) ⇒ (λ p. p.1))) (many ((or ∙ b) ⇒ (λ p. p.1))) g
-    (many_grows ((or ∙ a) ⇒ (λ p. p.1)) ((or ∙ b) ⇒ (λ p. p.1)) (made_grows (or ∙ a) (or ∙ b) (λ p. p.1) (seq_grows or or a b (same_grows or) g))))
+by_union_mark_grows : {A : Type 0} (a b : Grammar A) → Grows a b → Grows (by_union_mark a) (by_union_mark b)
+by_union_mark_grows a b g =
+    made_grows (a ∙ many ((union_mark ∙ a) ⇒ (λ p. p.1))) (b ∙ many ((union_mark ∙ b) ⇒ (λ p. p.1))) (λ p. p.0 ∷ p.1)
+    (seq_grows a b (many ((union_mark ∙ a) ⇒ (λ p. p.1))) (many ((union_mark ∙ b) ⇒ (λ p. p.1))) g
+    (many_grows ((union_mark ∙ a) ⇒ (λ p. p.1)) ((union_mark ∙ b) ⇒ (λ p. p.1)) (made_grows (union_mark ∙ a) (union_mark ∙ b) (λ p. p.1) (seq_grows union_mark union_mark a b (same_grows union_mark) g))))
 
 module _ (fits fits' : ℕ → Bool) (grows : (n : ℕ) → fits n ≡ true → fits' n ≡ true) where
   end_grows : Grows (end fits) (end fits')
   end_grows =
       either_grows (number_of fits ⇒ positive_end) (number_of fits' ⇒ positive_end) _ _ (made_grows (number_of fits) (number_of fits') (positive_end) (number_grows fits fits' grows))
-      (same_grows (behind (Mark Minus) (token Number) ⇒ negative_end ∣ ref ⇒ (λ p. name_end p.0 p.1)))
+      (same_grows (preceded (Mark Minus) (token Number) ⇒ negative_end ∣ ref ⇒ (λ p. name_end p.0 p.1)))
 
   -- an end, or a word for none
   abbrev or_word : Grammar EndTree → Grammar (Unit {0}) → Grammar (Option EndTree)
@@ -48,22 +48,22 @@ module _ (fits fits' : ℕ → Bool) (grows : (n : ℕ) → fits n ≡ true → 
   range_grows : Grows (range fits) (range fits')
   range_grows =
       either_grows (end fits ⇒ only) (end fits' ⇒ only) _ _ (made_grows (end fits) (end fits') only end_grows)
-      (made_grows (or_word (end fits) (word Min) ∙ behind (Mark Range) (or_word (end fits) (word Max))) (or_word (end fits') (word Min) ∙ behind (Mark Range) (or_word (end fits') (word Max))) (λ p. between p.0 p.1)
-      (seq_grows (or_word (end fits) (word Min)) (or_word (end fits') (word Min)) (behind (Mark Range) (or_word (end fits) (word Max))) (behind (Mark Range) (or_word (end fits') (word Max))) (bound_grows (word Min))
-      (behind_grows (Mark Range) (or_word (end fits) (word Max)) (or_word (end fits') (word Max)) (bound_grows (word Max)))))
+      (made_grows (or_word (end fits) (word Min) ∙ preceded (Mark Range) (or_word (end fits) (word Max))) (or_word (end fits') (word Min) ∙ preceded (Mark Range) (or_word (end fits') (word Max))) (λ p. between p.0 p.1)
+      (seq_grows (or_word (end fits) (word Min)) (or_word (end fits') (word Min)) (preceded (Mark Range) (or_word (end fits) (word Max))) (preceded (Mark Range) (or_word (end fits') (word Max))) (bound_grows (word Min))
+      (preceded_grows (Mark Range) (or_word (end fits) (word Max)) (or_word (end fits') (word Max)) (bound_grows (word Max)))))
 
   ranges_grows : Grows (ranges fits) (ranges fits')
-  ranges_grows = made_grows (by_or (range fits) ∙ marker) (by_or (range fits') ∙ marker) marked (seq_grows (by_or (range fits)) (by_or (range fits')) marker marker (by_or_grows (range fits) (range fits') range_grows) (same_grows marker))
+  ranges_grows = made_grows (by_union_mark (range fits) ∙ marker) (by_union_mark (range fits') ∙ marker) marked (seq_grows (by_union_mark (range fits)) (by_union_mark (range fits')) marker marker (by_union_mark_grows (range fits) (range fits') range_grows) (same_grows marker))
 
   pub size_grows : Grows (size fits) (size fits')
   size_grows =
-      made_grows (behind (Word Size) (parens (ranges fits))) (behind (Word Size) (parens (ranges fits'))) sizes_in
-      (behind_grows (Word Size) (parens (ranges fits)) (parens (ranges fits')) (parens_grows (ranges fits) (ranges fits') ranges_grows))
+      made_grows (preceded (Word Size) (parens (ranges fits))) (preceded (Word Size) (parens (ranges fits'))) sizes_in
+      (preceded_grows (Word Size) (parens (ranges fits)) (parens (ranges fits')) (parens_grows (ranges fits) (ranges fits') ranges_grows))
 
   pub constraint_grows : Grows (constraint fits) (constraint fits')
   constraint_grows =
       either_grows (parens (ranges fits) ⇒ values_in) (parens (ranges fits') ⇒ values_in) _ _ (made_grows (parens (ranges fits)) (parens (ranges fits')) values_in (parens_grows (ranges fits) (ranges fits') ranges_grows))
-      (either_grows (parens (size fits)) (parens (size fits')) _ _ (parens_grows (size fits) (size fits') size_grows) (same_grows (parens (behind (Word From) (parens (by_or chars))) ⇒ chars_in)))
+      (either_grows (parens (size fits)) (parens (size fits')) _ _ (parens_grows (size fits) (size fits') size_grows) (same_grows (parens (preceded (Word From) (parens (by_union_mark chars))) ⇒ chars_in)))
 
 -- ---- a part that nothing can continue is read in any place
 

@@ -5,9 +5,9 @@ use Rattle.text.specs.declared.token.Mark.TheVariants.{Comma, Colon, CloseBrace}
 use Rattle.grammar.specs.Lexeme.{Lexeme, Ident, Number, Mark}
 use Rattle.grammar.specs.Grammar.{Grammar, token, mark, number_of, ◌∙◌, ◌⇒◌, IsMany, many, listed}
 use Rattle.grammar.specs.Reading.{Limit, Integer, Read, Reader, ◌>>=◌, closed_at, named_at, fitting}
-use Rattle.grammar.specs.Laws.{Follows, Passes, ReadsAs, Finds, seq_front, seq_whole, passes_on, passes_made, stands_made}
+use Rattle.grammar.specs.Laws.{Follows, Passes, ReadsAs, Finds, seq_front, seq_whole, passes_on, passes_made, reads_as_made}
 use Rattle.grammar.specs.Lists.{IsSolid, Next, head_is, second_is, no_lexeme, is_rbrace, is_ident, finds_closed, finds_body, body_next, finds_named}
-use Rattle.grammar.specs.Numbers.{fitting_passes, fitting_shrinks, fitting_stands, fitting_behind}
+use Rattle.grammar.specs.Numbers.{fitting_passes, fitting_shrinks, fitting_reads_as, fitting_passes_on}
 use Rattle.trees.specs.Values.{Tree, numbers, items, fields, trees, members}
 use Rattle.notation.specs.Reading.{numbers_at, items_at, fields_at, follows_name, by_name_at, two_numbers_at, by_number_at, braced_at}
 use Rattle.notation.specs.Laws.{starts, goes_on}
@@ -49,7 +49,7 @@ module _ (within : Limit → Type 0) (fits fits' : ℕ → Bool)
 
   numbers_front' : (ns : List ℕ) (u v us : List Lexeme)
       → IsMany (number_of fits') ns u
-      → (number_of fits').CanGoOn v
+      → (number_of fits').IsPrefix v
       → Passes within us (numbers_at fits ((u ++ v) ++ us))
   numbers_front' [] u v us h (inl e) = subst (λ (l : List Lexeme). Passes within us (numbers_at fits (l ++ us))) (sym (ap (λ (l : List Lexeme). l ++ v) h ⋆ e)) (numbers_shrink us)
   numbers_front' [] u v us h (inr (n, f, e)) =
@@ -63,12 +63,12 @@ module _ (within : Limit → Type 0) (fits fits' : ℕ → Bool)
   numbers_end (Number n ∷ us) f = absurd cc
   numbers_end (t ∷ us) f = refl
 
-  stands_more : (n : ℕ) (ns : List ℕ) (ts us : List Lexeme)
+  reads_as_more : (n : ℕ) (ns : List ℕ) (ts us : List Lexeme)
       → fits' n ≡ true
       → ReadsAs within (numbers_at fits ts) ns us
       → ReadsAs within (numbers_at fits (Number n ∷ ts)) (n ∷ ns) us
   unfolding numbers_at
-  stands_more n ns ts us f h = fitting_stands within (fits n) (Number n ∷ ts) us (numbers_at fits ts >>= λ ns. Ok (n ∷ ns.0, ns.1)) (n ∷ ns) (room n f) (stands_made within us (numbers_at fits ts) ns (λ ns. n ∷ ns) h)
+  reads_as_more n ns ts us f h = fitting_reads_as within (fits n) (Number n ∷ ts) us (numbers_at fits ts >>= λ ns. Ok (n ∷ ns.0, ns.1)) (n ∷ ns) (room n f) (reads_as_made within us (numbers_at fits ts) ns (λ ns. n ∷ ns) h)
 
   numbers_whole' : (ns : List ℕ) (u us : List Lexeme)
       → IsMany (number_of fits') ns u
@@ -76,7 +76,7 @@ module _ (within : Limit → Type 0) (fits fits' : ℕ → Bool)
       → ReadsAs within (numbers_at fits (u ++ us)) ns us
   numbers_whole' [] u us h f = inl (ap (λ (l : List Lexeme). numbers_at fits (l ++ us)) h ⋆ numbers_end us f)
   numbers_whole' (n ∷ ns) u us (p, q, e, hp, hq) f =
-      subst (λ (l : List Lexeme). ReadsAs within (numbers_at fits (l ++ us)) (n ∷ ns) us) (sym (e ⋆ ap (λ (l : List Lexeme). l ++ q) hp.1)) (stands_more n ns (q ++ us) us hp.0 (numbers_whole' ns q us hq f))
+      subst (λ (l : List Lexeme). ReadsAs within (numbers_at fits (l ++ us)) (n ∷ ns) us) (sym (e ⋆ ap (λ (l : List Lexeme). l ++ q) hp.1)) (reads_as_more n ns (q ++ us) us hp.0 (numbers_whole' ns q us hq f))
 
   finds_numbers : Finds within more is_num is_num (numbers_at fits)
   finds_numbers = record {
@@ -87,7 +87,7 @@ module _ (within : Limit → Type 0) (fits fits' : ℕ → Bool)
     front = λ u us h. subst (λ (l : List Lexeme). Passes within us (numbers_at fits (l ++ us))) (sym h.3) (numbers_front' h.0 h.1 h.2 us h.4 h.5);
   }
     where
-      first : (t : Lexeme) (u : List Lexeme) → more.CanGoOn (t ∷ u) → is_num t ≡ true
+      first : (t : Lexeme) (u : List Lexeme) → more.IsPrefix (t ∷ u) → is_num t ≡ true
       first t u ([], v, w, e, hv, inl h) = let q = e ⋆ ap (λ (l : List Lexeme). l ++ w) hv ⋆ h in absurd cc
       first t u ([], v, w, e, hv, inr (n, f, h)) = subst (λ (t : Lexeme). is_num t ≡ true) (sym (head_is t (Number n) u [] (e ⋆ ap (λ (l : List Lexeme). l ++ w) hv ⋆ h))) refl
       first t u (n ∷ ns, v, w, e, (p, q, d, hp, hq), h) =
@@ -95,7 +95,7 @@ module _ (within : Limit → Type 0) (fits fits' : ℕ → Bool)
 
   -- the numbers after two, and the end of the braces
   two_numbers_front : (a b : ℕ) (u us : List Lexeme)
-      → (more ∙ mark CloseBrace).CanGoOn u
+      → (more ∙ mark CloseBrace).IsPrefix u
       → Passes within us (two_numbers_at fits a b (u ++ us))
   unfolding two_numbers_at
   two_numbers_front a b = seq_front within more (mark CloseBrace) (λ p. numbers (a ∷ b ∷ p.0)) is_num is_num is_rbrace no_lexeme no_lexeme (numbers_at fits) closed_at finds_numbers (finds_closed within) rbrace_no_num
@@ -153,10 +153,10 @@ body_long a solid f z s (p, d, (t ∷ t' ∷ q, w, e, ha, hr)) = absurd cc
 module _ (within : Limit → Type 0) (fits fits' : ℕ → Bool)
     (room : (n : ℕ) → fits' n ≡ true → within Integer → fits n ≡ true) (v : Grammar Tree) (read : Reader Tree)
     (fv : Finds within v (starts fits') goes_on read) (solid : IsSolid v)
-    (one_number : (a : ℕ) → fits' a ≡ true → v.CanGoOn (Number a ∷ []))
-    (one_name : (x : List ℕ) → v.CanGoOn (Ident x ∷ []))
-    (behind_number : (a : ℕ) → Next v (Number a) (λ t. ends_item t ≡ true))
-    (behind_name : (x : List ℕ) → Next v (Ident x) (λ t. ends_item t ≡ true)) where
+    (one_number : (a : ℕ) → fits' a ≡ true → v.IsPrefix (Number a ∷ []))
+    (one_name : (x : List ℕ) → v.IsPrefix (Ident x ∷ []))
+    (after_number : (a : ℕ) → Next v (Number a) (λ t. ends_item t ≡ true))
+    (after_name : (x : List ℕ) → Next v (Ident x) (λ t. ends_item t ≡ true)) where
   member_solid : IsSolid (token Ident ∙ v)
   member_solid = record { no_empty = go }
     where
@@ -183,7 +183,7 @@ module _ (within : Limit → Type 0) (fits fits' : ℕ → Bool)
   member_next : (x : List ℕ) → Next (token Ident ∙ v) (Ident x) (λ t. (starts fits') t ≡ true)
   member_next x = record { next = go }
     where
-      go : (t : Lexeme) (u : List Lexeme) → (token Ident ∙ v).CanGoOn (Ident x ∷ t ∷ u) → (starts fits') t ≡ true
+      go : (t : Lexeme) (u : List Lexeme) → (token Ident ∙ v).IsPrefix (Ident x ∷ t ∷ u) → (starts fits') t ≡ true
       go t u (inl (inl e)) = absurd cc
       go t u (inl (inr (y, e))) = absurd cc
       go t u (inr (y, p, [], e, hp, hq)) = let d = e ⋆ ap (λ (l : List Lexeme). l ++ []) hp in absurd cc
@@ -216,22 +216,22 @@ module _ (within : Limit → Type 0) (fits fits' : ℕ → Bool)
   unfolding by_name_at
   to_fields ts us h = h
 
-  stands_items : (ts us : List Lexeme) (z : Tree)
+  items_read_as : (ts us : List Lexeme) (z : Tree)
       → ReadsAs within (items_at read ts) z us
       → ReadsAs within (by_name_at true read ts) z us
   unfolding by_name_at
-  stands_items ts us z h = h
+  items_read_as ts us z h = h
 
-  stands_fields : (ts us : List Lexeme) (z : Tree)
+  fields_read_as : (ts us : List Lexeme) (z : Tree)
       → ReadsAs within (fields_at read ts) z us
       → ReadsAs within (by_name_at false read ts) z us
   unfolding by_name_at
-  stands_fields ts us z h = h
+  fields_read_as ts us z h = h
 
-  items_one : (x : List ℕ) → (listed v ∙ mark CloseBrace).CanGoOn (Ident x ∷ [])
+  items_one : (x : List ℕ) → (listed v ∙ mark CloseBrace).IsPrefix (Ident x ∷ [])
   items_one x = inl (inl (one_name x))
 
-  fields_one : (x : List ℕ) → (listed (token Ident ∙ v) ∙ mark CloseBrace).CanGoOn (Ident x ∷ [])
+  fields_one : (x : List ℕ) → (listed (token Ident ∙ v) ∙ mark CloseBrace).IsPrefix (Ident x ∷ [])
   fields_one x = inl (inl (inl (inr (x, refl))))
 
   two_shrink : (a b : ℕ) (us : List Lexeme) → Passes within us (two_numbers_at fits a b us)
@@ -266,25 +266,25 @@ module _ (within : Limit → Type 0) (fits fits' : ℕ → Bool)
   unfolding braced_at
   braced_shrinks [] = fi.front [] [] fi.nil
   braced_shrinks ((Mark CloseBrace) ∷ us) = omega arith
-  braced_shrinks (Number a ∷ us) = fitting_behind within (fits a) (Number a ∷ us) (Number a ∷ us) (by_number_at fits read a us) (omega arith) (number_shrinks a us)
+  braced_shrinks (Number a ∷ us) = fitting_passes_on within (fits a) (Number a ∷ us) (Number a ∷ us) (by_number_at fits read a us) (omega arith) (number_shrinks a us)
   braced_shrinks (Ident x ∷ us) = passes_on within (Ident x ∷ us) us (by_name_at (follows_name us) read (Ident x ∷ us)) (omega arith) (name_one x us)
   braced_shrinks (t ∷ us) = fi.front [] (t ∷ us) fi.nil
 
   pub items_front : (u us : List Lexeme)
-      → (listed v ∙ mark CloseBrace).CanGoOn u
+      → (listed v ∙ mark CloseBrace).IsPrefix u
       → Passes within us (braced_at fits read (u ++ us))
   unfolding braced_at by_number_at
   items_front [] us h = braced_shrinks us
   items_front ((Mark CloseBrace) ∷ u) us h = let e = fi.first (Mark CloseBrace) u h in absurd cc
   items_front (Number a ∷ []) us h = number_one a (fi.first (Number a) [] h) us
-  items_front (Number a ∷ Number b ∷ u) us h = let e = (items_next (Number a) (behind_number a)).next (Number b) u h in absurd cc
+  items_front (Number a ∷ Number b ∷ u) us h = let e = (items_next (Number a) (after_number a)).next (Number b) u h in absurd cc
   items_front (Number a ∷ t ∷ u) us h = fitting_passes within (fits a) us (Number a ∷ t ∷ (u ++ us)) (items_at read (Number a ∷ t ∷ (u ++ us))) (room a (fi.first (Number a) (t ∷ u) h)) (fi.front (Number a ∷ t ∷ u) us h)
   items_front (Ident x ∷ []) us h = name_one x us
-  items_front (Ident x ∷ t ∷ u) us h = subst (λ (b : Bool). Passes within us (by_name_at b read (Ident x ∷ t ∷ (u ++ us)))) (sym (follows t (u ++ us) ((items_next (Ident x) (behind_name x)).next t u h))) (to_items (Ident x ∷ t ∷ (u ++ us)) us (fi.front (Ident x ∷ t ∷ u) us h))
+  items_front (Ident x ∷ t ∷ u) us h = subst (λ (b : Bool). Passes within us (by_name_at b read (Ident x ∷ t ∷ (u ++ us)))) (sym (follows t (u ++ us) ((items_next (Ident x) (after_name x)).next t u h))) (to_items (Ident x ∷ t ∷ (u ++ us)) us (fi.front (Ident x ∷ t ∷ u) us h))
   items_front (t ∷ u) us h = fi.front (t ∷ u) us h
 
   pub fields_front : (u us : List Lexeme)
-      → (listed (token Ident ∙ v) ∙ mark CloseBrace).CanGoOn u
+      → (listed (token Ident ∙ v) ∙ mark CloseBrace).IsPrefix u
       → Passes within us (braced_at fits read (u ++ us))
   unfolding braced_at
   fields_front [] us h = braced_shrinks us
@@ -298,7 +298,7 @@ module _ (within : Limit → Type 0) (fits fits' : ℕ → Bool)
       → fits' b ≡ true
       → (w u us : List Lexeme)
       → u ≡ Number a ∷ Number b ∷ w
-      → (many (number_of fits') ∙ mark CloseBrace).CanGoOn w
+      → (many (number_of fits') ∙ mark CloseBrace).IsPrefix w
       → Passes within us (braced_at fits read (u ++ us))
   unfolding braced_at by_number_at
   at_two a b fa fb w u us e h =
@@ -315,7 +315,7 @@ module _ (within : Limit → Type 0) (fits fits' : ℕ → Bool)
   at_one a f u us e = subst (λ (l : List Lexeme). Passes within us (braced_at fits read (l ++ us))) (sym e) (number_one a f us)
 
   pub numbers_front : (u us : List Lexeme)
-      → (three_numbers fits' ∙ mark CloseBrace).CanGoOn u
+      → (three_numbers fits' ∙ mark CloseBrace).IsPrefix u
       → Passes within us (braced_at fits read (u ++ us))
   numbers_front u us (inl (inl (inl e))) = subst (λ (l : List Lexeme). Passes within us (braced_at fits read (l ++ us))) (sym e) (braced_shrinks us)
   numbers_front u us (inl (inl (inr (a, f, e)))) = at_one a f u us e
@@ -341,12 +341,12 @@ module _ (within : Limit → Type 0) (fits fits' : ℕ → Bool)
   items_whole z [] us h = absurd (body_not_empty v (λ p. items (trees p.0)) z h)
   items_whole z ((Mark CloseBrace) ∷ u) us h = let e = fi.first (Mark CloseBrace) u (fi.part z ((Mark CloseBrace) ∷ u) h) in absurd cc
   items_whole z (Number a ∷ []) us h = absurd (body_long v solid (λ p. items (trees p.0)) z (Number a) h)
-  items_whole z (Number a ∷ Number b ∷ u) us h = let e = (items_next (Number a) (behind_number a)).next (Number b) u (fi.part z (Number a ∷ Number b ∷ u) h) in absurd cc
+  items_whole z (Number a ∷ Number b ∷ u) us h = let e = (items_next (Number a) (after_number a)).next (Number b) u (fi.part z (Number a ∷ Number b ∷ u) h) in absurd cc
   items_whole z (Number a ∷ t ∷ u) us h =
-      fitting_stands within (fits a) (Number a ∷ t ∷ (u ++ us)) us (items_at read (Number a ∷ t ∷ (u ++ us))) z (room a (fi.first (Number a) (t ∷ u) (fi.part z (Number a ∷ t ∷ u) h))) (fi.whole z (Number a ∷ t ∷ u) us h (no_end us))
+      fitting_reads_as within (fits a) (Number a ∷ t ∷ (u ++ us)) us (items_at read (Number a ∷ t ∷ (u ++ us))) z (room a (fi.first (Number a) (t ∷ u) (fi.part z (Number a ∷ t ∷ u) h))) (fi.whole z (Number a ∷ t ∷ u) us h (no_end us))
   items_whole z (Ident x ∷ []) us h = absurd (body_long v solid (λ p. items (trees p.0)) z (Ident x) h)
   items_whole z (Ident x ∷ t ∷ u) us h =
-      subst (λ (b : Bool). ReadsAs within (by_name_at b read (Ident x ∷ t ∷ (u ++ us))) z us) (sym (follows t (u ++ us) ((items_next (Ident x) (behind_name x)).next t u (fi.part z (Ident x ∷ t ∷ u) h)))) (stands_items (Ident x ∷ t ∷ (u ++ us)) us z (fi.whole z (Ident x ∷ t ∷ u) us h (no_end us)))
+      subst (λ (b : Bool). ReadsAs within (by_name_at b read (Ident x ∷ t ∷ (u ++ us))) z us) (sym (follows t (u ++ us) ((items_next (Ident x) (after_name x)).next t u (fi.part z (Ident x ∷ t ∷ u) h)))) (items_read_as (Ident x ∷ t ∷ (u ++ us)) us z (fi.whole z (Ident x ∷ t ∷ u) us h (no_end us)))
   items_whole z (t ∷ u) us h = fi.whole z (t ∷ u) us h (no_end us)
 
   pub fields_whole : (z : Tree) (u us : List Lexeme)
@@ -356,7 +356,7 @@ module _ (within : Limit → Type 0) (fits fits' : ℕ → Bool)
   fields_whole z [] us h = absurd (body_not_empty (token Ident ∙ v) (λ p. fields (members p.0)) z h)
   fields_whole z (Ident x ∷ []) us h = absurd (body_long (token Ident ∙ v) member_solid (λ p. fields (members p.0)) z (Ident x) h)
   fields_whole z (Ident x ∷ t ∷ u) us h =
-      subst (λ (b : Bool). ReadsAs within (by_name_at b read (Ident x ∷ t ∷ (u ++ us))) z us) (sym (follows_not fits' t (u ++ us) ((fields_next x).next t u (ff.part z (Ident x ∷ t ∷ u) h)))) (stands_fields (Ident x ∷ t ∷ (u ++ us)) us z (ff.whole z (Ident x ∷ t ∷ u) us h (no_end us)))
+      subst (λ (b : Bool). ReadsAs within (by_name_at b read (Ident x ∷ t ∷ (u ++ us))) z us) (sym (follows_not fits' t (u ++ us) ((fields_next x).next t u (ff.part z (Ident x ∷ t ∷ u) h)))) (fields_read_as (Ident x ∷ t ∷ (u ++ us)) us z (ff.whole z (Ident x ∷ t ∷ u) us h (no_end us)))
   fields_whole z (t ∷ u) us h = let e = ff.first t u (ff.part z (t ∷ u) h) in absurd cc
 
   pub numbers_whole : (z : Tree) (u us : List Lexeme)
@@ -369,6 +369,6 @@ module _ (within : Limit → Type 0) (fits fits' : ℕ → Bool)
       let w = (q2 ++ q) ++ us in
       subst (λ (l : List Lexeme). ReadsAs within (braced_at fits read (l ++ us)) z us)
       (sym (e ⋆ ap (λ (l : List Lexeme). l ++ q) (e1 ⋆ ap (λ (l : List Lexeme). l ++ q1) hp1.1 ⋆ ap (λ (l : List Lexeme). Number x.0.0 ∷ l) (e2 ⋆ ap (λ (l : List Lexeme). l ++ q2) hp2.1))))
-      (fitting_stands within (fits a) (Number a ∷ Number b ∷ w) us (fitting (fits b) (Number b ∷ w) (two_numbers_at fits a b w)) z (room a hp1.0)
-      (fitting_stands within (fits b) (Number b ∷ w) us (two_numbers_at fits a b w) z (room b hp2.0)
+      (fitting_reads_as within (fits a) (Number a ∷ Number b ∷ w) us (fitting (fits b) (Number b ∷ w) (two_numbers_at fits a b w)) z (room a hp1.0)
+      (fitting_reads_as within (fits b) (Number b ∷ w) us (two_numbers_at fits a b w) z (room b hp2.0)
       (two_numbers_whole within fits fits' room a b z (q2 ++ q) us ((x.0.1.1, x.1), d, (q2, q, refl, hm, hq)))))

@@ -8,15 +8,15 @@ use Rattle.grammar.specs.Reading.{Beyond, Integer, Read, ◌>>=◌, with_front, 
 use Rattle.grammar.specs.Places.{small}
 use Rattle.grammar.specs.Short.{Short, short_of}
 use Rattle.grammar.specs.Loops.{Shrinks, sound_short, regroup}
-use Rattle.kernel.specs.declared.fault.ReadError.{ReadError}
-use Rattle.kernel.specs.declared.fault.ReadError.TheVariants as errors
-use Rattle.kernel.specs.declared.fault.Limit.TheVariants as limits
+use Rattle.parser_combinators.specs.declared.read_error.ReadError.{ReadError}
+use Rattle.parser_combinators.specs.declared.read_error.ReadError.TheVariants as errors
+use Rattle.parser_combinators.specs.declared.read_error.Limit.TheVariants as limits
 use Rattle.trees.specs.declared.value.ValueSyntax.{ValueSyntax, roll-ValueSyntax}
 use Rattle.trees.specs.declared.value.ValueForm.TheVariants.{Fields}
 use Rattle.trees.specs.declared.value.ValueSyntax.TheShapes.{former-ValueSyntax-form-at-13}
 use Rattle.trees.specs.declared.value.ValueSyntax.TheFolds.{fold-roll-ValueSyntax}
 use Rattle.trees.specs.declared.value.Named.{Named}
-use Rattle.kernel.specs.Given.{Fails}
+use Rattle.parser_combinators.specs.Given.{Fails}
 use Rattle.trees.specs.Values.{Name, Tree, fields, members, name_at, value_layer, tree_of, member_of}
 use Rattle.notation.specs.Value.{value}
 use Rattle.notation.specs.Reading.{alternative_at, step_at, value_at, next_number, numbers_at}

@@ -2,10 +2,10 @@
 use Rattle.std.proofs.Common.{◌≡◌, ℕ, zero, suc, ◌≤◌, ◌+◌, ◌||◌, inl, inr, Bool, true, List, [], ◌∷◌, ◌++◌, Ok, refl, sym, ap, subst, ◌∙◌ as ◌⋆◌, arith}
 use Rattle.text.specs.declared.token.Mark.TheVariants.{Colon}
 use Rattle.grammar.specs.Lexeme.{Lexeme, Ident, Mark}
-use Rattle.grammar.specs.Grammar.{Grammar, token, number_of, ◌∙◌, many, behind, listed, braces}
-use Rattle.grammar.specs.Grows.{Grows, same_grows, number_grows, seq_grows, made_grows, either_grows, many_grows, behind_grows, listed_grows, braces_grows}
+use Rattle.grammar.specs.Grammar.{Grammar, token, number_of, ◌∙◌, many, preceded, listed, braces}
+use Rattle.grammar.specs.Grows.{Grows, same_grows, number_grows, seq_grows, made_grows, either_grows, many_grows, preceded_grows, listed_grows, braces_grows}
 use Rattle.grammar.specs.Reading.{Limit, Nesting, Integer, TagNumber, Read}
-use Rattle.grammar.specs.Laws.{past, everywhere, Sound, Follows, ReadsAs, Finds, behind_is}
+use Rattle.grammar.specs.Laws.{past, everywhere, Sound, Follows, ReadsAs, Finds, preceded_is}
 use Rattle.grammar.specs.Places.{Limits, any, small, bounded, Within, raised, free}
 use Rattle.grammar.specs.Answers.{Closed, joined, joined_second, Reads}
 use Rattle.trees.specs.Values.{Tree, chosen, numbers, items, fields, trees, members}
@@ -13,8 +13,8 @@ use Rattle.notation.specs.Value.{simple, nested, value, values}
 use Rattle.notation.specs.Reading.{step_at, value_at}
 use Rattle.notation.proofs.Sounds.{chosen_of, empty_braces, three_numbers, numbers_of, items_of, fields_of, value_sound, value_deeper, value_wider, value_higher}
 use Rattle.notation.specs.Laws.{starts, goes_on, ValueLaws}
-use Rattle.notation.proofs.Values.{simple_whole, colon_stands, braced_whole}
-use Rattle.notation.proofs.Whole.{v_part, v_solid, v_number, v_name, v_behind_number, v_behind_name, zero_colon, zero_brace, zero_step, suc_step, suc_colon, suc_brace, value_finds}
+use Rattle.notation.proofs.Values.{simple_whole, colon_reads_as, braced_whole}
+use Rattle.notation.proofs.Whole.{v_part, v_solid, v_number, v_name, v_after_number, v_after_name, zero_colon, zero_brace, zero_step, suc_step, suc_colon, suc_brace, value_finds}
 
 -- ---- a whole is read if the next lexeme can't continue it
 
@@ -32,7 +32,7 @@ module _ (fits fits' : ℕ → Bool) (room : (n : ℕ) → fits' n ≡ true → 
       → Closed (free values) u us
       → Closed (free values) w us
   closed_inside x w u us e c t r d (a, h) =
-      c t r d (record { nesting = suc a.nesting; number = a.number; tag = a.tag }, subst (λ (l : List Lexeme). (value a.number (suc a.nesting)).CanGoOn (l ++ t ∷ [])) (sym e) (inr (inl (inr (x, Ident x ∷ [], (Mark Colon) ∷ (w ++ t ∷ []), refl, refl, inr (tt, (Mark Colon) ∷ [], w ++ t ∷ [], refl, refl, h))))))
+      c t r d (record { nesting = suc a.nesting; number = a.number; tag = a.tag }, subst (λ (l : List Lexeme). (value a.number (suc a.nesting)).IsPrefix (l ++ t ∷ [])) (sym e) (inr (inl (inr (x, Ident x ∷ [], (Mark Colon) ∷ (w ++ t ∷ []), refl, refl, inr (tt, (Mark Colon) ∷ [], w ++ t ∷ [], refl, refl, h))))))
 
   to_zero : (z : Tree) (u us : List Lexeme)
       → ReadsAs everywhere (step_at fits zero (value_at fits zero) (u ++ us)) z us
@@ -59,13 +59,13 @@ module _ (fits fits' : ℕ → Bool) (room : (n : ℕ) → fits' n ≡ true → 
       to_suc n z u us (simple_whole everywhere fits fits' room (suc n) (value_at fits n) (suc_colon everywhere fits fits' room n f) (suc_brace everywhere fits fits' room n f) z u us (closed_name u us c) h)
   value_closed (suc n) (suc m) z u us le (inr (inl (x, d, (p, q, e, hp, hq)))) c =
       let f = value_finds everywhere fits fits' room n zero (λ e. omega arith) in
-      let b = behind_is (Mark Colon) (value fits' m) x.1 q hq in
+      let b = preceded_is (Mark Colon) (value fits' m) x.1 q hq in
       let shape = e ⋆ ap (λ (l : List Lexeme). l ++ q) hp ⋆ ap (λ (l : List Lexeme). Ident x.0 ∷ l) b.1 in
-      to_suc n z u us (colon_stands everywhere fits fits' room (suc n) (value_at fits n) (suc_colon everywhere fits fits' room n f) (suc_brace everywhere fits fits' room n f) (value fits' m) (value_finds everywhere fits fits' room n m (λ e. omega arith)) (v_solid fits' m) (v_number fits' m) (v_name fits' m) (v_behind_number fits' m) (v_behind_name fits' m) (λ ts us z r h. h)
+      to_suc n z u us (colon_reads_as everywhere fits fits' room (suc n) (value_at fits n) (suc_colon everywhere fits fits' room n f) (suc_brace everywhere fits fits' room n f) (value fits' m) (value_finds everywhere fits fits' room n m (λ e. omega arith)) (v_solid fits' m) (v_number fits' m) (v_name fits' m) (v_after_number fits' m) (v_after_name fits' m) (λ ts us z r h. h)
       x.0 x.1 z b.0 u us d shape (value_closed n m x.1 b.0 us (omega arith) b.2 (closed_inside x.0 b.0 u us shape c)))
   value_closed (suc n) (suc m) z u us le (inr (inr h)) c =
       let f = value_finds everywhere fits fits' room n zero (λ e. omega arith) in
-      to_suc n z u us (braced_whole everywhere fits fits' room (suc n) (value_at fits n) (suc_colon everywhere fits fits' room n f) (suc_brace everywhere fits fits' room n f) (value fits' m) (value_finds everywhere fits fits' room n m (λ e. omega arith)) (v_solid fits' m) (v_number fits' m) (v_name fits' m) (v_behind_number fits' m) (v_behind_name fits' m) (λ ts us z r h. h) z u us h)
+      to_suc n z u us (braced_whole everywhere fits fits' room (suc n) (value_at fits n) (suc_colon everywhere fits fits' room n f) (suc_brace everywhere fits fits' room n f) (value fits' m) (value_finds everywhere fits fits' room n m (λ e. omega arith)) (v_solid fits' m) (v_number fits' m) (v_name fits' m) (v_after_number fits' m) (v_after_name fits' m) (λ ts us z r h. h) z u us h)
 
 -- with more numbers there are more values
 module _ (fits fits' : ℕ → Bool) (grows : (n : ℕ) → fits n ≡ true → fits' n ≡ true) where
@@ -79,7 +79,7 @@ module _ (fits fits' : ℕ → Bool) (grows : (n : ℕ) → fits n ≡ true → 
       is x u (inr (inr (inl h))) = inr (inr (inl h))
       is x u (inr (inr (inr (inr h)))) = inr (inr (inr (inr h)))
 
-      on : (u : List Lexeme) → (simple fits).CanGoOn u → (simple fits').CanGoOn u
+      on : (u : List Lexeme) → (simple fits).IsPrefix u → (simple fits').IsPrefix u
       on u (inr (inr (inr (inl h)))) = inr (inr (inr (inl ((number_grows fits fits' grows).on u h))))
       on u (inl h) = inl h
       on u (inr (inl h)) = inr (inl h)
@@ -93,7 +93,7 @@ module _ (fits fits' : ℕ → Bool) (grows : (n : ℕ) → fits n ≡ true → 
 
   nested_grows : (v v' : Grammar Tree) → Grows v v' → Grows (nested fits v) (nested fits' v')
   nested_grows v v' g =
-      either_grows (chosen_of v) (chosen_of v') _ _ (made_grows (token Ident ∙ behind (Mark Colon) v) (token Ident ∙ behind (Mark Colon) v') (λ p. chosen p.0 p.1) (seq_grows (token Ident) (token Ident) (behind (Mark Colon) v) (behind (Mark Colon) v') (same_grows (token Ident)) (behind_grows (Mark Colon) v v' g)))
+      either_grows (chosen_of v) (chosen_of v') _ _ (made_grows (token Ident ∙ preceded (Mark Colon) v) (token Ident ∙ preceded (Mark Colon) v') (λ p. chosen p.0 p.1) (seq_grows (token Ident) (token Ident) (preceded (Mark Colon) v) (preceded (Mark Colon) v') (same_grows (token Ident)) (preceded_grows (Mark Colon) v v' g)))
       (either_grows empty_braces empty_braces _ _ (same_grows empty_braces)
       (either_grows (numbers_of fits) (numbers_of fits') _ _ (made_grows (braces (three_numbers fits)) (braces (three_numbers fits')) (λ p. numbers (p.0 ∷ p.1.0 ∷ p.1.1)) (braces_grows (three_numbers fits) (three_numbers fits') three_grow))
       (either_grows (items_of v) (items_of v') (fields_of v) (fields_of v') (made_grows (braces (listed v)) (braces (listed v')) (λ vs. items (trees vs)) (braces_grows (listed v) (listed v') (listed_grows v v' g)))

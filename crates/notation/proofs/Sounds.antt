@@ -3,9 +3,9 @@ use Rattle.std.proofs.Common.{◌≡◌, ℕ, zero, suc, inl, inr, Bool, true, f
 use Rattle.text.specs.declared.token.Mark.TheVariants.{Colon, Dot, Minus, OpenBrace, CloseBrace}
 use Rattle.text.specs.declared.reserved.Word.TheVariants.{True, False, Null}
 use Rattle.grammar.specs.Lexeme.{Lexeme, TypeRef, Ident, Number, BString, HString, CString, Word, Mark}
-use Rattle.grammar.specs.Grammar.{Grammar, token, mark, number_of, ◌∙◌, ◌∣◌, ◌⇒◌, many, behind, listed, braces}
+use Rattle.grammar.specs.Grammar.{Grammar, token, mark, number_of, ◌∙◌, ◌∣◌, ◌⇒◌, many, preceded, listed, braces}
 use Rattle.grammar.specs.Reading.{Limit, Nesting, Integer, Read, Reader, ◌>>=◌, stop, closed_at, listed_at, named_at, fitting, opened}
-use Rattle.grammar.specs.Laws.{nowhere, deeper, wider, higher, more as left_when, Sound, seq_sound, is_behind, front_behind}
+use Rattle.grammar.specs.Laws.{nowhere, deeper, wider, higher, more as left_when, Sound, seq_sound, is_preceded, front_preceded}
 use Rattle.grammar.specs.Lists.{left_sound, right_sound, stop_sound, closed_sound, listed_sound, brace_sound, named_sound}
 use Rattle.grammar.specs.Numbers.{Past, fitting_sound}
 use Rattle.grammar.specs.Places.{any}
@@ -15,7 +15,7 @@ use Rattle.notation.specs.Reading.{negative_at, ref_name_at, ref_dot_at, referre
 
 -- the productions of what opens
 abbrev pub chosen_of : Grammar Tree → Grammar Tree
-chosen_of v = (token Ident ∙ behind (Mark Colon) v) ⇒ (λ p. chosen p.0 p.1)
+chosen_of v = (token Ident ∙ preceded (Mark Colon) v) ⇒ (λ p. chosen p.0 p.1)
 
 abbrev pub empty_braces : Grammar Tree
 empty_braces = (mark OpenBrace ∙ mark CloseBrace) ⇒ (λ _. nothing)
@@ -128,10 +128,10 @@ module _ (over : Limit → ℕ) (fits fits' : ℕ → Bool) (grows : (n : ℕ) �
     by_name_sound false ts = fields_sound ts
 
     -- numbers in braces, as far as they have come
-    front_one : (a : ℕ) → fits' a ≡ true → all.CanGoOn (Mark OpenBrace ∷ Number a ∷ [])
+    front_one : (a : ℕ) → fits' a ≡ true → all.IsPrefix (Mark OpenBrace ∷ Number a ∷ [])
     front_one a fa = inr (inr (inr (inl (inr (tt, Mark OpenBrace ∷ [], Number a ∷ [], refl, refl, inl (inl (inr (a, fa, refl))))))))
 
-    front_two : (a b : ℕ) → fits' a ≡ true → fits' b ≡ true → all.CanGoOn (Mark OpenBrace ∷ Number a ∷ Number b ∷ [])
+    front_two : (a b : ℕ) → fits' a ≡ true → fits' b ≡ true → all.IsPrefix (Mark OpenBrace ∷ Number a ∷ Number b ∷ [])
     front_two a b fa fb = inr (inr (inr (inl (inr (tt, Mark OpenBrace ∷ [], Number a ∷ Number b ∷ [], refl, refl, inl (inr (a, Number a ∷ [], Number b ∷ [], refl, (fa, refl), inl (inr (b, fb, refl)))))))))
 
     by_number_sound : (a : ℕ)
@@ -158,22 +158,22 @@ module _ (over : Limit → ℕ) (fits fits' : ℕ → Bool) (grows : (n : ℕ) �
     chosen_sound : (x : List ℕ) (ts : List Lexeme) (r : Read Tree)
         → Sound over v ts r
         → Sound over (chosen_of v) (Ident x ∷ Mark Colon ∷ ts) (r >>= λ t. Ok (chosen x t.0, t.1))
-    chosen_sound x ts (Ok t) (u, e, h) = (Ident x ∷ Mark Colon ∷ u, ap (λ (l : List Lexeme). Ident x ∷ Mark Colon ∷ l) e, ((x, t.0), refl, (Ident x ∷ [], Mark Colon ∷ u, refl, refl, is_behind (Mark Colon) v t.0 u h)))
-    chosen_sound x ts (Err f) (u, rest, e, k, h) = (Ident x ∷ Mark Colon ∷ u, rest, ap (λ (l : List Lexeme). Ident x ∷ Mark Colon ∷ l) e, k, inr (x, Ident x ∷ [], Mark Colon ∷ u, refl, refl, front_behind (Mark Colon) v u h))
+    chosen_sound x ts (Ok t) (u, e, h) = (Ident x ∷ Mark Colon ∷ u, ap (λ (l : List Lexeme). Ident x ∷ Mark Colon ∷ l) e, ((x, t.0), refl, (Ident x ∷ [], Mark Colon ∷ u, refl, refl, is_preceded (Mark Colon) v t.0 u h)))
+    chosen_sound x ts (Err f) (u, rest, e, k, h) = (Ident x ∷ Mark Colon ∷ u, rest, ap (λ (l : List Lexeme). Ident x ∷ Mark Colon ∷ l) e, k, inr (x, Ident x ∷ [], Mark Colon ∷ u, refl, refl, front_preceded (Mark Colon) v u h))
 
   -- ---- the first lexeme of a value
 
-  at_module : (m : List ℕ) → (simple fits').CanGoOn (TypeRef m ∷ [])
+  at_module : (m : List ℕ) → (simple fits').IsPrefix (TypeRef m ∷ [])
   at_module m = inr (inr (inr (inr (inr (inr (inr (inr (inr (inl (inr (m, refl)))))))))))
 
-  at_dot : (m : List ℕ) → (simple fits').CanGoOn (TypeRef m ∷ Mark Dot ∷ [])
-  at_dot m = inr (inr (inr (inr (inr (inr (inr (inr (inr (inr (m, TypeRef m ∷ [], Mark Dot ∷ [], refl, refl, front_behind (Mark Dot) (token Ident) [] (inl refl)))))))))))
+  at_dot : (m : List ℕ) → (simple fits').IsPrefix (TypeRef m ∷ Mark Dot ∷ [])
+  at_dot m = inr (inr (inr (inr (inr (inr (inr (inr (inr (inr (m, TypeRef m ∷ [], Mark Dot ∷ [], refl, refl, front_preceded (Mark Dot) (token Ident) [] (inl refl)))))))))))
 
   value_name_sound : (m : List ℕ) (ts : List Lexeme)
       → Sound over (simple fits') (TypeRef m ∷ Mark Dot ∷ ts) (referred (ref_name_at m ts))
   unfolding ref_name_at
   value_name_sound m [] = (TypeRef m ∷ Mark Dot ∷ [], [], refl, refl, at_dot m)
-  value_name_sound m (Ident x ∷ ts) = (TypeRef m ∷ Mark Dot ∷ Ident x ∷ [], refl, inr (inr (inr (inr (inr (inr (inr (inr (inr ((m, x), refl, (TypeRef m ∷ [], Mark Dot ∷ Ident x ∷ [], refl, refl, is_behind (Mark Dot) (token Ident) x (Ident x ∷ []) refl)))))))))))
+  value_name_sound m (Ident x ∷ ts) = (TypeRef m ∷ Mark Dot ∷ Ident x ∷ [], refl, inr (inr (inr (inr (inr (inr (inr (inr (inr ((m, x), refl, (TypeRef m ∷ [], Mark Dot ∷ Ident x ∷ [], refl, refl, is_preceded (Mark Dot) (token Ident) x (Ident x ∷ []) refl)))))))))))
   value_name_sound m (t ∷ ts) = (TypeRef m ∷ Mark Dot ∷ [], t ∷ ts, refl, refl, at_dot m)
 
   qualified_sound : (m : List ℕ) (ts : List Lexeme)
@@ -183,13 +183,13 @@ module _ (over : Limit → ℕ) (fits fits' : ℕ → Bool) (grows : (n : ℕ) �
   qualified_sound m (Mark Dot ∷ ts) = value_name_sound m ts
   qualified_sound m (t ∷ ts) = (TypeRef m ∷ [], t ∷ ts, refl, refl, at_module m)
 
-  at_minus : (simple fits').CanGoOn (Mark Minus ∷ [])
-  at_minus = inr (inr (inr (inr (inl (front_behind (Mark Minus) (token Number) [] (inl refl))))))
+  at_minus : (simple fits').IsPrefix (Mark Minus ∷ [])
+  at_minus = inr (inr (inr (inr (inl (front_preceded (Mark Minus) (token Number) [] (inl refl))))))
 
   negative_sound : (ts : List Lexeme) → Sound over (simple fits') (Mark Minus ∷ ts) (negative_at ts)
   unfolding negative_at
   negative_sound [] = (Mark Minus ∷ [], [], refl, refl, at_minus)
-  negative_sound (Number n ∷ ts) = (Mark Minus ∷ Number n ∷ [], refl, inr (inr (inr (inr (inl (n, refl, is_behind (Mark Minus) (token Number) n (Number n ∷ []) refl))))))
+  negative_sound (Number n ∷ ts) = (Mark Minus ∷ Number n ∷ [], refl, inr (inr (inr (inr (inl (n, refl, is_preceded (Mark Minus) (token Number) n (Number n ∷ []) refl))))))
   negative_sound (t ∷ ts) = (Mark Minus ∷ [], t ∷ ts, refl, refl, at_minus)
 
   -- a bare name
@@ -281,6 +281,6 @@ module _ (fits : ℕ → Bool) where
   unfolding value_at
   value_deeper zero ts =
       step_sound deeper fits fits same_fits tt (value fits 1) zero stop (λ ts r s. left_sound deeper (simple fits) (nested fits (simple fits)) ts r s)
-      (λ x ts. (Ident x ∷ Mark Colon ∷ [], ts, refl, omega arith, inr (inl (inr (x, Ident x ∷ [], Mark Colon ∷ [], refl, refl, front_behind (Mark Colon) (simple fits) [] (inl (inl refl)))))))
+      (λ x ts. (Ident x ∷ Mark Colon ∷ [], ts, refl, omega arith, inr (inl (inr (x, Ident x ∷ [], Mark Colon ∷ [], refl, refl, front_preceded (Mark Colon) (simple fits) [] (inl (inl refl)))))))
       (λ ts. (Mark OpenBrace ∷ [], ts, refl, omega arith, inr (inr (inl (inl (inr (tt, refl))))))) ts
   value_deeper (suc n) ts = inner_sound deeper fits fits same_fits tt n (value fits (suc n)) (value_at fits n) (value_deeper n) ts

@@ -3,11 +3,11 @@ use Rattle.std.proofs.Common.{◌≡◌, ℕ, ◌≤◌, inl, inr, Bool, true, L
 use Rattle.text.specs.declared.token.Mark.TheVariants.{Colon, Dot, Minus, OpenBrace, CloseBrace}
 use Rattle.text.specs.declared.reserved.Word.TheVariants.{True, False, Null}
 use Rattle.grammar.specs.Lexeme.{Lexeme, TypeRef, Ident, Number, BString, HString, CString, Word, Mark}
-use Rattle.grammar.specs.Grammar.{Grammar, token, mark, number_of, ◌∙◌, ◌∣◌, ◌⇒◌, behind, listed, braces}
+use Rattle.grammar.specs.Grammar.{Grammar, token, mark, number_of, ◌∙◌, ◌∣◌, ◌⇒◌, preceded, listed, braces}
 use Rattle.grammar.specs.Reading.{Limit, Integer, Read, Reader, ◌>>=◌, opened}
-use Rattle.grammar.specs.Laws.{Follows, Passes, ReadsAs, Finds, passes_on, passes_made, behind_is, behind_front}
+use Rattle.grammar.specs.Laws.{Follows, Passes, ReadsAs, Finds, passes_on, passes_made, preceded_is, preceded_front}
 use Rattle.grammar.specs.Lists.{IsSolid, Next, braces_is, braces_front}
-use Rattle.grammar.specs.Numbers.{fitting_passes, fitting_shrinks, fitting_stands}
+use Rattle.grammar.specs.Numbers.{fitting_passes, fitting_shrinks, fitting_reads_as}
 use Rattle.trees.specs.Values.{Tree, yes, no, null, binary, hex, chars, reference, chosen, nothing, numbers, items, fields, trees, members}
 use Rattle.notation.specs.Value.{positive, simple, nested}
 use Rattle.notation.specs.Reading.{negative_at, ref_name_at, ref_dot_at, referred, braced_at, alternative_at, step_at}
@@ -79,12 +79,12 @@ module _ (within : Limit → Type 0) (fits fits' : ℕ → Bool)
     one : {A : Type 0} (kind : A → Lexeme)
         → ((x : A) (us : List Lexeme) → Passes within us (step_at fits n read (kind x ∷ us)))
         → (u us : List Lexeme)
-        → (token kind).CanGoOn u
+        → (token kind).IsPrefix u
         → Passes within us (step_at fits n read (u ++ us))
     one kind h u us (inl e) = subst (λ (l : List Lexeme). Passes within us (step_at fits n read (l ++ us))) (sym e) (step_shrinks us)
     one kind h u us (inr (x, e)) = subst (λ (l : List Lexeme). Passes within us (step_at fits n read (l ++ us))) (sym e) (h x us)
 
-    number_front : (u us : List Lexeme) → (number_of fits').CanGoOn u → Passes within us (step_at fits n read (u ++ us))
+    number_front : (u us : List Lexeme) → (number_of fits').IsPrefix u → Passes within us (step_at fits n read (u ++ us))
     unfolding step_at
     number_front u us (inl e) = subst (λ (l : List Lexeme). Passes within us (step_at fits n read (l ++ us))) (sym e) (step_shrinks us)
     number_front u us (inr (m, f, e)) = subst (λ (l : List Lexeme). Passes within us (step_at fits n read (l ++ us))) (sym e) (fitting_passes within (fits m) us (Number m ∷ us) (Ok (positive m, us)) (room m f) (le_same (length us)))
@@ -94,10 +94,10 @@ module _ (within : Limit → Type 0) (fits fits' : ℕ → Bool)
     name_front x us = named_shrinks x us
 
     minus_front : (u us : List Lexeme)
-        → (behind (Mark Minus) (token Number)).CanGoOn u
+        → (preceded (Mark Minus) (token Number)).IsPrefix u
         → Passes within us (step_at fits n read (u ++ us))
     unfolding step_at negative_at
-    minus_front u us h = elim (behind_front (Mark Minus) (token Number) u (inl refl) h) [
+    minus_front u us h = elim (preceded_front (Mark Minus) (token Number) u (inl refl) h) [
       | inl e ↦ subst (λ (l : List Lexeme). Passes within us (step_at fits n read (l ++ us))) (sym e) (step_shrinks us)
       | inr (w, e, inl d) ↦ subst (λ (l : List Lexeme). Passes within us (step_at fits n read (l ++ us))) (sym (e ⋆ ap (λ (l : List Lexeme). (Mark Minus) ∷ l) d)) (negative_shrinks within us)
       | inr (w, e, inr (m, d)) ↦ subst (λ (l : List Lexeme). Passes within us (step_at fits n read (l ++ us))) (sym (e ⋆ ap (λ (l : List Lexeme). (Mark Minus) ∷ l) d)) (le_same (length us))
@@ -108,19 +108,19 @@ module _ (within : Limit → Type 0) (fits fits' : ℕ → Bool)
     typeref_front m us = qualified_shrinks within m us
 
     qualified_front : (u us : List Lexeme)
-        → (token TypeRef ∙ behind (Mark Dot) (token Ident)).CanGoOn u
+        → (token TypeRef ∙ preceded (Mark Dot) (token Ident)).IsPrefix u
         → Passes within us (step_at fits n read (u ++ us))
     unfolding step_at ref_dot_at ref_name_at
     qualified_front u us (inl h) = one TypeRef typeref_front u us h
     qualified_front u us (inr (m, p, q, e, hp, hq)) =
         let d = e ⋆ ap (λ (l : List Lexeme). l ++ q) hp in
-        elim (behind_front (Mark Dot) (token Ident) q (inl refl) hq) [
+        elim (preceded_front (Mark Dot) (token Ident) q (inl refl) hq) [
           | inl g ↦ subst (λ (l : List Lexeme). Passes within us (step_at fits n read (l ++ us))) (sym (d ⋆ ap (λ (l : List Lexeme). TypeRef m ∷ l) g)) (typeref_front m us)
           | inr (w, g, inl k) ↦ subst (λ (l : List Lexeme). Passes within us (step_at fits n read (l ++ us))) (sym (d ⋆ ap (λ (l : List Lexeme). TypeRef m ∷ l) (g ⋆ ap (λ (l : List Lexeme). (Mark Dot) ∷ l) k))) (value_name_shrinks within m us)
           | inr (w, g, inr (x, k)) ↦ subst (λ (l : List Lexeme). Passes within us (step_at fits n read (l ++ us))) (sym (d ⋆ ap (λ (l : List Lexeme). TypeRef m ∷ l) (g ⋆ ap (λ (l : List Lexeme). (Mark Dot) ∷ l) k))) (le_same (length us))
         ]
 
-    pub simple_front : (u us : List Lexeme) → (simple fits').CanGoOn u → Passes within us (step_at fits n read (u ++ us))
+    pub simple_front : (u us : List Lexeme) → (simple fits').IsPrefix u → Passes within us (step_at fits n read (u ++ us))
     unfolding step_at
     simple_front u us (inl h) = one (λ (x : Unit {0}). (Word True)) (λ x us. le_same (length us)) u us h
     simple_front u us (inr (inl h)) = one (λ (x : Unit {0}). (Word False)) (λ x us. le_same (length us)) u us h
@@ -135,9 +135,9 @@ module _ (within : Limit → Type 0) (fits fits' : ℕ → Bool)
 
     -- ---- values with values in them
     module _ (v : Grammar Tree) (fv : Finds within v (starts fits') goes_on read) (solid : IsSolid v)
-        (one_number : (a : ℕ) → fits' a ≡ true → v.CanGoOn (Number a ∷ []))
-        (one_name : (x : List ℕ) → v.CanGoOn (Ident x ∷ [])) (behind_number : (a : ℕ) → Next v (Number a) ends_item_is)
-        (behind_name : (x : List ℕ) → Next v (Ident x) ends_item_is)
+        (one_number : (a : ℕ) → fits' a ≡ true → v.IsPrefix (Number a ∷ []))
+        (one_name : (x : List ℕ) → v.IsPrefix (Ident x ∷ [])) (after_number : (a : ℕ) → Next v (Number a) ends_item_is)
+        (after_name : (x : List ℕ) → Next v (Ident x) ends_item_is)
         (enter : (ts us : List Lexeme) (r : Read Tree) → Passes within us r → Passes within us (opened n ts r)) where
       open_brace : (w u us : List Lexeme)
           → u ≡ (Mark OpenBrace) ∷ w
@@ -152,7 +152,7 @@ module _ (within : Limit → Type 0) (fits fits' : ℕ → Bool)
 
       colon_front : (x : List ℕ) (w u us : List Lexeme)
           → u ≡ Ident x ∷ (Mark Colon) ∷ w
-          → v.CanGoOn w
+          → v.IsPrefix w
           → Passes within us (step_at fits n read (u ++ us))
       unfolding step_at alternative_at
       colon_front x w u us e h = subst (λ (l : List Lexeme). Passes within us (step_at fits n read (l ++ us))) (sym e) (enter ((Mark Colon) ∷ (w ++ us)) us (read (w ++ us) >>= λ v. Ok (chosen x v.0, v.1)) (passes_made within us (read (w ++ us)) (λ t. chosen x t) (fv.front w us h)))
@@ -161,15 +161,15 @@ module _ (within : Limit → Type 0) (fits fits' : ℕ → Bool)
       empty_at u us e = subst (λ (l : List Lexeme). Passes within us (step_at fits n read (l ++ us))) (sym e) (step_shrinks us)
 
       brace_alone : (u us : List Lexeme) → u ≡ (Mark OpenBrace) ∷ [] → Passes within us (step_at fits n read (u ++ us))
-      brace_alone u us e = open_brace [] u us e (braced_shrinks within fits fits' room v read fv solid one_number one_name behind_number behind_name us)
+      brace_alone u us e = open_brace [] u us e (braced_shrinks within fits fits' room v read fv solid one_number one_name after_number after_name us)
 
       pub nested_front : (u us : List Lexeme)
-          → (nested fits' v).CanGoOn u
+          → (nested fits' v).IsPrefix u
           → Passes within us (step_at fits n read (u ++ us))
       nested_front u us (inl (inl h)) = one Ident name_front u us h
       nested_front u us (inl (inr (x, p, q, e, hp, hq))) =
           let d = e ⋆ ap (λ (l : List Lexeme). l ++ q) hp in
-          elim (behind_front (Mark Colon) v q fv.nil hq) [
+          elim (preceded_front (Mark Colon) v q fv.nil hq) [
             | inl g ↦ one Ident name_front u us (inr (x, d ⋆ ap (λ (l : List Lexeme). Ident x ∷ l) g))
             | inr (w, g, k) ↦ colon_front x w u us (d ⋆ ap (λ (l : List Lexeme). Ident x ∷ l) g) k
           ]
@@ -179,15 +179,15 @@ module _ (within : Limit → Type 0) (fits fits' : ℕ → Bool)
       nested_front u us (inr (inl (inr (x, p, q, e, hp, inr (y, g))))) = open_brace ((Mark CloseBrace) ∷ []) u us (e ⋆ ap (λ (l : List Lexeme). l ++ q) hp ⋆ ap (λ (l : List Lexeme). (Mark OpenBrace) ∷ l) g) (nothing_passes us)
       nested_front u us (inr (inr (inl h))) = elim (braces_front (three_numbers fits') u (inl (inl refl)) h) [
         | inl e ↦ empty_at u us e
-        | inr (w, e, k) ↦ open_brace w u us e (numbers_front within fits fits' room v read fv solid one_number one_name behind_number behind_name w us k)
+        | inr (w, e, k) ↦ open_brace w u us e (numbers_front within fits fits' room v read fv solid one_number one_name after_number after_name w us k)
       ]
       nested_front u us (inr (inr (inr (inl h)))) = elim (braces_front (listed v) u (inl fv.nil) h) [
         | inl e ↦ empty_at u us e
-        | inr (w, e, k) ↦ open_brace w u us e (items_front within fits fits' room v read fv solid one_number one_name behind_number behind_name w us k)
+        | inr (w, e, k) ↦ open_brace w u us e (items_front within fits fits' room v read fv solid one_number one_name after_number after_name w us k)
       ]
       nested_front u us (inr (inr (inr (inr h)))) = elim (braces_front (listed (token Ident ∙ v)) u (inl (inl (inl refl))) h) [
         | inl e ↦ empty_at u us e
-        | inr (w, e, k) ↦ open_brace w u us e (fields_front within fits fits' room v read fv solid one_number one_name behind_number behind_name w us k)
+        | inr (w, e, k) ↦ open_brace w u us e (fields_front within fits fits' room v read fv solid one_number one_name after_number after_name w us k)
       ]
 
     -- ---- wholes
@@ -221,7 +221,7 @@ module _ (within : Limit → Type 0) (fits fits' : ℕ → Bool)
     unfolding step_at
     number_whole z u us (x, d, h) =
         subst (λ (l : List Lexeme). ReadsAs within (step_at fits n read (l ++ us)) z us) (sym h.1)
-        (fitting_stands within (fits x) (Number x ∷ us) us (Ok (positive x, us)) z (room x h.0) (inl (ap (λ (t : Tree). Ok (t, us)) (sym d))))
+        (fitting_reads_as within (fits x) (Number x ∷ us) us (Ok (positive x, us)) z (room x h.0) (inl (ap (λ (t : Tree). Ok (t, us)) (sym d))))
 
     pub simple_whole : (z : Tree) (u us : List Lexeme)
         → ((x : List ℕ) → u ≡ Ident x ∷ [] → Follows goes_on us)
@@ -233,72 +233,72 @@ module _ (within : Limit → Type 0) (fits fits' : ℕ → Bool)
     simple_whole z u us f (inr (inr (inl h))) = inl (is_one (λ (x : Unit {0}). (Word Null)) (λ _. null) (λ x us. refl) z u us h)
     simple_whole z u us f (inr (inr (inr (inl h)))) = number_whole z u us h
     simple_whole z u us f (inr (inr (inr (inr (inl (x, d, h)))))) =
-        let b = behind_is (Mark Minus) (token Number) x u h in
+        let b = preceded_is (Mark Minus) (token Number) x u h in
         inl (ap (λ (l : List Lexeme). step_at fits n read (l ++ us)) (b.1 ⋆ ap (λ (l : List Lexeme). (Mark Minus) ∷ l) b.2) ⋆ ap (λ (t : Tree). Ok (t, us)) (sym d))
     simple_whole z u us f (inr (inr (inr (inr (inr (inl h)))))) = inl (is_one BString binary (λ x us. refl) z u us h)
     simple_whole z u us f (inr (inr (inr (inr (inr (inr (inl h))))))) = inl (is_one HString hex (λ x us. refl) z u us h)
     simple_whole z u us f (inr (inr (inr (inr (inr (inr (inr (inl h)))))))) = inl (is_one CString chars (λ x us. refl) z u us h)
     simple_whole z u us f (inr (inr (inr (inr (inr (inr (inr (inr (inl h))))))))) = inl (is_name z u us f h)
     simple_whole z u us f (inr (inr (inr (inr (inr (inr (inr (inr (inr (x, d, (p, q, e, hp, hq))))))))))) =
-        let b = behind_is (Mark Dot) (token Ident) x.1 q hq in
+        let b = preceded_is (Mark Dot) (token Ident) x.1 q hq in
         inl (ap (λ (l : List Lexeme). step_at fits n read (l ++ us)) (e ⋆ ap (λ (l : List Lexeme). l ++ q) hp ⋆ ap (λ (l : List Lexeme). TypeRef x.0 ∷ l) (b.1 ⋆ ap (λ (l : List Lexeme). (Mark Dot) ∷ l) b.2)) ⋆ ap (λ (t : Tree). Ok (t, us)) (sym d))
 
     module _ (v : Grammar Tree) (fv : Finds within v (starts fits') goes_on read) (solid : IsSolid v)
-        (one_number : (a : ℕ) → fits' a ≡ true → v.CanGoOn (Number a ∷ []))
-        (one_name : (x : List ℕ) → v.CanGoOn (Ident x ∷ [])) (behind_number : (a : ℕ) → Next v (Number a) ends_item_is)
-        (behind_name : (x : List ℕ) → Next v (Ident x) ends_item_is)
+        (one_number : (a : ℕ) → fits' a ≡ true → v.IsPrefix (Number a ∷ []))
+        (one_name : (x : List ℕ) → v.IsPrefix (Ident x ∷ [])) (after_number : (a : ℕ) → Next v (Number a) ends_item_is)
+        (after_name : (x : List ℕ) → Next v (Ident x) ends_item_is)
         (enters : (ts us : List Lexeme) (z : Tree) (r : Read Tree) → ReadsAs within r z us → ReadsAs within (opened n ts r) z us)
       where
-        brace_stands : (w u us : List Lexeme) (z : Tree)
+        brace_reads_as : (w u us : List Lexeme) (z : Tree)
             → u ≡ (Mark OpenBrace) ∷ w
             → ReadsAs within (braced_at fits read (w ++ us)) z us
             → ReadsAs within (step_at fits n read (u ++ us)) z us
         unfolding step_at
-        brace_stands w u us z e h = subst (λ (l : List Lexeme). ReadsAs within (step_at fits n read (l ++ us)) z us) (sym e) (enters ((Mark OpenBrace) ∷ (w ++ us)) us z (braced_at fits read (w ++ us)) h)
+        brace_reads_as w u us z e h = subst (λ (l : List Lexeme). ReadsAs within (step_at fits n read (l ++ us)) z us) (sym e) (enters ((Mark OpenBrace) ∷ (w ++ us)) us z (braced_at fits read (w ++ us)) h)
 
-        nothing_stands : (z : Tree) (us : List Lexeme)
+        nothing_reads_as : (z : Tree) (us : List Lexeme)
             → z ≡ nothing
             → ReadsAs within (braced_at fits read ((Mark CloseBrace) ∷ us)) z us
         unfolding braced_at
-        nothing_stands z us e = inl (ap (λ (t : Tree). Ok (t, us)) (sym e))
+        nothing_reads_as z us e = inl (ap (λ (t : Tree). Ok (t, us)) (sym e))
 
-        chosen_stands : (x : List ℕ) (y : Tree) (us : List Lexeme) (r : Read Tree)
+        chosen_reads_as : (x : List ℕ) (y : Tree) (us : List Lexeme) (r : Read Tree)
             → ReadsAs within r y us
             → ReadsAs within (r >>= λ v. Ok (chosen x v.0, v.1)) (chosen x y) us
-        chosen_stands x y us r (inl e) = inl (ap (λ (r : Read Tree). r >>= λ v. Ok (chosen x v.0, v.1)) e)
-        chosen_stands x y us r (inr w) = inr (w.0, w.1, ap (λ (r : Read Tree). r >>= λ v. Ok (chosen x v.0, v.1)) w.2)
+        chosen_reads_as x y us r (inl e) = inl (ap (λ (r : Read Tree). r >>= λ v. Ok (chosen x v.0, v.1)) e)
+        chosen_reads_as x y us r (inr w) = inr (w.0, w.1, ap (λ (r : Read Tree). r >>= λ v. Ok (chosen x v.0, v.1)) w.2)
 
-        pub colon_stands : (x : List ℕ) (y z : Tree) (w u us : List Lexeme)
+        pub colon_reads_as : (x : List ℕ) (y z : Tree) (w u us : List Lexeme)
             → z ≡ chosen x y
             → u ≡ Ident x ∷ (Mark Colon) ∷ w
             → ReadsAs within (read (w ++ us)) y us
             → ReadsAs within (step_at fits n read (u ++ us)) z us
         unfolding step_at alternative_at
-        colon_stands x y z w u us d e h =
+        colon_reads_as x y z w u us d e h =
             subst (λ (t : Tree). ReadsAs within (step_at fits n read (u ++ us)) t us) (sym d)
             (subst (λ (l : List Lexeme). ReadsAs within (step_at fits n read (l ++ us)) (chosen x y) us) (sym e)
-            (enters ((Mark Colon) ∷ (w ++ us)) us (chosen x y) (read (w ++ us) >>= λ v. Ok (chosen x v.0, v.1)) (chosen_stands x y us (read (w ++ us)) h)))
+            (enters ((Mark Colon) ∷ (w ++ us)) us (chosen x y) (read (w ++ us) >>= λ v. Ok (chosen x v.0, v.1)) (chosen_reads_as x y us (read (w ++ us)) h)))
 
         pub braced_whole : (z : Tree) (u us : List Lexeme)
             → (braced_ones fits' v).Is z u
             → ReadsAs within (step_at fits n read (u ++ us)) z us
         braced_whole z u us (inl (x, d, (p, q, e, hp, hq))) =
-            brace_stands ((Mark CloseBrace) ∷ []) u us z (e ⋆ ap (λ (l : List Lexeme). l ++ q) hp ⋆ ap (λ (l : List Lexeme). (Mark OpenBrace) ∷ l) hq) (nothing_stands z us d)
+            brace_reads_as ((Mark CloseBrace) ∷ []) u us z (e ⋆ ap (λ (l : List Lexeme). l ++ q) hp ⋆ ap (λ (l : List Lexeme). (Mark OpenBrace) ∷ l) hq) (nothing_reads_as z us d)
         braced_whole z u us (inr (inl (x, d, h))) =
             let b = braces_is (three_numbers fits') x u h in
-            brace_stands b.0 u us z b.1 (numbers_whole within fits fits' room v read fv solid one_number one_name behind_number behind_name z b.0 us (b.2.0, d ⋆ ap (λ (x : ℕ × (ℕ × List ℕ)). numbers (x.0 ∷ x.1.0 ∷ x.1.1)) b.2.1, b.2.2))
+            brace_reads_as b.0 u us z b.1 (numbers_whole within fits fits' room v read fv solid one_number one_name after_number after_name z b.0 us (b.2.0, d ⋆ ap (λ (x : ℕ × (ℕ × List ℕ)). numbers (x.0 ∷ x.1.0 ∷ x.1.1)) b.2.1, b.2.2))
         braced_whole z u us (inr (inr (inl (x, d, h)))) =
             let b = braces_is (listed v) x u h in
-            brace_stands b.0 u us z b.1 (items_whole within fits fits' room v read fv solid one_number one_name behind_number behind_name z b.0 us (b.2.0, d ⋆ ap (λ (x : List Tree). items (trees x)) b.2.1, b.2.2))
+            brace_reads_as b.0 u us z b.1 (items_whole within fits fits' room v read fv solid one_number one_name after_number after_name z b.0 us (b.2.0, d ⋆ ap (λ (x : List Tree). items (trees x)) b.2.1, b.2.2))
         braced_whole z u us (inr (inr (inr (x, d, h)))) =
             let b = braces_is (listed (token Ident ∙ v)) x u h in
-            brace_stands b.0 u us z b.1 (fields_whole within fits fits' room v read fv solid one_number one_name behind_number behind_name z b.0 us (b.2.0, d ⋆ ap (λ (x : List (List ℕ × Tree)). fields (members x)) b.2.1, b.2.2))
+            brace_reads_as b.0 u us z b.1 (fields_whole within fits fits' room v read fv solid one_number one_name after_number after_name z b.0 us (b.2.0, d ⋆ ap (λ (x : List (List ℕ × Tree)). fields (members x)) b.2.1, b.2.2))
 
         pub nested_whole : (z : Tree) (u us : List Lexeme)
             → Follows goes_on us
             → (nested fits' v).Is z u
             → ReadsAs within (step_at fits n read (u ++ us)) z us
         nested_whole z u us f (inl (x, d, (p, q, e, hp, hq))) =
-            let b = behind_is (Mark Colon) v x.1 q hq in
-            colon_stands x.0 x.1 z b.0 u us d (e ⋆ ap (λ (l : List Lexeme). l ++ q) hp ⋆ ap (λ (l : List Lexeme). Ident x.0 ∷ l) b.1) (fv.whole x.1 b.0 us b.2 f)
+            let b = preceded_is (Mark Colon) v x.1 q hq in
+            colon_reads_as x.0 x.1 z b.0 u us d (e ⋆ ap (λ (l : List Lexeme). l ++ q) hp ⋆ ap (λ (l : List Lexeme). Ident x.0 ∷ l) b.1) (fv.whole x.1 b.0 us b.2 f)
         nested_whole z u us f (inr h) = braced_whole z u us h

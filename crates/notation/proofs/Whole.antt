@@ -3,9 +3,9 @@ use Rattle.std.proofs.Common.{◌≡◌, ℕ, zero, suc, ◌≤◌, inl, inr, Bo
 use Rattle.text.specs.declared.token.Mark.TheVariants.{Colon, Dot, Minus, OpenBrace, CloseBrace}
 use Rattle.text.specs.declared.reserved.Word.TheVariants.{True, False, Null}
 use Rattle.grammar.specs.Lexeme.{Lexeme, TypeRef, Ident, Number, BString, HString, CString, Word, Mark}
-use Rattle.grammar.specs.Grammar.{Grammar, token, mark, number_of, ◌∙◌, behind, listed, braces}
+use Rattle.grammar.specs.Grammar.{Grammar, token, mark, number_of, ◌∙◌, preceded, listed, braces}
 use Rattle.grammar.specs.Reading.{Limit, Integer, Nesting, Read, Reader, ◌>>=◌, stop, opened}
-use Rattle.grammar.specs.Laws.{Follows, Passes, ReadsAs, Finds, behind_front, passes_on, passes_made}
+use Rattle.grammar.specs.Laws.{Follows, Passes, ReadsAs, Finds, preceded_front, passes_on, passes_made}
 use Rattle.grammar.specs.Lists.{IsSolid, Next, head_is, second_is}
 use Rattle.trees.specs.Values.{Tree, chosen}
 use Rattle.notation.specs.Value.{simple, nested, value}
@@ -18,19 +18,19 @@ use Rattle.notation.proofs.Values.{ends_item_is, simple_front, nested_front, sim
 -- ---- the first token of a production
 
 head_one : {A : Type 0} (kind : A → Lexeme) (s : Lexeme) (u : List Lexeme)
-    → (token kind).CanGoOn (s ∷ u)
+    → (token kind).IsPrefix (s ∷ u)
     → (x : A) × (s ≡ kind x)
 head_one kind s u (inl e) = absurd cc
 head_one kind s u (inr (x, e)) = (x, head_is s (kind x) u [] e)
 
 head_of : {A B : Type 0} (kind : A → Lexeme) (b : Grammar B) (s : Lexeme) (u : List Lexeme)
-    → (token kind ∙ b).CanGoOn (s ∷ u)
+    → (token kind ∙ b).IsPrefix (s ∷ u)
     → (x : A) × (s ≡ kind x)
 head_of kind b s u (inl h) = head_one kind s u h
 head_of kind b s u (inr (x, p, q, e, hp, hq)) = (x, head_is s (kind x) u q (e ⋆ ap (λ (l : List Lexeme). l ++ q) hp))
 
 -- a front of one token has no second token
-no_second : {A : Type 0} (kind : A → Lexeme) (s t : Lexeme) (u : List Lexeme) → (token kind).CanGoOn (s ∷ t ∷ u) → ⊥
+no_second : {A : Type 0} (kind : A → Lexeme) (s t : Lexeme) (u : List Lexeme) → (token kind).IsPrefix (s ∷ t ∷ u) → ⊥
 no_second kind s t u (inl e) = absurd cc
 no_second kind s t u (inr (x, e)) = absurd cc
 
@@ -42,12 +42,12 @@ full_of : {A B : Type 0} (kind : A → Lexeme) (b : Grammar B) (x : A × B) → 
 full_of kind b x (p, q, e, hp, hq) = let d = e ⋆ ap (λ (l : List Lexeme). l ++ q) hp in absurd cc
 
 head_number : (fits : ℕ → Bool) (s : Lexeme) (u : List Lexeme)
-    → (number_of fits).CanGoOn (s ∷ u)
+    → (number_of fits).IsPrefix (s ∷ u)
     → (n : ℕ) × (fits n ≡ true) × (s ≡ Number n)
 head_number fits s u (inl e) = absurd cc
 head_number fits s u (inr (n, f, e)) = (n, f, head_is s (Number n) u [] e)
 
-no_second_number : (fits : ℕ → Bool) (s t : Lexeme) (u : List Lexeme) → (number_of fits).CanGoOn (s ∷ t ∷ u) → ⊥
+no_second_number : (fits : ℕ → Bool) (s t : Lexeme) (u : List Lexeme) → (number_of fits).IsPrefix (s ∷ t ∷ u) → ⊥
 no_second_number fits s t u (inl e) = absurd cc
 no_second_number fits s t u (inr (n, f, e)) = absurd cc
 
@@ -70,7 +70,7 @@ module _ (fits' : ℕ → Bool) where
 
   -- ---- (simple fits') values
 
-  simple_first : (t : Lexeme) (u : List Lexeme) → (simple fits').CanGoOn (t ∷ u) → (starts fits') t ≡ true
+  simple_first : (t : Lexeme) (u : List Lexeme) → (simple fits').IsPrefix (t ∷ u) → (starts fits') t ≡ true
   simple_first t u (inl h) = is_start t (Word True) (head_one (λ (x : Unit {0}). (Word True)) t u h).1 refl
   simple_first t u (inr (inl h)) = is_start t (Word False) (head_one (λ (x : Unit {0}). (Word False)) t u h).1 refl
   simple_first t u (inr (inr (inl h))) = is_start t (Word Null) (head_one (λ (x : Unit {0}). (Word Null)) t u h).1 refl
@@ -80,9 +80,9 @@ module _ (fits' : ℕ → Bool) where
   simple_first t u (inr (inr (inr (inr (inr (inr (inl h))))))) = let p = head_one HString t u h in is_start t (HString p.0) p.1 refl
   simple_first t u (inr (inr (inr (inr (inr (inr (inr (inl h)))))))) = let p = head_one CString t u h in is_start t (CString p.0) p.1 refl
   simple_first t u (inr (inr (inr (inr (inr (inr (inr (inr (inl h))))))))) = let p = head_one Ident t u h in is_start t (Ident p.0) p.1 refl
-  simple_first t u (inr (inr (inr (inr (inr (inr (inr (inr (inr h))))))))) = let p = head_of TypeRef (behind (Mark Dot) (token Ident)) t u h in is_start t (TypeRef p.0) p.1 refl
+  simple_first t u (inr (inr (inr (inr (inr (inr (inr (inr (inr h))))))))) = let p = head_of TypeRef (preceded (Mark Dot) (token Ident)) t u h in is_start t (TypeRef p.0) p.1 refl
 
-  simple_part : (z : Tree) (u : List Lexeme) → (simple fits').Is z u → (simple fits').CanGoOn u
+  simple_part : (z : Tree) (u : List Lexeme) → (simple fits').Is z u → (simple fits').IsPrefix u
   simple_part z u (inl (x, d, h)) = inl (inr (x, h))
   simple_part z u (inr (inl (x, d, h))) = inr (inl (inr (x, h)))
   simple_part z u (inr (inr (inl (x, d, h)))) = inr (inr (inl (inr (x, h))))
@@ -105,9 +105,9 @@ module _ (fits' : ℕ → Bool) where
   simple_full z (inr (inr (inr (inr (inr (inr (inl (x, d, h)))))))) = full HString x h
   simple_full z (inr (inr (inr (inr (inr (inr (inr (inl (x, d, h))))))))) = full CString x h
   simple_full z (inr (inr (inr (inr (inr (inr (inr (inr (inl (x, d, h)))))))))) = full Ident x h
-  simple_full z (inr (inr (inr (inr (inr (inr (inr (inr (inr (x, d, h)))))))))) = full_of TypeRef (behind (Mark Dot) (token Ident)) x h
+  simple_full z (inr (inr (inr (inr (inr (inr (inr (inr (inr (x, d, h)))))))))) = full_of TypeRef (preceded (Mark Dot) (token Ident)) x h
 
-  simple_next : (s : Lexeme) → IsHead s → (t : Lexeme) (u : List Lexeme) → (simple fits').CanGoOn (s ∷ t ∷ u) → ⊥
+  simple_next : (s : Lexeme) → IsHead s → (t : Lexeme) (u : List Lexeme) → (simple fits').IsPrefix (s ∷ t ∷ u) → ⊥
   simple_next s i t u (inl h) = no_second (λ (x : Unit {0}). (Word True)) s t u h
   simple_next s i t u (inr (inl h)) = no_second (λ (x : Unit {0}). (Word False)) s t u h
   simple_next s i t u (inr (inr (inl h))) = no_second (λ (x : Unit {0}). (Word Null)) s t u h
@@ -117,27 +117,27 @@ module _ (fits' : ℕ → Bool) where
   simple_next s i t u (inr (inr (inr (inr (inr (inr (inl h))))))) = no_second HString s t u h
   simple_next s i t u (inr (inr (inr (inr (inr (inr (inr (inl h)))))))) = no_second CString s t u h
   simple_next s i t u (inr (inr (inr (inr (inr (inr (inr (inr (inl h))))))))) = no_second Ident s t u h
-  simple_next s i t u (inr (inr (inr (inr (inr (inr (inr (inr (inr h))))))))) = let p = head_of TypeRef (behind (Mark Dot) (token Ident)) s (t ∷ u) h in i.no_typeref p.0 p.1
+  simple_next s i t u (inr (inr (inr (inr (inr (inr (inr (inr (inr h))))))))) = let p = head_of TypeRef (preceded (Mark Dot) (token Ident)) s (t ∷ u) h in i.no_typeref p.0 p.1
 
   -- ---- values that open
 
   nested_first : (v : Grammar Tree) (t : Lexeme) (u : List Lexeme)
-      → (nested fits' v).CanGoOn (t ∷ u)
+      → (nested fits' v).IsPrefix (t ∷ u)
       → (starts fits') t ≡ true
-  nested_first v t u (inl h) = let p = head_of Ident (behind (Mark Colon) v) t u h in is_start t (Ident p.0) p.1 refl
+  nested_first v t u (inl h) = let p = head_of Ident (preceded (Mark Colon) v) t u h in is_start t (Ident p.0) p.1 refl
   nested_first v t u (inr (inl h)) = let p = head_of (λ (x : Unit {0}). (Mark OpenBrace)) (mark CloseBrace) t u h in is_start t (Mark OpenBrace) p.1 refl
   nested_first v t u (inr (inr (inl h))) = let p = head_of (λ (x : Unit {0}). (Mark OpenBrace)) (three_numbers fits' ∙ mark CloseBrace) t u h in is_start t (Mark OpenBrace) p.1 refl
   nested_first v t u (inr (inr (inr (inl h)))) = let p = head_of (λ (x : Unit {0}). (Mark OpenBrace)) (listed v ∙ mark CloseBrace) t u h in is_start t (Mark OpenBrace) p.1 refl
   nested_first v t u (inr (inr (inr (inr h)))) = let p = head_of (λ (x : Unit {0}). (Mark OpenBrace)) (listed (token Ident ∙ v) ∙ mark CloseBrace) t u h in is_start t (Mark OpenBrace) p.1 refl
 
-  braces_part : {A : Type 0} (a : Grammar A) (z : A) (u : List Lexeme) → (braces a).Is z u → (braces a).CanGoOn u
+  braces_part : {A : Type 0} (a : Grammar A) (z : A) (u : List Lexeme) → (braces a).Is z u → (braces a).IsPrefix u
   braces_part a z u (x, d, (p, q, e, hp, (p', q', e', hp', hq'))) = inr (tt, p, q, e, hp, inr (x.1.0, p', q', e', hp', inr (tt, hq')))
 
   nested_part : (v : Grammar Tree)
-      → ((z : Tree) (u : List Lexeme) → v.Is z u → v.CanGoOn u)
+      → ((z : Tree) (u : List Lexeme) → v.Is z u → v.IsPrefix u)
       → (z : Tree) (u : List Lexeme)
       → (nested fits' v).Is z u
-      → (nested fits' v).CanGoOn u
+      → (nested fits' v).IsPrefix u
   nested_part v part z u (inl (x, d, (p, q, e, hp, (y, k, (p', q', g, hp', hq'))))) = inl (inr (x.0, p, q, e, hp, inr (tt, p', q', g, hp', part y.1 q' hq')))
   nested_part v part z u (inr (inl (x, d, (p, q, e, hp, hq)))) = inr (inl (inr (tt, p, q, e, hp, inr (tt, hq))))
   nested_part v part z u (inr (inr (inl (x, d, h)))) = inr (inr (inl (braces_part (three_numbers fits') x u h)))
@@ -145,21 +145,21 @@ module _ (fits' : ℕ → Bool) where
   nested_part v part z u (inr (inr (inr (inr (x, d, h))))) = inr (inr (inr (inr (braces_part (listed (token Ident ∙ v)) x u h))))
 
   nested_full : (v : Grammar Tree) (z : Tree) → (nested fits' v).Is z [] → ⊥
-  nested_full v z (inl (x, d, h)) = full_of Ident (behind (Mark Colon) v) x h
+  nested_full v z (inl (x, d, h)) = full_of Ident (preceded (Mark Colon) v) x h
   nested_full v z (inr (inl (x, d, h))) = full_of (λ (x : Unit {0}). (Mark OpenBrace)) (mark CloseBrace) x h
   nested_full v z (inr (inr (inl (x, d, (p, k, h))))) = full_of (λ (x : Unit {0}). (Mark OpenBrace)) (three_numbers fits' ∙ mark CloseBrace) p h
   nested_full v z (inr (inr (inr (inl (x, d, (p, k, h)))))) = full_of (λ (x : Unit {0}). (Mark OpenBrace)) (listed v ∙ mark CloseBrace) p h
   nested_full v z (inr (inr (inr (inr (x, d, (p, k, h)))))) = full_of (λ (x : Unit {0}). (Mark OpenBrace)) (listed (token Ident ∙ v) ∙ mark CloseBrace) p h
 
   colon_next : (v : Grammar Tree)
-      → v.CanGoOn []
+      → v.IsPrefix []
       → (s t : Lexeme) (u : List Lexeme)
-      → (token Ident ∙ behind (Mark Colon) v).CanGoOn (s ∷ t ∷ u)
+      → (token Ident ∙ preceded (Mark Colon) v).IsPrefix (s ∷ t ∷ u)
       → t ≡ (Mark Colon)
   colon_next v nil s t u (inl h) = absurd (no_second Ident s t u h)
   colon_next v nil s t u (inr (x, p, q, e, hp, hq)) =
       let d = e ⋆ ap (λ (l : List Lexeme). l ++ q) hp in
-      elim (behind_front (Mark Colon) v q nil hq) [
+      elim (preceded_front (Mark Colon) v q nil hq) [
         | inl g ↦ absurd (short (d ⋆ ap (λ (l : List Lexeme). Ident x ∷ l) g))
         | inr (w, g, k) ↦ second_is s t (Ident x) (Mark Colon) u w (d ⋆ ap (λ (l : List Lexeme). Ident x ∷ l) g)
       ]
@@ -168,11 +168,11 @@ module _ (fits' : ℕ → Bool) where
       short e = absurd cc
 
   nested_next : (v : Grammar Tree)
-      → v.CanGoOn []
+      → v.IsPrefix []
       → (s : Lexeme)
       → IsHead s
       → (t : Lexeme) (u : List Lexeme)
-      → (nested fits' v).CanGoOn (s ∷ t ∷ u)
+      → (nested fits' v).IsPrefix (s ∷ t ∷ u)
       → t ≡ (Mark Colon)
   nested_next v nil s i t u (inl h) = colon_next v nil s t u h
   nested_next v nil s i t u (inr (inl h)) = absurd (i.no_brace (head_of (λ (x : Unit {0}). (Mark OpenBrace)) (mark CloseBrace) s (t ∷ u) h).1)
@@ -182,16 +182,16 @@ module _ (fits' : ℕ → Bool) where
 
   -- ---- all values
 
-  v_nil : (m : ℕ) → (value fits' m).CanGoOn []
+  v_nil : (m : ℕ) → (value fits' m).IsPrefix []
   v_nil zero = inl (inl refl)
   v_nil (suc m) = inl (inl (inl refl))
 
-  pub v_part : (m : ℕ) (z : Tree) (u : List Lexeme) → (value fits' m).Is z u → (value fits' m).CanGoOn u
+  pub v_part : (m : ℕ) (z : Tree) (u : List Lexeme) → (value fits' m).Is z u → (value fits' m).IsPrefix u
   v_part zero z u h = simple_part z u h
   v_part (suc m) z u (inl h) = inl (simple_part z u h)
   v_part (suc m) z u (inr h) = inr (nested_part (value fits' m) (v_part m) z u h)
 
-  v_first : (m : ℕ) (t : Lexeme) (u : List Lexeme) → (value fits' m).CanGoOn (t ∷ u) → (starts fits') t ≡ true
+  v_first : (m : ℕ) (t : Lexeme) (u : List Lexeme) → (value fits' m).IsPrefix (t ∷ u) → (starts fits') t ≡ true
   v_first zero t u h = simple_first t u h
   v_first (suc m) t u (inl h) = simple_first t u h
   v_first (suc m) t u (inr h) = nested_first (value fits' m) t u h
@@ -204,28 +204,28 @@ module _ (fits' : ℕ → Bool) where
   pub v_solid : (m : ℕ) → IsSolid (value fits' m)
   v_solid m = record { no_empty = v_full m }
 
-  pub v_number : (m a : ℕ) → fits' a ≡ true → (value fits' m).CanGoOn (Number a ∷ [])
+  pub v_number : (m a : ℕ) → fits' a ≡ true → (value fits' m).IsPrefix (Number a ∷ [])
   v_number zero a f = inr (inr (inr (inl (inr (a, f, refl)))))
   v_number (suc m) a f = inl (inr (inr (inr (inl (inr (a, f, refl))))))
 
-  pub v_name : (m : ℕ) (x : List ℕ) → (value fits' m).CanGoOn (Ident x ∷ [])
+  pub v_name : (m : ℕ) (x : List ℕ) → (value fits' m).IsPrefix (Ident x ∷ [])
   v_name zero x = inr (inr (inr (inr (inr (inr (inr (inr (inl (inr (x, refl))))))))))
   v_name (suc m) x = inl (inr (inr (inr (inr (inr (inr (inr (inr (inl (inr (x, refl)))))))))))
 
-  v_behind : (m : ℕ) (s : Lexeme)
+  v_after : (m : ℕ) (s : Lexeme)
       → IsHead s
       → (t : Lexeme) (u : List Lexeme)
-      → (value fits' m).CanGoOn (s ∷ t ∷ u)
+      → (value fits' m).IsPrefix (s ∷ t ∷ u)
       → ends_item t ≡ true
-  v_behind zero s i t u h = absurd (simple_next s i t u h)
-  v_behind (suc m) s i t u (inl h) = absurd (simple_next s i t u h)
-  v_behind (suc m) s i t u (inr h) = subst (λ (t : Lexeme). ends_item t ≡ true) (sym (nested_next (value fits' m) (v_nil m) s i t u h)) refl
+  v_after zero s i t u h = absurd (simple_next s i t u h)
+  v_after (suc m) s i t u (inl h) = absurd (simple_next s i t u h)
+  v_after (suc m) s i t u (inr h) = subst (λ (t : Lexeme). ends_item t ≡ true) (sym (nested_next (value fits' m) (v_nil m) s i t u h)) refl
 
-  pub v_behind_number : (m a : ℕ) → Next (value fits' m) (Number a) ends_item_is
-  v_behind_number m a = record { next = v_behind m (Number a) (number_head a) }
+  pub v_after_number : (m a : ℕ) → Next (value fits' m) (Number a) ends_item_is
+  v_after_number m a = record { next = v_after m (Number a) (number_head a) }
 
-  pub v_behind_name : (m : ℕ) (x : List ℕ) → Next (value fits' m) (Ident x) ends_item_is
-  v_behind_name m x = record { next = v_behind m (Ident x) (name_head x) }
+  pub v_after_name : (m : ℕ) (x : List ℕ) → Next (value fits' m) (Ident x) ends_item_is
+  v_after_name m x = record { next = v_after m (Ident x) (name_head x) }
 
 -- fits is the reader's test on numbers, fits' the grammar's
 module _ (within : Limit → Type 0) (fits fits' : ℕ → Bool)
@@ -264,11 +264,11 @@ module _ (within : Limit → Type 0) (fits fits' : ℕ → Bool)
           → Follows goes_on us
           → ReadsAs within (step_at fits n read (u ++ us)) z us
       whole z u us (inl h) f = simple_whole within fits fits' room n read colon brace z u us (λ x e. f) h
-      whole z u us (inr h) f = nested_whole within fits fits' room n read colon brace (value fits' m) fv (v_solid fits' m) (v_number fits' m) (v_name fits' m) (v_behind_number fits' m) (v_behind_name fits' m) enters z u us f h
+      whole z u us (inr h) f = nested_whole within fits fits' room n read colon brace (value fits' m) fv (v_solid fits' m) (v_number fits' m) (v_name fits' m) (v_after_number fits' m) (v_after_name fits' m) enters z u us f h
 
-      front : (u us : List Lexeme) → (value fits' (suc m)).CanGoOn u → Passes within us (step_at fits n read (u ++ us))
+      front : (u us : List Lexeme) → (value fits' (suc m)).IsPrefix u → Passes within us (step_at fits n read (u ++ us))
       front u us (inl h) = simple_front within fits fits' room n read colon brace u us h
-      front u us (inr h) = nested_front within fits fits' room n read colon brace (value fits' m) fv (v_solid fits' m) (v_number fits' m) (v_name fits' m) (v_behind_number fits' m) (v_behind_name fits' m) enter u us h
+      front u us (inr h) = nested_front within fits fits' room n read colon brace (value fits' m) fv (v_solid fits' m) (v_number fits' m) (v_name fits' m) (v_after_number fits' m) (v_after_name fits' m) enter u us h
 
   same_reader : (g : Grammar Tree) (r r' : Reader Tree)
       → ((ts : List Lexeme) → r ts ≡ r' ts)
@@ -332,7 +332,7 @@ module _ (within : Limit → Type 0) (fits fits' : ℕ → Bool)
       → (us : List Lexeme)
       →
       Passes within ((Mark OpenBrace) ∷ us) (opened (suc n) ((Mark OpenBrace) ∷ us) (braced_at fits (value_at fits n) us))
-  suc_brace n f us = passes_on within ((Mark OpenBrace) ∷ us) us (braced_at fits (value_at fits n) us) (omega arith) (braced_shrinks within fits fits' room (value fits' zero) (value_at fits n) f (v_solid fits' zero) (v_number fits' zero) (v_name fits' zero) (v_behind_number fits' zero) (v_behind_name fits' zero) us)
+  suc_brace n f us = passes_on within ((Mark OpenBrace) ∷ us) us (braced_at fits (value_at fits n) us) (omega arith) (braced_shrinks within fits fits' room (value fits' zero) (value_at fits n) f (v_solid fits' zero) (v_number fits' zero) (v_name fits' zero) (v_after_number fits' zero) (v_after_name fits' zero) us)
 
   pub value_finds : (n m : ℕ)
       → (within Nesting → m ≤ n)

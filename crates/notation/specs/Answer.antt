@@ -8,9 +8,9 @@ use Rattle.text.specs.declared.reserved.Word.TheVariants as words
 use Rattle.text.specs.declared.token.Token.{Token}
 use Rattle.grammar.specs.Lexeme.{Lexeme, Word, Mark, lexemes}
 use Rattle.grammar.specs.Places.{Limits, Limited, bounded, free, IsRead, Ends, PassesLimit}
-use Rattle.notation.specs.declared.fault.SyntaxFault.{SyntaxFault}
-use Rattle.notation.specs.declared.fault.SyntaxFault.TheVariants as faults
-use Rattle.kernel.specs.Given.{limit_of}
+use Rattle.notation.specs.declared.syntax_fault.SyntaxFault.{SyntaxFault}
+use Rattle.notation.specs.declared.syntax_fault.SyntaxFault.TheVariants as faults
+use Rattle.parser_combinators.specs.Given.{limit_of}
 
 -- the words of constructs that this compiler leaves out
 abbrev pub is_refused_word : Word' → Bool
@@ -77,8 +77,8 @@ IsThere g n x ts place v end = IsRead (g (bounded n)) (free g) (lexemes x ts) pl
 
 -- The fault is the right one for what a grammar says of the lexemes from start on, within these limits; it has the
 -- right place.
-abbrev pub Stands : {A : Type 0} → Limited A → List Lexeme → ℕ → Limits → SyntaxFault → Type 0
-Stands g ts start a faults.Memory = ⊤
-Stands g ts start a (faults.Unexpected i) = Ends g a ts start i × (is_refused_at (slice_get ts i) ≡ false)
-Stands g ts start a (faults.OutOfProfile i) = Ends g a ts start i × (is_refused_at (slice_get ts i) ≡ true)
-Stands g ts start a (faults.Limit l i) = PassesLimit g a ts start i (limit_of l)
+abbrev pub IsRightFault : {A : Type 0} → Limited A → List Lexeme → ℕ → Limits → SyntaxFault → Type 0
+IsRightFault g ts start a faults.Memory = ⊤
+IsRightFault g ts start a (faults.Unexpected i) = Ends g a ts start i × (is_refused_at (slice_get ts i) ≡ false)
+IsRightFault g ts start a (faults.OutOfProfile i) = Ends g a ts start i × (is_refused_at (slice_get ts i) ≡ true)
+IsRightFault g ts start a (faults.Limit l i) = PassesLimit g a ts start i (limit_of l)

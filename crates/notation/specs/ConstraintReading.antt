@@ -9,25 +9,25 @@ use Rattle.trees.specs.Constraints.{EndTree, name_end, RangeTree, only, between,
 use Rattle.notation.specs.ConstraintGrammar.{marked, positive_end, negative_end}
 use Rattle.notation.specs.Reading.{ref_dot_at}
 
-abbrev pub is_or : Lexeme → Bool
-is_or (Mark Bar) = true
-is_or (Word Union) = true
-is_or t = false
+abbrev pub is_union_mark : Lexeme → Bool
+is_union_mark (Mark Bar) = true
+is_union_mark (Word Union) = true
+is_union_mark t = false
 
-unfoldable pub next_or : List Lexeme → Option (List Lexeme)
-next_or (Mark Bar ∷ rest) = Some rest
-next_or (Word Union ∷ rest) = Some rest
-next_or ts = None
+unfoldable pub next_union_mark : List Lexeme → Option (List Lexeme)
+next_union_mark (Mark Bar ∷ rest) = Some rest
+next_union_mark (Word Union ∷ rest) = Some rest
+next_union_mark ts = None
 
-unfoldable pub or_then_at : {A : Type 0} → Reader A → Reader A
-or_then_at read (Mark Bar ∷ rest) = read rest
-or_then_at read (Word Union ∷ rest) = read rest
-or_then_at read ts = stop ts
+unfoldable pub union_mark_then_at : {A : Type 0} → Reader A → Reader A
+union_mark_then_at read (Mark Bar ∷ rest) = read rest
+union_mark_then_at read (Word Union ∷ rest) = read rest
+union_mark_then_at read ts = stop ts
 
-unfoldable pub by_or_at : {A : Type 0} → Reader A → Reader (List A)
-by_or_at read ts = do
+unfoldable pub by_union_mark_at : {A : Type 0} → Reader A → Reader (List A)
+by_union_mark_at read ts = do
   x ← read ts
-  xs ← many_at is_or (or_then_at read) (length x.1) x.1
+  xs ← many_at is_union_mark (union_mark_then_at read) (length x.1) x.1
   Ok (x.0 ∷ xs.0, xs.1)
 
 -- what comes after ".." between texts
@@ -45,7 +45,7 @@ chars_at (CString c ∷ rest) = more_chars_at c rest
 chars_at ts = stop ts
 
 unfoldable pub from_at : Reader (List (List ℕ × Option (List ℕ)))
-from_at (Word From ∷ rest) = parens_at (by_or_at chars_at) rest
+from_at (Word From ∷ rest) = parens_at (by_union_mark_at chars_at) rest
 from_at ts = stop ts
 
 unfoldable pub minus_at : Reader EndTree
@@ -87,24 +87,24 @@ module _ (fits : ℕ → Bool) where
   upper_at ts = some_end_at ts
 
   -- what comes after MIN
-  unfoldable pub behind_min_at : Reader RangeTree
-  behind_min_at (Mark Range ∷ rest) = upper_at rest >>= λ b. Ok (between None b.0, b.1)
-  behind_min_at ts = stop ts
+  unfoldable pub after_min_at : Reader RangeTree
+  after_min_at (Mark Range ∷ rest) = upper_at rest >>= λ b. Ok (between None b.0, b.1)
+  after_min_at ts = stop ts
 
-  unfoldable pub behind_end_at : EndTree → Reader RangeTree
-  behind_end_at a (Mark Range ∷ rest) = upper_at rest >>= λ b. Ok (between (Some a) b.0, b.1)
-  behind_end_at a ts = Ok (only a, ts)
+  unfoldable pub after_end_at : EndTree → Reader RangeTree
+  after_end_at a (Mark Range ∷ rest) = upper_at rest >>= λ b. Ok (between (Some a) b.0, b.1)
+  after_end_at a ts = Ok (only a, ts)
 
   unfoldable pub single_at : Reader RangeTree
-  single_at ts = end_at ts >>= λ a. behind_end_at a.0 a.1
+  single_at ts = end_at ts >>= λ a. after_end_at a.0 a.1
 
   unfoldable pub range_at : Reader RangeTree
-  range_at (Word Min ∷ rest) = behind_min_at rest
+  range_at (Word Min ∷ rest) = after_min_at rest
   range_at ts = single_at ts
 
   unfoldable pub ranges_at : Reader RangesTree
   ranges_at ts = do
-    rs ← by_or_at range_at ts
+    rs ← by_union_mark_at range_at ts
     m ← marker_at rs.1
     Ok (marked (rs.0, m.0), m.1)
 

@@ -10,12 +10,12 @@ use Rattle.grammar.specs.Laws.{nowhere, deeper, wider, higher, Sound, Finds}
 use Rattle.grammar.specs.Lists.{IsSolid}
 use Rattle.grammar.specs.Places.{Limits, Limited, Within, any, small, Ends}
 use Rattle.grammar.specs.Reading.{Reader}
-use Rattle.kernel.specs.declared.fault.Limit.{Limit as Limit'}
-use Rattle.kernel.specs.declared.fault.Limit.TheVariants as limits
-use Rattle.kernel.specs.Given.{limit_of}
-use Rattle.notation.specs.declared.fault.SyntaxFault.{SyntaxFault}
-use Rattle.notation.specs.declared.fault.SyntaxFault.TheVariants as faults
-use Rattle.notation.specs.Answer.{is_refused_at, unexpected, Stands}
+use Rattle.parser_combinators.specs.declared.read_error.Limit.{Limit as Limit'}
+use Rattle.parser_combinators.specs.declared.read_error.Limit.TheVariants as limits
+use Rattle.parser_combinators.specs.Given.{limit_of}
+use Rattle.notation.specs.declared.syntax_fault.SyntaxFault.{SyntaxFault}
+use Rattle.notation.specs.declared.syntax_fault.SyntaxFault.TheVariants as faults
+use Rattle.notation.specs.Answer.{is_refused_at, unexpected, IsRightFault}
 use Rattle.notation.specs.Value.{value}
 use Rattle.notation.specs.Reading.{value_at}
 
@@ -50,15 +50,15 @@ pub record ValueLaws : Type 0 where
   pub solid : (fits : ℕ → Bool) (n : ℕ) → IsSolid (value fits n)
 
 -- the fault returned for a place where nothing can go on is the right one
-pub first_stands : {A : Type 0} (g : Limited A) (ts : List Lexeme) (start : ℕ) (a : Limits) (i : ℕ) (f : SyntaxFault)
+pub fault_at_first : {A : Type 0} (g : Limited A) (ts : List Lexeme) (start : ℕ) (a : Limits) (i : ℕ) (f : SyntaxFault)
     → f ≡ unexpected ts i
     → Ends g a ts start i
-    → Stands g ts start a f
-first_stands g ts start a i f e h = go f (is_refused_at (slice_get ts i)) refl e
+    → IsRightFault g ts start a f
+fault_at_first g ts start a i f e h = go f (is_refused_at (slice_get ts i)) refl e
   where
-    go : (f : SyntaxFault) (b : Bool) → is_refused_at (slice_get ts i) ≡ b → f ≡ unexpected ts i → Stands g ts start a f
-    go f true q e = subst (Stands g ts start a) (sym (e ⋆ ap (λ (b : Bool). if b then faults.OutOfProfile i else faults.Unexpected i) q)) (h, q)
-    go f false q e = subst (Stands g ts start a) (sym (e ⋆ ap (λ (b : Bool). if b then faults.OutOfProfile i else faults.Unexpected i) q)) (h, q)
+    go : (f : SyntaxFault) (b : Bool) → is_refused_at (slice_get ts i) ≡ b → f ≡ unexpected ts i → IsRightFault g ts start a f
+    go f true q e = subst (IsRightFault g ts start a) (sym (e ⋆ ap (λ (b : Bool). if b then faults.OutOfProfile i else faults.Unexpected i) q)) (h, q)
+    go f false q e = subst (IsRightFault g ts start a) (sym (e ⋆ ap (λ (b : Bool). if b then faults.OutOfProfile i else faults.Unexpected i) q)) (h, q)
 
 -- at most one fault is right, apart from Memory
 module _ {A : Type 0} (g : Limited A) (a : Limits) (read : Reader A) (reads : Reads g a read) (ts : List Lexeme)
@@ -76,23 +76,23 @@ module _ {A : Type 0} (g : Limited A) (a : Limits) (read : Reader A) (reads : Re
   limit_is limits.TagNumber limits.TagNumber e = refl
   limit_is l m e = absurd cc
 
-  pub one_stands : (f f' : SyntaxFault)
+  pub faults_agree : (f f' : SyntaxFault)
       → (f ≡ faults.Memory → ⊥)
       → (f' ≡ faults.Memory → ⊥)
-      → Stands g ts start a f
-      → Stands g ts start a f'
+      → IsRightFault g ts start a f
+      → IsRightFault g ts start a f'
       → f ≡ f'
-  one_stands faults.Memory f' n n' s s' = absurd (n refl)
-  one_stands f faults.Memory n n' s s' = absurd (n' refl)
-  one_stands (faults.Unexpected i) (faults.Unexpected j) n n' s s' = ap (λ (i : ℕ). faults.Unexpected i) (one_stop g a ts start i j s.0.stops s'.0.stops)
-  one_stands (faults.OutOfProfile i) (faults.OutOfProfile j) n n' s s' = ap (λ (i : ℕ). faults.OutOfProfile i) (one_stop g a ts start i j s.0.stops s'.0.stops)
-  one_stands (faults.Unexpected i) (faults.OutOfProfile j) n n' s s' = let e = refused_at i j false true (one_stop g a ts start i j s.0.stops s'.0.stops) s.1 s'.1 in absurd cc
-  one_stands (faults.OutOfProfile i) (faults.Unexpected j) n n' s s' = let e = refused_at i j true false (one_stop g a ts start i j s.0.stops s'.0.stops) s.1 s'.1 in absurd cc
-  one_stands (faults.Unexpected i) (faults.Limit l j) n n' s s' = absurd (not_both g a ts start i j (limit_of l) s.0 s')
-  one_stands (faults.OutOfProfile i) (faults.Limit l j) n n' s s' = absurd (not_both g a ts start i j (limit_of l) s.0 s')
-  one_stands (faults.Limit l i) (faults.Unexpected j) n n' s s' = absurd (not_both g a ts start j i (limit_of l) s'.0 s)
-  one_stands (faults.Limit l i) (faults.OutOfProfile j) n n' s s' = absurd (not_both g a ts start j i (limit_of l) s'.0 s)
-  one_stands (faults.Limit l i) (faults.Limit m j) n n' s s' =
+  faults_agree faults.Memory f' n n' s s' = absurd (n refl)
+  faults_agree f faults.Memory n n' s s' = absurd (n' refl)
+  faults_agree (faults.Unexpected i) (faults.Unexpected j) n n' s s' = ap (λ (i : ℕ). faults.Unexpected i) (one_stop g a ts start i j s.0.stops s'.0.stops)
+  faults_agree (faults.OutOfProfile i) (faults.OutOfProfile j) n n' s s' = ap (λ (i : ℕ). faults.OutOfProfile i) (one_stop g a ts start i j s.0.stops s'.0.stops)
+  faults_agree (faults.Unexpected i) (faults.OutOfProfile j) n n' s s' = let e = refused_at i j false true (one_stop g a ts start i j s.0.stops s'.0.stops) s.1 s'.1 in absurd cc
+  faults_agree (faults.OutOfProfile i) (faults.Unexpected j) n n' s s' = let e = refused_at i j true false (one_stop g a ts start i j s.0.stops s'.0.stops) s.1 s'.1 in absurd cc
+  faults_agree (faults.Unexpected i) (faults.Limit l j) n n' s s' = absurd (not_both g a ts start i j (limit_of l) s.0 s')
+  faults_agree (faults.OutOfProfile i) (faults.Limit l j) n n' s s' = absurd (not_both g a ts start i j (limit_of l) s.0 s')
+  faults_agree (faults.Limit l i) (faults.Unexpected j) n n' s s' = absurd (not_both g a ts start j i (limit_of l) s'.0 s)
+  faults_agree (faults.Limit l i) (faults.OutOfProfile j) n n' s s' = absurd (not_both g a ts start j i (limit_of l) s'.0 s)
+  faults_agree (faults.Limit l i) (faults.Limit m j) n n' s s' =
       same_limit l m i j (limit_is l m (one_limit g a read reads ts start place (limit_of l) (limit_of m) i j s s')) (one_stop g a ts start i j s.stops s'.stops)
     where
       same_limit : (l m : Limit') (i j : ℕ) → l ≡ m → i ≡ j → faults.Limit l i ≡ faults.Limit m j

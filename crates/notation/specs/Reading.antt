@@ -4,7 +4,7 @@ use Rattle.text.specs.declared.token.Mark.TheVariants.{Comma, Colon, Dot, Minus,
 use Rattle.text.specs.declared.reserved.Word.TheVariants.{True, False, Null}
 use Rattle.grammar.specs.Lexeme.{Lexeme, TypeRef, Ident, Number, BString, HString, CString, Word, Mark}
 use Rattle.grammar.specs.Reading.{Read, Reader, ◌>>=◌, stop, closed_at, listed_at, named_at, fitting, opened}
-use Rattle.trees.specs.declared.place.Reference.{Reference}
+use Rattle.trees.specs.declared.location.Reference.{Reference}
 use Rattle.trees.specs.Values.{Name, Tree, yes, no, null, binary, hex, chars, reference, chosen, nothing, numbers, items, fields, trees, members}
 use Rattle.notation.specs.Value.{positive, negative}
 

@@ -3,7 +3,7 @@ use Rattle.std.specs.Prelude.{ℕ, zero, suc, Bool, ◌∷◌, Some, None, pos, 
 use Rattle.text.specs.declared.token.Mark.TheVariants.{Colon, Dot, Minus, OpenBrace, CloseBrace}
 use Rattle.text.specs.declared.reserved.Word.TheVariants.{True, False, Null}
 use Rattle.grammar.specs.Lexeme.{TypeRef, Ident, Number, BString, HString, CString, Mark}
-use Rattle.grammar.specs.Grammar.{Grammar, token, mark, word, number_of, ◌∙◌, ◌∣◌, ◌⇒◌, many, behind, listed, braces}
+use Rattle.grammar.specs.Grammar.{Grammar, token, mark, word, number_of, ◌∙◌, ◌∣◌, ◌⇒◌, many, preceded, listed, braces}
 use Rattle.grammar.specs.Places.{Limited}
 use Rattle.trees.specs.Values.{Tree, yes, no, null, number, binary, hex, chars, reference, chosen, nothing, numbers, items, fields, trees, members}
 
@@ -24,17 +24,17 @@ module _ (fits : ℕ → Bool) where
       ∣ word False ⇒ (λ _. no)
       ∣ word Null ⇒ (λ _. null)
       ∣ number_of fits ⇒ positive
-      ∣ behind (Mark Minus) (token Number) ⇒ negative
+      ∣ preceded (Mark Minus) (token Number) ⇒ negative
       ∣ token BString ⇒ binary
       ∣ token HString ⇒ hex
       ∣ token CString ⇒ chars
       ∣ token Ident ⇒ reference None
-      ∣ (token TypeRef ∙ behind (Mark Dot) (token Ident)) ⇒ (λ p. reference (Some p.0) p.1)
+      ∣ (token TypeRef ∙ preceded (Mark Dot) (token Ident)) ⇒ (λ p. reference (Some p.0) p.1)
 
   -- the values that open a brace or an alternative, with the values in them
   abbrev pub nested : Grammar Tree → Grammar Tree
   nested value =
-      (token Ident ∙ behind (Mark Colon) value) ⇒ (λ p. chosen p.0 p.1)
+      (token Ident ∙ preceded (Mark Colon) value) ⇒ (λ p. chosen p.0 p.1)
       ∣ (mark OpenBrace ∙ mark CloseBrace) ⇒ (λ _. nothing)
       ∣ braces (number_of fits ∙ (number_of fits ∙ many (number_of fits)))
       ⇒ (λ p. numbers (p.0 ∷ p.1.0 ∷ p.1.1))

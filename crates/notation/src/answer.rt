@@ -5,14 +5,14 @@ ghost use Rattle.grammar.specs.Lexeme.{lexemes};
 ghost use Rattle.grammar.specs.Places.{bounded};
 ghost use Rattle.trees.specs.Values.{Tree, tree_of};
 ghost use Rattle.notation.specs.Value.{values};
-ghost use Rattle.kernel.specs.Given.{IsLexed};
-ghost use Rattle.notation.specs.Answer.{IsThere, Stands};
+ghost use Rattle.parser_combinators.specs.Given.{IsLexed};
+ghost use Rattle.notation.specs.Answer.{IsThere, IsRightFault};
 
-use crate::fault::SyntaxFault;
 use crate::reading::value;
 use crate::refused::unexpected;
-use kernel::ReadError;
+use crate::syntax_fault::SyntaxFault;
 use limits::MAX_NESTING;
+use parser_combinators::ReadError;
 use std::alloc::Global;
 use text::Token;
 use trees::ValueSyntax;
@@ -48,9 +48,9 @@ pub fn value_at(
     ensures only { (v : Tree) (end : ℕ) → IsThere values (128 - opened) text.now tokens.now place v end
         → MatchResult result (λ x. (tree_of x.0 ≡ v) × (x.1 ≡ end)) (λ f. f ≡ SyntaxFault.Memory) }
     // A fault is the right one, with its place.
-    ensures fault { IfErr result (Stands values (lexemes text.now tokens.now) place (bounded (128 - opened))) }
+    ensures fault { IfErr result (IsRightFault values (lexemes text.now tokens.now) place (bounded (128 - opened))) }
 {
-    text::law::spans_within();
+    text::law::lemma_spans_within();
     match value(alloc, text, &tokens[place..], MAX_NESTING - opened) {
         Ok((value, rest)) => Ok((value, tokens.len() - rest.len())),
         Err(ReadError::Memory) => Err(SyntaxFault::Memory),

@@ -5,13 +5,13 @@ ghost use Rattle.grammar.specs.Lexeme.{lexemes};
 ghost use Rattle.grammar.specs.Places.{bounded};
 ghost use Rattle.trees.specs.Constraints.{ConstraintTree, constraint_of};
 ghost use Rattle.notation.specs.ConstraintGrammar.{constraint, size, flat};
-ghost use Rattle.kernel.specs.Given.{IsLexed};
-ghost use Rattle.notation.specs.Answer.{IsThere, Stands};
+ghost use Rattle.parser_combinators.specs.Given.{IsLexed};
+ghost use Rattle.notation.specs.Answer.{IsThere, IsRightFault};
 
 use crate::constraint_reading::{constraint, size};
-use crate::fault::SyntaxFault;
 use crate::refused::unexpected;
-use kernel::ReadError;
+use crate::syntax_fault::SyntaxFault;
+use parser_combinators::ReadError;
 use std::alloc::Global;
 use text::Token;
 use trees::ConstraintSyntax;
@@ -45,9 +45,9 @@ pub fn constraint_at(
     ensures only { (v : ConstraintTree) (end : ℕ) → IsThere (flat constraint) 0 text.now tokens.now place v end
         → MatchResult result (λ x. (constraint_of x.0 ≡ v) × (x.1 ≡ end)) (λ f. f ≡ SyntaxFault.Memory) }
     // A fault is the right one, with its place.
-    ensures fault { IfErr result (Stands (flat constraint) (lexemes text.now tokens.now) place (bounded 0)) }
+    ensures fault { IfErr result (IsRightFault (flat constraint) (lexemes text.now tokens.now) place (bounded 0)) }
 {
-    text::law::spans_within();
+    text::law::lemma_spans_within();
     match constraint(alloc, text, &tokens[place..]) {
         Ok((constraint, rest)) => Ok((constraint, tokens.len() - rest.len())),
         Err(ReadError::Memory) => Err(SyntaxFault::Memory),
@@ -84,9 +84,9 @@ pub fn size_at(
     ensures only { (v : ConstraintTree) (end : ℕ) → IsThere (flat size) 0 text.now tokens.now place v end
         → MatchResult result (λ x. (constraint_of x.0 ≡ v) × (x.1 ≡ end)) (λ f. f ≡ SyntaxFault.Memory) }
     // A fault is the right one, with its place.
-    ensures fault { IfErr result (Stands (flat size) (lexemes text.now tokens.now) place (bounded 0)) }
+    ensures fault { IfErr result (IsRightFault (flat size) (lexemes text.now tokens.now) place (bounded 0)) }
 {
-    text::law::spans_within();
+    text::law::lemma_spans_within();
     match size(alloc, text, &tokens[place..]) {
         Ok((size, rest)) => Ok((size, tokens.len() - rest.len())),
         Err(ReadError::Memory) => Err(SyntaxFault::Memory),

@@ -4,16 +4,16 @@ ghost use Rattle.std.specs.Prelude.{◌≡◌, map, option_map, IfOk};
 ghost use Rattle.text.specs.declared.token.TokenKind.TheVariants as kinds;
 ghost use Rattle.grammar.specs.Places.{small};
 ghost use Rattle.trees.specs.Constraints.{end_of, range_of, ranges_of, chars_of, form_of, constraint_of};
-ghost use Rattle.kernel.specs.Reads.{ReadsAs, text_in};
-ghost use Rattle.kernel.specs.Given.{IsTokenOf, AreTokens};
-ghost use Rattle.notation.specs.ConstraintReading.{last_chars_at, more_chars_at, from_at, minus_at, end_at, upper_at, behind_min_at, behind_end_at, marker_at, ranges_at, size_at, inside_at, constraint_at};
+ghost use Rattle.parser_combinators.specs.Reads.{ReadsAs, text_in};
+ghost use Rattle.parser_combinators.specs.Given.{IsTokenIn, AreTokens};
+ghost use Rattle.notation.specs.ConstraintReading.{last_chars_at, more_chars_at, from_at, minus_at, end_at, upper_at, after_min_at, after_end_at, marker_at, ranges_at, size_at, inside_at, constraint_at};
 
-use crate::names::{bare, qualified};
+use crate::names::{qualified, unqualified};
 use crate::numbers::{negative, positive};
-use crate::unions::by_or;
-use kernel::decode::chars_of;
-use kernel::marks::{close, open};
-use kernel::{Part, Read, ReadError};
+use crate::unions::by_union_mark;
+use parser_combinators::decode::chars_of;
+use parser_combinators::punctuation::{close, open};
+use parser_combinators::{Parser, Read, ReadError};
 use std::alloc::{AllocError, Global};
 use text::{Mark, Token, TokenKind, kind, mark, word};
 use trees::{
@@ -22,7 +22,7 @@ use trees::{
 
 /// The text in quotes that a token is, with its offset.
 fn quoted(alloc: Global, text: &[u8], token: Token) -> Result<At<Vec<u8>>, AllocError>
-    requires token { IsTokenOf text.now token }
+    requires token { IsTokenIn text.now token }
     requires chars { token.kind ≡ kinds.CharacterString }
     ensures { IfOk result (λ c. c.it.items ≡ text_in text.now token) }
 {
@@ -41,7 +41,7 @@ fn last_chars<'a>(
     tokens: &'a [Token],
 ) -> Read<'a, CharsSyntax>
     requires tokens { AreTokens text.now tokens.now }
-    requires before { IsTokenOf text.now first }
+    requires before { IsTokenIn text.now first }
     requires chars { first.kind ≡ kinds.CharacterString }
     ensures read { ReadsAs chars_of (last_chars_at (text_in text.now first)) text.now tokens.now result }
     ensures rest { IfOk result (λ x. AreTokens text.now x.1.now) }
@@ -65,7 +65,7 @@ fn more_chars<'a>(
     tokens: &'a [Token],
 ) -> Read<'a, CharsSyntax>
     requires tokens { AreTokens text.now tokens.now }
-    requires before { IsTokenOf text.now first }
+    requires before { IsTokenIn text.now first }
     requires chars { first.kind ≡ kinds.CharacterString }
     ensures read { ReadsAs chars_of (more_chars_at (text_in text.now first)) text.now tokens.now result }
     ensures rest { IfOk result (λ x. AreTokens text.now x.1.now) }
@@ -82,7 +82,7 @@ fn more_chars<'a>(
 /// A text or a range of characters, as a part of a union.
 struct OneText;
 
-impl<'t> Part<'t> for OneText {
+impl<'t> Parser<'t> for OneText {
     ghost use Rattle.std.specs.Prelude.{List, ℕ, Option};
     ghost use Rattle.trees.specs.Constraints.{chars_of};
     ghost use Rattle.notation.specs.ConstraintReading.{chars_at};
@@ -119,7 +119,7 @@ fn from<'a>(alloc: Global, text: &[u8], tokens: &'a [Token]) -> Read<'a, Vec<Cha
     match tokens {
         [word!(From), rest @ ..] => {
             let rest = open(text, rest)?;
-            let (parts, rest) = by_or(alloc, text, &OneText, rest)?;
+            let (parts, rest) = by_union_mark(alloc, text, &OneText, rest)?;
             Ok((parts, close(text, rest)?))
         }
         _ => Err(ReadError::Unexpected(tokens.len())),
@@ -160,7 +160,7 @@ fn end<'a>(alloc: Global, text: &[u8], tokens: &'a [Token]) -> Read<'a, EndSynta
         }
         TokenKind::Mark(Mark::Minus) => negative_end(text, at, rest),
         TokenKind::Identifier => {
-            let name = bare(alloc, text, *first)?;
+            let name = unqualified(alloc, text, *first)?;
             Ok((EndSyntax::Reference(name), rest))
         }
         TokenKind::TypeReference => {
@@ -188,10 +188,10 @@ fn upper<'a>(alloc: Global, text: &[u8], tokens: &'a [Token]) -> Read<'a, Option
 }
 
 /// Reads what comes after `MIN`.
-#[tactic(auto, unfolding(crate::specs::ConstraintReading::behind_min_at))]
-fn behind_min<'a>(alloc: Global, text: &[u8], tokens: &'a [Token]) -> Read<'a, RangeSyntax>
+#[tactic(auto, unfolding(crate::specs::ConstraintReading::after_min_at))]
+fn after_min<'a>(alloc: Global, text: &[u8], tokens: &'a [Token]) -> Read<'a, RangeSyntax>
     requires tokens { AreTokens text.now tokens.now }
-    ensures read { ReadsAs range_of (behind_min_at small) text.now tokens.now result }
+    ensures read { ReadsAs range_of (after_min_at small) text.now tokens.now result }
     ensures rest { IfOk result (λ x. AreTokens text.now x.1.now) }
 {
     match tokens {
@@ -204,15 +204,15 @@ fn behind_min<'a>(alloc: Global, text: &[u8], tokens: &'a [Token]) -> Read<'a, R
 }
 
 /// Reads what comes after an end of a range.
-#[tactic(auto, unfolding(crate::specs::ConstraintReading::behind_end_at))]
-fn behind_end<'a>(
+#[tactic(auto, unfolding(crate::specs::ConstraintReading::after_end_at))]
+fn after_end<'a>(
     alloc: Global,
     text: &[u8],
     first: EndSyntax,
     tokens: &'a [Token],
 ) -> Read<'a, RangeSyntax>
     requires tokens { AreTokens text.now tokens.now }
-    ensures read { ReadsAs range_of (behind_end_at small (end_of first)) text.now tokens.now result }
+    ensures read { ReadsAs range_of (after_end_at small (end_of first)) text.now tokens.now result }
     ensures rest { IfOk result (λ x. AreTokens text.now x.1.now) }
 {
     match tokens {
@@ -227,7 +227,7 @@ fn behind_end<'a>(
 /// A value or a range, as a part of a union.
 struct OneRange;
 
-impl<'t> Part<'t> for OneRange {
+impl<'t> Parser<'t> for OneRange {
     ghost use Rattle.grammar.specs.Places.{small};
     ghost use Rattle.trees.specs.Constraints.{RangeTree, range_of};
     ghost use Rattle.notation.specs.ConstraintReading.{range_at};
@@ -248,10 +248,10 @@ impl<'t> Part<'t> for OneRange {
     #[tactic(auto, unfolding(crate::specs::ConstraintReading::range_at, crate::specs::ConstraintReading::single_at))]
     fn read(&self, alloc: Global, text: &[u8], tokens: &'t [Token]) -> Read<'t, RangeSyntax> {
         match tokens {
-            [word!(Min), rest @ ..] => behind_min(alloc, text, rest),
+            [word!(Min), rest @ ..] => after_min(alloc, text, rest),
             _ => {
                 let (first, rest) = end(alloc, text, tokens)?;
-                behind_end(alloc, text, first, rest)
+                after_end(alloc, text, first, rest)
             }
         }
     }
@@ -278,7 +278,7 @@ fn ranges<'a>(alloc: Global, text: &[u8], tokens: &'a [Token]) -> Read<'a, Range
     ensures read { ReadsAs ranges_of (ranges_at small) text.now tokens.now result }
     ensures rest { IfOk result (λ x. AreTokens text.now x.1.now) }
 {
-    let (ranges, rest) = by_or(alloc, text, &OneRange, tokens)?;
+    let (ranges, rest) = by_union_mark(alloc, text, &OneRange, tokens)?;
     let (marker, rest) = marker(text, rest)?;
     Ok((RangesSyntax { ranges, marker }, rest))
 }

@@ -2,19 +2,19 @@
 
 ghost use Rattle.std.specs.Prelude.{◌≡◌, None, IfOk};
 ghost use Rattle.text.specs.declared.token.TokenKind.TheVariants as kinds;
-ghost use Rattle.kernel.specs.Reads.{ReadsAs, name_in};
-ghost use Rattle.kernel.specs.Given.{IsTokenOf, AreTokens};
+ghost use Rattle.parser_combinators.specs.Reads.{ReadsAs, name_in};
+ghost use Rattle.parser_combinators.specs.Given.{IsTokenIn, AreTokens};
 ghost use Rattle.notation.specs.Reading.{named_by, ref_dot_at};
 
-use kernel::decode::name_of;
-use kernel::{Read, ReadError};
+use parser_combinators::decode::name_of;
+use parser_combinators::{Read, ReadError};
 use std::alloc::{AllocError, Global};
 use text::{Token, kind, mark};
 use trees::Reference;
 
 /// The name of a value, with no module's name before it.
-pub fn bare(alloc: Global, text: &[u8], token: Token) -> Result<Reference, AllocError>
-    requires token { IsTokenOf text.now token }
+pub fn unqualified(alloc: Global, text: &[u8], token: Token) -> Result<Reference, AllocError>
+    requires token { IsTokenIn text.now token }
     requires name { token.kind ≡ kinds.Identifier }
     ensures { IfOk result (λ r. ((named_by r).0 ≡ None)
         × ((named_by r).1 ≡ name_in text.now token)) }
@@ -35,7 +35,7 @@ pub fn qualified<'a>(
     tokens: &'a [Token],
 ) -> Read<'a, Reference>
     requires tokens { AreTokens text.now tokens.now }
-    requires before { IsTokenOf text.now module_name }
+    requires before { IsTokenIn text.now module_name }
     requires name { module_name.kind ≡ kinds.TypeReference }
     ensures read { ReadsAs named_by (ref_dot_at (name_in text.now module_name)) text.now tokens.now result }
     ensures rest { IfOk result (λ x. AreTokens text.now x.1.now) }

@@ -6,15 +6,17 @@ ghost use Rattle.grammar.specs.Lexeme.{lexemes, Number};
 ghost use Rattle.grammar.specs.Reading.{with_front};
 ghost use Rattle.grammar.specs.Places.{small};
 ghost use Rattle.trees.specs.Values.{tree_of};
-ghost use Rattle.kernel.specs.Reads.{ReadsAs, name_in, number_in};
-ghost use Rattle.kernel.specs.Given.{IsTokenOf, AreTokens};
+ghost use Rattle.parser_combinators.specs.Reads.{ReadsAs, name_in, number_in};
+ghost use Rattle.parser_combinators.specs.Given.{IsTokenIn, AreTokens};
 ghost use Rattle.notation.specs.Reading.{negative_at, next_number, numbers_at, two_numbers_at, by_name_at, braced_at, alternative_at, step_at, value_at};
 
-use crate::names::{bare, qualified};
+use crate::names::{qualified, unqualified};
 use crate::numbers::{negative, positive};
-use kernel::decode::{chars_of, digits_of, name_of, small_number};
-use kernel::marks::closed;
-use kernel::{Limit, Listed, Part, Production, Read, ReadError, WithName, reads_by};
+use parser_combinators::decode::{chars_of, digits_of, name_of, small_number};
+use parser_combinators::punctuation::closed;
+use parser_combinators::{
+    CommaList, Limit, Parser, Production, Read, ReadError, WithName, fn_parser,
+};
 use std::alloc::Global;
 use std::marker::PhantomData;
 use text::reserved::Word;
@@ -65,7 +67,7 @@ fn alternative<'a>(
     depth: usize,
 ) -> Read<'a, ValueSyntax>
     requires tokens { AreTokens text.now tokens.now }
-    requires before { IsTokenOf text.now name }
+    requires before { IsTokenIn text.now name }
     requires name { name.kind ≡ kinds.Identifier }
     ensures read { ReadsAs tree_of (alternative_at small depth (value_at small (depth - 1)) (name_in text.now name))
         text.now tokens.now result }
@@ -83,7 +85,7 @@ fn alternative<'a>(
             Ok((ValueSyntax { at, form }, rest))
         }
         _ => {
-            let form = ValueForm::Reference(bare(alloc, text, name)?);
+            let form = ValueForm::Reference(unqualified(alloc, text, name)?);
             Ok((ValueSyntax { at, form }, tokens))
         }
     }
@@ -194,7 +196,7 @@ fn listed<'a>(
     ensures read { ReadsAs tree_of (by_name_at plain (value_at small depth)) text.now tokens.now result }
     ensures rest { IfOk result (λ x. AreTokens text.now x.1.now) }
 {
-    let part = reads_by(
+    let part = fn_parser(
         PhantomData::<Values>,
         |ts|
             requires { AreTokens text.now ts.now }
@@ -204,13 +206,13 @@ fn listed<'a>(
         depth,
     );
     if plain {
-        let (values, rest) = Listed { part }.read(alloc, text, tokens)?;
+        let (values, rest) = CommaList { part }.read(alloc, text, tokens)?;
         let rest = closed(text, rest)?;
         let form = ValueForm::Items(values);
         Ok((ValueSyntax { at, form }, rest))
     } else {
         let part = WithName { part };
-        let (fields, rest) = Listed { part }.read(alloc, text, tokens)?;
+        let (fields, rest) = CommaList { part }.read(alloc, text, tokens)?;
         let rest = closed(text, rest)?;
         let form = ValueForm::Fields(fields);
         Ok((ValueSyntax { at, form }, rest))
@@ -223,7 +225,7 @@ fn next_number<'a>(text: &[u8], tokens: &'a [Token]) -> Option<(Token, &'a [Toke
     requires tokens { AreTokens text.now tokens.now }
     ensures { MatchOption result (next_number (lexemes text.now tokens.now) ≡ None)
         (λ x. (lexemes text.now tokens.now ≡ Number (number_in text.now x.0) ∷ lexemes text.now x.1.now)
-        × (x.0.kind ≡ kinds.Number) × IsTokenOf text.now x.0
+        × (x.0.kind ≡ kinds.Number) × IsTokenIn text.now x.0
         × AreTokens text.now x.1.now × (length x.1.now < length tokens.now)) }
 {
     match tokens {

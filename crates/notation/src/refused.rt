@@ -4,7 +4,7 @@ ghost use Rattle.std.specs.Prelude.{◌≡◌, ℕ, List};
 ghost use Rattle.grammar.specs.Lexeme.{lexeme_at, lexemes};
 ghost use Rattle.notation.specs.Answer.{is_refused, is_refused_word, is_refused_mark, unexpected};
 
-use crate::fault::SyntaxFault;
+use crate::syntax_fault::SyntaxFault;
 use text::reserved::Word;
 use text::{Mark, Token, TokenKind};
 

@@ -2,20 +2,20 @@
 
 ghost use Rattle.std.specs.Prelude.{◌≡◌, ◌<◌, Some, None, MatchOption, length, map, IfOk};
 ghost use Rattle.grammar.specs.Lexeme.{lexemes};
-ghost use Rattle.kernel.specs.Reads.{ReadsAs};
-ghost use Rattle.kernel.specs.Given.{AreTokens};
-ghost use Rattle.notation.specs.ConstraintReading.{next_or, by_or_at};
+ghost use Rattle.parser_combinators.specs.Reads.{ReadsAs};
+ghost use Rattle.parser_combinators.specs.Given.{AreTokens};
+ghost use Rattle.notation.specs.ConstraintReading.{next_union_mark, by_union_mark_at};
 
-use kernel::{Part, Read};
+use parser_combinators::{Parser, Read};
 use std::alloc::Global;
 use text::{Token, mark, word};
 
 /// The tokens after `|` or `UNION`, if one of them is next.
-#[tactic(auto, unfolding(crate::specs::ConstraintReading::next_or))]
-fn or<'a>(text: &[u8], tokens: &'a [Token]) -> Option<&'a [Token]>
+#[tactic(auto, unfolding(crate::specs::ConstraintReading::next_union_mark))]
+fn union_mark<'a>(text: &[u8], tokens: &'a [Token]) -> Option<&'a [Token]>
     requires tokens { AreTokens text.now tokens.now }
-    ensures { MatchOption result (next_or (lexemes text.now tokens.now) ≡ None)
-        (λ x. (next_or (lexemes text.now tokens.now) ≡ Some (lexemes text.now x.now))
+    ensures { MatchOption result (next_union_mark (lexemes text.now tokens.now) ≡ None)
+        (λ x. (next_union_mark (lexemes text.now tokens.now) ≡ Some (lexemes text.now x.now))
         × AreTokens text.now x.now × (length x.now < length tokens.now)) }
 {
     match tokens {
@@ -25,7 +25,7 @@ fn or<'a>(text: &[u8], tokens: &'a [Token]) -> Option<&'a [Token]>
 }
 
 /// Reads one part or more with `|` or `UNION` between them.
-pub fn by_or<'t, P: Part<'t>>(
+pub fn by_union_mark<'t, P: Parser<'t>>(
     alloc: Global,
     text: &[u8],
     part: &P,
@@ -33,14 +33,14 @@ pub fn by_or<'t, P: Part<'t>>(
 ) -> Read<'t, Vec<P::Tree>>
     requires ready { P.is_ready part.now text.now }
     requires tokens { AreTokens text.now tokens.now }
-    ensures read { ReadsAs (λ x. map P.view x.items) (by_or_at (P.reader part.now))
+    ensures read { ReadsAs (λ x. map P.view x.items) (by_union_mark_at (P.reader part.now))
         text.now tokens.now result }
     ensures rest { IfOk result (λ x. AreTokens text.now x.1.now) }
 {
     let mut parts = Vec::new(alloc);
     let (first, mut rest) = part.read(alloc, text, tokens)?;
     parts.push(first)?;
-    while let Some(after) = or(text, rest) {
+    while let Some(after) = union_mark(text, rest) {
         let (next, after) = part.read(alloc, text, after)?;
         parts.push(next)?;
         rest = after;

@@ -9,7 +9,7 @@ use Rattle.asn_base.specs.Types.{Alternative, Kind, a_null, Component, Resolved,
 use Rattle.asn_base.specs.Typed.{ValueIn, value_in, ValueOf, of_leaf, of_sequence, of_set, of_sequence_of, of_set_of, of_choice, AreComponents, component_absent, component_present, AreElements, one_element}
 use Rattle.asn_base.specs.Schemas.{AreListed, IsSound, IsSchema}
 use Rattle.encodings.specs.Header.{identifier, LengthOf, short, long}
-use Rattle.encodings.specs.Account.{Numbers, Account, header, Inside, wrap_row, Rows, HeaderTold, Headed, headed_bare, headed_innermost, headed_outer, StandAt, Tells, tells, TellsInside, leaf_told, sequence_told, set_told, sequence_of_told, set_of_told, choice_told, TellsMembers, no_member_told, absent_told, absent_default_told, default_told, member_told, TellsElements, no_element_told, element_told}
+use Rattle.encodings.specs.Account.{Numbers, Account, header, Inside, wrap_row, Rows, HeaderHasNumbers, Headed, headed_bare, headed_innermost, headed_outer, ArePlacedAt, Describes, describes, ContentsHaveRows, leaf_listed, sequence_listed, set_listed, sequence_of_listed, set_of_listed, choice_listed, MembersHaveRows, no_member_listed, absent_listed, absent_default_listed, default_listed, member_listed, ElementsHaveRows, no_element_listed, element_listed}
 use Rattle.octet_account.specs.Flat.{count, IsSmall, AreSmall, AllWritten, IsWithin, IsInsideWithin, AreRowsWithin}
 
 abbrev tags_at : Option Resolved → List Tag
@@ -38,10 +38,10 @@ value_at {s} {n} {v = v} e a = subst (λ q. ValueIn s n q v) e a
 
 -- ---- headers
 
-small : {t : Tag} {c : Bool} {n : ℕ} {h : List ℕ} {z : Numbers} → HeaderTold t c n h z → length h ≤ 16777216 → n ≤ 16777216 → AreSmall z
+small : {t : Tag} {c : Bool} {n : ℕ} {h : List ℕ} {z : Numbers} → HeaderHasNumbers t c n h z → length h ≤ 16777216 → n ≤ 16777216 → AreSmall z
 small a l m =
-    let e = a.size_told in
-    let f = a.contents_told in
+    let e = a.size_counted in
+    let f = a.contents_counted in
     record { identifier_small = omega arith; size_small = omega arith; contents_small = omega arith }
 
 -- as many rows as headers around what is within
@@ -84,7 +84,7 @@ found_at [] i h = absurd (omega arith)
 found_at (j ∷ p) zero h = (j, refl)
 found_at (k ∷ p) (suc i) h = found_at p i (omega arith)
 
-standing_short : {p q : List ℕ} {xs zs : List (List ℕ)} (m : ℕ) → StandAt p q xs zs → length (concat zs) ≤ m → AllByRecursion (λ x. length x ≤ m) xs
+standing_short : {p q : List ℕ} {xs zs : List (List ℕ)} (m : ℕ) → ArePlacedAt p q xs zs → length (concat zs) ≤ m → AllByRecursion (λ x. length x ≤ m) xs
 standing_short {p} {q} {xs} {zs} m a l = all_short m xs (λ i x e.
     (let b = slice_get_within xs i x e in
     let r = a.are_places.each_member in
@@ -95,10 +95,10 @@ all_small : (m : ℕ) (p : List ℕ) → m ≤ 16777217 → ((i j : ℕ) → sli
 all_small m [] l h = tt
 all_small m (j ∷ p) l h = (let b = h 0 j refl in omega arith, all_small m p l (λ i k. h (suc i) k))
 
-places_small : {p q : List ℕ} {xs zs : List (List ℕ)} → StandAt p q xs zs → length xs ≤ 16777216 → AllByRecursion IsSmall p
+places_small : {p q : List ℕ} {xs zs : List (List ℕ)} → ArePlacedAt p q xs zs → length xs ≤ 16777216 → AllByRecursion IsSmall p
 places_small {p} {q} {xs} a l = all_small (length xs) p (omega arith) (λ i j e. (let b = slice_get_within q j i (a.are_places.there i j e) in let r = a.are_places.each_place in omega arith))
 
-inverse_small : {p q : List ℕ} {xs zs : List (List ℕ)} → StandAt p q xs zs → length xs ≤ 16777216 → AllByRecursion IsSmall q
+inverse_small : {p q : List ℕ} {xs zs : List (List ℕ)} → ArePlacedAt p q xs zs → length xs ≤ 16777216 → AllByRecursion IsSmall q
 inverse_small {p} {q} {xs} a l = all_small (length xs) q (omega arith) (λ j i e. (let b = slice_get_within p i j (a.are_places.back i j e) in let r = a.are_places.each_member in omega arith))
 
 -- each encoding has some octets
@@ -109,25 +109,25 @@ as_many_octets : (xs : List (List ℕ)) → AllSome xs → length xs ≤ length 
 as_many_octets [] a = omega arith
 as_many_octets (x ∷ xs) a = let l = as_many_octets xs a.1 in let b = a.0 in omega (arith, l, b, length-append x (concat xs))
 
-elements_count : {s : List Resolved} {u : ℕ} {vs : Row} {xs : List (List ℕ)} {rs : Rows} → TellsElements s u vs xs rs → count rs ≡ length xs
-elements_count no_element_told = refl
-elements_count (element_told a d) = ap suc (elements_count d)
+elements_count : {s : List Resolved} {u : ℕ} {vs : Row} {xs : List (List ℕ)} {rs : Rows} → ElementsHaveRows s u vs xs rs → count rs ≡ length xs
+elements_count no_element_listed = refl
+elements_count (element_listed a d) = ap suc (elements_count d)
 
-elements_written : {s : List Resolved} {u : ℕ} {vs : Row} {xs : List (List ℕ)} {rs : Rows} → TellsElements s u vs xs rs → AllWritten rs
-elements_written no_element_told = tt
-elements_written (element_told a d) = elements_written d
+elements_written : {s : List Resolved} {u : ℕ} {vs : Row} {xs : List (List ℕ)} {rs : Rows} → ElementsHaveRows s u vs xs rs → AllWritten rs
+elements_written no_element_listed = tt
+elements_written (element_listed a d) = elements_written d
 
-members_count : {s : List Resolved} {cs : List Component} {vs : Row} {xs : List (List ℕ)} {rs : Rows} → TellsMembers s cs vs xs rs → (count rs ≡ length cs) × (length xs ≤ length cs)
-members_count no_member_told = (refl, omega arith)
-members_count (absent_told n d) = let r = members_count d in (ap suc r.0, (let l = r.1 in omega arith))
-members_count (absent_default_told x e d) = let r = members_count d in (ap suc r.0, (let l = r.1 in omega arith))
-members_count (default_told e d) = let r = members_count d in (ap suc r.0, (let l = r.1 in omega arith))
-members_count (member_told n a d) = let r = members_count d in (ap suc r.0, (let l = r.1 in omega arith))
+members_count : {s : List Resolved} {cs : List Component} {vs : Row} {xs : List (List ℕ)} {rs : Rows} → MembersHaveRows s cs vs xs rs → (count rs ≡ length cs) × (length xs ≤ length cs)
+members_count no_member_listed = (refl, omega arith)
+members_count (absent_listed n d) = let r = members_count d in (ap suc r.0, (let l = r.1 in omega arith))
+members_count (absent_default_listed x e d) = let r = members_count d in (ap suc r.0, (let l = r.1 in omega arith))
+members_count (default_listed e d) = let r = members_count d in (ap suc r.0, (let l = r.1 in omega arith))
+members_count (member_listed n a d) = let r = members_count d in (ap suc r.0, (let l = r.1 in omega arith))
 
 few_members : {s : List Resolved} {e : Bool} {cs : List Component} → AreListed s e cs → length cs ≤ 16777216
 few_members l = let e = ap length l.parts in let a = l.few_root in let b = l.few_more in omega (arith, e, a, b, length-append l.root l.more)
 
-some_placed : {p q : List ℕ} {xs zs : List (List ℕ)} → StandAt p q xs zs → AllSome xs → AllSome zs
+some_placed : {p q : List ℕ} {xs zs : List (List ℕ)} → ArePlacedAt p q xs zs → AllSome xs → AllSome zs
 some_placed {p} {q} {xs} {zs} a h = each zs (λ j x e.
     (let b = slice_get_within zs j x e in
     let l = a.as_many in
@@ -152,69 +152,69 @@ some_size : {n : ℕ} {l : List ℕ} → LengthOf n l → 1 ≤ length l
 some_size (short h) = omega arith
 some_size (long {ds = ds} f) = omega arith
 
-some_header : {t : Tag} {c : Bool} {n : ℕ} {h : List ℕ} {z : Numbers} → HeaderTold t c n h z → 1 ≤ length h
+some_header : {t : Tag} {c : Bool} {n : ℕ} {h : List ℕ} {z : Numbers} → HeaderHasNumbers t c n h z → 1 ≤ length h
 some_header {t} {c} a =
     let b = a.is_header.header in
     let e = ap length b.whole in
     omega (arith, e, some_size b.is_size, length-append (identifier t.class t.number c) b.size)
 
 mutual
-  some_octets : {s : List Resolved} {t : ℕ} {v : AbstractValue} {o : List ℕ} {a : Account} → Tells s t v o a → 1 ≤ length o
-  some_octets (tells i (choice_told g d) headed_bare) = some_octets d
-  some_octets (tells i d (headed_innermost {h = h} {x = x} k)) = omega (arith, some_header k, length-append h x)
-  some_octets (tells i d (headed_outer {h = h} {y = y} f k)) = omega (arith, some_header k, length-append h y)
+  some_octets : {s : List Resolved} {t : ℕ} {v : AbstractValue} {o : List ℕ} {a : Account} → Describes s t v o a → 1 ≤ length o
+  some_octets (describes i (choice_listed g d) headed_bare) = some_octets d
+  some_octets (describes i d (headed_innermost {h = h} {x = x} k)) = omega (arith, some_header k, length-append h x)
+  some_octets (describes i d (headed_outer {h = h} {y = y} f k)) = omega (arith, some_header k, length-append h y)
 
-all_some : {s : List Resolved} {u : ℕ} {vs : Row} {xs : List (List ℕ)} {rs : Rows} → TellsElements s u vs xs rs → AllSome xs
-all_some no_element_told = tt
-all_some (element_told a d) = (some_octets a, all_some d)
+all_some : {s : List Resolved} {u : ℕ} {vs : Row} {xs : List (List ℕ)} {rs : Rows} → ElementsHaveRows s u vs xs rs → AllSome xs
+all_some no_element_listed = tt
+all_some (element_listed a d) = (some_octets a, all_some d)
 
 module _ (s : List Resolved) (schema : IsSchema s) where
   mutual
-    account_within : {m t : ℕ} {v : AbstractValue} {o : List ℕ} {a : Account} → Tells s t v o a → ValueIn s m t v → length o ≤ 16777216 → (n : ℕ) → 6 * m + 1 ≤ n → IsWithin n a
-    account_within (tells {tags = tags} {x = x} {a = a} i d h) (value_in {n = m} j b) l n g =
+    account_within : {m t : ℕ} {v : AbstractValue} {o : List ℕ} {a : Account} → Describes s t v o a → ValueIn s m t v → length o ≤ 16777216 → (n : ℕ) → 6 * m + 1 ≤ n → IsWithin n a
+    account_within (describes {tags = tags} {x = x} {a = a} i d h) (value_in {n = m} j b) l n g =
         let few : length tags ≤ 6 = schema.few_tags _ _ _ i in
         let w = inside_within (schema.sound _ _ _ i) d (value_of_at (same_kind i j) b) (let e = headed_longer h in omega arith) (n - length tags) (omega arith) in
         subst (λ k. IsWithin k a) (let e : length tags + (n - length tags) ≡ n = omega arith in e) (headed_within (n - length tags) h l w)
 
-    inside_within : {m : ℕ} {k : Kind} {v : AbstractValue} {c : Bool} {x : List ℕ} {i : Inside} → IsSound s k → TellsInside s k v c x i → ValueOf s m k v → length x ≤ 16777216 → (n : ℕ) → 6 * m + 1 ≤ n → IsInsideWithin n i
-    inside_within sound (leaf_told t e con) b l n g = tt
-    inside_within sound (sequence_told d) (of_leaf f) l n g = elim f [ ]
-    inside_within sound (sequence_told {xs = xs} d) (of_sequence b w) l n g =
+    inside_within : {m : ℕ} {k : Kind} {v : AbstractValue} {c : Bool} {x : List ℕ} {i : Inside} → IsSound s k → ContentsHaveRows s k v c x i → ValueOf s m k v → length x ≤ 16777216 → (n : ℕ) → 6 * m + 1 ≤ n → IsInsideWithin n i
+    inside_within sound (leaf_listed t e con) b l n g = tt
+    inside_within sound (sequence_listed d) (of_leaf f) l n g = elim f [ ]
+    inside_within sound (sequence_listed {xs = xs} d) (of_sequence b w) l n g =
         let c = members_count d in
         let e = c.0 in
         let f = few_members sound in
         (omega arith, members_within d b (each_short 16777216 xs l) n g)
-    inside_within sound (set_told d at) (of_leaf f) l n g = elim f [ ]
-    inside_within sound (set_told d at) (of_set b w) l n g =
+    inside_within sound (set_listed d at) (of_leaf f) l n g = elim f [ ]
+    inside_within sound (set_listed d at) (of_set b w) l n g =
         let c = members_count d in
         let e = c.0 in
         let k = c.1 in
         let f = few_members sound.0 in
         (omega arith, members_within d b (standing_short 16777216 at l) n g, places_small at (omega arith), inverse_small at (omega arith))
-    inside_within sound (sequence_of_told d) (of_leaf f) l n g = elim f [ ]
-    inside_within sound (sequence_of_told {xs = xs} d) (of_sequence_of b w) l n g =
+    inside_within sound (sequence_of_listed d) (of_leaf f) l n g = elim f [ ]
+    inside_within sound (sequence_of_listed {xs = xs} d) (of_sequence_of b w) l n g =
         let c = elements_count d in
         let f = as_many_octets xs (all_some d) in
         (omega arith, elements_within d b (each_short 16777216 xs l) n g, elements_written d)
-    inside_within sound (set_of_told d at) (of_leaf f) l n g = elim f [ ]
-    inside_within sound (set_of_told {zs = zs} d at) (of_set_of b w) l n g =
+    inside_within sound (set_of_listed d at) (of_leaf f) l n g = elim f [ ]
+    inside_within sound (set_of_listed {zs = zs} d at) (of_set_of b w) l n g =
         let c = elements_count d in
         let f = as_many_octets zs (some_placed at (all_some d)) in
         let k = at.as_many in
         (omega arith, elements_within d b (standing_short 16777216 at l) n g, elements_written d, places_small at (omega arith), inverse_small at (omega arith))
-    inside_within sound (choice_told h d) (of_leaf f) l n g = elim f [ ]
-    inside_within sound (choice_told h d) (of_choice j b) l n g = account_within d (value_at (alternative_type h j) b) l n g
+    inside_within sound (choice_listed h d) (of_leaf f) l n g = elim f [ ]
+    inside_within sound (choice_listed h d) (of_choice j b) l n g = account_within d (value_at (alternative_type h j) b) l n g
 
-    members_within : {m : ℕ} {cs : List Component} {vs : Row} {xs : List (List ℕ)} {rs : Rows} → TellsMembers s cs vs xs rs → AreComponents s m cs vs → AllByRecursion (λ x. length x ≤ 16777216) xs → (n : ℕ) → 6 * m + 1 ≤ n → AreRowsWithin n rs
-    members_within no_member_told b l n g = tt
-    members_within (absent_told e d) (component_absent b bs) l n g = (omega arith, members_within d bs l n g)
-    members_within (absent_default_told x e d) (component_absent b bs) l n g = (omega arith, members_within d bs l n g)
-    members_within (default_told e d) (component_present b bs) l n g = (omega arith, members_within d bs l n g)
-    members_within (member_told e a d) (component_present b bs) l n g = (account_within a b l.0 n g, members_within d bs l.1 n g)
+    members_within : {m : ℕ} {cs : List Component} {vs : Row} {xs : List (List ℕ)} {rs : Rows} → MembersHaveRows s cs vs xs rs → AreComponents s m cs vs → AllByRecursion (λ x. length x ≤ 16777216) xs → (n : ℕ) → 6 * m + 1 ≤ n → AreRowsWithin n rs
+    members_within no_member_listed b l n g = tt
+    members_within (absent_listed e d) (component_absent b bs) l n g = (omega arith, members_within d bs l n g)
+    members_within (absent_default_listed x e d) (component_absent b bs) l n g = (omega arith, members_within d bs l n g)
+    members_within (default_listed e d) (component_present b bs) l n g = (omega arith, members_within d bs l n g)
+    members_within (member_listed e a d) (component_present b bs) l n g = (account_within a b l.0 n g, members_within d bs l.1 n g)
 
-    elements_within : {m u : ℕ} {vs : Row} {xs : List (List ℕ)} {rs : Rows} → TellsElements s u vs xs rs → AreElements s m u vs → AllByRecursion (λ x. length x ≤ 16777216) xs → (n : ℕ) → 6 * m + 1 ≤ n → AreRowsWithin n rs
-    elements_within no_element_told b l n g = tt
-    elements_within (element_told a d) (one_element b bs) l n g = (account_within a b l.0 n g, elements_within d bs l.1 n g)
+    elements_within : {m u : ℕ} {vs : Row} {xs : List (List ℕ)} {rs : Rows} → ElementsHaveRows s u vs xs rs → AreElements s m u vs → AllByRecursion (λ x. length x ≤ 16777216) xs → (n : ℕ) → 6 * m + 1 ≤ n → AreRowsWithin n rs
+    elements_within no_element_listed b l n g = tt
+    elements_within (element_listed a d) (one_element b bs) l n g = (account_within a b l.0 n g, elements_within d bs l.1 n g)
 
-  pub within : (t : ℕ) (v : AbstractValue) (o : List ℕ) (a : Account) → ValueIn s 64 t v → length o ≤ 16777216 → Tells s t v o a → IsWithin 400 a
+  pub within : (t : ℕ) (v : AbstractValue) (o : List ℕ) (a : Account) → ValueIn s 64 t v → length o ≤ 16777216 → Describes s t v o a → IsWithin 400 a
   within t v o a b l d = account_within d b l 400 (omega arith)

@@ -1,28 +1,28 @@
 //! The ends of the members of SET and SET OF by their places. They are an index beside the rows for readers of
 //! accounts.
 
-ghost use Rattle.std.specs.Prelude.{◌≡◌};
-ghost use Rattle.octet_account.specs.Seen.{flat, told_of};
+ghost use Rattle.std.specs.Prelude.{◌≡◌, ◌<◌, length};
+ghost use Rattle.octet_account.specs.Seen.{flat, flat_row};
 
-use crate::row::{Places, Row, Told};
+use crate::row::{Places, Row, RowLayout};
 
 /// How many members or rows are directly in this row.
-fn rows_below(told: &Told) -> u32 {
-    match told {
-        Told::Leaf(_) | Told::Absent | Told::Default => 0,
-        Told::Wrap(_) => 1,
-        Told::Seq(_, members) | Told::SeqOf(_, members) => *members,
-        Told::Set(_, places) | Told::SetOf(_, places) => places.members,
+fn rows_below(listed: &RowLayout) -> u32 {
+    match listed {
+        RowLayout::Leaf(_) | RowLayout::Absent | RowLayout::Default => 0,
+        RowLayout::Wrap(_) => 1,
+        RowLayout::Seq(_, members) | RowLayout::SeqOf(_, members) => *members,
+        RowLayout::Set(_, places) | RowLayout::SetOf(_, places) => places.members,
     }
 }
 
 /// How many octets a row gives, those of its header included, or None if it has no header.
-fn octets_told(told: &Told) -> Option<u32> {
-    let numbers = match told {
-        Told::Leaf(numbers) | Told::Wrap(numbers) => numbers,
-        Told::Seq(numbers, _) | Told::SeqOf(numbers, _) => numbers,
-        Told::Set(numbers, _) | Told::SetOf(numbers, _) => numbers,
-        Told::Absent | Told::Default => return None,
+fn octet_count(listed: &RowLayout) -> Option<u32> {
+    let numbers = match listed {
+        RowLayout::Leaf(numbers) | RowLayout::Wrap(numbers) => numbers,
+        RowLayout::Seq(numbers, _) | RowLayout::SeqOf(numbers, _) => numbers,
+        RowLayout::Set(numbers, _) | RowLayout::SetOf(numbers, _) => numbers,
+        RowLayout::Absent | RowLayout::Default => return None,
     };
     let header = numbers.identifier.saturating_add(numbers.size);
     Some(header.saturating_add(numbers.contents))
@@ -38,11 +38,11 @@ fn next(rows: &[Row], at: u32) -> u32 {
     }
 }
 
-/// How many rows a member has whose first row this is. `behind` are the rows after that one, and their spans are known.
-fn span_of(told: &Told, behind: &[Row]) -> u32 {
+/// How many rows a member has whose first row this is. `after` are the rows after that one, and their spans are known.
+fn span_of(listed: &RowLayout, after: &[Row]) -> u32 {
     let mut at: u32 = 0;
-    for _ in 0..rows_below(told) {
-        at = next(behind, at);
+    for _ in 0..rows_below(listed) {
+        at = next(after, at);
     }
     at.saturating_add(1)
 }
@@ -63,7 +63,7 @@ fn put_sizes(ends: &mut [u32], places: &[u32], members: u32, rows: &[Row]) {
         if first >= rows.len() {
             return;
         }
-        if let Some(size) = octets_told(&rows[first].told) {
+        if let Some(size) = octet_count(&rows[first].listed) {
             if number < places.len() {
                 put(ends, places[number] as usize, size);
             }
@@ -99,29 +99,67 @@ fn places_with_ends(mut set: Box<Places>, rows: &[Row]) -> Box<Places>
     set
 }
 
-/// The same row with its span and the ends of its places. `behind` are the rows after it, which have these already.
-fn row_with_ends(told: Told, behind: &[Row]) -> Row
-    ensures { told_of result.told ≡ told_of told }
+/// The same row with its span and the ends of its places. `after` are the rows after it, which have these already.
+fn row_with_ends(listed: RowLayout, after: &[Row]) -> Row
+    ensures { flat_row result.listed ≡ flat_row listed }
 {
-    let span = span_of(&told, behind);
-    let told = match told {
-        Told::Set(numbers, places) => Told::Set(numbers, places_with_ends(places, behind)),
-        Told::SetOf(numbers, places) => Told::SetOf(numbers, places_with_ends(places, behind)),
-        told => told,
+    let span = span_of(&listed, after);
+    let listed = match listed {
+        RowLayout::Set(numbers, places) => RowLayout::Set(numbers, places_with_ends(places, after)),
+        RowLayout::SetOf(numbers, places) => RowLayout::SetOf(
+            numbers,
+            places_with_ends(places, after),
+        ),
+        listed => listed,
     };
-    Row { told, span }
+    Row { listed, span }
 }
 
-/// The same rows with their spans and the ends of their places.
+/// Whether the row has places.
+#[inline(always)]
+fn has_places(listed: &RowLayout) -> bool {
+    match listed {
+        RowLayout::Set(_, _) | RowLayout::SetOf(_, _) => true,
+        RowLayout::Leaf(_) | RowLayout::Wrap(_) => false,
+        RowLayout::Seq(_, _) | RowLayout::SeqOf(_, _) => false,
+        RowLayout::Absent | RowLayout::Default => false,
+    }
+}
+
+/// Sets the span of the row at this place. The rows after it have theirs.
+fn set_span(rows: &mut [Row], at: usize)
+    requires { at < length rows.old }
+    ensures { flat rows.new ≡ flat rows.old }
+{
+    let all = &rows[..];
+    let span = span_of(&all[at].listed, &all[at + 1..]);
+    rows[at].span = span;
+}
+
+/// Sets the span of the row at this place and the ends of its places. The rows after it have these already.
+fn set_ends(rows: &mut [Row], at: usize)
+    requires { at < length rows.old }
+    ensures { flat rows.new ≡ flat rows.old }
+{
+    if !has_places(&rows[at].listed) {
+        set_span(rows, at);
+        return;
+    }
+    let row = std::mem::replace(&mut rows[at], Row::of(RowLayout::Absent));
+    let (_, after) = rows.split_at(at + 1);
+    let row = row_with_ends(row.listed, after);
+    rows[at] = row;
+}
+
+/// The same rows with their spans and the ends of their places. A row without members has its span already.
 pub(crate) fn with_ends(mut rows: Vec<Row>) -> Vec<Row>
     ensures { flat result.items ≡ flat rows.items }
 {
     for done in 0..rows.len() {
         let at = rows.len() - 1 - done;
-        let row = std::mem::replace(&mut rows[at], Row::of(Told::Absent));
-        let (_, behind) = rows.as_slice().split_at(at + 1);
-        let row = row_with_ends(row.told, behind);
-        rows[at] = row;
+        if rows[at].span == 0 {
+            set_ends(rows.as_mut_slice(), at);
+        }
     }
     rows
 }

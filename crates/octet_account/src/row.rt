@@ -50,7 +50,7 @@ impl Places {
 
 /// One row of an account. Each row comes before those of its members.
 #[derive(Drop)]
-pub enum Told {
+pub enum RowLayout {
     /// A value without other values in it.
     Leaf(Numbers),
     /// An explicit tag. One row, with the rows in it, follows.
@@ -72,17 +72,29 @@ pub enum Told {
 /// A row in an account.
 #[derive(Drop)]
 pub struct Row {
-    pub told: Told,
-    /// How many rows the member has that begins with this row. Only an account sets it.
+    pub listed: RowLayout,
+    /// How many rows the member has that begins with this row. Until an account sets it, it is 0 in rows with members.
     pub(crate) span: u32,
+}
+
+/// How many rows begin with this one: 1 if no rows are in it, or else 0, since the number isn't known yet.
+#[inline(always)]
+fn first_span(listed: &RowLayout) -> u32 {
+    match listed {
+        RowLayout::Leaf(_) | RowLayout::Absent | RowLayout::Default => 1,
+        RowLayout::Wrap(_) | RowLayout::Seq(_, _) | RowLayout::SeqOf(_, _) => 0,
+        RowLayout::Set(_, _) | RowLayout::SetOf(_, _) => 0,
+    }
 }
 
 impl Row {
     /// The row with this content.
-    pub fn of(told: Told) -> Self
-        ensures { result.told ≡ told }
+    #[inline(always)]
+    pub fn of(listed: RowLayout) -> Self
+        ensures { result.listed ≡ listed }
     {
-        Row { told, span: 0 }
+        let span = first_span(&listed);
+        Row { listed, span }
     }
 }
 

@@ -9,13 +9,13 @@ use Rattle.encodings.specs.Header.{Header, LengthOf, short, long, identifier}
 use Rattle.codec_code.specs.declared.step.Head.{Head}
 use Rattle.codec_code.specs.declared.step.Field.{Field as Field'}
 use Rattle.codec_code.specs.declared.step.Step.{Step}
-use Rattle.codec_source.specs.Events.{Event, Alike, stands, more, among, picks}
-use Rattle.codec_source.specs.Events.{both_begin, both_end, both_open, both_close, both_hold, both_skip, both_stand, both_more, both_among, both_pick}
+use Rattle.codec_source.specs.Events.{Event, Alike, comes, more, among, picks}
+use Rattle.codec_source.specs.Events.{both_begin, both_end, both_open, both_close, both_hold, both_skip, both_come, both_more, both_among, both_pick}
 use Rattle.codec_code.specs.Routines.{routine_at}
 use Rattle.octet_answers.specs.Units.{UnitAt}
-use Rattle.octet_answers.specs.States.{State, chosen, telling, begun_at, ended_at, opened_at, closed_at, marked, passing}
+use Rattle.octet_answers.specs.States.{State, chosen, with_token, begun_at, ended_at, opened_at, closed_at, marked, passing}
 use Rattle.octet_answers.specs.Found.{IsFound, found, not_yet, IsChosen, chosen as chosen', later, last_steps, Passes, at_end_of_contents, at_component, passes}
-use Rattle.octet_answers.specs.Answers.{Begins, Ends, Opens, Closes, Skips, IsNext, IsAbsent, Chooses, StandsNext, MoreNext, AmongNext, Answers, Takes}
+use Rattle.octet_answers.specs.Answers.{Begins, Ends, Opens, Closes, Skips, IsNext, IsAbsent, Chooses, FieldNext, MoreNext, NextInSet, Answers, Takes}
 
 abbrev head_or_0 : List ℕ → ℕ
 head_or_0 [] = 0
@@ -127,7 +127,7 @@ module _ (headers : Headers) where
 
   begins_once : (a b c : State) (t : TypeId) → Begins a t b → Begins a t c → b ≡ c
   begins_once a b c t x y =
-      let e : x.left ≡ y.left = (let i = x.has_room in let j = y.has_room in omega arith) in
+      let e : x.left ≡ y.left = (let i = x.has_budget in let j = y.has_budget in omega arith) in
       x.is ∙ ap (begun_at a t) e ∙ sym y.is
 
   ends_once : (a b c : State) → Ends a b → Ends a c → b ≡ c
@@ -140,8 +140,8 @@ module _ (headers : Headers) where
 
   closes_once : (a b c : State) → Closes a b → Closes a c → b ≡ c
   closes_once a b c x y =
-      let w = snoc_same x.others y.others x.window y.window (sym x.is_open ∙ y.is_open) in
-      x.is ∙ ap (λ q. closed_at a q x.others) w.1 ∙ ap (closed_at a y.window) w.0 ∙ sym y.is
+      let w = snoc_same x.others y.others x.open_contents y.open_contents (sym x.is_open ∙ y.is_open) in
+      x.is ∙ ap (λ q. closed_at a q x.others) w.1 ∙ ap (closed_at a y.open_contents) w.0 ∙ sym y.is
 
   skips_once : (a b c : State) → Skips a b → Skips a c → b ≡ c
   skips_once a b c x y =
@@ -152,11 +152,11 @@ module _ (headers : Headers) where
   next_or_not a b c f x y =
       ⊎_elim (λ e. never_empty x.unit e) (λ o. o.not_first (subst (λ g. First a.schema f.ty.index g) (unit_once x.unit o.unit).tags x.first)) y.next
 
-  stands_once : (a b c : State) (f : Field') (p q : Bool) → StandsNext a f p b → StandsNext a f q c → (p ≡ q) × (b ≡ c)
-  stands_once a b c f true true x y = (refl, x.is ∙ sym y.is)
-  stands_once a b c f true false x y = absurd (next_or_not a b c f x y)
-  stands_once a b c f false true x y = absurd (next_or_not a c b f y x)
-  stands_once a b c f false false x y = (refl, x.is ∙ sym y.is)
+  comes_once : (a b c : State) (f : Field') (p q : Bool) → FieldNext a f p b → FieldNext a f q c → (p ≡ q) × (b ≡ c)
+  comes_once a b c f true true x y = (refl, x.is ∙ sym y.is)
+  comes_once a b c f true false x y = absurd (next_or_not a b c f x y)
+  comes_once a b c f false true x y = absurd (next_or_not a c b f y x)
+  comes_once a b c f false false x y = (refl, x.is ∙ sym y.is)
 
   more_once : (a b c : State) (p q : Bool) → MoreNext a p b → MoreNext a q c → (p ≡ q) × (b ≡ c)
   more_once a b c true true x y = (refl, x.is ∙ sym y.is)
@@ -164,7 +164,7 @@ module _ (headers : Headers) where
   more_once a b c false true x y = absurd (let l = ap length x.none in let m = y.some in omega arith)
   more_once a b c false false x y = (refl, x.is ∙ sym y.is)
 
-  among_once : (a b c : State) (ss : List Step) (t u : Option TypeId) → AmongNext a ss t b → AmongNext a ss u c → (t ≡ u) × (b ≡ c)
+  among_once : (a b c : State) (ss : List Step) (t u : Option TypeId) → NextInSet a ss t b → NextInSet a ss u c → (t ≡ u) × (b ≡ c)
   among_once a b c ss (Some t) (Some u) x y =
       let w = passes_once x.pass y.pass in
       let e : x.field ≡ y.field = ap (or_field x.field) w.0 in (
@@ -178,19 +178,19 @@ module _ (headers : Headers) where
   picks_once : (a b c : State) (ss : List Step) (t u : TypeId) → Chooses a ss t b → Chooses a ss u c → (t ≡ u) × (b ≡ c)
   picks_once a b c ss t u x y =
       let w = chosen_once x.alternative (subst (λ q. IsChosen a.schema q ss y.index u) (sym (unit_once x.unit y.unit).tags) y.alternative) in
-      (w.1, x.is ∙ ap (λ q. telling a (chosen q)) w.0 ∙ sym y.is)
+      (w.1, x.is ∙ ap (λ q. with_token a (chosen q)) w.0 ∙ sym y.is)
 
-  pub one_answer : (a b c : State) (e f : Event) → Alike e f → Answers a e b → Answers a f c → (e ≡ f) × (b ≡ c)
-  one_answer a b c e f (both_begin {t = t}) x y = (refl, begins_once a b c t x y)
-  one_answer a b c e f both_end x y = (refl, ends_once a b c x y)
-  one_answer a b c e f (both_open {h = h}) x y = (refl, opens_once a b c h x y)
-  one_answer a b c e f both_close x y = (refl, closes_once a b c x y)
-  one_answer a b c e f both_hold x y = (refl, x.is ∙ sym y.is)
-  one_answer a b c e f both_skip x y = (refl, skips_once a b c x y)
-  one_answer a b c e f (both_stand {f = g} {b = p} {c = q}) x y = let r = stands_once a b c g p q x y in (ap (λ z. stands g z) r.0, r.1)
-  one_answer a b c e f (both_more {t = t} {s = s} {b = p} {c = q}) x y = let r = more_once a b c p q x y in (ap (λ z. more t s z) r.0, r.1)
-  one_answer a b c e f (both_among {ss = ss} {t = t} {u = u}) x y = let r = among_once a b c ss t u x y in (ap (λ z. among ss z) r.0, r.1)
-  one_answer a b c e f (both_pick {ss = ss} {t = t} {u = u}) x y = let r = picks_once a b c ss t u x y in (ap (λ z. picks ss z) r.0, r.1)
+  pub lemma_one_answer : (a b c : State) (e f : Event) → Alike e f → Answers a e b → Answers a f c → (e ≡ f) × (b ≡ c)
+  lemma_one_answer a b c e f (both_begin {t = t}) x y = (refl, begins_once a b c t x y)
+  lemma_one_answer a b c e f both_end x y = (refl, ends_once a b c x y)
+  lemma_one_answer a b c e f (both_open {h = h}) x y = (refl, opens_once a b c h x y)
+  lemma_one_answer a b c e f both_close x y = (refl, closes_once a b c x y)
+  lemma_one_answer a b c e f both_hold x y = (refl, x.is ∙ sym y.is)
+  lemma_one_answer a b c e f both_skip x y = (refl, skips_once a b c x y)
+  lemma_one_answer a b c e f (both_come {f = g} {b = p} {c = q}) x y = let r = comes_once a b c g p q x y in (ap (λ z. comes g z) r.0, r.1)
+  lemma_one_answer a b c e f (both_more {t = t} {s = s} {b = p} {c = q}) x y = let r = more_once a b c p q x y in (ap (λ z. more t s z) r.0, r.1)
+  lemma_one_answer a b c e f (both_among {ss = ss} {t = t} {u = u}) x y = let r = among_once a b c ss t u x y in (ap (λ z. among ss z) r.0, r.1)
+  lemma_one_answer a b c e f (both_pick {ss = ss} {t = t} {u = u}) x y = let r = picks_once a b c ss t u x y in (ap (λ z. picks ss z) r.0, r.1)
 
   pub takes : (a b : State) (e : Event) → Answers a e b → Takes a e b
-  takes a b e x = record { answer = x; only = λ f c k y. one_answer a b c e f k x y }
+  takes a b e x = record { answer = x; only = λ f c k y. lemma_one_answer a b c e f k x y }

@@ -13,18 +13,18 @@ use Rattle.codec_code.specs.declared.step.Field.{Field}
 use Rattle.codec_code.specs.declared.step.Step.{Step}
 use Rattle.codec_code.specs.Steps.{may_be_absent}
 use Rattle.codec_code.specs.Routines.{routine_at}
-use Rattle.leaf_readings.specs.Leaves.{IsReadAs}
+use Rattle.primitive_reader.specs.Leaves.{IsReadAs}
 use Rattle.segmented_strings.specs.Joining.{IsJoinedAs}
-use Rattle.codec_source.specs.Events.{Event, Alike, begins, ends, opens, closes, holds, skips, stands, more, among, picks}
+use Rattle.codec_source.specs.Events.{Event, Alike, begins, ends, opens, closes, holds, skips, comes, more, among, picks}
 use Rattle.octet_answers.specs.Units.{UnitAt}
-use Rattle.octet_answers.specs.States.{Window, State, component, chosen, telling, begun_at, ended_at, opened_at, closed_at}
+use Rattle.octet_answers.specs.States.{OpenContents, State, component, chosen, with_token, begun_at, ended_at, opened_at, closed_at}
 use Rattle.octet_answers.specs.States.{held_at, marked}
 use Rattle.octet_answers.specs.Found.{IsChosen, is_extensible, last_steps, AreRead, Passes}
 
 -- a value of type t begins; at most 64 values are open inside each other, and a.room counts how many may still begin
 pub record Begins (a : State) (t : TypeId) (b : State) : Type 0 where
   pub left : ℕ
-  pub has_room : a.room ≡ suc left
+  pub has_budget : a.budget ≡ suc left
   pub few_levels : length a.values < 64
   pub is : b ≡ begun_at a t left
 
@@ -48,11 +48,11 @@ pub record Opens (a : State) (h : Head) (b : State) : Type 0 where
 
 -- the contents are read to their end
 pub record Closes (a b : State) : Type 0 where
-  pub window : Window
-  pub others : List Window
+  pub open_contents : OpenContents
+  pub others : List OpenContents
   pub none_left : a.here.octets ≡ []
-  pub is_open : a.outer ≡ others ++ window ∷ []
-  pub is : b ≡ closed_at a window others
+  pub is_open : a.outer ≡ others ++ open_contents ∷ []
+  pub is : b ≡ closed_at a open_contents others
 
 -- all that is left here are the contents octets of a value that holds no others, within the limit of 400 levels of
 -- headers. They are its own octets, or those of a string in segments
@@ -83,7 +83,7 @@ pub record IsNext (a : State) (f : Field) (b : State) : Type 0 where
   pub rest : Octets
   pub unit : UnitAt tag constructed count contents rest a.here.octets
   pub first : First a.schema f.ty.index tag
-  pub is : b ≡ telling a (component f.place)
+  pub is : b ≡ with_token a (component f.place)
 
 -- an encoding comes next whose tag can't be the first one of component f
 pub record IsOther (a : State) (f : Field) : Type 0 where
@@ -134,19 +134,19 @@ pub record Chooses (a : State) (calls : List Step) (t : TypeId) (b : State) : Ty
   pub unit : UnitAt tag constructed count contents rest a.here.octets
   pub index : ℕ
   pub alternative : IsChosen a.schema tag calls index t
-  pub is : b ≡ telling a (chosen index)
+  pub is : b ≡ with_token a (chosen index)
 
-abbrev pub StandsNext : State → Field → Bool → State → Type 0
-StandsNext a f true b = IsNext a f b
-StandsNext a f false b = IsAbsent a f b
+abbrev pub FieldNext : State → Field → Bool → State → Type 0
+FieldNext a f true b = IsNext a f b
+FieldNext a f false b = IsAbsent a f b
 
 abbrev pub MoreNext : State → Bool → State → Type 0
 MoreNext a true b = HasMore a b
 MoreNext a false b = HasNoMore a b
 
-abbrev pub AmongNext : State → List Step → Option TypeId → State → Type 0
-AmongNext a ss (Some t) b = HasComponent a ss t b
-AmongNext a ss None b = HasNoComponent a ss b
+abbrev pub NextInSet : State → List Step → Option TypeId → State → Type 0
+NextInSet a ss (Some t) b = HasComponent a ss t b
+NextInSet a ss None b = HasNoComponent a ss b
 
 -- an answer to any question, with the state after it
 abbrev pub Answers : State → Event → State → Type 0
@@ -156,9 +156,9 @@ Answers a (opens h) b = Opens a h b
 Answers a closes b = Closes a b
 Answers a (holds k) b = Holds a k b
 Answers a skips b = Skips a b
-Answers a (stands f there) b = StandsNext a f there b
+Answers a (comes f there) b = FieldNext a f there b
 Answers a (more t sorted there) b = MoreNext a there b
-Answers a (among ss t) b = AmongNext a ss t b
+Answers a (among ss t) b = NextInSet a ss t b
 Answers a (picks ss t) b = Chooses a ss t b
 
 -- an answer to its question that is the only one

@@ -9,7 +9,7 @@ use Rattle.asn_base.specs.Names.{IsMember}
 use Rattle.encodings.specs.Header.{Octets}
 use Rattle.codec_code.specs.declared.step.Field.{Field as Field'}
 use Rattle.codec_code.specs.declared.step.Step.{Step}
-use Rattle.codec_code.specs.declared.step.Step.TheVariants.{Field, Ranked}
+use Rattle.codec_code.specs.declared.step.Step.TheVariants.{Field, SetComponent}
 use Rattle.codec_code.specs.declared.step.Step.TheVariants.{Call, Rest}
 use Rattle.codec_code.specs.Steps.{may_be_absent}
 use Rattle.octet_answers.specs.Units.{UnitAt}
@@ -18,7 +18,7 @@ use Rattle.octet_answers.specs.States.{State, passing}
 -- the component that a step reads
 abbrev pub field_in : Step → Option Field'
 field_in (Field f) = Some f
-field_in (Ranked f r) = Some f
+field_in (SetComponent f r) = Some f
 field_in s = None
 
 -- the step reads a component whose first tag can be g
@@ -57,15 +57,15 @@ is_extensible [] = false
 is_extensible (p ∷ ss) = is_rest p || is_extensible ss
 
 -- the step reads a component that must be present
-abbrev pub must_stand : Step → Bool
-must_stand (Field f) = not (may_be_absent f.need)
-must_stand (Ranked f r) = not (may_be_absent f.need)
-must_stand s = false
+abbrev pub must_be_present : Step → Bool
+must_be_present (Field f) = not (may_be_absent f.need)
+must_be_present (SetComponent f r) = not (may_be_absent f.need)
+must_be_present s = false
 
 -- the steps after the last one that reads a component that must be present; `others` if no step does
 abbrev pub last_from : List Step → List Step → List Step
 last_from others [] = others
-last_from others (p ∷ ss) = if must_stand p then last_from ss ss else last_from others ss
+last_from others (p ∷ ss) = if must_be_present p then last_from ss ss else last_from others ss
 
 -- the steps after the last component that must be present, or all steps if no component must
 abbrev pub last_steps : List Step → List Step

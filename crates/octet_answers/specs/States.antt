@@ -7,7 +7,7 @@ use Rattle.encodings.specs.declared.leaf_kind.LeafKind.{LeafKind}
 
 -- Contents octets that are not read yet, and whether they are constructed. `at` is the place in the message of the
 -- first of them. `from` is how many components of the SETs around them were read.
-pub record Window : Type 0 where
+pub record OpenContents : Type 0 where
   pub constructed : Bool
   pub octets : Octets
   pub at : ℕ
@@ -28,49 +28,49 @@ pub data Token : Type 0 where
 
 -- `here` are the contents of the innermost open header; `outer` are the contents after each of the open ones, the
 -- outermost first. `values` are the types of the open values, the outermost first. `marks` are the places of the
--- components that were read of the open SETs. `told` is what was read, and `room` how many values may still begin.
+-- components that were read of the open SETs. `emitted` is what was read, and `budget` how many values may still begin.
 pub record State : Type 0 where
   pub schema : List Resolved
-  pub here : Window
-  pub outer : List Window
+  pub here : OpenContents
+  pub outer : List OpenContents
   pub values : List TypeId
   pub marks : List ℕ
-  pub told : List Token
-  pub room : ℕ
+  pub emitted : List Token
+  pub budget : ℕ
 
 -- the contents after a header of k octets and its contents x
-abbrev pub behind : Window → ℕ → Octets → Octets → Window
-behind w k x rest = record { constructed = w.constructed; octets = rest; at = w.at + (k + length x); from = w.from }
+abbrev pub following : OpenContents → ℕ → Octets → Octets → OpenContents
+following w k x rest = record { constructed = w.constructed; octets = rest; at = w.at + (k + length x); from = w.from }
 
 -- the contents x of a header of k octets; marks is how many components of SETs were read before
-abbrev pub inside : Window → Bool → ℕ → Octets → ℕ → Window
+abbrev pub inside : OpenContents → Bool → ℕ → Octets → ℕ → OpenContents
 inside w c k x marks = record { constructed = c; octets = x; at = w.at + k; from = marks }
 
 -- the end of the contents
-abbrev pub at_end : Window → Window
+abbrev pub at_end : OpenContents → OpenContents
 at_end w = record { constructed = w.constructed; octets = []; at = w.at + length w.octets; from = w.from }
 
-abbrev pub telling : State → Token → State
-telling a t = record {
+abbrev pub with_token : State → Token → State
+with_token a t = record {
   schema = a.schema;
   here = a.here;
   outer = a.outer;
   values = a.values;
   marks = a.marks;
-  told = a.told ++ t ∷ [];
-  room = a.room;
+  emitted = a.emitted ++ t ∷ [];
+  budget = a.budget;
 }
 
 -- the state after an addition that the type lacks
 abbrev pub passing : State → ℕ → Octets → Octets → State
 passing a k x rest = record {
   schema = a.schema;
-  here = behind a.here k x rest;
+  here = following a.here k x rest;
   outer = a.outer;
   values = a.values;
   marks = a.marks;
-  told = a.told ++ passed ∷ [];
-  room = a.room;
+  emitted = a.emitted ++ passed ∷ [];
+  budget = a.budget;
 }
 
 -- the state inside a value of type t
@@ -81,8 +81,8 @@ begun_at a t left = record {
   outer = a.outer;
   values = a.values ++ t ∷ [];
   marks = a.marks;
-  told = a.told ++ begun t ∷ [];
-  room = left;
+  emitted = a.emitted ++ begun t ∷ [];
+  budget = left;
 }
 
 -- the state after a value, with the others that are open
@@ -93,8 +93,8 @@ ended_at a others = record {
   outer = a.outer;
   values = others;
   marks = a.marks;
-  told = a.told ++ ended ∷ [];
-  room = a.room;
+  emitted = a.emitted ++ ended ∷ [];
+  budget = a.budget;
 }
 
 -- the state inside the contents of a header
@@ -102,23 +102,23 @@ abbrev pub opened_at : State → Bool → ℕ → Octets → Octets → State
 opened_at a c k x rest = record {
   schema = a.schema;
   here = inside a.here c k x (length a.marks);
-  outer = a.outer ++ behind a.here k x rest ∷ [];
+  outer = a.outer ++ following a.here k x rest ∷ [];
   values = a.values;
   marks = a.marks;
-  told = a.told;
-  room = a.room;
+  emitted = a.emitted;
+  budget = a.budget;
 }
 
 -- the state after contents
-abbrev pub closed_at : State → Window → List Window → State
+abbrev pub closed_at : State → OpenContents → List OpenContents → State
 closed_at a w others = record {
   schema = a.schema;
   here = w;
   outer = others;
   values = a.values;
   marks = take a.here.from a.marks;
-  told = a.told;
-  room = a.room;
+  emitted = a.emitted;
+  budget = a.budget;
 }
 
 -- the state after the contents octets of a value that holds no others
@@ -129,8 +129,8 @@ held_at a k = record {
   outer = a.outer;
   values = a.values;
   marks = a.marks;
-  told = a.told ++ held k a.here.constructed a.here.octets a.here.at ∷ [];
-  room = a.room;
+  emitted = a.emitted ++ held k a.here.constructed a.here.octets a.here.at ∷ [];
+  budget = a.budget;
 }
 
 -- the state before a component of a SET
@@ -141,18 +141,18 @@ marked a place = record {
   outer = a.outer;
   values = a.values;
   marks = a.marks ++ place ∷ [];
-  told = a.told ++ component place ∷ [];
-  room = a.room;
+  emitted = a.emitted ++ component place ∷ [];
+  budget = a.budget;
 }
 
 -- the state at the start of a message, in which room values may begin
 abbrev pub front : List Resolved → Octets → ℕ → State
-front s o room = record {
+front s o budget = record {
   schema = s;
   here = record { constructed = true; octets = o; at = 0; from = 0 };
   outer = [];
   values = [];
   marks = [];
-  told = [];
-  room = room;
+  emitted = [];
+  budget = budget;
 }

@@ -3,7 +3,7 @@
 ghost use Rattle.asn_base.specs.declared.tag.Tag.{Tag};
 ghost use Rattle.octet_answers.specs.Answers.{Answers, Takes};
 ghost use Rattle.octet_answers.specs.Asked.{question_of};
-ghost use Rattle.octet_answers.specs.Left.{Leaves};
+ghost use Rattle.octet_answers.specs.Unanswered.{Leaves};
 ghost use Rattle.octet_answers.specs.States.{State};
 ghost use Rattle.octet_answers.specs.Units.{UnitAt};
 ghost use Rattle.codec_source.specs.Events.{Alike, Event, Question};
@@ -11,12 +11,12 @@ ghost use Rattle.decode_faults.specs.declared.read_fault.ReadFault.{ReadFault};
 ghost use Rattle.std.specs.Prelude.{◌≡◌, ◌≤◌, Bool, List, [], length, ℕ};
 
 use encodings::header_laws;
-use leaf_readings::law::one_reading;
-use octets::law::one_front;
-use segmented_strings::law::one_joining;
+use octets::law::lemma_one_front;
+use primitive_reader::law::lemma_one_reading;
+use segmented_strings::law::lemma_one_joining;
 
 /// Octets answer a question in at most one way, with one state after it.
-pub fn one_answer()
+pub fn lemma_one_answer()
     ensures once { (a b c : State) (e f : Event)
         → Alike e f
         → Answers a e b
@@ -28,7 +28,7 @@ pub fn one_answer()
 }
 
 /// At most one encoding is at the start of octets, and none if there are no octets.
-pub fn one_unit()
+pub fn lemma_one_unit()
     ensures once { (g f : Tag) (c d : Bool) (k j : ℕ) (x y r s o : List ℕ)
         → UnitAt g c k x r o
         → UnitAt f d j y s o
@@ -40,7 +40,7 @@ pub fn one_unit()
 
 /// A question is refused with at most one fault, which leaves a reader in one state, and never if it has an answer. The
 /// octets left are no more than a message has.
-pub fn one_refusal()
+pub fn lemma_one_refusal()
     ensures once { (a b c : State) (q : Question) (e f : ReadFault)
         → length a.here.octets ≤ 16777216
         → Leaves a q b e
@@ -54,7 +54,7 @@ pub fn one_refusal()
         → ⊥ }
 {
     header_laws();
-    one_front();
-    one_reading();
-    one_joining();
+    lemma_one_front();
+    lemma_one_reading();
+    lemma_one_joining();
 }

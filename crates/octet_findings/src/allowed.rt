@@ -5,11 +5,11 @@ use crate::words::{counted, digits, offset};
 use asn_base::constraint::{Constraint, Range};
 use asn_base::schema::Core;
 use encodings::LeafKind;
-use leaf_readings::{Leaf, read_leaf};
 use messages::Finding;
 use octets::Form;
+use primitive_reader::{Leaf, read_leaf};
 use std::alloc::{AllocError, Global};
-use told_values::of_ranges;
+use value_diagnostics::of_ranges;
 
 /// What is counted in a value, against the ranges of its type's constraint.
 enum Amount {

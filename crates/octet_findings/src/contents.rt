@@ -6,8 +6,8 @@ use crate::words::{counted, digits, found, offset};
 use asn_base::schema::Core;
 use asn_base::strings::StringKind;
 use encodings::LeafKind;
-use leaf_readings::read_leaf;
 use messages::Finding;
+use primitive_reader::read_leaf;
 use simdutf8::compat::from_utf8;
 use std::alloc::{AllocError, Global};
 

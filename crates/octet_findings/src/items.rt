@@ -4,8 +4,8 @@ use crate::contents::of_number;
 use crate::headers::Contents;
 use asn_base::schema::{Item, Items};
 use encodings::LeafKind;
-use leaf_readings::{Leaf, read_leaf};
 use messages::Finding;
+use primitive_reader::{Leaf, read_leaf};
 use std::alloc::{AllocError, Global};
 
 /// The most octets of a list of items.

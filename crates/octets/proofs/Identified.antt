@@ -6,8 +6,8 @@ use Rattle.asn_base.specs.declared.tag.Class.{Class}
 use Rattle.asn_base.specs.declared.tag.Class.TheVariants.{Universal, Context}
 use Rattle.asn_base.specs.declared.tag.Tag.{Tag}
 use Rattle.encodings.specs.Header.{identifier, class_bits, form_bit, septets}
-use Rattle.octets.specs.declared.fault.HeaderFault.{HeaderFault}
-use Rattle.octets.specs.declared.fault.HeaderFault.TheVariants.{Truncated, Indefinite, BadLength, BadTag}
+use Rattle.octets.specs.declared.header_fault.HeaderFault.{HeaderFault}
+use Rattle.octets.specs.declared.header_fault.HeaderFault.TheVariants.{Truncated, Indefinite, BadLength, BadTag}
 use Rattle.octets.specs.Fronts.{leading, of_number_0, to_30, zeros_first, from_2_31}
 use Rattle.octets.specs.Scans.{IdentifierAt, NoIdentifier, cut_identifier, bad_identifier, NoNumber, unended_number, small, zero_first, endless_number}
 use Rattle.octets.proofs.Septets.{completed}

@@ -8,9 +8,9 @@ use Rattle.asn_base.specs.declared.tag.Class.{Class}
 use Rattle.asn_base.specs.declared.tag.Class.TheVariants.{Universal}
 use Rattle.asn_base.specs.declared.tag.Tag.{Tag}
 use Rattle.encodings.specs.Header.{identifier, class_bits, form_bit, septets, LengthOf, short, long, Header}
-use Rattle.octets.specs.declared.fault.HeaderFault.{HeaderFault}
-use Rattle.octets.specs.declared.fault.HeaderFault.TheVariants.{Truncated, Indefinite, BadLength, BadTag}
-use Rattle.octets.specs.Fronts.{HeaderAt, EndsEarly, in_header, in_contents, IsIndefinite, HasBadLength, reserved, too_great, HasBadTag, leading, of_number_0, to_30, zeros_first, from_2_31, Stands}
+use Rattle.octets.specs.declared.header_fault.HeaderFault.{HeaderFault}
+use Rattle.octets.specs.declared.header_fault.HeaderFault.TheVariants.{Truncated, Indefinite, BadLength, BadTag}
+use Rattle.octets.specs.Fronts.{HeaderAt, EndsEarly, in_header, in_contents, IsIndefinite, HasBadLength, reserved, too_great, HasBadTag, leading, of_number_0, to_30, zeros_first, from_2_31, IsRightFault}
 use Rattle.octets.specs.Scans.{Septets, last_septet, more_septets}
 use Rattle.octets.proofs.Septets.{head_or_0, tail_of, at_least, spelling_read, once, never_zero}
 use Rattle.octets.proofs.Identified.{low, high}
@@ -51,15 +51,15 @@ record Front (o : List ℕ) : Type 0 where
   rest : List ℕ
   whole : o ++ missing ≡ identifier tag.class tag.number constructed ++ (size ++ rest)
 
-behind_header : {t : Tag} {c : Bool} {n : ℕ} {h : List ℕ} (a : Header t c n h) (y : List ℕ) → h ++ y ≡ identifier t.class t.number c ++ (a.size ++ y)
-behind_header {t} {c} a y = ap (λ q. q ++ y) a.whole ∙ append_assoc (identifier t.class t.number c) a.size y
+after_header : {t : Tag} {c : Bool} {n : ℕ} {h : List ℕ} (a : Header t c n h) (y : List ℕ) → h ++ y ≡ identifier t.class t.number c ++ (a.size ++ y)
+after_header {t} {c} a y = ap (λ q. q ++ y) a.whole ∙ append_assoc (identifier t.class t.number c) a.size y
 
 front_of : (t : Tag) (c : Bool) (n : ℕ) (h o rest : List ℕ) → Header t c n h → o ≡ h ++ rest → Front o
-front_of t c n h o rest a e = record { tag = t; constructed = c; count = n; size = a.size; is_size = a.is_size; missing = []; rest = rest; whole = append-nil o ∙ e ∙ behind_header a rest }
+front_of t c n h o rest a e = record { tag = t; constructed = c; count = n; size = a.size; is_size = a.is_size; missing = []; rest = rest; whole = append-nil o ∙ e ∙ after_header a rest }
 
 early_front : (o : List ℕ) → EndsEarly o → Front o
 early_front o (in_header {t = t} {c = c} {n = n} {header = h} missing a e l) =
-    record { tag = t; constructed = c; count = n; size = a.size; is_size = a.is_size; missing = missing; rest = []; whole = sym e ∙ sym (append-nil h) ∙ behind_header a [] }
+    record { tag = t; constructed = c; count = n; size = a.size; is_size = a.is_size; missing = missing; rest = []; whole = sym e ∙ sym (append-nil h) ∙ after_header a [] }
 early_front o (in_contents {t = t} {c = c} {n = n} {header = h} rest a few e l) = front_of t c n h o rest a e
 
 module _ (identifiers : (b c : Class) (m n : ℕ) (f g : Bool) (x y : List ℕ) → identifier b m f ++ x ≡ identifier c n g ++ y → (b ≡ c) × (m ≡ n) × (f ≡ g) × (x ≡ y)) (lengths : (m n : ℕ) (p q x y : List ℕ) → LengthOf m p → LengthOf n q → p ++ x ≡ q ++ y → (m ≡ n) × (p ≡ q) × (x ≡ y)) (headers : (t u : Tag) (b c : Bool) (n m : ℕ) (h g x y : List ℕ) → Header t b n h → Header u c m g → h ++ x ≡ g ++ y → (t ≡ u) × (b ≡ c) × (n ≡ m) × (h ≡ g) × (x ≡ y)) where
@@ -68,12 +68,12 @@ module _ (identifiers : (b c : Class) (m n : ℕ) (f g : Bool) (x y : List ℕ) 
       let r = headers t u c d n m a.header b.header a.rest b.rest a.is_header b.is_header (sym a.whole ∙ b.whole) in
       (r.0, r.1, r.2, sym a.long ∙ ap length r.3 ∙ b.long)
 
-  behind_identifier : (t u : Tag) (c d : Bool) (x y : List ℕ) → identifier t.class t.number c ++ x ≡ identifier u.class u.number d ++ y → x ≡ y
-  behind_identifier t u c d x y e = (identifiers t.class u.class t.number u.number c d x y e).3
+  after_identifier : (t u : Tag) (c d : Bool) (x y : List ℕ) → identifier t.class t.number c ++ x ≡ identifier u.class u.number d ++ y → x ≡ y
+  after_identifier t u c d x y e = (identifiers t.class u.class t.number u.number c d x y e).3
 
   -- septets follow a first octet of the long form
-  septets_behind : (t : Tag) (c d : Bool) (k : Class) (b y : List ℕ) → leading k d ∷ b ≡ identifier t.class t.number c ++ y → (31 ≤ t.number) × (b ≡ septets t.number ++ y)
-  septets_behind t c d k b y e = ⊎_elim (λ l. absurd (below l)) (λ l. (l, ap tail_of (e ∙ ap (λ q. q ++ y) (high t.class t.number c l)))) (cases_lt t.number 31)
+  septets_after : (t : Tag) (c d : Bool) (k : Class) (b y : List ℕ) → leading k d ∷ b ≡ identifier t.class t.number c ++ y → (31 ≤ t.number) × (b ≡ septets t.number ++ y)
+  septets_after t c d k b y e = ⊎_elim (λ l. absurd (below l)) (λ l. (l, ap tail_of (e ∙ ap (λ q. q ++ y) (high t.class t.number c l)))) (cases_lt t.number 31)
     where
       below : t.number < 31 → ⊥
       below l =
@@ -93,16 +93,16 @@ module _ (identifiers : (b c : Class) (m n : ℕ) (f g : Bool) (x y : List ℕ) 
       zeroed : class_bits Universal + form_bit d + 0 ≡ class_bits Universal + form_bit d
       zeroed = omega arith
   no_tag o t c y (to_30 k d n rest l e) f =
-      let s = septets_behind t c d k (n ∷ rest) y (sym e ∙ f) in
+      let s = septets_after t c d k (n ∷ rest) y (sym e ∙ f) in
       let above = s.0 in
       let same = once (last_septet {high = 0} {x = n} {n = n} {rest = rest} (omega arith) (omega arith)) (spelling_read t.number (n ∷ rest) y s.1) refl in
       omega arith
   no_tag o t c y (zeros_first k d rest e) f =
-      let s = septets_behind t c d k (128 ∷ rest) y (sym e ∙ f) in
+      let s = septets_after t c d k (128 ∷ rest) y (sym e ∙ f) in
       never_zero t.number (128 ∷ rest) rest y refl s.1
   no_tag o t c y (from_2_31 k d ds rest all l e) f =
       let b = map (λ d. 128 + d) ds ++ rest in
-      let s = septets_behind t c d k b y (sym e ∙ f) in
+      let s = septets_after t c d k b y (sym e ∙ f) in
       let p = past ds 0 t.number b y rest all refl (spelling_read t.number b y s.1) in
       let m = t.in_range in
       omega (arith, p, m)
@@ -114,13 +114,13 @@ module _ (identifiers : (b c : Class) (m n : ℕ) (f g : Bool) (x y : List ℕ) 
   indefinite_front o i f =
       let id = identifier i.tag.class i.tag.number i.constructed in
       let e : id ++ ((128 ∷ i.rest) ++ f.missing) ≡ identifier f.tag.class f.tag.number f.constructed ++ (f.size ++ f.rest) = sym (append_assoc id (128 ∷ i.rest) f.missing) ∙ ap (λ q. q ++ f.missing) (sym i.whole) ∙ f.whole in
-      never_128 (i.rest ++ f.missing) f.rest f.is_size (behind_identifier i.tag f.tag i.constructed f.constructed ((128 ∷ i.rest) ++ f.missing) (f.size ++ f.rest) e)
+      never_128 (i.rest ++ f.missing) f.rest f.is_size (after_identifier i.tag f.tag i.constructed f.constructed ((128 ∷ i.rest) ++ f.missing) (f.size ++ f.rest) e)
 
   reserved_front : (t : Tag) (c : Bool) (o rest : List ℕ) → o ≡ identifier t.class t.number c ++ (255 ∷ rest) → Front o → ⊥
   reserved_front t c o rest g f =
       let id = identifier t.class t.number c in
       let e : id ++ ((255 ∷ rest) ++ f.missing) ≡ identifier f.tag.class f.tag.number f.constructed ++ (f.size ++ f.rest) = sym (append_assoc id (255 ∷ rest) f.missing) ∙ ap (λ q. q ++ f.missing) (sym g) ∙ f.whole in
-      never_255 (rest ++ f.missing) f.rest f.is_size (behind_identifier t f.tag c f.constructed ((255 ∷ rest) ++ f.missing) (f.size ++ f.rest) e)
+      never_255 (rest ++ f.missing) f.rest f.is_size (after_identifier t f.tag c f.constructed ((255 ∷ rest) ++ f.missing) (f.size ++ f.rest) e)
 
   -- a length that no message has
   great_front : (t : Tag) (c : Bool) (n : ℕ) (size o rest : List ℕ) → LengthOf n size → o ≡ identifier t.class t.number c ++ (size ++ rest) → Front o
@@ -164,7 +164,7 @@ module _ (identifiers : (b c : Class) (m n : ℕ) (f g : Bool) (x y : List ℕ) 
       omega arith
 
   -- there is no fault if there is a header
-  pub never_both : (e : HeaderFault) (t : Tag) (c : Bool) (n k : ℕ) (o : List ℕ) → Stands e o → HeaderAt t c n k o → ⊥
+  pub never_both : (e : HeaderFault) (t : Tag) (c : Bool) (n k : ℕ) (o : List ℕ) → IsRightFault e o → HeaderAt t c n k o → ⊥
   never_both Truncated t c n k o s b = early_header t c n k o s b
   never_both Indefinite t c n k o s b = indefinite_front o s (front_of t c n b.header o b.rest b.is_header b.whole)
   never_both BadLength t c n k o s b = great_header t c n k o s b
@@ -179,11 +179,11 @@ module _ (identifiers : (b c : Class) (m n : ℕ) (f g : Bool) (x y : List ℕ) 
   early_length o s (too_great t c {n = n} {size = size} rest l g e) = great_early t c n size o rest l g e s
 
   indefinite_length : (o : List ℕ) → IsIndefinite o → HasBadLength o → ⊥
-  indefinite_length o i (reserved t c rest e) = absurd (let q = ap head_or_0 (behind_identifier i.tag t i.constructed c (128 ∷ i.rest) (255 ∷ rest) (sym i.whole ∙ e)) in omega arith)
+  indefinite_length o i (reserved t c rest e) = absurd (let q = ap head_or_0 (after_identifier i.tag t i.constructed c (128 ∷ i.rest) (255 ∷ rest) (sym i.whole ∙ e)) in omega arith)
   indefinite_length o i (too_great t c {n = n} {size = size} rest l g e) = indefinite_front o i (great_front t c n size o rest l e)
 
   -- there is at most one fault
-  pub one_fault : (e f : HeaderFault) (o : List ℕ) → Stands e o → Stands f o → e ≡ f
+  pub one_fault : (e f : HeaderFault) (o : List ℕ) → IsRightFault e o → IsRightFault f o → e ≡ f
   one_fault Truncated Truncated o s r = refl
   one_fault Truncated Indefinite o s r = absurd (indefinite_front o r (early_front o s))
   one_fault Truncated BadLength o s r = absurd (early_length o s r)
@@ -202,6 +202,6 @@ module _ (identifiers : (b c : Class) (m n : ℕ) (f g : Bool) (x y : List ℕ) 
   one_fault BadTag BadTag o s r = refl
 
 -- what follows for a reader
-pub only_of : {H : Type 0} (r : Result H HeaderFault) (o : List ℕ) → ((e : HeaderFault) (t : Tag) (c : Bool) (n k : ℕ) (o : List ℕ) → Stands e o → HeaderAt t c n k o → ⊥) → IfErr r (λ e. Stands e o) → (t : Tag) (c : Bool) (n k : ℕ) → HeaderAt t c n k o → IsOk r
+pub only_of : {H : Type 0} (r : Result H HeaderFault) (o : List ℕ) → ((e : HeaderFault) (t : Tag) (c : Bool) (n k : ℕ) (o : List ℕ) → IsRightFault e o → HeaderAt t c n k o → ⊥) → IfErr r (λ e. IsRightFault e o) → (t : Tag) (c : Bool) (n k : ℕ) → HeaderAt t c n k o → IsOk r
 only_of (Ok h) o either s t c n k b = refl
 only_of (Err e) o either s t c n k b = absurd (either e t c n k o s b)

@@ -31,8 +31,8 @@ an_integer = low Universal 2 false (lit< tt)
 an_octet_string : identifier Universal 4 false ≡ 4 ∷ []
 an_octet_string = low Universal 4 false (lit< tt)
 
-behind : (x : ℕ) (i rest : List ℕ) → i ≡ x ∷ [] → x ∷ rest ≡ i ++ rest
-behind x i rest e = ap (λ q. q ++ rest) (sym e)
+after : (x : ℕ) (i rest : List ℕ) → i ≡ x ∷ [] → x ∷ rest ≡ i ++ rest
+after x i rest e = ap (λ q. q ++ rest) (sym e)
 
 -- ---- 02 84 00000001 05, and 02 FE with 125 octets 00 and 01, and 05: one octet of contents
 
@@ -134,15 +134,15 @@ none_of_the_most = in_contents {t = octet_string} {c = false} {n = 16777216} [] 
 -- ---- 81: 0280
 
 pub indefinite : IsIndefinite (2 ∷ 128 ∷ [])
-indefinite = record { tag = integer; constructed = false; rest = []; whole = behind 2 (identifier Universal 2 false) (128 ∷ []) an_integer }
+indefinite = record { tag = integer; constructed = false; rest = []; whole = after 2 (identifier Universal 2 false) (128 ∷ []) an_integer }
 
 -- ---- 82: 02FF and 0484 01000001
 
 pub reserved_length : HasBadLength (2 ∷ 255 ∷ [])
-reserved_length = reserved integer false [] (behind 2 (identifier Universal 2 false) (255 ∷ []) an_integer)
+reserved_length = reserved integer false [] (after 2 (identifier Universal 2 false) (255 ∷ []) an_integer)
 
 pub one_too_long : HasBadLength (4 ∷ 132 ∷ 1 ∷ 0 ∷ 0 ∷ 1 ∷ [])
-one_too_long = too_great octet_string false {n = 16777217} {size = 132 ∷ 1 ∷ 0 ∷ 0 ∷ 1 ∷ []} [] (long {ds = 1 ∷ 0 ∷ 0 ∷ 1 ∷ []} (record { some = lit< tt; at_most = lit< tt; octets = (lit< tt, (lit< tt, (lit< tt, (lit< tt, tt)))); worth = refl })) (omega arith) (behind 4 (identifier Universal 4 false) (132 ∷ 1 ∷ 0 ∷ 0 ∷ 1 ∷ []) an_octet_string)
+one_too_long = too_great octet_string false {n = 16777217} {size = 132 ∷ 1 ∷ 0 ∷ 0 ∷ 1 ∷ []} [] (long {ds = 1 ∷ 0 ∷ 0 ∷ 1 ∷ []} (record { some = lit< tt; at_most = lit< tt; octets = (lit< tt, (lit< tt, (lit< tt, (lit< tt, tt)))); worth = refl })) (omega arith) (after 4 (identifier Universal 4 false) (132 ∷ 1 ∷ 0 ∷ 0 ∷ 1 ∷ []) an_octet_string)
 
 -- ---- 83: 1F02 0105, 5F1E 00, 20 00, 1F801F and BF8880808000
 

@@ -5,8 +5,8 @@ use Rattle.std.proofs.lemmas.List.{append-nil}
 use Rattle.std.specs.Int.Digits.{digits_of, number_from_digits_after, AllBelowBase}
 use Rattle.std.proofs.lemmas.Int.Digits.{digits_of_step, all_below_base_digits_of, number_digits_of, number_push, first_digits_of, number_after_ge}
 use Rattle.encodings.specs.Header.{septets}
-use Rattle.octets.specs.declared.fault.HeaderFault.{HeaderFault}
-use Rattle.octets.specs.declared.fault.HeaderFault.TheVariants.{Truncated, Indefinite, BadLength, BadTag}
+use Rattle.octets.specs.declared.header_fault.HeaderFault.{HeaderFault}
+use Rattle.octets.specs.declared.header_fault.HeaderFault.TheVariants.{Truncated, Indefinite, BadLength, BadTag}
 use Rattle.octets.specs.Scans.{Septets, last_septet, more_septets, Goes, NoSeptets, unended, endless, NoNumber, unended_number, small, endless_number}
 
 abbrev pub head_or_0 : List ℕ → ℕ
@@ -114,11 +114,11 @@ pub no_more : (h : ℕ) (o : List ℕ) → length o ≡ 0 → h < 16777216 → N
 no_more h [] e l = unended (goes_none h [] refl) l
 no_more h (x ∷ o) e l = absurd (omega arith)
 
-pub none_behind : (h x : ℕ) (o b : List ℕ) (e : HeaderFault) → o ≡ x ∷ b → 128 ≤ x → x < 256 → NoSeptets (h * 128 + (x - 128)) b e → NoSeptets h o e
-none_behind h x o b Truncated f l k (unended g m) = unended (goes_more h x _ o b [] f l k g) m
-none_behind h x o b Indefinite f l k n = elim n [ ]
-none_behind h x o b BadLength f l k n = elim n [ ]
-none_behind h x o b BadTag f l k (endless rest g m) = endless rest (goes_more h x _ o b rest f l k g) m
+pub none_after : (h x : ℕ) (o b : List ℕ) (e : HeaderFault) → o ≡ x ∷ b → 128 ≤ x → x < 256 → NoSeptets (h * 128 + (x - 128)) b e → NoSeptets h o e
+none_after h x o b Truncated f l k (unended g m) = unended (goes_more h x _ o b [] f l k g) m
+none_after h x o b Indefinite f l k n = elim n [ ]
+none_after h x o b BadLength f l k n = elim n [ ]
+none_after h x o b BadTag f l k (endless rest g m) = endless rest (goes_more h x _ o b rest f l k g) m
 
 pub too_many : (h x : ℕ) (o b : List ℕ) → o ≡ x ∷ b → 128 ≤ x → x < 256 → 16777216 ≤ h * 128 + (x - 128) → NoSeptets h o BadTag
 too_many h x o b f l k m = endless b (goes_more h x _ o b b f l k (record { digits = []; below = tt; worth = refl; whole = refl })) m

@@ -2,7 +2,7 @@
 use Rattle.std.proofs.Common.{arith, ◌≡◌, ℕ, zero, suc, ◌+◌, ◌-◌, ◌<◌, ◌≤◌, List, [], ◌∷◌, ◌++◌, length, replicate, get_or, refl, sym, ap, ◌∙◌, length-append}
 use Rattle.std.specs.Int.Digits.{number_from_digits, number_from_digits_after, AllBelowBase}
 use Rattle.encodings.specs.Header.{short, long}
-use Rattle.octets.specs.declared.fault.HeaderFault.TheVariants.{Truncated, Indefinite, BadLength}
+use Rattle.octets.specs.declared.header_fault.HeaderFault.TheVariants.{Truncated, Indefinite, BadLength}
 use Rattle.octets.specs.Scans.{SizeAt, NoSize, cut_size, indefinite, reserved_size, great_size}
 
 -- octets as the type of a slice says it
@@ -13,9 +13,9 @@ pub all_below : (o : List ℕ) → AreOctets o → AllBelowBase 256 o
 all_below [] h = tt
 all_below (x ∷ o) h = (h 0, all_below o (λ i. h (suc i)))
 
-behind : {x : ℕ} {o b : List ℕ} → o ≡ x ∷ b → AllBelowBase 256 o → AllBelowBase 256 b
-behind {o = []} e h = absurd (let f = ap length e in omega arith)
-behind {o = y ∷ o} e h = rw (sym (ap tail_of e)) h.1
+after : {x : ℕ} {o b : List ℕ} → o ≡ x ∷ b → AllBelowBase 256 o → AllBelowBase 256 b
+after {o = []} e h = absurd (let f = ap length e in omega arith)
+after {o = y ∷ o} e h = rw (sym (ap tail_of e)) h.1
   where
     tail_of : List ℕ → List ℕ
     tail_of [] = []
@@ -41,7 +41,7 @@ pub size_short : (x : ℕ) (o rest : List ℕ) → o ≡ x ∷ rest → x < 128 
 size_short x o rest e l = record { size = x ∷ []; is_size = short l; few = omega arith; whole = e }
 
 digits_below : {x : ℕ} {o b : List ℕ} (ds rest : List ℕ) → o ≡ x ∷ b → b ≡ ds ++ rest → AreOctets o → AllBelowBase 256 ds
-digits_below {o = o} {b = b} ds rest e f h = front_below ds rest (rw (sym f) (behind e (all_below o h)))
+digits_below {o = o} {b = b} ds rest e f h = front_below ds rest (rw (sym f) (after e (all_below o h)))
 
 pub size_long : (x n : ℕ) (o b ds rest : List ℕ) → o ≡ x ∷ b → b ≡ ds ++ rest → x ≡ 128 + length ds → 1 ≤ length ds → length ds ≤ 126 → AreOctets o → n ≡ number_from_digits_after 256 0 ds → n ≤ 16777216 → SizeAt n rest o
 size_long x n o b ds rest e f g some few all worth most = record {
@@ -75,6 +75,6 @@ size_cut x o b e some few all lt =
     let k : length ds ≡ x - 128 = omega (arith, z, l) in
     let w : x ≡ 128 + length ds = omega (arith, k) in
     cut_size {n = number_from_digits 256 ds} (replicate more 0)
-    (long {ds = ds} (record { some = omega (arith, k); at_most = omega (arith, k); octets = both_below b (replicate more 0) (behind e (all_below o all)) (zeros_below more); worth = refl }))
+    (long {ds = ds} (record { some = omega (arith, k); at_most = omega (arith, k); octets = both_below b (replicate more 0) (after e (all_below o all)) (zeros_below more); worth = refl }))
     (ap (λ q. q ∷ ds) (sym w) ∙ ap (λ q. q ++ replicate more 0) (sym e))
     (omega (arith, z))

@@ -5,8 +5,8 @@ use Rattle.asn_base.specs.declared.tag.Class.{Class}
 use Rattle.asn_base.specs.declared.tag.Class.TheVariants.{Universal}
 use Rattle.asn_base.specs.declared.tag.Tag.{Tag}
 use Rattle.encodings.specs.Header.{Octets, class_bits, form_bit, identifier, LengthOf, Header}
-use Rattle.octets.specs.declared.fault.HeaderFault.{HeaderFault}
-use Rattle.octets.specs.declared.fault.HeaderFault.TheVariants as faults
+use Rattle.octets.specs.declared.header_fault.HeaderFault.{HeaderFault}
+use Rattle.octets.specs.declared.header_fault.HeaderFault.TheVariants as faults
 
 -- a header of k octets is at the start; it promises n octets of contents, no more than a message has, and they follow
 -- it
@@ -76,8 +76,8 @@ pub data HasBadTag (o : Octets) : Type 0 where
       → HasBadTag o
 
 -- what each fault says of octets
-abbrev pub Stands : HeaderFault → Octets → Type 0
-Stands faults.Truncated = EndsEarly
-Stands faults.Indefinite = IsIndefinite
-Stands faults.BadLength = HasBadLength
-Stands faults.BadTag = HasBadTag
+abbrev pub IsRightFault : HeaderFault → Octets → Type 0
+IsRightFault faults.Truncated = EndsEarly
+IsRightFault faults.Indefinite = IsIndefinite
+IsRightFault faults.BadLength = HasBadLength
+IsRightFault faults.BadTag = HasBadTag

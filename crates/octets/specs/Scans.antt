@@ -3,8 +3,8 @@ use Rattle.std.specs.Prelude.{◌≡◌, ℕ, ◌+◌, ◌*◌, ◌<◌, ◌≤�
 use Rattle.std.specs.Int.Digits.{number_from_digits_after, AllBelowBase}
 use Rattle.asn_base.specs.declared.tag.Tag.{Tag}
 use Rattle.encodings.specs.Header.{Octets, identifier, LengthOf}
-use Rattle.octets.specs.declared.fault.HeaderFault.{HeaderFault}
-use Rattle.octets.specs.declared.fault.HeaderFault.TheVariants as faults
+use Rattle.octets.specs.declared.header_fault.HeaderFault.{HeaderFault}
+use Rattle.octets.specs.declared.header_fault.HeaderFault.TheVariants as faults
 use Rattle.octets.specs.Fronts.{HasBadTag}
 
 -- septets that come after some that are worth `high` are worth n, up to the first without the top bit; then what

@@ -4,7 +4,7 @@ ghost use Rattle.encodings.specs.Header.{septets};
 ghost use Rattle.std.specs.Int.Digits.{digits_of};
 ghost use Rattle.std.specs.Prelude.{◌≡◌, ◌+◌, ◌≤◌, ◌++◌, IfOk, OnOk, length, map};
 
-use crate::fault::Fault;
+use crate::header_fault::Fault;
 use std::alloc::{AllocError, Global};
 
 /// The octets of a number, the most significant first, and none for 0.

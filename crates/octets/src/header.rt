@@ -8,8 +8,8 @@ ghost use Rattle.octets.specs.Forms.{is_constructed};
 ghost use Rattle.std.specs.Prelude.{◌≡◌, ◌+◌, ◌<◌, ◌≤◌, ◌++◌, Bool, List, OnErr, OnOk, length, ℕ};
 
 use crate::digits::{octet_count, push_high_septets, push_octets, septet_count};
-use crate::fault::Fault;
 use crate::form::Form;
+use crate::header_fault::Fault;
 use asn_base::tag::{Class, Tag};
 use encodings::header_laws;
 use std::alloc::{AllocError, Global};

@@ -2,14 +2,14 @@
 #![tactic(auto)]
 
 mod digits;
-mod fault;
 mod form;
 mod header;
+mod header_fault;
 pub mod law;
 mod read;
 
 pub use digits::octets_of;
-pub use fault::{Fault, HeaderFault};
 pub use form::Form;
 pub use header::{header_len, write_header};
+pub use header_fault::{Fault, HeaderFault};
 pub use read::{Header, read_header};

@@ -2,16 +2,16 @@
 
 ghost use Rattle.encodings.specs.Header.{Octets, class_bits, form_bit, septets};
 ghost use Rattle.octets.specs.Forms.{is_constructed};
-ghost use Rattle.octets.specs.Fronts.{HeaderAt, Stands};
+ghost use Rattle.octets.specs.Fronts.{HeaderAt, IsRightFault};
 ghost use Rattle.octets.specs.Scans.{IdentifierAt, NoIdentifier, NoNumber, NoSeptets, NoSize, Septets, SizeAt};
-ghost use Rattle.octets.specs.declared.fault.HeaderFault.{HeaderFault as Fault'};
+ghost use Rattle.octets.specs.declared.header_fault.HeaderFault.{HeaderFault as Fault'};
 ghost use Rattle.std.specs.Int.Digits.{number_from_digits_after};
 ghost use Rattle.std.specs.Prelude.{◌≡◌, ◌+◌, ◌<◌, ◌≤◌, ◌++◌, ◌∷◌, Bool, Err, IfErr, IfNone, IfOk, IfSome, IsOk, IsTrue, List, length, ℕ};
 ghost use Rattle.asn_base.specs.declared.tag.Tag.{Tag as Tag'};
 
-use crate::fault::HeaderFault;
 use crate::form::Form;
-use crate::law::one_front;
+use crate::header_fault::HeaderFault;
+use crate::law::lemma_one_front;
 use asn_base::tag::{Class, Tag};
 use limits::MAX_LENGTH;
 
@@ -34,12 +34,12 @@ pub struct Header {
 #[inline(always)]
 pub fn read_header(octets: &[u8]) -> Result<Header, HeaderFault>
     ensures ok { IfOk result (λ h. HeaderAt h.tag (is_constructed h.form) h.contents h.octets octets.now) }
-    ensures err { IfErr result (λ e. Stands e octets.now) }
+    ensures err { IfErr result (λ e. IsRightFault e octets.now) }
     // A header that is there is read, and each fault that is there is the error.
     ensures only { (t : Tag') (c : Bool) (n k : ℕ) → HeaderAt t c n k octets.now → IsOk result }
-    ensures just { (e : Fault') → Stands e octets.now → result ≡ Err e }
+    ensures just { (e : Fault') → IsRightFault e octets.now → result ≡ Err e }
 {
-    one_front();
+    lemma_one_front();
     header_at(octets)
 }
 
@@ -47,24 +47,24 @@ pub fn read_header(octets: &[u8]) -> Result<Header, HeaderFault>
 #[inline(always)]
 fn header_at(octets: &[u8]) -> Result<Header, HeaderFault>
     ensures ok { IfOk result (λ h. HeaderAt h.tag (is_constructed h.form) h.contents h.octets octets.now) }
-    ensures err { IfErr result (λ e. Stands e octets.now) }
+    ensures err { IfErr result (λ e. IsRightFault e octets.now) }
 {
     let (tag, form, sized) = match read_identifier(octets) {
         Ok(read) => read,
         Err(fault) => return Err(fault),
     };
-    let (contents, behind) = match read_size(sized) {
+    let (contents, after) = match read_size(sized) {
         Ok(read) => read,
         Err(fault) => return Err(fault),
     };
-    if behind.len() < contents {
+    if after.len() < contents {
         return Err(HeaderFault::Truncated);
     }
     Ok(Header {
         tag,
         form,
         contents,
-        octets: octets.len() - behind.len(),
+        octets: octets.len() - after.len(),
     })
 }
 
@@ -95,7 +95,7 @@ fn read_identifier(octets: &[u8]) -> Result<(Tag, Form, &[u8]), HeaderFault>
     ensures ok { IfOk result (λ r. IdentifierAt r.0 (is_constructed r.1) r.2.now octets.now) }
     ensures err { IfErr result (λ e. NoIdentifier octets.now e) }
 {
-    let Some((first, behind)) = octets.split_first() else {
+    let Some((first, after)) = octets.split_first() else {
         return Err(HeaderFault::Truncated);
     };
     let (class, form, low) = first_octet(*first);
@@ -103,9 +103,9 @@ fn read_identifier(octets: &[u8]) -> Result<(Tag, Form, &[u8]), HeaderFault>
         if low == 0 && class == Class::Universal {
             return Err(HeaderFault::BadTag);
         }
-        return Ok((Tag::of(class, low as u32), form, behind));
+        return Ok((Tag::of(class, low as u32), form, after));
     }
-    let (number, rest) = match read_number(behind) {
+    let (number, rest) = match read_number(after) {
         Ok(read) => read,
         Err(fault) => return Err(fault),
     };
@@ -144,25 +144,25 @@ fn has_zeros_first(octets: &[u8]) -> bool
 }
 
 /// Reads septets after some that are worth `high`.
-#[tactic(auto, using(crate::proofs::Septets::one_last, crate::proofs::Septets::one_more, crate::proofs::Septets::no_more, crate::proofs::Septets::none_behind, crate::proofs::Septets::too_many))]
+#[tactic(auto, using(crate::proofs::Septets::one_last, crate::proofs::Septets::one_more, crate::proofs::Septets::no_more, crate::proofs::Septets::none_after, crate::proofs::Septets::too_many))]
 fn read_septets(octets: &[u8], high: u32) -> Result<(u32, &[u8]), HeaderFault>
     requires { high < 16777216 }
     ensures below { IfOk result (λ r. r.0 < 2147483648) }
     ensures ok { IfOk result (λ r. Septets high octets.now r.0 r.1.now) }
     ensures err { IfErr result (λ e. NoSeptets high octets.now e) }
 {
-    let Some((octet, behind)) = octets.split_first() else {
+    let Some((octet, after)) = octets.split_first() else {
         return Err(HeaderFault::Truncated);
     };
     let octet = *octet;
     if octet < 128 {
-        return Ok((high * 128 + octet as u32, behind));
+        return Ok((high * 128 + octet as u32, after));
     }
     let worth = high * 128 + (octet - 128) as u32;
     if worth >= 16_777_216 {
         return Err(HeaderFault::BadTag);
     }
-    read_septets(behind, worth)
+    read_septets(after, worth)
 }
 
 /// Reads the length octets.
@@ -172,12 +172,12 @@ fn read_size(octets: &[u8]) -> Result<(usize, &[u8]), HeaderFault>
     ensures ok { IfOk result (λ r. SizeAt r.0 r.1.now octets.now) }
     ensures err { IfErr result (λ e. NoSize octets.now e) }
 {
-    let Some((first, behind)) = octets.split_first() else {
+    let Some((first, after)) = octets.split_first() else {
         return Err(HeaderFault::Truncated);
     };
     let first = *first;
     if first < 128 {
-        return Ok((first as usize, behind));
+        return Ok((first as usize, after));
     }
     if first == 128 {
         return Err(HeaderFault::Indefinite);
@@ -186,10 +186,10 @@ fn read_size(octets: &[u8]) -> Result<(usize, &[u8]), HeaderFault>
         return Err(HeaderFault::BadLength);
     }
     let count = (first - 128) as usize;
-    if behind.len() < count {
+    if after.len() < count {
         return Err(HeaderFault::Truncated);
     }
-    let (digits, rest) = behind.split_at(count);
+    let (digits, rest) = after.split_at(count);
     match number_of(digits, 0) {
         Some(number) => Ok((number, rest)),
         None => Err(HeaderFault::BadLength),
@@ -202,12 +202,12 @@ fn number_of(octets: &[u8], high: usize) -> Option<usize>
     ensures some { IfSome result (λ n. (n ≡ number_from_digits_after 256 high octets.now) × (n ≤ 16777216)) }
     ensures none { IfNone result (16777216 < number_from_digits_after 256 high octets.now) }
 {
-    let Some((octet, behind)) = octets.split_first() else {
+    let Some((octet, after)) = octets.split_first() else {
         return Some(high);
     };
     let worth = high as u64 * 256 + *octet as u64;
     if worth > MAX_LENGTH {
         return None;
     }
-    number_of(behind, worth as usize)
+    number_of(after, worth as usize)
 }

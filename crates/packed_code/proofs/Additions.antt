@@ -10,14 +10,14 @@ use Rattle.asn_base.specs.Typed.{group_of, AreComponents, no_component, componen
 use Rattle.packed_encodings.specs.Lengths.{Bits}
 use Rattle.packed_encodings.specs.Leaves.{root_bit}
 use Rattle.packed_encodings.specs.Packing.{any_set}
-use Rattle.packed_encodings.specs.Orders.{Member, missing, standing, component, stands, any_stands, behind_marker, root_of, Addition, alone, bracketed, is_of_group, in_front, additions}
+use Rattle.packed_encodings.specs.Orders.{Member, missing, standing, component, is_present, any_present, past_marker, root_members, Addition, alone, bracketed, is_of_group, in_front, additions}
 use Rattle.packed_encodings.specs.Computed.{is_default, bits_by, members_by, presence_bits, member_bits, open_bits, extended_bits}
 use Rattle.packed_encodings.specs.Computed as c
 use Rattle.packed_code.specs.declared.step.PackedStep.{PackedStep}
 use Rattle.packed_code.specs.declared.step.PackedStep.TheVariants.{Map, Rest}
 use Rattle.packed_code.specs.Routines.{placed_from, place_in, field_at, root_steps, member_steps, addition_steps, mark_if, rest_if}
 use Rattle.packed_code.specs.Meaning.{members_of, is_written, bits_at, any_from, mark_bit, next_fields, map_bits, any_written, field_bits, addition_map, bitmap_bits, group_bits, steps_bits}
-use Rattle.packed_code.proofs.Natural.{on_additions}
+use Rattle.packed_encodings.specs.proving.Natural.{on_additions}
 use Rattle.packed_code.proofs.Fields.{made, member_at, root_fields, member_fields, map_is, any_is, bits_are, roots_write, members_write, both}
 
 -- ---- by a test
@@ -78,14 +78,14 @@ additions_write s t v (bracketed xs ∷ ds) ss =
     let hs = map (member_at ms) xs in
     let o = open_bits (presence_bits hs ++ member_bits hs) in
     let r = c.addition_bits (map (on_additions (member_at ms)) ds) in
-    let g : group_bits ms (next_fields (length xs) (member_steps xs ++ us)) ≡ (if any_stands hs then o else [])
+    let g : group_bits ms (next_fields (length xs) (member_steps xs ++ us)) ≡ (if any_present hs then o else [])
     = ap (group_bits ms) (member_fields xs us)
     ∙ if_eq (any_is ms xs) (ap open_bits (ap (λ q. q ++ field_bits ms (map field_at xs)) (map_is ms xs) ∙ ap (λ q. presence_bits hs ++ q) (bits_are ms xs))) refl in
     ap (λ q. group_bits ms (next_fields (length xs) q) ++ steps_bits s t v q) (group_split xs ds ss)
     ∙ ap (λ q. q ++ steps_bits s t v (member_steps xs ++ us)) g
-    ∙ ap (λ q. (if any_stands hs then o else []) ++ q) (members_write s t v xs us ∙ additions_write s t v ds ss)
-    ∙ sym (append_assoc (if any_stands hs then o else []) r (steps_bits s t v ss))
-    ∙ ap (λ q. q ++ steps_bits s t v ss) (sym (if_joined (any_stands hs) o r))
+    ∙ ap (λ q. (if any_present hs then o else []) ++ q) (members_write s t v xs us ∙ additions_write s t v ds ss)
+    ∙ sym (append_assoc (if any_present hs then o else []) r (steps_bits s t v ss))
+    ∙ ap (λ q. q ++ steps_bits s t v ss) (sym (if_joined (any_present hs) o r))
 
 map_length : (ds : List (Addition Bits)) → length (c.addition_map ds) ≡ length ds
 map_length [] = refl
@@ -107,12 +107,12 @@ none_written [] e = refl
 none_written (alone (missing k) ∷ ds) e = none_written ds e
 none_written (alone (standing k x) ∷ ds) e = absurd (cc)
 none_written (bracketed ms ∷ ds) e =
-    let p = or_false (any_stands ms) (any_set (c.addition_map ds)) e in
+    let p = or_false (any_present ms) (any_set (c.addition_map ds)) e in
     ap (λ b. if b then open_bits (presence_bits ms ++ member_bits ms) ++ c.addition_bits ds else c.addition_bits ds) p.0 ∙ none_written ds p.1
 
 -- ---- whether an addition is present
 
-front_any : (g : Option ℕ) (m : Member Bits) (ds : List (Addition Bits)) → any_set (c.addition_map (in_front g m ds)) ≡ stands m || any_set (c.addition_map ds)
+front_any : (g : Option ℕ) (m : Member Bits) (ds : List (Addition Bits)) → any_set (c.addition_map (in_front g m ds)) ≡ is_present m || any_set (c.addition_map ds)
 front_any None (missing k) ds = refl
 front_any None (standing k x) ds = refl
 front_any (Some g) (missing k) [] = refl
@@ -123,15 +123,15 @@ front_any (Some g) (missing k) (bracketed [] ∷ ds) = refl
 front_any (Some g) (standing k x) (bracketed [] ∷ ds) = refl
 front_any (Some g) m (bracketed (n ∷ ns) ∷ ds) = by (is_of_group g n) m
   where
-    by : (b : Bool) (m : Member Bits) → any_set (c.addition_map (if b then bracketed (m ∷ (n ∷ ns)) ∷ ds else bracketed (m ∷ []) ∷ (bracketed (n ∷ ns) ∷ ds))) ≡ stands m || ((stands n || any_stands ns) || any_set (c.addition_map ds))
+    by : (b : Bool) (m : Member Bits) → any_set (c.addition_map (if b then bracketed (m ∷ (n ∷ ns)) ∷ ds else bracketed (m ∷ []) ∷ (bracketed (n ∷ ns) ∷ ds))) ≡ is_present m || ((is_present n || any_present ns) || any_set (c.addition_map ds))
     by true (missing k) = refl
     by true (standing k x) = refl
     by false (missing k) = refl
     by false (standing k x) = refl
 
-any_of_all : (xs : List (Member Bits)) → any_set (c.addition_map (additions xs)) ≡ any_stands xs
+any_of_all : (xs : List (Member Bits)) → any_set (c.addition_map (additions xs)) ≡ any_present xs
 any_of_all [] = refl
-any_of_all (m ∷ xs) = front_any (group_of (component m).presence) m (additions xs) ∙ ap (λ q. stands m || q) (any_of_all xs)
+any_of_all (m ∷ xs) = front_any (group_of (component m).presence) m (additions xs) ∙ ap (λ q. is_present m || q) (any_of_all xs)
 
 addition_tested : (p : Presence) (f : AbstractValue → Bool) → (elim p [ mandatory ↦ false | optional ↦ false | default d ↦ false | addition o g ↦ true ]) ≡ true → (elim p [ default d ↦ f d | mandatory ↦ false | optional ↦ false | addition o g ↦ false ]) ≡ false
 addition_tested mandatory f e = refl
@@ -140,44 +140,44 @@ addition_tested (default d) f e = absurd (cc)
 addition_tested (addition o g) f e = refl
 
 module _ (s : List Resolved) where
-  marker_first : (b : Bool) (m : Member Bits) (ms : List (Member Bits)) → is_addition (component m) ≡ b → behind_marker (m ∷ ms) ≡ (if b then m ∷ behind_marker ms else behind_marker ms)
-  marker_first b m ms e = ap (λ q. if q then m ∷ behind_marker ms else behind_marker ms) e
+  marker_first : (b : Bool) (m : Member Bits) (ms : List (Member Bits)) → is_addition (component m) ≡ b → past_marker (m ∷ ms) ≡ (if b then m ∷ past_marker ms else past_marker ms)
+  marker_first b m ms e = ap (λ q. if q then m ∷ past_marker ms else past_marker ms) e
 
   present_component : (b : Bool) (k : Component) (x : Bits) → component (if b then missing k else standing k x) ≡ k
   present_component true k x = refl
   present_component false k x = refl
 
-  present_stands : (b : Bool) (k : Component) (x : Bits) → b ≡ false → stands (if b then missing k else standing k x) ≡ true
-  present_stands true k x e = absurd (cc)
-  present_stands false k x e = refl
+  made_is_present : (b : Bool) (k : Component) (x : Bits) → b ≡ false → is_present (if b then missing k else standing k x) ≡ true
+  made_is_present true k x e = absurd (cc)
+  made_is_present false k x e = refl
 
-  any_more : {n : ℕ} {cs : List Component} {ws : Row} → AllByRecursion (λ k. is_addition k ≡ true) cs → AreComponents s n cs ws → any_stands (behind_marker (members_by (is_default s) s ws cs)) ≡ any_from 0 ws
+  any_more : {n : ℕ} {cs : List Component} {ws : Row} → AllByRecursion (λ k. is_addition k ≡ true) cs → AreComponents s n cs ws → any_present (past_marker (members_by (is_default s) s ws cs)) ≡ any_from 0 ws
   any_more h no_component = refl
-  any_more h (component_absent {c = k} {cs = cs} {vs = ws} m a) = ap any_stands (marker_first true (missing k) (members_by (is_default s) s ws cs) h.0) ∙ any_more h.1 a
+  any_more h (component_absent {c = k} {cs = cs} {vs = ws} m a) = ap any_present (marker_first true (missing k) (members_by (is_default s) s ws cs) h.0) ∙ any_more h.1 a
   any_more h (component_present {c = k} {cs = cs} {v = w} {vs = ws} m a) =
       let x = if is_default s k w then missing k else standing k (bits_by (is_default s) s w k.type) in
       let ms = members_by (is_default s) s ws cs in
-      ap any_stands (marker_first true x ms (ap is_addition (present_component (is_default s k w) k (bits_by (is_default s) s w k.type)) ∙ h.0))
-      ∙ ap (λ q. q || any_stands (behind_marker ms)) (present_stands (is_default s k w) k (bits_by (is_default s) s w k.type) (addition_tested k.presence _ h.0))
+      ap any_present (marker_first true x ms (ap is_addition (present_component (is_default s k w) k (bits_by (is_default s) s w k.type)) ∙ h.0))
+      ∙ ap (λ q. q || any_present (past_marker ms)) (made_is_present (is_default s k w) k (bits_by (is_default s) s w k.type) (addition_tested k.presence _ h.0))
 
   -- the components of the root are before the additions
-  any_behind : {n : ℕ} {ws : Row} (root more : List Component) → AllByRecursion (λ k. is_addition k ≡ false) root → AllByRecursion (λ k. is_addition k ≡ true) more → AreComponents s n (root ++ more) ws → any_stands (behind_marker (members_by (is_default s) s ws (root ++ more))) ≡ any_from (length root) ws
-  any_behind [] more r h a = any_more h a
-  any_behind (k ∷ root) more r h (component_absent {vs = ws} m a) = ap any_stands (marker_first false (missing k) (members_by (is_default s) s ws (root ++ more)) r.0) ∙ any_behind root more r.1 h a
-  any_behind (k ∷ root) more r h (component_present {v = w} {vs = ws} m a) =
-      ap any_stands (marker_first false (if is_default s k w then missing k else standing k (bits_by (is_default s) s w k.type)) (members_by (is_default s) s ws (root ++ more)) (ap is_addition (present_component (is_default s k w) k (bits_by (is_default s) s w k.type)) ∙ r.0))
-      ∙ any_behind root more r.1 h a
+  any_past_marker : {n : ℕ} {ws : Row} (root more : List Component) → AllByRecursion (λ k. is_addition k ≡ false) root → AllByRecursion (λ k. is_addition k ≡ true) more → AreComponents s n (root ++ more) ws → any_present (past_marker (members_by (is_default s) s ws (root ++ more))) ≡ any_from (length root) ws
+  any_past_marker [] more r h a = any_more h a
+  any_past_marker (k ∷ root) more r h (component_absent {vs = ws} m a) = ap any_present (marker_first false (missing k) (members_by (is_default s) s ws (root ++ more)) r.0) ∙ any_past_marker root more r.1 h a
+  any_past_marker (k ∷ root) more r h (component_present {v = w} {vs = ws} m a) =
+      ap any_present (marker_first false (if is_default s k w then missing k else standing k (bits_by (is_default s) s w k.type)) (members_by (is_default s) s ws (root ++ more)) (ap is_addition (present_component (is_default s k w) k (bits_by (is_default s) s w k.type)) ∙ r.0))
+      ∙ any_past_marker root more r.1 h a
 
-root_number : (i : ℕ) (root more : List Component) → AllByRecursion (λ k. is_addition k ≡ false) root → AllByRecursion (λ k. is_addition k ≡ true) more → length (root_of (placed_from i (root ++ more))) ≡ length root
+root_number : (i : ℕ) (root more : List Component) → AllByRecursion (λ k. is_addition k ≡ false) root → AllByRecursion (λ k. is_addition k ≡ true) more → length (root_members (placed_from i (root ++ more))) ≡ length root
 root_number i [] [] r h = refl
-root_number i [] (k ∷ more) r h = ap (λ b. length (if b then root_of (placed_from (suc i) more) else standing k i ∷ root_of (placed_from (suc i) more))) h.0 ∙ root_number (suc i) [] more r h.1
-root_number i (k ∷ root) more r h = ap (λ b. length (if b then root_of (placed_from (suc i) (root ++ more)) else standing k i ∷ root_of (placed_from (suc i) (root ++ more)))) r.0 ∙ ap (λ q. suc q) (root_number (suc i) root more r.1 h)
+root_number i [] (k ∷ more) r h = ap (λ b. length (if b then root_members (placed_from (suc i) more) else standing k i ∷ root_members (placed_from (suc i) more))) h.0 ∙ root_number (suc i) [] more r h.1
+root_number i (k ∷ root) more r h = ap (λ b. length (if b then root_members (placed_from (suc i) (root ++ more)) else standing k i ∷ root_members (placed_from (suc i) (root ++ more)))) r.0 ∙ ap (λ q. suc q) (root_number (suc i) root more r.1 h)
 
-pub any_addition : (s : List Resolved) {n : ℕ} {ws : Row} (cs root more : List Component) → cs ≡ root ++ more → AllByRecursion (λ k. is_addition k ≡ false) root → AllByRecursion (λ k. is_addition k ≡ true) more → AreComponents s n cs ws → any_from (length (root_of (placed_from 0 cs))) ws ≡ any_set (c.addition_map (additions (behind_marker (members_by (is_default s) s ws cs))))
+pub any_addition : (s : List Resolved) {n : ℕ} {ws : Row} (cs root more : List Component) → cs ≡ root ++ more → AllByRecursion (λ k. is_addition k ≡ false) root → AllByRecursion (λ k. is_addition k ≡ true) more → AreComponents s n cs ws → any_from (length (root_members (placed_from 0 cs))) ws ≡ any_set (c.addition_map (additions (past_marker (members_by (is_default s) s ws cs))))
 any_addition s {n} {ws} cs root more e r h a =
-    let goal : any_from (length (root_of (placed_from 0 (root ++ more)))) ws ≡ any_set (c.addition_map (additions (behind_marker (members_by (is_default s) s ws (root ++ more)))))
-    = ap (λ q. any_from q ws) (root_number 0 root more r h) ∙ sym (any_behind s root more r h (subst (λ q. AreComponents s n q ws) e a)) ∙ sym (any_of_all (behind_marker (members_by (is_default s) s ws (root ++ more)))) in
-    subst (λ q. any_from (length (root_of (placed_from 0 q))) ws ≡ any_set (c.addition_map (additions (behind_marker (members_by (is_default s) s ws q))))) (sym e) goal
+    let goal : any_from (length (root_members (placed_from 0 (root ++ more)))) ws ≡ any_set (c.addition_map (additions (past_marker (members_by (is_default s) s ws (root ++ more)))))
+    = ap (λ q. any_from q ws) (root_number 0 root more r h) ∙ sym (any_past_marker s root more r h (subst (λ q. AreComponents s n q ws) e a)) ∙ sym (any_of_all (past_marker (members_by (is_default s) s ws (root ++ more)))) in
+    subst (λ q. any_from (length (root_members (placed_from 0 q))) ws ≡ any_set (c.addition_map (additions (past_marker (members_by (is_default s) s ws q))))) (sym e) goal
 
 past_end : {s : List Resolved} {n : ℕ} {cs : List Component} {ws : Row} → AreComponents s n cs ws → any_from (length cs) ws ≡ false
 past_end no_component = refl
@@ -185,9 +185,9 @@ past_end (component_absent m a) = past_end a
 past_end (component_present m a) = past_end a
 
 -- without a marker there are no additions
-pub no_addition : (s : List Resolved) {n : ℕ} {ws : Row} (cs root more : List Component) → cs ≡ root ++ more → more ≡ [] → AllByRecursion (λ k. is_addition k ≡ false) root → AllByRecursion (λ k. is_addition k ≡ true) more → AreComponents s n cs ws → any_from (length (root_of (placed_from 0 cs))) ws ≡ false
+pub no_addition : (s : List Resolved) {n : ℕ} {ws : Row} (cs root more : List Component) → cs ≡ root ++ more → more ≡ [] → AllByRecursion (λ k. is_addition k ≡ false) root → AllByRecursion (λ k. is_addition k ≡ true) more → AreComponents s n cs ws → any_from (length (root_members (placed_from 0 cs))) ws ≡ false
 no_addition s {n} {ws} cs root more e m r h a =
-    let l : length (root_of (placed_from 0 cs)) ≡ length root = ap (λ q. length (root_of (placed_from 0 q))) e ∙ root_number 0 root more r h in
+    let l : length (root_members (placed_from 0 cs)) ≡ length root = ap (λ q. length (root_members (placed_from 0 q))) e ∙ root_number 0 root more r h in
     let k : length root ≡ length cs = sym (ap length (e ∙ ap (λ q. root ++ q) m ∙ append-nil root)) in
     ap (λ q. any_from q ws) (l ∙ k) ∙ past_end a
 

@@ -6,7 +6,7 @@ use Rattle.bits.specs.Words.{word}
 use Rattle.asn_base.specs.Types.{Alternative, Resolved}
 use Rattle.asn_base.specs.Abstract.{AbstractValue}
 use Rattle.packed_encodings.specs.Leaves.{root_bit, place_width, place_bits}
-use Rattle.packed_encodings.specs.Orders.{rank}
+use Rattle.packed_encodings.specs.Orders.{canonical_place}
 use Rattle.packed_encodings.specs.Computed.{open_bits, bits_of, type_of}
 use Rattle.packed_code.specs.declared.step.PackedStep.TheVariants as steps
 use Rattle.packed_code.specs.Routines.{id_of, root_calls, more_calls}
@@ -24,7 +24,7 @@ more_at j (suc i) (b ∷ as') a e = let k : suc j + i ≡ j + suc i = omega arit
 pub data Called (s : List Resolved) (e : Bool) (all as' more : List Alternative) (i : ℕ) (a : Alternative) : Type 0 where
   of_root : i < length as'
       → slice_get as' i ≡ Some a
-      → slice_get (root_calls s e all as' ++ more_calls 0 more) i ≡ Some (steps.Root (record { extensible = e; width = place_width (length all); rank = rank s all a.type; ty = id_of a.type }))
+      → slice_get (root_calls s e all as' ++ more_calls 0 more) i ≡ Some (steps.Root (record { extensible = e; width = place_width (length all); rank = canonical_place s all a.type; ty = id_of a.type }))
       → Called s e all as' more i a
   of_more : length as' ≤ i
       → slice_get (root_calls s e all as' ++ more_calls 0 more) i ≡ Some (steps.More (i - length as') (id_of a.type))
@@ -33,7 +33,7 @@ pub data Called (s : List Resolved) (e : Bool) (all as' more : List Alternative)
 pub called : (s : List Resolved) (e : Bool) (all as' more : List Alternative) (i : ℕ) (a : Alternative) → slice_get (as' ++ more) i ≡ Some a → Called s e all as' more i a
 called s e all [] more i a f = let k : 0 + i ≡ i - 0 = omega arith in of_more (omega arith) (more_at 0 i more a f ∙ ap (λ q. Some (steps.More q (id_of a.type))) k)
 called s e all (b ∷ as') more zero a f =
-    of_root (omega arith) f (ap (λ q. Some (steps.Root (record { extensible = e; width = place_width (length all); rank = rank s all q.type; ty = id_of q.type }))) (some_same f))
+    of_root (omega arith) f (ap (λ q. Some (steps.Root (record { extensible = e; width = place_width (length all); rank = canonical_place s all q.type; ty = id_of q.type }))) (some_same f))
 called s e all (b ∷ as') more (suc i) a f = elim (called s e all as' more i a f) [
   | of_root l g h ↦ of_root (omega arith) g h
   | of_more l h ↦ of_more (omega arith) (let k : i - length as' ≡ suc i - length (b ∷ as') = omega arith in h ∙ ap (λ q. Some (steps.More q (id_of a.type))) k)
@@ -49,15 +49,15 @@ if_false : {X : Type 0} (b : Bool) (x y : X) → b ≡ false → (if b then x el
 if_false b x y e = ap (λ t. if t then x else y) e
 
 -- an alternative's bits, which its call writes
-pub call_writes : (s : List Resolved) (e : Bool) (root more : List Alternative) (i : ℕ) (a : Alternative) (w : AbstractValue) → slice_get (root ++ more) i ≡ Some a → call_bits s w (slice_get (root_calls s e root root ++ more_calls 0 more) i) ≡ (if nat_lt i (length root) then root_bit e ++ (place_bits (length root) (rank s root (type_of (slice_get root i))) ++ bits_of s w a.type) else true ∷ (false ∷ (word 6 (i - length root) ++ open_bits (bits_of s w a.type))))
+pub call_writes : (s : List Resolved) (e : Bool) (root more : List Alternative) (i : ℕ) (a : Alternative) (w : AbstractValue) → slice_get (root ++ more) i ≡ Some a → call_bits s w (slice_get (root_calls s e root root ++ more_calls 0 more) i) ≡ (if nat_lt i (length root) then root_bit e ++ (place_bits (length root) (canonical_place s root (type_of (slice_get root i))) ++ bits_of s w a.type) else true ∷ (false ∷ (word 6 (i - length root) ++ open_bits (bits_of s w a.type))))
 call_writes s e root more i a w f = elim (called s e root root more i a f) [
   | of_root l g h ↦
       ap (call_bits s w) h
-      ∙ ap (λ q. root_bit e ++ (place_bits (length root) (rank s root q) ++ bits_of s w a.type)) (sym (type_there root i a g))
-      ∙ sym (if_true (nat_lt i (length root)) (root_bit e ++ (place_bits (length root) (rank s root (type_of (slice_get root i))) ++ bits_of s w a.type)) (true ∷ (false ∷ (word 6 (i - length root) ++ open_bits (bits_of s w a.type)))) (lt-ltb i (length root) l))
+      ∙ ap (λ q. root_bit e ++ (place_bits (length root) (canonical_place s root q) ++ bits_of s w a.type)) (sym (type_there root i a g))
+      ∙ sym (if_true (nat_lt i (length root)) (root_bit e ++ (place_bits (length root) (canonical_place s root (type_of (slice_get root i))) ++ bits_of s w a.type)) (true ∷ (false ∷ (word 6 (i - length root) ++ open_bits (bits_of s w a.type)))) (lt-ltb i (length root) l))
   | of_more l h ↦
       ap (call_bits s w) h
-      ∙ sym (if_false (nat_lt i (length root)) (root_bit e ++ (place_bits (length root) (rank s root (type_of (slice_get root i))) ++ bits_of s w a.type)) (true ∷ (false ∷ (word 6 (i - length root) ++ open_bits (bits_of s w a.type)))) (le-ltb i (length root) l))
+      ∙ sym (if_false (nat_lt i (length root)) (root_bit e ++ (place_bits (length root) (canonical_place s root (type_of (slice_get root i))) ++ bits_of s w a.type)) (true ∷ (false ∷ (word 6 (i - length root) ++ open_bits (bits_of s w a.type)))) (le-ltb i (length root) l))
 ]
 
 -- by themselves calls write nothing

@@ -5,7 +5,7 @@ use Rattle.asn_base.specs.Types.{Component, Resolved}
 use Rattle.asn_base.specs.Abstract.{AbstractValue, Row}
 use Rattle.asn_base.specs.Typed.{AreComponents, no_component, component_absent, component_present}
 use Rattle.packed_encodings.specs.Lengths.{Bits}
-use Rattle.packed_encodings.specs.Orders.{Member, missing, standing, component, stands, any_stands, has_bit}
+use Rattle.packed_encodings.specs.Orders.{Member, missing, standing, component, is_present, any_present, has_bit}
 use Rattle.packed_encodings.specs.Computed.{DefaultTest, bits_by, members_by, presence_bits, member_bits}
 use Rattle.packed_code.specs.declared.step.PackedStep.{PackedStep}
 use Rattle.packed_code.specs.Routines.{placed_from, place_in, field_at, root_steps, member_steps}
@@ -86,9 +86,9 @@ presence_first : (b : Bool) (c : Component) (x : Bits) (ms : List (Member Bits))
 presence_first true c x ms = refl
 presence_first false c x ms = refl
 
-pub stands_first : (b : Bool) (c : Component) (x : Bits) → stands (made b c x) ≡ b
-stands_first true c x = refl
-stands_first false c x = refl
+pub first_is_present : (b : Bool) (c : Component) (x : Bits) → is_present (made b c x) ≡ b
+first_is_present true c x = refl
+first_is_present false c x = refl
 
 bits_first : (b : Bool) (c : Component) (x : Bits) (ms : List (Member Bits)) → (b ≡ false → x ≡ []) → member_bits (made b c x ∷ ms) ≡ x ++ member_bits ms
 bits_first true c x ms h = refl
@@ -101,11 +101,11 @@ module _ (ms : List (Member Bits)) where
       ap (λ q. if has_bit (component m).presence then is_written ms (place_in m) ∷ q else q) (map_is xs)
       ∙ sym (presence_first (is_written ms (place_in m)) (component m) (bits_at ms (place_in m)) (map (member_at ms) xs))
 
-  pub any_is : (xs : List (Member ℕ)) → any_written ms (map field_at xs) ≡ any_stands (map (member_at ms) xs)
+  pub any_is : (xs : List (Member ℕ)) → any_written ms (map field_at xs) ≡ any_present (map (member_at ms) xs)
   any_is [] = refl
   any_is (m ∷ xs) =
       ap (λ q. is_written ms (place_in m) || q) (any_is xs)
-      ∙ ap (λ q. q || any_stands (map (member_at ms) xs)) (sym (stands_first (is_written ms (place_in m)) (component m) (bits_at ms (place_in m))))
+      ∙ ap (λ q. q || any_present (map (member_at ms) xs)) (sym (first_is_present (is_written ms (place_in m)) (component m) (bits_at ms (place_in m))))
 
   pub bits_are : (xs : List (Member ℕ)) → field_bits ms (map field_at xs) ≡ member_bits (map (member_at ms) xs)
   bits_are [] = refl

@@ -1,4 +1,3 @@
-mod Natural
 mod Fields
 mod Additions
 mod Calls

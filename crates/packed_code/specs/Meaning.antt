@@ -112,7 +112,7 @@ abbrev pub step_bits : List Resolved → TypeNumber → AbstractValue → Packed
 step_bits s t v steps.Bit ss = leaf_bits (kind_at s t) v
 step_bits s t v (steps.Number l n) ss = number_bits l n v
 step_bits s t v steps.Leaf ss = leaf_bits (kind_at s t) v
-step_bits s t v (steps.Mark i) ss = mark_bit i v ∷ []
+step_bits s t v (steps.ExtensionBit i) ss = mark_bit i v ∷ []
 step_bits s t v (steps.Map n) ss = map_bits (members_of s t v) (next_fields n ss)
 step_bits s t v (steps.Field f) ss = bits_at (members_of s t v) f.place
 step_bits s t v (steps.Bitmap n) ss = bitmap_bits n (addition_map (members_of s t v) ss)

@@ -8,7 +8,8 @@ use Rattle.asn_base.specs.Types.{a_choice, mandatory, optional, default, additio
 use Rattle.asn_base.specs.Types.{Resolved}
 use Rattle.packed_encodings.specs.Lengths.{fewest_bits}
 use Rattle.packed_encodings.specs.Leaves.{place_width}
-use Rattle.packed_encodings.specs.Orders.{rank, Member, missing, standing, component, root_of, behind_marker, canonical, has_bit}
+use Rattle.packed_encodings.specs.Orders.{canonical_place, Member, missing, standing, component, root_members}
+use Rattle.packed_encodings.specs.Orders.{past_marker, canonical, has_bit}
 use Rattle.packed_encodings.specs.Orders.{Addition, alone, bracketed, additions}
 use Rattle.packed_code.specs.declared.step.PackedField.{PackedField}
 use Rattle.packed_code.specs.declared.step.PackedStep.{PackedStep}
@@ -58,7 +59,7 @@ addition_steps (bracketed ms ∷ ds) = steps.Group (length ms) ∷ (member_steps
 
 -- the step before the root of an extensible type whose root has n components
 abbrev pub mark_if : Bool → ℕ → List PackedStep
-mark_if e n = if e then steps.Mark n ∷ [] else []
+mark_if e n = if e then steps.ExtensionBit n ∷ [] else []
 
 -- the steps after the root of an extensible type
 abbrev pub rest_if : Bool → List (Addition ℕ) → List PackedStep
@@ -67,15 +68,20 @@ rest_if e ds = if e then steps.Bitmap (length ds) ∷ (addition_steps ds ++ step
 -- the steps of a SEQUENCE or SET, from its root's components in the order in which they are encoded, and all components
 abbrev pub structure : Bool → (root all : List (Member ℕ)) → List PackedStep
 structure e root all =
-    mark_if e (length (root_of all))
-    ++ (steps.Map (length root) ∷ (root_steps root ++ rest_if e (additions (behind_marker all))))
+    mark_if e (length (root_members all))
+    ++ (steps.Map (length root) ∷ (root_steps root ++ rest_if e (additions (past_marker all))))
 
 -- ---- alternatives
 
 abbrev pub root_calls : List Resolved → Bool → (all root : List Alternative) → List PackedStep
 root_calls s e all [] = []
 root_calls s e all (a ∷ as') =
-    steps.Root (record { extensible = e; width = place_width (length all); rank = rank s all a.type; ty = id_of a.type })
+    steps.Root (record {
+      extensible = e;
+      width = place_width (length all);
+      rank = canonical_place s all a.type;
+      ty = id_of a.type;
+    })
     ∷ root_calls s e all as'
 
 abbrev pub more_calls : ℕ → List Alternative → List PackedStep
@@ -91,8 +97,8 @@ integer_step e l u = steps.Leaf
 unfoldable pub routine_of : List Resolved → Kind → List PackedStep
 routine_of s a_boolean = steps.Bit ∷ []
 routine_of s (an_integer c) = integer_step c.visible.extensible c.visible.least c.visible.greatest ∷ []
-routine_of s (a_sequence e cs) = structure e (root_of (placed_from 0 cs)) (placed_from 0 cs)
-routine_of s (a_set e cs) = structure e (canonical s (root_of (placed_from 0 cs))) (placed_from 0 cs)
+routine_of s (a_sequence e cs) = structure e (root_members (placed_from 0 cs)) (placed_from 0 cs)
+routine_of s (a_set e cs) = structure e (canonical s (root_members (placed_from 0 cs))) (placed_from 0 cs)
 routine_of s (a_sequence_of c u) = steps.Each (id_of u) ∷ []
 routine_of s (a_set_of c u) = steps.EachSorted (id_of u) ∷ []
 routine_of s (a_choice root e more) =

@@ -24,7 +24,7 @@ pub fn compile_packed(alloc: Global, schema: &Schema) -> Result<PackedCode, Faul
 {
     let table = all_routines(alloc, schema.types())?;
     let mut own = schema.copy(alloc)?;
-    own.measure(alloc)?;
+    own.cache_default_depths(alloc)?;
     Ok(PackedCode::of(own, table))
 }
 

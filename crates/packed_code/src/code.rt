@@ -57,10 +57,10 @@ impl PackedCode {
     }
 
     /// What is true of the types of the code's schema.
-    pub fn accepted(&self)
+    pub fn lemma_invariant(&self)
         ensures { IsSchema self.now }
     {
-        self.schema.accepted();
+        self.schema.lemma_invariant();
     }
 
     /// The schema of the code.

@@ -86,7 +86,7 @@ pub(crate) fn root_of<'a>(
     components: &'a [Component],
 ) -> Result<Vec<Placed<'a>>, Fault>
     ensures { IfOk result (λ v. map placed_of v.items
-        ≡ orders.root_of (routines.placed_from 0 (map component_of components.now))) }
+        ≡ orders.root_members (routines.placed_from 0 (map component_of components.now))) }
 {
     let mut root = Vec::new(alloc);
     for place in 0..components.len() {
@@ -99,12 +99,12 @@ pub(crate) fn root_of<'a>(
 }
 
 /// The additions, in order of definition.
-pub(crate) fn behind_marker<'a>(
+pub(crate) fn past_marker<'a>(
     alloc: Global,
     components: &'a [Component],
 ) -> Result<Vec<Placed<'a>>, Fault>
     ensures { IfOk result (λ v. map placed_of v.items
-        ≡ orders.behind_marker (routines.placed_from 0 (map component_of components.now))) }
+        ≡ orders.past_marker (routines.placed_from 0 (map component_of components.now))) }
 {
     let mut additions = Vec::new(alloc);
     for place in 0..components.len() {
@@ -140,13 +140,13 @@ pub(crate) fn after<'a, 'b>(placed: &'b [Placed<'a>], count: usize) -> &'b [Plac
 fn place_for(types: &[Resolved], placed: Placed<'_>, others: &[Placed<'_>]) -> usize
     ensures at_most { result ≤ length others.now }
     ensures is { map placed_of (insert others.now result placed.entry)
-        ≡ orders.placed (types_of types.now) (placed_of placed.entry) (map placed_of others.now) }
+        ≡ orders.placed_by_tag (types_of types.now) (placed_of placed.entry) (map placed_of others.now) }
 {
-    let Some((first, behind)) = first_of(others) else {
+    let Some((first, following)) = first_of(others) else {
         return 0;
     };
     if type_before(types, first.component.ty, placed.component.ty) {
-        place_for(types, placed, behind) + 1
+        place_for(types, placed, following) + 1
     } else {
         0
     }
@@ -161,10 +161,10 @@ pub(crate) fn in_order<'a>(
     ensures { IfOk result (λ v. map placed_of v.items
         ≡ orders.canonical (types_of types.now) (map placed_of root.now)) }
 {
-    let Some((first, behind)) = first_of(root) else {
+    let Some((first, following)) = first_of(root) else {
         return Ok(Vec::new(alloc));
     };
-    let mut sorted = in_order(alloc, types, behind)?;
+    let mut sorted = in_order(alloc, types, following)?;
     let at = place_for(types, first, sorted.as_slice());
     sorted.insert(at, first)?;
     Ok(sorted)
@@ -185,11 +185,11 @@ pub(crate) fn run_of(group: usize, placed: &[Placed<'_>]) -> usize
     ensures at_most { result ≤ length placed.now }
     ensures is { result ≡ run group (map placed_of placed.now) }
 {
-    let Some((first, behind)) = first_of(placed) else {
+    let Some((first, following)) = first_of(placed) else {
         return 0;
     };
     if is_of_group(group, first.component) {
-        run_of(group, behind) + 1
+        run_of(group, following) + 1
     } else {
         0
     }

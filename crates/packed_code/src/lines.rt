@@ -29,7 +29,7 @@ fn push_step(out: &mut String, step: PackedStep) -> Result<(), AllocError> {
         PackedStep::Bit => out.push_str("  Bit\n")?,
         PackedStep::Number(least, width) => write!(out, "  Number {least} {width}\n")?,
         PackedStep::Leaf => out.push_str("  Leaf\n")?,
-        PackedStep::Mark(first) => write!(out, "  Mark {first}\n")?,
+        PackedStep::ExtensionBit(first) => write!(out, "  Mark {first}\n")?,
         PackedStep::Map(count) => write!(out, "  Map {count}\n")?,
         PackedStep::Field(field) => push_field(out, "Field", field)?,
         PackedStep::Bitmap(count) => write!(out, "  Bitmap {count}\n")?,

@@ -2,7 +2,7 @@
 
 ghost use Rattle.asn_base.specs.Seen.{alternative_of, types_of};
 ghost use Rattle.asn_base.specs.Tags.{class_rank};
-ghost use Rattle.packed_encodings.specs.Orders.{before, outermost, rank, stands_before, tag_at};
+ghost use Rattle.packed_encodings.specs.Orders.{tag_precedes, outermost, canonical_place, precedes, tag_at};
 ghost use Rattle.std.specs.Prelude.{◌≡◌, length, map};
 
 use asn_base::schema::{Alternative, Resolved, TypeId};
@@ -22,7 +22,7 @@ fn class_place(class: Class) -> u8
 
 /// Whether the first tag is before the second.
 fn tag_before(first: Tag, second: Tag) -> bool
-    ensures { result ≡ before first second }
+    ensures { result ≡ tag_precedes first second }
 {
     let one = class_place(first.class);
     let two = class_place(second.class);
@@ -48,7 +48,7 @@ fn first_of(tags: &[Tag]) -> Option<Tag>
 
 /// Whether the outermost tag of the first type is before that of the second.
 pub(crate) fn type_before(types: &[Resolved], first: TypeId, second: TypeId) -> bool
-    ensures { result ≡ stands_before (types_of types.now) first.index second.index }
+    ensures { result ≡ precedes (types_of types.now) first.index second.index }
 {
     match outermost_of(types, first) {
         Some(one) => match outermost_of(types, second) {
@@ -61,7 +61,7 @@ pub(crate) fn type_before(types: &[Resolved], first: TypeId, second: TypeId) -> 
 
 /// How many of the alternatives are before the type in the canonical order of their tags.
 pub(crate) fn rank_of(types: &[Resolved], alternatives: &[Alternative], id: TypeId) -> usize
-    ensures { result ≡ rank (types_of types.now) (map alternative_of alternatives.now) id.index }
+    ensures { result ≡ canonical_place (types_of types.now) (map alternative_of alternatives.now) id.index }
 {
     let mut before = 0;
     for i in 0..alternatives.len() {

@@ -2,7 +2,8 @@
 
 ghost use Rattle.asn_base.specs.Seen.{bounds_of, component_of, kind_of, types_of};
 ghost use Rattle.packed_code.specs.Placed.{placed_of};
-ghost use Rattle.packed_code.specs.Routines.{addition_steps, integer_step, mark_if, member_steps, placed_from, rest_if, root_steps, routine_of, structure};
+ghost use Rattle.packed_code.specs.Routines.{addition_steps, integer_step, mark_if, member_steps, placed_from, rest_if};
+ghost use Rattle.packed_code.specs.Routines.{root_steps, routine_of, structure};
 ghost use Rattle.packed_code.specs.declared.step.PackedStep.TheVariants.{Group, Map};
 ghost use Rattle.packed_encodings.specs.Orders as orders;
 ghost use Rattle.std.specs.Prelude.{◌≡◌, ◌≤◌, ◌++◌, ◌∷◌, [], OnOk, length, map};
@@ -10,7 +11,7 @@ ghost use Rattle.std.specs.Prelude.{◌≡◌, ◌≤◌, ◌++◌, ◌∷◌, [
 use crate::choice::push_choice;
 use crate::fault::Fault;
 use crate::field::{
-    Placed, after, behind_marker, field, first_of, group_of, in_order, root_of, run_of,
+    Placed, after, field, first_of, group_of, in_order, past_marker, root_of, run_of,
 };
 use crate::step::PackedStep;
 use crate::width::{fewest, span};
@@ -83,7 +84,7 @@ fn push_sequence(
     components: &[Component],
 ) -> Result<(), Fault>
     ensures { OnOk result (out.new.items ≡ out.old.items
-        ++ structure extensible (orders.root_of (placed_from 0 (map component_of components.now)))
+        ++ structure extensible (orders.root_members (placed_from 0 (map component_of components.now)))
         (placed_from 0 (map component_of components.now))) }
 {
     let root = root_of(*out.allocator(), components)?;
@@ -99,7 +100,7 @@ fn push_set(
 ) -> Result<(), Fault>
     ensures { OnOk result (out.new.items ≡ out.old.items
         ++ structure extensible
-        (orders.canonical (types_of types.now) (orders.root_of (placed_from 0 (map component_of components.now))))
+        (orders.canonical (types_of types.now) (orders.root_members (placed_from 0 (map component_of components.now))))
         (placed_from 0 (map component_of components.now))) }
 {
     let alloc = *out.allocator();
@@ -120,7 +121,7 @@ fn push_root(
         ++ (mark_if extensible count ++ (Map (length root.now) ∷ root_steps (map placed_of root.now)))) }
 {
     if extensible {
-        out.push(PackedStep::Mark(count))?;
+        out.push(PackedStep::ExtensionBit(count))?;
     }
     out.push(PackedStep::Map(root.len()))?;
     push_fields(out, root)
@@ -142,13 +143,13 @@ fn push_rest(
     components: &[Component],
 ) -> Result<(), Fault>
     ensures { OnOk result (out.new.items ≡ out.old.items
-        ++ rest_if extensible (orders.additions (orders.behind_marker
+        ++ rest_if extensible (orders.additions (orders.past_marker
         (placed_from 0 (map component_of components.now))))) }
 {
     if !extensible {
         return Ok(());
     }
-    let additions = behind_marker(*out.allocator(), components)?;
+    let additions = past_marker(*out.allocator(), components)?;
     out.push(PackedStep::Bitmap(count_of(additions.as_slice())))?;
     push_additions(out, additions.as_slice())?;
     push_one(out, PackedStep::Rest)
@@ -160,14 +161,14 @@ fn count_of(additions: &[Placed<'_>]) -> usize
     ensures at_most { result ≤ length additions.now }
     ensures is { result ≡ length (orders.additions (map placed_of additions.now)) }
 {
-    let Some((first, behind)) = first_of(additions) else {
+    let Some((first, following)) = first_of(additions) else {
         return 0;
     };
     match group_of(first.component) {
-        None => count_of(behind) + 1,
+        None => count_of(following) + 1,
         Some(group) => {
-            let others = run_of(group, behind);
-            let rest = after(behind, others);
+            let others = run_of(group, following);
+            let rest = after(following, others);
             count_of(rest) + 1
         }
     }
@@ -178,19 +179,19 @@ fn push_additions(out: &mut Vec<PackedStep>, additions: &[Placed<'_>]) -> Result
     ensures { OnOk result (out.new.items ≡ out.old.items
         ++ addition_steps (orders.additions (map placed_of additions.now))) }
 {
-    let Some((first, behind)) = first_of(additions) else {
+    let Some((first, following)) = first_of(additions) else {
         return Ok(());
     };
     match group_of(first.component) {
         None => {
             out.push(PackedStep::Added(field(first)))?;
-            push_additions(out, behind)?;
+            push_additions(out, following)?;
             Ok(())
         }
         Some(group) => {
-            let others = run_of(group, behind);
-            push_group(out, first, &behind[..others])?;
-            let rest = after(behind, others);
+            let others = run_of(group, following);
+            push_group(out, first, &following[..others])?;
+            let rest = after(following, others);
             push_additions(out, rest)?;
             Ok(())
         }

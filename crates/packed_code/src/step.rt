@@ -34,7 +34,7 @@ pub enum PackedStep {
     Leaf,
     /// A bit of an extensible SEQUENCE or SET: 1 if a component at this place or after it is present. Those are the
     /// additions.
-    Mark(usize),
+    ExtensionBit(usize),
     /// A bit for each of the next fields that has one: 1 if the component is written. The number says how many fields
     /// there are.
     Map(usize),

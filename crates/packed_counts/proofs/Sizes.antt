@@ -4,7 +4,7 @@ use Rattle.std.proofs.lemmas.Int.{ints}
 use Rattle.std.specs.Prelude.{Some, None, ℤ, pos, negsuc, ◌+ℤ◌, ◌-ℤ◌, ◌<ℤ◌, ◌≤ℤ◌, nat_abs, IfSome}
 use Rattle.bits.specs.Words.{word}
 use Rattle.asn_base.specs.Types.{Bounds}
-use Rattle.packed_encodings.specs.Lengths.{Bits, fewest_bits, IsInRoot, IsNarrow, narrow, wide, sized, sized_in_root, sized_outside}
+use Rattle.packed_encodings.specs.Lengths.{Bits, fewest_bits, IsInRootBounds, IsNarrow, narrow, wide, sized, sized_in_root, sized_outside}
 use Rattle.packed_counts.specs.Counts.{Adds, HasLeast, IsRootHead, IsHead}
 
 some_same : {A : Type 0} {x y : A} → Some x ≡ Some y → x ≡ y
@@ -36,10 +36,10 @@ above : (n : ℕ) (g : ℤ) → pos n ≤ℤ g → Above n g
 above n (pos g) h = record { is = g; same = refl; at_least = pos_at_most n g h }
 above n (negsuc g) h = absurd (omega (arith, ints, h))
 
-within : (z : Bounds) (n : ℕ) (l : ℤ) → IsInRoot z (pos n) → z.least ≡ Some l → l ≤ℤ pos n
+within : (z : Bounds) (n : ℕ) (l : ℤ) → IsInRootBounds z (pos n) → z.least ≡ Some l → l ≤ℤ pos n
 within z n l h e = subst (λ o. IfSome o (λ l. l ≤ℤ pos n)) e h.0
 
-below : (z : Bounds) (n : ℕ) (g : ℤ) → IsInRoot z (pos n) → z.greatest ≡ Some g → pos n ≤ℤ g
+below : (z : Bounds) (n : ℕ) (g : ℤ) → IsInRootBounds z (pos n) → z.greatest ≡ Some g → pos n ≤ℤ g
 below z n g h e = subst (λ o. IfSome o (λ g. pos n ≤ℤ g)) e h.1
 
 less_pos : (u : ℕ) → pos u <ℤ pos 65536 → u < 65536
@@ -48,7 +48,7 @@ less_pos u h = omega (arith, ints, h)
 split : (m n : ℕ) → m ≤ n → n ≡ m + (n - m)
 split m n h = omega arith
 
-pub narrow_head : (z : Bounds) (n w s d : ℕ) (l g : ℤ) (old new : Bits) → HasLeast z → IsInRoot z (pos n) → z.least ≡ Some l → z.greatest ≡ Some g → g <ℤ pos 65536 → d ≡ nat_abs (g -ℤ l) → w ≡ fewest_bits d → s ≡ nat_abs (pos n -ℤ l) → new ≡ old ++ word w s → Adds (IsRootHead z n true) old new
+pub narrow_head : (z : Bounds) (n w s d : ℕ) (l g : ℤ) (old new : Bits) → HasLeast z → IsInRootBounds z (pos n) → z.least ≡ Some l → z.greatest ≡ Some g → g <ℤ pos 65536 → d ≡ nat_abs (g -ℤ l) → w ≡ fewest_bits d → s ≡ nat_abs (pos n -ℤ l) → new ≡ old ++ word w s → Adds (IsRootHead z n true) old new
 narrow_head z n w s d l g old new k h el eg lt ed ew es en =
     let f : l ≡ pos k.0 = some_same (sym el ∙ k.1) in
     let a : k.0 ≤ n = pos_at_most k.0 n (subst (λ q. q ≤ℤ pos n) f (within z n l h el)) in
@@ -72,24 +72,24 @@ narrow_head z n w s d l g old new k h el eg lt ed ew es en =
       whole = en ∙ ap (λ q. old ++ word q s) (ew ∙ ap fewest_bits dm) ∙ ap (λ q. old ++ word (fewest_bits m) q) so;
     }
 
-wide_head : (z : Bounds) (n : ℕ) (old : Bits) → (IsNarrow z.greatest → ⊥) → IsInRoot z (pos n) → Adds (IsRootHead z n false) old old
+wide_head : (z : Bounds) (n : ℕ) (old : Bits) → (IsNarrow z.greatest → ⊥) → IsInRootBounds z (pos n) → Adds (IsRootHead z n false) old old
 wide_head z n old w h = record {
   bits = [];
   is = record {
     once = λ e xs x. absurd (cc);
-    counted = λ e xs b x c. wide w (subst (λ q. IsInRoot z (pos q)) (sym x) h) c;
+    counted = λ e xs b x c. wide w (subst (λ q. IsInRootBounds z (pos q)) (sym x) h) c;
   };
   whole = sym (append-nil old);
 }
 
-pub no_greatest : (z : Bounds) (n : ℕ) (old : Bits) → z.greatest ≡ None → IsInRoot z (pos n) → Adds (IsRootHead z n false) old old
+pub no_greatest : (z : Bounds) (n : ℕ) (old : Bits) → z.greatest ≡ None → IsInRootBounds z (pos n) → Adds (IsRootHead z n false) old old
 no_greatest z n old e h = wide_head z n old (λ w. subst IsNarrow e w) h
 
 not_narrow : (g : ℤ) → (g <ℤ pos 65536 → ⊥) → IsNarrow (Some g) → ⊥
 not_narrow (pos u) h w = h (omega (arith, ints, w))
 not_narrow (negsuc u) h w = w
 
-pub large_greatest : (z : Bounds) (n : ℕ) (g : ℤ) (old : Bits) → z.greatest ≡ Some g → (g <ℤ pos 65536 → ⊥) → IsInRoot z (pos n) → Adds (IsRootHead z n false) old old
+pub large_greatest : (z : Bounds) (n : ℕ) (g : ℤ) (old : Bits) → z.greatest ≡ Some g → (g <ℤ pos 65536 → ⊥) → IsInRootBounds z (pos n) → Adds (IsRootHead z n false) old old
 large_greatest z n g old e l h = wide_head z n old (λ w. not_narrow g l (subst IsNarrow e w)) h
 
 none_some : {A : Type 0} {x : A} → None ≡ Some x → ⊥
@@ -118,12 +118,12 @@ head_inside z n once old mid new e m a = record {
   whole = a.whole ∙ ap (λ q. q ++ a.bits) m ∙ append_assoc old (false ∷ []) a.bits;
 }
 
-pub head_outside : (z : Bounds) (n : ℕ) (old new : Bits) → z.extensible ≡ true → (IsInRoot z (pos n) → ⊥) → new ≡ old ++ (true ∷ []) → Adds (IsHead z n false) old new
+pub head_outside : (z : Bounds) (n : ℕ) (old new : Bits) → z.extensible ≡ true → (IsInRootBounds z (pos n) → ⊥) → new ≡ old ++ (true ∷ []) → Adds (IsHead z n false) old new
 head_outside z n old new e h m = record {
   bits = true ∷ [];
   is = record {
     once = λ t xs x. absurd (cc);
-    counted = λ t xs b x c. sized_outside e (λ i. h (subst (λ q. IsInRoot z (pos q)) x i)) c;
+    counted = λ t xs b x c. sized_outside e (λ i. h (subst (λ q. IsInRootBounds z (pos q)) x i)) c;
   };
   whole = m;
 }

@@ -2,7 +2,7 @@
 
 ghost use Rattle.asn_base.specs.Seen.{bounds_of};
 ghost use Rattle.packed_counts.specs.Counts.{Adds, HasLeast, IsHead, IsRootHead};
-ghost use Rattle.packed_encodings.specs.Lengths.{IsInRoot};
+ghost use Rattle.packed_encodings.specs.Lengths.{IsInRootBounds};
 ghost use Rattle.std.specs.Prelude.{◌≡◌, ◌↔◌, ◌≤ℤ◌, ◌<ℤ◌, ◌-ℤ◌, nat_abs, IfOk, IfSome, IsTrue, false, pos};
 
 use crate::number::push_number;
@@ -13,7 +13,7 @@ use std::alloc::AllocError;
 
 /// Whether the number is a size of the root.
 fn is_in_root(bounds: &Bounds, count: i128) -> bool
-    ensures { IsTrue result ↔ IsInRoot (bounds_of bounds.now) count }
+    ensures { IsTrue result ↔ IsInRootBounds (bounds_of bounds.now) count }
 {
     match bounds.least {
         Some(least) => least <= count && is_at_most(bounds, count),
@@ -49,7 +49,7 @@ fn is_small(greatest: i128) -> bool
 #[tactic(auto, using(crate::proofs::Sizes::no_greatest, crate::proofs::Sizes::large_greatest, crate::proofs::Sizes::no_least))]
 fn push_root_size(out: &mut BitBuf, bounds: &Bounds, count: usize) -> Result<bool, AllocError>
     requires least { HasLeast (bounds_of bounds.now) }
-    requires inside { IsInRoot (bounds_of bounds.now) (pos count) }
+    requires inside { IsInRootBounds (bounds_of bounds.now) (pos count) }
     ensures { IfOk result (λ once. Adds (IsRootHead (bounds_of bounds.now) count once) out.old out.new) }
 {
     let Some(greatest) = bounds.greatest else {
@@ -72,7 +72,7 @@ fn push_root_size(out: &mut BitBuf, bounds: &Bounds, count: usize) -> Result<boo
 #[tactic(auto, using(crate::proofs::Sizes::plain_head, crate::proofs::Sizes::head_inside, crate::proofs::Sizes::head_outside))]
 pub fn push_size(out: &mut BitBuf, bounds: &Bounds, count: usize) -> Result<bool, AllocError>
     requires least { HasLeast (bounds_of bounds.now) }
-    requires allowed { bounds.now.extensible ≡ false → IsInRoot (bounds_of bounds.now) (pos count) }
+    requires allowed { bounds.now.extensible ≡ false → IsInRootBounds (bounds_of bounds.now) (pos count) }
     ensures { IfOk result (λ once. Adds (IsHead (bounds_of bounds.now) count once) out.old out.new) }
 {
     if !bounds.extensible {

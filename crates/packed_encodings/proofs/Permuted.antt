@@ -5,7 +5,7 @@ use Rattle.std.specs.List.{swap, AllByRecursion}
 use Rattle.std.specs.List.Sorted.{IsPermutation}
 use Rattle.std.proofs.lemmas.List.Sorted.{IsPermutation-keeps}
 use Rattle.packed_encodings.specs.Lengths.{Bits, Items}
-use Rattle.packed_encodings.specs.Orders.{AtMost, Ascending}
+use Rattle.packed_encodings.specs.Orders.{BitsAtMost, BitsAscend}
 use Rattle.packed_encodings.specs.Computed.{sorted}
 use Rattle.packed_encodings.proofs.Sorting.{Inserted, here, there, Permutes, permutes_none, permutes_more, permutes_sym, permutes_trans, sorted_same}
 use Rattle.packed_encodings.proofs.ComputedBits.{sorted_permutes, sorted_ascends}
@@ -45,7 +45,7 @@ module _ (P : Bits → Type 0) where
   all_permuted a permutes_none = tt
   all_permuted a (permutes_more p i) = all_put a.0 (all_permuted a.1 p) i
 
-  pub sorted_is : (anti : (x y : Bits) → P x → P y → AtMost x y → AtMost y x → x ≡ y) (xs ys : Items) → AllByRecursion P xs → IsPermutation xs ys → Ascending ys → sorted xs ≡ ys
+  pub sorted_is : (anti : (x y : Bits) → P x → P y → BitsAtMost x y → BitsAtMost y x → x ≡ y) (xs ys : Items) → AllByRecursion P xs → IsPermutation xs ys → BitsAscend ys → sorted xs ≡ ys
   sorted_is anti xs ys a h l =
       let p = permutes_from xs ys h in
       sorted_same P anti (all_permuted a p) (permutes_trans (permutes_sym p) (sorted_permutes xs)) l (sorted_ascends xs)

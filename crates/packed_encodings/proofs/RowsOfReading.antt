@@ -13,10 +13,10 @@ use Rattle.asn_base.specs.Types.{Constraint, Bounds, any_size, a_boolean, an_int
 use Rattle.encodings.specs.Header.{septets}
 use Rattle.packed_encodings.specs.Lengths.{Bits, Items, all_bits, fewest_bits, Counted, CountedOctets, short, fragment, sized, wide, narrow, sized_in_root, sized_outside, long}
 use Rattle.packed_encodings.specs.Numbers.{IntegerInRoot, between, Integer, integer_bounded}
-use Rattle.packed_encodings.specs.Leaves.{Leaf, of_boolean, of_integer, of_octets, of_relative_oid}
+use Rattle.packed_encodings.specs.Leaves.{LeafPer, of_boolean, of_integer, of_octets, of_relative_oid}
 use Rattle.packed_encodings.specs.Orders.{beside_none, beside_absent, beside_present}
-use Rattle.packed_encodings.specs.Padding.{Padded, padded, open_type, Unknown, no_bit, set_bit}
-use Rattle.packed_encodings.specs.Packing.{exact, lenient, no_marker, some_stand, Says, says, leaf, sequence, sequence_of, no_member, must_stand, may_stand, no_addition, added, not_added, Elements, no_element, element, Reads, Form, Holds}
+use Rattle.packed_encodings.specs.Padding.{Padded, padded, open_type, UnknownAdditions, no_bit, set_bit}
+use Rattle.packed_encodings.specs.Packing.{exact, lenient, no_marker, some_member_present, EncodesPer, says, leaf, sequence, sequence_of, no_member, must_be_present, may_be_present, no_addition, added, not_added, ElementsPer, no_element, element, Reads, Form, EncodesKindPer}
 use Rattle.packed_encodings.specs.Weights.{weight}
 use Rattle.packed_encodings.proofs.Rows.{of_kind, is_component, from_to, new, truths}
 use Rattle.asn_base.specs.declared.tag.Tag.{Tag}
@@ -31,7 +31,7 @@ use Rattle.packed_encodings.proofs.Free.{octets_front}
 -- octets, which are filled up, say a value
 record IsRead (s : List Resolved) (w : AbstractValue) (k : ℕ) (o : List ℕ) : Type 0 where
   bits : Bits
-  says_it : Says s lenient 0 w k bits
+  says_it : EncodesPer s lenient 0 w k bits
   filled : Padded bits o
 
 -- ---- additions
@@ -44,8 +44,8 @@ one_unknown : IsRead without_additions (fields (present (boolean true) end)) 1 (
 one_unknown = record {
   bits = _;
   says_it = says (record { found = refl })
-      (sequence (beside_present beside_none) (must_stand refl (says (record { found = refl }) (leaf of_boolean)) no_member) no_addition
-      (some_stand {u = true ∷ []} (true ∷ []) (inl refl) refl (lit≤ tt)
+      (sequence (beside_present beside_none) (must_be_present refl (says (record { found = refl }) (leaf of_boolean)) no_member) no_addition
+      (some_member_present {u = true ∷ []} (true ∷ []) (inl refl) refl (lit≤ tt)
       (set_bit {o = 160 ∷ []} (omega arith) (record { octets = (lit< tt, tt); counted = short (lit< tt) }) no_bit)));
   filled = padded 6 (lit≤ tt) (lit< tt) (lit< tt, (lit< tt, (lit< tt, (lit< tt, tt)))) refl;
 }
@@ -55,15 +55,15 @@ two_unknown : IsRead without_additions (fields (present (boolean true) end)) 2 (
 two_unknown = record {
   bits = _;
   says_it = says (record { found = refl })
-      (sequence (beside_present beside_none) (must_stand refl (says (record { found = refl }) (leaf of_boolean)) no_member) no_addition
-      (some_stand {u = true ∷ true ∷ []} (true ∷ true ∷ []) (inl refl) refl (lit≤ tt)
+      (sequence (beside_present beside_none) (must_be_present refl (says (record { found = refl }) (leaf of_boolean)) no_member) no_addition
+      (some_member_present {u = true ∷ true ∷ []} (true ∷ true ∷ []) (inl refl) refl (lit≤ tt)
       (set_bit {o = 160 ∷ []} (omega arith) (record { octets = (lit< tt, tt); counted = short (lit< tt) })
       (set_bit {o = 0 ∷ []} (omega arith) (record { octets = (lit< tt, tt); counted = short (lit< tt) }) no_bit))));
   filled = padded 5 (lit≤ tt) (lit< tt) (lit< tt, (lit< tt, (lit< tt, (lit< tt, (lit< tt, (lit< tt, tt)))))) refl;
 }
 
 -- an open type of no octets, 00, is that of no addition
-no_octets : {k : ℕ} {y : Bits} → Unknown (true ∷ []) k y → y ≡ replicate 8 false → ⊥
+no_octets : {k : ℕ} {y : Bits} → UnknownAdditions (true ∷ []) k y → y ≡ replicate 8 false → ⊥
 no_octets (set_bit {x = x} {b = b} some c a) e =
     let o = octets_front {r = []} b [] c (record { octets = tt; counted = short (lit< tt) }) e in
     let l = ap length o.0 in
@@ -78,11 +78,11 @@ fewer_told : IsRead with_two (fields (present (boolean true) (present (integer (
 fewer_told = record {
   bits = _;
   says_it = says (record { found = refl })
-      (sequence (beside_present (beside_present (beside_absent beside_none))) (must_stand refl (says (record { found = refl }) (leaf of_boolean)) no_member)
+      (sequence (beside_present (beside_present (beside_absent beside_none))) (must_be_present refl (says (record { found = refl }) (leaf of_boolean)) no_member)
       (added (says (record { found = refl }) (leaf (of_integer (integer_bounded refl (between (pos 0) 7 5 refl refl (lit≤ tt) refl)))))
       (open_type {o = 160 ∷ []} (padded 5 (lit≤ tt) (lit< tt) (lit< tt, tt) refl) (record { octets = (lit< tt, tt); counted = short (lit< tt) }))
       (not_added no_addition))
-      (some_stand {u = []} (true ∷ []) (inr (refl, 1, refl)) refl (lit≤ tt) no_bit));
+      (some_member_present {u = []} (true ∷ []) (inr (refl, 1, refl)) refl (lit≤ tt) no_bit));
   filled = padded 6 (lit≤ tt) (lit< tt) (lit< tt, (lit< tt, (lit< tt, (lit< tt, tt)))) refl;
 }
 
@@ -96,10 +96,10 @@ default_beside_addition = record {
   bits = _;
   says_it = says (record { found = refl })
       (sequence (beside_present beside_none)
-      (may_stand refl
+      (may_be_present refl
       (says (record { found = refl })
-      (sequence (beside_present beside_none) (must_stand refl (says (record { found = refl }) (leaf of_boolean)) no_member) no_addition
-      (some_stand {u = true ∷ []} (true ∷ []) (inl refl) refl (lit≤ tt)
+      (sequence (beside_present beside_none) (must_be_present refl (says (record { found = refl }) (leaf of_boolean)) no_member) no_addition
+      (some_member_present {u = true ∷ []} (true ∷ []) (inl refl) refl (lit≤ tt)
       (set_bit {o = 160 ∷ []} (omega arith) (record { octets = (lit< tt, tt); counted = short (lit< tt) }) no_bit))))
       (λ z. absurd (omega arith))
       no_member)
@@ -122,7 +122,7 @@ too_heavy r h = let l = r.light in omega (arith, l, h)
 
 -- ---- long values
 
-truths_are : (s : List Resolved) (n : ℕ) → Elements (of_kind (a_sequence_of any_size 1) ∷ of_kind a_boolean ∷ s) exact 1 (truths n) 0 (replicate n (true ∷ []))
+truths_are : (s : List Resolved) (n : ℕ) → ElementsPer (of_kind (a_sequence_of any_size 1) ∷ of_kind a_boolean ∷ s) exact 1 (truths n) 0 (replicate n (true ∷ []))
 truths_are s zero = no_element
 truths_are s (suc n) = element (says (record { found = refl }) (leaf of_boolean)) (truths_are s n)
 
@@ -130,7 +130,7 @@ counted_at : {xs ys : Items} {b : Bits} → xs ≡ ys → Counted xs b → Count
 counted_at {b = b} e a = subst (λ q. Counted q b) e a
 
 -- SEQUENCE OF BOOLEAN with 16,384 times TRUE: C1, as many bits 1, and 00
-many_truths : (n : ℕ) → n ≡ 16384 → Says (of_kind (a_sequence_of any_size 1) ∷ of_kind a_boolean ∷ []) exact 0 (list (truths n)) 0 (true ∷ (true ∷ (word 6 1 ++ (all_bits (replicate n (true ∷ [])) ++ (false ∷ (word 7 0 ++ []))))))
+many_truths : (n : ℕ) → n ≡ 16384 → EncodesPer (of_kind (a_sequence_of any_size 1) ∷ of_kind a_boolean ∷ []) exact 0 (list (truths n)) 0 (true ∷ (true ∷ (word 6 1 ++ (all_bits (replicate n (true ∷ [])) ++ (false ∷ (word 7 0 ++ []))))))
 many_truths n e =
     let l = length-replicate n (true ∷ []) in
     says (record { found = refl }) (sequence_of (truths_are [] n) (sized refl (wide (λ h. h) (at_least_zero (length (replicate n (true ∷ []))), tt)
@@ -145,7 +145,7 @@ many_truths n e =
 
 -- OCTET STRING of 81,921 octets: C4, 65,536 octets, C1, 16,384 octets, 01 and one
 many_octets : (a b : List ℕ) (c : ℕ) → AllBelowBase 256 (a ++ (b ++ (c ∷ []))) → length a ≡ 65536 → length b ≡ 16384
-    → Leaf (an_octet_string any_size) (octets (a ++ (b ++ (c ∷ []))))
+    → LeafPer (an_octet_string any_size) (octets (a ++ (b ++ (c ∷ []))))
     (true ∷ (true ∷ (word 6 4 ++ (all_bits (map (word 8) a) ++ (true ∷ (true ∷ (word 6 1 ++ (all_bits (map (word 8) b) ++ (false ∷ (word 7 1 ++ (word 8 c ++ [])))))))))))
 many_octets a b c below la lb = of_octets below (sized refl (wide (λ h. h) (at_least_zero (length (map (word 8) (a ++ (b ++ (c ∷ []))))), tt)
     (counted_at (sym (parts a (b ++ (c ∷ [])) ∙ ap (λ q. map (word 8) a ++ q) (parts b (c ∷ []))))
@@ -212,7 +212,7 @@ greatest_arc n a b c d e f g h ea eb ec ed ee ef eg eh en =
     ap (λ z. map (λ d. 128 + d) (digits_of 128 z) ++ ((n % 128) ∷ [])) q ∙ ap (λ z. map (λ d. 128 + d) z ++ ((n % 128) ∷ [])) dh ∙ ap (λ z. map (λ d. 128 + d) (1 ∷ replicate 8 127) ++ (z ∷ [])) r
 
 -- RELATIVE-OID {18446744073709551615}: 0A, 81, eight octets FF and 7F
-greatest_relative : (n a b c d e f g h : ℕ) → a ≡ 255 → b ≡ a * 128 + 127 → c ≡ b * 128 + 127 → d ≡ c * 128 + 127 → e ≡ d * 128 + 127 → f ≡ e * 128 + 127 → g ≡ f * 128 + 127 → h ≡ g * 128 + 127 → n ≡ h * 128 + 127 → Leaf a_relative_oid (relative_oid (n ∷ [])) (false ∷ (word 7 10 ++ all_bits (map (word 8) (129 ∷ (replicate 8 255 ++ (127 ∷ []))))))
+greatest_relative : (n a b c d e f g h : ℕ) → a ≡ 255 → b ≡ a * 128 + 127 → c ≡ b * 128 + 127 → d ≡ c * 128 + 127 → e ≡ d * 128 + 127 → f ≡ e * 128 + 127 → g ≡ f * 128 + 127 → h ≡ g * 128 + 127 → n ≡ h * 128 + 127 → LeafPer a_relative_oid (relative_oid (n ∷ [])) (false ∷ (word 7 10 ++ all_bits (map (word 8) (129 ∷ (replicate 8 255 ++ (127 ∷ []))))))
 greatest_relative n a b c d e f g h ea eb ec ed ee ef eg eh en =
     of_relative_oid (record { some = lit≤ tt; at_most = lit≤ tt; small = (omega arith, tt) })
     (subst (λ z. CountedOctets z (false ∷ (word 7 10 ++ all_bits (map (word 8) (129 ∷ (replicate 8 255 ++ (127 ∷ []))))))) (sym (ap (λ z. z ++ []) (greatest_arc n a b c d e f g h ea eb ec ed ee ef eg eh en)))
@@ -229,7 +229,7 @@ greatest_relative_read = record {
 
 -- ---- refusals
 
-true_bit : {s : List Resolved} {t : ℕ} {tags : List Tag} → Is s t tags a_boolean → Says s lenient t (boolean true) 0 (true ∷ [])
+true_bit : {s : List Resolved} {t : ℕ} {tags : List Tag} → Is s t tags a_boolean → EncodesPer s lenient t (boolean true) 0 (true ∷ [])
 true_bit i = says i (leaf of_boolean)
 
 true_octet : Padded (true ∷ []) (128 ∷ [])
@@ -257,7 +257,7 @@ in_union = record {
   visible = (from_to 1 8).visible;
 }
 
-four_bits : {s : List Resolved} {t : ℕ} {tags : List Tag} → Is s t tags (an_integer in_union) → Says s lenient t (integer (pos 4)) 0 (false ∷ (true ∷ (true ∷ [])))
+four_bits : {s : List Resolved} {t : ℕ} {tags : List Tag} → Is s t tags (an_integer in_union) → EncodesPer s lenient t (integer (pos 4)) 0 (false ∷ (true ∷ (true ∷ [])))
 four_bits i = says i (leaf (of_integer (integer_bounded refl (between (pos 1) 7 3 refl refl (lit≤ tt) refl))))
 
 allowed_integer : {s : List Resolved} {n : ℕ} {c : Constraint} {z : ℤ} → ValueOf s n (an_integer c) (integer z) → IsAllowed c z
@@ -277,7 +277,7 @@ none_between s t k tags w i is r =
     four_excluded (allowed_there (subst (λ v. IsValue s t v) p.1 r.value).shaped is)
 
 -- OCTET STRING reads no value from 800101: the number of octets, 1, is in two octets, although one is enough
-octets_counted : {w : AbstractValue} {b : Bits} → Leaf (an_octet_string any_size) w b → (xs : Items) × Counted xs b
+octets_counted : {w : AbstractValue} {b : Bits} → LeafPer (an_octet_string any_size) w b → (xs : Items) × Counted xs b
 octets_counted (of_octets {o = o} below (sized e (narrow l m n f g h i j))) = absurd (no_number g)
   where
     no_number : {z : ℤ} → None ≡ Some z → ⊥
@@ -286,10 +286,10 @@ octets_counted (of_octets {o = o} below (sized e (wide f g c))) = (map (word 8) 
 octets_counted (of_octets below (sized_in_root e c)) = absurd (not_true e)
 octets_counted (of_octets below (sized_outside e f c)) = absurd (not_true e)
 
-counted_there : {s : List Resolved} {f : Form} {t k : ℕ} {tags : List Tag} {w : AbstractValue} {b : Bits} → Says s f t w k b → Is s t tags (an_octet_string any_size) → (xs : Items) × Counted xs b
+counted_there : {s : List Resolved} {f : Form} {t k : ℕ} {tags : List Tag} {w : AbstractValue} {b : Bits} → EncodesPer s f t w k b → Is s t tags (an_octet_string any_size) → (xs : Items) × Counted xs b
 counted_there (says i h) j = of_kind_there (holds_at (same_kind i j) h)
   where
-    of_kind_there : {s : List Resolved} {f : Form} {k : ℕ} {w : AbstractValue} {b : Bits} → Holds s f (an_octet_string any_size) w k b → (xs : Items) × Counted xs b
+    of_kind_there : {s : List Resolved} {f : Form} {k : ℕ} {w : AbstractValue} {b : Bits} → EncodesKindPer s f (an_octet_string any_size) w k b → (xs : Items) × Counted xs b
     of_kind_there (leaf a) = octets_counted a
 
 no_longer_count : {xs : Items} {b : Bits} (z : Bits) → Counted xs b → octet_bits (128 ∷ (1 ∷ (1 ∷ []))) ≡ b ++ z → ⊥

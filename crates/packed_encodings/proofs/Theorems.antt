@@ -9,16 +9,16 @@ use Rattle.asn_base.specs.Schemas.{IsSchema}
 use Rattle.encodings.specs.Header.{Octets}
 use Rattle.packed_encodings.specs.Lengths.{Bits}
 use Rattle.packed_encodings.specs.Padding.{Padded}
-use Rattle.packed_encodings.specs.Packing.{Form, exact, lenient, Says, Packed, Reads}
+use Rattle.packed_encodings.specs.Packing.{Form, exact, lenient, EncodesPer, Packed, Reads}
 use Rattle.packed_encodings.proofs.Words.{in_front_of}
 use Rattle.packed_encodings.proofs.Fronts.{front, padded_bits}
-use Rattle.packed_encodings.proofs.Weaker.{says_lenient}
+use Rattle.packed_encodings.proofs.Weaker.{encodes_lenient}
 use Rattle.packed_encodings.proofs.Single.{padded_only}
 use Rattle.packed_encodings.proofs.Only.{only}
 use Rattle.packed_encodings.specs.Weights.{weight}
 use Rattle.packed_encodings.proofs.Weighing.{few, few_nodes}
 
-pub none_begins_another : (s : List Resolved) (f : Form) (t j k : ℕ) (v w : AbstractValue) (x y p q : Bits) → IsSchema s → Says s f t v j x → Says s f t w k y → x ++ p ≡ y ++ q → (v ≡ w) × (j ≡ k) × (x ≡ y) × (p ≡ q)
+pub none_begins_another : (s : List Resolved) (f : Form) (t j k : ℕ) (v w : AbstractValue) (x y p q : Bits) → IsSchema s → EncodesPer s f t v j x → EncodesPer s f t w k y → x ++ p ≡ y ++ q → (v ≡ w) × (j ≡ k) × (x ≡ y) × (p ≡ q)
 none_begins_another s f t j k v w x y p q i a b e =
     let r = front s f i p q a b e in
     (r.0, r.1, in_front_of x y q (subst (λ z. x ++ z ≡ y ++ q) r.2 e), r.2)
@@ -30,7 +30,7 @@ one_message s t j k v w o i a b =
     let r = front s lenient i f.0 g.0 a.says_it b.says_it (sym f.1 ∙ g.1) in
     (r.0, r.1)
 
-pub only_filled : (s : List Resolved) (t j k : ℕ) (v w : AbstractValue) (x p : Bits) (o : Octets) → IsSchema s → Says s lenient t v j x → octet_bits o ≡ x ++ p → Reads s t w k o → Padded x o × (w ≡ v) × (k ≡ j)
+pub only_filled : (s : List Resolved) (t j k : ℕ) (v w : AbstractValue) (x p : Bits) (o : Octets) → IsSchema s → EncodesPer s lenient t v j x → octet_bits o ≡ x ++ p → Reads s t w k o → Padded x o × (w ≡ v) × (k ≡ j)
 only_filled s t j k v w x p o i a e b =
     let g = padded_bits b.filled in
     let n = none_begins_another s lenient t k j w v b.bits x g.0 p i b.says_it a (sym g.1 ∙ e) in
@@ -69,4 +69,4 @@ pub a_message : (s : List Resolved) → ((t : ℕ) (v w : AbstractValue) → Ali
 a_message s turn t v x o i l a p =
     let n = few s turn a.1.are_alike a.2 in
     let m = few_nodes a.0 in
-    (a.0, a.1, record { value = record { shaped = a.1.second; few_nodes = omega (arith, n, m, l) }; light = omega (arith, n, l); bits = x; says_it = says_lenient s a.2; filled = p })
+    (a.0, a.1, record { value = record { shaped = a.1.second; few_nodes = omega (arith, n, m, l) }; light = omega (arith, n, l); bits = x; says_it = encodes_lenient s a.2; filled = p })

@@ -19,9 +19,10 @@ use Rattle.encodings.specs.Encoding.{IsDefault}
 use Rattle.encodings.specs.Header.{septets}
 use Rattle.packed_encodings.specs.Lengths.{Bits, Items, all_bits, fewest_bits}
 use Rattle.packed_encodings.specs.Leaves.{place_width, place_bits, root_bit, singly}
-use Rattle.packed_encodings.specs.Orders.{rank, Member, missing, standing, any_stands, root_of, behind_marker}
+use Rattle.packed_encodings.specs.Orders.{canonical_place, Member, missing, standing, any_present, root_members}
+use Rattle.packed_encodings.specs.Orders.{past_marker}
 use Rattle.packed_encodings.specs.Orders.{canonical, has_bit, Addition, alone, bracketed, additions}
-use Rattle.packed_encodings.specs.Packing.{any_set}
+use Rattle.packed_encodings.specs.Packing.{EncodesPer, any_set, exact}
 
 -- ---- items after their number
 
@@ -261,14 +262,14 @@ abbrev pub addition_map : List (Addition Bits) → Bits
 addition_map [] = []
 addition_map (alone (missing c) ∷ as') = false ∷ addition_map as'
 addition_map (alone (standing c x) ∷ as') = true ∷ addition_map as'
-addition_map (bracketed ms ∷ as') = any_stands ms ∷ addition_map as'
+addition_map (bracketed ms ∷ as') = any_present ms ∷ addition_map as'
 
 abbrev pub addition_bits : List (Addition Bits) → Bits
 addition_bits [] = []
 addition_bits (alone (missing c) ∷ as') = addition_bits as'
 addition_bits (alone (standing c x) ∷ as') = open_bits x ++ addition_bits as'
 addition_bits (bracketed ms ∷ as') =
-    if any_stands ms then open_bits (presence_bits ms ++ member_bits ms) ++ addition_bits as' else addition_bits as'
+    if any_present ms then open_bits (presence_bits ms ++ member_bits ms) ++ addition_bits as' else addition_bits as'
 
 abbrev pub extended_bits : Bool → (r q d : Bits) → Bits
 extended_bits e r q d =
@@ -279,12 +280,12 @@ extended_bits e r q d =
 -- the bits of a SEQUENCE or SET, from its root's members in the order in which they are encoded, and all members
 abbrev pub fields_bits : Bool → (root all : List (Member Bits)) → Bits
 fields_bits e root all =
-    extended_bits e (presence_bits root ++ member_bits root) (addition_map (additions (behind_marker all)))
-    (addition_bits (additions (behind_marker all)))
+    extended_bits e (presence_bits root ++ member_bits root) (addition_map (additions (past_marker all)))
+    (addition_bits (additions (past_marker all)))
 
 abbrev pub structure_bits : List Resolved → Kind → List (Member Bits) → Bits
-structure_bits s (a_sequence e cs) ms = fields_bits e (root_of ms) ms
-structure_bits s (a_set e cs) ms = fields_bits e (canonical s (root_of ms)) ms
+structure_bits s (a_sequence e cs) ms = fields_bits e (root_members ms) ms
+structure_bits s (a_set e cs) ms = fields_bits e (canonical s (root_members ms)) ms
 structure_bits s k ms = []
 
 -- ---- lists and alternatives
@@ -325,7 +326,7 @@ alternative_of k i = 0
 abbrev pub choice_bits : List Resolved → Kind → ℕ → Bits → Bits
 choice_bits s (a_choice root e more) i x =
     if nat_lt i (length root)
-    then root_bit e ++ (place_bits (length root) (rank s root (type_of (slice_get root i))) ++ x)
+    then root_bit e ++ (place_bits (length root) (canonical_place s root (type_of (slice_get root i))) ++ x)
     else true ∷ (false ∷ (word 6 (i - length root) ++ open_bits x))
 choice_bits s k i x = []
 
@@ -373,8 +374,12 @@ bits_of s v t = bits_by (is_default s) s v t
 abbrev pub octets_of : List Resolved → AbstractValue → TypeNumber → List ℕ
 octets_of s v t = padded_octets (bits_of s v t)
 
+-- bits b are the written bits of some value of type t of schema s
+abbrev pub IsEncoding : List Resolved → TypeNumber → Bits → Type 0
+IsEncoding s t b = (w : AbstractValue) × EncodesPer s exact t w 0 b
+
 -- the test is true of the values of a component that are the same as its DEFAULT, and of no others
-pub record TellsDefaults (s : List Resolved) (test : DefaultTest) : Type 0 where
+pub record DecidesDefaults (s : List Resolved) (test : DefaultTest) : Type 0 where
   pub is_default : (n : ℕ) (c : Component) (v : AbstractValue)
       → HasValue s c
       → ValueIn s n c.type v

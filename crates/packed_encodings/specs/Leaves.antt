@@ -74,39 +74,39 @@ singly = map (λ b. b ∷ [])
 
 -- The bits are those of a value of this kind, which holds no others (X.691, clauses 12 to 14, 16 to 18, 24, 25 and 30).
 -- A value with named bits has no trailing zero bit (16.2).
-pub data Leaf : Kind → AbstractValue → Bits → Type 0 where
-  of_boolean : {b : Bool} → Leaf a_boolean (boolean b) (b ∷ [])  -- 12.1
+pub data LeafPer : Kind → AbstractValue → Bits → Type 0 where
+  of_boolean : {b : Bool} → LeafPer a_boolean (boolean b) (b ∷ [])  -- 12.1
   of_integer : {c : Constraint} {z : ℤ} {b : Bits}
       → Integer c.visible z b  -- 13
-      → Leaf (an_integer c) (integer z) b
+      → LeafPer (an_integer c) (integer z) b
   of_enumerated : {root more : List Item} {e : Bool} {z : ℤ} {b : Bits}
       → ItemBits root e more z b  -- 14
-      → Leaf (an_enumerated root e more) (enumerated z) b
+      → LeafPer (an_enumerated root e more) (enumerated z) b
   of_bits : {c : Constraint} {v b : Bits}
       → Sized c.visible (singly v) b  -- 16.6 to 16.11
-      → Leaf (a_bit_string c) (bits v) b
+      → LeafPer (a_bit_string c) (bits v) b
   of_named_bits : {ns : List NamedBit} {v b : Bits}
       → EndsInOne v  -- 16.2
       → Counted (singly v) b  -- 16.11
-      → Leaf (a_named_bit_string ns) (bits v) b
+      → LeafPer (a_named_bit_string ns) (bits v) b
   of_octets : {c : Constraint} {o : Octets} {b : Bits}
       → AllBelowBase 256 o
       → Sized c.visible (map (word 8) o) b  -- 17.3 to 17.8
-      → Leaf (an_octet_string c) (octets o) b
-  of_null : Leaf a_null null []  -- 18
+      → LeafPer (an_octet_string c) (octets o) b
+  of_null : LeafPer a_null null []  -- 18
   of_oid : {ns : List ℕ} {b : Bits}
       → IsObjectIdentifier ns
       → CountedOctets (flat_map septets (joined ns)) b  -- 24
-      → Leaf an_object_identifier (oid ns) b
+      → LeafPer an_object_identifier (oid ns) b
   of_relative_oid : {ns : List ℕ} {b : Bits}
       → IsRelativeOid ns
       → CountedOctets (flat_map septets ns) b  -- 25
-      → Leaf a_relative_oid (relative_oid ns) b
+      → LeafPer a_relative_oid (relative_oid ns) b
   -- the SIZE of a UTF8String makes no difference to the bits
   of_utf8 : {c : Constraint} {o : Octets} {b : Bits}
       → CountedOctets o b  -- 30.6
-      → Leaf (a_utf8_string c) (text o) b
+      → LeafPer (a_utf8_string c) (text o) b
   of_restricted : {k : StringKind} {a : List ℕ} {c : Constraint} {o : Octets} {xs : Items} {b : Bits}
       → Characters a o xs
       → Sized c.visible xs b  -- 30.5
-      → Leaf (a_restricted_string k a c) (text o) b
+      → LeafPer (a_restricted_string k a c) (text o) b

@@ -43,8 +43,8 @@ pub data Counted : Items → Bits → Type 0 where
       → Counted (xs ++ ys) (true ∷ (true ∷ (word 6 m ++ (all_bits xs ++ b))))  -- 11.9.3.8
 
 -- number v is from the least to the greatest number of the root with bounds z (X.691, clause 10.3)
-abbrev pub IsInRoot : Bounds → ℤ → Type 0
-IsInRoot z v = IsInRange v (record { least = z.least; greatest = z.greatest })
+abbrev pub IsInRootBounds : Bounds → ℤ → Type 0
+IsInRootBounds z v = IsInRange v (record { least = z.least; greatest = z.greatest })
 
 -- an upper bound below 65,536, with which the number of items takes the fewest bits (X.691, clause 11.9.4.1)
 abbrev pub IsNarrow : Option ℤ → Type 0
@@ -64,7 +64,7 @@ pub data CountedInRoot (z : Bounds) : Items → Bits → Type 0 where
   -- the upper bound is 65,536 or more, or there is none
   wide : {xs : Items} {b : Bits}
       → (IsNarrow z.greatest → ⊥)
-      → IsInRoot z (pos (length xs))
+      → IsInRootBounds z (pos (length xs))
       → Counted xs b
       → CountedInRoot z xs b  -- 11.9.4.2
 
@@ -81,7 +81,7 @@ pub data Sized (z : Bounds) : Items → Bits → Type 0 where
       → Sized z xs (false ∷ b)
   sized_outside : {xs : Items} {b : Bits}
       → z.extensible ≡ true
-      → (IsInRoot z (pos (length xs)) → ⊥)
+      → (IsInRootBounds z (pos (length xs)) → ⊥)
       → Counted xs b
       → Sized z xs (true ∷ b)
 

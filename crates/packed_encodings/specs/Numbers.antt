@@ -5,7 +5,7 @@ use Rattle.asn_base.specs.Types.{Bounds}
 use Rattle.bits.specs.Words.{word}
 use Rattle.encodings.specs.Contents.{Number}
 use Rattle.encodings.specs.Header.{Octets}
-use Rattle.packed_encodings.specs.Lengths.{Bits, fewest_bits, IsInRoot, CountedOctets}
+use Rattle.packed_encodings.specs.Lengths.{Bits, fewest_bits, IsInRootBounds, CountedOctets}
 
 -- octets o, at least one, are the number n, which isn't negative (X.691, clause 11.3)
 pub record Unsigned (n : ℕ) (o : Octets) : Type 0 where
@@ -56,7 +56,7 @@ pub data Integer (z : Bounds) : ℤ → Bits → Type 0 where
       → Integer z v (false ∷ b)  -- 13.1
   integer_outside : {v : ℤ} {o : Octets} {b : Bits}
       → z.extensible ≡ true
-      → (IsInRoot z v → ⊥)
+      → (IsInRootBounds z v → ⊥)
       → Number v o
       → CountedOctets o b
       → Integer z v (true ∷ b)  -- 13.1

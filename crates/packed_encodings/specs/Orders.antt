@@ -14,8 +14,8 @@ use Rattle.packed_encodings.specs.Lengths.{Bits, Items}
 -- ---- tags
 
 -- whether tag g comes before tag f in the canonical order of tags (X.680, clause 8.6)
-abbrev pub before : Tag → Tag → Bool
-before g f =
+abbrev pub tag_precedes : Tag → Tag → Bool
+tag_precedes g f =
     nat_lt (class_rank g.class) (class_rank f.class)
     || ((class_rank g.class == class_rank f.class) && nat_lt g.number f.number)
 
@@ -30,19 +30,19 @@ tag_at s t = elim (slice_get s t) [ None ↦ None | Some r ↦ outermost r.tags 
 
 -- whether both tags are there and the first comes before the second in the canonical order (X.680, clause 8.6)
 abbrev pub both_before : Option Tag → Option Tag → Bool
-both_before (Some g) (Some f) = before g f
+both_before (Some g) (Some f) = tag_precedes g f
 both_before g f = false
 
 -- whether the outermost tag of type t of schema s comes before that of type u in the canonical order (X.680, clause
 -- 8.6)
-abbrev pub stands_before : List Resolved → TypeNumber → TypeNumber → Bool
-stands_before s t u = both_before (tag_at s t) (tag_at s u)
+abbrev pub precedes : List Resolved → TypeNumber → TypeNumber → Bool
+precedes s t u = both_before (tag_at s t) (tag_at s u)
 
 -- how many alternatives are before type t in the canonical order of tags, which is its place among them (X.691, clause
 -- 23.4)
-abbrev pub rank : List Resolved → List Alternative → TypeNumber → ℕ
-rank s [] t = 0
-rank s (a ∷ as') t = (if stands_before s a.type t then 1 else 0) + rank s as' t
+abbrev pub canonical_place : List Resolved → List Alternative → TypeNumber → ℕ
+canonical_place s [] t = 0
+canonical_place s (a ∷ as') t = (if precedes s a.type t then 1 else 0) + canonical_place s as' t
 
 -- ---- members
 
@@ -57,14 +57,14 @@ component (missing c) = c
 component (standing c x) = c
 
 -- whether the member, a component, is present
-abbrev pub stands : {X : Type 0} → Member X → Bool
-stands (missing c) = false
-stands (standing c x) = true
+abbrev pub is_present : {X : Type 0} → Member X → Bool
+is_present (missing c) = false
+is_present (standing c x) = true
 
 -- whether one of the components is present
-abbrev pub any_stands : {X : Type 0} → List (Member X) → Bool
-any_stands [] = false
-any_stands (m ∷ ms) = stands m || any_stands ms
+abbrev pub any_present : {X : Type 0} → List (Member X) → Bool
+any_present [] = false
+any_present (m ∷ ms) = is_present m || any_present ms
 
 -- the members are the components, in order of definition, each with the value that it has in the row
 pub data Beside : List Component → Row → List (Member AbstractValue) → Type 0 where
@@ -78,25 +78,25 @@ pub data Beside : List Component → Row → List (Member AbstractValue) → Typ
       → Beside (c ∷ cs) (present w ws) (standing c w ∷ ms)
 
 -- the members whose components are in the root, in order
-abbrev pub root_of : {X : Type 0} → List (Member X) → List (Member X)
-root_of [] = []
-root_of (m ∷ ms) = if is_addition (component m) then root_of ms else m ∷ root_of ms
+abbrev pub root_members : {X : Type 0} → List (Member X) → List (Member X)
+root_members [] = []
+root_members (m ∷ ms) = if is_addition (component m) then root_members ms else m ∷ root_members ms
 
 -- the members whose components come after the extension marker, in order
-abbrev pub behind_marker : {X : Type 0} → List (Member X) → List (Member X)
-behind_marker [] = []
-behind_marker (m ∷ ms) = if is_addition (component m) then m ∷ behind_marker ms else behind_marker ms
+abbrev pub past_marker : {X : Type 0} → List (Member X) → List (Member X)
+past_marker [] = []
+past_marker (m ∷ ms) = if is_addition (component m) then m ∷ past_marker ms else past_marker ms
 
 -- the members with m put in its place, directly after the first ones, whose tags are before its own
-abbrev pub placed : {X : Type 0} → List Resolved → Member X → List (Member X) → List (Member X)
-placed s m [] = m ∷ []
-placed s m (n ∷ ns) =
-    if stands_before s (component n).type (component m).type then n ∷ placed s m ns else m ∷ (n ∷ ns)
+abbrev pub placed_by_tag : {X : Type 0} → List Resolved → Member X → List (Member X) → List (Member X)
+placed_by_tag s m [] = m ∷ []
+placed_by_tag s m (n ∷ ns) =
+    if precedes s (component n).type (component m).type then n ∷ placed_by_tag s m ns else m ∷ (n ∷ ns)
 
 -- the members in the canonical order of their tags (X.691, clause 21.1)
 abbrev pub canonical : {X : Type 0} → List Resolved → List (Member X) → List (Member X)
 canonical s [] = []
-canonical s (m ∷ ms) = placed s m (canonical s ms)
+canonical s (m ∷ ms) = placed_by_tag s m (canonical s ms)
 
 -- whether a component of this presence is OPTIONAL or has a DEFAULT, and so has a bit, 1 if it is present (X.691,
 -- clauses 19.2 and 19.9)
@@ -133,16 +133,16 @@ additions (m ∷ ms) = in_front (group_of (component m).presence) m (additions m
 -- ---- the order in a SET OF
 
 -- The first bits are at most the second ones, after the shorter ones are filled with zeros (X.691, clause 22.1).
-abbrev pub AtMost : Bits → Bits → Type 0
-AtMost [] ys = Unit {0}
-AtMost (x ∷ xs) [] = (x ≡ false) × AtMost xs []
-AtMost (false ∷ xs) (true ∷ ys) = Unit {0}
-AtMost (true ∷ xs) (false ∷ ys) = ⊥
-AtMost (false ∷ xs) (false ∷ ys) = AtMost xs ys
-AtMost (true ∷ xs) (true ∷ ys) = AtMost xs ys
+abbrev pub BitsAtMost : Bits → Bits → Type 0
+BitsAtMost [] ys = Unit {0}
+BitsAtMost (x ∷ xs) [] = (x ≡ false) × BitsAtMost xs []
+BitsAtMost (false ∷ xs) (true ∷ ys) = Unit {0}
+BitsAtMost (true ∷ xs) (false ∷ ys) = ⊥
+BitsAtMost (false ∷ xs) (false ∷ ys) = BitsAtMost xs ys
+BitsAtMost (true ∷ xs) (true ∷ ys) = BitsAtMost xs ys
 
 -- the bits of each item are at most those of the next (X.691, clause 22.1)
-pub data Ascending : Items → Type 0 where
-  ascending_none : Ascending []
-  ascending_one : {x : Bits} → Ascending (x ∷ [])
-  ascending_more : {x y : Bits} {ys : Items} → AtMost x y → Ascending (y ∷ ys) → Ascending (x ∷ y ∷ ys)
+pub data BitsAscend : Items → Type 0 where
+  ascending_none : BitsAscend []
+  ascending_one : {x : Bits} → BitsAscend (x ∷ [])
+  ascending_more : {x y : Bits} {ys : Items} → BitsAtMost x y → BitsAscend (y ∷ ys) → BitsAscend (x ∷ y ∷ ys)

@@ -26,13 +26,13 @@ pub data Open : Bits → Bits → Type 0 where
 
 -- The last bits are the open types of k additions that the type lacks: one for each of the first bits that is set. An
 -- open type has any octets, but at least one of them (X.691, clause 11.2.1).
-pub data Unknown : Bits → ℕ → Bits → Type 0 where
-  no_bit : Unknown [] 0 []
+pub data UnknownAdditions : Bits → ℕ → Bits → Type 0 where
+  no_bit : UnknownAdditions [] 0 []
   clear_bit : {u : Bits} {k : ℕ} {b : Bits}
-      → Unknown u k b
-      → Unknown (false ∷ u) k b
+      → UnknownAdditions u k b
+      → UnknownAdditions (false ∷ u) k b
   set_bit : {u : Bits} {k : ℕ} {o : Octets} {x b : Bits}
       → 1 ≤ length o  -- 11.2.1
       → CountedOctets o x
-      → Unknown u k b
-      → Unknown (true ∷ u) (suc k) (x ++ b)
+      → UnknownAdditions u k b
+      → UnknownAdditions (true ∷ u) (suc k) (x ++ b)

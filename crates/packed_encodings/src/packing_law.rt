@@ -7,12 +7,14 @@ ghost use Rattle.asn_base.specs.Typed.{IsValue, IsValueWithoutNodes, nodes};
 ghost use Rattle.asn_base.specs.Types.{Alternative, Bounds, Is, Kind, Resolved, a_choice};
 ghost use Rattle.asn_base.specs.declared.tag.Tag.{Tag};
 ghost use Rattle.bits.specs.Words.{octet_bits};
-ghost use Rattle.packed_encodings.specs.Computed.{DefaultTest, TellsDefaults, at_least_one, bits_by, bits_of, counted_bits, is_default, leaf_bits, open_bits, padded_octets, sized_bits, sorted};
-ghost use Rattle.packed_encodings.specs.Leaves.{Leaf, place_width};
+ghost use Rattle.packed_encodings.specs.Computed.{DefaultTest, DecidesDefaults, at_least_one, bits_by, bits_of};
+ghost use Rattle.packed_encodings.specs.Computed.{counted_bits, is_default, leaf_bits, open_bits, padded_octets};
+ghost use Rattle.packed_encodings.specs.Computed.{IsEncoding, sized_bits, sorted};
+ghost use Rattle.packed_encodings.specs.Leaves.{LeafPer, place_width};
 ghost use Rattle.packed_encodings.specs.Lengths.{Counted, CountedOctets, Sized};
 ghost use Rattle.packed_encodings.specs.Numbers.{FewestUnsigned};
-ghost use Rattle.packed_encodings.specs.Orders.{Ascending, AtMost, rank};
-ghost use Rattle.packed_encodings.specs.Packing.{Form, IsEncoding, Packed, Reads, Says, exact, lenient};
+ghost use Rattle.packed_encodings.specs.Orders.{BitsAscend, BitsAtMost, canonical_place};
+ghost use Rattle.packed_encodings.specs.Packing.{Form, Packed, Reads, EncodesPer, exact, lenient};
 ghost use Rattle.packed_encodings.specs.Padding.{Open, Padded};
 ghost use Rattle.packed_encodings.specs.Weights.{weight};
 ghost use Rattle.std.specs.Int.Digits.{digits_of};
@@ -20,7 +22,7 @@ ghost use Rattle.std.specs.List.{AllByRecursion};
 ghost use Rattle.std.specs.List.Sorted.{IsPermutation};
 ghost use Rattle.std.specs.Prelude.{◌≡◌, ◌⊎◌, ◌<◌, ◌≤◌, ◌^◌, ℕ, Bool, List, [], ◌++◌, Some, length, slice_get};
 
-use asn_base::law::{alike_values, sameness};
+use asn_base::law::{lemma_alike_values, lemma_sameness};
 use encodings::leaf_laws;
 
 /// Bits mean one value, and no encoding of a type is the start of another one, in the form that is written and in the
@@ -31,16 +33,16 @@ pub fn reading_laws()
     ensures none_begins_another { (s : List Resolved) (f : Form) (t j k : ℕ) (v w : AbstractValue)
         (x y p q : List Bool)
         → IsSchema s
-        → Says s f t v j x
-        → Says s f t w k y
+        → EncodesPer s f t v j x
+        → EncodesPer s f t w k y
         → x ++ p ≡ y ++ q
         → (v ≡ w) × (j ≡ k) × (x ≡ y) × (p ≡ q) }
     // Written bits are read, with no additions that the type lacks.
     ensures written_is_read { (s : List Resolved) (t k : ℕ) (w : AbstractValue) (x : List Bool)
-        → Says s exact t w k x
-        → Says s lenient t w k x }
+        → EncodesPer s exact t w k x
+        → EncodesPer s lenient t w k x }
     ensures none_lacking { (s : List Resolved) (t k : ℕ) (w : AbstractValue) (x : List Bool)
-        → Says s exact t w k x
+        → EncodesPer s exact t w k x
         → k ≡ 0 }
 {}
 
@@ -50,12 +52,12 @@ pub fn part_laws()
     ensures one_leaf { (s : List Resolved) (k : Kind) (v w : AbstractValue) (a b : List Bool)
         → IsSound s k
         → AlikeBy s k v w
-        → Leaf k v a
-        → Leaf k w b
+        → LeafPer k v a
+        → LeafPer k w b
         → b ≡ a }
     ensures leaf_front { (k : Kind) (v w : AbstractValue) (a b p q : List Bool)
-        → Leaf k v a
-        → Leaf k w b
+        → LeafPer k v a
+        → LeafPer k w b
         → a ++ p ≡ b ++ q
         → (v ≡ w) × (p ≡ q) }
     ensures one_sized { (z : Bounds) (xs : List (List Bool)) (a b : List Bool) → Sized z xs a → Sized z xs b → b ≡ a }
@@ -80,27 +82,27 @@ pub fn place_laws()
         → Is s t tags (a_choice root e more)
         → slice_get root i ≡ Some a
         → slice_get root j ≡ Some b
-        → rank s root a.type ≡ rank s root b.type
+        → canonical_place s root a.type ≡ canonical_place s root b.type
         → i ≡ j }
     ensures below { (s : List Resolved) (t i : ℕ) (tags : List Tag) (root more : List Alternative) (e : Bool)
         (a : Alternative)
         → IsSchema s
         → Is s t tags (a_choice root e more)
         → slice_get root i ≡ Some a
-        → rank s root a.type < length root }
+        → canonical_place s root a.type < length root }
     ensures fits { (n i : ℕ) → i < n → i < 2 ^ place_width n }
 {}
 
 /// Two lists that ascend and contain the same encodings of one type are one list.
 pub fn order_laws()
-    ensures either { (x y : List Bool) → AtMost x y ⊎ AtMost y x }
-    ensures joined { (x y z : List Bool) → AtMost x y → AtMost y z → AtMost x z }
+    ensures either { (x y : List Bool) → BitsAtMost x y ⊎ BitsAtMost y x }
+    ensures joined { (x y z : List Bool) → BitsAtMost x y → BitsAtMost y z → BitsAtMost x z }
     ensures one { (s : List Resolved) (f : Form) (t j k : ℕ) (v w : AbstractValue) (x y : List Bool)
         → IsSchema s
-        → Says s f t v j x
-        → Says s f t w k y
-        → AtMost x y
-        → AtMost y x
+        → EncodesPer s f t v j x
+        → EncodesPer s f t w k y
+        → BitsAtMost x y
+        → BitsAtMost y x
         → x ≡ y }
 {}
 
@@ -120,7 +122,7 @@ pub fn message_laws()
     // octet, and no filling bit 1.
     ensures only_filled { (s : List Resolved) (t j k : ℕ) (v w : AbstractValue) (x p : List Bool) (o : List ℕ)
         → IsSchema s
-        → Says s lenient t v j x
+        → EncodesPer s lenient t v j x
         → octet_bits o ≡ x ++ p
         → Reads s t w k o
         → Padded x o × (w ≡ v) × (k ≡ j) }
@@ -138,7 +140,7 @@ pub fn writing_laws()
     // The bits that are written of a value are bits that encode it.
     ensures packed { (s : List Resolved) (t : ℕ) (v : AbstractValue) (x : List Bool)
         → IsValueWithoutNodes s t v
-        → Says s exact t v 0 x
+        → EncodesPer s exact t v 0 x
         → Packed s t v x }
     ensures one_list { (s : List Resolved) (t : ℕ) (v w : AbstractValue) (x y : List Bool)
         → IsSchema s
@@ -160,7 +162,7 @@ pub fn writing_laws()
         → Padded x o
         → (w : AbstractValue) × Same s t v w × Reads s t w 0 o }
 {
-    sameness();
+    lemma_sameness();
 }
 
 /// Each value of a type of a schema has bits, and a message if it isn't too heavy.
@@ -175,8 +177,8 @@ pub fn existence_laws()
         → weight v ≤ 16777216
         → (o : List ℕ) × (w : AbstractValue) × Same s t v w × Reads s t w 0 o }
 {
-    sameness();
-    alike_values();
+    lemma_sameness();
+    lemma_alike_values();
     leaf_laws();
     writing_laws();
 }
@@ -185,17 +187,17 @@ pub fn existence_laws()
 pub fn computing_laws()
     ensures only { (s : List Resolved) (test : DefaultTest) (t : ℕ) (v : AbstractValue) (x : List Bool)
         → IsSchema s
-        → TellsDefaults s test
+        → DecidesDefaults s test
         → Packed s t v x
         → bits_by test s v t ≡ x }
-    ensures defaults { (s : List Resolved) → TellsDefaults s (is_default s) }
+    ensures defaults { (s : List Resolved) → DecidesDefaults s (is_default s) }
     ensures packed { (s : List Resolved) (t : ℕ) (v : AbstractValue)
         → IsSchema s
         → IsValueWithoutNodes s t v
         → Packed s t v (bits_of s v t) }
 {
-    sameness();
-    alike_values();
+    lemma_sameness();
+    lemma_alike_values();
     existence_laws();
 }
 
@@ -205,7 +207,7 @@ pub fn function_laws()
     ensures leaf { (s : List Resolved) (k : Kind) (v w : AbstractValue) (b : List Bool)
         → IsSound s k
         → AlikeBy s k v w
-        → Leaf k w b
+        → LeafPer k w b
         → leaf_bits k v ≡ b }
     ensures sized { (z : Bounds) (xs : List (List Bool)) (b : List Bool) → Sized z xs b → sized_bits z xs ≡ b }
     ensures counted { (xs : List (List Bool)) (b : List Bool) → Counted xs b → counted_bits xs ≡ b }
@@ -217,6 +219,6 @@ pub fn function_laws()
         → IsSchema s
         → AllByRecursion (IsEncoding s t) xs
         → IsPermutation xs ys
-        → Ascending ys
+        → BitsAscend ys
         → sorted xs ≡ ys }
 {}

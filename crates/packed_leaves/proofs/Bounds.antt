@@ -6,7 +6,7 @@ use Rattle.std.proofs.lemmas.Int.{ints}
 use Rattle.asn_base.specs.Types.{Range, Constraint}
 use Rattle.asn_base.specs.Typed.{IsInSome, IsAllowed}
 use Rattle.asn_base.specs.Schemas.{IsLeast, IsGreatest, AreBounds, IsSize}
-use Rattle.packed_encodings.specs.Lengths.{IsInRoot}
+use Rattle.packed_encodings.specs.Lengths.{IsInRootBounds}
 use Rattle.packed_counts.specs.Counts.{HasLeast}
 
 abbrev InRoot : (ℤ → Type 0) → Option (List Range) → ℤ → Type 0
@@ -21,7 +21,7 @@ greatest_in P None z h p = tt
 greatest_in P (Some g) z h p = h.1 z p
 
 -- what isn't extensible allows the root alone
-pub in_bounds : (P : ℤ → Type 0) (c : Constraint) (z : ℤ) → AreBounds P c → P z → IsAllowed c z → c.visible.extensible ≡ false → IsInRoot c.visible z
+pub in_bounds : (P : ℤ → Type 0) (c : Constraint) (z : ℤ) → AreBounds P c → P z → IsAllowed c z → c.visible.extensible ≡ false → IsInRootBounds c.visible z
 in_bounds P c z b p a e =
     let q : InRoot P b.root z = (p, subst (λ r. IfSome r (IsInSome z)) (b.not_extensible e) a) in
     (least_in (InRoot P b.root) c.visible.least z b.least q, greatest_in (InRoot P b.root) c.visible.greatest z b.greatest q)

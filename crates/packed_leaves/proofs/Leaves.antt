@@ -8,7 +8,7 @@ use Rattle.std.proofs.lemmas.List.{take_at, length-replicate, length-map}
 use Rattle.bits.specs.Words.{word, octet_bits}
 use Rattle.asn_base.specs.Abstract.{AbstractValue, integer, enumerated, bits, oid, relative_oid, bits_of_octet}
 use Rattle.asn_base.specs.Types.{Constraint, Item, NamedBit, Kind, Resolved, any_number, an_integer, an_enumerated, a_named_bit_string, an_object_identifier, a_relative_oid}
-use Rattle.asn_base.specs.Typed.{Fits, IsObjectIdentifier, IsRelativeOid, HasNumber}
+use Rattle.asn_base.specs.Typed.{IsPrimitive, IsObjectIdentifier, IsRelativeOid, HasNumber}
 use Rattle.asn_base.specs.Same.{AlikeBy, equal, zeros}
 use Rattle.asn_base.specs.Schemas.{AreBounds, AreItems, AreNamedBits, IsNumber, IsSound}
 use Rattle.encodings.specs.declared.leaf_kind.LeafKind.TheVariants as leaves
@@ -16,11 +16,11 @@ use Rattle.encodings.specs.Leaves.{HasContents}
 use Rattle.encodings.specs.Contents.{Contents, Number, EndsInOne, joined, of_integer, of_named_bits, of_oid, of_relative_oid}
 use Rattle.encodings.specs.Header.{Octets, septets}
 use Rattle.encodings.specs.Rules.{Distinguished}
-use Rattle.leaf_contents.specs.Held.{HasSome}
+use Rattle.primitive_writer.specs.Held.{HasSome}
 use Rattle.packed_encodings.specs.Computed.{leaf_bits}
 use Rattle.packed_encodings.specs.Lengths.{Bits, Counted, CountedOctets}
 use Rattle.packed_encodings.specs.Leaves as packed
-use Rattle.packed_encodings.specs.Leaves.{Leaf, ItemBits, root_item, added_item, root_bit, place_bits, place_width, singly}
+use Rattle.packed_encodings.specs.Leaves.{LeafPer, ItemBits, root_item, added_item, root_bit, place_bits, place_width, singly}
 use Rattle.packed_encodings.specs.Numbers.{Integer}
 use Rattle.packed_counts.specs.Counts.{Adds}
 use Rattle.packed_leaves.specs.proving.Contents.{AddsContents, AddsNumber}
@@ -28,10 +28,10 @@ use Rattle.packed_leaves.specs.proving.Items.{IsPlace}
 use Rattle.packed_leaves.proofs.Front.{octets_same, bits_long}
 
 abbrev pub LeafLaw : Type 0
-LeafLaw = (s : List Resolved) (k : Kind) (v w : AbstractValue) (b : Bits) → IsSound s k → AlikeBy s k v w → Leaf k w b → leaf_bits k v ≡ b
+LeafLaw = (s : List Resolved) (k : Kind) (v w : AbstractValue) (b : Bits) → IsSound s k → AlikeBy s k v w → LeafPer k w b → leaf_bits k v ≡ b
 
 abbrev pub SomeLaw : Type 0
-SomeLaw = (s : List Resolved) (k : Kind) (v : AbstractValue) → IsSound s k → Fits k v → (w : AbstractValue) × (x : List ℕ) × AlikeBy s k v w × Contents Distinguished k w false x
+SomeLaw = (s : List Resolved) (k : Kind) (v : AbstractValue) → IsSound s k → IsPrimitive k v → (w : AbstractValue) × (x : List ℕ) × AlikeBy s k v w × Contents Distinguished k w false x
 
 added : (k : Kind) (v w : AbstractValue) (b old new : Bits) → v ≡ w → leaf_bits k w ≡ b → new ≡ old ++ b → new ≡ old ++ leaf_bits k v
 added k v w b old new e f g = g ∙ ap (λ q. old ++ q) (sym f ∙ ap (leaf_bits k) (sym e))
@@ -44,9 +44,9 @@ integer_added law c v z old new ok e a = added (an_integer c) v (integer z) a.bi
 number_in : (c : Constraint) (z : ℤ) (w : AbstractValue) (x : List ℕ) → AlikeBy [] (an_integer c) (integer z) w → Contents Distinguished (an_integer c) w false x → Number z x
 number_in c z w x (equal l) (of_integer n) = n
 
-pub some_number : SomeLaw → (c : Constraint) (v : AbstractValue) (z : ℤ) → AreBounds IsNumber c → v ≡ integer z → Fits (an_integer c) v → HasSome leaves.Integer v
+pub some_number : SomeLaw → (c : Constraint) (v : AbstractValue) (z : ℤ) → AreBounds IsNumber c → v ≡ integer z → IsPrimitive (an_integer c) v → HasSome leaves.Integer v
 some_number law c v z ok e f =
-    let d = law [] (an_integer c) (integer z) ok (subst (Fits (an_integer c)) e f) in
+    let d = law [] (an_integer c) (integer z) ok (subst (IsPrimitive (an_integer c)) e f) in
     subst (HasSome leaves.Integer) (sym e) (d.1, record { trimmed = integer z; same = equal tt; contents = of_integer (number_in c z d.0 d.1 d.2 d.3) })
 
 number_of : (z : ℤ) (w : AbstractValue) (x : List ℕ) → AlikeBy [] (an_integer any_number) (integer z) w → Contents Distinguished (an_integer any_number) w false x → Number z x
@@ -133,9 +133,9 @@ named_in : (ns : List NamedBit) (v : Bits) (w : AbstractValue) (x : Octets) → 
 named_in ns v w x (equal l) (of_named_bits p c f t) = record { trimmed = v; same = λ ms. equal tt; ends = t; unused = f.0; octets = f.1; is = f.2; are = f.3 }
 named_in ns v w x (zeros {b = u} m n e) (of_named_bits p c f t) = record { trimmed = u; same = λ ms. zeros m n e; ends = t; unused = f.0; octets = f.1; is = f.2; are = f.3 }
 
-pub some_named : SomeLaw → (ns : List NamedBit) (v : AbstractValue) (b : Bits) → AreNamedBits ns → v ≡ bits b → Fits (a_named_bit_string ns) v → HasSome leaves.NamedBits v
+pub some_named : SomeLaw → (ns : List NamedBit) (v : AbstractValue) (b : Bits) → AreNamedBits ns → v ≡ bits b → IsPrimitive (a_named_bit_string ns) v → HasSome leaves.NamedBits v
 some_named law ns v b ok e f =
-    let d = law [] (a_named_bit_string ns) (bits b) ok (subst (Fits (a_named_bit_string ns)) e f) in
+    let d = law [] (a_named_bit_string ns) (bits b) ok (subst (IsPrimitive (a_named_bit_string ns)) e f) in
     let n = named_in ns b d.0 d.1 d.2 d.3 in
     subst (HasSome leaves.NamedBits) (sym e) (d.1, plainly n d.2 d.3)
   where

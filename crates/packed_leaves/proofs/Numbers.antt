@@ -8,7 +8,7 @@ use Rattle.bits.specs.Words.{word}
 use Rattle.asn_base.specs.Types.{Bounds}
 use Rattle.encodings.specs.Header.{Octets}
 use Rattle.packed_encodings.specs.Computed.{at_least_one}
-use Rattle.packed_encodings.specs.Lengths.{Bits, fewest_bits, IsInRoot, Counted}
+use Rattle.packed_encodings.specs.Lengths.{Bits, fewest_bits, IsInRootBounds, Counted}
 use Rattle.packed_encodings.specs.Numbers.{FewestUnsigned, IntegerInRoot, between, from_least, unbounded, Integer, integer_bounded, integer_in_root, integer_outside}
 use Rattle.packed_counts.specs.Counts.{Adds}
 use Rattle.packed_leaves.specs.proving.Contents.{AddsNumber, AddsUnsigned}
@@ -48,13 +48,13 @@ pos_le l v g m n e f h = omega (arith, ints)
 
 -- ---- the root
 
-least_below : (z : Bounds) (v l : ℤ) → IsInRoot z v → z.least ≡ Some l → l ≤ℤ v
+least_below : (z : Bounds) (v l : ℤ) → IsInRootBounds z v → z.least ≡ Some l → l ≤ℤ v
 least_below z v l h e = subst (λ o. IfSome o (λ l. l ≤ℤ v)) e h.0
 
-greatest_above : (z : Bounds) (v g : ℤ) → IsInRoot z v → z.greatest ≡ Some g → v ≤ℤ g
+greatest_above : (z : Bounds) (v g : ℤ) → IsInRootBounds z v → z.greatest ≡ Some g → v ≤ℤ g
 greatest_above z v g h e = subst (λ o. IfSome o (λ g. v ≤ℤ g)) e h.1
 
-pub in_both : (z : Bounds) (v l g : ℤ) (s w n : ℕ) (old new : Bits) → IsInRoot z v → z.least ≡ Some l → z.greatest ≡ Some g → s ≡ nat_abs (g -ℤ l) → w ≡ fewest_bits s → n ≡ nat_abs (v -ℤ l) → new ≡ old ++ word w n → Adds (IntegerInRoot z v) old new
+pub in_both : (z : Bounds) (v l g : ℤ) (s w n : ℕ) (old new : Bits) → IsInRootBounds z v → z.least ≡ Some l → z.greatest ≡ Some g → s ≡ nat_abs (g -ℤ l) → w ≡ fewest_bits s → n ≡ nat_abs (v -ℤ l) → new ≡ old ++ word w n → Adds (IntegerInRoot z v) old new
 in_both z v l g s w n old new h el eg es ew en e =
     let lv = least_below z v l h el in
     let vg = greatest_above z v g h eg in
@@ -67,11 +67,11 @@ in_both z v l g s w n old new h el eg es ew en e =
       whole = e ∙ ap (λ q. old ++ word q n) (ew ∙ ap fewest_bits es) ∙ ap (λ q. old ++ word (fewest_bits (nat_abs (g -ℤ l))) q) en;
     }
 
-pub in_from : (z : Bounds) (v l : ℤ) (n : ℕ) (old new : Bits) → IsInRoot z v → z.least ≡ Some l → z.greatest ≡ None → n ≡ nat_abs (v -ℤ l) → AddsUnsigned n old new → Adds (IntegerInRoot z v) old new
+pub in_from : (z : Bounds) (v l : ℤ) (n : ℕ) (old new : Bits) → IsInRootBounds z v → z.least ≡ Some l → z.greatest ≡ None → n ≡ nat_abs (v -ℤ l) → AddsUnsigned n old new → Adds (IntegerInRoot z v) old new
 in_from z v l n old new h el eg en a =
     record { bits = a.bits; is = from_least l n el eg (at_distance l v (least_below z v l h el) ∙ ap (λ q. l +ℤ pos q) (sym en)) a.is.1 a.is.2; whole = a.whole }
 
-pub in_any : (z : Bounds) (v : ℤ) (old new : Bits) → IsInRoot z v → z.least ≡ None → AddsNumber v old new → Adds (IntegerInRoot z v) old new
+pub in_any : (z : Bounds) (v : ℤ) (old new : Bits) → IsInRootBounds z v → z.least ≡ None → AddsNumber v old new → Adds (IntegerInRoot z v) old new
 in_any z v old new h el a = record { bits = a.bits; is = unbounded el h.1 a.is.1 a.is.2; whole = a.whole }
 
 -- ---- the marker
@@ -82,7 +82,7 @@ plain z v old new e a = record { bits = a.bits; is = integer_bounded e a.is; who
 pub inside : (z : Bounds) (v : ℤ) (old mid new : Bits) → z.extensible ≡ true → mid ≡ old ++ (false ∷ []) → Adds (IntegerInRoot z v) mid new → Adds (Integer z v) old new
 inside z v old mid new e m a = record { bits = false ∷ a.bits; is = integer_in_root e a.is; whole = a.whole ∙ ap (λ q. q ++ a.bits) m ∙ append_assoc old (false ∷ []) a.bits }
 
-pub outside : (z : Bounds) (v : ℤ) (old mid new : Bits) → z.extensible ≡ true → (IsInRoot z v → ⊥) → mid ≡ old ++ (true ∷ []) → AddsNumber v mid new → Adds (Integer z v) old new
+pub outside : (z : Bounds) (v : ℤ) (old mid new : Bits) → z.extensible ≡ true → (IsInRootBounds z v → ⊥) → mid ≡ old ++ (true ∷ []) → AddsNumber v mid new → Adds (Integer z v) old new
 outside z v old mid new e n m a = record { bits = true ∷ a.bits; is = integer_outside e n a.is.1 a.is.2; whole = a.whole ∙ ap (λ q. q ++ a.bits) m ∙ append_assoc old (true ∷ []) a.bits }
 
 -- ---- numbers that aren't negative

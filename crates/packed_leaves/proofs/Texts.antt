@@ -46,17 +46,17 @@ both c x n false l e = by (nat_lt c n)
     by false = refl
 
 -- if codes ascend, all are below a number if the last one is
-pub last_tells : (n d : ℕ) (cs : List ℕ) → CodesAscend (d ∷ cs) → nat_lt (slice_index (d ∷ cs) (length (d ∷ cs) - 1)) n ≡ codes_below n (d ∷ cs)
-last_tells n d [] h = sym (and_true (nat_lt d n))
-last_tells n d (e ∷ cs) h =
-    let r : nat_lt (slice_index (e ∷ cs) (length (e ∷ cs) - 1)) n ≡ codes_below n (e ∷ cs) = last_tells n e cs h.1 in
+pub last_decides : (n d : ℕ) (cs : List ℕ) → CodesAscend (d ∷ cs) → nat_lt (slice_index (d ∷ cs) (length (d ∷ cs) - 1)) n ≡ codes_below n (d ∷ cs)
+last_decides n d [] h = sym (and_true (nat_lt d n))
+last_decides n d (e ∷ cs) h =
+    let r : nat_lt (slice_index (e ∷ cs) (length (e ∷ cs) - 1)) n ≡ codes_below n (e ∷ cs) = last_decides n e cs h.1 in
     let b : (nat_lt d n && nat_lt (slice_index (e ∷ cs) (length (e ∷ cs) - 1)) n) ≡ nat_lt (slice_index (e ∷ cs) (length (e ∷ cs) - 1)) n
     = both d (slice_index (e ∷ cs) (length (e ∷ cs) - 1)) n (nat_lt (slice_index (e ∷ cs) (length (e ∷ cs) - 1)) n) (last_above d cs e h.0) refl in
     ap (λ q. nat_lt q n) (last_step d e cs) ∙ sym b ∙ ap (λ q. nat_lt d n && q) r
 
 pub last_is : (n : ℕ) (cs : List ℕ) → (length cs ≡ 0 → ⊥) → CodesAscend cs → nat_lt (slice_index cs (length cs - 1)) n ≡ codes_below n cs
 last_is n [] k h = absurd (k refl)
-last_is n (d ∷ cs) k h = last_tells n d cs h
+last_is n (d ∷ cs) k h = last_decides n d cs h
 
 pub none_below : (n : ℕ) (cs : List ℕ) → length cs ≡ 0 → true ≡ codes_below n cs
 none_below n [] e = refl

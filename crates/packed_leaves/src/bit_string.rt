@@ -3,7 +3,7 @@
 ghost use Rattle.asn_base.specs.Abstract.{abstract, bits_of};
 ghost use Rattle.asn_base.specs.Schemas.{AreBounds, AreNamedBits, IsSize};
 ghost use Rattle.asn_base.specs.Seen.{constraint_of, named_bit_of};
-ghost use Rattle.asn_base.specs.Typed.{Fits};
+ghost use Rattle.asn_base.specs.Typed.{IsPrimitive};
 ghost use Rattle.asn_base.specs.Types.{a_bit_string, a_named_bit_string};
 ghost use Rattle.bits.specs.Words.{octet_bits, word};
 ghost use Rattle.packed_counts.specs.Counts.{Adds};
@@ -19,10 +19,10 @@ use asn_base::schema::NamedBit;
 use asn_base::value::{BitString, Value};
 use bits::buffer::BitBuf;
 use encodings::{LeafKind, leaf_laws};
-use leaf_contents::push_leaf;
 use packed_counts::law::count_laws;
 use packed_counts::{push_count, push_size};
 use packed_encodings::function_laws;
+use primitive_writer::push_leaf;
 use std::alloc::{AllocError, Global};
 
 /// The greatest number of octets whose bits fit in a list of bits.
@@ -96,7 +96,7 @@ pub(crate) fn push_bit_string(
     value: &Value,
 ) -> Result<(), AllocError>
     requires bounds { AreBounds IsSize (constraint_of size.now) }
-    requires fits { Fits (a_bit_string (constraint_of size.now)) (abstract value.now) }
+    requires fits { IsPrimitive (a_bit_string (constraint_of size.now)) (abstract value.now) }
     ensures { OnOk result (out.new ≡ out.old
         ++ leaf_bits (a_bit_string (constraint_of size.now)) (abstract value.now)) }
 {
@@ -122,7 +122,7 @@ pub(crate) fn push_named_bits(
     value: &Value,
 ) -> Result<(), AllocError>
     requires names { AreNamedBits (map named_bit_of names.now) }
-    requires fits { Fits (a_named_bit_string (map named_bit_of names.now)) (abstract value.now) }
+    requires fits { IsPrimitive (a_named_bit_string (map named_bit_of names.now)) (abstract value.now) }
     ensures { OnOk result (out.new ≡ out.old
         ++ leaf_bits (a_named_bit_string (map named_bit_of names.now)) (abstract value.now)) }
 {

@@ -3,7 +3,7 @@
 ghost use Rattle.asn_base.specs.Abstract.{abstract};
 ghost use Rattle.asn_base.specs.Schemas.{AreItems};
 ghost use Rattle.asn_base.specs.Seen.{item_of};
-ghost use Rattle.asn_base.specs.Typed.{Fits, HasNumber};
+ghost use Rattle.asn_base.specs.Typed.{IsPrimitive, HasNumber};
 ghost use Rattle.asn_base.specs.Types.{an_enumerated};
 ghost use Rattle.packed_counts.specs.Counts.{Adds};
 ghost use Rattle.packed_encodings.specs.Computed.{leaf_bits};
@@ -126,7 +126,7 @@ pub(crate) fn push_enumerated(
 ) -> Result<(), AllocError>
     requires items { AreItems items.now.extensible (map item_of items.now.root.items)
         (map item_of items.now.additions.items) }
-    requires fits { Fits (an_enumerated (map item_of items.now.root.items) items.now.extensible
+    requires fits { IsPrimitive (an_enumerated (map item_of items.now.root.items) items.now.extensible
         (map item_of items.now.additions.items)) (abstract value.now) }
     ensures { OnOk result (out.new ≡ out.old ++ leaf_bits (an_enumerated (map item_of items.now.root.items)
         items.now.extensible (map item_of items.now.additions.items)) (abstract value.now)) }

@@ -3,7 +3,7 @@
 ghost use Rattle.asn_base.specs.Abstract.{abstract};
 ghost use Rattle.asn_base.specs.Schemas.{IsSound};
 ghost use Rattle.asn_base.specs.Seen.{kind_of};
-ghost use Rattle.asn_base.specs.Typed.{Fits};
+ghost use Rattle.asn_base.specs.Typed.{IsPrimitive};
 ghost use Rattle.asn_base.specs.Types.{Resolved, a_boolean};
 ghost use Rattle.packed_encodings.specs.Computed.{leaf_bits};
 ghost use Rattle.std.specs.Prelude.{◌≡◌, ◌++◌, List, OnOk};
@@ -29,7 +29,7 @@ pub fn push_leaf(
 ) -> Result<(), AllocError>
     // The kind is that of a type in some schema.
     requires sound { (s : List Resolved) × IsSound s (kind_of core.now) }
-    requires fits { Fits (kind_of core.now) (abstract value.now) }
+    requires fits { IsPrimitive (kind_of core.now) (abstract value.now) }
     ensures { OnOk result (out.new ≡ out.old ++ leaf_bits (kind_of core.now) (abstract value.now)) }
 {
     match core {
@@ -57,7 +57,7 @@ pub fn push_leaf(
 
 /// Adds the value of a BOOLEAN, which is one bit (12.1).
 fn push_boolean(out: &mut BitBuf, value: &Value) -> Result<(), AllocError>
-    requires { Fits a_boolean (abstract value.now) }
+    requires { IsPrimitive a_boolean (abstract value.now) }
     ensures { OnOk result (out.new ≡ out.old ++ leaf_bits a_boolean (abstract value.now)) }
 {
     out.push(truth(value))

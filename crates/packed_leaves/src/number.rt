@@ -3,13 +3,13 @@
 ghost use Rattle.asn_base.specs.Abstract.{abstract, integer};
 ghost use Rattle.asn_base.specs.Schemas.{AreBounds, IsNumber};
 ghost use Rattle.asn_base.specs.Seen.{bounds_of, constraint_of};
-ghost use Rattle.asn_base.specs.Typed.{Fits};
+ghost use Rattle.asn_base.specs.Typed.{IsPrimitive};
 ghost use Rattle.asn_base.specs.Types.{an_integer};
 ghost use Rattle.encodings.specs.declared.leaf_kind.LeafKind.TheVariants.{Integer as Integer'};
-ghost use Rattle.leaf_contents.specs.Held.{HasSome};
+ghost use Rattle.primitive_writer.specs.Held.{HasSome};
 ghost use Rattle.packed_counts.specs.Counts.{Adds};
 ghost use Rattle.packed_encodings.specs.Computed.{leaf_bits};
-ghost use Rattle.packed_encodings.specs.Lengths.{IsInRoot};
+ghost use Rattle.packed_encodings.specs.Lengths.{IsInRootBounds};
 ghost use Rattle.packed_encodings.specs.Numbers.{Integer, IntegerInRoot};
 ghost use Rattle.packed_leaves.specs.proving.Contents.{AddsNumber, AddsUnsigned};
 ghost use Rattle.std.specs.Prelude.{◌≡◌, ◌++◌, ◌↔◌, ◌≤ℤ◌, IfSome, IsTrue, OnOk, false};
@@ -21,15 +21,15 @@ use asn_base::constraint::{Bounds, Constraint};
 use asn_base::value::Value;
 use bits::buffer::BitBuf;
 use encodings::{LeafKind, leaf_laws};
-use leaf_contents::push_digits;
 use packed_code::{fewest, span};
 use packed_counts::{push_counted_octets, push_number};
 use packed_encodings::function_laws;
+use primitive_writer::push_digits;
 use std::alloc::{AllocError, Global};
 
 /// Whether the number is one of the root.
 fn is_in_root(bounds: &Bounds, number: i128) -> bool
-    ensures { IsTrue result ↔ IsInRoot (bounds_of bounds.now) number }
+    ensures { IsTrue result ↔ IsInRootBounds (bounds_of bounds.now) number }
 {
     match bounds.least {
         Some(least) => least <= number && is_at_most(bounds, number),
@@ -86,7 +86,7 @@ fn push_in_root(
 ) -> Result<(), AllocError>
     requires is { abstract value.now ≡ integer number }
     requires some { HasSome Integer' (abstract value.now) }
-    requires inside { IsInRoot (bounds_of bounds.now) number }
+    requires inside { IsInRootBounds (bounds_of bounds.now) number }
     ensures { OnOk result (Adds (IntegerInRoot (bounds_of bounds.now) number) out.old out.new) }
 {
     let Some(least) = bounds.least else {
@@ -116,7 +116,7 @@ fn push_bounded(
 ) -> Result<(), AllocError>
     requires is { abstract value.now ≡ integer number }
     requires some { HasSome Integer' (abstract value.now) }
-    requires allowed { bounds.now.extensible ≡ false → IsInRoot (bounds_of bounds.now) number }
+    requires allowed { bounds.now.extensible ≡ false → IsInRootBounds (bounds_of bounds.now) number }
     ensures { OnOk result (Adds (Integer (bounds_of bounds.now) number) out.old out.new) }
 {
     if !bounds.extensible {
@@ -142,7 +142,7 @@ pub(crate) fn push_integer(
     value: &Value,
 ) -> Result<(), AllocError>
     requires bounds { AreBounds IsNumber (constraint_of constraint.now) }
-    requires fits { Fits (an_integer (constraint_of constraint.now)) (abstract value.now) }
+    requires fits { IsPrimitive (an_integer (constraint_of constraint.now)) (abstract value.now) }
     ensures { OnOk result (out.new ≡ out.old
         ++ leaf_bits (an_integer (constraint_of constraint.now)) (abstract value.now)) }
 {

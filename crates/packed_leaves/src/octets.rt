@@ -3,10 +3,10 @@
 ghost use Rattle.asn_base.specs.Abstract.{abstract};
 ghost use Rattle.asn_base.specs.Schemas.{AreBounds, IsSize};
 ghost use Rattle.asn_base.specs.Seen.{constraint_of};
-ghost use Rattle.asn_base.specs.Typed.{Fits};
+ghost use Rattle.asn_base.specs.Typed.{IsPrimitive};
 ghost use Rattle.asn_base.specs.Types.{a_null, a_relative_oid, a_utf8_string, an_object_identifier, an_octet_string};
 ghost use Rattle.encodings.specs.Leaves.{HasContents};
-ghost use Rattle.leaf_contents.specs.Held.{HasSome};
+ghost use Rattle.primitive_writer.specs.Held.{HasSome};
 ghost use Rattle.packed_counts.specs.Counts.{Adds};
 ghost use Rattle.packed_encodings.specs.Computed.{leaf_bits};
 ghost use Rattle.packed_encodings.specs.Lengths.{CountedOctets};
@@ -19,9 +19,9 @@ use asn_base::constraint::Constraint;
 use asn_base::value::Value;
 use bits::buffer::BitBuf;
 use encodings::LeafKind;
-use leaf_contents::{LeafOctets, leaf_octets, push_leaf};
 use packed_counts::{push_counted_octets, push_octets, push_size};
 use packed_encodings::function_laws;
+use primitive_writer::{PrimitiveContents, primitive_contents, push_leaf};
 use std::alloc::{AllocError, Global};
 
 /// A law: each of the octets is below 256.
@@ -47,12 +47,12 @@ pub(crate) fn push_contents(
     requires { HasSome kind (abstract value.now) }
     ensures { OnOk result (AddsContents kind (abstract value.now) out.old out.new) }
 {
-    match leaf_octets(kind, value) {
-        Some(LeafOctets::One(octet)) => push_counted(out, &[octet]),
-        Some(LeafOctets::Few(octets)) => push_counted(out, octets.as_slice()),
-        Some(LeafOctets::Whole(octets)) => push_counted(out, octets),
-        Some(LeafOctets::Bits(_, _, _)) => push_collected(alloc, out, kind, value),
-        Some(LeafOctets::Arcs(_, _)) => push_collected(alloc, out, kind, value),
+    match primitive_contents(kind, value) {
+        Some(PrimitiveContents::One(octet)) => push_counted(out, &[octet]),
+        Some(PrimitiveContents::Few(octets)) => push_counted(out, octets.as_slice()),
+        Some(PrimitiveContents::Whole(octets)) => push_counted(out, octets),
+        Some(PrimitiveContents::Bits(_, _, _)) => push_collected(alloc, out, kind, value),
+        Some(PrimitiveContents::Arcs(_, _)) => push_collected(alloc, out, kind, value),
         None => unreachable!(),
     }
 }
@@ -79,7 +79,7 @@ pub(crate) fn push_octet_string(
     value: &Value,
 ) -> Result<(), AllocError>
     requires bounds { AreBounds IsSize (constraint_of size.now) }
-    requires fits { Fits (an_octet_string (constraint_of size.now)) (abstract value.now) }
+    requires fits { IsPrimitive (an_octet_string (constraint_of size.now)) (abstract value.now) }
     ensures { OnOk result (out.new ≡ out.old
         ++ leaf_bits (an_octet_string (constraint_of size.now)) (abstract value.now)) }
 {
@@ -101,7 +101,7 @@ pub(crate) fn push_utf8(
     size: &Constraint,
     value: &Value,
 ) -> Result<(), AllocError>
-    requires { Fits (a_utf8_string (constraint_of size.now)) (abstract value.now) }
+    requires { IsPrimitive (a_utf8_string (constraint_of size.now)) (abstract value.now) }
     ensures { OnOk result (out.new ≡ out.old
         ++ leaf_bits (a_utf8_string (constraint_of size.now)) (abstract value.now)) }
 {
@@ -116,7 +116,7 @@ pub(crate) fn push_object_identifier(
     out: &mut BitBuf,
     value: &Value,
 ) -> Result<(), AllocError>
-    requires { Fits an_object_identifier (abstract value.now) }
+    requires { IsPrimitive an_object_identifier (abstract value.now) }
     ensures { OnOk result (out.new ≡ out.old ++ leaf_bits an_object_identifier (abstract value.now)) }
 {
     function_laws();
@@ -130,7 +130,7 @@ pub(crate) fn push_relative_oid(
     out: &mut BitBuf,
     value: &Value,
 ) -> Result<(), AllocError>
-    requires { Fits a_relative_oid (abstract value.now) }
+    requires { IsPrimitive a_relative_oid (abstract value.now) }
     ensures { OnOk result (out.new ≡ out.old ++ leaf_bits a_relative_oid (abstract value.now)) }
 {
     function_laws();

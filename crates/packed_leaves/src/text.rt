@@ -3,7 +3,7 @@
 ghost use Rattle.asn_base.specs.Abstract.{abstract};
 ghost use Rattle.asn_base.specs.Schemas.{AreBounds, CodesAscend, IsAlphabet, IsSize};
 ghost use Rattle.asn_base.specs.Seen.{constraint_of};
-ghost use Rattle.asn_base.specs.Typed.{Fits};
+ghost use Rattle.asn_base.specs.Typed.{IsPrimitive};
 ghost use Rattle.asn_base.specs.Types.{a_restricted_string};
 ghost use Rattle.bits.specs.Words.{word};
 ghost use Rattle.packed_counts.specs.Counts.{Adds};
@@ -189,7 +189,7 @@ pub(crate) fn push_text(
 ) -> Result<(), AllocError>
     requires codes { IsAlphabet kind codes.now }
     requires bounds { AreBounds IsSize (constraint_of size.now) }
-    requires fits { Fits (a_restricted_string kind codes.now (constraint_of size.now)) (abstract value.now) }
+    requires fits { IsPrimitive (a_restricted_string kind codes.now (constraint_of size.now)) (abstract value.now) }
     ensures { OnOk result (out.new ≡ out.old
         ++ leaf_bits (a_restricted_string kind codes.now (constraint_of size.now)) (abstract value.now)) }
 {

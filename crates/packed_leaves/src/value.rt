@@ -3,7 +3,7 @@
 ghost use Rattle.asn_base.specs.Abstract.{abstract, bits, bits_of, boolean, enumerated, integer, octets, text};
 ghost use Rattle.std.specs.Prelude.{◌≡◌, ℕ, ℤ, Bool, List};
 
-use asn_base::law::abstract_values;
+use asn_base::law::lemma_abstract_values;
 use asn_base::value::{BitString, Value};
 
 /// The truth value of a BOOLEAN.
@@ -11,7 +11,7 @@ pub(crate) fn truth(value: &Value) -> bool
     requires { (b : Bool) × (abstract value.now ≡ boolean b) }
     ensures { abstract value.now ≡ boolean result }
 {
-    abstract_values();
+    lemma_abstract_values();
     match value {
         Value::Bool(truth) => *truth,
         Value::Int(_) | Value::Enum(_) | Value::Bits(_) | Value::Octets(_) => unreachable!(),
@@ -25,7 +25,7 @@ pub(crate) fn number(value: &Value) -> i128
     requires { (z : ℤ) × (abstract value.now ≡ integer z) }
     ensures { abstract value.now ≡ integer result }
 {
-    abstract_values();
+    lemma_abstract_values();
     match value {
         Value::Int(number) => *number,
         Value::Bool(_) | Value::Enum(_) | Value::Bits(_) | Value::Octets(_) => unreachable!(),
@@ -39,7 +39,7 @@ pub(crate) fn item_number(value: &Value) -> i128
     requires { (z : ℤ) × (abstract value.now ≡ enumerated z) }
     ensures { abstract value.now ≡ enumerated result }
 {
-    abstract_values();
+    lemma_abstract_values();
     match value {
         Value::Enum(number) => *number,
         Value::Bool(_) | Value::Int(_) | Value::Bits(_) | Value::Octets(_) => unreachable!(),
@@ -53,7 +53,7 @@ pub(crate) fn bit_string(value: &Value) -> &BitString
     requires { (v : List Bool) × (abstract value.now ≡ bits v) }
     ensures { abstract value.now ≡ bits (bits_of result.now) }
 {
-    abstract_values();
+    lemma_abstract_values();
     match value {
         Value::Bits(bits) => bits,
         Value::Bool(_) | Value::Int(_) | Value::Enum(_) | Value::Octets(_) => unreachable!(),
@@ -67,7 +67,7 @@ pub(crate) fn octets(value: &Value) -> &[u8]
     requires { (o : List ℕ) × (abstract value.now ≡ octets o) }
     ensures { abstract value.now ≡ octets result.now }
 {
-    abstract_values();
+    lemma_abstract_values();
     match value {
         Value::Octets(octets) => octets.as_slice(),
         Value::Bool(_) | Value::Int(_) | Value::Enum(_) | Value::Bits(_) => unreachable!(),
@@ -81,7 +81,7 @@ pub(crate) fn text(value: &Value) -> &[u8]
     requires { (o : List ℕ) × (abstract value.now ≡ text o) }
     ensures { abstract value.now ≡ text result.now }
 {
-    abstract_values();
+    lemma_abstract_values();
     match value {
         Value::Text(text) => text.as_bytes(),
         Value::Bool(_) | Value::Int(_) | Value::Enum(_) | Value::Bits(_) => unreachable!(),

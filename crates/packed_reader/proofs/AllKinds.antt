@@ -9,16 +9,16 @@ use Rattle.asn_base.specs.declared.tag.Tag.{Tag}
 use Rattle.asn_base.specs.Abstract.{AbstractValue, boolean, integer, enumerated, bits, octets, text, null, oid, relative_oid, fields, list, alternative, Row}
 use Rattle.asn_base.specs.Same.{IsLeaf}
 use Rattle.asn_base.specs.Types.{Alternative, Constraint, Kind, a_boolean, an_integer, an_enumerated, a_bit_string, a_named_bit_string, an_octet_string, a_null, an_object_identifier, a_relative_oid, a_utf8_string, a_restricted_string, a_sequence, a_set, a_sequence_of, a_set_of, a_choice, TypeNumber, Resolved, Is}
-use Rattle.asn_base.specs.Typed.{Fits, fits_boolean, fits_integer, fits_enumerated, fits_bits, fits_named_bits, fits_octets, fits_null, fits_oid, fits_relative_oid, fits_utf8, fits_restricted, IsAllowedSize, members, ValueIn, value_in, ValueOf, of_leaf, of_sequence, of_set, of_sequence_of, of_set_of, of_choice}
+use Rattle.asn_base.specs.Typed.{IsPrimitive, fits_boolean, fits_integer, fits_enumerated, fits_bits, fits_named_bits, fits_octets, fits_null, fits_oid, fits_relative_oid, fits_utf8, fits_restricted, IsAllowedSize, members, ValueIn, value_in, ValueOf, of_leaf, of_sequence, of_set, of_sequence_of, of_set_of, of_choice}
 use Rattle.asn_base.specs.Schemas.{AreBounds, IsSize, IsSound, IsSchema}
 use Rattle.encodings.specs.Header.{Octets}
 use Rattle.packed_encodings.specs.Lengths.{Bits, Items, CountedOctets, Sized}
 use Rattle.packed_encodings.specs.Leaves.{place_width, place_bits, root_bit}
-use Rattle.packed_encodings.specs.Orders.{rank, Ascending, ascending_none, ascending_one, ascending_more}
+use Rattle.packed_encodings.specs.Orders.{canonical_place, BitsAscend, ascending_none, ascending_one, ascending_more}
 use Rattle.asn_base.specs.Typed.{AreElements}
 use Rattle.asn_base.specs.Abstract.{end, absent, present}
-use Rattle.packed_encodings.specs.Packing.{Form, Elements, no_element, element, lenient, Says, says, Holds, leaf, sequence, set, sequence_of, set_of, choice, added_choice}
-use Rattle.packed_encodings.specs.Computed.{is_default, TellsDefaults}
+use Rattle.packed_encodings.specs.Packing.{Form, ElementsPer, no_element, element, lenient, EncodesPer, says, EncodesKindPer, leaf, sequence, set, sequence_of, set_of, choice, added_choice}
+use Rattle.packed_encodings.specs.Computed.{is_default, DecidesDefaults}
 use Rattle.decode_faults.specs.declared.refusal.Refusal.{Refusal}
 use Rattle.decode_faults.specs.declared.refusal.Refusal.TheVariants as why
 use Rattle.packed_readings.specs.Outcome.{found, stops, IsReading, Then, IsBit, IsField, IsSmall, bit_from, field_from, small_from}
@@ -76,7 +76,7 @@ module _ (n : ℕ) where
 
 -- ---- leaves
 
-leaf_weight : {k : Kind} {v : AbstractValue} → Fits k v → weight v ≡ suc (characters v)
+leaf_weight : {k : Kind} {v : AbstractValue} → IsPrimitive k v → weight v ≡ suc (characters v)
 leaf_weight fits_boolean = refl
 leaf_weight (fits_integer a b) = refl
 leaf_weight (fits_enumerated a b) = refl
@@ -93,7 +93,7 @@ module _ (s : List Resolved) (l n : ℕ) where
   abbrev LeafMade : Kind → Taken AbstractValue → Bits → Type 0
   LeafMade k = Made (IsLeafWithin n k) (leaf_taken n)
 
-  leaf_split : (k : Kind) → IsLeaf k → (v : AbstractValue) (j left : ℕ) (x : Bits) → Holds s lenient k v j x → ValueOf s l k v → suc n ≡ weight v + left → LeafMade k (taken v j left) x
+  leaf_split : (k : Kind) → IsLeaf k → (v : AbstractValue) (j left : ℕ) (x : Bits) → EncodesKindPer s lenient k v j x → ValueOf s l k v → suc n ≡ weight v + left → LeafMade k (taken v j left) x
   leaf_split k h v _ left x (leaf f) (of_leaf g) e =
       let z = leaf_weight g in
       record {
@@ -129,11 +129,11 @@ members_length : (it : List Element') → members (row_of_elements it) ≡ lengt
 members_length [] = refl
 members_length (e ∷ it) = let h = members_length it in omega arith
 
-after_none : (xs : Items) → Ascending ([] ∷ xs) → Ascending xs
+after_none : (xs : Items) → BitsAscend ([] ∷ xs) → BitsAscend xs
 after_none [] a = ascending_none
 after_none (x ∷ xs) (ascending_more m a) = a
 
-before_all : (xs : Items) → Ascending xs → Ascending ([] ∷ xs)
+before_all : (xs : Items) → BitsAscend xs → BitsAscend ([] ∷ xs)
 before_all [] a = ascending_one
 before_all (x ∷ xs) a = ascending_more tt a
 
@@ -148,7 +148,7 @@ elements_of (absent ws) xs = elements_of ws xs
 elements_of (present w ws) [] = []
 elements_of (present w ws) (x ∷ xs) = (w, x) ∷ elements_of ws xs
 
-rows_same : {s : List Resolved} {f : Form} {u k : ℕ} {ws : Row} {xs : Items} → Elements s f u ws k xs → (row_of_elements (elements_of ws xs) ≡ ws) × (items_of (elements_of ws xs) ≡ xs)
+rows_same : {s : List Resolved} {f : Form} {u k : ℕ} {ws : Row} {xs : Items} → ElementsPer s f u ws k xs → (row_of_elements (elements_of ws xs) ≡ ws) × (items_of (elements_of ws xs) ≡ xs)
 unfolding elements_of
 rows_same no_element = (refl, refl)
 rows_same (element {w = w} {x = x} a r) = let h = rows_same r in (ap (present w) h.0, ap (λ q. x ∷ q) h.1)
@@ -157,13 +157,13 @@ record ListSaid (s : List Resolved) (l : ℕ) (sorted : Bool) (c : Constraint) (
   ws : Row
   xs : Items
   is : v ≡ list ws
-  say_them : Elements s lenient u ws k xs
-  ascend : sorted ≡ true → Ascending xs
+  say_them : ElementsPer s lenient u ws k xs
+  ascend : sorted ≡ true → BitsAscend xs
   sized : Sized c.visible xs x
   values : AreElements s l u ws
   allowed : IsAllowedSize c (members ws)
 
-list_said : {s : List Resolved} {l : ℕ} (sorted : Bool) {c : Constraint} {u : TypeNumber} {v : AbstractValue} {k : ℕ} {x : Bits} → Holds s lenient (list_kind sorted c u) v k x → ValueOf s l (list_kind sorted c u) v → ListSaid s l sorted c u v k x
+list_said : {s : List Resolved} {l : ℕ} (sorted : Bool) {c : Constraint} {u : TypeNumber} {v : AbstractValue} {k : ℕ} {x : Bits} → EncodesKindPer s lenient (list_kind sorted c u) v k x → ValueOf s l (list_kind sorted c u) v → ListSaid s l sorted c u v k x
 list_said false (leaf f) a = elim f [ ]
 list_said false (sequence_of a z) (of_leaf f) = elim f [ ]
 list_said false (sequence_of {ws = ws} {xs = xs} a z) (of_sequence_of v y) = record { ws = ws; xs = xs; is = refl; say_them = a; ascend = λ h. absurd (not_true h); sized = z; values = v; allowed = y }
@@ -171,7 +171,7 @@ list_said true (leaf f) a = elim f [ ]
 list_said true (set_of a o z) (of_leaf f) = elim f [ ]
 list_said true (set_of {ws = ws} {xs = xs} a o z) (of_set_of v y) = record { ws = ws; xs = xs; is = refl; say_them = a; ascend = λ h. o; sized = z; values = v; allowed = y }
 
-said_holds : {s : List Resolved} (sorted : Bool) (c : Constraint) {u : TypeNumber} {ws : Row} {xs : Items} {k : ℕ} {x : Bits} → Elements s lenient u ws k xs → (sorted ≡ true → Ascending xs) → Sized c.visible xs x → Holds s lenient (list_kind sorted c u) (list ws) k x
+said_holds : {s : List Resolved} (sorted : Bool) (c : Constraint) {u : TypeNumber} {ws : Row} {xs : Items} {k : ℕ} {x : Bits} → ElementsPer s lenient u ws k xs → (sorted ≡ true → BitsAscend xs) → Sized c.visible xs x → EncodesKindPer s lenient (list_kind sorted c u) (list ws) k x
 said_holds false c a o z = sequence_of a z
 said_holds true c a o z = set_of a (o refl) z
 
@@ -179,7 +179,7 @@ said_value : {s : List Resolved} {l : ℕ} (sorted : Bool) (c : Constraint) {u :
 said_value false c a z = of_sequence_of a z
 said_value true c a z = of_set_of a z
 
-members_many : {s : List Resolved} {f : Form} {u k : ℕ} {ws : Row} {xs : Items} → Elements s f u ws k xs → members ws ≡ length xs
+members_many : {s : List Resolved} {f : Form} {u k : ℕ} {ws : Row} {xs : Items} → ElementsPer s f u ws k xs → members ws ≡ length xs
 members_many no_element = refl
 members_many (element a r) = ap suc (members_many r)
 
@@ -203,7 +203,7 @@ module _ (s : List Resolved) (l n : ℕ) (sorted : Bool) (c : Constraint) (u : T
   list_from_said v k left x a e =
       let it = elements_of a.ws a.xs in
       let r = rows_same a.say_them in
-      let say : Elements s lenient u (row_of_elements it) k (items_of it) = subst (λ q. Elements s lenient u q k (items_of it)) (sym r.0) (subst (λ q. Elements s lenient u a.ws k q) (sym r.1) a.say_them) in
+      let say : ElementsPer s lenient u (row_of_elements it) k (items_of it) = subst (λ q. ElementsPer s lenient u q k (items_of it)) (sym r.0) (subst (λ q. ElementsPer s lenient u a.ws k q) (sym r.1) a.say_them) in
       let e1 : suc n ≡ suc (row_weight a.ws) + left = e ∙ ap (λ q. weight q + left) a.is in
       let e2 : row_weight (row_of_elements it) ≡ row_weight a.ws = ap row_weight r.0 in
       record {
@@ -211,7 +211,7 @@ module _ (s : List Resolved) (l n : ℕ) (sorted : Bool) (c : Constraint) (u : T
         is = record {
           say_them = say;
           values = subst (AreElements s l u) (sym r.0) a.values;
-          follow = λ h. subst (λ q. Ascending ([] ∷ q)) (sym r.1) (before_all a.xs (a.ascend h));
+          follow = λ h. subst (λ q. BitsAscend ([] ∷ q)) (sym r.1) (before_all a.xs (a.ascend h));
           counted' = omega arith;
           sized = subst (λ q. InSize c q x) (sym r.1) (in_size a.xs x a.sized (subst (IsAllowedSize c) (members_many a.say_them) a.allowed));
         };
@@ -230,9 +230,9 @@ get_front [] ys (suc i) e = absurd (cc)
 get_front (x ∷ xs) ys zero e = e
 get_front (x ∷ xs) ys (suc i) e = get_front xs ys i e
 
-get_behind : {X : Type 0} {a : X} (xs ys : List X) (j : ℕ) → slice_get ys j ≡ Some a → slice_get (xs ++ ys) (length xs + j) ≡ Some a
-get_behind [] ys j e = ap (slice_get ys) (let z : 0 + j ≡ j = omega arith in z) ∙ e
-get_behind (x ∷ xs) ys j e = ap (slice_get (x ∷ (xs ++ ys))) (let z : suc (length xs) + j ≡ suc (length xs + j) = omega arith in z) ∙ get_behind xs ys j e
+get_appended : {X : Type 0} {a : X} (xs ys : List X) (j : ℕ) → slice_get ys j ≡ Some a → slice_get (xs ++ ys) (length xs + j) ≡ Some a
+get_appended [] ys j e = ap (slice_get ys) (let z : 0 + j ≡ j = omega arith in z) ∙ e
+get_appended (x ∷ xs) ys j e = ap (slice_get (x ∷ (xs ++ ys))) (let z : suc (length xs) + j ≡ suc (length xs + j) = omega arith in z) ∙ get_appended xs ys j e
 
 type_same : {a b : Alternative} {o : Option Alternative} → o ≡ Some a → o ≡ Some b → a.type ≡ b.type
 type_same e f = cc
@@ -252,30 +252,30 @@ module _ (front : (o r : Octets) (a b p q : Bits) → CountedOctets o a → Coun
 
   choice_to : (d : Chosen) (w : Taken AbstractValue) (x y : Bits) → IsChosen s root e more d x → ChosenThen d w y → IsKindRead s l n (a_choice root e more) w (x ++ y)
   choice_to _ w x y (chosen_root {i = i} {a = a} g h) m =
-      moved (λ w z. IsKindRead s l n (a_choice root e more) w z) m.made (ap (λ q. q ++ y) h ∙ append_assoc (root_bit e) (place_bits (length root) (rank s root a.type)) y)
+      moved (λ w z. IsKindRead s l n (a_choice root e more) w z) m.made (ap (λ q. q ++ y) h ∙ append_assoc (root_bit e) (place_bits (length root) (canonical_place s root a.type)) y)
       (record { holds_it = choice g m.is.says_it; value = of_choice (get_front root more i g) m.is.value; counted = (let k = m.is.counted in omega arith) })
   choice_to _ w x y (chosen_added {j = j} {a = a} f g small h) m =
       moved (λ w z. IsKindRead s l n (a_choice root e more) w z) m.made (ap (λ q. q ++ y) h)
       (record {
-        holds_it = subst (λ q. Holds s lenient (a_choice root q more) (alternative (length root + j) m.of.it) m.of.skipped (true ∷ (false ∷ (word 6 j ++ y)))) (sym f) (added_choice j refl g small m.is.is.says_it m.is.is_open);
-        value = of_choice (get_behind root more j g) m.is.is.value;
+        holds_it = subst (λ q. EncodesKindPer s lenient (a_choice root q more) (alternative (length root + j) m.of.it) m.of.skipped (true ∷ (false ∷ (word 6 j ++ y)))) (sym f) (added_choice j refl g small m.is.is.says_it m.is.is_open);
+        value = of_choice (get_appended root more j g) m.is.is.value;
         counted = (let k = m.is.is.counted in omega arith);
       })
 
-  choice_split : (b : Bool) → e ≡ b → (v : AbstractValue) (k left : ℕ) (x : Bits) → Holds s lenient (a_choice root b more) v k x → ValueOf s l (a_choice root e more) v → suc n ≡ weight v + left → Then (IsChosen s root e more) ChosenThen (taken v k left) x
+  choice_split : (b : Bool) → e ≡ b → (v : AbstractValue) (k left : ℕ) (x : Bits) → EncodesKindPer s lenient (a_choice root b more) v k x → ValueOf s l (a_choice root e more) v → suc n ≡ weight v + left → Then (IsChosen s root e more) ChosenThen (taken v k left) x
   choice_split b h v k left x (leaf f) a c = elim f [ ]
   choice_split b h _ k left _ (choice {i = i} {a = a} {w = w} {x = x} g sa) (of_leaf f) c = elim f [ ]
   choice_split b h _ _ left _ (choice {i = i} {n = k} {a = a} {w = w} {x = x} g sa) (of_choice {a = a'} g' v) c = record {
     first = in_root i a.type;
-    front = root_bit b ++ place_bits (length root) (rank s root a.type);
+    front = root_bit b ++ place_bits (length root) (canonical_place s root a.type);
     back = x;
-    is_first = chosen_root g (ap (λ q. root_bit q ++ place_bits (length root) (rank s root a.type)) (sym h));
+    is_first = chosen_root g (ap (λ q. root_bit q ++ place_bits (length root) (canonical_place s root a.type)) (sym h));
     is_next = record { of = taken w k left; is = record { says_it = sa; value = subst (λ t. ValueIn s l t w) (type_same g' (get_front root more i g)) v; counted = omega arith }; made = refl };
-    whole = sym (append_assoc (root_bit b) (place_bits (length root) (rank s root a.type)) x);
+    whole = sym (append_assoc (root_bit b) (place_bits (length root) (canonical_place s root a.type)) x);
   }
   choice_split _ h _ _ left _ (added_choice j ij g small sa op) (of_leaf f) c = elim f [ ]
   choice_split _ h _ _ left _ (added_choice {i = i} {n = k} {a = a} {w = w} {x = x} {y = y} j ij g small sa op) (of_choice {a = a'} g' v) c =
-      let at : slice_get (root ++ more) i ≡ Some a = ap (slice_get (root ++ more)) ij ∙ get_behind root more j g in
+      let at : slice_get (root ++ more) i ≡ Some a = ap (slice_get (root ++ more)) ij ∙ get_appended root more j g in
       record {
         first = added (length root + j) a.type;
         front = true ∷ (false ∷ word 6 j);
@@ -320,17 +320,17 @@ pub record Laws (s : List Resolved) : Type 0 where
   pub octets : IsReading CountedOctets octets_from
   pub front : (o r : Octets) (a b p q : Bits) → CountedOctets o a → CountedOctets r b → a ++ p ≡ b ++ q → (o ≡ r) × (p ≡ q)
   pub leaf : (n : ℕ) (k : Kind) → IsSound s k → IsReading (IsLeafWithin n k) (leaf_within n k)
-  pub tells : TellsDefaults s (is_default s)
-  pub only : (t j k : ℕ) (v w : AbstractValue) (x : Bits) → Says s lenient t v j x → Says s lenient t w k x → v ≡ w
-  pub one_place : (t i j : ℕ) (tags : List Tag) (root more : List Alternative) (e : Bool) (a b : Alternative) → Is s t tags (a_choice root e more) → slice_get root i ≡ Some a → slice_get root j ≡ Some b → rank s root a.type ≡ rank s root b.type → i ≡ j
-  pub place_fits : (t i : ℕ) (tags : List Tag) (root more : List Alternative) (e : Bool) (a : Alternative) → Is s t tags (a_choice root e more) → slice_get root i ≡ Some a → rank s root a.type < 2 ^ place_width (length root)
+  pub tells : DecidesDefaults s (is_default s)
+  pub only : (t j k : ℕ) (v w : AbstractValue) (x : Bits) → EncodesPer s lenient t v j x → EncodesPer s lenient t w k x → v ≡ w
+  pub one_place : (t i j : ℕ) (tags : List Tag) (root more : List Alternative) (e : Bool) (a b : Alternative) → Is s t tags (a_choice root e more) → slice_get root i ≡ Some a → slice_get root j ≡ Some b → canonical_place s root a.type ≡ canonical_place s root b.type → i ≡ j
+  pub place_fits : (t i : ℕ) (tags : List Tag) (root more : List Alternative) (e : Bool) (a : Alternative) → Is s t tags (a_choice root e more) → slice_get root i ≡ Some a → canonical_place s root a.type < 2 ^ place_width (length root)
 
 module _ (s : List Resolved) (laws : Laws s) where
   field' : (n : ℕ) → IsReading (λ v x. (v < 2 ^ n) × (x ≡ word n v)) (field_from n)
   field' n = c.same (λ v x p. (p.fits, p.is)) (λ v x p. record { fits = p.0; is = p.1 }) (laws.field n)
 
   module _ (l n t : ℕ) (tags : List Tag) (value : ReadsValue) (V : (t n : ℕ) → IsExact (IsValueRead s l t n) (value t n)) where
-    only' : (k : Kind) → Is s t tags k → (v w : AbstractValue) (i j : ℕ) (x : Bits) → Holds s lenient k v i x → Holds s lenient k w j x → v ≡ w
+    only' : (k : Kind) → Is s t tags k → (v w : AbstractValue) (i j : ℕ) (x : Bits) → EncodesKindPer s lenient k v i x → EncodesKindPer s lenient k w j x → v ≡ w
     only' k is v w i j x a b = laws.only t i j v w x (says is a) (says is b)
 
     kind_exact : (k : Kind) → Is s t tags k → IsSound s k → IsExact (IsKindRead s l n k) (kind_from s l value k n)
@@ -372,8 +372,8 @@ module _ (s : List Resolved) (laws : Laws s) where
   its_value : {l t : ℕ} {v : AbstractValue} {k : Kind} {tags : List Tag} → Is s t tags k → ValueIn s (suc l) t v → ValueOf s l k v
   its_value {l} {v = v} is (value_in i a) = subst (λ q. ValueOf s l q v) (same_kind i is) a
 
-  its_bits : {t : ℕ} {v : AbstractValue} {k : Kind} {tags : List Tag} {j : ℕ} {x : Bits} → Is s t tags k → Says s lenient t v j x → Holds s lenient k v j x
-  its_bits {v = v} {j = j} {x = x} is (says i a) = subst (λ q. Holds s lenient q v j x) (same_kind i is) a
+  its_bits : {t : ℕ} {v : AbstractValue} {k : Kind} {tags : List Tag} {j : ℕ} {x : Bits} → Is s t tags k → EncodesPer s lenient t v j x → EncodesKindPer s lenient k v j x
+  its_bits {v = v} {j = j} {x = x} is (says i a) = subst (λ q. EncodesKindPer s lenient q v j x) (same_kind i is) a
 
   no_level : {t : ℕ} {v : AbstractValue} → ValueIn s zero t v → ⊥
   no_level a = elim a [ ]

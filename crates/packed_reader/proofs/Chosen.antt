@@ -6,7 +6,7 @@ use Rattle.bits.specs.Words.{word}
 use Rattle.asn_base.specs.Types.{Alternative, Resolved}
 use Rattle.packed_encodings.specs.Lengths.{Bits}
 use Rattle.packed_encodings.specs.Leaves.{place_width, place_bits, root_bit}
-use Rattle.packed_encodings.specs.Orders.{rank}
+use Rattle.packed_encodings.specs.Orders.{canonical_place}
 use Rattle.packed_encodings.specs.Computed.{type_of}
 use Rattle.decode_faults.specs.declared.refusal.Refusal.{Refusal}
 use Rattle.decode_faults.specs.declared.refusal.Refusal.TheVariants as why
@@ -19,7 +19,7 @@ use Rattle.packed_reader.proofs.Opening.{not_true}
 pub data IsChosen (s : List Resolved) (root : List Alternative) (e : Bool) (more : List Alternative) : Chosen → Bits → Type 0 where
   chosen_root : {i : ℕ} {a : Alternative} {x : Bits}
       → slice_get root i ≡ Some a
-      → x ≡ root_bit e ++ place_bits (length root) (rank s root a.type)
+      → x ≡ root_bit e ++ place_bits (length root) (canonical_place s root a.type)
       → IsChosen s root e more (in_root i a.type) x
   chosen_added : {j : ℕ} {a : Alternative} {x : Bits}
       → e ≡ true
@@ -36,17 +36,17 @@ record Ranked (s : List Resolved) (all as' : List Alternative) (r j i : ℕ) : T
   is : i ≡ j + at
   alternative : Alternative
   found_it : slice_get as' at ≡ Some alternative
-  has_rank : rank s all alternative.type ≡ r
+  has_rank : canonical_place s all alternative.type ≡ r
 
 some_is : {X : Type 0} {a b : X} → Some a ≡ Some b → a ≡ b
 some_is e = cc
 
 ranked_is : (s : List Resolved) (all : List Alternative) (r : ℕ) (as' : List Alternative) (j i : ℕ) → ranked s all r as' j ≡ Some i → Ranked s all as' r j i
 ranked_is s all r [] j i e = absurd (cc)
-ranked_is s all r (a ∷ as') j i e = by (rank s all a.type == r) refl (λ h. ranked_is s all r as' (suc j) i h) e
+ranked_is s all r (a ∷ as') j i e = by (canonical_place s all a.type == r) refl (λ h. ranked_is s all r as' (suc j) i h) e
   where
-    by : (b : Bool) → (rank s all a.type == r) ≡ b → (ranked s all r as' (suc j) ≡ Some i → Ranked s all as' r (suc j) i) → (if b then Some j else ranked s all r as' (suc j)) ≡ Some i → Ranked s all (a ∷ as') r j i
-    by true h k f = record { at = 0; is = (let g : j ≡ i = some_is f in omega arith); alternative = a; found_it = refl; has_rank = eqb-true (rank s all a.type) r h }
+    by : (b : Bool) → (canonical_place s all a.type == r) ≡ b → (ranked s all r as' (suc j) ≡ Some i → Ranked s all as' r (suc j) i) → (if b then Some j else ranked s all r as' (suc j)) ≡ Some i → Ranked s all (a ∷ as') r j i
+    by true h k f = record { at = 0; is = (let g : j ≡ i = some_is f in omega arith); alternative = a; found_it = refl; has_rank = eqb-true (canonical_place s all a.type) r h }
     by false h k f = let q = k f in record { at = suc q.at; is = (let g = q.is in omega arith); alternative = q.alternative; found_it = q.found_it; has_rank = q.has_rank }
 
 -- one is found
@@ -54,14 +54,14 @@ record HasRanked (s : List Resolved) (all as' : List Alternative) (r j : ℕ) : 
   at : ℕ
   is : ranked s all r as' j ≡ Some at
 
-has_ranked : (s : List Resolved) (all : List Alternative) (r : ℕ) (as' : List Alternative) (j i : ℕ) (a : Alternative) → slice_get as' i ≡ Some a → rank s all a.type ≡ r → HasRanked s all as' r j
+has_ranked : (s : List Resolved) (all : List Alternative) (r : ℕ) (as' : List Alternative) (j i : ℕ) (a : Alternative) → slice_get as' i ≡ Some a → canonical_place s all a.type ≡ r → HasRanked s all as' r j
 has_ranked s all r [] j zero a e f = absurd (cc)
 has_ranked s all r [] j (suc i) a e f = absurd (cc)
-has_ranked s all r (b ∷ as') j i a e f = by (rank s all b.type == r) refl i e (λ i g. has_ranked s all r as' (suc j) i a g f)
+has_ranked s all r (b ∷ as') j i a e f = by (canonical_place s all b.type == r) refl i e (λ i g. has_ranked s all r as' (suc j) i a g f)
   where
-    by : (t : Bool) → (rank s all b.type == r) ≡ t → (i : ℕ) → slice_get (b ∷ as') i ≡ Some a → ((i : ℕ) → slice_get as' i ≡ Some a → HasRanked s all as' r (suc j)) → HasRanked s all (b ∷ as') r j
+    by : (t : Bool) → (canonical_place s all b.type == r) ≡ t → (i : ℕ) → slice_get (b ∷ as') i ≡ Some a → ((i : ℕ) → slice_get as' i ≡ Some a → HasRanked s all as' r (suc j)) → HasRanked s all (b ∷ as') r j
     by true h i e k = record { at = j; is = ap (λ q. if q then Some j else ranked s all r as' (suc j)) h }
-    by false h zero e k = absurd (not_true (sym h ∙ eq-eqb (rank s all b.type) r (ap (λ q. rank s all q.type) (some_is e) ∙ f)))
+    by false h zero e k = absurd (not_true (sym h ∙ eq-eqb (canonical_place s all b.type) r (ap (λ q. canonical_place s all q.type) (some_is e) ∙ f)))
     by false h (suc i) e k = let q = k i e in record { at = q.at; is = ap (λ q. if q then Some j else ranked s all r as' (suc j)) h ∙ q.is }
 
 good_is : {X : Type 0} {a b : X} → good a ≡ good b → a ≡ b
@@ -69,8 +69,8 @@ good_is e = cc
 
 module _ (bit : IsReading IsBit bit_from) (field : (n : ℕ) → IsReading (IsField n) (field_from n)) (small : (e : Refusal) → IsReading IsSmall (small_from e))
     (s : List Resolved) (root : List Alternative) (e : Bool) (more : List Alternative)
-    (one : (i j : ℕ) (a b : Alternative) → slice_get root i ≡ Some a → slice_get root j ≡ Some b → rank s root a.type ≡ rank s root b.type → i ≡ j)
-    (fits : (i : ℕ) (a : Alternative) → slice_get root i ≡ Some a → rank s root a.type < 2 ^ place_width (length root)) where
+    (one : (i j : ℕ) (a b : Alternative) → slice_get root i ≡ Some a → slice_get root j ≡ Some b → canonical_place s root a.type ≡ canonical_place s root b.type → i ≡ j)
+    (fits : (i : ℕ) (a : Alternative) → slice_get root i ≡ Some a → canonical_place s root a.type < 2 ^ place_width (length root)) where
   abbrev RootJudged : Chosen → Bits → Type 0
   RootJudged = IsJudged (IsField (place_width (length root))) (root_choice s root)
 
@@ -80,7 +80,7 @@ module _ (bit : IsReading IsBit bit_from) (field : (n : ℕ) → IsReading (IsFi
     its : Alternative
     found_it : slice_get root number ≡ Some its
     made : c ≡ in_root number its.type
-    is : x ≡ place_bits (length root) (rank s root its.type)
+    is : x ≡ place_bits (length root) (canonical_place s root its.type)
 
   root_to : (c : Chosen) (x : Bits) → RootJudged c x → IsRoot c x
   root_to c x q = by (ranked s root q.read root 0) refl q.judged
@@ -100,12 +100,12 @@ module _ (bit : IsReading IsBit bit_from) (field : (n : ℕ) → IsReading (IsFi
 
   root_from : (c : Chosen) (x : Bits) → IsRoot c x → RootJudged c x
   root_from c x q =
-      let h = has_ranked s root (rank s root q.its.type) root 0 q.number q.its q.found_it refl in
-      let r = ranked_is s root (rank s root q.its.type) root 0 h.at h.is in
+      let h = has_ranked s root (canonical_place s root q.its.type) root 0 q.number q.its q.found_it refl in
+      let r = ranked_is s root (canonical_place s root q.its.type) root 0 h.at h.is in
       let k : slice_get root h.at ≡ Some r.alternative = ap (slice_get root) (let g = r.is in let z : h.at ≡ r.at = omega arith in z) ∙ r.found_it in
       let i : h.at ≡ q.number = one h.at q.number r.alternative q.its k q.found_it r.has_rank in
       record {
-        read = rank s root q.its.type;
+        read = canonical_place s root q.its.type;
         is_read = record { fits = fits q.number q.its q.found_it; is = q.is };
         judged =
             ap (λ o. elim o [ None ↦ bad why.Outside | Some i ↦ good (in_root i (type_of (slice_get root i))) ]) h.is
@@ -159,16 +159,16 @@ module _ (bit : IsReading IsBit bit_from) (field : (n : ℕ) → IsReading (IsFi
         where
           at : (b : Bool) → IsBit b t.front → AfterBit b c t.back → IsChosen s root e more c x
           at true f q = subst (λ d. IsChosen s root e more d x) (sym q.made) (chosen_added h q.found_it q.small_it (t.whole ∙ ap (λ z. z ++ t.back) f ∙ ap (λ z. true ∷ z) q.is))
-          at false f q = subst (λ d. IsChosen s root e more d x) (sym q.made) (chosen_root q.found_it (t.whole ∙ ap (λ z. z ++ t.back) f ∙ ap (λ z. false ∷ z) q.is ∙ ap (λ z. root_bit z ++ place_bits (length root) (rank s root q.its.type)) (sym h)))
+          at false f q = subst (λ d. IsChosen s root e more d x) (sym q.made) (chosen_root q.found_it (t.whole ∙ ap (λ z. z ++ t.back) f ∙ ap (λ z. false ∷ z) q.is ∙ ap (λ z. root_bit z ++ place_bits (length root) (canonical_place s root q.its.type)) (sym h)))
 
       from_true : (e ≡ true) → (c : Chosen) (x : Bits) → IsChosen s root e more c x → Then IsBit AfterBit c x
       from_true h _ x (chosen_root {i = i} {a = a} g w) = record {
         first = false;
         front = false ∷ [];
-        back = place_bits (length root) (rank s root a.type);
+        back = place_bits (length root) (canonical_place s root a.type);
         is_first = refl;
         is_next = record { number = i; its = a; found_it = g; made = refl; is = refl };
-        whole = w ∙ ap (λ z. root_bit z ++ place_bits (length root) (rank s root a.type)) h;
+        whole = w ∙ ap (λ z. root_bit z ++ place_bits (length root) (canonical_place s root a.type)) h;
       }
       from_true h _ x (chosen_added {j = j} {a = a} f g l w) = record {
         first = true;
@@ -180,10 +180,10 @@ module _ (bit : IsReading IsBit bit_from) (field : (n : ℕ) → IsReading (IsFi
       }
 
       to_false : (e ≡ false) → (c : Chosen) (x : Bits) → IsRoot c x → IsChosen s root e more c x
-      to_false h c x q = subst (λ d. IsChosen s root e more d x) (sym q.made) (chosen_root q.found_it (q.is ∙ ap (λ z. root_bit z ++ place_bits (length root) (rank s root q.its.type)) (sym h)))
+      to_false h c x q = subst (λ d. IsChosen s root e more d x) (sym q.made) (chosen_root q.found_it (q.is ∙ ap (λ z. root_bit z ++ place_bits (length root) (canonical_place s root q.its.type)) (sym h)))
 
       from_false : (e ≡ false) → (c : Chosen) (x : Bits) → IsChosen s root e more c x → IsRoot c x
-      from_false h _ x (chosen_root {i = i} {a = a} g w) = record { number = i; its = a; found_it = g; made = refl; is = w ∙ ap (λ z. root_bit z ++ place_bits (length root) (rank s root a.type)) h }
+      from_false h _ x (chosen_root {i = i} {a = a} g w) = record { number = i; its = a; found_it = g; made = refl; is = w ∙ ap (λ z. root_bit z ++ place_bits (length root) (canonical_place s root a.type)) h }
       from_false h _ x (chosen_added f g l w) = absurd (not_true (sym h ∙ f))
 
       by : (b : Bool) → e ≡ b → IsReading (IsChosen s root e more) (λ r. if b then onward (bit_from r) (λ x r. if x then judging (the_added root more) (small_from why.UnknownAlternative) r else root_chosen s root r) else root_chosen s root r)

@@ -6,9 +6,9 @@ use Rattle.asn_base.specs.Types.{TypeNumber, Constraint, Resolved}
 use Rattle.asn_base.specs.Typed.{AreElements, no_element, one_element}
 use Rattle.packed_encodings.specs.Weights.{weight, row_weight}
 use Rattle.packed_encodings.specs.Lengths.{Bits, Items, all_bits}
-use Rattle.packed_encodings.specs.Orders.{AtMost, Ascending, ascending_one, ascending_more}
+use Rattle.packed_encodings.specs.Orders.{BitsAtMost, BitsAscend, ascending_one, ascending_more}
 use Rattle.packed_encodings.specs.Packing as said
-use Rattle.packed_encodings.specs.Packing.{lenient, Says, Elements}
+use Rattle.packed_encodings.specs.Packing.{lenient, EncodesPer, ElementsPer}
 use Rattle.decode_faults.specs.declared.refusal.Refusal.{Refusal}
 use Rattle.decode_faults.specs.declared.refusal.Refusal.TheVariants as why
 use Rattle.packed_readings.specs.Outcome.{IsReading, Then, IsJudged, good, bad, judging}
@@ -29,7 +29,7 @@ use Rattle.packed_reader.proofs.Members.{moved}
 
 -- ---- the order
 
-at_most_is : (x y : Bits) → at_most x y ≡ true → AtMost x y
+at_most_is : (x y : Bits) → at_most x y ≡ true → BitsAtMost x y
 at_most_is [] ys e = tt
 at_most_is (false ∷ xs) [] e = (refl, at_most_is xs [] e)
 at_most_is (true ∷ xs) [] e = absurd (not_true e)
@@ -38,7 +38,7 @@ at_most_is (true ∷ xs) (false ∷ ys) e = not_true e
 at_most_is (false ∷ xs) (false ∷ ys) e = at_most_is xs ys e
 at_most_is (true ∷ xs) (true ∷ ys) e = at_most_is xs ys e
 
-is_at_most : (x y : Bits) → AtMost x y → at_most x y ≡ true
+is_at_most : (x y : Bits) → BitsAtMost x y → at_most x y ≡ true
 is_at_most [] ys h = refl
 is_at_most (false ∷ xs) [] h = is_at_most xs [] h.1
 is_at_most (true ∷ xs) [] h = absurd (not_true (sym h.0))
@@ -47,28 +47,28 @@ is_at_most (true ∷ xs) (false ∷ ys) h = absurd h
 is_at_most (false ∷ xs) (false ∷ ys) h = is_at_most xs ys h
 is_at_most (true ∷ xs) (true ∷ ys) h = is_at_most xs ys h
 
-ordered_is : (sorted : Bool) (x y : Bits) → not sorted || at_most x y ≡ true → sorted ≡ true → AtMost x y
+ordered_is : (sorted : Bool) (x y : Bits) → not sorted || at_most x y ≡ true → sorted ≡ true → BitsAtMost x y
 ordered_is true x y e h = at_most_is x y e
 ordered_is false x y e h = absurd (not_true h)
 
-is_ordered : (sorted : Bool) (x y : Bits) → (sorted ≡ true → AtMost x y) → not sorted || at_most x y ≡ true
+is_ordered : (sorted : Bool) (x y : Bits) → (sorted ≡ true → BitsAtMost x y) → not sorted || at_most x y ≡ true
 is_ordered true x y h = is_at_most x y (h refl)
 is_ordered false x y h = refl
 
 -- each is at most the next, where they are sorted, and the first one at least those before
 abbrev pub Follow : Bool → Bits → Items → Type 0
-Follow sorted before xs = sorted ≡ true → Ascending (before ∷ xs)
+Follow sorted before xs = sorted ≡ true → BitsAscend (before ∷ xs)
 
-first_follows : {x y : Bits} {ys : Items} → Ascending (x ∷ (y ∷ ys)) → AtMost x y
+first_follows : {x y : Bits} {ys : Items} → BitsAscend (x ∷ (y ∷ ys)) → BitsAtMost x y
 first_follows (ascending_more a r) = a
 
-others_follow : {x y : Bits} {ys : Items} → Ascending (x ∷ (y ∷ ys)) → Ascending (y ∷ ys)
+others_follow : {x y : Bits} {ys : Items} → BitsAscend (x ∷ (y ∷ ys)) → BitsAscend (y ∷ ys)
 others_follow (ascending_more a r) = r
 
 -- ---- elements
 
 pub record AreElementsRead (s : List Resolved) (l : ℕ) (u : TypeNumber) (sorted : Bool) (before : Bits) (count n : ℕ) (t : Taken (List Element')) (x : Bits) : Type 0 where
-  pub say_them : Elements s lenient u (row_of_elements t.it) t.skipped (items_of t.it)
+  pub say_them : ElementsPer s lenient u (row_of_elements t.it) t.skipped (items_of t.it)
   pub values : AreElements s l u (row_of_elements t.it)
   pub follow : Follow sorted before (items_of t.it)
   pub counted : n ≡ row_weight (row_of_elements t.it) + t.left
@@ -79,7 +79,7 @@ pub record AreElementsRead (s : List Resolved) (l : ℕ) (u : TypeNumber) (sorte
 pub record IsElementRead (s : List Resolved) (l : ℕ) (u : TypeNumber) (sorted : Bool) (before : Bits) (n : ℕ) (t : Taken Element') (x : Bits) : Type 0 where
   pub value : Taken AbstractValue
   pub is : IsValueRead s l u n value x
-  pub follows : sorted ≡ true → AtMost before x
+  pub follows : sorted ≡ true → BitsAtMost before x
   pub made : t ≡ taken (value.it, x) value.skipped value.left
 
 module _ (s : List Resolved) (l : ℕ) (u : TypeNumber) (value : ReadsElement) (V : (n : ℕ) → IsExact (IsValueRead s l u n) (value n)) (sorted : Bool) where
@@ -94,7 +94,7 @@ module _ (s : List Resolved) (l : ℕ) (u : TypeNumber) (value : ReadsElement) (
       to t x q = record {
         value = q.of.0;
         is = q.is.0.0;
-        follows = λ h. subst (AtMost before) q.is.0.1 (ordered_is sorted before q.of.1 q.is.1 h);
+        follows = λ h. subst (BitsAtMost before) q.is.0.1 (ordered_is sorted before q.of.1 q.is.1 h);
         made = q.made ∙ ap (λ z. taken (q.of.0.it, z) q.of.0.skipped q.of.0.left) q.is.0.1;
       }
 
@@ -104,7 +104,7 @@ module _ (s : List Resolved) (l : ℕ) (u : TypeNumber) (value : ReadsElement) (
   abbrev ElementsThen : ℕ → Taken Element' → Taken (List Element') → Bits → Type 0
   ElementsThen k t = Made (AreElementsRead s l u sorted t.it.1 k t.left) (joined t)
 
-  split : (k n : ℕ) (before : Bits) (it : List Element') (j left : ℕ) (x : Bits) → Elements s lenient u (row_of_elements it) j (items_of it) → AreElements s l u (row_of_elements it) → Follow sorted before (items_of it) → n ≡ row_weight (row_of_elements it) + left → length it ≡ suc k → x ≡ all_bits (items_of it) → Then (IsElementRead s l u sorted before n) (ElementsThen k) (taken it j left) x
+  split : (k n : ℕ) (before : Bits) (it : List Element') (j left : ℕ) (x : Bits) → ElementsPer s lenient u (row_of_elements it) j (items_of it) → AreElements s l u (row_of_elements it) → Follow sorted before (items_of it) → n ≡ row_weight (row_of_elements it) + left → length it ≡ suc k → x ≡ all_bits (items_of it) → Then (IsElementRead s l u sorted before n) (ElementsThen k) (taken it j left) x
   split k n before [] j left x a v f c m w = absurd (omega arith)
   split k n before (e ∷ es) _ left x (said.element {j = i} {n = j} sa r) (one_element y v) f c m w = record {
     first = taken e i (row_weight (row_of_elements es) + left);
@@ -125,7 +125,7 @@ module _ (s : List Resolved) (l : ℕ) (u : TypeNumber) (value : ReadsElement) (
       to : (t : Taken (List Element')) (x : Bits) → (t ≡ taken [] 0 n) × (x ≡ []) → AreElementsRead s l u sorted before zero n t x
       to t x q = moved (AreElementsRead s l u sorted before zero n) q.0 q.1 (record { say_them = said.no_element; values = no_element; follow = λ h. ascending_one; counted = omega arith; many = refl; whole = refl })
 
-      none : (it : List Element') (j left : ℕ) (x : Bits) → Elements s lenient u (row_of_elements it) j (items_of it) → n ≡ row_weight (row_of_elements it) + left → length it ≡ 0 → x ≡ all_bits (items_of it) → (taken it j left ≡ taken [] 0 n) × (x ≡ [])
+      none : (it : List Element') (j left : ℕ) (x : Bits) → ElementsPer s lenient u (row_of_elements it) j (items_of it) → n ≡ row_weight (row_of_elements it) + left → length it ≡ 0 → x ≡ all_bits (items_of it) → (taken it j left ≡ taken [] 0 n) × (x ≡ [])
       none [] _ left x said.no_element c m w = (ap (taken [] 0) (let f : left ≡ n = omega arith in f), w)
       none (e ∷ es) j left x a c m w = absurd (omega arith)
   elements_exact (suc k) i before n =
@@ -142,7 +142,7 @@ module _ (s : List Resolved) (l : ℕ) (u : TypeNumber) (value : ReadsElement) (
           (record {
             say_them = said.element a.is.says_it r.say_them;
             values = one_element a.is.value r.values;
-            follow = λ h. ascending_more (a.follows h) (subst (λ z. Ascending (z ∷ items_of q.is_next.of.it)) e (r.follow h));
+            follow = λ h. ascending_more (a.follows h) (subst (λ z. BitsAscend (z ∷ items_of q.is_next.of.it)) e (r.follow h));
             counted = (let c1 = a.is.counted in let c2 = r.counted in omega arith);
             many = (let m = r.many in omega arith);
             whole = refl;
@@ -185,9 +185,9 @@ items_length [] = refl
 items_length (e ∷ it) = ap suc (items_length it)
 
 module _ (s : List Resolved) (l : ℕ) (u : TypeNumber) where
-  say_both : (it es : List Element') (j k : ℕ) → Elements s lenient u (row_of_elements it) j (items_of it) → Elements s lenient u (row_of_elements es) k (items_of es) → Elements s lenient u (row_of_elements (it ++ es)) (j + k) (items_of (it ++ es))
-  say_both [] es _ k said.no_element b = subst (λ z. Elements s lenient u (row_of_elements es) z (items_of es)) (let z : k ≡ 0 + k = omega arith in z) b
-  say_both (e ∷ it) es _ k (said.element {j = i} {n = j} a r) b = subst (λ z. Elements s lenient u (row_of_elements ((e ∷ it) ++ es)) z (items_of ((e ∷ it) ++ es))) (let z : i + (j + k) ≡ (i + j) + k = omega arith in z) (said.element a (say_both it es j k r b))
+  say_both : (it es : List Element') (j k : ℕ) → ElementsPer s lenient u (row_of_elements it) j (items_of it) → ElementsPer s lenient u (row_of_elements es) k (items_of es) → ElementsPer s lenient u (row_of_elements (it ++ es)) (j + k) (items_of (it ++ es))
+  say_both [] es _ k said.no_element b = subst (λ z. ElementsPer s lenient u (row_of_elements es) z (items_of es)) (let z : k ≡ 0 + k = omega arith in z) b
+  say_both (e ∷ it) es _ k (said.element {j = i} {n = j} a r) b = subst (λ z. ElementsPer s lenient u (row_of_elements ((e ∷ it) ++ es)) z (items_of ((e ∷ it) ++ es))) (let z : i + (j + k) ≡ (i + j) + k = omega arith in z) (said.element a (say_both it es j k r b))
 
   values_both : (it es : List Element') → AreElements s l u (row_of_elements it) → AreElements s l u (row_of_elements es) → AreElements s l u (row_of_elements (it ++ es))
   values_both [] es a b = b
@@ -198,10 +198,10 @@ module _ (s : List Resolved) (l : ℕ) (u : TypeNumber) where
     first : ℕ
     second : ℕ
     sum : k ≡ first + second
-    say_first : Elements s lenient u (row_of_elements it) first (items_of it)
-    say_second : Elements s lenient u (row_of_elements es) second (items_of es)
+    say_first : ElementsPer s lenient u (row_of_elements it) first (items_of it)
+    say_second : ElementsPer s lenient u (row_of_elements es) second (items_of es)
 
-  halves : (it es : List Element') (k : ℕ) → Elements s lenient u (row_of_elements (it ++ es)) k (items_of (it ++ es)) → Halves it es k
+  halves : (it es : List Element') (k : ℕ) → ElementsPer s lenient u (row_of_elements (it ++ es)) k (items_of (it ++ es)) → Halves it es k
   halves [] es k a = record { first = 0; second = k; sum = (let z : k ≡ 0 + k = omega arith in z); say_first = said.no_element; say_second = a }
   halves (e ∷ it) es _ (said.element {j = i} {n = j} a r) =
       let h = halves it es j r in
@@ -211,15 +211,15 @@ module _ (s : List Resolved) (l : ℕ) (u : TypeNumber) where
   values_halves [] es a = (no_element, a)
   values_halves (e ∷ it) es (one_element v a) = let r = values_halves it es a in (one_element v r.0, r.1)
 
-ascend_both : (before : Bits) (it es : List Element') → Ascending (before ∷ items_of it) → Ascending (last_bits before it ∷ items_of es) → Ascending (before ∷ items_of (it ++ es))
+ascend_both : (before : Bits) (it es : List Element') → BitsAscend (before ∷ items_of it) → BitsAscend (last_bits before it ∷ items_of es) → BitsAscend (before ∷ items_of (it ++ es))
 ascend_both before [] es a b = b
 ascend_both before (e ∷ it) es (ascending_more m a) b = ascending_more m (ascend_both e.1 it es a b)
 
-ascend_first : (before : Bits) (it es : List Element') → Ascending (before ∷ items_of (it ++ es)) → Ascending (before ∷ items_of it)
+ascend_first : (before : Bits) (it es : List Element') → BitsAscend (before ∷ items_of (it ++ es)) → BitsAscend (before ∷ items_of it)
 ascend_first before [] es a = ascending_one
 ascend_first before (e ∷ it) es (ascending_more m a) = ascending_more m (ascend_first e.1 it es a)
 
-ascend_second : (before : Bits) (it es : List Element') → Ascending (before ∷ items_of (it ++ es)) → Ascending (last_bits before it ∷ items_of es)
+ascend_second : (before : Bits) (it es : List Element') → BitsAscend (before ∷ items_of (it ++ es)) → BitsAscend (last_bits before it ∷ items_of es)
 ascend_second before [] es a = a
 ascend_second before (e ∷ it) es (ascending_more m a) = ascend_second e.1 it es a
 
@@ -282,7 +282,7 @@ module _ (numbers : (full : Bool) → IsReading (IsCount full) (count_from full)
 -- ---- elements part by part
 
 pub record ArePartsRead (s : List Resolved) (l : ℕ) (u : TypeNumber) (sorted : Bool) (test : ℕ → Option Refusal) (full : Bool) (i : ℕ) (before : Bits) (n : ℕ) (t : Taken (List Element')) (x : Bits) : Type 0 where
-  pub say_them : Elements s lenient u (row_of_elements t.it) t.skipped (items_of t.it)
+  pub say_them : ElementsPer s lenient u (row_of_elements t.it) t.skipped (items_of t.it)
   pub values : AreElements s l u (row_of_elements t.it)
   pub follow : Follow sorted before (items_of t.it)
   pub counted : n ≡ row_weight (row_of_elements t.it) + t.left
@@ -341,7 +341,7 @@ module _ (numbers : (full : Bool) → IsReading (IsCount full) (count_from full)
       (subst (λ f. ArePartsRead s l u sorted test f i before n (both q.first q.is_next.of) (x ++ (q.front ++ q.back))) (sym (part_full c.0))
       (to_part i before n m q.first q.is_next.of x q.front q.back (subst (λ f. IsCount f (part m) x) (part_full c.0) c.0) q.is_first q.is_next.is))
 
-  from_parts : (full : Bool) (i : ℕ) (before : Bits) (n : ℕ) (it : List Element') (k left : ℕ) (x : Bits) (xs : Items) → InParts full xs x → items_of it ≡ xs → Elements s lenient u (row_of_elements it) k (items_of it) → AreElements s l u (row_of_elements it) → Follow sorted before (items_of it) → n ≡ row_weight (row_of_elements it) + left → test (i + length it) ≡ None → NumberThen full i before n (taken it k left) x
+  from_parts : (full : Bool) (i : ℕ) (before : Bits) (n : ℕ) (it : List Element') (k left : ℕ) (x : Bits) (xs : Items) → InParts full xs x → items_of it ≡ xs → ElementsPer s lenient u (row_of_elements it) k (items_of it) → AreElements s l u (row_of_elements it) → Follow sorted before (items_of it) → n ≡ row_weight (row_of_elements it) + left → test (i + length it) ≡ None → NumberThen full i before n (taken it k left) x
   from_parts full i before n it k left _ _ (last_items {h = h} xs c) e a v f ct p =
       let len : length it ≡ length xs = sym (items_length it) ∙ ap length e in
       record {
@@ -354,7 +354,7 @@ module _ (numbers : (full : Bool) → IsReading (IsCount full) (count_from full)
       }
   from_parts _ i before n it k left _ _ (part_items {m = m} {h = h} {b = b} xs ys c lx r) e a v f ct p =
       let q = apart xs ys it e in
-      let a' = subst (λ z. Elements s lenient u (row_of_elements z) k (items_of z)) q.is a in
+      let a' = subst (λ z. ElementsPer s lenient u (row_of_elements z) k (items_of z)) q.is a in
       let v' = values_halves s l u q.first q.second (subst (λ z. AreElements s l u (row_of_elements z)) q.is v) in
       let hs = halves s l u q.first q.second k a' in
       let f' : Follow sorted before (items_of (q.first ++ q.second)) = subst (λ z. Follow sorted before (items_of z)) q.is f in
@@ -399,7 +399,7 @@ module _ (numbers : (full : Bool) → IsReading (IsCount full) (count_from full)
 -- ---- lists
 
 pub record IsListRead (s : List Resolved) (l : ℕ) (u : TypeNumber) (sorted : Bool) (c : Constraint) (n : ℕ) (t : Taken (List Element')) (x : Bits) : Type 0 where
-  pub say_them : Elements s lenient u (row_of_elements t.it) t.skipped (items_of t.it)
+  pub say_them : ElementsPer s lenient u (row_of_elements t.it) t.skipped (items_of t.it)
   pub values : AreElements s l u (row_of_elements t.it)
   pub follow : Follow sorted [] (items_of t.it)
   pub counted' : n ≡ row_weight (row_of_elements t.it) + t.left
@@ -434,7 +434,7 @@ module _ (numbers : (full : Bool) → IsReading (IsCount full) (count_from full)
         sized = items_in_parts (items_of t.it) h (ap (size_fault c outside) e ∙ a.passed) a.parts;
       }
 
-  from_list : (n : ℕ) (it : List Element') (k left : ℕ) (x : Bits) (xs : Items) → InSize c xs x → items_of it ≡ xs → Elements s lenient u (row_of_elements it) k (items_of it) → AreElements s l u (row_of_elements it) → Follow sorted [] (items_of it) → n ≡ row_weight (row_of_elements it) + left → Then (IsSizing c) (SizeThen n) (taken it k left) x
+  from_list : (n : ℕ) (it : List Element') (k left : ℕ) (x : Bits) (xs : Items) → InSize c xs x → items_of it ≡ xs → ElementsPer s lenient u (row_of_elements it) k (items_of it) → AreElements s l u (row_of_elements it) → Follow sorted [] (items_of it) → n ≡ row_weight (row_of_elements it) + left → Then (IsSizing c) (SizeThen n) (taken it k left) x
   from_list n it k left _ _ (items_at_once {h = h} xs z) e a v f ct = record {
     first = at_once (length xs);
     front = h;

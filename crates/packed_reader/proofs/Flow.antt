@@ -10,7 +10,7 @@ use Rattle.packed_reader.specs.declared.reader.Progress.{Progress}
 use Rattle.packed_reader.specs.declared.stop.Stop.{Stop}
 use Rattle.packed_reader.specs.declared.stop.Stop.TheVariants.{Memory, Refused}
 use Rattle.packed_reader.specs.Readings.{Reading, refused, stop, next, in_part, plain}
-use Rattle.packed_reader.specs.proving.Code.{IsStopAt, IsStopOf, IsWithin, IsStop, IsBare, Went}
+use Rattle.packed_reader.specs.proving.Code.{IsStopAt, IsStopOf, IsWithin, IsStop, IsBare, Advanced}
 
 pub refused_as : (X : Type 0) (e f : Refusal) (ps qs : List Part) (r : Bits) → e ≡ f → ps ≡ qs → ◌≡◌ {A = Reading X} (refused (record { why = e; path = ps }) r) (refused (record { why = f; path = qs }) r)
 refused_as X e f ps qs r h g = cc
@@ -51,5 +51,5 @@ module _ {X : Type 0} where
   pub fault_next : {Y : Type 0} (o : Reading X) (g : X → Bits → Reading Y) (e : Refusal) (x : Stop) (r : Bits) → o ≡ stop e r → IsStopAt e x → IsStop (next o g) x r
   fault_next o g e x r h a = stop_next o g x r (stop_at o e x r h a)
 
-pub went_same : (p : Progress) (b : Bits) → Went p b p b
+pub went_same : (p : Progress) (b : Bits) → Advanced p b p b
 went_same p b = record { left = (let k : p.left ≤ p.left = omega arith in k); room = (let k : p.skipped + length b ≤ p.skipped + length b = omega arith in k) }

@@ -8,8 +8,8 @@ use Rattle.asn_base.specs.Types.{Component, Resolved, Presence, mandatory, optio
 use Rattle.asn_base.specs.Typed.{group_of, IsOfGroup, HasOfGroup, LacksOfGroup, GroupsAreWhole}
 use Rattle.asn_base.specs.Schemas.{is_addition, GroupsTogether, AreListed}
 use Rattle.packed_encodings.specs.Lengths.{Bits}
-use Rattle.packed_encodings.specs.Orders.{Member, missing, standing, component, stands, any_stands, has_bit, Beside, beside_none, beside_absent, beside_present, behind_marker, Addition, alone, bracketed, is_of_group, in_front, additions}
-use Rattle.packed_encodings.specs.Packing.{Form, Members, no_member, must_stand, may_stand, is_missing, Additions, no_addition, added, not_added, group, no_group}
+use Rattle.packed_encodings.specs.Orders.{Member, missing, standing, component, is_present, any_present, has_bit, Beside, beside_none, beside_absent, beside_present, past_marker, Addition, alone, bracketed, is_of_group, in_front, additions}
+use Rattle.packed_encodings.specs.Packing.{Form, MembersPer, no_member, must_be_present, may_be_present, is_missing, Additions, no_addition, added, not_added, group, no_group}
 use Rattle.packed_reader.proofs.Opening.{not_true}
 
 abbrev Given : Type 0
@@ -43,31 +43,31 @@ grouped optional g e = absurd (cc)
 grouped (default d) g e = absurd (cc)
 grouped (addition o h) g e = refl
 
-has_behind : (g : ℕ) (ms : List Given) → HasOf g ms → HasOf g (behind_marker ms)
-has_behind g [] h = elim h [ ]
-has_behind g (missing c ∷ ms) h = by (is_addition c) (has_behind g ms h)
+has_past_marker : (g : ℕ) (ms : List Given) → HasOf g ms → HasOf g (past_marker ms)
+has_past_marker g [] h = elim h [ ]
+has_past_marker g (missing c ∷ ms) h = by (is_addition c) (has_past_marker g ms h)
   where
-    by : (b : Bool) → HasOf g (behind_marker ms) → HasOf g (if b then missing c ∷ behind_marker ms else behind_marker ms)
+    by : (b : Bool) → HasOf g (past_marker ms) → HasOf g (if b then missing c ∷ past_marker ms else past_marker ms)
     by true r = r
     by false r = r
-has_behind g (standing c w ∷ ms) (inl h) = subst (λ b. HasOf g (if b then standing c w ∷ behind_marker ms else behind_marker ms)) (sym (grouped c.presence g h)) (inl h)
-has_behind g (standing c w ∷ ms) (inr h) = by (is_addition c) (has_behind g ms h)
+has_past_marker g (standing c w ∷ ms) (inl h) = subst (λ b. HasOf g (if b then standing c w ∷ past_marker ms else past_marker ms)) (sym (grouped c.presence g h)) (inl h)
+has_past_marker g (standing c w ∷ ms) (inr h) = by (is_addition c) (has_past_marker g ms h)
   where
-    by : (b : Bool) → HasOf g (behind_marker ms) → HasOf g (if b then standing c w ∷ behind_marker ms else behind_marker ms)
+    by : (b : Bool) → HasOf g (past_marker ms) → HasOf g (if b then standing c w ∷ past_marker ms else past_marker ms)
     by true r = inr r
     by false r = r
 
-lacks_behind : (g : ℕ) (ms : List Given) → LacksOf g ms → LacksOf g (behind_marker ms)
-lacks_behind g [] h = elim h [ ]
-lacks_behind g (missing c ∷ ms) (inl h) = subst (λ b. LacksOf g (if b then missing c ∷ behind_marker ms else behind_marker ms)) (sym (grouped c.presence g (ap group_of h))) (inl h)
-lacks_behind g (missing c ∷ ms) (inr h) = by (is_addition c) (lacks_behind g ms h)
+lacks_past_marker : (g : ℕ) (ms : List Given) → LacksOf g ms → LacksOf g (past_marker ms)
+lacks_past_marker g [] h = elim h [ ]
+lacks_past_marker g (missing c ∷ ms) (inl h) = subst (λ b. LacksOf g (if b then missing c ∷ past_marker ms else past_marker ms)) (sym (grouped c.presence g (ap group_of h))) (inl h)
+lacks_past_marker g (missing c ∷ ms) (inr h) = by (is_addition c) (lacks_past_marker g ms h)
   where
-    by : (b : Bool) → LacksOf g (behind_marker ms) → LacksOf g (if b then missing c ∷ behind_marker ms else behind_marker ms)
+    by : (b : Bool) → LacksOf g (past_marker ms) → LacksOf g (if b then missing c ∷ past_marker ms else past_marker ms)
     by true r = inr r
     by false r = r
-lacks_behind g (standing c w ∷ ms) h = by (is_addition c) (lacks_behind g ms h)
+lacks_past_marker g (standing c w ∷ ms) h = by (is_addition c) (lacks_past_marker g ms h)
   where
-    by : (b : Bool) → LacksOf g (behind_marker ms) → LacksOf g (if b then standing c w ∷ behind_marker ms else behind_marker ms)
+    by : (b : Bool) → LacksOf g (past_marker ms) → LacksOf g (if b then standing c w ∷ past_marker ms else past_marker ms)
     by true r = r
     by false r = r
 
@@ -75,12 +75,12 @@ lacks_behind g (standing c w ∷ ms) h = by (is_addition c) (lacks_behind g ms h
 
 abbrev WholeOne : Addition AbstractValue → Type 0
 WholeOne (alone m) = Unit {0}
-WholeOne (bracketed ms) = any_stands ms ≡ true → (g : ℕ) → LacksOf g ms → ⊥
+WholeOne (bracketed ms) = any_present ms ≡ true → (g : ℕ) → LacksOf g ms → ⊥
 
-none_lacks : {s : List Resolved} {f : Form} {ms : List Given} {j : ℕ} {p b : Bits} (g : ℕ) → Members s f ms j p b → LacksOf g ms → ⊥
+none_lacks : {s : List Resolved} {f : Form} {ms : List Given} {j : ℕ} {p b : Bits} (g : ℕ) → MembersPer s f ms j p b → LacksOf g ms → ⊥
 none_lacks g no_member h = h
-none_lacks g (must_stand h a m) l = none_lacks g m l
-none_lacks g (may_stand h a d m) l = none_lacks g m l
+none_lacks g (must_be_present h a m) l = none_lacks g m l
+none_lacks g (may_be_present h a d m) l = none_lacks g m l
 none_lacks g (is_missing h m) (inl e) = not_true (sym (ap has_bit e) ∙ h)
 none_lacks g (is_missing h m) (inr l) = none_lacks g m l
 
@@ -100,7 +100,7 @@ record FirstOf (g : ℕ) (xs : List Given) : Type 0 where
   behind : List (Addition AbstractValue)
   is : additions xs ≡ bracketed (first ∷ others) ∷ behind
   of : is_of_group g first ≡ true
-  has : HasOf g xs → any_stands (first ∷ others) ≡ true
+  has : HasOf g xs → any_present (first ∷ others) ≡ true
   lacks : LacksOf g xs → LacksOf g (first ∷ others)
 
 of_group : (g : ℕ) (m : Given) → IsOfGroup g (component m) → is_of_group g m ≡ true
@@ -135,7 +135,7 @@ none_lacking g (missing c ∷ xs) n (inr h) = none_lacking g xs n.1 h
 none_lacking g (standing c w ∷ xs) n h = none_lacking g xs n.1 h
 
 -- in front of members of which those of the group, if any, are at hand
-has_more : (g : ℕ) (m : Given) (xs ys : List Given) → (HasOf g xs → any_stands ys ≡ true) → HasOf g (m ∷ xs) → any_stands (m ∷ ys) ≡ true
+has_more : (g : ℕ) (m : Given) (xs ys : List Given) → (HasOf g xs → any_present ys ≡ true) → HasOf g (m ∷ xs) → any_present (m ∷ ys) ≡ true
 has_more g (missing c) xs ys r h = r h
 has_more g (standing c w) xs ys r h = refl
 
@@ -175,19 +175,19 @@ first_of g m (n ∷ xs) e t = by (t.0 g e) (λ h. first_of g n xs h t.1)
         }
     by (inr h) r = first_alone g m (n ∷ xs) e (none_has g (n ∷ xs) h) (none_lacking g (n ∷ xs) h)
 
-behind_whole : (o : Option ℕ) (m : Given) (ds : List (Addition AbstractValue)) → AllByRecursion WholeOne (in_front o m ds) → AllByRecursion WholeOne ds
-behind_whole None m ds w = w.1
-behind_whole (Some h) m [] w = tt
-behind_whole (Some h) m (alone n ∷ ds) w = w.1
-behind_whole (Some h) m (bracketed [] ∷ ds) w = w.1
-behind_whole (Some h) m (bracketed (n ∷ ns) ∷ ds) w = by (is_of_group h n) w
+in_front_whole : (o : Option ℕ) (m : Given) (ds : List (Addition AbstractValue)) → AllByRecursion WholeOne (in_front o m ds) → AllByRecursion WholeOne ds
+in_front_whole None m ds w = w.1
+in_front_whole (Some h) m [] w = tt
+in_front_whole (Some h) m (alone n ∷ ds) w = w.1
+in_front_whole (Some h) m (bracketed [] ∷ ds) w = w.1
+in_front_whole (Some h) m (bracketed (n ∷ ns) ∷ ds) w = by (is_of_group h n) w
   where
     or_true : (a b : Bool) → b ≡ true → a || b ≡ true
     or_true true b e = refl
     or_true false b e = e
 
     by : (b : Bool) → AllByRecursion WholeOne (if b then bracketed (m ∷ (n ∷ ns)) ∷ ds else bracketed (m ∷ []) ∷ (bracketed (n ∷ ns) ∷ ds)) → AllByRecursion WholeOne (bracketed (n ∷ ns) ∷ ds)
-    by true w = ((λ e g l. w.0 (or_true (stands m) (any_stands (n ∷ ns)) e) g (more m g l)), w.1)
+    by true w = ((λ e g l. w.0 (or_true (is_present m) (any_present (n ∷ ns)) e) g (more m g l)), w.1)
       where
         more : (m : Given) (g : ℕ) → LacksOf g (n ∷ ns) → LacksOf g (m ∷ (n ∷ ns))
         more (missing c) g l = inr l
@@ -222,7 +222,7 @@ is_group_or g (Some h) = by (h == g) refl
 
 groups : (xs : List Given) → GroupsTogether (map component xs) → AllByRecursion WholeOne (additions xs) → (g : ℕ) → HasOf g xs → LacksOf g xs → ⊥
 groups [] t w g h k = h
-groups (m ∷ xs) t w g h k = by (is_group_or g (group_of (component m).presence)) (λ n. groups xs (others_together (component m) (map component xs) t) (behind_whole (group_of (component m).presence) m (additions xs) w) g (past_has g m xs n h) (past_lacks g m xs n k))
+groups (m ∷ xs) t w g h k = by (is_group_or g (group_of (component m).presence)) (λ n. groups xs (others_together (component m) (map component xs) t) (in_front_whole (group_of (component m).presence) m (additions xs) w) g (past_has g m xs n h) (past_lacks g m xs n k))
   where
     by : IsOfGroup g (component m) ⊎ (IsOfGroup g (component m) → ⊥) → ((IsOfGroup g (component m) → ⊥) → ⊥) → ⊥
     by (inr n) r = r n
@@ -241,26 +241,26 @@ components_of (beside_present {c = c} a) = ap (λ q. c ∷ q) (components_of a)
 heads_same : {X : Type 0} {x y : X} {xs ys : List X} → x ∷ xs ≡ y ∷ ys → (x ≡ y) × (xs ≡ ys)
 heads_same e = (cc, cc)
 
-all_behind : (ms : List Given) → AllByRecursion (λ c. is_addition c ≡ true) (map component ms) → behind_marker ms ≡ ms
-all_behind [] h = refl
-all_behind (m ∷ ms) h = ap (λ b. if b then m ∷ behind_marker ms else behind_marker ms) h.0 ∙ ap (λ q. m ∷ q) (all_behind ms h.1)
+all_past_marker : (ms : List Given) → AllByRecursion (λ c. is_addition c ≡ true) (map component ms) → past_marker ms ≡ ms
+all_past_marker [] h = refl
+all_past_marker (m ∷ ms) h = ap (λ b. if b then m ∷ past_marker ms else past_marker ms) h.0 ∙ ap (λ q. m ∷ q) (all_past_marker ms h.1)
 
-behind_of : (ms : List Given) (root more : List Component) → map component ms ≡ root ++ more → AllByRecursion (λ c. is_addition c ≡ false) root → AllByRecursion (λ c. is_addition c ≡ true) more → map component (behind_marker ms) ≡ more
-behind_of ms [] more e r m = ap (map component) (all_behind ms (subst (AllByRecursion (λ c. is_addition c ≡ true)) (sym e) m)) ∙ e
-behind_of [] (c ∷ root) more e r m = absurd (cc)
-behind_of (k ∷ ms) (c ∷ root) more e r m =
+past_marker_of : (ms : List Given) (root more : List Component) → map component ms ≡ root ++ more → AllByRecursion (λ c. is_addition c ≡ false) root → AllByRecursion (λ c. is_addition c ≡ true) more → map component (past_marker ms) ≡ more
+past_marker_of ms [] more e r m = ap (map component) (all_past_marker ms (subst (AllByRecursion (λ c. is_addition c ≡ true)) (sym e) m)) ∙ e
+past_marker_of [] (c ∷ root) more e r m = absurd (cc)
+past_marker_of (k ∷ ms) (c ∷ root) more e r m =
     let p = heads_same e in
     let b : is_addition (component k) ≡ false = ap is_addition p.0 ∙ r.0 in
-    ap (λ q. map component (if q then k ∷ behind_marker ms else behind_marker ms)) b ∙ behind_of ms root more p.1 r.1 m
+    ap (λ q. map component (if q then k ∷ past_marker ms else past_marker ms)) b ∙ past_marker_of ms root more p.1 r.1 m
 
-pub groups_whole : {s : List Resolved} {f : Form} {e : Bool} {cs : List Component} {ws : Row} {ms : List Given} {j : ℕ} {q d : Bits} → AreListed s e cs → Beside cs ws ms → Additions s f (additions (behind_marker ms)) j q d → GroupsAreWhole cs ws
+pub groups_whole : {s : List Resolved} {f : Form} {e : Bool} {cs : List Component} {ws : Row} {ms : List Given} {j : ℕ} {q d : Bits} → AreListed s e cs → Beside cs ws ms → Additions s f (additions (past_marker ms)) j q d → GroupsAreWhole cs ws
 groups_whole {ms = ms} li b a g h k =
-    let c : map component (behind_marker ms) ≡ li.more = behind_of ms li.root li.more (components_of b ∙ li.parts) li.in_root li.behind in
-    groups (behind_marker ms) (subst GroupsTogether (sym c) li.groups) (additions_whole a) g (has_behind g ms (has_from g b h)) (lacks_behind g ms (lacks_from g b k))
+    let c : map component (past_marker ms) ≡ li.more = past_marker_of ms li.root li.more (components_of b ∙ li.parts) li.in_root li.behind in
+    groups (past_marker ms) (subst GroupsTogether (sym c) li.groups) (additions_whole a) g (has_past_marker g ms (has_from g b h)) (lacks_past_marker g ms (lacks_from g b k))
 
 -- without a marker there are none
-pub none_behind : {s : List Resolved} {cs : List Component} {ws : Row} {ms : List Given} → AreListed s false cs → Beside cs ws ms → behind_marker ms ≡ []
-none_behind {ms = ms} li b = no_list (behind_marker ms) (behind_of ms li.root li.more (components_of b ∙ li.parts) li.in_root li.behind ∙ li.marked refl)
+pub none_past_marker : {s : List Resolved} {cs : List Component} {ws : Row} {ms : List Given} → AreListed s false cs → Beside cs ws ms → past_marker ms ≡ []
+none_past_marker {ms = ms} li b = no_list (past_marker ms) (past_marker_of ms li.root li.more (components_of b ∙ li.parts) li.in_root li.behind ∙ li.marked refl)
   where
     no_list : (xs : List Given) → map component xs ≡ [] → xs ≡ []
     no_list [] e = refl

@@ -51,7 +51,7 @@ by_presence s l t (default d) false h a = by (is_within s l t d) refl
     by true e = a.1 (where_default (within_sound s l 64 t d (h d refl).shaped e))
 by_presence s l t (addition o g) b h a = a.1 where_addition
 
-pub tells_absence : (s r : List Resolved) (t i l : ℕ) (b : Bool) → IsSchema s → r ≡ s → ((c : Component) → HasComponent' r t i c → IsTrue b ↔ MayBeAbsent r l c.type c.presence) → (c : Component) → HasComponent s t i c → b ≡ may_lack (is_within s l) c
-tells_absence s r t i l b k e a c h =
+pub decides_absence : (s r : List Resolved) (t i l : ℕ) (b : Bool) → IsSchema s → r ≡ s → ((c : Component) → HasComponent' r t i c → IsTrue b ↔ MayBeAbsent r l c.type c.presence) → (c : Component) → HasComponent s t i c → b ≡ may_lack (is_within s l) c
+decides_absence s r t i l b k e a c h =
     let there = has_component s s t i c refl h in
     by_presence s l c.type c.presence b (has_value s t i c k there) (subst (λ q. IsTrue b ↔ MayBeAbsent q l c.type c.presence) e (a c (has_component s r t i c e h)))

@@ -5,7 +5,6 @@ mod AdditionsRead
 mod Pieces
 mod Within
 mod Lacking
-mod Natural
 mod Places
 mod Groups
 mod Fields
@@ -35,3 +34,4 @@ mod OpenRun
 mod MessageRun
 mod RowsPut
 mod BitOrder
+mod RowsOfResults

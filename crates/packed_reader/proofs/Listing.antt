@@ -20,7 +20,7 @@ use Rattle.packed_reader.specs.declared.stop.Stop.TheVariants.{Memory}
 use Rattle.packed_reader.specs.Lists.{at_most, in_order}
 use Rattle.packed_reader.specs.Readings.{Reading, read, refused, stop, next, in_part, plain, tested, with_bits, Taken, taken}
 use Rattle.packed_reader.specs.Steps.{size_in}
-use Rattle.packed_reader.specs.proving.Code.{HasRoom, IsStop, IsStopAt, IsWithin, Went}
+use Rattle.packed_reader.specs.proving.Code.{HasRoom, IsStop, IsStopAt, IsWithin, Advanced}
 use Rattle.packed_reader.specs.proving.Running.{past, RunsElement, RunsValue, Elements, no_elements, and_one, with_its_bits, run_element, run_elements, run_part, run_parts, run_sized, run_list, run_each, as_list, row_of_values}
 use Rattle.packed_reader.proofs.Exact.{not_both, one_value}
 use Rattle.packed_reader.proofs.Flow.{stop_as, stop_at, stop_next, stop_within, went_same}
@@ -53,13 +53,13 @@ past_more k (read w z) v j n r e = let s : k + w.skipped ≡ j = ap (λ q. q.ski
 past_more k (refused d z) v j n r e = absurd (not_both (sym e))
 
 -- no more bits are left after what is read
-pub fewer_left : {X : Type 0} (p q : Progress) (b r : Bits) (o : Reading (Taken X)) (v : X) → past p.skipped o ≡ read (taken v q.skipped q.left) r → Went p b q r → length r ≤ length b
+pub fewer_left : {X : Type 0} (p q : Progress) (b r : Bits) (o : Reading (Taken X)) (v : X) → past p.skipped o ≡ read (taken v q.skipped q.left) r → Advanced p b q r → length r ≤ length b
 fewer_left p q b r o v e w =
     let m = past_more p.skipped o v q.skipped q.left r e in
     let h = w.room in
     omega (arith, m, h)
 
-pub went_on : (p q u : Progress) (b r z : Bits) → Went p b q r → Went q r u z → Went p b u z
+pub went_on : (p q u : Progress) (b r z : Bits) → Advanced p b q r → Advanced q r u z → Advanced p b u z
 went_on p q u b r z v w =
     let a = v.left in
     let c = w.left in
@@ -67,19 +67,19 @@ went_on p q u b r z v w =
     let e = w.room in
     record { left = omega (arith, a, c); room = omega (arith, d, e) }
 
-pub went_before : (p q : Progress) (b m r : Bits) → length m ≤ length b → Went p m q r → Went p b q r
+pub went_before : (p q : Progress) (b m r : Bits) → length m ≤ length b → Advanced p m q r → Advanced p b q r
 went_before p q b m r l w =
     let d = w.room in
     record { left = w.left; room = omega (arith, d, l) }
 
-pub all_before : {T : Type 0} (p q : Progress) (b m r : Bits) (o : Result T Stop) → length m ≤ length b → OnOk o (Went p m q r) → OnOk o (Went p b q r)
+pub all_before : {T : Type 0} (p q : Progress) (b m r : Bits) (o : Result T Stop) → length m ≤ length b → OnOk o (Advanced p m q r) → OnOk o (Advanced p b q r)
 all_before p q b m r (Ok v) l w = went_before p q b m r l w
 all_before p q b m r (Err e) l w = tt
 
 pub room_before : (p : Progress) (b m : Bits) → length m ≤ length b → HasRoom p b → HasRoom p m
 room_before p b m l h = omega (arith, l, h)
 
-pub room_after : (p q : Progress) (b r : Bits) → Went p b q r → HasRoom p b → HasRoom q r
+pub room_after : (p q : Progress) (b r : Bits) → Advanced p b q r → HasRoom p b → HasRoom q r
 room_after p q b r w h = let d = w.room in omega (arith, d, h)
 
 -- ---- lists
@@ -177,7 +177,7 @@ module _ (value : RunsElement) (sorted : Bool) where
   abbrev pub AreSoFar : (m i : ℕ) → (first es : Elements) → (start p : Progress) → (all b : Bits) → Type 0
   AreSoFar m i first es start p all b =
       (run_elements value sorted (m - i) es p.skipped p.left b ≡ run_elements value sorted m first start.skipped start.left all)
-      × Went start all p b
+      × Advanced start all p b
       × (p.left + i ≤ start.left)
 
   pub elements_none : (m : ℕ) (es : Elements) (p : Progress) (b : Bits) → AreSoFar m 0 es es p p b b
@@ -190,7 +190,7 @@ module _ (value : RunsElement) (sorted : Bool) where
     one_more : i < m → run_elements value sorted (suc (m - (i + 1))) es p.skipped p.left b ≡ run_elements value sorted (m - i) es p.skipped p.left b
     one_more l = let e : suc (m - (i + 1)) ≡ m - i = omega (arith, l) in ap (λ q. run_elements value sorted q es p.skipped p.left b) e
 
-    pub elements_more : (es' : Elements) (q : Progress) (r : Bits) → i < m → AreSoFar m i first es start p all b → run_element value sorted es p.skipped p.left b ≡ read (taken es' q.skipped q.left) r → Went p b q r → q.left < p.left → AreSoFar m (i + 1) first es' start q all r
+    pub elements_more : (es' : Elements) (q : Progress) (r : Bits) → i < m → AreSoFar m i first es start p all b → run_element value sorted es p.skipped p.left b ≡ read (taken es' q.skipped q.left) r → Advanced p b q r → q.left < p.left → AreSoFar m (i + 1) first es' start q all r
     elements_more es' q r l h e w f =
         let k = h.2 in
         let z : q.left + (i + 1) ≤ start.left = omega (arith, k, f) in
@@ -208,11 +208,11 @@ module _ (value : RunsElement) (sorted : Bool) where
 -- ---- numbers of elements
 
 -- the number is known by an equation, and how many elements were before too
-pub told_at : (test : ℕ → Option Refusal) (full : Bool) (d i : ℕ) (b r : Bits) (c e : Count) → d ≡ i → c ≡ e → judging (total test d) (count_from full) b ≡ found c r → judging (total test i) (count_from full) b ≡ found e r
-told_at test full d i b r c e f g h = ap (λ q. judging (total test q) (count_from full) b) (sym f) ∙ h ∙ ap (λ q. found q r) g
+pub stated_at : (test : ℕ → Option Refusal) (full : Bool) (d i : ℕ) (b r : Bits) (c e : Count) → d ≡ i → c ≡ e → judging (total test d) (count_from full) b ≡ found c r → judging (total test i) (count_from full) b ≡ found e r
+stated_at test full d i b r c e f g h = ap (λ q. judging (total test q) (count_from full) b) (sym f) ∙ h ∙ ap (λ q. found q r) g
 
-pub stop_told : (value : RunsElement) (sorted : Bool) (test : ℕ → Option Refusal) (f : ℕ) (full : Bool) (es : Elements) (d k n : ℕ) (b r : Bits) (e : Refusal) (x : Stop) → d ≡ length es.values → judging (total test d) (count_from full) b ≡ stops e r → IsStopAt e x → IsStop (run_parts value sorted test (suc f) full es k n b) x r
-stop_told value sorted test f full es d k n b r e x g h a =
+pub stop_stated : (value : RunsElement) (sorted : Bool) (test : ℕ → Option Refusal) (f : ℕ) (full : Bool) (es : Elements) (d k n : ℕ) (b r : Bits) (e : Refusal) (x : Stop) → d ≡ length es.values → judging (total test d) (count_from full) b ≡ stops e r → IsStopAt e x → IsStop (run_parts value sorted test (suc f) full es k n b) x r
+stop_stated value sorted test f full es d k n b r e x g h a =
     stop_at (run_parts value sorted test (suc f) full es k n b) e x r
     (ap (λ o. next (plain o) (λ c z. run_part value sorted es k n c (run_parts value sorted test f) z)) (ap (λ q. judging (total test q) (count_from full) b) (sym g) ∙ h)) a
 

@@ -23,7 +23,7 @@ use Rattle.packed_reader.specs.declared.stop.Stop.{Stop}
 use Rattle.packed_reader.specs.declared.stop.Stop.TheVariants.{Memory, Refused}
 use Rattle.packed_reader.specs.Readings.{Fault, Reading, read, refused, stop, next, in_part, plain, tested, Taken, taken}
 use Rattle.packed_reader.specs.Structures.{is_filling, contents_from, open_from, unknown_from, with_value}
-use Rattle.packed_reader.specs.proving.Code.{AreSent, HasRoom, IsStop, IsStopAt, IsWithin, Went, row_of_values}
+use Rattle.packed_reader.specs.proving.Code.{AreSent, HasRoom, IsStop, IsStopAt, IsWithin, Advanced, row_of_values}
 use Rattle.packed_reader.specs.proving.Running.{RunsValue, any_sent, first_bit, is_addition, other_bits, put, run_added, run_additions, run_first, run_presences, run_unknown}
 use Rattle.packed_writer.specs.proving.Values.{FieldFits, FieldsFit, fields_in}
 use Rattle.packed_reader.proofs.Flow.{stop_as, stop_next, stop_within}
@@ -45,18 +45,18 @@ pub ok_as : {X T : Type 0} (res : Result T Stop) (o q : Reading X) (v : X) (r : 
 ok_as (Ok x) o q v r e h = e ∙ h
 ok_as (Err d) o q v r e h = tt
 
-pub went_all : (p q u : Progress) (a b c : Bits) → Went p a q b → Went q b u c → Went p a u c
+pub went_all : (p q u : Progress) (a b c : Bits) → Advanced p a q b → Advanced q b u c → Advanced p a u c
 went_all p q u a b c h i = record { left = (let x = h.left in let y = i.left in let k : u.left ≤ p.left = omega (arith, x, y) in k); room = (let x = h.room in let y = i.room in let k : u.skipped + length c ≤ p.skipped + length a = omega (arith, x, y) in k) }
 
 -- fewer bits before
-pub went_longer : (p q : Progress) (a b c : Bits) → length b ≤ length a → Went p b q c → Went p a q c
+pub went_longer : (p q : Progress) (a b c : Bits) → length b ≤ length a → Advanced p b q c → Advanced p a q c
 went_longer p q a b c l h = record { left = h.left; room = (let x = h.room in let k : q.skipped + length c ≤ p.skipped + length a = omega (arith, x, l) in k) }
 
-pub went_on : {T : Type 0} (res : Result T Stop) (p q : Progress) (a b c : Bits) → length b ≤ length a → OnOk res (Went p b q c) → OnOk res (Went p a q c)
+pub went_on : {T : Type 0} (res : Result T Stop) (p q : Progress) (a b c : Bits) → length b ≤ length a → OnOk res (Advanced p b q c) → OnOk res (Advanced p a q c)
 went_on (Ok x) p q a b c l h = went_longer p q a b c l h
 went_on (Err d) p q a b c l h = tt
 
-pub room_after : (p q : Progress) (a b : Bits) → HasRoom p a → Went p a q b → HasRoom q b
+pub room_after : (p q : Progress) (a b : Bits) → HasRoom p a → Advanced p a q b → HasRoom q b
 room_after p q a b h w = (let x = w.room in let k : q.skipped + length b ≤ 2 ^ 62 = omega (arith, x, h) in k)
 
 pub room_shorter : (p : Progress) (a b : Bits) → HasRoom p a → length b ≤ length a → HasRoom p b
@@ -82,7 +82,7 @@ octets_few p b r o sl e x m = (let y = ap length e in let k : length sl ≤ 2 ^ 
 pub inner_room : (p : Progress) (b r i : Bits) (o sl : List ℕ) → Octets b r i o sl → HasRoom p b → HasRoom p i
 inner_room p b r i o sl h m = (let x = h.shorter in let y = inner_long b r i o sl h in let k : p.skipped + length i ≤ 2 ^ 62 = omega (arith, x, y, m) in k)
 
-pub inner_went : (p q : Progress) (b r i z : Bits) (o sl : List ℕ) → Octets b r i o sl → Went p i q z → Went p b q r
+pub inner_went : (p q : Progress) (b r i z : Bits) (o sl : List ℕ) → Octets b r i o sl → Advanced p i q z → Advanced p b q r
 inner_went p q b r i z o sl h w = record { left = w.left; room = (let x = h.shorter in let y = inner_long b r i o sl h in let u = w.room in let k : q.skipped + length r ≤ p.skipped + length b = omega (arith, x, y, u) in k) }
 
 pub left_in : (x i z : Bits) → i ≡ x ++ z → length z ≤ length i
@@ -241,7 +241,7 @@ module _ (s : List Resolved) (l : ℕ) (value : RunsValue) (cs : List Component)
   module _ (all : Reading (Taken Row)) (p0 : Progress) (b0 : Bits) (n0 : ℕ) where
     -- what holds before the additions of these steps
     abbrev pub Before : List PackedStep → Bits → List (Option Value) → Progress → Bits → Type 0
-    Before ss q row p b = (Runs' ss q (row_of_values row) p.skipped p.left b ≡ all) × Went p0 b0 p b × (length row ≡ n0)
+    Before ss q row p b = (Runs' ss q (row_of_values row) p.skipped p.left b ≡ all) × Advanced p0 b0 p b × (length row ≡ n0)
 
     pub before_as : (ss : List PackedStep) (q q' : Bits) (row row' : List (Option Value)) (p p' : Progress) (b b' : Bits) → q ≡ q' → row ≡ row' → p ≡ p' → b ≡ b' → Before ss q' row' p' b' → Before ss q row p b
     before_as ss q q' row row' p p' b b' e f g i h =
@@ -262,7 +262,7 @@ module _ (s : List Resolved) (l : ℕ) (value : RunsValue) (cs : List Component)
           ∙ ap (λ x. next (run_first s l value cs x (row_of_values row) p.skipped p.left b) (Onto rest q)) (sym (i ∙ e))
 
       pub before_read : (steps' : List PackedStep) (row' : List (Option Value)) (p' : Progress) (b' : Bits) → steps' ≡ ss → is_addition st ≡ true → first_bit q ≡ true
-          → run_first s l value cs steps' (row_of_values row) p.skipped p.left b ≡ read (taken (row_of_values row') p'.skipped p'.left) b' → Went p b p' b' → length row' ≡ length row → Before rest (other_bits q) row' p' b'
+          → run_first s l value cs steps' (row_of_values row) p.skipped p.left b ≡ read (taken (row_of_values row') p'.skipped p'.left) b' → Advanced p b p' b' → length row' ≡ length row → Before rest (other_bits q) row' p' b'
       before_read steps' row' p' b' i a c g w m =
           (sym (first_of steps' i a c ∙ ap (λ o. next o (Onto rest q)) g), went_all p0 p p' b0 b b' h.1 w, m ∙ h.2)
 
@@ -282,6 +282,6 @@ module _ (s : List Resolved) (l : ℕ) (value : RunsValue) (cs : List Component)
       pub before_fault : {T : Type 0} (res : Result T Stop) (r : Bits) → IfErr res (λ d. IsStop (run_unknown p.skipped q b) d r) → IfErr res (λ d. IsStop all d r)
       before_fault res r g = err_next res (run_unknown p.skipped q b) (λ j r. read (taken (row_of_values row) j p.left) r) all r all_left g
 
-      pub before_went : {T : Type 0} (res : Result T Stop) (p' : Progress) (r : Bits) → OnOk res (p'.skipped + length r ≤ p.skipped + length b) → p'.left ≡ p.left → OnOk res (Went p0 b0 p' r)
+      pub before_went : {T : Type 0} (res : Result T Stop) (p' : Progress) (r : Bits) → OnOk res (p'.skipped + length r ≤ p.skipped + length b) → p'.left ≡ p.left → OnOk res (Advanced p0 b0 p' r)
       before_went (Ok x) p' r g i = went_all p0 p p' b0 b r h.1 (record { left = (let k : p'.left ≤ p.left = omega (arith, i) in k); room = g })
       before_went (Err d) p' r g i = tt

@@ -230,14 +230,14 @@ module _ (front : (o r : Octets) (a b p q : Bits) → CountedOctets o a → Coun
   Octets' : IsExact AreContents (λ b. plain (contents_from b))
   Octets' = plain_exact (contents_read octets)
 
-  read_behind : (w : Bool) (g : Reading X) (r s : Bits) (v : X) → before_rest w g r ≡ read v s → (z : Bits) × (g ≡ read v z) × (r ≡ s)
-  read_behind w (read u z) r s v e = let i = one_value e in (z, same_value i.0 refl, i.1)
-  read_behind w (refused d z) r s v e = absurd (not_both (sym e))
+  read_before_rest : (w : Bool) (g : Reading X) (r s : Bits) (v : X) → before_rest w g r ≡ read v s → (z : Bits) × (g ≡ read v z) × (r ≡ s)
+  read_before_rest w (read u z) r s v e = let i = one_value e in (z, same_value i.0 refl, i.1)
+  read_before_rest w (refused d z) r s v e = absurd (not_both (sym e))
 
   open_sound : (b s : Bits) (v : X) (g : Reading Octets) → plain (contents_from b) ≡ g → next g (λ o r. before_rest (nat_lt (length o) 16384) (filled_from f (octet_bits o)) r) ≡ read v s → (y : Bits) × Opened P v y × (b ≡ y ++ s)
   open_sound b s v (read o r) h e =
       let c = Octets'.sound b r o h in
-      let k = read_behind (nat_lt (length o) 16384) (filled_from f (octet_bits o)) r s v e in
+      let k = read_before_rest (nat_lt (length o) 16384) (filled_from f (octet_bits o)) r s v e in
       let held = (filled_sound front F o v k.0 c.1.counted.octets k.1).0 in
       (c.0, record { inside = held.inside; is = held.is; is_open = open_type held.is_padded c.1.counted }, c.2 ∙ ap (λ q. c.0 ++ q) k.2)
   open_sound b s v (refused d r) h e = absurd (not_both (sym e))
@@ -247,34 +247,34 @@ module _ (front : (o r : Octets) (a b p q : Bits) → CountedOctets o a → Coun
       ap (λ q. next q (λ o r. before_rest (nat_lt (length o) 16384) (filled_from f (octet_bits o)) r)) (Octets'.whole o y r (record { counted = c; some = some_filled a }))
       ∙ ap (λ q. before_rest (nat_lt (length o) 16384) q r) (filled_whole front F o v (record { inside = x; is = p; is_padded = a }))
 
-  behind_firm : (w : Bool) (g : Reading X) (r s m : Bits) (d : Fault) → before_rest w g r ≡ refused d s → before_rest w g (r ++ m) ≡ refused d (s ++ m)
-  behind_firm w (read u z) r s m d e = absurd (not_both e)
-  behind_firm true (refused c z) r s m d e = let i = one_fault e in same_fault i.0 (sym (append_assoc z r m) ∙ ap (λ q. q ++ m) i.1)
-  behind_firm false (refused c z) r s m d e = let i = one_fault e in same_fault i.0 (ap (λ q. q ++ m) i.1)
+  before_rest_firm : (w : Bool) (g : Reading X) (r s m : Bits) (d : Fault) → before_rest w g r ≡ refused d s → before_rest w g (r ++ m) ≡ refused d (s ++ m)
+  before_rest_firm w (read u z) r s m d e = absurd (not_both e)
+  before_rest_firm true (refused c z) r s m d e = let i = one_fault e in same_fault i.0 (sym (append_assoc z r m) ∙ ap (λ q. q ++ m) i.1)
+  before_rest_firm false (refused c z) r s m d e = let i = one_fault e in same_fault i.0 (ap (λ q. q ++ m) i.1)
 
   open_firm : (b s m : Bits) (d : Fault) (g : Reading Octets) → plain (contents_from b) ≡ g → next g (λ o r. before_rest (nat_lt (length o) 16384) (filled_from f (octet_bits o)) r) ≡ refused d s → (d.why ≡ why.Truncated → ⊥) → open_from f (b ++ m) ≡ refused d (s ++ m)
   open_firm b s m d (read o r) h e n =
       let c = Octets'.sound b r o h in
       ap (open_from f) (further c.0 r m c.2)
       ∙ ap (λ q. next q (λ o r. before_rest (nat_lt (length o) 16384) (filled_from f (octet_bits o)) r)) (Octets'.whole o c.0 (r ++ m) c.1)
-      ∙ behind_firm (nat_lt (length o) 16384) (filled_from f (octet_bits o)) r s m d e
+      ∙ before_rest_firm (nat_lt (length o) 16384) (filled_from f (octet_bits o)) r s m d e
   open_firm b s m d (refused c r) h e n =
       let i = one_fault e in
       ap (λ q. next q (λ o r. before_rest (nat_lt (length o) 16384) (filled_from f (octet_bits o)) r)) (Octets'.firm b s m d (h ∙ same_fault i.0 i.1) n)
 
-  behind_place : (w : Bool) (o : Octets) (b y r s : Bits) (d : Fault) (g : Reading X) → nat_lt (length o) 16384 ≡ w → CountedOctets o y → b ≡ y ++ r → filled_from f (octet_bits o) ≡ g → before_rest w g r ≡ refused d s → Before b s
-  behind_place w o b y r s d (read u z) t c i h e = absurd (not_both e)
-  behind_place true o b y r s d (refused k z) t c i h e =
+  before_rest_place : (w : Bool) (o : Octets) (b y r s : Bits) (d : Fault) (g : Reading X) → nat_lt (length o) 16384 ≡ w → CountedOctets o y → b ≡ y ++ r → filled_from f (octet_bits o) ≡ g → before_rest w g r ≡ refused d s → Before b s
+  before_rest_place w o b y r s d (read u z) t c i h e = absurd (not_both e)
+  before_rest_place true o b y r s d (refused k z) t c i h e =
       let q = together o (ltb-true (length o) 16384 t) c in
       let p = filled_inside front F (octet_bits o) z k h in
       let j : y ≡ (q.0 ++ p.0) ++ z = in_three q.0 p.0 z q.1 p.1 in
       (q.0 ++ p.0, i ∙ ap (λ x. x ++ r) j ∙ append_assoc (q.0 ++ p.0) z r ∙ ap (λ x. (q.0 ++ p.0) ++ x) (one_fault e).1)
-  behind_place false o b y r s d (refused k z) t c i h e = (y, i ∙ ap (λ x. y ++ x) (one_fault e).1)
+  before_rest_place false o b y r s d (refused k z) t c i h e = (y, i ∙ ap (λ x. y ++ x) (one_fault e).1)
 
   open_place : (b s : Bits) (d : Fault) (g : Reading Octets) → plain (contents_from b) ≡ g → next g (λ o r. before_rest (nat_lt (length o) 16384) (filled_from f (octet_bits o)) r) ≡ refused d s → Before b s
   open_place b s d (read o r) h e =
       let c = Octets'.sound b r o h in
-      behind_place (nat_lt (length o) 16384) o b c.0 r s d (filled_from f (octet_bits o)) refl c.1.counted c.2 refl e
+      before_rest_place (nat_lt (length o) 16384) o b c.0 r s d (filled_from f (octet_bits o)) refl c.1.counted c.2 refl e
   open_place b s d (refused c r) h e = let i = one_fault e in Octets'.inside b s d (h ∙ same_fault i.0 i.1)
 
   pub open_exact : IsExact (Opened P) (open_from f)

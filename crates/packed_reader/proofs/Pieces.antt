@@ -8,8 +8,8 @@ use Rattle.asn_base.specs.Types.{Resolved}
 use Rattle.encodings.specs.Header.{Octets}
 use Rattle.packed_encodings.specs.Lengths.{Bits, CountedOctets}
 use Rattle.packed_encodings.specs.Orders.{Member, Addition}
-use Rattle.packed_encodings.specs.Padding.{Unknown}
-use Rattle.packed_encodings.specs.Packing.{any_set, lenient, TellAdditions}
+use Rattle.packed_encodings.specs.Padding.{UnknownAdditions}
+use Rattle.packed_encodings.specs.Packing.{any_set, lenient, AnnounceAdditions}
 use Rattle.decode_faults.specs.declared.refusal.Refusal.TheVariants as why
 use Rattle.packed_readings.specs.Outcome.{IsReading, Then, bit_from, field_from}
 use Rattle.packed_readings.specs.Counts.{several_bits, octets_from}
@@ -18,8 +18,8 @@ use Rattle.packed_reader.specs.Structures.{ReadsValue, members_from, lacking_add
 use Rattle.packed_reader.specs.Values.{IsValueRead}
 use Rattle.packed_reader.proofs.Exact.{done_exact, convert, next_exact, Made, made_exact, plain_exact, tested_exact}
 use Rattle.packed_reader.proofs.Opening.{not_true}
-use Rattle.packed_reader.proofs.Members.{Tells, presences_exact, AreMembersRead, AllTold, members_exact}
-use Rattle.packed_reader.proofs.AdditionsRead.{one_telling, AdditionsTold, AreAdditionsRead, additions_exact, unknown_exact}
+use Rattle.packed_reader.proofs.Members.{PresenceIs, presences_exact, AreMembersRead, AllDecided, members_exact}
+use Rattle.packed_reader.proofs.AdditionsRead.{one_presence, AdditionsDecided, AreAdditionsRead, additions_exact, unknown_exact}
 
 -- ---- a bit for each addition
 
@@ -41,12 +41,12 @@ none_own : (n : ℕ) → own_bits n [] ≡ replicate n false
 none_own zero = refl
 none_own (suc n) = ap (λ q. false ∷ q) (none_own n)
 
-pub own_told : (n : ℕ) (m : Bits) → TellAdditions lenient (own_bits n m) (drop n m) m
-own_told zero m = inl refl
-own_told (suc n) [] = inr (refl, suc n, none_own (suc n))
-own_told (suc n) (c ∷ m) = by (own_told n m)
+pub own_stated : (n : ℕ) (m : Bits) → AnnounceAdditions lenient (own_bits n m) (drop n m) m
+own_stated zero m = inl refl
+own_stated (suc n) [] = inr (refl, suc n, none_own (suc n))
+own_stated (suc n) (c ∷ m) = by (own_stated n m)
   where
-    by : TellAdditions lenient (own_bits n m) (drop n m) m → TellAdditions lenient (c ∷ own_bits n m) (drop n m) (c ∷ m)
+    by : AnnounceAdditions lenient (own_bits n m) (drop n m) m → AnnounceAdditions lenient (c ∷ own_bits n m) (drop n m) (c ∷ m)
     by (inl e) = inl (ap (λ q. c ∷ q) e)
     by (inr e) = inr (e.0, e.1, ap (λ q. c ∷ q) e.2)
 
@@ -63,7 +63,7 @@ own_fewer n [] k e = (none_own n ∙ ap (λ z. replicate z false) (let f : n ≡
 own_fewer zero (c ∷ m) k e = absurd (omega arith)
 own_fewer (suc n) (c ∷ m) k e = let r = own_fewer n m k (omega arith) in (ap (λ z. c ∷ z) r.0, r.1)
 
-pub own_only : (n : ℕ) (q u m : Bits) → length q ≡ n → TellAdditions lenient q u m → (q ≡ own_bits n m) × (u ≡ drop n m)
+pub own_only : (n : ℕ) (q u m : Bits) → length q ≡ n → AnnounceAdditions lenient q u m → (q ≡ own_bits n m) × (u ≡ drop n m)
 own_only n q u m l (inl e) =
     let r = own_front q u in
     (sym r.0 ∙ ap (λ z. own_bits (length q) z) (sym e) ∙ ap (λ z. own_bits z m) l, sym r.1 ∙ ap (drop (length q)) (sym e) ∙ ap (λ z. drop z m) l)
@@ -127,7 +127,7 @@ pub record IsExtension (s : List Resolved) (l : ℕ) (ds : List (Addition ℕ)) 
   pub are_own : AreAdditionsRead s l ds (own_bits (length ds) map) n own types
   pub others : ℕ
   pub skipped : Bits
-  pub are_others : Unknown (drop (length ds) map) others skipped
+  pub are_others : UnknownAdditions (drop (length ds) map) others skipped
   pub made : t ≡ and_unknown own others
   pub whole : x ≡ front ++ (types ++ skipped)
 
@@ -147,7 +147,7 @@ pub record ArePieces (s : List Resolved) (l : ℕ) (e : Bool) (root : List (Memb
   pub is_mark : IsMark e mark front
   pub presence : List Bool
   pub bits : Bits
-  pub tells : Tells root presence bits
+  pub tells : PresenceIs root presence bits
   pub members : Taken (List (Member AbstractValue))
   pub contents : Bits
   pub are_members : AreMembersRead s l root presence bits n members contents
@@ -164,12 +164,12 @@ module _ (bit : IsReading (λ v x. x ≡ v ∷ []) bit_from)
     (octets : IsReading CountedOctets octets_from)
     (s : List Resolved) (l : ℕ) (value : ReadsValue) (V : (t n : ℕ) → IsExact (IsValueRead s l t n) (value t n)) where
   abbrev OwnThen : List (Addition ℕ) → ℕ → Bits → Taken (List (Addition AbstractValue)) → Bits → Type 0
-  OwnThen ds n m = Then (AreAdditionsRead s l ds (own_bits (length ds) m) n) (λ t. Made (Unknown (drop (length ds) m)) (and_unknown t))
+  OwnThen ds n m = Then (AreAdditionsRead s l ds (own_bits (length ds) m) n) (λ t. Made (UnknownAdditions (drop (length ds) m)) (and_unknown t))
 
-  extension_exact : (ds : List (Addition ℕ)) (n : ℕ) → AdditionsTold s l ds → IsExact (IsExtension s l ds n) (extension_from s l value ds n)
+  extension_exact : (ds : List (Addition ℕ)) (n : ℕ) → AdditionsDecided s l ds → IsExact (IsExtension s l ds n) (extension_from s l value ds n)
   extension_exact ds n h =
       convert (next_exact {Q = OwnThen ds n} (bitmap_exact bit field several) (λ m x p.
-      next_exact {Q = λ t. Made (Unknown (drop (length ds) m)) (and_unknown t)} (additions_exact bit front octets s l value V ds (own_bits (length ds) m) n (own_length (length ds) m) h) (λ t y a.
+      next_exact {Q = λ t. Made (UnknownAdditions (drop (length ds) m)) (and_unknown t)} (additions_exact bit front octets s l value V ds (own_bits (length ds) m) n (own_length (length ds) m) h) (λ t y a.
       made_exact (and_unknown t) (unknown_exact bit front octets s l value V (drop (length ds) m))))) to from
     where
       to : (t : Taken (List (Addition AbstractValue))) (x : Bits) → Then IsBitmap (OwnThen ds n) t x → IsExtension s l ds n t x
@@ -206,7 +206,7 @@ module _ (bit : IsReading (λ v x. x ≡ v ∷ []) bit_from)
         whole = q.whole;
       }
 
-  rest_exact : (c : Bool) (ds : List (Addition ℕ)) (n : ℕ) → AdditionsTold s l ds → IsExact (IsRest s l c ds n) (rest_from s l value c ds n)
+  rest_exact : (c : Bool) (ds : List (Addition ℕ)) (n : ℕ) → AdditionsDecided s l ds → IsExact (IsRest s l c ds n) (rest_from s l value c ds n)
   rest_exact true ds n h = extension_exact ds n h
   rest_exact false ds n h = done_exact (taken (map lacking_addition ds) 0 n)
 
@@ -215,27 +215,27 @@ module _ (bit : IsReading (λ v x. x ≡ v ∷ []) bit_from)
   mark_exact false = done_exact false
 
   -- members with the bits that tell them
-  record Told (ms : List (Member ℕ)) (n : ℕ) (cs : List Bool) (t : Taken (List (Member AbstractValue))) (x : Bits) : Type 0 where
+  record RootPresent (ms : List (Member ℕ)) (n : ℕ) (cs : List Bool) (t : Taken (List (Member AbstractValue))) (x : Bits) : Type 0 where
     bits : Bits
-    tells : Tells ms cs bits
+    tells : PresenceIs ms cs bits
     read : AreMembersRead s l ms cs bits n t x
 
-  told_exact : {ms : List (Member ℕ)} {cs : List Bool} {p : Bits} → Tells ms cs p → AllTold s l ms → (n : ℕ) → IsExact (Told ms n cs) (members_from s l value ms cs n)
-  told_exact {ms} {cs} {p} a h n =
+  exact_by_presence : {ms : List (Member ℕ)} {cs : List Bool} {p : Bits} → PresenceIs ms cs p → AllDecided s l ms → (n : ℕ) → IsExact (RootPresent ms n cs) (members_from s l value ms cs n)
+  exact_by_presence {ms} {cs} {p} a h n =
       convert (members_exact s l value V a h n) (λ t x r. record { bits = p; tells = a; read = r })
-      (λ t x r. subst (λ q. AreMembersRead s l ms cs q n t x) (one_telling r.tells a) r.read)
+      (λ t x r. subst (λ q. AreMembersRead s l ms cs q n t x) (one_presence r.tells a) r.read)
 
   abbrev RootThen : List (Member ℕ) → List (Addition ℕ) → ℕ → Bool → List Bool → Taken Pieces → Bits → Type 0
-  RootThen root ds n c cs = Then (Told root n cs) (λ t. Made (IsRest s l c ds t.left) (in_pieces t))
+  RootThen root ds n c cs = Then (RootPresent root n cs) (λ t. Made (IsRest s l c ds t.left) (in_pieces t))
 
   abbrev MarkThen : List (Member ℕ) → List (Addition ℕ) → ℕ → Bool → Taken Pieces → Bits → Type 0
-  MarkThen root ds n c = Then (Tells root) (RootThen root ds n c)
+  MarkThen root ds n c = Then (PresenceIs root) (RootThen root ds n c)
 
-  pub pieces_exact : (e : Bool) (root : List (Member ℕ)) (ds : List (Addition ℕ)) (n : ℕ) → AllTold s l root → AdditionsTold s l ds → IsExact (ArePieces s l e root ds n) (pieces_from s l value e root ds n)
+  pub pieces_exact : (e : Bool) (root : List (Member ℕ)) (ds : List (Addition ℕ)) (n : ℕ) → AllDecided s l root → AdditionsDecided s l ds → IsExact (ArePieces s l e root ds n) (pieces_from s l value e root ds n)
   pieces_exact e root ds n h k =
       convert (next_exact {Q = MarkThen root ds n} (mark_exact e) (λ c x p.
       next_exact {Q = RootThen root ds n c} (presences_exact bit root) (λ cs x p.
-      next_exact {Q = λ t. Made (IsRest s l c ds t.left) (in_pieces t)} (told_exact p h n) (λ t x a.
+      next_exact {Q = λ t. Made (IsRest s l c ds t.left) (in_pieces t)} (exact_by_presence p h n) (λ t x a.
       made_exact (in_pieces t) (rest_exact c ds t.left k))))) to from
     where
       to : (t : Taken Pieces) (x : Bits) → Then (IsMark e) (MarkThen root ds n) t x → ArePieces s l e root ds n t x
@@ -251,7 +251,7 @@ module _ (bit : IsReading (λ v x. x ≡ v ∷ []) bit_from)
             tells = r.is_first;
             members = m.first;
             contents = m.front;
-            are_members = subst (λ z. AreMembersRead s l root r.first z n m.first m.front) (one_telling m.is_first.tells r.is_first) m.is_first.read;
+            are_members = subst (λ z. AreMembersRead s l root r.first z n m.first m.front) (one_presence m.is_first.tells r.is_first) m.is_first.read;
             rest = m.is_next.of;
             back = m.back;
             is_rest = m.is_next.is;

@@ -7,10 +7,10 @@ use Rattle.asn_base.specs.Types.{Component, Resolved}
 use Rattle.asn_base.specs.Typed.{members, group_of}
 use Rattle.packed_encodings.specs.Weights.{row_weight}
 use Rattle.asn_base.specs.Schemas.{is_addition}
-use Rattle.packed_encodings.specs.Orders.{Member, missing, standing, component, stands_before, Beside, beside_none, beside_absent, beside_present, root_of, behind_marker, placed, canonical, Addition, alone, bracketed, is_of_group, in_front, additions}
+use Rattle.packed_encodings.specs.Orders.{Member, missing, standing, component, precedes, Beside, beside_none, beside_absent, beside_present, root_members, past_marker, placed_by_tag, canonical, Addition, alone, bracketed, is_of_group, in_front, additions}
 use Rattle.packed_code.specs.Routines.{placed_from, place_in}
 use Rattle.packed_reader.specs.Structures.{no_row, with_value, with_members, members_in}
-use Rattle.packed_reader.proofs.Natural.{canonical_same, on_additions}
+use Rattle.packed_encodings.specs.proving.Natural.{canonical_same, on_additions}
 use Rattle.packed_reader.proofs.Members.{all_weight, member_weight}
 
 -- ---- members in another order
@@ -73,19 +73,19 @@ put_before ys put_here = put_here
 put_before ys (put_there q) = put_there (put_before ys q)
 
 -- the root and what is after the marker
-pub root_mixed : {X : Type 0} (ms : List (Member X)) → Mixed ms (root_of ms ++ behind_marker ms)
+pub root_mixed : {X : Type 0} (ms : List (Member X)) → Mixed ms (root_members ms ++ past_marker ms)
 root_mixed [] = mixed_none
 root_mixed (m ∷ ms) = mixed_more (root_mixed ms) (by (is_addition (component m)))
   where
-    by : (b : Bool) → Put m (root_of ms ++ behind_marker ms) ((if b then root_of ms else m ∷ root_of ms) ++ (if b then m ∷ behind_marker ms else behind_marker ms))
-    by true = put_middle m (root_of ms) (behind_marker ms)
+    by : (b : Bool) → Put m (root_members ms ++ past_marker ms) ((if b then root_members ms else m ∷ root_members ms) ++ (if b then m ∷ past_marker ms else past_marker ms))
+    by true = put_middle m (root_members ms) (past_marker ms)
     by false = put_here
 
-placed_put : {X : Type 0} (s : List Resolved) (m : Member X) (ns : List (Member X)) → Put m ns (placed s m ns)
+placed_put : {X : Type 0} (s : List Resolved) (m : Member X) (ns : List (Member X)) → Put m ns (placed_by_tag s m ns)
 placed_put s m [] = put_here
-placed_put s m (n ∷ ns) = by (stands_before s (component n).type (component m).type) (placed_put s m ns)
+placed_put s m (n ∷ ns) = by (precedes s (component n).type (component m).type) (placed_put s m ns)
   where
-    by : (b : Bool) → Put m ns (placed s m ns) → Put m (n ∷ ns) (if b then n ∷ placed s m ns else m ∷ (n ∷ ns))
+    by : (b : Bool) → Put m ns (placed_by_tag s m ns) → Put m (n ∷ ns) (if b then n ∷ placed_by_tag s m ns else m ∷ (n ∷ ns))
     by true r = put_there r
     by false r = put_here
 
@@ -107,23 +107,23 @@ ordered_same false s f e ms = refl
 ordered_same true s f e ms = canonical_same f e s ms
 
 -- all of them are in one of the two
-pub of_parts : {X : Type 0} (P : Member X → Type 0) (set : Bool) (s : List Resolved) (ms : List (Member X)) → AllByRecursion P (ordered set s (root_of ms)) → AllByRecursion P (behind_marker ms) → AllByRecursion P ms
-of_parts P set s ms a b = mixed_back P (root_mixed ms) (all_both P (root_of ms) (behind_marker ms) (mixed_back P (ordered_mixed set s (root_of ms)) a) b)
+pub of_parts : {X : Type 0} (P : Member X → Type 0) (set : Bool) (s : List Resolved) (ms : List (Member X)) → AllByRecursion P (ordered set s (root_members ms)) → AllByRecursion P (past_marker ms) → AllByRecursion P ms
+of_parts P set s ms a b = mixed_back P (root_mixed ms) (all_both P (root_members ms) (past_marker ms) (mixed_back P (ordered_mixed set s (root_members ms)) a) b)
 
-pub root_part : {X : Type 0} (P : Member X → Type 0) (set : Bool) (s : List Resolved) (ms : List (Member X)) → AllByRecursion P ms → AllByRecursion P (ordered set s (root_of ms))
-root_part P set s ms a = mixed_all P (ordered_mixed set s (root_of ms)) (all_first P (root_of ms) (behind_marker ms) (mixed_all P (root_mixed ms) a))
+pub root_part : {X : Type 0} (P : Member X → Type 0) (set : Bool) (s : List Resolved) (ms : List (Member X)) → AllByRecursion P ms → AllByRecursion P (ordered set s (root_members ms))
+root_part P set s ms a = mixed_all P (ordered_mixed set s (root_members ms)) (all_first P (root_members ms) (past_marker ms) (mixed_all P (root_mixed ms) a))
 
-pub more_part : {X : Type 0} (P : Member X → Type 0) (ms : List (Member X)) → AllByRecursion P ms → AllByRecursion P (behind_marker ms)
-more_part P ms a = all_second P (root_of ms) (behind_marker ms) (mixed_all P (root_mixed ms) a)
+pub more_part : {X : Type 0} (P : Member X → Type 0) (ms : List (Member X)) → AllByRecursion P ms → AllByRecursion P (past_marker ms)
+more_part P ms a = all_second P (root_members ms) (past_marker ms) (mixed_all P (root_mixed ms) a)
 
 weight_both : (xs ys : List (Member AbstractValue)) → all_weight (xs ++ ys) ≡ all_weight xs + all_weight ys
 weight_both [] ys = let z : all_weight ys ≡ 0 + all_weight ys = omega arith in z
 weight_both (x ∷ xs) ys = let e = weight_both xs ys in omega arith
 
-pub part_weight : (set : Bool) (s : List Resolved) (ms : List (Member AbstractValue)) → all_weight (ordered set s (root_of ms)) + all_weight (behind_marker ms) ≡ all_weight ms
+pub part_weight : (set : Bool) (s : List Resolved) (ms : List (Member AbstractValue)) → all_weight (ordered set s (root_members ms)) + all_weight (past_marker ms) ≡ all_weight ms
 part_weight set s ms =
-    let a = mixed_weight (ordered_mixed set s (root_of ms)) in
-    let b = weight_both (root_of ms) (behind_marker ms) in
+    let a = mixed_weight (ordered_mixed set s (root_members ms)) in
+    let b = weight_both (root_members ms) (past_marker ms) in
     let c = mixed_weight (root_mixed ms) in
     omega arith
 
@@ -159,12 +159,12 @@ placed_distinct : (i : ℕ) (cs : List Component) → Distinct (placed_from i cs
 placed_distinct i [] = tt
 placed_distinct i (c ∷ cs) = (from_on i (suc i) cs (omega arith), placed_distinct (suc i) cs)
 
-pub parts_distinct : (set : Bool) (s : List Resolved) (cs : List Component) → Distinct (ordered set s (root_of (placed_from 0 cs)) ++ behind_marker (placed_from 0 cs))
+pub parts_distinct : (set : Bool) (s : List Resolved) (cs : List Component) → Distinct (ordered set s (root_members (placed_from 0 cs)) ++ past_marker (placed_from 0 cs))
 parts_distinct set s cs =
     let ps = placed_from 0 cs in
     let d : Distinct (ps ++ []) = subst Distinct (sym (with_none ps)) (placed_distinct 0 cs) in
-    let e = subst Distinct (with_none (root_of ps ++ behind_marker ps)) (mixed_distinct [] (root_mixed ps) d) in
-    mixed_distinct (behind_marker ps) (ordered_mixed set s (root_of ps)) e
+    let e = subst Distinct (with_none (root_members ps ++ past_marker ps)) (mixed_distinct [] (root_mixed ps) d) in
+    mixed_distinct (past_marker ps) (ordered_mixed set s (root_members ps)) e
 
 abbrev pub Below : ℕ → List (Member ℕ) → Type 0
 Below n ms = AllByRecursion (λ m. place_in m < n) ms
@@ -173,11 +173,11 @@ placed_below : (i n : ℕ) (cs : List Component) → i + length cs ≤ n → Bel
 placed_below i n [] l = tt
 placed_below i n (c ∷ cs) l = (omega arith, placed_below (suc i) n cs (omega arith))
 
-pub parts_below : (set : Bool) (s : List Resolved) (cs : List Component) → Below (length cs) (ordered set s (root_of (placed_from 0 cs)) ++ behind_marker (placed_from 0 cs))
+pub parts_below : (set : Bool) (s : List Resolved) (cs : List Component) → Below (length cs) (ordered set s (root_members (placed_from 0 cs)) ++ past_marker (placed_from 0 cs))
 parts_below set s cs =
     let ps = placed_from 0 cs in
     let b = placed_below 0 (length cs) cs (omega arith) in
-    all_both (λ m. place_in m < length cs) (ordered set s (root_of ps)) (behind_marker ps) (root_part (λ m. place_in m < length cs) set s ps b) (more_part (λ m. place_in m < length cs) ps b)
+    all_both (λ m. place_in m < length cs) (ordered set s (root_members ps)) (past_marker ps) (root_part (λ m. place_in m < length cs) set s ps b) (more_part (λ m. place_in m < length cs) ps b)
 
 -- ---- rows
 

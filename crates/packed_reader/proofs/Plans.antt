@@ -3,7 +3,7 @@ use Rattle.std.proofs.Common.{arith, ◌≡◌, ℕ, zero, suc, ◌+◌, ◌≤�
 use Rattle.packed_code.specs.Routines.{routine_at, routine_of}
 use Rattle.packed_reader.specs.declared.plan.Plan.{Plan}
 use Rattle.packed_reader.specs.declared.reader.Progress.{Progress}
-use Rattle.packed_reader.specs.proving.Code.{Went}
+use Rattle.packed_reader.specs.proving.Code.{Advanced}
 use Rattle.packed_reader.specs.proving.Plans.{IsNothing, PlanFits, run_plan}
 use Rattle.packed_reader.specs.proving.Running.{RunsValue, run_steps, run_value}
 use Rattle.asn_base.specs.Types.{Resolved, TypeNumber}
@@ -47,7 +47,7 @@ pub type_there : (s : List Resolved) (t : ℕ) (ss : List PackedStep) (p q : Pla
 type_there s t ss p q e g h f = there s t (λ n. f (subst IsNothing g (h (e ∙ no_steps s t n))))
 
 -- what a call leaves after a value that holds no others
-pub leaf_went : {X : Type 0} {P : X → Bits → Type 0} {f : Bits → Outcome X} → IsReading P f → (p q : Progress) (b r : Bits) (v : X) → f b ≡ found v r → q.left ≤ p.left → q.skipped ≡ p.skipped → Went p b q r
+pub leaf_went : {X : Type 0} {P : X → Bits → Type 0} {f : Bits → Outcome X} → IsReading P f → (p q : Progress) (b r : Bits) (v : X) → f b ≡ found v r → q.left ≤ p.left → q.skipped ≡ p.skipped → Advanced p b q r
 leaf_went law p q b r v e l s =
     let h = reading_shorter law b r v e in
     record { left = l; room = (let k : q.skipped + length r ≤ p.skipped + length b = omega (arith, h, s) in k) }

@@ -26,7 +26,7 @@ pub fields_first : (st : PackedStep) (ss : List PackedStep) → fields_in (st �
 fields_first steps.Bit ss = refl
 fields_first (steps.Number l n) ss = refl
 fields_first steps.Leaf ss = refl
-fields_first (steps.Mark m) ss = refl
+fields_first (steps.ExtensionBit m) ss = refl
 fields_first (steps.Map n) ss = refl
 fields_first (steps.Field f) ss = refl
 fields_first (steps.Bitmap n) ss = refl
@@ -48,7 +48,7 @@ fields_taken (suc n) (steps.Member f ∷ ss) = ap (λ q. f ∷ q) (fields_taken 
 fields_taken (suc n) (steps.Bit ∷ ss) = fields_taken n ss
 fields_taken (suc n) (steps.Number l k ∷ ss) = fields_taken n ss
 fields_taken (suc n) (steps.Leaf ∷ ss) = fields_taken n ss
-fields_taken (suc n) (steps.Mark m ∷ ss) = fields_taken n ss
+fields_taken (suc n) (steps.ExtensionBit m ∷ ss) = fields_taken n ss
 fields_taken (suc n) (steps.Map k ∷ ss) = fields_taken n ss
 fields_taken (suc n) (steps.Bitmap k ∷ ss) = fields_taken n ss
 fields_taken (suc n) (steps.Added f ∷ ss) = fields_taken n ss

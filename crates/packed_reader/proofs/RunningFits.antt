@@ -4,7 +4,7 @@ use Rattle.std.specs.Prelude.{Option, Some, None, slice_get}
 use Rattle.std.specs.List.{AllByRecursion}
 use Rattle.asn_base.specs.Types.{Alternative, Component, Kind, a_boolean, an_integer, an_enumerated, a_bit_string, a_named_bit_string, an_octet_string, a_null, an_object_identifier, a_relative_oid, a_utf8_string, a_restricted_string, a_sequence, a_set, a_sequence_of, a_set_of, a_choice, TypeNumber, Resolved}
 use Rattle.asn_base.specs.Schemas.{components}
-use Rattle.packed_encodings.specs.Orders.{Member, component, root_of, behind_marker, has_bit, Addition, alone, bracketed, additions}
+use Rattle.packed_encodings.specs.Orders.{Member, component, root_members, past_marker, has_bit, Addition, alone, bracketed, additions}
 use Rattle.packed_encodings.specs.Computed.{kind_at}
 use Rattle.packed_code.specs.declared.step.PackedStep.{PackedStep}
 use Rattle.packed_code.specs.declared.step.PackedStep.TheVariants as steps
@@ -41,16 +41,16 @@ module _ (cs : List Component) where
   abbrev every : List (Member ℕ)
   every = placed_from 0 cs
 
-  more_good : AllByRecursion (Good cs) (members_in (additions (behind_marker every)))
-  more_good = subst (AllByRecursion (Good cs)) (sym (flat_additions (behind_marker every))) (more_part (Good cs) every (placed_good [] cs))
+  more_good : AllByRecursion (Good cs) (members_in (additions (past_marker every)))
+  more_good = subst (AllByRecursion (Good cs)) (sym (flat_additions (past_marker every))) (more_part (Good cs) every (placed_good [] cs))
 
-  rest_fit : (e : Bool) → AllByRecursion (StepFits cs) (rest_if e (additions (behind_marker every)))
-  rest_fit true = (tt, additions_fit (additions (behind_marker every)) (steps.Rest ∷ []) more_good (tt, tt))
+  rest_fit : (e : Bool) → AllByRecursion (StepFits cs) (rest_if e (additions (past_marker every)))
+  rest_fit true = (tt, additions_fit (additions (past_marker every)) (steps.Rest ∷ []) more_good (tt, tt))
   rest_fit false = tt
 
-  structure_fits : (s : List Resolved) (set e : Bool) → AllByRecursion (StepFits cs) (structure e (ordered set s (root_of every)) every)
-  structure_fits s set true = (tt, (tt, root_fit (ordered set s (root_of every)) (rest_if true (additions (behind_marker every))) (root_part (Good cs) set s every (placed_good [] cs)) (rest_fit true)))
-  structure_fits s set false = (tt, root_fit (ordered set s (root_of every)) (rest_if false (additions (behind_marker every))) (root_part (Good cs) set s every (placed_good [] cs)) (rest_fit false))
+  structure_fits : (s : List Resolved) (set e : Bool) → AllByRecursion (StepFits cs) (structure e (ordered set s (root_members every)) every)
+  structure_fits s set true = (tt, (tt, root_fit (ordered set s (root_members every)) (rest_if true (additions (past_marker every))) (root_part (Good cs) set s every (placed_good [] cs)) (rest_fit true)))
+  structure_fits s set false = (tt, root_fit (ordered set s (root_members every)) (rest_if false (additions (past_marker every))) (root_part (Good cs) set s every (placed_good [] cs)) (rest_fit false))
 
 more_fit : (i : ℕ) (as' : List Alternative) → AllByRecursion (StepFits []) (more_calls i as')
 more_fit i [] = tt

@@ -15,7 +15,7 @@ use Rattle.packed_reader.specs.declared.part.Part.TheVariants.{Component as Comp
 use Rattle.packed_reader.specs.declared.sent.Sent.{Sent}
 use Rattle.packed_reader.specs.Levels.{is_within, may_lack}
 use Rattle.packed_reader.specs.Readings.{Reading, read, refused, stop, next, in_part, tested, Taken, taken}
-use Rattle.packed_reader.specs.Structures.{ReadsValue, presence_from, presences_from, part_of, may_stand_so, stood, member_from, joined, members_from, lacking, with_value, with_members}
+use Rattle.packed_reader.specs.Structures.{ReadsValue, presence_from, presences_from, part_of, may_be_present_so, taken_member, member_from, joined, members_from, lacking, with_value, with_members}
 use Rattle.packed_reader.specs.Steps.{member_at}
 use Rattle.packed_reader.specs.proving.Running.{past, RunsValue, sent, run_presences, any_sent, differs, run_member, run_members}
 use Rattle.packed_reader.proofs.RunningState.{plus_none, none_since, past_by, same_read, Always, always_next, always_after, onto, nothing_asked, with_others}
@@ -109,16 +109,16 @@ module _ (s : List Resolved) (l : ℕ) (value : ReadsValue) where
     where
       which : (w : Taken AbstractValue) (r : Bits) (c : Bool)
           → next (in_part (Component' (place_in m)) (if c then read (taken w.it (k + w.skipped) w.left) r else stop why.NotCanonical b)) (λ w r. read (taken (with_value (place_in m) w.it ws) w.skipped w.left) r)
-          ≡ past_by (put_member m ws) k (next (in_part (part_of m) (if c then read w r else stop why.NotCanonical b)) (λ w r. read (stood (component m) w) r))
+          ≡ past_by (put_member m ws) k (next (in_part (part_of m) (if c then read w r else stop why.NotCanonical b)) (λ w r. read (taken_member (component m) w) r))
       which w r true = refl
       which w r false = refl
 
       by : (o : Reading (Taken AbstractValue))
           → next (in_part (Component' (place_in m)) (next (past k o) (λ v r. if differs s (component m) k v then read v r else stop why.NotCanonical b))) (λ w r. read (taken (with_value (place_in m) w.it ws) w.skipped w.left) r)
-          ≡ past_by (put_member m ws) k (next (in_part (part_of m) (next o (λ v r. if may_stand_so s (component m) v then read v r else stop why.NotCanonical b))) (λ w r. read (stood (component m) w) r))
+          ≡ past_by (put_member m ws) k (next (in_part (part_of m) (next o (λ v r. if may_be_present_so s (component m) v then read v r else stop why.NotCanonical b))) (λ w r. read (taken_member (component m) w) r))
       by (read w r) =
           ap (λ q. next (in_part (Component' (place_in m)) (if not (q && is_default s (component m) w.it) then read (taken w.it (k + w.skipped) w.left) r else stop why.NotCanonical b)) (λ w r. read (taken (with_value (place_in m) w.it ws) w.skipped w.left) r)) (none_since k w.skipped)
-          ∙ which w r (may_stand_so s (component m) w)
+          ∙ which w r (may_be_present_so s (component m) w)
       by (refused e r) = refl
 
   absent_same : (m : Member ℕ) (ws : Row) (k n : ℕ) (b : Bits)

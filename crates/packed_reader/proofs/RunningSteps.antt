@@ -107,7 +107,7 @@ module _ (s : List Resolved) (l : ℕ) (value : ReadsValue) where
 
     -- any steps that fit the type
     pub steps_same : (ss : List PackedStep) (k n : ℕ) (b : Bits) → AllByRecursion (StepFits (components (kind_at s t))) ss → run_steps s l (run_of value) t ss k n b ≡ past_by (λ x. x) k (steps_from s l value t ss n b)
-    steps_same (steps.Mark i ∷ (steps.Map m ∷ ss)) k n b fit = fields_same true m ss k n b fit.1.1
+    steps_same (steps.ExtensionBit i ∷ (steps.Map m ∷ ss)) k n b fit = fields_same true m ss k n b fit.1.1
     steps_same (steps.Map m ∷ ss) k n b fit = fields_same false m ss k n b fit.1
     steps_same (steps.Each u ∷ ss) k n b fit = each_same false u.index k n b
     steps_same (steps.EachSorted u ∷ ss) k n b fit = each_same true u.index k n b

@@ -8,7 +8,7 @@ use Rattle.asn_base.specs.Types.{Alternative, Component, Kind, a_boolean, an_int
 use Rattle.asn_base.specs.Schemas.{components, IsSound, IsSchema}
 use Rattle.packed_encodings.specs.Lengths.{Bits}
 use Rattle.packed_encodings.specs.Leaves.{place_width}
-use Rattle.packed_encodings.specs.Orders.{rank, Member, missing, standing, root_of, behind_marker, Addition, alone, bracketed, additions}
+use Rattle.packed_encodings.specs.Orders.{canonical_place, Member, missing, standing, root_members, past_marker, Addition, alone, bracketed, additions}
 use Rattle.packed_encodings.specs.Computed.{kind_at, type_of}
 use Rattle.packed_code.specs.declared.step.PackedStep.{PackedStep}
 use Rattle.packed_code.specs.declared.step.PackedStep.TheVariants as steps
@@ -96,10 +96,10 @@ module _ (s : List Resolved) (l : ℕ) (value : ReadsValue) (t : TypeNumber) (se
   every = placed_from 0 cs
 
   abbrev root : List (Member ℕ)
-  root = ordered set s (root_of every)
+  root = ordered set s (root_members every)
 
   abbrev more : List (Addition ℕ)
-  more = additions (behind_marker every)
+  more = additions (past_marker every)
 
   root_back : (rest : List PackedStep) → next_members cs (length root) (root_steps root ++ rest) ≡ root
   root_back rest = ap (map (member_at cs)) (root_fields root rest) ∙ members_back cs root (root_part (Good cs) set s every (placed_good [] cs))
@@ -107,7 +107,7 @@ module _ (s : List Resolved) (l : ℕ) (value : ReadsValue) (t : TypeNumber) (se
   more_back : (e : Bool) → (e ≡ false → more ≡ []) → additions_in cs (drop (length root) (root_steps root ++ rest_if e more)) ≡ more
   more_back e n =
       ap (additions_in cs) (root_dropped root (rest_if e more))
-      ∙ rest_back cs e more n (subst (AllByRecursion (Good cs)) (sym (flat_additions (behind_marker every))) (more_part (Good cs) every (placed_good [] cs)))
+      ∙ rest_back cs e more n (subst (AllByRecursion (Good cs)) (sym (flat_additions (past_marker every))) (more_part (Good cs) every (placed_good [] cs)))
 
   fields_by : (e : Bool) (n : ℕ) (b : Bits) → components (kind_at s t) ≡ cs → (e ≡ false → more ≡ []) → structure_by s l value t e (length root) (root_steps root ++ rest_if e more) n b ≡ structure_from s l value e cs root n b
   fields_by e n b k m =
@@ -140,7 +140,7 @@ more_unranked r k (a ∷ more) i = more_unranked r (suc k) more (suc i)
 ranked_back : (s : List Resolved) (e : Bool) (r : ℕ) (pre as' more : List Alternative) (all : List Alternative) → all ≡ pre ++ as' → ranked_call r (root_calls s e all as' ++ more_calls 0 more) (length pre) ≡ option_map (root_at all) (ranked s all r as' (length pre))
 ranked_back s e r pre [] more all h = more_unranked r 0 more (length pre)
 ranked_back s e r pre (a ∷ as') more all h =
-    by (rank s all a.type == r)
+    by (canonical_place s all a.type == r)
     (subst (λ n. ranked_call r (root_calls s e all as' ++ more_calls 0 more) n ≡ option_map (root_at all) (ranked s all r as' n)) (length_more pre a) (ranked_back s e r (pre ++ (a ∷ [])) as' more all (h ∙ sym (append_assoc pre (a ∷ []) as'))))
   where
     here : a.type ≡ type_of (slice_get all (length pre))
@@ -199,7 +199,7 @@ all_calls s e all [] more k = ap (λ n. take n (more_calls k more)) (let z : 0 +
     at k (a ∷ more) = ap (λ q. steps.More k (id_of a.type) ∷ q) (at (suc k) more)
 all_calls s e all (a ∷ root) more k =
     ap (λ n. take n (root_calls s e all (a ∷ root) ++ more_calls k more)) (let z : suc (length root) + length more ≡ suc (length root + length more) = omega arith in z)
-    ∙ ap (λ q. steps.Root (record { extensible = e; width = place_width (length all); rank = rank s all a.type; ty = id_of a.type }) ∷ q) (all_calls s e all root more k)
+    ∙ ap (λ q. steps.Root (record { extensible = e; width = place_width (length all); rank = canonical_place s all a.type; ty = id_of a.type }) ∷ q) (all_calls s e all root more k)
 
 call_back : (s : List Resolved) (root : List Alternative) (e : Bool) (more : List Alternative) (b : Bits) → 1 ≤ length root → call_from (take (length root + length more) (root_calls s e root root ++ more_calls 0 more)) b ≡ chosen_from s root e more b
 call_back s [] e more b some = absurd (omega arith)

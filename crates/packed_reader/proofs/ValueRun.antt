@@ -14,7 +14,7 @@ use Rattle.packed_reader.specs.Readings.{Reading, read, refused, stop, next, pla
 use Rattle.packed_reader.specs.Steps.{steps_from, value_by}
 use Rattle.packed_reader.specs.Structures.{is_filling, filled_from, before_rest, contents_from, open_from}
 use Rattle.packed_reader.specs.Values.{IsValueRead, value_from}
-use Rattle.packed_reader.specs.proving.Code.{HasRoom, IsBare, IsGot, IsStop, IsStopAt, Went}
+use Rattle.packed_reader.specs.proving.Code.{HasRoom, IsBare, IsGot, IsStop, IsStopAt, Advanced}
 use Rattle.packed_reader.specs.declared.reader.Progress.{Progress}
 use Rattle.packed_reader.specs.proving.Running.{past, run_steps, run_value}
 use Rattle.packed_reader.specs.declared.stop.Stop.{Stop}
@@ -102,30 +102,30 @@ stops_as (Ok v) o q b e h = tt
 stops_as (Err d) o q b e h = stop_as o q d b e h
 
 -- the state after what came first and what came then
-pub went_on : (p q r : Progress) (b c d : Bits) → Went p b q c → Went q c r d → Went p b r d
+pub went_on : (p q r : Progress) (b c d : Bits) → Advanced p b q c → Advanced q c r d → Advanced p b r d
 went_on p q r b c d h g =
     let a = h.left in let e = g.left in let f = h.room in let j = g.room in
     record { left = (let k : r.left ≤ p.left = omega (arith, a, e) in k); room = (let k : r.skipped + length d ≤ p.skipped + length b = omega (arith, f, j) in k) }
 
-pub went_shorter : (p : Progress) (b c : Bits) → length c ≤ length b → Went p b p c
+pub went_shorter : (p : Progress) (b c : Bits) → length c ≤ length b → Advanced p b p c
 went_shorter p b c h = record { left = (let k : p.left ≤ p.left = omega arith in k); room = (let k : p.skipped + length c ≤ p.skipped + length b = omega (arith, h) in k) }
 
-pub room_left : (p q : Progress) (b c : Bits) → HasRoom p b → Went p b q c → HasRoom q c
+pub room_left : (p q : Progress) (b c : Bits) → HasRoom p b → Advanced p b q c → HasRoom q c
 room_left p q b c h w = let a = w.room in let k : q.skipped + length c ≤ 2 ^ 62 = omega (arith, h, a) in k
 
-pub went_ok : {X E : Type 0} (x : Result X E) (p q r : Progress) (b c d : Bits) → Went p b q c → IfOk x (λ v. Went q c r d) → IfOk x (λ v. Went p b r d)
+pub went_ok : {X E : Type 0} (x : Result X E) (p q r : Progress) (b c d : Bits) → Advanced p b q c → IfOk x (λ v. Advanced q c r d) → IfOk x (λ v. Advanced p b r d)
 went_ok (Ok v) p q r b c d h g = went_on p q r b c d h g
 went_ok (Err e) p q r b c d h g = tt
 
-pub went_done : {E : Type 0} (x : Result (Unit {0}) E) (p q r : Progress) (b c d : Bits) → Went p b q c → OnOk x (Went q c r d) → OnOk x (Went p b r d)
+pub went_done : {E : Type 0} (x : Result (Unit {0}) E) (p q r : Progress) (b c d : Bits) → Advanced p b q c → OnOk x (Advanced q c r d) → OnOk x (Advanced p b r d)
 went_done (Ok v) p q r b c d h g = went_on p q r b c d h g
 went_done (Err e) p q r b c d h g = tt
 
-pub went_value : {E : Type 0} (x : Result Value E) (p q : Progress) (b r : Bits) → 1 ≤ p.left → IfOk x (λ v. Went (record { left = p.left - 1; skipped = p.skipped }) b q r) → IfOk x (λ v. Went p b q r)
+pub went_value : {E : Type 0} (x : Result Value E) (p q : Progress) (b r : Bits) → 1 ≤ p.left → IfOk x (λ v. Advanced (record { left = p.left - 1; skipped = p.skipped }) b q r) → IfOk x (λ v. Advanced p b q r)
 went_value (Ok v) p q b r h g = let a = g.left in record { left = (let k : q.left ≤ p.left = omega (arith, a) in k); room = g.room }
 went_value (Err e) p q b r h g = tt
 
-pub fewer_value : {E : Type 0} (x : Result Value E) (p q : Progress) (b r : Bits) → 1 ≤ p.left → IfOk x (λ v. Went (record { left = p.left - 1; skipped = p.skipped }) b q r) → IfOk x (λ v. q.left < p.left)
+pub fewer_value : {E : Type 0} (x : Result Value E) (p q : Progress) (b r : Bits) → 1 ≤ p.left → IfOk x (λ v. Advanced (record { left = p.left - 1; skipped = p.skipped }) b q r) → IfOk x (λ v. q.left < p.left)
 fewer_value (Ok v) p q b r h g = let a = g.left in let k : q.left < p.left = omega (arith, a, h) in k
 fewer_value (Err e) p q b r h g = tt
 

@@ -12,7 +12,7 @@ use Rattle.packed_encodings.specs.Weights.{weight}
 use Rattle.encodings.specs.Header.{Octets}
 use Rattle.packed_encodings.specs.Lengths.{Bits, CountedOctets}
 use Rattle.packed_encodings.specs.Padding.{Padded, padded_none, padded}
-use Rattle.packed_encodings.specs.Packing.{lenient, Says, Reads}
+use Rattle.packed_encodings.specs.Packing.{lenient, EncodesPer, Reads}
 use Rattle.decode_faults.specs.declared.refusal.Refusal.{Refusal}
 use Rattle.decode_faults.specs.declared.refusal.Refusal.TheVariants as why
 use Rattle.packed_reader.specs.Readings.{Fault, Reading, read, refused, stop, next, Taken, taken, IsExact}
@@ -138,12 +138,12 @@ module _ (s : List Resolved) (t : TypeNumber)
       by f =
           let light = a.light in
           let is : IsValueRead s 64 t most (taken w k (most - weight w)) a.bits = record { says_it = a.says_it; value = a.value.shaped; counted = omega arith } in
-          let p = behind f in
+          let p = padding_after f in
           (p.0, ap from p.1 ∙ V.whole (taken w k (most - weight w)) a.bits p.0 is)
         where
-          behind : {x : Bits} {o : Octets} → Padded x o → (z : Bits) × (octet_bits o ≡ x ++ z)
-          behind padded_none = (octet_bits (0 ∷ []), refl)
-          behind (padded n some few below e) = (replicate n false, e)
+          padding_after : {x : Bits} {o : Octets} → Padded x o → (z : Bits) × (octet_bits o ≡ x ++ z)
+          padding_after padded_none = (octet_bits (0 ∷ []), refl)
+          padding_after (padded n some few below e) = (replicate n false, e)
 
   -- octets that end within such a message
   padded_lengths : {x : Bits} {o : Octets} → Padded x o → (8 * length o < length x + 8) ⊎ (length o ≡ 1)
@@ -164,7 +164,7 @@ module _ (s : List Resolved) (t : TypeNumber)
       by (inl c) l k j = absurd (omega arith)
       by (inr c) l k j = absurd (omega arith)
 
-  module _ (only_filled : (j k : ℕ) (v w : AbstractValue) (x p : Bits) (o : Octets) → Says s lenient t v j x → octet_bits o ≡ x ++ p → Reads s t w k o → Padded x o × (w ≡ v) × (k ≡ j)) where
+  module _ (only_filled : (j k : ℕ) (v w : AbstractValue) (x p : Bits) (o : Octets) → EncodesPer s lenient t v j x → octet_bits o ≡ x ++ p → Reads s t w k o → Padded x o × (w ≡ v) × (k ≡ j)) where
     pub front_truncated : (o m : Octets) (w : AbstractValue) (k : ℕ) → Reads s t w k (o ++ m) → length (o ++ m) ≤ most → 1 ≤ length m → (e : Fault) × (i : ℕ) × (message_from s t o ≡ faulty e i) × (e.why ≡ why.Truncated)
     front_truncated [] m w k a l some = (record { why = why.Truncated; path = [] }, 0, refl, refl)
     front_truncated (x ∷ o) m w k a l some = by (reading x o) refl
@@ -190,7 +190,7 @@ module _ (s : List Resolved) (t : TypeNumber)
                 absurd (not_both (sym q.1 ∙ ap from all ∙ V.firm (octet_bits (x ∷ o)) r (octet_bits m) d e n))
 
   -- an encoding before bits that don't fill its last octet
-  pub not_filled : (o : Octets) (w : AbstractValue) (k : ℕ) (x p : Bits) → AllBelowBase 256 o → 1 ≤ length o → length o ≤ most → Says s lenient t w k x → IsValue s t w → weight w ≤ most → octet_bits o ≡ x ++ p → (Padded x o → ⊥) → message_from s t o ≡ faulty (record { why = why.Padding; path = [] }) (length x)
+  pub not_filled : (o : Octets) (w : AbstractValue) (k : ℕ) (x p : Bits) → AllBelowBase 256 o → 1 ≤ length o → length o ≤ most → EncodesPer s lenient t w k x → IsValue s t w → weight w ≤ most → octet_bits o ≡ x ++ p → (Padded x o → ⊥) → message_from s t o ≡ faulty (record { why = why.Padding; path = [] }) (length x)
   not_filled [] w k x p h some l a v light e n = absurd (omega arith)
   not_filled (y ∷ o) w k x p h some l a v light e n =
       let is : IsValueRead s 64 t most (taken w k (most - weight w)) x = record { says_it = a; value = v.shaped; counted = omega arith } in

@@ -3,12 +3,12 @@ use Rattle.std.proofs.Common.{◌≡◌, ℕ, zero, suc, Bool, true, false, List
 use Rattle.asn_base.specs.declared.tag.Tag.{Tag}
 use Rattle.asn_base.specs.Abstract.{AbstractValue, Row}
 use Rattle.asn_base.specs.Types.{Kind, a_null, mandatory, optional, default, addition, Presence, TypeNumber, Component, Resolved, Is}
-use Rattle.asn_base.specs.Typed.{Fits, fits_boolean, fits_integer, fits_enumerated, fits_bits, fits_named_bits, fits_octets, fits_null, fits_oid, fits_relative_oid, fits_utf8, fits_restricted, ValueIn, value_in, ValueOf, of_leaf, of_sequence, of_set, of_sequence_of, of_set_of, of_choice, MayBeAbsent, where_optional, where_default, where_addition, AreComponents, no_component, component_absent, component_present, AreElements, no_element, one_element}
+use Rattle.asn_base.specs.Typed.{IsPrimitive, fits_boolean, fits_integer, fits_enumerated, fits_bits, fits_named_bits, fits_octets, fits_null, fits_oid, fits_relative_oid, fits_utf8, fits_restricted, ValueIn, value_in, ValueOf, of_leaf, of_sequence, of_set, of_sequence_of, of_set_of, of_choice, MayBeAbsent, where_optional, where_default, where_addition, AreComponents, no_component, component_absent, component_present, AreElements, no_element, one_element}
 use Rattle.asn_base.specs.Schemas.{HasValue}
-use Rattle.packed_encodings.specs.Computed.{kind_at, type_of, is_default, TellsDefaults}
+use Rattle.packed_encodings.specs.Computed.{kind_at, type_of, is_default, DecidesDefaults}
 use Rattle.packed_reader.specs.Levels.{may_lack, components_within, elements_within, parts_within, is_within}
 use Rattle.packed_reader.proofs.Opening.{not_true, true_both, both_true}
-use Rattle.packed_reader.proofs.Members.{AreTold}
+use Rattle.packed_reader.proofs.Members.{IsDecided}
 
 pub kind_is : {s : List Resolved} {t : ℕ} {tags : List Tag} {k : Kind} → Is s t tags k → kind_at s t ≡ k
 kind_is i = ap (λ o. elim o [ None ↦ a_null | Some r ↦ r.kind ]) i.found
@@ -33,7 +33,7 @@ module _ (s : List Resolved) (within : TypeNumber → AbstractValue → Bool) (n
   elements_complete no_element = refl
   elements_complete {u} (one_element {v = v} {vs = vs} x a) = both_true (within u v) (elements_within (within u) vs) (complete u v x) (elements_complete a)
 
-  leaf_within : {k : Kind} {v : AbstractValue} → Fits k v → parts_within within k v ≡ true
+  leaf_within : {k : Kind} {v : AbstractValue} → IsPrimitive k v → parts_within within k v ≡ true
   leaf_within fits_boolean = refl
   leaf_within (fits_integer a b) = refl
   leaf_within (fits_enumerated a b) = refl
@@ -99,8 +99,8 @@ within_sound s (suc n) (suc m) t v (value_in i a) e =
 one_default : {s : List Resolved} {n t : ℕ} {p : Presence} (d : AbstractValue) → p ≡ default d → ValueIn s n t d → MayBeAbsent s n t p
 one_default {s} {n} {t} d e v = subst (MayBeAbsent s n t) (sym e) (where_default v)
 
-pub told_component : (s : List Resolved) (l : ℕ) (c : Component) → TellsDefaults s (is_default s) → HasValue s c → AreTold s l c
-told_component s l c tells h = record {
+pub component_decided : (s : List Resolved) (l : ℕ) (c : Component) → DecidesDefaults s (is_default s) → HasValue s c → IsDecided s l c
+component_decided s l c tells h = record {
   default = λ v x d. tells.is_default l c v h x d;
   no_default = λ v x d. tells.no_default l c v h x d;
   lacks = λ e. by c.presence refl e;

@@ -95,7 +95,7 @@ size_in k = any_size
 -- a value of type t by these steps
 abbrev pub steps_from : List Resolved → ℕ → ReadsValue → TypeNumber → List PackedStep → ℕ → Bits
     → Reading (Taken AbstractValue)
-steps_from s l value t (steps.Mark m ∷ (steps.Map k ∷ ss)) n b = structure_by s l value t true k ss n b
+steps_from s l value t (steps.ExtensionBit m ∷ (steps.Map k ∷ ss)) n b = structure_by s l value t true k ss n b
 steps_from s l value t (steps.Map k ∷ ss) n b = structure_by s l value t false k ss n b
 steps_from s l value t (steps.Each u ∷ ss) n b =
     next (list_from (value u.index) false (size_in (kind_at s t)) n b) (λ w r. read (elements_value w) r)

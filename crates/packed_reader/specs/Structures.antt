@@ -78,19 +78,19 @@ abbrev pub part_of : Member ℕ → Part
 part_of m = Component' (place_in m)
 
 -- The value of a component must not be the same as its DEFAULT, unless additions were skipped within it (19.5).
-abbrev pub may_stand_so : List Resolved → Component → Taken AbstractValue → Bool
-may_stand_so s c w = not (w.skipped == 0 && is_default s c w.it)
+abbrev pub may_be_present_so : List Resolved → Component → Taken AbstractValue → Bool
+may_be_present_so s c w = not (w.skipped == 0 && is_default s c w.it)
 
-abbrev pub stood : Component → Taken AbstractValue → Taken (Member AbstractValue)
-stood c w = taken (standing c w.it) w.skipped w.left
+abbrev pub taken_member : Component → Taken AbstractValue → Taken (Member AbstractValue)
+taken_member c w = taken (standing c w.it) w.skipped w.left
 
 -- A component that is present or absent. If it is absent, the levels of its DEFAULT are at most l.
 abbrev pub member_from : List Resolved → ℕ → ReadsValue → Member ℕ → Bool → ℕ → Bits
     → Reading (Taken (Member AbstractValue))
 member_from s l value m true n b =
     next (in_part (part_of m)
-    (tested (may_stand_so s (component m)) why.NotCanonical (value (component m).type n) b))
-    (λ w r. read (stood (component m) w) r)
+    (tested (may_be_present_so s (component m)) why.NotCanonical (value (component m).type n) b))
+    (λ w r. read (taken_member (component m) w) r)
 member_from s l value m false n b =
     if may_lack (is_within s l) (component m)
     then read (taken (missing (component m)) 0 n) b

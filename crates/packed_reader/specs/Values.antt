@@ -10,8 +10,8 @@ use Rattle.asn_base.specs.Typed.{ValueIn}
 use Rattle.encodings.specs.Header.{Octets}
 use Rattle.packed_encodings.specs.Lengths.{Bits}
 use Rattle.packed_encodings.specs.Leaves.{place_width}
-use Rattle.packed_encodings.specs.Orders.{rank, Member, root_of, behind_marker, canonical, additions}
-use Rattle.packed_encodings.specs.Packing.{lenient, Says}
+use Rattle.packed_encodings.specs.Orders.{canonical_place, Member, root_members, past_marker, canonical, additions}
+use Rattle.packed_encodings.specs.Packing.{lenient, EncodesPer}
 use Rattle.packed_encodings.specs.Computed.{type_of}
 use Rattle.packed_encodings.specs.Weights.{characters, weight}
 use Rattle.packed_code.specs.Routines.{placed_from}
@@ -28,7 +28,7 @@ use Rattle.packed_reader.specs.Lists.{Element', row_of_elements, list_from}
 -- the number of the first alternative whose rank in the canonical order of tags is r
 abbrev pub ranked : List Resolved → (all : List Alternative) → ℕ → List Alternative → ℕ → Option ℕ
 ranked s all r [] i = None
-ranked s all r (a ∷ as') i = if rank s all a.type == r then Some i else ranked s all r as' (suc i)
+ranked s all r (a ∷ as') i = if canonical_place s all a.type == r then Some i else ranked s all r as' (suc i)
 
 -- an alternative of the root, or one after the marker, with its number among all and its type
 pub data Chosen : Type 0 where
@@ -73,7 +73,7 @@ chosen_value value (added i t) n b =
 abbrev pub structure_from : List Resolved → ℕ → ReadsValue → Bool → List Component → List (Member ℕ) → ℕ → Bits
     → Reading (Taken AbstractValue)
 structure_from s l value e cs root n b =
-    let more = additions (behind_marker (placed_from 0 cs)) in
+    let more = additions (past_marker (placed_from 0 cs)) in
     next (pieces_from s l value e root more n b)
     (λ p r. read (taken (fields (row_of cs root more p.it)) p.skipped p.left) r)
 
@@ -86,8 +86,8 @@ leaf_taken n v = taken v 0 (n - characters v)
 
 -- a value of this kind, in which the members have at most l levels
 abbrev pub kind_from : List Resolved → ℕ → ReadsValue → Kind → ℕ → Bits → Reading (Taken AbstractValue)
-kind_from s l value (a_sequence e cs) n b = structure_from s l value e cs (root_of (placed_from 0 cs)) n b
-kind_from s l value (a_set e cs) n b = structure_from s l value e cs (canonical s (root_of (placed_from 0 cs))) n b
+kind_from s l value (a_sequence e cs) n b = structure_from s l value e cs (root_members (placed_from 0 cs)) n b
+kind_from s l value (a_set e cs) n b = structure_from s l value e cs (canonical s (root_members (placed_from 0 cs))) n b
 kind_from s l value (a_sequence_of c u) n b =
     next (list_from (value u) false c n b) (λ t r. read (elements_value t) r)
 kind_from s l value (a_set_of c u) n b =
@@ -107,7 +107,7 @@ value_from s (suc l) t (suc n) b =
 -- The bits are those of value w of type t in the form that is read, with at most l levels. If n values may still begin
 -- before it, w says how many may begin after it.
 pub record IsValueRead (s : List Resolved) (l t n : ℕ) (w : Taken AbstractValue) (x : Bits) : Type 0 where
-  pub says_it : Says s lenient t w.it w.skipped x
+  pub says_it : EncodesPer s lenient t w.it w.skipped x
   pub value : ValueIn s l t w.it
   pub counted : n ≡ weight w.it + w.left
 

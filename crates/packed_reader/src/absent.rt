@@ -19,6 +19,6 @@ pub(crate) fn may_lack(code: &PackedCode, id: TypeId, place: usize, levels: u8) 
         → HasComponent code.now id.index place c
         → result ≡ levels_of.may_lack (is_within code.now levels) c }
 {
-    code.accepted();
+    code.lemma_invariant();
     may_be_absent(code.schema(), id, place, levels)
 }

@@ -11,8 +11,10 @@ pub(crate) fn is_addition(step: PackedStep) -> bool
 {
     match step {
         PackedStep::Added(_) | PackedStep::Group(_) => true,
-        PackedStep::Bit | PackedStep::Number(_, _) | PackedStep::Leaf | PackedStep::Mark(_) =>
-            false,
+        PackedStep::Bit
+        | PackedStep::Number(_, _)
+        | PackedStep::Leaf
+        | PackedStep::ExtensionBit(_) => false,
         PackedStep::Map(_) | PackedStep::Bitmap(_) | PackedStep::Field(_) => false,
         PackedStep::Member(_) | PackedStep::Rest | PackedStep::Each(_) => false,
         PackedStep::EachSorted(_) | PackedStep::Pick(_) => false,

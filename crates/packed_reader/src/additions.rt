@@ -3,7 +3,7 @@
 ghost use Rattle.asn_base.specs.Schemas.{components};
 ghost use Rattle.bits.specs.Left.{bits_left};
 ghost use Rattle.packed_encodings.specs.Computed.{kind_at};
-ghost use Rattle.packed_reader.specs.proving.Code.{HasRoom, IsGot, IsStop, Went, row_of_values};
+ghost use Rattle.packed_reader.specs.proving.Code.{HasRoom, IsGot, IsStop, Advanced, row_of_values};
 ghost use Rattle.packed_reader.specs.proving.Running.{run_added, run_additions, run_first, run_group, run_group_inside};
 ghost use Rattle.packed_reader.specs.proving.Running.{run_rest, run_value};
 ghost use Rattle.packed_writer.specs.proving.Values.{FieldFits, FieldsFit, fields_in};
@@ -49,7 +49,7 @@ pub(crate) fn read_extension(
         (components (kind_at reader.entry.code.now reader.entry.id.index)) true steps.now (row_of_values row.old.items)
         progress.old.skipped progress.old.left (bits_left bits.old))
         e (bits_left bits.new)) }
-    ensures went { OnOk result (Went progress.old (bits_left bits.old) progress.new (bits_left bits.new)) }
+    ensures advanced { OnOk result (Advanced progress.old (bits_left bits.old) progress.new (bits_left bits.new)) }
 {
     let map = match read_bitmap(reader.alloc, bits) {
         Ok(map) => map,
@@ -96,7 +96,7 @@ fn read_additions(
         additions.entry.steps.now additions.entry.map.now (row_of_values row.old.items)
         progress.old.skipped progress.old.left (bits_left bits.old))
         e (bits_left bits.new)) }
-    ensures went { OnOk result (Went progress.old (bits_left bits.old) progress.new (bits_left bits.new)) }
+    ensures advanced { OnOk result (Advanced progress.old (bits_left bits.old) progress.new (bits_left bits.new)) }
 {
     let mut map = additions.map;
     for i in 0..additions.steps.len() {
@@ -137,7 +137,7 @@ fn read_addition(
         (components (kind_at reader.entry.code.now reader.entry.id.index)) steps.now (row_of_values row.old.items)
         progress.old.skipped progress.old.left (bits_left bits.old))
         e (bits_left bits.new)) }
-    ensures went { OnOk result (Went progress.old (bits_left bits.old) progress.new (bits_left bits.new)) }
+    ensures advanced { OnOk result (Advanced progress.old (bits_left bits.old) progress.new (bits_left bits.new)) }
     ensures places { length row.new.items ≡ length row.old.items }
 {
     let Some((step, rest)) = first(steps) else {
@@ -146,9 +146,10 @@ fn read_addition(
     match step {
         PackedStep::Added(field) => read_added(reader, progress, bits, row, field),
         PackedStep::Group(count) => read_group(reader, progress, bits, row, next(rest, count)),
-        PackedStep::Bit | PackedStep::Number(_, _) | PackedStep::Leaf | PackedStep::Mark(_) => Ok(
-            (),
-        ),
+        PackedStep::Bit
+        | PackedStep::Number(_, _)
+        | PackedStep::Leaf
+        | PackedStep::ExtensionBit(_) => Ok(()),
         PackedStep::Map(_) | PackedStep::Bitmap(_) | PackedStep::Field(_) => Ok(()),
         PackedStep::Member(_) | PackedStep::Rest | PackedStep::Each(_) => Ok(()),
         PackedStep::EachSorted(_) | PackedStep::Pick(_) => Ok(()),
@@ -178,7 +179,7 @@ fn read_added(
         (run_added (run_value reader.entry.code.now reader.entry.levels) field (row_of_values row.old.items)
         progress.old.skipped progress.old.left (bits_left bits.old))
         e (bits_left bits.new)) }
-    ensures went { OnOk result (Went progress.old (bits_left bits.old) progress.new (bits_left bits.new)) }
+    ensures advanced { OnOk result (Advanced progress.old (bits_left bits.old) progress.new (bits_left bits.new)) }
     ensures places { length row.new.items ≡ length row.old.items }
 {
     let value = match read_opened(
@@ -220,10 +221,10 @@ fn read_group(
         (components (kind_at reader.entry.code.now reader.entry.id.index)) (fields_in steps.now)
         (row_of_values row.old.items) progress.old.skipped progress.old.left (bits_left bits.old))
         e (bits_left bits.new)) }
-    ensures went { OnOk result (Went progress.old (bits_left bits.old) progress.new (bits_left bits.new)) }
+    ensures advanced { OnOk result (Advanced progress.old (bits_left bits.old) progress.new (bits_left bits.new)) }
     ensures places { length row.new.items ≡ length row.old.items }
 {
-    reader.code.accepted();
+    reader.code.lemma_invariant();
     inside_laws();
     let start = *bits;
     let octets = match take_octets(reader.alloc, bits) {
@@ -273,7 +274,7 @@ fn read_group_members(
         (components (kind_at reader.entry.code.now reader.entry.id.index)) (fields_in steps.now)
         (row_of_values row.old.items) progress.old.skipped progress.old.left (bits_left bits.old))
         e (bits_left bits.new)) }
-    ensures went { OnOk result (Went progress.old (bits_left bits.old) progress.new (bits_left bits.new)) }
+    ensures advanced { OnOk result (Advanced progress.old (bits_left bits.old) progress.new (bits_left bits.new)) }
     ensures places { length row.new.items ≡ length row.old.items }
 {
     let start = *bits;

@@ -6,7 +6,7 @@ ghost use Rattle.packed_reader.specs.Code.{chosen_of};
 ghost use Rattle.packed_reader.specs.Readings.{next as onward, plain};
 ghost use Rattle.packed_reader.specs.declared.stop.Stop.TheVariants.{Memory};
 ghost use Rattle.packed_reader.specs.Steps.{call_from};
-ghost use Rattle.packed_reader.specs.proving.Code.{HasRoom, IsGot, IsStop, Went};
+ghost use Rattle.packed_reader.specs.proving.Code.{HasRoom, IsGot, IsStop, Advanced};
 ghost use Rattle.packed_reader.specs.proving.Plans.{AreCalls};
 ghost use Rattle.packed_reader.specs.proving.Running.{run_chosen, run_value};
 ghost use Rattle.std.specs.Prelude.{◌≡◌, ◌≤◌, ◌<◌, IfErr, IfOk, length};
@@ -17,7 +17,7 @@ use crate::plan::has_few;
 use crate::reader::{Progress, Reader};
 use crate::stop::Stop;
 use crate::value::{read_opened, read_value};
-use asn_base::law::abstract_values;
+use asn_base::law::lemma_abstract_values;
 use asn_base::value::Value;
 use bits::cursor::Bits;
 use packed_code::PackedStep;
@@ -46,7 +46,7 @@ pub(crate) fn read_pick(
         (λ c r. run_chosen (run_value reader.entry.code.now reader.entry.levels) c
         progress.old.skipped progress.old.left r))
         e (bits_left bits.new)) }
-    ensures went { IfOk result (λ v. Went progress.old (bits_left bits.old) progress.new (bits_left bits.new)) }
+    ensures advanced { IfOk result (λ v. Advanced progress.old (bits_left bits.old) progress.new (bits_left bits.new)) }
 {
     has_few(reader.code.schema().core(reader.id));
     let call = match read_call(bits, calls) {
@@ -75,7 +75,7 @@ fn read_chosen(
         (run_chosen (run_value reader.entry.code.now reader.entry.levels) (chosen_of call)
         progress.old.skipped progress.old.left (bits_left bits.old))
         e (bits_left bits.new)) }
-    ensures went { IfOk result (λ v. Went progress.old (bits_left bits.old) progress.new (bits_left bits.new)) }
+    ensures advanced { IfOk result (λ v. Advanced progress.old (bits_left bits.old) progress.new (bits_left bits.new)) }
 {
     let part = Reader {
         id: call.ty,
@@ -99,7 +99,7 @@ fn alternative(alloc: Global, number: usize, value: Value) -> Result<Value, Stop
     ensures ok { IfOk result (λ v. abstract v ≡ alternative' number (abstract value)) }
     ensures err { IfErr result (λ e. e ≡ Memory) }
 {
-    abstract_values();
+    lemma_abstract_values();
     match Box::new(alloc, value) {
         Ok(value) => Ok(Value::Alt(number, value)),
         Err(_) => Err(Stop::Memory),

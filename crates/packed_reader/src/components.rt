@@ -5,7 +5,7 @@ ghost use Rattle.asn_base.specs.Schemas.{components};
 ghost use Rattle.bits.specs.Left.{bits_left};
 ghost use Rattle.packed_encodings.specs.Computed.{kind_at};
 ghost use Rattle.packed_reader.specs.Structures.{no_row};
-ghost use Rattle.packed_reader.specs.proving.Code.{AreSent, HasRoom, IsGot, IsStop, Went, row_of_values};
+ghost use Rattle.packed_reader.specs.proving.Code.{AreSent, HasRoom, IsGot, IsStop, Advanced, row_of_values};
 ghost use Rattle.packed_reader.specs.proving.Running.{run_fields, run_member, run_members, run_present, run_structure};
 ghost use Rattle.packed_reader.specs.proving.Running.{run_value};
 ghost use Rattle.packed_writer.specs.proving.Values.{FieldFits, FieldsFit};
@@ -21,7 +21,7 @@ use crate::row::{empty_row, put};
 use crate::sent::Sent;
 use crate::stop::Stop;
 use crate::value::read_value;
-use asn_base::law::{abstract_values, levels_grow};
+use asn_base::law::{lemma_abstract_values, lemma_levels_grow};
 use asn_base::value::Value;
 use bits::cursor::Bits;
 use decode_faults::Refusal;
@@ -51,9 +51,9 @@ pub(crate) fn read_fields(
         reader.entry.id.index shape.entry.extensible shape.entry.count shape.entry.steps.now
         progress.old.skipped progress.old.left (bits_left bits.old))
         e (bits_left bits.new)) }
-    ensures went { IfOk result (λ v. Went progress.old (bits_left bits.old) progress.new (bits_left bits.new)) }
+    ensures advanced { IfOk result (λ v. Advanced progress.old (bits_left bits.old) progress.new (bits_left bits.new)) }
 {
-    abstract_values();
+    lemma_abstract_values();
     let components = components_of(reader.code.schema().core(reader.id));
     let mut row = match empty_row(reader.alloc, components.len()) {
         Ok(row) => row,
@@ -93,7 +93,7 @@ fn read_row(
         shape.entry.extensible shape.entry.count shape.entry.steps.now
         progress.old.skipped progress.old.left (bits_left bits.old))
         e (bits_left bits.new)) }
-    ensures went { OnOk result (Went progress.old (bits_left bits.old) progress.new (bits_left bits.new)) }
+    ensures advanced { OnOk result (Advanced progress.old (bits_left bits.old) progress.new (bits_left bits.new)) }
 {
     let more = match read_mark(shape.extensible, bits) {
         Ok(more) => more,
@@ -137,7 +137,7 @@ pub(crate) fn read_members(
         (components (kind_at reader.entry.code.now reader.entry.id.index)) sent.now (row_of_values row.old.items)
         progress.old.skipped progress.old.left (bits_left bits.old))
         e (bits_left bits.new)) }
-    ensures went { OnOk result (Went progress.old (bits_left bits.old) progress.new (bits_left bits.new)) }
+    ensures advanced { OnOk result (Advanced progress.old (bits_left bits.old) progress.new (bits_left bits.new)) }
     ensures places { length row.new.items ≡ length row.old.items }
 {
     for i in 0..sent.len() {
@@ -173,7 +173,7 @@ fn read_member(
         (components (kind_at reader.entry.code.now reader.entry.id.index)) sent (row_of_values row.old.items)
         progress.old.skipped progress.old.left (bits_left bits.old))
         e (bits_left bits.new)) }
-    ensures went { OnOk result (Went progress.old (bits_left bits.old) progress.new (bits_left bits.new)) }
+    ensures advanced { OnOk result (Advanced progress.old (bits_left bits.old) progress.new (bits_left bits.new)) }
     ensures places { length row.new.items ≡ length row.old.items }
 {
     if sent.present {
@@ -211,10 +211,10 @@ fn read_present(
         (components (kind_at reader.entry.code.now reader.entry.id.index)) field (row_of_values row.old.items)
         progress.old.skipped progress.old.left (bits_left bits.old))
         e (bits_left bits.new)) }
-    ensures went { OnOk result (Went progress.old (bits_left bits.old) progress.new (bits_left bits.new)) }
+    ensures advanced { OnOk result (Advanced progress.old (bits_left bits.old) progress.new (bits_left bits.new)) }
     ensures places { length row.new.items ≡ length row.old.items }
 {
-    levels_grow();
+    lemma_levels_grow();
     let start = *bits;
     let skipped = progress.skipped;
     let value = match read_value(

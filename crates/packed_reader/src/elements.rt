@@ -4,7 +4,7 @@ ghost use Rattle.asn_base.specs.Abstract.{abstract};
 ghost use Rattle.asn_base.specs.Schemas.{AreBounds, IsSize};
 ghost use Rattle.asn_base.specs.Seen.{constraint_of};
 ghost use Rattle.bits.specs.Left.{bits_left};
-ghost use Rattle.packed_reader.specs.proving.Code.{HasRoom, IsGot, IsLess, IsPart, IsStop, Went, gathered};
+ghost use Rattle.packed_reader.specs.proving.Code.{HasRoom, IsGot, IsLess, IsPart, IsStop, Advanced, gathered};
 ghost use Rattle.packed_reader.specs.proving.Running.{no_elements, run_each, run_element, run_elements, run_list};
 ghost use Rattle.packed_reader.specs.proving.Running.{run_parts, run_value};
 ghost use Rattle.packed_readings.specs.Counts.{size_fault};
@@ -17,7 +17,7 @@ use crate::reader::{Progress, Reader};
 use crate::stop::Stop;
 use crate::value::read_value;
 use asn_base::constraint::Constraint;
-use asn_base::law::abstract_values;
+use asn_base::law::lemma_abstract_values;
 use asn_base::schema::TypeId;
 use asn_base::value::Value;
 use bits::cursor::Bits;
@@ -47,9 +47,9 @@ pub(crate) fn read_each(
         (run_each reader.entry.code.now (run_value reader.entry.code.now reader.entry.levels) reader.entry.id.index
         sorted element.index progress.old.skipped progress.old.left (bits_left bits.old))
         e (bits_left bits.new)) }
-    ensures went { IfOk result (λ v. Went progress.old (bits_left bits.old) progress.new (bits_left bits.new)) }
+    ensures advanced { IfOk result (λ v. Advanced progress.old (bits_left bits.old) progress.new (bits_left bits.new)) }
 {
-    abstract_values();
+    lemma_abstract_values();
     let constraint = size_of(reader.code.schema(), reader.id);
     let mut list = Gathered::new(reader.alloc, bits);
     let listed = Listed { constraint, sorted };
@@ -97,7 +97,7 @@ fn read_list<'a>(
         (run_list (run_value reader.entry.code.now reader.entry.levels reader.entry.id.index) listed.entry.sorted
         (constraint_of listed.entry.constraint.now) progress.old.skipped progress.old.left (bits_left bits.old))
         e (bits_left bits.new)) }
-    ensures went { OnOk result (Went progress.old (bits_left bits.old) progress.new (bits_left bits.new)) }
+    ensures advanced { OnOk result (Advanced progress.old (bits_left bits.old) progress.new (bits_left bits.new)) }
 {
     count_laws();
     match read_size(listed.constraint, bits) {
@@ -142,7 +142,7 @@ fn read_parts<'a>(
         (size_fault (constraint_of size.entry.constraint.now) size.entry.outside) (suc progress.old.left) true
         (gathered list.old) progress.old.skipped progress.old.left (bits_left bits.old))
         e (bits_left bits.new)) }
-    ensures went { OnOk result (Went progress.old (bits_left bits.old) progress.new (bits_left bits.new)) }
+    ensures advanced { OnOk result (Advanced progress.old (bits_left bits.old) progress.new (bits_left bits.new)) }
 {
     let mut full = true;
     let mut more = true;
@@ -184,7 +184,7 @@ fn read_part<'a>(
         (size_fault (constraint_of fragment.entry.size.constraint.now) fragment.entry.size.outside) (suc f)
         fragment.entry.full (gathered list.old) progress.old.skipped progress.old.left (bits_left bits.old))
         e (bits_left bits.new)) }
-    ensures went { IfOk result (λ x. Went progress.old (bits_left bits.old) progress.new (bits_left bits.new)) }
+    ensures advanced { IfOk result (λ x. Advanced progress.old (bits_left bits.old) progress.new (bits_left bits.new)) }
     ensures fewer { IfOk result (λ x. IsLess x progress.new.left progress.old.left) }
 {
     let before = list.values.len() as u128;
@@ -236,7 +236,7 @@ fn read_elements<'a>(
         (run_elements (run_value reader.entry.code.now reader.entry.levels reader.entry.id.index) batch.sorted
         batch.count (gathered list.old) progress.old.skipped progress.old.left (bits_left bits.old))
         e (bits_left bits.new)) }
-    ensures went { OnOk result (Went progress.old (bits_left bits.old) progress.new (bits_left bits.new)) }
+    ensures advanced { OnOk result (Advanced progress.old (bits_left bits.old) progress.new (bits_left bits.new)) }
     ensures fewer { OnOk result (progress.new.left + batch.count ≤ progress.old.left) }
 {
     for _i in 0..batch.count {
@@ -269,7 +269,7 @@ fn read_element<'a>(
         (run_element (run_value reader.entry.code.now reader.entry.levels reader.entry.id.index) sorted
         (gathered list.old) progress.old.skipped progress.old.left (bits_left bits.old))
         e (bits_left bits.new)) }
-    ensures went { OnOk result (Went progress.old (bits_left bits.old) progress.new (bits_left bits.new)) }
+    ensures advanced { OnOk result (Advanced progress.old (bits_left bits.old) progress.new (bits_left bits.new)) }
     ensures fewer { OnOk result (progress.new.left < progress.old.left) }
 {
     let start = *bits;

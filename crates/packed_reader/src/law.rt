@@ -6,7 +6,7 @@ ghost use Rattle.asn_base.specs.Schemas.{IsSchema};
 ghost use Rattle.asn_base.specs.Typed.{IsValue};
 ghost use Rattle.asn_base.specs.Types.{Resolved};
 ghost use Rattle.bits.specs.Words.{octet_bits};
-ghost use Rattle.packed_encodings.specs.Packing.{Packed, Reads, Says, lenient};
+ghost use Rattle.packed_encodings.specs.Packing.{Packed, Reads, EncodesPer, lenient};
 ghost use Rattle.packed_encodings.specs.Padding.{Padded};
 ghost use Rattle.packed_encodings.specs.Weights.{weight};
 ghost use Rattle.packed_reader.specs.Readings.{Fault, IsExact};
@@ -75,7 +75,7 @@ pub fn message_laws_of_reading()
         → AllBelowBase 256 o
         → 1 ≤ length o
         → length o ≤ 16777216
-        → Says s lenient t w k x
+        → EncodesPer s lenient t w k x
         → IsValue s t w
         → weight w ≤ 16777216
         → octet_bits o ≡ x ++ p

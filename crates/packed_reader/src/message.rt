@@ -46,7 +46,7 @@ fn read_message(
         progress.old.skipped progress.old.left)
         (bits_left bits.old)) e (bits_left bits.new)) }
 {
-    reader.code.accepted();
+    reader.code.lemma_invariant();
     inside_laws();
     let all = bits.len();
     let value = match read_value(reader, progress, bits) {
@@ -86,7 +86,7 @@ fn decode(
     ensures err { IfErr result (IsRefusal (message_from code.now id.index octets.now)) }
     ensures limit { 16777216 < length octets.now → result ≡ Err MessageLimit }
 {
-    code.accepted();
+    code.lemma_invariant();
     step_laws();
     if octets.len() > MAX_MESSAGE {
         return Err(PerFault::MessageLimit);
@@ -146,7 +146,7 @@ pub fn read_uper(
     ensures err { IfErr result (IsRefusal (message_from code.now id.index octets.now)) }
     ensures truncated { BeginsMessage code.now id.index octets.now → MatchResult result (λ r. ⊥) IsTruncated }
 {
-    code.accepted();
+    code.lemma_invariant();
     are_octets(octets);
     message_laws_of_reading();
     decode(alloc, code, id, octets)

@@ -3,7 +3,7 @@
 ghost use Rattle.asn_base.specs.Seen.{kind_of};
 ghost use Rattle.asn_base.specs.Types.{Alternative, Resolved, a_choice};
 ghost use Rattle.packed_encodings.specs.Lengths.{Bits};
-ghost use Rattle.packed_code.specs.declared.step.PackedStep.TheVariants.{Mark};
+ghost use Rattle.packed_code.specs.declared.step.PackedStep.TheVariants.{ExtensionBit};
 ghost use Rattle.packed_reader.specs.proving.Plans.{IsNothing, PlanFits, run_plan};
 ghost use Rattle.packed_reader.specs.proving.Running.{RunsValue, run_steps};
 ghost use Rattle.packed_writer.specs.proving.Values.{StepsFit};
@@ -35,7 +35,7 @@ pub(crate) enum Plan<'a> {
 /// The plan of steps that begin with a mark.
 fn marked<'a>(steps: &'a [PackedStep]) -> Plan<'a>
     ensures is { (m : ℕ) (s : List Resolved) (l : ℕ) (value : RunsValue) (t k n : ℕ) (b : Bits)
-        → run_steps s l value t (Mark m ∷ steps.now) k n b ≡ run_plan s l value t result k n b }
+        → run_steps s l value t (ExtensionBit m ∷ steps.now) k n b ≡ run_plan s l value t result k n b }
     ensures fits { (s : List Resolved) (t : ℕ) → StepsFit s t steps.now → PlanFits s t result }
     ensures some { IsNothing result → ⊥ }
 {
@@ -60,7 +60,7 @@ pub(crate) fn plan_of<'a>(steps: &'a [PackedStep]) -> Plan<'a>
         return Plan::Nothing;
     };
     match step {
-        PackedStep::Mark(_) => marked(rest),
+        PackedStep::ExtensionBit(_) => marked(rest),
         PackedStep::Map(count) => Plan::Fields(Shape {
             extensible: false,
             count,

@@ -11,7 +11,7 @@ ghost use Rattle.bits.specs.Left.{bits_left};
 ghost use Rattle.packed_code.specs.Routines.{routine_at};
 ghost use Rattle.packed_encodings.specs.Computed.{kind_at};
 ghost use Rattle.packed_reader.specs.Structures.{open_from};
-ghost use Rattle.packed_reader.specs.proving.Code.{HasRoom, IsGot, IsStop, Went};
+ghost use Rattle.packed_reader.specs.proving.Code.{HasRoom, IsGot, IsStop, Advanced};
 ghost use Rattle.packed_reader.specs.proving.Running.{run_leaf, run_steps, run_value};
 ghost use Rattle.std.specs.Prelude.{◌≤◌, ◌<◌, IfErr, IfOk, length};
 
@@ -29,7 +29,7 @@ use bits::cursor::Bits;
 use decode_faults::Refusal;
 use packed_readings::law::leaf_laws;
 use packed_readings::{characters, read_leaf};
-use packed_writer::law::routines_fit;
+use packed_writer::law::lemma_routines_fit;
 
 /// A value of the type. `TooDeep`: no level is left for it. `NodesLimit`: no value may begin any more.
 #[cycle(reads)]
@@ -49,12 +49,12 @@ pub(crate) fn read_value(
         (run_value reader.entry.code.now reader.entry.levels reader.entry.id.index
         progress.old.skipped progress.old.left (bits_left bits.old))
         e (bits_left bits.new)) }
-    ensures went { IfOk result (λ v. Went progress.old (bits_left bits.old) progress.new (bits_left bits.new)) }
+    ensures advanced { IfOk result (λ v. Advanced progress.old (bits_left bits.old) progress.new (bits_left bits.new)) }
     ensures fewer { IfOk result (λ v. progress.new.left < progress.old.left) }
     ensures value { IfOk result (λ v.
         ValueIn reader.entry.code.now reader.entry.levels reader.entry.id.index (abstract v)) }
 {
-    reader.code.accepted();
+    reader.code.lemma_invariant();
     running_laws();
     step_laws();
     value_laws();
@@ -95,10 +95,10 @@ fn read_steps(
         reader.entry.id.index (routine_at reader.entry.code.now reader.entry.id.index)
         progress.old.skipped progress.old.left (bits_left bits.old))
         e (bits_left bits.new)) }
-    ensures went { IfOk result (λ v. Went progress.old (bits_left bits.old) progress.new (bits_left bits.new)) }
+    ensures advanced { IfOk result (λ v. Advanced progress.old (bits_left bits.old) progress.new (bits_left bits.new)) }
 {
-    reader.code.accepted();
-    routines_fit();
+    reader.code.lemma_invariant();
+    lemma_routines_fit();
     match plan_of(reader.code.steps(reader.id)) {
         Plan::Fields(shape) => read_fields(reader, progress, bits, shape),
         Plan::List(element, sorted) => read_each(reader, progress, bits, element, sorted),
@@ -124,7 +124,7 @@ fn read_contents(
         (run_leaf (kind_at reader.entry.code.now reader.entry.id.index)
         progress.old.skipped progress.old.left (bits_left bits.old))
         e (bits_left bits.new)) }
-    ensures went { IfOk result (λ v. Went progress.old (bits_left bits.old) progress.new (bits_left bits.new)) }
+    ensures advanced { IfOk result (λ v. Advanced progress.old (bits_left bits.old) progress.new (bits_left bits.new)) }
 {
     leaf_laws();
     let core = reader.code.schema().core(reader.id);
@@ -160,9 +160,9 @@ pub(crate) fn read_opened(
         progress.old.skipped progress.old.left)
         (bits_left bits.old))
         e (bits_left bits.new)) }
-    ensures went { IfOk result (λ v. Went progress.old (bits_left bits.old) progress.new (bits_left bits.new)) }
+    ensures advanced { IfOk result (λ v. Advanced progress.old (bits_left bits.old) progress.new (bits_left bits.new)) }
 {
-    reader.code.accepted();
+    reader.code.lemma_invariant();
     inside_laws();
     let start = *bits;
     let octets = match take_octets(reader.alloc, bits) {

@@ -23,7 +23,7 @@ use Rattle.packed_readings.specs.Counts.{Count, last, part, count_from, total, p
 use Rattle.packed_readings.specs.Leaves.{ends_in_zero}
 use Rattle.packed_readings.specs.Code.{GainedBits, IsBitStep}
 use Rattle.packed_readings.proofs.Fields.{block_found, block_short, block_full, bits_read, word_length, worth_word, worth_same}
-use Rattle.packed_readings.proofs.Counted.{step_last, step_part, told_shorter, IsSoFar, so_far_first, so_far_last, so_far_more, so_far_stops}
+use Rattle.packed_readings.proofs.Counted.{step_last, step_part, stated_shorter, IsSoFar, so_far_first, so_far_last, so_far_more, so_far_stops}
 use Rattle.packed_readings.proofs.Judging.{worth_append}
 
 octets_long : (o : List ℕ) → length (octet_bits o) ≡ 8 * length o
@@ -140,12 +140,12 @@ part_whole n u b r old new z g =
     (g.values, g.is, g.joined ∙ ap (λ q. octet_bits old ++ q) (ap (λ q. g.values ++ replicate q false) none ∙ append-nil g.values))
 
 module _ (test : ℕ → Option Refusal) (full : Bool) (old new : List ℕ) where
-  abbrev Told : Bits → Outcome Count
-  Told = judging (total test (length (octet_bits old))) (count_from full)
+  abbrev Stated : Bits → Outcome Count
+  Stated = judging (total test (length (octet_bits old))) (count_from full)
 
-  pub bit_step_last : (b m r : Bits) (n u : ℕ) → Told b ≡ found (last n) m → GainedBits (several_bits n m) old new u r → IsBitStep test full old new (nexts.Nothing u) b r
+  pub bit_step_last : (b m r : Bits) (n u : ℕ) → Stated b ≡ found (last n) m → GainedBits (several_bits n m) old new u r → IsBitStep test full old new (nexts.Nothing u) b r
   bit_step_last b m r n u e g =
-      let s = told_shorter test several_bits full (octet_bits old) b m (last n) e in
+      let s = stated_shorter test several_bits full (octet_bits old) b m (last n) e in
       let t = bits_shorter n m r g.values g.is in (
         g.values,
         λ k. step_last test several_bits full (octet_bits old) b m r n (octet_bits old ++ g.values) k e (record { values = g.values; is = g.is; joined = refl }),
@@ -154,10 +154,10 @@ module _ (test : ℕ → Option Refusal) (full : Bool) (old new : List ℕ) wher
         omega (arith, s, t),
       )
 
-  pub bit_step_part : (b m r : Bits) (n u : ℕ) → Told b ≡ found (part n) m → GainedBits (several_bits (16384 * n) m) old new u r → IsBitStep test full old new (nexts.More (n == 4)) b r
+  pub bit_step_part : (b m r : Bits) (n u : ℕ) → Stated b ≡ found (part n) m → GainedBits (several_bits (16384 * n) m) old new u r → IsBitStep test full old new (nexts.More (n == 4)) b r
   bit_step_part b m r n u e g =
       let p = part_whole (16384 * n) u m r old new (omega arith) g in
-      let s = told_shorter test several_bits full (octet_bits old) b m (part n) e in
+      let s = stated_shorter test several_bits full (octet_bits old) b m (part n) e in
       let t = bits_shorter (16384 * n) m r p.0 p.1 in (
         λ k. step_part test several_bits full (octet_bits old) b m r n (octet_bits new) k e (record { values = p.0; is = p.1; joined = p.2 }),
         omega (arith, s, t),

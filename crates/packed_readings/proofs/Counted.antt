@@ -10,7 +10,7 @@ use Rattle.packed_readings.specs.Outcome.{Outcome, found, stops, onward, Judged,
 use Rattle.packed_readings.specs.Composing.{found_rest, not_both}
 use Rattle.packed_readings.specs.declared.strings.Form.{Form}
 use Rattle.packed_readings.specs.declared.strings.Form.TheVariants as forms
-use Rattle.packed_readings.specs.Counts.{Count, last, part, ToldCount, told_count, canonical_count, count_from, IsCount, short_count, long_count, part_count, Several, total, items_of, parts_from, counted_from}
+use Rattle.packed_readings.specs.Counts.{Count, last, part, StatedCount, stated_count, canonical_count, count_from, IsCount, short_count, long_count, part_count, Several, total, items_of, parts_from, counted_from}
 use Rattle.packed_readings.specs.Code.{Gained, IsFew, IsStep, several_of}
 use Rattle.packed_readings.proofs.Fields.{octets_read, each}
 use Rattle.packed_readings.proofs.Items.{a_character}
@@ -37,46 +37,46 @@ shorter full b r c e =
     some (long_count k l) = omega arith
     some (part_count k l) = omega arith
 
-pub few_of_told : (full : Bool) (b r : Bits) (t : ToldCount) (c : Count) → told_count b ≡ found t r → canonical_count full t ≡ good c → IsFew c
-few_of_told full b r t c e f = few_count full b r c (ap (λ o. onward o (λ v r. verdict (canonical_count full v) b r)) e ∙ ap (λ k. verdict k b r) f)
+pub few_of_stated : (full : Bool) (b r : Bits) (t : StatedCount) (c : Count) → stated_count b ≡ found t r → canonical_count full t ≡ good c → IsFew c
+few_of_stated full b r t c e f = few_count full b r c (ap (λ o. onward o (λ v r. verdict (canonical_count full v) b r)) e ∙ ap (λ k. verdict k b r) f)
 
 -- ---- items of one number
 
 module _ {X : Type 0} (test : ℕ → Option Refusal) (items : Several X) (full : Bool) (before : List X) where
-  abbrev Told : Bits → Outcome Count
-  Told = judging (total test (length before)) (count_from full)
+  abbrev Stated : Bits → Outcome Count
+  Stated = judging (total test (length before)) (count_from full)
 
   abbrev Step : ℕ → Bits → Outcome (List X)
   Step k b = parts_from (suc k) test items full before b
 
-  pub step_last : (b m r : Bits) (n : ℕ) (after : List X) (k : ℕ) → Told b ≡ found (last n) m → Gained (items n m) before after r → Step k b ≡ found after r
+  pub step_last : (b m r : Bits) (n : ℕ) (after : List X) (k : ℕ) → Stated b ≡ found (last n) m → Gained (items n m) before after r → Step k b ≡ found after r
   step_last b m r n after k e g =
       ap (λ o. onward o (λ c r. items_of items before c r (λ f xs s. parts_from k test items f xs s))) e
       ∙ ap (λ o. onward o (λ xs s. found (before ++ xs) s)) g.is ∙ ap (λ q. found q r) (sym g.joined)
 
-  pub step_part : (b m r : Bits) (n : ℕ) (after : List X) (k : ℕ) → Told b ≡ found (part n) m → Gained (items (16384 * n) m) before after r → Step k b ≡ parts_from k test items (n == 4) after r
+  pub step_part : (b m r : Bits) (n : ℕ) (after : List X) (k : ℕ) → Stated b ≡ found (part n) m → Gained (items (16384 * n) m) before after r → Step k b ≡ parts_from k test items (n == 4) after r
   step_part b m r n after k e g =
       ap (λ o. onward o (λ c r. items_of items before c r (λ f xs s. parts_from k test items f xs s))) e
       ∙ ap (λ o. onward o (λ xs s. parts_from k test items (n == 4) (before ++ xs) s)) g.is
       ∙ ap (λ q. parts_from k test items (n == 4) q r) (sym g.joined)
 
-  pub stop_last : (b m r : Bits) (n : ℕ) (e : PackedFault) (k : ℕ) → Told b ≡ found (last n) m → IsFault (items n m) e r → IsFault (Step k b) e r
+  pub stop_last : (b m r : Bits) (n : ℕ) (e : PackedFault) (k : ℕ) → Stated b ≡ found (last n) m → IsFault (items n m) e r → IsFault (Step k b) e r
   stop_last b m r n faults.Memory k e d = tt
   stop_last b m r n (faults.Refused f) k e d =
       ap (λ o. onward o (λ c r. items_of items before c r (λ f xs s. parts_from k test items f xs s))) e
       ∙ ap (λ o. onward o (λ xs s. found (before ++ xs) s)) d
 
-  pub stop_part : (b m r : Bits) (n : ℕ) (e : PackedFault) (k : ℕ) → Told b ≡ found (part n) m → IsFault (items (16384 * n) m) e r → IsFault (Step k b) e r
+  pub stop_part : (b m r : Bits) (n : ℕ) (e : PackedFault) (k : ℕ) → Stated b ≡ found (part n) m → IsFault (items (16384 * n) m) e r → IsFault (Step k b) e r
   stop_part b m r n faults.Memory k e d = tt
   stop_part b m r n (faults.Refused f) k e d =
       ap (λ o. onward o (λ c r. items_of items before c r (λ f xs s. parts_from k test items f xs s))) e
       ∙ ap (λ o. onward o (λ xs s. parts_from k test items (n == 4) (before ++ xs) s)) d
 
-  pub stop_count : (b r : Bits) (e : Refusal) (k : ℕ) → Told b ≡ stops e r → Step k b ≡ stops e r
+  pub stop_count : (b r : Bits) (e : Refusal) (k : ℕ) → Stated b ≡ stops e r → Step k b ≡ stops e r
   stop_count b r e k d = ap (λ o. onward o (λ c r. items_of items before c r (λ f xs s. parts_from k test items f xs s))) d
 
-  pub told_shorter : (b m : Bits) (c : Count) → Told b ≡ found c m → length m < length b
-  told_shorter b m c e = by (count_from full b) refl e
+  pub stated_shorter : (b m : Bits) (c : Count) → Stated b ≡ found c m → length m < length b
+  stated_shorter b m c e = by (count_from full b) refl e
     where
       by : (o : Outcome Count) → count_from full b ≡ o → onward o (λ v r. verdict (total test (length before) v) b r) ≡ found c m → length m < length b
       by (found d s) f e = subst (λ q. length q < length b) (rest_is (total test (length before) d) e) (shorter full b s d f)
@@ -87,10 +87,10 @@ module _ {X : Type 0} (test : ℕ → Option Refusal) (items : Several X) (full 
       by (stops f s) g e = absurd (not_both e)
 
   -- the same if the number is known by an equation, and how many were before too
-  pub told_at : (d : ℕ) (b m : Bits) (c e : Count) → d ≡ length before → c ≡ e → judging (total test d) (count_from full) b ≡ found c m → Told b ≡ found e m
-  told_at d b m c e f g h = subst (λ q. judging (total test q) (count_from full) b ≡ found e m) f (subst (λ q. judging (total test d) (count_from full) b ≡ found q m) g h)
+  pub stated_at : (d : ℕ) (b m : Bits) (c e : Count) → d ≡ length before → c ≡ e → judging (total test d) (count_from full) b ≡ found c m → Stated b ≡ found e m
+  stated_at d b m c e f g h = subst (λ q. judging (total test q) (count_from full) b ≡ found e m) f (subst (λ q. judging (total test d) (count_from full) b ≡ found q m) g h)
 
-  pub stops_at : (d : ℕ) (b r : Bits) (e : Refusal) → d ≡ length before → judging (total test d) (count_from full) b ≡ stops e r → Told b ≡ stops e r
+  pub stops_at : (d : ℕ) (b r : Bits) (e : Refusal) → d ≡ length before → judging (total test d) (count_from full) b ≡ stops e r → Stated b ≡ stops e r
   stops_at d b r e f h = subst (λ q. judging (total test q) (count_from full) b ≡ stops e r) f h
 
 -- no more bits are left after items

@@ -9,10 +9,10 @@ use Rattle.asn_base.specs.Abstract.{AbstractValue, enumerated, text}
 use Rattle.asn_base.specs.Names.{IsMember, is_first, is_later}
 use Rattle.asn_base.specs.declared.strings.StringKind.{StringKind}
 use Rattle.asn_base.specs.Types.{Constraint, Item, an_enumerated, a_restricted_string}
-use Rattle.asn_base.specs.Typed.{IsWithinLimit, HasNumber, IsAllowedSize, Fits, fits_enumerated, fits_restricted}
+use Rattle.asn_base.specs.Typed.{IsWithinLimit, HasNumber, IsAllowedSize, IsPrimitive, fits_enumerated, fits_restricted}
 use Rattle.asn_base.specs.Schemas.{AreItems, AreBounds, IsSize}
 use Rattle.packed_encodings.specs.Lengths.{Bits, Items}
-use Rattle.packed_encodings.specs.Leaves.{place_width, place_bits, root_bit, root_item, added_item, CodesFit, Character, by_code, by_place, Characters, no_character, character, Leaf, of_enumerated, of_restricted}
+use Rattle.packed_encodings.specs.Leaves.{place_width, place_bits, root_bit, root_item, added_item, CodesFit, Character, by_code, by_place, Characters, no_character, character, LeafPer, of_enumerated, of_restricted}
 use Rattle.packed_encodings.specs.Computed.{codes_below}
 use Rattle.decode_faults.specs.declared.refusal.Refusal.{Refusal}
 use Rattle.decode_faults.specs.declared.refusal.Refusal.TheVariants as why
@@ -118,11 +118,11 @@ has_back [] js z h = h
 has_back (i ∷ is) js z h = inr (has_back is js z h)
 
 module _ (e : Bool) (root more : List Item) (items : AreItems e root more) where
-  root_fits : (w : AbstractValue) (i : ℕ) → ItemThere root w i → Fits (an_enumerated root e more) w
-  root_fits w i t = subst (Fits (an_enumerated root e more)) (sym t.value) (fits_enumerated (all_at InLimit root i t.item (all_front InLimit root more items.limits) t.is_there) (has_front root more t.item.number (has_number root i t.item t.is_there)))
+  root_fits : (w : AbstractValue) (i : ℕ) → ItemThere root w i → IsPrimitive (an_enumerated root e more) w
+  root_fits w i t = subst (IsPrimitive (an_enumerated root e more)) (sym t.value) (fits_enumerated (all_at InLimit root i t.item (all_front InLimit root more items.limits) t.is_there) (has_front root more t.item.number (has_number root i t.item t.is_there)))
 
-  more_fits : (w : AbstractValue) (i : ℕ) → ItemThere more w i → Fits (an_enumerated root e more) w
-  more_fits w i t = subst (Fits (an_enumerated root e more)) (sym t.value) (fits_enumerated (all_at InLimit more i t.item (all_back InLimit root more items.limits) t.is_there) (has_back root more t.item.number (has_number more i t.item t.is_there)))
+  more_fits : (w : AbstractValue) (i : ℕ) → ItemThere more w i → IsPrimitive (an_enumerated root e more) w
+  more_fits w i t = subst (IsPrimitive (an_enumerated root e more)) (sym t.value) (fits_enumerated (all_at InLimit more i t.item (all_back InLimit root more items.limits) t.is_there) (has_back root more t.item.number (has_number more i t.item t.is_there)))
 
   root_leaf : (w : AbstractValue) (b : Bits) → RootItem root w b → IsLeafOf (an_enumerated root e more) w (root_bit e ++ b)
   root_leaf w b r = record {
@@ -130,8 +130,8 @@ module _ (e : Bool) (root more : List Item) (items : AreItems e root more) where
     fits = root_fits w r.place r.at;
   }
     where
-      leaf_at : {v w : AbstractValue} {a b : Bits} → w ≡ v → b ≡ a → Leaf (an_enumerated root e more) v a → Leaf (an_enumerated root e more) w b
-      leaf_at {v} {w} {a} {b} f g l = subst (λ q. Leaf (an_enumerated root e more) q b) (sym f) (subst (Leaf (an_enumerated root e more) v) (sym g) l)
+      leaf_at : {v w : AbstractValue} {a b : Bits} → w ≡ v → b ≡ a → LeafPer (an_enumerated root e more) v a → LeafPer (an_enumerated root e more) w b
+      leaf_at {v} {w} {a} {b} f g l = subst (λ q. LeafPer (an_enumerated root e more) q b) (sym f) (subst (LeafPer (an_enumerated root e more) v) (sym g) l)
 
   abbrev AddedItem : AbstractValue → Bits → Type 0
   AddedItem = IsJudged IsSmall (item_at why.UnknownEnumeration more)
@@ -144,8 +144,8 @@ module _ (e : Bool) (root more : List Item) (items : AreItems e root more) where
         fits = more_fits w j.read t;
       }
     where
-      leaf_at : {v w : AbstractValue} {a b : Bits} → w ≡ v → b ≡ a → Leaf (an_enumerated root e more) v a → Leaf (an_enumerated root e more) w b
-      leaf_at {v} {w} {a} {b} f g l = subst (λ q. Leaf (an_enumerated root e more) q b) (sym f) (subst (Leaf (an_enumerated root e more) v) (sym g) l)
+      leaf_at : {v w : AbstractValue} {a b : Bits} → w ≡ v → b ≡ a → LeafPer (an_enumerated root e more) v a → LeafPer (an_enumerated root e more) w b
+      leaf_at {v} {w} {a} {b} f g l = subst (λ q. LeafPer (an_enumerated root e more) q b) (sym f) (subst (LeafPer (an_enumerated root e more) v) (sym g) l)
 
   record Rooted (w : AbstractValue) (b : Bits) : Type 0 where
     bits : Bits
@@ -158,7 +158,7 @@ module _ (e : Bool) (root more : List Item) (items : AreItems e root more) where
     is : AddedItem w bits
     whole : b ≡ true ∷ bits
 
-  taken : (w : AbstractValue) (b : Bits) → Leaf (an_enumerated root e more) w b → Rooted w b ⊎ Added w b
+  taken : (w : AbstractValue) (b : Bits) → LeafPer (an_enumerated root e more) w b → Rooted w b ⊎ Added w b
   taken w b (of_enumerated (root_item i x f n)) = inl (record {
     bits = place_bits (length root) i;
     is = record { place = i; at = record { item = x; is_there = f; value = ap enumerated (sym n) }; bits = refl };
@@ -171,25 +171,25 @@ module _ (e : Bool) (root more : List Item) (items : AreItems e root more) where
     whole = refl;
   })
 
-  abbrev Behind : Bool → AbstractValue → Bits → Type 0
-  Behind true = AddedItem
-  Behind false = RootItem root
+  abbrev Following : Bool → AbstractValue → Bits → Type 0
+  Following true = AddedItem
+  Following false = RootItem root
 
-  abbrev behind_from : Bool → Bits → Outcome AbstractValue
-  behind_from x r = if x then judging (item_at why.UnknownEnumeration more) (small_from why.UnknownEnumeration) r else root_item_from root r
+  abbrev outcome_from : Bool → Bits → Outcome AbstractValue
+  outcome_from x r = if x then judging (item_at why.UnknownEnumeration more) (small_from why.UnknownEnumeration) r else root_item_from root r
 
-  behind : (x : Bool) → IsReading (Behind x) (behind_from x)
-  behind true = judged (item_at why.UnknownEnumeration more) (small why.UnknownEnumeration)
-  behind false = root_items root
+  following : (x : Bool) → IsReading (Following x) (outcome_from x)
+  following true = judged (item_at why.UnknownEnumeration more) (small why.UnknownEnumeration)
+  following false = root_items root
 
-  marked_to : e ≡ true → (w : AbstractValue) (x : Bits) → Then IsBit Behind w x → IsLeafOf (an_enumerated root e more) w x
+  marked_to : e ≡ true → (w : AbstractValue) (x : Bits) → Then IsBit Following w x → IsLeafOf (an_enumerated root e more) w x
   marked_to f w x t = by t.first t.back (t.whole ∙ ap (λ q. q ++ t.back) t.is_first) t.is_next
     where
-      by : (b : Bool) (y : Bits) → x ≡ b ∷ y → Behind b w y → IsLeafOf (an_enumerated root e more) w x
+      by : (b : Bool) (y : Bits) → x ≡ b ∷ y → Following b w y → IsLeafOf (an_enumerated root e more) w x
       by true y g j = subst (IsLeafOf (an_enumerated root e more) w) (sym g) (added_leaf f w y j)
       by false y g r = subst (IsLeafOf (an_enumerated root e more) w) (ap (λ q. root_bit q ++ y) f ∙ sym g) (root_leaf w y r)
 
-  marked_from : e ≡ true → (w : AbstractValue) (x : Bits) → IsLeafOf (an_enumerated root e more) w x → Then IsBit Behind w x
+  marked_from : e ≡ true → (w : AbstractValue) (x : Bits) → IsLeafOf (an_enumerated root e more) w x → Then IsBit Following w x
   marked_from f w x l = ⊎_elim
       (λ t. record { first = false; front = false ∷ []; back = t.bits; is_first = refl; is_next = t.is; whole = t.whole ∙ ap (λ q. root_bit q ++ t.bits) f })
       (λ t. record { first = true; front = true ∷ []; back = t.bits; is_first = refl; is_next = t.is; whole = t.whole })
@@ -205,8 +205,8 @@ module _ (e : Bool) (root more : List Item) (items : AreItems e root more) where
       (taken w x l.leaf)
 
   pub enumerations : IsReading (IsLeafOf (an_enumerated root e more)) (item_from root e more)
-  enumerations = if_reading (IsLeafOf (an_enumerated root e more)) e (λ b. onward (bit_from b) behind_from) (root_item_from root)
-      (λ f. same (marked_to f) (marked_from f) (next bit behind))
+  enumerations = if_reading (IsLeafOf (an_enumerated root e more)) e (λ b. onward (bit_from b) outcome_from) (root_item_from root)
+      (λ f. same (marked_to f) (marked_from f) (next bit following))
       (λ f. same (plain_to f) (plain_from f) (root_items root))
 
 -- ---- characters
@@ -291,10 +291,10 @@ module _ (a : List ℕ) where
   abbrev by_codes : ℕ → Judged ℕ
   by_codes n = if is_code a n then good n else bad why.Outside
 
-  abbrev Told : ℕ → Bits → Type 0
-  Told = IsJudged (IsField (place_width (length a))) (character_of a)
+  abbrev Stated : ℕ → Bits → Type 0
+  Stated = IsJudged (IsField (place_width (length a))) (character_of a)
 
-  character_to : (c : ℕ) (b : Bits) → Told c b → Character a c b
+  character_to : (c : ℕ) (b : Bits) → Stated c b → Character a c b
   character_to c b j = by fit refl j.judged
     where
       by_member : (t : Bool) → is_code a j.read ≡ t → (if t then good j.read else bad why.Outside) ≡ good c → CodesFit a → Character a c b
@@ -305,7 +305,7 @@ module _ (a : List ℕ) where
       by true f e = by_member (is_code a j.read) refl e (fit_is (2 ^ place_width (length a)) a f)
       by false f e = subst (Character a c) (sym j.is_read.is) (by_place j.read (λ h. apart (sym (fit_true (2 ^ place_width (length a)) a h) ∙ f)) (there why.Outside a j.read c e))
 
-  character_from_bits : (c : ℕ) (b : Bits) → Character a c b → Told c b
+  character_from_bits : (c : ℕ) (b : Bits) → Character a c b → Stated c b
   character_from_bits c b (by_code h m) = record {
     read = c;
     is_read = record { fits = code_fits (2 ^ place_width (length a)) a h m; is = refl };
@@ -350,7 +350,7 @@ module _ (a : List ℕ) where
       is : w ≡ text codes
       sized : AreSized (Character a) c codes b
 
-    taken_text : {w : AbstractValue} {b : Bits} → Leaf (a_restricted_string k a c) w b → Fits (a_restricted_string k a c) w → Text w b
+    taken_text : {w : AbstractValue} {b : Bits} → LeafPer (a_restricted_string k a c) w b → IsPrimitive (a_restricted_string k a c) w → Text w b
     taken_text (of_restricted {o = o} {xs = xs} p s) (fits_restricted m z) = record {
       codes = o;
       is = refl;
@@ -365,8 +365,8 @@ module _ (a : List ℕ) where
             let s = j.is_read in
             let t = characters_of s.are in
             record {
-              leaf = subst (λ q. Leaf (a_restricted_string k a c) q x) (good_is j.judged) (of_restricted t.characters s.sized);
-              fits = subst (Fits (a_restricted_string k a c)) (good_is j.judged) (fits_restricted t.members (subst (IsAllowedSize c) (sym t.long) s.allowed));
+              leaf = subst (λ q. LeafPer (a_restricted_string k a c) q x) (good_is j.judged) (of_restricted t.characters s.sized);
+              fits = subst (IsPrimitive (a_restricted_string k a c)) (good_is j.judged) (fits_restricted t.members (subst (IsAllowedSize c) (sym t.long) s.allowed));
             }
 
         from : (w : AbstractValue) (x : Bits) → IsLeafOf (a_restricted_string k a c) w x → IsJudged (AreSized (Character a) c) (λ o. good (text o)) w x

@@ -78,27 +78,27 @@ pub first_known : (count w n : ℕ) (b r : Bits) → b ≡ word (count * w) n ++
 first_known count w n b r e = record { rest = r; is = e ∙ ap (λ q. word (q * w) n ++ r) (let k : count ≡ count - 0 = omega arith in k) }
 
 module _ (count i w n : ℕ) (b : Bits) (l : i < count) (s : Starts ((count - i) * w) n b) where
-  abbrev behind : ℕ
-  behind = (count - 1 - i) * w
+  abbrev following : ℕ
+  following = (count - 1 - i) * w
 
-  many : w + behind ≡ (count - i) * w
+  many : w + following ≡ (count - i) * w
   many =
       let e : (count - i) * w ≡ suc (count - 1 - i) * w = ap (λ q. q * w) (let k : count - i ≡ suc (count - 1 - i) = omega (arith, l) in k) in
       let m : suc (count - 1 - i) * w ≡ (count - 1 - i) * w + w = suc-mul (count - 1 - i) w in
       omega (arith, e, m)
 
-  whole : b ≡ word w (n / 2 ^ behind) ++ (word behind n ++ s.rest)
-  whole = s.is ∙ ap (λ q. q ++ s.rest) (word_split w behind ((count - i) * w) n many) ∙ append_assoc (word w (n / 2 ^ behind)) (word behind n) s.rest
+  whole : b ≡ word w (n / 2 ^ following) ++ (word following n ++ s.rest)
+  whole = s.is ∙ ap (λ q. q ++ s.rest) (word_split w following ((count - i) * w) n many) ∙ append_assoc (word w (n / 2 ^ following)) (word following n) s.rest
 
-  pub next_known : Starts w (n / 2 ^ behind) b
-  next_known = record { rest = word behind n ++ s.rest; is = whole }
+  pub next_known : Starts w (n / 2 ^ following) b
+  next_known = record { rest = word following n ++ s.rest; is = whole }
 
   pub later_known : (new : Bits) → new ≡ drop w b → Starts ((count - (i + 1)) * w) n new
   unfolding next_known
   later_known new d = record {
     rest = s.rest;
     is =
-        d ∙ after_it w (n / 2 ^ behind) b next_known
+        d ∙ after_it w (n / 2 ^ following) b next_known
         ∙ ap (λ q. word (q * w) n ++ s.rest) (let k : count - 1 - i ≡ count - (i + 1) = omega (arith, l) in k);
   }
 

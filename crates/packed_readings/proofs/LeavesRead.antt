@@ -9,11 +9,11 @@ use Rattle.bits.specs.Words.{word}
 use Rattle.asn_base.specs.Abstract.{AbstractValue, boolean, bits, octets, text, null}
 use Rattle.asn_base.specs.Names.{IsMember, is_first, is_later}
 use Rattle.asn_base.specs.Types.{Constraint, NamedBit, Kind, a_boolean, an_integer, an_enumerated, a_bit_string, a_named_bit_string, an_octet_string, a_null, an_object_identifier, a_relative_oid, a_utf8_string, a_restricted_string, a_sequence, a_set, a_sequence_of, a_set_of, a_choice, Resolved}
-use Rattle.asn_base.specs.Typed.{IsAllowedSize, Fits, fits_boolean, fits_bits, fits_named_bits, fits_octets, fits_null, fits_utf8}
+use Rattle.asn_base.specs.Typed.{IsAllowedSize, IsPrimitive, fits_boolean, fits_bits, fits_named_bits, fits_octets, fits_null, fits_utf8}
 use Rattle.asn_base.specs.Schemas.{AreBounds, IsSize, IsSound}
 use Rattle.encodings.specs.Contents.{EndsInOne}
 use Rattle.packed_encodings.specs.Lengths.{Bits, Counted, Sized, CountedOctets}
-use Rattle.packed_encodings.specs.Leaves.{singly, Leaf, of_boolean, of_bits, of_named_bits, of_octets, of_null, of_utf8}
+use Rattle.packed_encodings.specs.Leaves.{singly, LeafPer, of_boolean, of_bits, of_named_bits, of_octets, of_null, of_utf8}
 use Rattle.packed_readings.specs.declared.refusal.PackedFault.{PackedFault}
 use Rattle.packed_readings.specs.declared.refusal.PackedFault.TheVariants as packed_faults
 use Rattle.decode_faults.specs.declared.refusal.Refusal.TheVariants as why
@@ -41,7 +41,7 @@ record Truth (w : AbstractValue) (x : Bits) : Type 0 where
   is : w ≡ boolean truth
   bits_are : x ≡ truth ∷ []
 
-taken_boolean : {w : AbstractValue} {x : Bits} → Leaf a_boolean w x → Truth w x
+taken_boolean : {w : AbstractValue} {x : Bits} → LeafPer a_boolean w x → Truth w x
 taken_boolean (of_boolean {b = b}) = record { truth = b; is = refl; bits_are = refl }
 
 booleans : IsReading (IsLeafOf a_boolean) (judging (λ x. good (boolean x)) bit_from)
@@ -49,14 +49,14 @@ booleans = same to from (judged (λ x. good (boolean x)) bit)
   where
     to : (w : AbstractValue) (x : Bits) → IsJudged IsBit (λ x. good (boolean x)) w x → IsLeafOf a_boolean w x
     to w x j = record {
-      leaf = subst (λ q. Leaf a_boolean q x) (good_is j.judged) (subst (Leaf a_boolean (boolean j.read)) (sym j.is_read) of_boolean);
-      fits = subst (Fits a_boolean) (good_is j.judged) fits_boolean;
+      leaf = subst (λ q. LeafPer a_boolean q x) (good_is j.judged) (subst (LeafPer a_boolean (boolean j.read)) (sym j.is_read) of_boolean);
+      fits = subst (IsPrimitive a_boolean) (good_is j.judged) fits_boolean;
     }
 
     from : (w : AbstractValue) (x : Bits) → IsLeafOf a_boolean w x → IsJudged IsBit (λ x. good (boolean x)) w x
     from w x l = let t = taken_boolean l.leaf in record { read = t.truth; is_read = t.bits_are; judged = ap good (sym t.is) }
 
-taken_null : {w : AbstractValue} {x : Bits} → Leaf a_null w x → (w ≡ null) × (x ≡ [])
+taken_null : {w : AbstractValue} {x : Bits} → LeafPer a_null w x → (w ≡ null) × (x ≡ [])
 taken_null of_null = (refl, refl)
 
 nulls : IsReading (IsLeafOf a_null) (found null)
@@ -64,8 +64,8 @@ nulls = same to (λ w x l. taken_null l.leaf) (nothing null)
   where
     to : (w : AbstractValue) (x : Bits) → (w ≡ null) × (x ≡ []) → IsLeafOf a_null w x
     to w x p = record {
-      leaf = subst (λ q. Leaf a_null q x) (sym p.0) (subst (Leaf a_null null) (sym p.1) of_null);
-      fits = subst (Fits a_null) (sym p.0) fits_null;
+      leaf = subst (λ q. LeafPer a_null q x) (sym p.0) (subst (LeafPer a_null null) (sym p.1) of_null);
+      fits = subst (IsPrimitive a_null) (sym p.0) fits_null;
     }
 
 -- ---- BIT STRING
@@ -77,7 +77,7 @@ module _ (c : Constraint) (bounds : AreBounds IsSize c) where
     sized : Sized c.visible (singly string) x
     allowed : IsAllowedSize c (length string)
 
-  taken_bits : {w : AbstractValue} {x : Bits} → Leaf (a_bit_string c) w x → Fits (a_bit_string c) w → SizedBits w x
+  taken_bits : {w : AbstractValue} {x : Bits} → LeafPer (a_bit_string c) w x → IsPrimitive (a_bit_string c) w → SizedBits w x
   taken_bits (of_bits {v = v} s) (fits_bits a) = record { string = v; is = refl; sized = s; allowed = a }
 
   bit_strings : IsReading (IsLeafOf (a_bit_string c)) (judging (λ v. good (bits v)) (sized_from c several_bits))
@@ -88,8 +88,8 @@ module _ (c : Constraint) (bounds : AreBounds IsSize c) where
           let s = j.is_read in
           let e = singles s.are in
           record {
-            leaf = subst (λ q. Leaf (a_bit_string c) q x) (good_is j.judged) (of_bits (subst (λ q. Sized c.visible q x) e s.sized));
-            fits = subst (Fits (a_bit_string c)) (good_is j.judged) (fits_bits (subst (IsAllowedSize c) (ap length e ∙ single_length j.read) s.allowed));
+            leaf = subst (λ q. LeafPer (a_bit_string c) q x) (good_is j.judged) (of_bits (subst (λ q. Sized c.visible q x) e s.sized));
+            fits = subst (IsPrimitive (a_bit_string c)) (good_is j.judged) (fits_bits (subst (IsAllowedSize c) (ap length e ∙ single_length j.read) s.allowed));
           }
 
       from : (w : AbstractValue) (x : Bits) → IsLeafOf (a_bit_string c) w x → IsJudged (AreSized IsBit c) (λ v. good (bits v)) w x
@@ -154,7 +154,7 @@ module _ (ns : List NamedBit) where
     trimmed : EndsInOne string
     counted_are : Counted (singly string) x
 
-  taken_named : {w : AbstractValue} {x : Bits} → Leaf (a_named_bit_string ns) w x → NamedBits w x
+  taken_named : {w : AbstractValue} {x : Bits} → LeafPer (a_named_bit_string ns) w x → NamedBits w x
   taken_named (of_named_bits {v = v} e c) = record { string = v; is = refl; trimmed = e; counted_are = c }
 
   named_is : (v : Bits) (w : AbstractValue) → named_bits v ≡ good w → (w ≡ bits v) × EndsInOne v
@@ -178,8 +178,8 @@ module _ (ns : List NamedBit) where
       to w x j =
           let n = named_is j.read w j.judged in
           record {
-            leaf = subst (λ q. Leaf (a_named_bit_string ns) q x) (sym n.0) (of_named_bits n.1 (subst (λ q. Counted q x) (singles j.is_read.are) j.is_read.counted));
-            fits = subst (Fits (a_named_bit_string ns)) (sym n.0) fits_named_bits;
+            leaf = subst (λ q. LeafPer (a_named_bit_string ns) q x) (sym n.0) (of_named_bits n.1 (subst (λ q. Counted q x) (singles j.is_read.are) j.is_read.counted));
+            fits = subst (IsPrimitive (a_named_bit_string ns)) (sym n.0) fits_named_bits;
           }
 
       from : (w : AbstractValue) (x : Bits) → IsLeafOf (a_named_bit_string ns) w x → IsJudged (AreCounted IsBit any_total) named_bits w x
@@ -199,7 +199,7 @@ module _ (c : Constraint) (bounds : AreBounds IsSize c) where
     is : w ≡ octets string
     sized : AreSized IsOctet c string x
 
-  taken_octets : {w : AbstractValue} {x : Bits} → Leaf (an_octet_string c) w x → Fits (an_octet_string c) w → SizedOctets w x
+  taken_octets : {w : AbstractValue} {x : Bits} → LeafPer (an_octet_string c) w x → IsPrimitive (an_octet_string c) w → SizedOctets w x
   taken_octets (of_octets {o = o} b s) (fits_octets b' a) = record {
     string = o;
     is = refl;
@@ -214,8 +214,8 @@ module _ (c : Constraint) (bounds : AreBounds IsSize c) where
           let s = j.is_read in
           let a = octets_of_items s.are in
           record {
-            leaf = subst (λ q. Leaf (an_octet_string c) q x) (good_is j.judged) (of_octets a.below (subst (λ q. Sized c.visible q x) a.words s.sized));
-            fits = subst (Fits (an_octet_string c)) (good_is j.judged) (fits_octets a.below (subst (IsAllowedSize c) (ap length a.words ∙ length-map j.read (word 8)) s.allowed));
+            leaf = subst (λ q. LeafPer (an_octet_string c) q x) (good_is j.judged) (of_octets a.below (subst (λ q. Sized c.visible q x) a.words s.sized));
+            fits = subst (IsPrimitive (an_octet_string c)) (good_is j.judged) (fits_octets a.below (subst (IsAllowedSize c) (ap length a.words ∙ length-map j.read (word 8)) s.allowed));
           }
 
       from : (w : AbstractValue) (x : Bits) → IsLeafOf (an_octet_string c) w x → IsJudged (AreSized IsOctet c) (λ o. good (octets o)) w x
@@ -231,7 +231,7 @@ module _ (c : Constraint) where
     utf8 : IsUtf8 string
     allowed : IsAllowedSize c (length (chars string))
 
-  taken_utf8 : {w : AbstractValue} {x : Bits} → Leaf (a_utf8_string c) w x → Fits (a_utf8_string c) w → Utf8 w x
+  taken_utf8 : {w : AbstractValue} {x : Bits} → LeafPer (a_utf8_string c) w x → IsPrimitive (a_utf8_string c) w → Utf8 w x
   taken_utf8 (of_utf8 {o = o} d) (fits_utf8 u a) = record { string = o; is = refl; counted_are = d; utf8 = u; allowed = a }
 
   utf8_at : (w : AbstractValue) (x : Bits) (o : List ℕ) → CountedOctets o x → utf8_text c o ≡ good w → Utf8 w x
@@ -253,8 +253,8 @@ module _ (c : Constraint) where
       to w x j =
           let t = utf8_at w x j.read j.is_read j.judged in
           record {
-            leaf = subst (λ q. Leaf (a_utf8_string c) q x) (sym t.is) (of_utf8 t.counted_are);
-            fits = subst (Fits (a_utf8_string c)) (sym t.is) (fits_utf8 t.utf8 t.allowed);
+            leaf = subst (λ q. LeafPer (a_utf8_string c) q x) (sym t.is) (of_utf8 t.counted_are);
+            fits = subst (IsPrimitive (a_utf8_string c)) (sym t.is) (fits_utf8 t.utf8 t.allowed);
           }
 
       from : (w : AbstractValue) (x : Bits) → IsLeafOf (a_utf8_string c) w x → IsJudged CountedOctets (utf8_text c) w x
@@ -262,7 +262,7 @@ module _ (c : Constraint) where
 
 -- ---- all kinds
 
-none : (k : Kind) → ((w : AbstractValue) (x : Bits) → Leaf k w x → ⊥) → IsReading (IsLeafOf k) (stops why.Outside)
+none : (k : Kind) → ((w : AbstractValue) (x : Bits) → LeafPer k w x → ⊥) → IsReading (IsLeafOf k) (stops why.Outside)
 none k h = record {
   sound = λ b r v e. absurd (not_both e);
   whole = λ v x r l. absurd (h v x l.leaf);

@@ -14,7 +14,6 @@ mod Searched
 mod Steps
 mod Counted
 mod Judging
-mod Adding
 mod BitsRead
 mod Light
 mod Known

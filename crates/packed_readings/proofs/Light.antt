@@ -14,7 +14,7 @@ use Rattle.packed_readings.specs.Outcome.{Outcome, found, stops, onward, Judged,
 use Rattle.packed_readings.specs.Composing.{judged, same}
 use Rattle.packed_readings.specs.Counts.{Count, last, part, count_from, total, counted_from, at_once, counted, size_from, size_fault, after_size, sized_from}
 use Rattle.packed_readings.specs.declared.refusal.PackedFault.TheVariants as faults
-use Rattle.packed_readings.proofs.Counted.{IsSoFar, so_far_first, so_far_last, so_far_more, so_far_stops, step_last, step_part, stop_count, told_at, stops_at, told_shorter}
+use Rattle.packed_readings.proofs.Counted.{IsSoFar, so_far_first, so_far_last, so_far_more, so_far_stops, step_last, step_part, stop_count, stated_at, stops_at, stated_shorter}
 use Rattle.packed_readings.specs.Code.{Gained, IsFew}
 use Rattle.packed_readings.specs.Leaves.{at_place, is_code, character_of, character_from, leaf_from, light_leaf, leaf_within, IsLeafOf, IsLeafWithin}
 
@@ -98,18 +98,18 @@ module _ (test : ℕ → Option Refusal) (start : Bits) where
 
   module _ (more full : Bool) (n : ℕ) (b r : Bits) (yes : more ≡ true) (known : AreFree test start more full n b) where
     -- the next number
-    told : (x : ℕ) (c d : Count) → c ≡ d → judging (total test n) (count_from full) b ≡ found c r → judging (total test (length (replicate n x))) (count_from full) b ≡ found d r
-    told x c d e h = told_at test (each_from (character_from (x ∷ []))) full (replicate n x) n b r c d (sym (length-replicate n x)) e h
+    stated : (x : ℕ) (c d : Count) → c ≡ d → judging (total test n) (count_from full) b ≡ found c r → judging (total test (length (replicate n x))) (count_from full) b ≡ found d r
+    stated x c d e h = stated_at test (each_from (character_from (x ∷ []))) full (replicate n x) n b r c d (sym (length-replicate n x)) e h
 
-    pub told_less : (c : Count) → judging (total test n) (count_from full) b ≡ found c r → length r < length b
-    told_less c h = told_shorter test (each_from (character_from (0 ∷ []))) full (replicate n 0) b r c (told 0 c c refl h)
+    pub stated_less : (c : Count) → judging (total test n) (count_from full) b ≡ found c r → length r < length b
+    stated_less c h = stated_shorter test (each_from (character_from (0 ∷ []))) full (replicate n 0) b r c (stated 0 c c refl h)
 
     pub free_last : (c : Count) (m k : ℕ) → c ≡ last m → judging (total test n) (count_from full) b ≡ found c r → IsFew c → k ≡ n + m → AreFree test start false full k r
     free_last c m k e h l s = record {
       so_far = λ x. (let items = each_from (character_from (x ∷ [])) in
           so_far_last test items (counted_from test items start) more full (replicate n x) (replicate k x) b r yes (known.so_far x)
-          (λ j. step_last test items full (replicate n x) b r r m (replicate k x) j (told x c (last m) e h) (free_gained x n m k r s)));
-      few = (let t = told_less c h in let f = known.few in let z : k + 65536 * length r ≤ 65536 * length start = (let m' : m < 16384 = subst IsFew e l in omega (arith, t, f, m', s)) in z);
+          (λ j. step_last test items full (replicate n x) b r r m (replicate k x) j (stated x c (last m) e h) (free_gained x n m k r s)));
+      few = (let t = stated_less c h in let f = known.few in let z : k + 65536 * length r ≤ 65536 * length start = (let m' : m < 16384 = subst IsFew e l in omega (arith, t, f, m', s)) in z);
       short = known.short;
     }
 
@@ -117,8 +117,8 @@ module _ (test : ℕ → Option Refusal) (start : Bits) where
     free_part c m k e h l s = record {
       so_far = λ x. (let items = each_from (character_from (x ∷ [])) in
           so_far_more test items (counted_from test items start) more full (m == 4) (replicate n x) (replicate k x) b r yes (known.so_far x)
-          (λ j. step_part test items full (replicate n x) b r r m (replicate k x) j (told x c (part m) e h) (free_gained x n (16384 * m) k r s)) (told_less c h));
-      few = (let t = told_less c h in let f = known.few in let z : k + 65536 * length r ≤ 65536 * length start = (let m' : m ≤ 4 = subst IsFew e l in omega (arith, t, f, m', s)) in z);
+          (λ j. step_part test items full (replicate n x) b r r m (replicate k x) j (stated x c (part m) e h) (free_gained x n (16384 * m) k r s)) (stated_less c h));
+      few = (let t = stated_less c h in let f = known.few in let z : k + 65536 * length r ≤ 65536 * length start = (let m' : m ≤ 4 = subst IsFew e l in omega (arith, t, f, m', s)) in z);
       short = known.short;
     }
 

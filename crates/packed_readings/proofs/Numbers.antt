@@ -6,11 +6,11 @@ use Rattle.std.specs.Prelude.{nat_lt, nat_abs, if◌then◌else◌, ◌&&◌, Op
 use Rattle.bits.specs.Words.{word}
 use Rattle.asn_base.specs.Abstract.{AbstractValue, integer}
 use Rattle.asn_base.specs.Types.{Bounds, Constraint, an_integer}
-use Rattle.asn_base.specs.Typed.{IsAllowed, IsWithinLimit, Fits, fits_integer}
+use Rattle.asn_base.specs.Typed.{IsAllowed, IsWithinLimit, IsPrimitive, fits_integer}
 use Rattle.asn_base.specs.Schemas.{AreBounds, IsNumber}
-use Rattle.packed_encodings.specs.Lengths.{Bits, fewest_bits, IsInRoot, CountedOctets}
+use Rattle.packed_encodings.specs.Lengths.{Bits, fewest_bits, IsInRootBounds, CountedOctets}
 use Rattle.packed_encodings.specs.Numbers.{IntegerInRoot, between, from_least, unbounded, Integer, integer_bounded, integer_in_root, integer_outside}
-use Rattle.packed_encodings.specs.Leaves.{Leaf, of_integer}
+use Rattle.packed_encodings.specs.Leaves.{LeafPer, of_integer}
 use Rattle.packed_encodings.specs.Computed.{is_in_root}
 use Rattle.decode_faults.specs.declared.refusal.Refusal.TheVariants as why
 use Rattle.packed_readings.specs.Outcome.{Outcome, onward, Judged, good, bad, and_then, bit_from, field_from, IsBit, IsField, IsReading, Then, IsJudged, judging}
@@ -52,7 +52,7 @@ limit_is (negsuc n) e = ltb-true n (2 ^ 127) e
 record IsRootNumber (c : Constraint) (z : ℤ) (w : AbstractValue) : Type 0 where
   is : w ≡ integer z
   within : IsWithinLimit z
-  inside : IsInRoot c.visible z
+  inside : IsInRootBounds c.visible z
   allowed : IsAllowed c z
 
 root_number_is : (c : Constraint) (z : ℤ) (w : AbstractValue) → root_number c z ≡ good w → IsRootNumber c z w
@@ -65,7 +65,7 @@ root_number_is c z w e = by (is_within_limit z) refl (is_in_root c.visible z && 
     by true f false g e = absurd (not_good e)
     by false f b g e = absurd (not_good e)
 
-is_root_number : (c : Constraint) (z : ℤ) → IsWithinLimit z → IsInRoot c.visible z → IsAllowed c z → root_number c z ≡ good (integer z)
+is_root_number : (c : Constraint) (z : ℤ) → IsWithinLimit z → IsInRootBounds c.visible z → IsAllowed c z → root_number c z ≡ good (integer z)
 is_root_number c z l r a =
     if_true (is_within_limit z) (if is_in_root c.visible z && is_allowed c z then good (integer z) else bad why.Outside) (bad why.IntegerLimit) (limit_true z l)
     ∙ if_true (is_in_root c.visible z && is_allowed c z) (good (integer z)) (bad why.Outside) (both_true (is_in_root c.visible z) (is_allowed c z) (in_root_true c.visible z r) (allowed_true c z a))
@@ -73,7 +73,7 @@ is_root_number c z l r a =
 record IsOther (c : Constraint) (z : ℤ) (w : AbstractValue) : Type 0 where
   is : w ≡ integer z
   within : IsWithinLimit z
-  outside : IsInRoot c.visible z → ⊥
+  outside : IsInRootBounds c.visible z → ⊥
   allowed : IsAllowed c z
 
 other_number_is : (c : Constraint) (z : ℤ) (w : AbstractValue) → other_number c z ≡ good w → IsOther c z w
@@ -85,7 +85,7 @@ other_number_is c z w e = by (is_within_limit z) refl (is_in_root c.visible z) r
     by true f true g d h e = absurd (not_good e)
     by false f b g d h e = absurd (not_good e)
 
-is_other_number : (c : Constraint) (z : ℤ) → IsWithinLimit z → (IsInRoot c.visible z → ⊥) → IsAllowed c z → other_number c z ≡ good (integer z)
+is_other_number : (c : Constraint) (z : ℤ) → IsWithinLimit z → (IsInRootBounds c.visible z → ⊥) → IsAllowed c z → other_number c z ≡ good (integer z)
 is_other_number c z l r a =
     if_true (is_within_limit z) (if is_in_root c.visible z then bad why.NotCanonical else (if is_allowed c z then good (integer z) else bad why.Outside)) (bad why.IntegerLimit) (limit_true z l)
     ∙ if_false (is_in_root c.visible z) (bad why.NotCanonical) (if is_allowed c z then good (integer z) else bad why.Outside) (in_root_false c.visible z r)
@@ -119,13 +119,13 @@ some_same e = cc
 none_some : {A : Type 0} {x : A} → None ≡ Some x → ⊥
 none_some e = cc
 
-in_between : (v l : ℤ) (m n : ℕ) (z : Bounds) → z.least ≡ Some l → z.greatest ≡ Some (l +ℤ pos m) → n ≤ m → v ≡ l +ℤ pos n → IsInRoot z v
+in_between : (v l : ℤ) (m n : ℕ) (z : Bounds) → z.least ≡ Some l → z.greatest ≡ Some (l +ℤ pos m) → n ≤ m → v ≡ l +ℤ pos n → IsInRootBounds z v
 in_between v l m n z e f h g = (
   subst (λ q. IfSome q (λ l. l ≤ℤ v)) (sym e) (let k : l ≤ℤ v = omega (arith, ints, g) in k),
   subst (λ q. IfSome q (λ u. v ≤ℤ u)) (sym f) (let k : v ≤ℤ (l +ℤ pos m) = omega (arith, ints, g, h) in k),
 )
 
-pub is_in_the_root : {z : Bounds} {v : ℤ} {b : Bits} → IntegerInRoot z v b → IsInRoot z v
+pub is_in_the_root : {z : Bounds} {v : ℤ} {b : Bits} → IntegerInRoot z v b → IsInRootBounds z v
 is_in_the_root {z} {v} (between l m n e f h g) = in_between v l m n z e f h g
 is_in_the_root {z} {v} (from_least l n e f g u c) = (
   subst (λ q. IfSome q (λ l. l ≤ℤ v)) (sym e) (let k : l ≤ℤ v = omega (arith, ints, g) in k),
@@ -207,7 +207,7 @@ module _ (c : Constraint) (bounds : AreBounds IsNumber c) where
               is_read = d;
               judged =
                   of_both (unsigned_number o) (λ n. root_number c (l +ℤ pos n)) n w (is_unsigned o n s)
-                  (is_root_number c (l +ℤ pos n) (subst IsWithinLimit f i) (subst (IsInRoot c.visible) f (is_in_the_root {z = c.visible} (from_least k n lk gk g s d))) (subst (IsAllowed c) f a)
+                  (is_root_number c (l +ℤ pos n) (subst IsWithinLimit f i) (subst (IsInRootBounds c.visible) f (is_in_the_root {z = c.visible} (from_least k n lk gk g s d))) (subst (IsAllowed c) f a)
                   ∙ ap (λ q. good (integer q)) (sym f) ∙ ap good (sym e));
             }
         by v b e (unbounded lk h s d) i a = absurd (none_some (sym lk ∙ least))
@@ -250,21 +250,21 @@ module _ (c : Constraint) (bounds : AreBounds IsNumber c) where
   abbrev Outside : List ℕ → Judged AbstractValue
   Outside o = and_then (signed_number o) (other_number c)
 
-  abbrev Behind : Bool → AbstractValue → Bits → Type 0
-  Behind true = IsJudged CountedOctets Outside
-  Behind false = RootInteger c
+  abbrev Following : Bool → AbstractValue → Bits → Type 0
+  Following true = IsJudged CountedOctets Outside
+  Following false = RootInteger c
 
-  abbrev behind_from : Bool → Bits → Outcome AbstractValue
-  behind_from x r = if x then judging Outside octets_from r else root_integer_from c c.visible.least c.visible.greatest r
+  abbrev outcome_from : Bool → Bits → Outcome AbstractValue
+  outcome_from x r = if x then judging Outside octets_from r else root_integer_from c c.visible.least c.visible.greatest r
 
-  behind : (x : Bool) → IsReading (Behind x) (behind_from x)
-  behind true = judged Outside octets
-  behind false = root_reading c.visible.least c.visible.greatest refl refl
+  following : (x : Bool) → IsReading (Following x) (outcome_from x)
+  following true = judged Outside octets
+  following false = root_reading c.visible.least c.visible.greatest refl refl
 
   leaf_at : (w : AbstractValue) (v : ℤ) (b : Bits) → w ≡ integer v → Integer c.visible v b → IsWithinLimit v → IsAllowed c v → IsLeafOf (an_integer c) w b
   leaf_at w v b e p i a = record {
-    leaf = subst (λ q. Leaf (an_integer c) q b) (sym e) (of_integer p);
-    fits = subst (Fits (an_integer c)) (sym e) (fits_integer i a);
+    leaf = subst (λ q. LeafPer (an_integer c) q b) (sym e) (of_integer p);
+    fits = subst (IsPrimitive (an_integer c)) (sym e) (fits_integer i a);
   }
 
   record Taken (w : AbstractValue) (b : Bits) : Type 0 where
@@ -274,23 +274,23 @@ module _ (c : Constraint) (bounds : AreBounds IsNumber c) where
     within : IsWithinLimit number
     allowed : IsAllowed c number
 
-  taken : {w : AbstractValue} {b : Bits} → Leaf (an_integer c) w b → Fits (an_integer c) w → Taken w b
+  taken : {w : AbstractValue} {b : Bits} → LeafPer (an_integer c) w b → IsPrimitive (an_integer c) w → Taken w b
   taken (of_integer {z = v} p) (fits_integer i a) = record { number = v; is = refl; bits = p; within = i; allowed = a }
 
-  marked_to : c.visible.extensible ≡ true → (w : AbstractValue) (x : Bits) → Then IsBit Behind w x → IsLeafOf (an_integer c) w x
+  marked_to : c.visible.extensible ≡ true → (w : AbstractValue) (x : Bits) → Then IsBit Following w x → IsLeafOf (an_integer c) w x
   marked_to e w x t = by t.first t.back (t.whole ∙ ap (λ q. q ++ t.back) t.is_first) t.is_next
     where
-      by : (b : Bool) (y : Bits) → x ≡ b ∷ y → Behind b w y → IsLeafOf (an_integer c) w x
+      by : (b : Bool) (y : Bits) → x ≡ b ∷ y → Following b w y → IsLeafOf (an_integer c) w x
       by true y f j =
           let t = both_of (signed_number j.read) (other_number c) w j.judged in
           let r = other_number_is c t.value w t.is_second in
           leaf_at w t.value x r.is (subst (Integer c.visible t.value) (sym f) (integer_outside e r.outside (signed_is j.read t.value j.is_read.octets t.is_first) j.is_read)) r.within r.allowed
       by false y f r = leaf_at w r.number x r.is (subst (Integer c.visible r.number) (sym f) (integer_in_root e r.bits)) r.within r.allowed
 
-  marked_from : c.visible.extensible ≡ true → (w : AbstractValue) (x : Bits) → IsLeafOf (an_integer c) w x → Then IsBit Behind w x
+  marked_from : c.visible.extensible ≡ true → (w : AbstractValue) (x : Bits) → IsLeafOf (an_integer c) w x → Then IsBit Following w x
   marked_from e w x l = let t = taken l.leaf l.fits in by t.number x t.is t.bits t.within t.allowed
     where
-      by : (v : ℤ) (x : Bits) → w ≡ integer v → Integer c.visible v x → IsWithinLimit v → IsAllowed c v → Then IsBit Behind w x
+      by : (v : ℤ) (x : Bits) → w ≡ integer v → Integer c.visible v x → IsWithinLimit v → IsAllowed c v → Then IsBit Following w x
       by v x f (integer_bounded n p) i a = absurd (apart (sym e ∙ n))
       by v x f (integer_in_root {b = b} n p) i a = record {
         first = false;
@@ -321,6 +321,6 @@ module _ (c : Constraint) (bounds : AreBounds IsNumber c) where
       by v x f (integer_outside n r s d) i a = absurd (apart (sym n ∙ e))
 
   pub integers : IsReading (IsLeafOf (an_integer c)) (integer_from c)
-  integers = if_reading (IsLeafOf (an_integer c)) c.visible.extensible (λ b. onward (bit_from b) behind_from) (root_integer_from c c.visible.least c.visible.greatest)
-      (λ e. same (marked_to e) (marked_from e) (next bit behind))
+  integers = if_reading (IsLeafOf (an_integer c)) c.visible.extensible (λ b. onward (bit_from b) outcome_from) (root_integer_from c c.visible.least c.visible.greatest)
+      (λ e. same (marked_to e) (marked_from e) (next bit following))
       (λ e. same (plain_to e) (plain_from e) (root_reading c.visible.least c.visible.greatest refl refl))

@@ -9,63 +9,63 @@ use Rattle.decode_faults.specs.declared.refusal.Refusal.{Refusal}
 use Rattle.decode_faults.specs.declared.refusal.Refusal.TheVariants.{NotCanonical}
 use Rattle.packed_readings.specs.Outcome.{Outcome, found, onward, good, bad, bit_from, field_from, IsBit, IsField, IsReading, Then, IsJudged, judging}
 use Rattle.packed_readings.specs.Composing.{Sound, Inside, Grows, sound_of, inside_of, grows_of, next_sound, next_inside, next_grows, stops_why, stops_where, not_both, next, judged, same, same_sound}
-use Rattle.packed_readings.specs.Counts.{Count, last, part, ToldCount, in_7_bits, in_14_bits, in_parts, told_count, canonical_count, count_from, IsCount, short_count, long_count, part_count, InParts, last_items, part_items, EachHas, none_has, one_has, AreSeveral, AreCounted, Several, total, items_of, parts_from, counted_from}
+use Rattle.packed_readings.specs.Counts.{Count, last, part, StatedCount, in_7_bits, in_14_bits, in_parts, stated_count, canonical_count, count_from, IsCount, short_count, long_count, part_count, InParts, last_items, part_items, EachHas, none_has, one_has, AreSeveral, AreCounted, Several, total, items_of, parts_from, counted_from}
 use Rattle.packed_readings.proofs.Fields.{if_true, if_false, bit, field, nothing}
 
 -- ---- one number
 
 -- the form of a number, by its first two bits
-data IsTold : ToldCount → Bits → Type 0 where
-  told_7 : {n : ℕ} → n < 128 → IsTold (in_7_bits n) (false ∷ word 7 n)
-  told_14 : {n : ℕ} → n < 16384 → IsTold (in_14_bits n) (true ∷ (false ∷ word 14 n))
-  told_parts : {n : ℕ} → n < 64 → IsTold (in_parts n) (true ∷ (true ∷ word 6 n))
+data IsTold : StatedCount → Bits → Type 0 where
+  stated_7 : {n : ℕ} → n < 128 → IsTold (in_7_bits n) (false ∷ word 7 n)
+  stated_14 : {n : ℕ} → n < 16384 → IsTold (in_14_bits n) (true ∷ (false ∷ word 14 n))
+  stated_parts : {n : ℕ} → n < 64 → IsTold (in_parts n) (true ∷ (true ∷ word 6 n))
 
-abbrev Numbered : ℕ → (ℕ → ToldCount) → ToldCount → Bits → Type 0
+abbrev Numbered : ℕ → (ℕ → StatedCount) → StatedCount → Bits → Type 0
 Numbered k to = Then (IsField k) (λ n w x. (w ≡ to n) × (x ≡ []))
 
-numbered : (k : ℕ) (to : ℕ → ToldCount) → IsReading (Numbered k to) (λ b. onward (field_from k b) (λ n r. found (to n) r))
+numbered : (k : ℕ) (to : ℕ → StatedCount) → IsReading (Numbered k to) (λ b. onward (field_from k b) (λ n r. found (to n) r))
 numbered k to = next (field k) (λ n. nothing (to n))
 
-abbrev Second : Bool → ToldCount → Bits → Type 0
+abbrev Second : Bool → StatedCount → Bits → Type 0
 Second true = Numbered 6 in_parts
 Second false = Numbered 14 in_14_bits
 
-abbrev second_from : Bool → Bits → Outcome ToldCount
+abbrev second_from : Bool → Bits → Outcome StatedCount
 second_from y s = if y then onward (field_from 6 s) (λ n t. found (in_parts n) t) else onward (field_from 14 s) (λ n t. found (in_14_bits n) t)
 
 second : (y : Bool) → IsReading (Second y) (second_from y)
 second true = numbered 6 in_parts
 second false = numbered 14 in_14_bits
 
-abbrev First : Bool → ToldCount → Bits → Type 0
+abbrev First : Bool → StatedCount → Bits → Type 0
 First true = Then IsBit Second
 First false = Numbered 7 in_7_bits
 
-abbrev first_from : Bool → Bits → Outcome ToldCount
+abbrev first_from : Bool → Bits → Outcome StatedCount
 first_from x r = if x then onward (bit_from r) (λ y s. second_from y s) else onward (field_from 7 r) (λ n s. found (in_7_bits n) s)
 
 first : (x : Bool) → IsReading (First x) (first_from x)
 first true = next bit second
 first false = numbered 7 in_7_bits
 
-told_at : {t u : ToldCount} {x y : Bits} → t ≡ u → x ≡ y → IsTold t x → IsTold u y
-told_at {t} {u} {x} {y} e f p = subst (λ q. IsTold u q) f (subst (λ q. IsTold q x) e p)
+stated_at : {t u : StatedCount} {x y : Bits} → t ≡ u → x ≡ y → IsTold t x → IsTold u y
+stated_at {t} {u} {x} {y} e f p = subst (λ q. IsTold u q) f (subst (λ q. IsTold q x) e p)
 
-number_bits : (k : ℕ) (to : ℕ → ToldCount) (w : ToldCount) (x : Bits) (t : Numbered k to w x) → x ≡ word k t.first
+number_bits : (k : ℕ) (to : ℕ → StatedCount) (w : StatedCount) (x : Bits) (t : Numbered k to w x) → x ≡ word k t.first
 number_bits k to w x t = t.whole ∙ ap (λ q. t.front ++ q) t.is_next.1 ∙ append-nil t.front ∙ t.is_first.is
 
-to_told : (w : ToldCount) (z : Bits) → Then IsBit First w z → IsTold w z
-to_told w z t = by t.first t.back (t.whole ∙ ap (λ q. q ++ t.back) t.is_first) t.is_next
+to_stated : (w : StatedCount) (z : Bits) → Then IsBit First w z → IsTold w z
+to_stated w z t = by t.first t.back (t.whole ∙ ap (λ q. q ++ t.back) t.is_first) t.is_next
   where
     by_second : (y : Bool) (x : Bits) → z ≡ true ∷ (y ∷ x) → Second y w x → IsTold w z
-    by_second true x e t = told_at (sym t.is_next.0) (ap (λ q. true ∷ (true ∷ q)) (sym (number_bits 6 in_parts w x t)) ∙ sym e) (told_parts t.is_first.fits)
-    by_second false x e t = told_at (sym t.is_next.0) (ap (λ q. true ∷ (false ∷ q)) (sym (number_bits 14 in_14_bits w x t)) ∙ sym e) (told_14 t.is_first.fits)
+    by_second true x e t = stated_at (sym t.is_next.0) (ap (λ q. true ∷ (true ∷ q)) (sym (number_bits 6 in_parts w x t)) ∙ sym e) (stated_parts t.is_first.fits)
+    by_second false x e t = stated_at (sym t.is_next.0) (ap (λ q. true ∷ (false ∷ q)) (sym (number_bits 14 in_14_bits w x t)) ∙ sym e) (stated_14 t.is_first.fits)
 
     by : (x : Bool) (y : Bits) → z ≡ x ∷ y → First x w y → IsTold w z
     by true y e t = by_second t.first t.back (e ∙ ap (λ q. true ∷ q) (t.whole ∙ ap (λ q. q ++ t.back) t.is_first)) t.is_next
-    by false y e t = told_at (sym t.is_next.0) (ap (λ q. false ∷ q) (sym (number_bits 7 in_7_bits w y t)) ∙ sym e) (told_7 t.is_first.fits)
+    by false y e t = stated_at (sym t.is_next.0) (ap (λ q. false ∷ q) (sym (number_bits 7 in_7_bits w y t)) ∙ sym e) (stated_7 t.is_first.fits)
 
-a_number : (k : ℕ) (to : ℕ → ToldCount) (n : ℕ) → n < 2 ^ k → Numbered k to (to n) (word k n)
+a_number : (k : ℕ) (to : ℕ → StatedCount) (n : ℕ) → n < 2 ^ k → Numbered k to (to n) (word k n)
 a_number k to n l = record {
   first = n;
   front = word k n;
@@ -75,9 +75,9 @@ a_number k to n l = record {
   whole = sym (append-nil (word k n));
 }
 
-from_told : (w : ToldCount) (z : Bits) → IsTold w z → Then IsBit First w z
-from_told w z (told_7 {n = n} l) = record { first = false; front = false ∷ []; back = word 7 n; is_first = refl; is_next = a_number 7 in_7_bits n l; whole = refl }
-from_told w z (told_14 {n = n} l) = record {
+from_stated : (w : StatedCount) (z : Bits) → IsTold w z → Then IsBit First w z
+from_stated w z (stated_7 {n = n} l) = record { first = false; front = false ∷ []; back = word 7 n; is_first = refl; is_next = a_number 7 in_7_bits n l; whole = refl }
+from_stated w z (stated_14 {n = n} l) = record {
   first = true;
   front = true ∷ [];
   back = false ∷ word 14 n;
@@ -85,7 +85,7 @@ from_told w z (told_14 {n = n} l) = record {
   is_next = record { first = false; front = false ∷ []; back = word 14 n; is_first = refl; is_next = a_number 14 in_14_bits n l; whole = refl };
   whole = refl;
 }
-from_told w z (told_parts {n = n} l) = record {
+from_stated w z (stated_parts {n = n} l) = record {
   first = true;
   front = true ∷ [];
   back = true ∷ word 6 n;
@@ -94,8 +94,8 @@ from_told w z (told_parts {n = n} l) = record {
   whole = refl;
 }
 
-told : IsReading IsTold told_count
-told = same to_told from_told (next bit first)
+stated : IsReading IsTold stated_count
+stated = same to_stated from_stated (next bit first)
 
 not_good : {X : Type 0} {e : Refusal} {v : X} → bad e ≡ good v → ⊥
 not_good d = absurd (cc)
@@ -106,14 +106,14 @@ good_is d = cc
 count_at : {full : Bool} {c d : Count} {x : Bits} → c ≡ d → IsCount full c x → IsCount full d x
 count_at {full} {x = x} e p = subst (λ q. IsCount full q x) e p
 
-to_count : (full : Bool) {t : ToldCount} (c : Count) {x : Bits} → IsTold t x → canonical_count full t ≡ good c → IsCount full c x
-to_count full c (told_7 {n = n} l) d = count_at (good_is d) (short_count l)
-to_count full c (told_14 {n = n} l) d = ⊎_elim
+to_count : (full : Bool) {t : StatedCount} (c : Count) {x : Bits} → IsTold t x → canonical_count full t ≡ good c → IsCount full c x
+to_count full c (stated_7 {n = n} l) d = count_at (good_is d) (short_count l)
+to_count full c (stated_14 {n = n} l) d = ⊎_elim
     (λ h. absurd (not_good (sym (if_true (nat_lt n 128) (bad NotCanonical) (good (last n)) (lt-ltb n 128 h)) ∙ d)))
     (λ h. count_at (good_is (sym (if_false (nat_lt n 128) (bad NotCanonical) (good (last n)) (le-ltb n 128 h)) ∙ d)) (long_count h l))
     (cases_lt n 128)
-to_count false c (told_parts {n = n} l) d = absurd (not_good d)
-to_count true c (told_parts {n = n} l) d = ⊎_elim
+to_count false c (stated_parts {n = n} l) d = absurd (not_good d)
+to_count true c (stated_parts {n = n} l) d = ⊎_elim
     (λ h. absurd (not_good (sym (none (nat_lt 0 n) (nat_lt n 5) (inl (le-ltb 0 n h))) ∙ d)))
     (λ h. ⊎_elim
     (λ k. count_at (good_is (sym (some (nat_lt 0 n) (nat_lt n 5) (lt-ltb 0 n h) (lt-ltb n 5 k)) ∙ d)) (part_count h (omega (arith, k))))
@@ -130,20 +130,20 @@ to_count true c (told_parts {n = n} l) d = ⊎_elim
     some a b e f = if_true (a && b) (good (part n)) (bad NotCanonical) (ap (λ q. q && b) e ∙ f)
 
 from_count : (full : Bool) (c : Count) (x : Bits) → IsCount full c x → IsJudged IsTold (canonical_count full) c x
-from_count full c x (short_count {n = n} l) = record { read = in_7_bits n; is_read = told_7 l; judged = refl }
+from_count full c x (short_count {n = n} l) = record { read = in_7_bits n; is_read = stated_7 l; judged = refl }
 from_count full c x (long_count {n = n} h l) = record {
   read = in_14_bits n;
-  is_read = told_14 l;
+  is_read = stated_14 l;
   judged = if_false (nat_lt n 128) (bad NotCanonical) (good (last n)) (le-ltb n 128 h);
 }
 from_count full c x (part_count {m = m} h l) = record {
   read = in_parts m;
-  is_read = told_parts (omega (arith, l));
+  is_read = stated_parts (omega (arith, l));
   judged = if_true (nat_lt 0 m && nat_lt m 5) (good (part m)) (bad NotCanonical) (ap (λ q. q && nat_lt m 5) (lt-ltb 0 m h) ∙ lt-ltb m 5 (omega (arith, l)));
 }
 
 pub count : (full : Bool) → IsReading (IsCount full) (count_from full)
-count full = same (λ c x t. to_count full c t.is_read t.judged) (from_count full) (judged (canonical_count full) told)
+count full = same (λ c x t. to_count full c t.is_read t.judged) (from_count full) (judged (canonical_count full) stated)
 
 -- ---- the parts of what is counted
 

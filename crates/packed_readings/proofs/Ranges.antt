@@ -5,7 +5,7 @@ use Rattle.std.proofs.lemmas.Bool.{le-leb, leb-true, false_from_ne_true}
 use Rattle.std.specs.Prelude.{nat_abs, int_le, if◌then◌else◌, ◌&&◌, Option, Some, None, IfSome, ℤ, pos, negsuc, ◌+ℤ◌, ◌-ℤ◌, ◌<ℤ◌, ◌≤ℤ◌, ◌↔◌, IsTrue}
 use Rattle.asn_base.specs.Types.{Range, Bounds, Constraint}
 use Rattle.asn_base.specs.Typed.{IsInRange, IsInSome, IsAllowed}
-use Rattle.packed_encodings.specs.Lengths.{IsInRoot}
+use Rattle.packed_encodings.specs.Lengths.{IsInRootBounds}
 use Rattle.packed_encodings.specs.Computed.{is_from, is_to, is_in_root}
 use Rattle.packed_readings.specs.Counts.{is_in_range, is_in_some, is_allowed}
 use Rattle.packed_readings.specs.Outcome.{Outcome, IsReading}
@@ -72,13 +72,13 @@ pub true_both : (a b : Bool) → (a && b) ≡ true → (a ≡ true) × (b ≡ tr
 true_both true b e = (refl, e)
 true_both false b e = absurd (cc)
 
-pub in_root_true : (z : Bounds) (v : ℤ) → IsInRoot z v → is_in_root z v ≡ true
+pub in_root_true : (z : Bounds) (v : ℤ) → IsInRootBounds z v → is_in_root z v ≡ true
 in_root_true z v r = both_true (is_from z.least v) (is_to z.greatest v) (from_true z.least v r.0) (to_true z.greatest v r.1)
 
-pub in_root_is : (z : Bounds) (v : ℤ) → is_in_root z v ≡ true → IsInRoot z v
+pub in_root_is : (z : Bounds) (v : ℤ) → is_in_root z v ≡ true → IsInRootBounds z v
 in_root_is z v e = let p = true_both (is_from z.least v) (is_to z.greatest v) e in (from_is z.least v p.0, to_is z.greatest v p.1)
 
-pub in_root_false : (z : Bounds) (v : ℤ) → (IsInRoot z v → ⊥) → is_in_root z v ≡ false
+pub in_root_false : (z : Bounds) (v : ℤ) → (IsInRootBounds z v → ⊥) → is_in_root z v ≡ false
 in_root_false z v n = false_from_ne_true (is_in_root z v) (λ e. n (in_root_is z v e))
 
 range_true : (r : Range) (v : ℤ) → IsInRange v r → is_in_range v r ≡ true
@@ -133,7 +133,7 @@ one_truth true b f g = sym (f refl)
 one_truth false true f g = g refl
 one_truth false false f g = refl
 
-pub root_same : (b : Bool) (z : Bounds) (v : ℤ) → (IsTrue b ↔ IsInRoot z v) → b ≡ is_in_root z v
+pub root_same : (b : Bool) (z : Bounds) (v : ℤ) → (IsTrue b ↔ IsInRootBounds z v) → b ≡ is_in_root z v
 root_same b z v e = one_truth b (is_in_root z v) (λ t. in_root_true z v (e.0 t)) (λ t. e.1 (in_root_is z v t))
 
 pub allowed_same : (b : Bool) (c : Constraint) (v : ℤ) → (IsTrue b ↔ IsAllowed c v) → b ≡ is_allowed c v

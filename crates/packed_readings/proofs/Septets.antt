@@ -6,19 +6,19 @@ use Rattle.std.proofs.lemmas.Bool.{cases_lt, lt-ltb, le-ltb, ltb-true, ltb-false
 use Rattle.std.specs.Int.Digits.{digits_of, number_from_digits_after, AllBelowBase}
 use Rattle.std.proofs.lemmas.Int.Digits.{digits_of_step, all_below_base_digits_of, number_digits_of, number_push, first_digits_of}
 use Rattle.asn_base.specs.Abstract.{AbstractValue, oid, relative_oid}
-use Rattle.asn_base.specs.Typed.{IsObjectIdentifier, arcs, IsRelativeOid, Fits, fits_oid, fits_relative_oid}
+use Rattle.asn_base.specs.Typed.{IsObjectIdentifier, arcs, IsRelativeOid, IsPrimitive, fits_oid, fits_relative_oid}
 use Rattle.asn_base.specs.Types.{an_object_identifier, a_relative_oid}
 use Rattle.encodings.specs.Contents.{Contents, joined, of_oid as contents_oid, of_relative_oid as contents_relative}
 use Rattle.encodings.specs.Rules.{Basic}
 use Rattle.encodings.specs.declared.leaf_kind.LeafKind.TheVariants as kinds
-use Rattle.leaf_readings.specs.declared.fault.LeafFault.TheVariants as leaf_faults
-use Rattle.leaf_readings.specs.declared.leaf.Leaf.{Leaf as ReadLeaf}
-use Rattle.leaf_readings.specs.Leaves.{Reads}
-use Rattle.leaf_readings.specs.Refused.{Stands, without_form, oid_past, relative_past}
+use Rattle.primitive_reader.specs.declared.fault.LeafFault.TheVariants as leaf_faults
+use Rattle.primitive_reader.specs.declared.leaf.Leaf.{Leaf as ReadLeaf}
+use Rattle.primitive_reader.specs.Leaves.{ReadsContents}
+use Rattle.primitive_reader.specs.Refused.{IsRightFault, without_form, oid_past, relative_past}
 use Rattle.packed_readings.specs.Code.{judge_oid, judge_relative}
 use Rattle.encodings.specs.Header.{Octets, septets}
 use Rattle.packed_encodings.specs.Lengths.{Bits, CountedOctets}
-use Rattle.packed_encodings.specs.Leaves.{Leaf, of_oid, of_relative_oid}
+use Rattle.packed_encodings.specs.Leaves.{LeafPer, of_oid, of_relative_oid}
 use Rattle.decode_faults.specs.declared.refusal.Refusal.TheVariants as why
 use Rattle.packed_readings.specs.Outcome.{good, bad, found, onward, verdict, IsReading, IsJudged, judging}
 use Rattle.packed_readings.specs.Composing.{judged, same}
@@ -277,7 +277,7 @@ oid_of o ns w (arcs {x = x} {y = y} {zs = zs} a b c d f) e g =
     (both_true (are_below (2 ^ 64) zs) (nat_lt (length zs) 63) (below_true (2 ^ 64) zs d) (lt-ltb (length zs) 63 (omega (arith, f)))))
     ∙ ap (λ q. good (oid q)) (arcs_again x y zs a b) ∙ ap good (sym e)
 
-taken_oid : {w : AbstractValue} {b : Bits} → Leaf an_object_identifier w b → (o : Octets) × IsOid w o × CountedOctets o b
+taken_oid : {w : AbstractValue} {b : Bits} → LeafPer an_object_identifier w b → (o : Octets) × IsOid w o × CountedOctets o b
 taken_oid (of_oid {ns = ns} i c) = (flat_map septets (joined ns), record { numbers = ns; is = refl; identifier = i; contents = refl }, c)
 
 pub object_identifiers : IsReading (IsLeafOf an_object_identifier) (judging judge_oid octets_from)
@@ -287,8 +287,8 @@ object_identifiers = same to from (judged judge_oid octets)
     to w b j =
         let t = oid_at j.read w (arcs_after None j.read) (λ ns e. arcs_are j.read ns j.is_read.octets e) j.judged in
         record {
-          leaf = subst (λ q. Leaf an_object_identifier q b) (sym t.is) (of_oid t.identifier (subst (λ q. CountedOctets q b) t.contents j.is_read));
-          fits = subst (Fits an_object_identifier) (sym t.is) (fits_oid t.identifier);
+          leaf = subst (λ q. LeafPer an_object_identifier q b) (sym t.is) (of_oid t.identifier (subst (λ q. CountedOctets q b) t.contents j.is_read));
+          fits = subst (IsPrimitive an_object_identifier) (sym t.is) (fits_oid t.identifier);
         }
 
     from : (w : AbstractValue) (b : Bits) → IsLeafOf an_object_identifier w b → IsJudged CountedOctets judge_oid w b
@@ -332,7 +332,7 @@ relative_of o (n ∷ ns) w i e g =
     ∙ if_true (small_relative (n ∷ ns)) (good (relative_oid (n ∷ ns))) (bad why.OidLimit) (both_true (are_below (2 ^ 64) (n ∷ ns)) (nat_lt (length (n ∷ ns)) 65) (below_true (2 ^ 64) (n ∷ ns) i.small) (lt-ltb (length (n ∷ ns)) 65 (omega (arith, k))))
     ∙ ap good (sym e)
 
-taken_relative : {w : AbstractValue} {b : Bits} → Leaf a_relative_oid w b → (o : Octets) × IsRelative w o × CountedOctets o b
+taken_relative : {w : AbstractValue} {b : Bits} → LeafPer a_relative_oid w b → (o : Octets) × IsRelative w o × CountedOctets o b
 taken_relative (of_relative_oid {ns = ns} i c) = (flat_map septets ns, record { numbers = ns; is = refl; identifier = i; contents = refl }, c)
 
 pub relative_identifiers : IsReading (IsLeafOf a_relative_oid) (judging judge_relative octets_from)
@@ -342,8 +342,8 @@ relative_identifiers = same to from (judged judge_relative octets)
     to w b j =
         let t = relative_at j.read w (arcs_after None j.read) (λ ns e. arcs_are j.read ns j.is_read.octets e) j.judged in
         record {
-          leaf = subst (λ q. Leaf a_relative_oid q b) (sym t.is) (of_relative_oid t.identifier (subst (λ q. CountedOctets q b) t.contents j.is_read));
-          fits = subst (Fits a_relative_oid) (sym t.is) (fits_relative_oid t.identifier);
+          leaf = subst (λ q. LeafPer a_relative_oid q b) (sym t.is) (of_relative_oid t.identifier (subst (λ q. CountedOctets q b) t.contents j.is_read));
+          fits = subst (IsPrimitive a_relative_oid) (sym t.is) (fits_relative_oid t.identifier);
         }
 
     from : (w : AbstractValue) (b : Bits) → IsLeafOf a_relative_oid w b → IsJudged CountedOctets judge_relative w b
@@ -359,10 +359,10 @@ numbers_of (contents_oid {ns = ns} i) = (ns, i, refl)
 relative_numbers : {v : AbstractValue} {x : Octets} → Contents Basic a_relative_oid v false x → (ns : List ℕ) × IsRelativeOid ns × (x ≡ flat_map septets ns)
 relative_numbers (contents_relative {ns = ns} i) = (ns, i, refl)
 
-pub oid_there : (x : Octets) (l : ReadLeaf) → Reads kinds.ObjectIdentifier x l → (ns : List ℕ) × IsObjectIdentifier ns × (x ≡ flat_map septets (joined ns))
+pub oid_there : (x : Octets) (l : ReadLeaf) → ReadsContents kinds.ObjectIdentifier x l → (ns : List ℕ) × IsObjectIdentifier ns × (x ≡ flat_map septets (joined ns))
 oid_there x l r = numbers_of r.is_read.contents
 
-pub oid_outside : (x : Octets) → AllBelowBase 256 x → Stands leaf_faults.BadContents kinds.ObjectIdentifier x → judge_oid x ≡ bad why.Outside
+pub oid_outside : (x : Octets) → AllBelowBase 256 x → IsRightFault leaf_faults.BadContents kinds.ObjectIdentifier x → judge_oid x ≡ bad why.Outside
 oid_outside x b (without_form h) = by (arcs_after None x) refl
   where
     by : (o : Option (List ℕ)) → arcs_after None x ≡ o → object_identifier o ≡ bad why.Outside
@@ -373,7 +373,7 @@ oid_outside x b (without_form h) = by (arcs_after None x) refl
 some_arcs : (x : Octets) (ns : List ℕ) → x ≡ flat_map septets ns → arcs_after None x ≡ Some ns
 some_arcs x ns e = ap (arcs_after None) e ∙ are_arcs ns
 
-pub oid_limit : (x : Octets) → Stands leaf_faults.OidLimit kinds.ObjectIdentifier x → judge_oid x ≡ bad why.OidLimit
+pub oid_limit : (x : Octets) → IsRightFault leaf_faults.OidLimit kinds.ObjectIdentifier x → judge_oid x ≡ bad why.OidLimit
 oid_limit x (oid_past {ns = ns} a h) = ap object_identifier (some_arcs x ns a.whole) ∙ by ns a.some h
   where
     by : (ns : List ℕ) → 1 ≤ length ns → ((ms : List ℕ) → IsObjectIdentifier ms → joined ms ≡ ns → ⊥) → object_identifier (Some ns) ≡ bad why.OidLimit
@@ -389,13 +389,13 @@ oid_limit x (oid_past {ns = ns} a h) = ap object_identifier (some_arcs x ns a.wh
             absurd (h (two_arcs n ns) t.0 t.1)
         small false g = refl
 
-pub oid_never : (x : Octets) → Stands leaf_faults.IntegerLimit kinds.ObjectIdentifier x → ⊥
+pub oid_never : (x : Octets) → IsRightFault leaf_faults.IntegerLimit kinds.ObjectIdentifier x → ⊥
 oid_never x s = elim s [ ]
 
-pub relative_there : (x : Octets) (l : ReadLeaf) → Reads kinds.RelativeOid x l → (ns : List ℕ) × IsRelativeOid ns × (x ≡ flat_map septets ns)
+pub relative_there : (x : Octets) (l : ReadLeaf) → ReadsContents kinds.RelativeOid x l → (ns : List ℕ) × IsRelativeOid ns × (x ≡ flat_map septets ns)
 relative_there x l r = relative_numbers r.is_read.contents
 
-pub relative_outside : (x : Octets) → AllBelowBase 256 x → Stands leaf_faults.BadContents kinds.RelativeOid x → judge_relative x ≡ bad why.Outside
+pub relative_outside : (x : Octets) → AllBelowBase 256 x → IsRightFault leaf_faults.BadContents kinds.RelativeOid x → judge_relative x ≡ bad why.Outside
 relative_outside x b (without_form h) = by (arcs_after None x) refl
   where
     by : (o : Option (List ℕ)) → arcs_after None x ≡ o → relative_identifier o ≡ bad why.Outside
@@ -403,7 +403,7 @@ relative_outside x b (without_form h) = by (arcs_after None x) refl
     by (Some []) e = refl
     by (Some (n ∷ ns)) e = absurd (h (n ∷ ns, record { some = omega arith; whole = arcs_are x (n ∷ ns) b e }))
 
-pub relative_limit : (x : Octets) → Stands leaf_faults.OidLimit kinds.RelativeOid x → judge_relative x ≡ bad why.OidLimit
+pub relative_limit : (x : Octets) → IsRightFault leaf_faults.OidLimit kinds.RelativeOid x → judge_relative x ≡ bad why.OidLimit
 relative_limit x (relative_past {ns = ns} a h) = ap relative_identifier (some_arcs x ns a.whole) ∙ by ns a.some h
   where
     by : (ns : List ℕ) → 1 ≤ length ns → (IsRelativeOid ns → ⊥) → relative_identifier (Some ns) ≡ bad why.OidLimit
@@ -417,7 +417,7 @@ relative_limit x (relative_past {ns = ns} a h) = ap relative_identifier (some_ar
             absurd (h (record { some = omega arith; at_most = omega (arith, k); small = below_is (2 ^ 64) (n ∷ ns) p.0 }))
         small false g = refl
 
-pub relative_never : (x : Octets) → Stands leaf_faults.IntegerLimit kinds.RelativeOid x → ⊥
+pub relative_never : (x : Octets) → IsRightFault leaf_faults.IntegerLimit kinds.RelativeOid x → ⊥
 relative_never x s = elim s [ ]
 
 pub oid_answer : (b r : Bits) (o ns v : List ℕ) → octets_from b ≡ found o r → IsObjectIdentifier ns → o ≡ flat_map septets (joined ns) → v ≡ ns → judging judge_oid octets_from b ≡ found (oid v) r

@@ -8,14 +8,14 @@ use Rattle.bits.specs.Words.{word}
 use Rattle.asn_base.specs.Types.{Constraint}
 use Rattle.asn_base.specs.Typed.{IsInSome, IsAllowedSize}
 use Rattle.asn_base.specs.Schemas.{IsLeast, IsGreatest, AreBounds, IsSize}
-use Rattle.packed_encodings.specs.Lengths.{Bits, Items, all_bits, fewest_bits, Counted, IsInRoot, IsNarrow, CountedInRoot, narrow, wide, Sized, sized, sized_in_root, sized_outside}
+use Rattle.packed_encodings.specs.Lengths.{Bits, Items, all_bits, fewest_bits, Counted, IsInRootBounds, IsNarrow, CountedInRoot, narrow, wide, Sized, sized, sized_in_root, sized_outside}
 use Rattle.packed_encodings.specs.Leaves.{root_bit}
 use Rattle.packed_encodings.specs.Computed.{is_in_root}
 use Rattle.decode_faults.specs.declared.refusal.Refusal.{Refusal}
 use Rattle.decode_faults.specs.declared.refusal.Refusal.TheVariants.{NotCanonical, Outside}
 use Rattle.packed_readings.specs.Outcome.{Outcome, found, onward, Judged, good, bad, bit_from, field_from, IsBit, IsField, IsReading, Then, IsJudged, judging}
 use Rattle.packed_readings.specs.Composing.{next, judged, same}
-use Rattle.packed_readings.specs.Counts.{EachHas, AreSeveral, AreCounted, AreSized, Several, Sizing, at_once, counted as told_counted, size_of, root_size, size_from, size_fault, after_size, sized_from, is_allowed, IsSizing, narrow_size, wide_size, outside_size, InSize, items_at_once, items_in_parts}
+use Rattle.packed_readings.specs.Counts.{EachHas, AreSeveral, AreCounted, AreSized, Several, Sizing, at_once, counted as stated_counted, size_of, root_size, size_from, size_fault, after_size, sized_from, is_allowed, IsSizing, narrow_size, wide_size, outside_size, InSize, items_at_once, items_in_parts}
 use Rattle.packed_readings.proofs.Fields.{if_true, if_false, bit, field, nothing, fewest_fit}
 use Rattle.packed_readings.proofs.Parts.{to_parts, from_parts, counted}
 use Rattle.packed_readings.proofs.Ranges.{apart, if_reading, in_root_true, in_root_is, in_root_false, allowed_true, allowed_is}
@@ -67,19 +67,19 @@ data IsRootSizing (c : Constraint) : Sizing → Bits → Type 0 where
       → n ≤ m
       → IsAllowedSize c (l + n)
       → IsRootSizing c (at_once (l + n)) (word (fewest_bits m) n)
-  wide_root : (IsNarrow c.visible.greatest → ⊥) → IsRootSizing c (told_counted false) []
+  wide_root : (IsNarrow c.visible.greatest → ⊥) → IsRootSizing c (stated_counted false) []
 
 root_sizing_at : (c : Constraint) {y z : Sizing} {x w : Bits} → y ≡ z → x ≡ w → IsRootSizing c y x → IsRootSizing c z w
 root_sizing_at c {z = z} {x = x} e f p = subst (IsRootSizing c z) f (subst (λ q. IsRootSizing c q x) e p)
 
 module _ (c : Constraint) (bounds : AreBounds IsSize c) where
-  root_wide : (IsNarrow c.visible.greatest → ⊥) → IsReading (IsRootSizing c) (found (told_counted false))
-  root_wide n = same (λ z x p. root_sizing_at c (sym p.0) (sym p.1) (wide_root n)) from (nothing (told_counted false))
+  root_wide : (IsNarrow c.visible.greatest → ⊥) → IsReading (IsRootSizing c) (found (stated_counted false))
+  root_wide n = same (λ z x p. root_sizing_at c (sym p.0) (sym p.1) (wide_root n)) from (nothing (stated_counted false))
     where
       is_narrow : {o : Option ℤ} {u : ℕ} → o ≡ Some (pos u) → u < 65536 → IsNarrow o
       is_narrow e l = subst IsNarrow (sym e) l
 
-      from : (z : Sizing) (x : Bits) → IsRootSizing c z x → (z ≡ told_counted false) × (x ≡ [])
+      from : (z : Sizing) (x : Bits) → IsRootSizing c z x → (z ≡ stated_counted false) × (x ≡ [])
       from z x (narrow_root l m k e f g h a) = absurd (n (is_narrow f g))
       from z x (wide_root h) = (refl, refl)
 
@@ -128,22 +128,22 @@ module _ (c : Constraint) (bounds : AreBounds IsSize c) where
   root_reading (Some (negsuc l)) g e f = absurd (not_negative (sym e ∙ (size_least c bounds).1))
   root_reading (Some (pos l)) None e f = root_wide (λ n. subst IsNarrow f n)
   root_reading (Some (pos l)) (Some (negsuc u)) e f = root_wide (λ n. subst IsNarrow f n)
-  root_reading (Some (pos l)) (Some (pos u)) e f = if_reading (IsRootSizing c) (nat_lt u 65536) (judging (size_of c l (u - l)) (field_from (fewest_bits (u - l)))) (found (told_counted false))
+  root_reading (Some (pos l)) (Some (pos u)) e f = if_reading (IsRootSizing c) (nat_lt u 65536) (judging (size_of c l (u - l)) (field_from (fewest_bits (u - l)))) (found (stated_counted false))
       (λ t. root_narrow l u e f (ltb-true u 65536 t))
       (λ t. root_wide (λ n. (let h : u < 65536 = subst IsNarrow f n in let k = ltb-false u 65536 t in omega (arith, h, k))))
 
   -- ---- with the bit before
 
-  abbrev Behind : Bool → Sizing → Bits → Type 0
-  Behind true z x = (z ≡ told_counted true) × (x ≡ [])
-  Behind false z x = IsRootSizing c z x
+  abbrev Following : Bool → Sizing → Bits → Type 0
+  Following true z x = (z ≡ stated_counted true) × (x ≡ [])
+  Following false z x = IsRootSizing c z x
 
-  abbrev behind_from : Bool → Bits → Outcome Sizing
-  behind_from x r = if x then found (told_counted true) r else root_size c c.visible.least c.visible.greatest r
+  abbrev outcome_from : Bool → Bits → Outcome Sizing
+  outcome_from x r = if x then found (stated_counted true) r else root_size c c.visible.least c.visible.greatest r
 
-  behind : (x : Bool) → IsReading (Behind x) (behind_from x)
-  behind true = nothing (told_counted true)
-  behind false = root_reading c.visible.least c.visible.greatest refl refl
+  following : (x : Bool) → IsReading (Following x) (outcome_from x)
+  following true = nothing (stated_counted true)
+  following false = root_reading c.visible.least c.visible.greatest refl refl
 
   sizing_at : {y z : Sizing} {x w : Bits} → y ≡ z → x ≡ w → IsSizing c y x → IsSizing c z w
   sizing_at {z = z} {x = x} e f p = subst (IsSizing c z) f (subst (λ q. IsSizing c q x) e p)
@@ -157,7 +157,7 @@ module _ (c : Constraint) (bounds : AreBounds IsSize c) where
     is : IsRootSizing c z bits
     whole : y ≡ root_bit c.visible.extensible ++ bits
 
-  from_sizing : {z : Sizing} {y : Bits} → IsSizing c z y → FromSizing z y ⊎ ((c.visible.extensible ≡ true) × (z ≡ told_counted true) × (y ≡ true ∷ []))
+  from_sizing : {z : Sizing} {y : Bits} → IsSizing c z y → FromSizing z y ⊎ ((c.visible.extensible ≡ true) × (z ≡ stated_counted true) × (y ≡ true ∷ []))
   from_sizing (narrow_size l m n a b d g h) = inl (record { bits = word (fewest_bits m) n; is = narrow_root l m n a b d g h; whole = refl })
   from_sizing (wide_size n) = inl (record { bits = []; is = wide_root n; whole = sym (append-nil (root_bit c.visible.extensible)) })
   from_sizing (outside_size e) = inr (e, refl, refl)
@@ -168,41 +168,41 @@ module _ (c : Constraint) (bounds : AreBounds IsSize c) where
       (λ z x p. ⊎_elim (λ t. subst (IsRootSizing c z) (sym (t.whole ∙ ap (λ q. root_bit q ++ t.bits) e)) t.is) (λ t. absurd (apart (sym t.0 ∙ e))) (from_sizing p))
       (root_reading c.visible.least c.visible.greatest refl refl)
 
-  marked_to : c.visible.extensible ≡ true → (z : Sizing) (x : Bits) → Then IsBit Behind z x → IsSizing c z x
+  marked_to : c.visible.extensible ≡ true → (z : Sizing) (x : Bits) → Then IsBit Following z x → IsSizing c z x
   marked_to e z x t = by t.first t.back (t.whole ∙ ap (λ q. q ++ t.back) t.is_first) t.is_next
     where
-      by : (b : Bool) (y : Bits) → x ≡ b ∷ y → Behind b z y → IsSizing c z x
+      by : (b : Bool) (y : Bits) → x ≡ b ∷ y → Following b z y → IsSizing c z x
       by true y f p = sizing_at (sym p.0) (ap (λ q. true ∷ q) (sym p.1) ∙ sym f) (outside_size e)
       by false y f p = sizing_at refl (sym f) (to_sizing true e p)
 
-  marked_from : c.visible.extensible ≡ true → (z : Sizing) (x : Bits) → IsSizing c z x → Then IsBit Behind z x
+  marked_from : c.visible.extensible ≡ true → (z : Sizing) (x : Bits) → IsSizing c z x → Then IsBit Following z x
   marked_from e z x p = ⊎_elim
       (λ t. record { first = false; front = false ∷ []; back = t.bits; is_first = refl; is_next = t.is; whole = t.whole ∙ ap (λ q. root_bit q ++ t.bits) e })
       (λ t. record { first = true; front = true ∷ []; back = []; is_first = refl; is_next = (t.1, refl); whole = t.2 })
       (from_sizing p)
 
   pub size : IsReading (IsSizing c) (size_from c)
-  size = if_reading (IsSizing c) c.visible.extensible (λ b. onward (bit_from b) behind_from) (root_size c c.visible.least c.visible.greatest)
-      (λ e. same (marked_to e) (marked_from e) (next bit behind)) size_plain
+  size = if_reading (IsSizing c) c.visible.extensible (λ b. onward (bit_from b) outcome_from) (root_size c c.visible.least c.visible.greatest)
+      (λ e. same (marked_to e) (marked_from e) (next bit following)) size_plain
 
 -- ---- items
 
 none_is : {X : Type 0} {v : X} → Some v ≡ None → ⊥
 none_is e = cc
 
-fault_inside : (c : Constraint) (n : ℕ) → IsInRoot c.visible (pos n) → IsAllowedSize c n → size_fault c false n ≡ None
+fault_inside : (c : Constraint) (n : ℕ) → IsInRootBounds c.visible (pos n) → IsAllowedSize c n → size_fault c false n ≡ None
 fault_inside c n r a =
     if_true (is_in_root c.visible (pos n)) (if is_allowed c (pos n) then None else Some Outside) (if false && is_allowed c (pos n) then None else Some Outside) (in_root_true c.visible (pos n) r)
     ∙ if_true (is_allowed c (pos n)) None (Some Outside) (allowed_true c (pos n) a)
 
-fault_outside : (c : Constraint) (n : ℕ) → (IsInRoot c.visible (pos n) → ⊥) → IsAllowedSize c n → size_fault c true n ≡ None
+fault_outside : (c : Constraint) (n : ℕ) → (IsInRootBounds c.visible (pos n) → ⊥) → IsAllowedSize c n → size_fault c true n ≡ None
 fault_outside c n r a =
     if_false (is_in_root c.visible (pos n)) (Some NotCanonical) (if true && is_allowed c (pos n) then None else Some Outside) (in_root_false c.visible (pos n) r)
     ∙ if_true (is_allowed c (pos n)) None (Some Outside) (allowed_true c (pos n) a)
 
 abbrev IsTold : Constraint → ℕ → Bool → Type 0
-IsTold c n false = IsInRoot c.visible (pos n)
-IsTold c n true = IsInRoot c.visible (pos n) → ⊥
+IsTold c n false = IsInRootBounds c.visible (pos n)
+IsTold c n true = IsInRootBounds c.visible (pos n) → ⊥
 
 no_fault : (c : Constraint) (n : ℕ) (outside : Bool) → size_fault c outside n ≡ None → IsTold c n outside × IsAllowedSize c n
 no_fault c n outside e = by outside (is_in_root c.visible (pos n)) refl (is_allowed c (pos n)) refl e
@@ -246,45 +246,45 @@ at_once_of c xs z h (narrow_size l m n e f g k a) w =
     once e = cc
 at_once_of c xs z h (wide_size n) w = absurd (other w)
   where
-    other : {b : Bool} {n : ℕ} → told_counted b ≡ at_once n → ⊥
+    other : {b : Bool} {n : ℕ} → stated_counted b ≡ at_once n → ⊥
     other e = absurd (cc)
 at_once_of c xs z h (outside_size e) w = absurd (other w)
   where
-    other : {b : Bool} {n : ℕ} → told_counted b ≡ at_once n → ⊥
+    other : {b : Bool} {n : ℕ} → stated_counted b ≡ at_once n → ⊥
     other e = absurd (cc)
 
-in_parts_of : (c : Constraint) (xs : Items) (z : Sizing) (o : Bool) (h b : Bits) → IsSizing c z h → z ≡ told_counted o → size_fault c o (length xs) ≡ None → Counted xs b → IsOf c xs (h ++ b)
+in_parts_of : (c : Constraint) (xs : Items) (z : Sizing) (o : Bool) (h b : Bits) → IsSizing c z h → z ≡ stated_counted o → size_fault c o (length xs) ≡ None → Counted xs b → IsOf c xs (h ++ b)
 in_parts_of c xs z o h b (narrow_size l m n e f g k a) w p d = absurd (other w)
   where
-    other : {b : Bool} {n : ℕ} → at_once n ≡ told_counted b → ⊥
+    other : {b : Bool} {n : ℕ} → at_once n ≡ stated_counted b → ⊥
     other e = absurd (cc)
 in_parts_of c xs z o h b (wide_size n) w p d =
-    let q : size_fault c false (length xs) ≡ None = subst (λ q. size_fault c q (length xs) ≡ None) (sym (told w)) p in
+    let q : size_fault c false (length xs) ≡ None = subst (λ q. size_fault c q (length xs) ≡ None) (sym (stated w)) p in
     let f = no_fault c (length xs) false q in
     record { is_sized = root_sized c c.visible.extensible refl xs b (wide n f.0 d); is_allowed = f.1 }
   where
-    told : {a b : Bool} → told_counted a ≡ told_counted b → a ≡ b
-    told e = cc
+    stated : {a b : Bool} → stated_counted a ≡ stated_counted b → a ≡ b
+    stated e = cc
 in_parts_of c xs z o h b (outside_size e) w p d =
-    let q : size_fault c true (length xs) ≡ None = subst (λ q. size_fault c q (length xs) ≡ None) (sym (told w)) p in
+    let q : size_fault c true (length xs) ≡ None = subst (λ q. size_fault c q (length xs) ≡ None) (sym (stated w)) p in
     let f = no_fault c (length xs) true q in
     record { is_sized = sized_outside e f.0 d; is_allowed = f.1 }
   where
-    told : {a b : Bool} → told_counted a ≡ told_counted b → a ≡ b
-    told e = cc
+    stated : {a b : Bool} → stated_counted a ≡ stated_counted b → a ≡ b
+    stated e = cc
 
 pub of_size : (c : Constraint) {xs : Items} {b : Bits} → InSize c xs b → Sized c.visible xs b × IsAllowedSize c (length xs)
 of_size c (items_at_once {h = h} xs p) = let r = at_once_of c xs (at_once (length xs)) h p refl in (r.is_sized, r.is_allowed)
-of_size c (items_in_parts {outside = o} {h = h} {b = b} xs p f d) = let r = in_parts_of c xs (told_counted o) o h b p refl f (from_parts d) in (r.is_sized, r.is_allowed)
+of_size c (items_in_parts {outside = o} {h = h} {b = b} xs p f d) = let r = in_parts_of c xs (stated_counted o) o h b p refl f (from_parts d) in (r.is_sized, r.is_allowed)
 
 module _ {X : Type 0} {P : X → Bits → Type 0} (c : Constraint) (items : Several X) (F : (n : ℕ) → IsReading (AreSeveral P n) (items n)) where
   abbrev After : Sizing → List X → Bits → Type 0
   After (at_once n) = AreSeveral P n
-  After (told_counted o) = AreCounted P (size_fault c o)
+  After (stated_counted o) = AreCounted P (size_fault c o)
 
   after : (z : Sizing) → IsReading (After z) (after_size c items z)
   after (at_once n) = F n
-  after (told_counted o) = counted (size_fault c o) items F
+  after (stated_counted o) = counted (size_fault c o) items F
 
   to_sized : (vs : List X) (x : Bits) → Then (IsSizing c) After vs x → AreSized P c vs x
   to_sized vs x t = by t.first t.is_first t.is_next
@@ -293,7 +293,7 @@ module _ {X : Type 0} {P : X → Bits → Type 0} (c : Constraint) (items : Seve
       by (at_once n) p s =
           let r = of_size c (items_at_once s.items (subst (λ q. IsSizing c (at_once q) t.front) (sym s.many) p)) in
           record { items = s.items; are = s.are; allowed = r.1; sized = subst (Sized c.visible s.items) (sym (t.whole ∙ ap (λ q. t.front ++ q) s.whole)) r.0 }
-      by (told_counted o) p s =
+      by (stated_counted o) p s =
           let r = of_size c (items_in_parts s.items p s.passed (to_parts s.counted)) in
           record { items = s.items; are = s.are; allowed = r.1; sized = subst (Sized c.visible s.items) (sym t.whole) r.0 }
 
@@ -310,7 +310,7 @@ module _ {X : Type 0} {P : X → Bits → Type 0} (c : Constraint) (items : Seve
         whole = refl;
       }
       by zz y e (items_in_parts {outside = o} {h = h} {b = b} xs p f d) = record {
-        first = told_counted o;
+        first = stated_counted o;
         front = h;
         back = b;
         is_first = p;

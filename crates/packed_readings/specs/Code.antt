@@ -8,8 +8,8 @@ use Rattle.bits.specs.Words.{octet_bits}
 use Rattle.packed_encodings.specs.Lengths.{Bits}
 use Rattle.packed_readings.specs.declared.bit_string.NextBits.{NextBits}
 use Rattle.packed_readings.specs.declared.bit_string.NextBits.TheVariants as next_bits
-use Rattle.packed_readings.specs.declared.integer.Told.{Told}
-use Rattle.packed_readings.specs.declared.integer.Told.TheVariants as tolds
+use Rattle.packed_readings.specs.declared.integer.Stated.{Stated}
+use Rattle.packed_readings.specs.declared.integer.Stated.TheVariants as statements
 use Rattle.packed_readings.specs.declared.strings.Form.{Form}
 use Rattle.packed_readings.specs.declared.strings.Form.TheVariants as forms
 use Rattle.packed_readings.specs.declared.strings.Next.{Next}
@@ -63,10 +63,10 @@ outside_judge c o = and_then (signed_number o) (other_number c)
 abbrev pub above_judge : Constraint → ℤ → Octets → Judged AbstractValue
 above_judge c l o = and_then (unsigned_number o) (λ n. root_number c (l +ℤ pos n))
 
-abbrev pub judge_told : Told → Constraint → Octets → Judged AbstractValue
-judge_told (tolds.Above l) c = above_judge c l
-judge_told tolds.Root c = root_judge c
-judge_told tolds.Outside c = outside_judge c
+abbrev pub judge_stated : Stated → Constraint → Octets → Judged AbstractValue
+judge_stated (statements.Above l) c = above_judge c l
+judge_stated statements.Root c = root_judge c
+judge_stated statements.Outside c = outside_judge c
 
 -- octets of an OBJECT IDENTIFIER, and of a RELATIVE-OID
 abbrev pub judge_oid : Octets → Judged AbstractValue

@@ -11,9 +11,9 @@ use Rattle.decode_faults.specs.declared.refusal.Refusal.{Refusal}
 use Rattle.decode_faults.specs.declared.refusal.Refusal.TheVariants.{Truncated, NotCanonical, Outside}
 pub use Rattle.packed_readings.specs.declared.count.Count.{Count}
 pub use Rattle.packed_readings.specs.declared.count.Count.TheVariants.{Last as last, Part as part}
-pub use Rattle.packed_readings.specs.declared.count.ToldCount.{ToldCount}
-pub use Rattle.packed_readings.specs.declared.count.ToldCount.TheVariants.{In7Bits as in_7_bits, In14Bits as in_14_bits}
-pub use Rattle.packed_readings.specs.declared.count.ToldCount.TheVariants.{InParts as in_parts}
+pub use Rattle.packed_readings.specs.declared.count.StatedCount.{StatedCount}
+pub use Rattle.packed_readings.specs.declared.count.StatedCount.TheVariants.{In7Bits as in_7_bits, In14Bits as in_14_bits}
+pub use Rattle.packed_readings.specs.declared.count.StatedCount.TheVariants.{InParts as in_parts}
 pub use Rattle.packed_readings.specs.declared.size.Sizing.{Sizing}
 pub use Rattle.packed_readings.specs.declared.size.Sizing.TheVariants.{AtOnce as at_once, Counted as counted}
 use Rattle.packed_readings.specs.Outcome.{Outcome, found, stops, onward, Judged, good, bad, judging, bit_from, worth}
@@ -21,8 +21,8 @@ use Rattle.packed_readings.specs.Outcome.{field_from, block_from, IsField}
 
 -- ---- numbers of items
 
-abbrev pub told_count : Bits → Outcome ToldCount
-told_count b =
+abbrev pub stated_count : Bits → Outcome StatedCount
+stated_count b =
     onward (bit_from b) (λ x r. if x
     then onward (bit_from r) (λ y s. if y
     then onward (field_from 6 s) (λ n t. found (in_parts n) t)  -- 11.9.3.8
@@ -30,13 +30,13 @@ told_count b =
     else onward (field_from 7 r) (λ n s. found (in_7_bits n) s))  -- 11.9.3.6
 
 -- If `full` is true a part may come: as the first one, and after a part of four times 16,384 items.
-abbrev pub canonical_count : Bool → ToldCount → Judged Count
+abbrev pub canonical_count : Bool → StatedCount → Judged Count
 canonical_count full (in_7_bits n) = good (last n)
 canonical_count full (in_14_bits n) = if nat_lt n 128 then bad NotCanonical else good (last n)
 canonical_count full (in_parts m) = if full && (nat_lt 0 m && nat_lt m 5) then good (part m) else bad NotCanonical
 
 abbrev pub count_from : Bool → Bits → Outcome Count
-count_from full = judging (canonical_count full) told_count
+count_from full = judging (canonical_count full) stated_count
 
 -- the bits of a number of items in its canonical form
 pub data IsCount : Bool → Count → Bits → Type 0 where

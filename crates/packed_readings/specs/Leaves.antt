@@ -9,10 +9,10 @@ use Rattle.asn_base.specs.Abstract.{relative_oid}
 use Rattle.asn_base.specs.Types.{Constraint, Item, Kind, a_boolean, an_integer, an_enumerated, a_bit_string}
 use Rattle.asn_base.specs.Types.{a_named_bit_string, an_octet_string, a_null, an_object_identifier, a_relative_oid}
 use Rattle.asn_base.specs.Types.{a_utf8_string, a_restricted_string}
-use Rattle.asn_base.specs.Typed.{Fits}
+use Rattle.asn_base.specs.Typed.{IsPrimitive}
 use Rattle.encodings.specs.Header.{Octets}
 use Rattle.packed_encodings.specs.Lengths.{Bits, fewest_bits}
-use Rattle.packed_encodings.specs.Leaves.{place_width, Leaf}
+use Rattle.packed_encodings.specs.Leaves.{place_width, LeafPer}
 use Rattle.packed_encodings.specs.Computed.{is_in_root, codes_below}
 use Rattle.packed_encodings.specs.Weights.{characters}
 use Rattle.decode_faults.specs.declared.refusal.Refusal.{Refusal}
@@ -192,8 +192,8 @@ leaf_from k b = stops why.Outside b
 
 -- the bits of a value of the kind that the kind's constraints allow
 pub record IsLeafOf (k : Kind) (w : AbstractValue) (b : Bits) : Type 0 where
-  pub leaf : Leaf k w b
-  pub fits : Fits k w
+  pub leaf : LeafPer k w b
+  pub fits : IsPrimitive k w
 
 -- ---- leaves within a limit
 

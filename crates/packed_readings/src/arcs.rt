@@ -17,7 +17,7 @@ use crate::strings::read_octets;
 use bits::cursor::Bits;
 use decode_faults::Refusal;
 use encodings::LeafKind;
-use leaf_readings::{LeafFault, read_arc, read_leaf};
+use primitive_reader::{LeafFault, read_arc, read_leaf};
 use std::alloc::{AllocError, Global};
 
 /// Adds numbers, each below 2^64.
@@ -31,9 +31,9 @@ fn push_arcs(arcs: &mut Vec<u64>, octets: &[u8]) -> Result<(), AllocError>
     let mut rest = octets;
     while !rest.is_empty() {
         match read_arc(rest) {
-            Some((Some(number), behind)) => {
+            Some((Some(number), following)) => {
                 arcs.push(number as u64)?;
-                rest = behind;
+                rest = following;
             }
             Some((None, _)) => return Ok(()),
             None => return Ok(()),
@@ -65,11 +65,11 @@ fn object_arcs(alloc: Global, octets: &[u8]) -> Result<Vec<u64>, AllocError>
 {
     let mut arcs = Vec::new(alloc);
     match read_arc(octets) {
-        Some((Some(number), behind)) => {
+        Some((Some(number), following)) => {
             let (first, second) = parted(number);
             arcs.push(first)?;
             arcs.push(second)?;
-            push_arcs(&mut arcs, behind)?;
+            push_arcs(&mut arcs, following)?;
             Ok(arcs)
         }
         Some((None, _)) => Ok(arcs),

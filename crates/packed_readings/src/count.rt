@@ -2,9 +2,9 @@
 
 ghost use Rattle.bits.specs.Left.{bits_left};
 ghost use Rattle.packed_readings.specs.Code.{IsFew};
-ghost use Rattle.packed_readings.specs.Counts.{canonical_count, count_from, told_count};
+ghost use Rattle.packed_readings.specs.Counts.{canonical_count, count_from, stated_count};
 ghost use Rattle.packed_readings.specs.Outcome.{Judged, good, bad, outcome};
-ghost use Rattle.packed_readings.specs.declared.count.ToldCount.TheVariants.{In7Bits, In14Bits, InParts};
+ghost use Rattle.packed_readings.specs.declared.count.StatedCount.TheVariants.{In7Bits, In14Bits, InParts};
 ghost use Rattle.std.specs.Prelude.{◌≡◌, ◌∷◌, ◌<◌, true, IfErr, IfOk};
 
 use crate::field::{read_bit, read_field};
@@ -21,19 +21,19 @@ pub enum Count {
 
 /// A number of items as it is sent, in its canonical form or not.
 #[derive(Clone, Copy, Debug)]
-pub(crate) enum ToldCount {
+pub(crate) enum StatedCount {
     In7Bits(usize),
     In14Bits(usize),
     InParts(usize),
 }
 
 /// Takes a number of items in any form.
-fn read_told(bits: &mut Bits<'_>) -> Result<ToldCount, Refusal>
-    ensures { told_count (bits_left bits.old) ≡ outcome result (bits_left bits.new) }
+fn read_stated(bits: &mut Bits<'_>) -> Result<StatedCount, Refusal>
+    ensures { stated_count (bits_left bits.old) ≡ outcome result (bits_left bits.new) }
 {
     match read_bit(bits) {
         Ok(false) => match read_field(bits, 7) {
-            Ok(number) => Ok(ToldCount::In7Bits(number as usize)),
+            Ok(number) => Ok(StatedCount::In7Bits(number as usize)),
             Err(refusal) => Err(refusal),
         },
         Ok(true) => read_longer(bits),
@@ -42,16 +42,16 @@ fn read_told(bits: &mut Bits<'_>) -> Result<ToldCount, Refusal>
 }
 
 /// Takes the rest of a number of items whose first bit is 1.
-fn read_longer(bits: &mut Bits<'_>) -> Result<ToldCount, Refusal>
-    ensures { told_count (true ∷ bits_left bits.old) ≡ outcome result (bits_left bits.new) }
+fn read_longer(bits: &mut Bits<'_>) -> Result<StatedCount, Refusal>
+    ensures { stated_count (true ∷ bits_left bits.old) ≡ outcome result (bits_left bits.new) }
 {
     match read_bit(bits) {
         Ok(false) => match read_field(bits, 14) {
-            Ok(number) => Ok(ToldCount::In14Bits(number as usize)),
+            Ok(number) => Ok(StatedCount::In14Bits(number as usize)),
             Err(refusal) => Err(refusal),
         },
         Ok(true) => match read_field(bits, 6) {
-            Ok(number) => Ok(ToldCount::InParts(number as usize)),
+            Ok(number) => Ok(StatedCount::InParts(number as usize)),
             Err(refusal) => Err(refusal),
         },
         Err(refusal) => Err(refusal),
@@ -59,19 +59,19 @@ fn read_longer(bits: &mut Bits<'_>) -> Result<ToldCount, Refusal>
 }
 
 /// The number of items, if it is sent in its canonical form.
-fn canonical(told: ToldCount, full: bool) -> Result<Count, Refusal>
-    ensures ok { IfOk result (λ c. canonical_count full told ≡ good c) }
-    ensures err { IfErr result (λ e. canonical_count full told ≡ bad e) }
+fn canonical(stated: StatedCount, full: bool) -> Result<Count, Refusal>
+    ensures ok { IfOk result (λ c. canonical_count full stated ≡ good c) }
+    ensures err { IfErr result (λ e. canonical_count full stated ≡ bad e) }
 {
-    match told {
-        ToldCount::In7Bits(count) => Ok(Count::Last(count)),
-        ToldCount::In14Bits(count) => {
+    match stated {
+        StatedCount::In7Bits(count) => Ok(Count::Last(count)),
+        StatedCount::In14Bits(count) => {
             if count < 128 {
                 return Err(Refusal::NotCanonical);
             }
             Ok(Count::Last(count))
         }
-        ToldCount::InParts(times) => {
+        StatedCount::InParts(times) => {
             if full && (0 < times && times < 5) {
                 return Ok(Count::Part(times));
             }
@@ -90,11 +90,11 @@ pub fn read_count(bits: &mut Bits<'_>, full: bool) -> Result<Count, Refusal>
     ensures is { count_from full (bits_left bits.old) ≡ outcome result (bits_left bits.new) }
 {
     let start = *bits;
-    let told = match read_told(bits) {
-        Ok(told) => told,
+    let stated = match read_stated(bits) {
+        Ok(stated) => stated,
         Err(refusal) => return Err(refusal),
     };
-    match canonical(told, full) {
+    match canonical(stated, full) {
         Ok(count) => Ok(count),
         Err(refusal) => {
             *bits = start;

@@ -4,7 +4,7 @@ ghost use Rattle.asn_base.specs.Abstract.{integer};
 ghost use Rattle.asn_base.specs.Seen.{constraint_of};
 ghost use Rattle.bits.specs.Left.{bits_left};
 ghost use Rattle.packed_encodings.specs.Lengths.{fewest_bits};
-ghost use Rattle.packed_readings.specs.Code.{above_judge, judge_told, outside_judge, root_judge};
+ghost use Rattle.packed_readings.specs.Code.{above_judge, judge_stated, outside_judge, root_judge};
 ghost use Rattle.packed_readings.specs.Counts.{octets_from};
 ghost use Rattle.packed_readings.specs.Leaves.{integer_from, is_within_limit, number_between, other_number, root_integer_from, root_number};
 ghost use Rattle.packed_readings.specs.Outcome.{IsFault, bad, field_from, found, good, judging, outcome_by};
@@ -17,14 +17,14 @@ use crate::refusal::PackedFault;
 use crate::strings::read_octets;
 use crate::width::fewest;
 use asn_base::constraint::Constraint;
-use asn_base::law::integer_within_limit;
+use asn_base::law::lemma_integer_within_limit;
 use bits::cursor::Bits;
 use decode_faults::Refusal;
 use std::alloc::Global;
 
 /// How octets encode a number: by its distance above this least one, as a number of the root, or as one outside it.
 #[derive(Clone, Copy)]
-pub(crate) enum Told {
+pub(crate) enum Stated {
     Above(i128),
     Root,
     Outside,
@@ -35,7 +35,7 @@ pub(crate) enum Told {
 fn within_limit(number: i128)
     ensures { is_within_limit number ≡ true }
 {
-    integer_within_limit(number);
+    lemma_integer_within_limit(number);
 }
 
 /// The number, if it is one of the root and is allowed.
@@ -118,30 +118,30 @@ fn judge_above(constraint: &Constraint, least: i128, octets: &[u8]) -> Result<i1
     }
 }
 
-/// The number that octets encode in the way that `told` gives.
-fn judge(told: Told, constraint: &Constraint, octets: &[u8]) -> Result<i128, Refusal>
-    ensures ok { IfOk result (λ z. judge_told told (constraint_of constraint.now) octets.now ≡ good (integer z)) }
-    ensures err { IfErr result (λ e. judge_told told (constraint_of constraint.now) octets.now ≡ bad e) }
+/// The number that octets encode in the way that `stated` gives.
+fn judge(stated: Stated, constraint: &Constraint, octets: &[u8]) -> Result<i128, Refusal>
+    ensures ok { IfOk result (λ z. judge_stated stated (constraint_of constraint.now) octets.now ≡ good (integer z)) }
+    ensures err { IfErr result (λ e. judge_stated stated (constraint_of constraint.now) octets.now ≡ bad e) }
 {
-    match told {
-        Told::Above(least) => judge_above(constraint, least, octets),
-        Told::Root => judge_root(constraint, octets),
-        Told::Outside => judge_outside(constraint, octets),
+    match stated {
+        Stated::Above(least) => judge_above(constraint, least, octets),
+        Stated::Root => judge_root(constraint, octets),
+        Stated::Outside => judge_outside(constraint, octets),
     }
 }
 
-/// Takes octets, after their number, that encode a number in the way that `told` gives.
-fn read_told(
+/// Takes octets, after their number, that encode a number in the way that `stated` gives.
+fn read_stated(
     alloc: Global,
-    told: Told,
+    stated: Stated,
     constraint: &Constraint,
     bits: &mut Bits<'_>,
 ) -> Result<i128, PackedFault>
     ensures ok { IfOk result
-        (λ z. judging (judge_told told (constraint_of constraint.now)) octets_from (bits_left bits.old)
+        (λ z. judging (judge_stated stated (constraint_of constraint.now)) octets_from (bits_left bits.old)
         ≡ found (integer z) (bits_left bits.new)) }
     ensures err { IfErr result
-        (λ e. IsFault (judging (judge_told told (constraint_of constraint.now)) octets_from
+        (λ e. IsFault (judging (judge_stated stated (constraint_of constraint.now)) octets_from
         (bits_left bits.old)) e (bits_left bits.new)) }
 {
     let start = *bits;
@@ -149,7 +149,7 @@ fn read_told(
         Ok(octets) => octets,
         Err(fault) => return Err(fault),
     };
-    match judge(told, constraint, octets.as_slice()) {
+    match judge(stated, constraint, octets.as_slice()) {
         Ok(number) => Ok(number),
         Err(refusal) => {
             *bits = start;
@@ -211,10 +211,10 @@ fn read_root_integer(
         constraint.now.visible.least constraint.now.visible.greatest (bits_left bits.old)) e (bits_left bits.new)) }
 {
     let Some(least) = constraint.visible.least else {
-        return read_told(alloc, Told::Root, constraint, bits);
+        return read_stated(alloc, Stated::Root, constraint, bits);
     };
     let Some(greatest) = constraint.visible.greatest else {
-        return read_told(alloc, Told::Above(least), constraint, bits);
+        return read_stated(alloc, Stated::Above(least), constraint, bits);
     };
     match read_between(constraint, least, greatest, bits) {
         Ok(number) => Ok(number),
@@ -243,7 +243,7 @@ pub fn read_integer(
         return read_root_integer(alloc, constraint, bits);
     }
     match read_bit(bits) {
-        Ok(true) => read_told(alloc, Told::Outside, constraint, bits),
+        Ok(true) => read_stated(alloc, Stated::Outside, constraint, bits),
         Ok(false) => read_root_integer(alloc, constraint, bits),
         Err(truncated) => Err(PackedFault::Refused(truncated)),
     }

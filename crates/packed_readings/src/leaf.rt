@@ -19,7 +19,7 @@ use crate::refusal::PackedFault;
 use crate::strings::read_octet_string;
 use crate::text::{read_restricted_string, read_utf8_string};
 use asn_base::constraint::Constraint;
-use asn_base::law::abstract_values;
+use asn_base::law::lemma_abstract_values;
 use asn_base::schema::{Core, Items};
 use asn_base::strings::StringKind;
 use asn_base::value::Value;
@@ -32,7 +32,7 @@ fn as_boolean(bits: &mut Bits<'_>) -> Result<Value, PackedFault>
         (λ v. leaf_from (a_boolean) (bits_left bits.old) ≡ found (abstract v) (bits_left bits.new)) }
     ensures err { IfErr result (λ e. IsFault (leaf_from (a_boolean) (bits_left bits.old)) e (bits_left bits.new)) }
 {
-    abstract_values();
+    lemma_abstract_values();
     match read_bit(bits) {
         Ok(truth) => Ok(Value::Bool(truth)),
         Err(refusal) => Err(PackedFault::Refused(refusal)),
@@ -51,7 +51,7 @@ fn as_integer(
         (λ e. IsFault (leaf_from (an_integer (constraint_of constraint.now)) (bits_left bits.old))
         e (bits_left bits.new)) }
 {
-    abstract_values();
+    lemma_abstract_values();
     match read_integer(alloc, constraint, bits) {
         Ok(number) => Ok(Value::Int(number)),
         Err(fault) => Err(fault),
@@ -67,7 +67,7 @@ fn as_enumerated(items: &Items, bits: &mut Bits<'_>) -> Result<Value, PackedFaul
         (λ e. IsFault (leaf_from (an_enumerated (map item_of items.now.root.items)
         items.now.extensible (map item_of items.now.additions.items)) (bits_left bits.old)) e (bits_left bits.new)) }
 {
-    abstract_values();
+    lemma_abstract_values();
     match read_item(items, bits) {
         Ok(number) => Ok(Value::Enum(number)),
         Err(refusal) => Err(PackedFault::Refused(refusal)),
@@ -87,7 +87,7 @@ fn as_bit_string(
         (λ e. IsFault (leaf_from (a_bit_string (constraint_of constraint.now)) (bits_left bits.old))
         e (bits_left bits.new)) }
 {
-    abstract_values();
+    lemma_abstract_values();
     match read_bit_string(alloc, constraint, bits) {
         Ok(string) => Ok(Value::Bits(string)),
         Err(fault) => Err(fault),
@@ -100,7 +100,7 @@ fn as_named_bits(alloc: Global, bits: &mut Bits<'_>) -> Result<Value, PackedFaul
     ensures err { IfErr result
         (λ e. IsFault (leaf_from (a_named_bit_string []) (bits_left bits.old)) e (bits_left bits.new)) }
 {
-    abstract_values();
+    lemma_abstract_values();
     match read_named_bits(alloc, bits) {
         Ok(string) => Ok(Value::Bits(string)),
         Err(fault) => Err(fault),
@@ -120,7 +120,7 @@ fn as_octet_string(
         (λ e. IsFault (leaf_from (an_octet_string (constraint_of constraint.now)) (bits_left bits.old))
         e (bits_left bits.new)) }
 {
-    abstract_values();
+    lemma_abstract_values();
     match read_octet_string(alloc, constraint, bits) {
         Ok(octets) => Ok(Value::Octets(octets)),
         Err(fault) => Err(fault),
@@ -133,7 +133,7 @@ fn as_object_identifier(alloc: Global, bits: &mut Bits<'_>) -> Result<Value, Pac
     ensures err { IfErr result
         (λ e. IsFault (leaf_from (an_object_identifier) (bits_left bits.old)) e (bits_left bits.new)) }
 {
-    abstract_values();
+    lemma_abstract_values();
     match read_object_identifier(alloc, bits) {
         Ok(numbers) => Ok(Value::Oid(numbers)),
         Err(fault) => Err(fault),
@@ -145,7 +145,7 @@ fn as_relative_oid(alloc: Global, bits: &mut Bits<'_>) -> Result<Value, PackedFa
         (λ v. leaf_from (a_relative_oid) (bits_left bits.old) ≡ found (abstract v) (bits_left bits.new)) }
     ensures err { IfErr result (λ e. IsFault (leaf_from (a_relative_oid) (bits_left bits.old)) e (bits_left bits.new)) }
 {
-    abstract_values();
+    lemma_abstract_values();
     match read_relative_oid(alloc, bits) {
         Ok(numbers) => Ok(Value::RelativeOid(numbers)),
         Err(fault) => Err(fault),
@@ -164,7 +164,7 @@ fn as_utf8(
         (λ e. IsFault (leaf_from (a_utf8_string (constraint_of constraint.now)) (bits_left bits.old))
         e (bits_left bits.new)) }
 {
-    abstract_values();
+    lemma_abstract_values();
     match read_utf8_string(alloc, constraint, bits) {
         Ok(text) => Ok(Value::Text(text)),
         Err(fault) => Err(fault),
@@ -187,7 +187,7 @@ fn as_restricted(
         (λ e. IsFault (leaf_from (a_restricted_string kind alphabet.now.items
         (constraint_of constraint.now)) (bits_left bits.old)) e (bits_left bits.new)) }
 {
-    abstract_values();
+    lemma_abstract_values();
     match read_restricted_string(alloc, alphabet.as_slice(), constraint, bits) {
         Ok(text) => Ok(Value::Text(text)),
         Err(fault) => Err(fault),
@@ -212,7 +212,7 @@ pub(crate) fn read_any_leaf(
     ensures err { IfErr result
         (λ e. IsFault (leaf_from (kind_of core.now) (bits_left bits.old)) e (bits_left bits.new)) }
 {
-    abstract_values();
+    lemma_abstract_values();
     match core {
         Core::Boolean => as_boolean(bits),
         Core::Integer(constraint) => as_integer(alloc, constraint, bits),

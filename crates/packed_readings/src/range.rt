@@ -3,7 +3,7 @@
 ghost use Rattle.asn_base.specs.Seen.{bounds_of, constraint_of, range_of};
 ghost use Rattle.asn_base.specs.Typed.{IsAllowed, IsInRange, IsInSome};
 ghost use Rattle.packed_encodings.specs.Computed.{is_in_root};
-ghost use Rattle.packed_encodings.specs.Lengths.{IsInRoot};
+ghost use Rattle.packed_encodings.specs.Lengths.{IsInRootBounds};
 ghost use Rattle.packed_readings.specs.Counts.{is_allowed};
 ghost use Rattle.std.specs.Prelude.{◌≡◌, ◌↔◌, ◌≤ℤ◌, IfSome, IsTrue, map};
 
@@ -36,7 +36,7 @@ pub(crate) fn is_in_root(bounds: &Bounds, number: i128) -> bool
 }
 
 fn is_within(bounds: &Bounds, number: i128) -> bool
-    ensures { IsTrue result ↔ IsInRoot (bounds_of bounds.now) number }
+    ensures { IsTrue result ↔ IsInRootBounds (bounds_of bounds.now) number }
 {
     is_from(bounds.least, number) && is_to(bounds.greatest, number)
 }

@@ -13,7 +13,7 @@ ghost use Rattle.std.specs.Prelude.{◌≡◌, ◌≤◌, IfErr, IfOk, List, OnO
 use crate::free::count_characters;
 use crate::leaf::read_any_leaf;
 use crate::refusal::PackedFault;
-use asn_base::law::abstract_values;
+use asn_base::law::lemma_abstract_values;
 use asn_base::schema::Core;
 use asn_base::value::Value;
 use bits::cursor::Bits;
@@ -24,7 +24,7 @@ use std::alloc::Global;
 pub fn characters(value: &Value) -> usize
     ensures { result ≡ characters (abstract value.now) }
 {
-    abstract_values();
+    lemma_abstract_values();
     match value {
         Value::Text(text) => text.len(),
         Value::Bool(_) | Value::Int(_) | Value::Enum(_) | Value::Bits(_) => 0,

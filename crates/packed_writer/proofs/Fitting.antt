@@ -7,7 +7,7 @@ use Rattle.asn_base.specs.Same.{IsLeaf}
 use Rattle.asn_base.specs.Schemas.{components, is_addition}
 use Rattle.asn_base.specs.Typed.{group_of}
 use Rattle.packed_encodings.specs.Computed.{kind_at}
-use Rattle.packed_encodings.specs.Orders.{Member, component, stands_before, root_of, behind_marker, placed, canonical, Addition, alone, bracketed, additions, in_front, is_of_group}
+use Rattle.packed_encodings.specs.Orders.{Member, component, precedes, root_members, past_marker, placed_by_tag, canonical, Addition, alone, bracketed, additions, in_front, is_of_group}
 use Rattle.packed_code.specs.declared.step.PackedStep.{PackedStep}
 use Rattle.packed_code.specs.declared.step.PackedStep.TheVariants as steps
 use Rattle.packed_code.specs.Routines.{placed_from, place_in, field_at, root_steps, member_steps, addition_steps, mark_if, rest_if, structure, root_calls, more_calls, integer_step, routine_of, routine_at}
@@ -33,27 +33,27 @@ pub all_placed : (cs : List Component) → AllByRecursion (AtPlace cs) (placed_f
 all_placed cs = from_place cs cs 0 (λ j c e. ap (slice_get cs) (let k : 0 + j ≡ j = omega arith in k) ∙ e)
 
 module _ (P : Placed' → Type 0) where
-  in_root : (ms : List Placed') → AllByRecursion P ms → AllByRecursion P (root_of ms)
+  in_root : (ms : List Placed') → AllByRecursion P ms → AllByRecursion P (root_members ms)
   in_root [] a = tt
   in_root (m ∷ ms) a = by (is_addition (component m)) (in_root ms a.1)
     where
-      by : (b : Bool) → AllByRecursion P (root_of ms) → AllByRecursion P (if b then root_of ms else m ∷ root_of ms)
+      by : (b : Bool) → AllByRecursion P (root_members ms) → AllByRecursion P (if b then root_members ms else m ∷ root_members ms)
       by true r = r
       by false r = (a.0, r)
 
-  after_marker : (ms : List Placed') → AllByRecursion P ms → AllByRecursion P (behind_marker ms)
+  after_marker : (ms : List Placed') → AllByRecursion P ms → AllByRecursion P (past_marker ms)
   after_marker [] a = tt
   after_marker (m ∷ ms) a = by (is_addition (component m)) (after_marker ms a.1)
     where
-      by : (b : Bool) → AllByRecursion P (behind_marker ms) → AllByRecursion P (if b then m ∷ behind_marker ms else behind_marker ms)
+      by : (b : Bool) → AllByRecursion P (past_marker ms) → AllByRecursion P (if b then m ∷ past_marker ms else past_marker ms)
       by true r = (a.0, r)
       by false r = r
 
-  at_place : (s : List Resolved) (m : Placed') (ms : List Placed') → P m → AllByRecursion P ms → AllByRecursion P (placed s m ms)
+  at_place : (s : List Resolved) (m : Placed') (ms : List Placed') → P m → AllByRecursion P ms → AllByRecursion P (placed_by_tag s m ms)
   at_place s m [] p a = (p, tt)
-  at_place s m (n ∷ ms) p a = by (stands_before s (component n).type (component m).type) (at_place s m ms p a.1)
+  at_place s m (n ∷ ms) p a = by (precedes s (component n).type (component m).type) (at_place s m ms p a.1)
     where
-      by : (b : Bool) → AllByRecursion P (placed s m ms) → AllByRecursion P (if b then n ∷ placed s m ms else m ∷ (n ∷ ms))
+      by : (b : Bool) → AllByRecursion P (placed_by_tag s m ms) → AllByRecursion P (if b then n ∷ placed_by_tag s m ms else m ∷ (n ∷ ms))
       by true r = (a.0, r)
       by false r = (p, a)
 
@@ -110,10 +110,10 @@ module _ (s : List Resolved) (t : ℕ) where
   structure_fits : (cs : List Component) → components (kind_at s t) ≡ cs → (e : Bool) (root : List Placed') → AllByRecursion (AtPlace cs) root → StepsFit s t (structure e root (placed_from 0 cs))
   structure_fits cs k e root a = by e
     where
-      body : StepsFit s t (steps.Map (length root) ∷ (root_steps root ++ rest_if e (additions (behind_marker (placed_from 0 cs)))))
-      body = (tt, tt, fields_fit cs k root (rest_if e (additions (behind_marker (placed_from 0 cs)))) a (rest_fits cs k e (additions (behind_marker (placed_from 0 cs))) (of_additions (AtPlace cs) (behind_marker (placed_from 0 cs)) (after_marker (AtPlace cs) (placed_from 0 cs) (all_placed cs)))))
+      body : StepsFit s t (steps.Map (length root) ∷ (root_steps root ++ rest_if e (additions (past_marker (placed_from 0 cs)))))
+      body = (tt, tt, fields_fit cs k root (rest_if e (additions (past_marker (placed_from 0 cs)))) a (rest_fits cs k e (additions (past_marker (placed_from 0 cs))) (of_additions (AtPlace cs) (past_marker (placed_from 0 cs)) (after_marker (AtPlace cs) (placed_from 0 cs) (all_placed cs)))))
 
-      by : (b : Bool) → StepsFit s t (mark_if b (length (root_of (placed_from 0 cs))) ++ (steps.Map (length root) ∷ (root_steps root ++ rest_if e (additions (behind_marker (placed_from 0 cs))))))
+      by : (b : Bool) → StepsFit s t (mark_if b (length (root_members (placed_from 0 cs))) ++ (steps.Map (length root) ∷ (root_steps root ++ rest_if e (additions (past_marker (placed_from 0 cs))))))
       by true = (tt, tt, body)
       by false = body
 
@@ -147,8 +147,8 @@ module _ (s : List Resolved) (t : ℕ) where
   kind_fits a_relative_oid e = leaf_fits a_relative_oid e tt
   kind_fits (a_utf8_string c) e = leaf_fits (a_utf8_string c) e tt
   kind_fits (a_restricted_string k a c) e = leaf_fits (a_restricted_string k a c) e tt
-  kind_fits (a_sequence x cs) e = structure_fits cs (ap components e) x (root_of (placed_from 0 cs)) (in_root (AtPlace cs) (placed_from 0 cs) (all_placed cs))
-  kind_fits (a_set x cs) e = structure_fits cs (ap components e) x (canonical s (root_of (placed_from 0 cs))) (in_order (AtPlace cs) s (root_of (placed_from 0 cs)) (in_root (AtPlace cs) (placed_from 0 cs) (all_placed cs)))
+  kind_fits (a_sequence x cs) e = structure_fits cs (ap components e) x (root_members (placed_from 0 cs)) (in_root (AtPlace cs) (placed_from 0 cs) (all_placed cs))
+  kind_fits (a_set x cs) e = structure_fits cs (ap components e) x (canonical s (root_members (placed_from 0 cs))) (in_order (AtPlace cs) s (root_members (placed_from 0 cs)) (in_root (AtPlace cs) (placed_from 0 cs) (all_placed cs)))
   kind_fits (a_sequence_of c u) e = (tt, (c, e), tt)
   kind_fits (a_set_of c u) e = (tt, (c, e), tt)
   kind_fits (a_choice root x more) e = (tt, record { root = root; extensible = x; more = more; kind = e; calls = refl }, calls_fit x root root more)

@@ -8,11 +8,11 @@ use Rattle.asn_base.specs.declared.value.Value.{Value}
 use Rattle.asn_base.specs.Abstract.{AbstractValue, list, alternative, Row, abstract, row_of_list}
 use Rattle.asn_base.specs.Same.{IsLeaf}
 use Rattle.asn_base.specs.Types.{a_null, Alternative, Constraint, Range, Kind, Resolved, an_integer, a_sequence_of, a_set_of, a_choice}
-use Rattle.asn_base.specs.Typed.{Fits, fits_integer, ValueIn, value_in, ValueOf, of_leaf, of_sequence, of_set, of_sequence_of, of_set_of, of_choice, AreElements, one_element, IsAllowedSize, IsInSome, members}
+use Rattle.asn_base.specs.Typed.{IsPrimitive, fits_integer, ValueIn, value_in, ValueOf, of_leaf, of_sequence, of_set, of_sequence_of, of_set_of, of_choice, AreElements, one_element, IsAllowedSize, IsInSome, members}
 use Rattle.asn_base.specs.Schemas.{IsLeast, IsGreatest, AreBounds, IsSize, IsSound}
 use Rattle.packed_encodings.specs.Computed.{kind_at, bits_of, sized_bits, sorted}
-use Rattle.packed_encodings.specs.Lengths.{Bits, IsInRoot, Items}
-use Rattle.packed_encodings.specs.Packing.{IsEncoding}
+use Rattle.packed_encodings.specs.Lengths.{Bits, IsInRootBounds, Items}
+use Rattle.packed_encodings.specs.Computed.{IsEncoding}
 use Rattle.packed_counts.specs.Counts.{HasLeast}
 use Rattle.packed_code.specs.declared.step.PackedStep.{PackedStep}
 use Rattle.packed_code.specs.Meaning.{items_of, listed_bits}
@@ -36,7 +36,7 @@ is_in s x n t w el few et ew v = record {
 
 -- ---- kinds
 
-of_leaf_kind : {s : List Resolved} {m : ℕ} {j : Kind} {v : AbstractValue} → ValueOf s m j v → IsLeaf j → Fits j v
+of_leaf_kind : {s : List Resolved} {m : ℕ} {j : Kind} {v : AbstractValue} → ValueOf s m j v → IsLeaf j → IsPrimitive j v
 of_leaf_kind (of_leaf f) l = f
 of_leaf_kind (of_sequence a g) l = absurd l
 of_leaf_kind (of_set a g) l = absurd l
@@ -44,10 +44,10 @@ of_leaf_kind (of_sequence_of a z) l = absurd l
 of_leaf_kind (of_set_of a z) l = absurd l
 of_leaf_kind (of_choice g h) l = absurd l
 
-pub leaf_fits : (s : List Resolved) (n t : ℕ) (v : AbstractValue) (k : Kind) → ValueIn s n t v → kind_at s t ≡ k → IsLeaf (kind_at s t) → Fits k v
-leaf_fits s n t v k (value_in {k = j} i o) e l = subst (λ q. Fits q v) (sym (kind_is i) ∙ e) (of_leaf_kind o (subst IsLeaf (kind_is i) l))
+pub leaf_fits : (s : List Resolved) (n t : ℕ) (v : AbstractValue) (k : Kind) → ValueIn s n t v → kind_at s t ≡ k → IsLeaf (kind_at s t) → IsPrimitive k v
+leaf_fits s n t v k (value_in {k = j} i o) e l = subst (λ q. IsPrimitive q v) (sym (kind_is i) ∙ e) (of_leaf_kind o (subst IsLeaf (kind_is i) l))
 
-a_number : {c : Constraint} {v : AbstractValue} → Fits (an_integer c) v → IsNumber v
+a_number : {c : Constraint} {v : AbstractValue} → IsPrimitive (an_integer c) v → IsNumber v
 a_number (fits_integer {z = z} l h) = (z, refl)
 
 pub is_number : (s : List Resolved) (n t : ℕ) (v : AbstractValue) (c : Constraint) → ValueIn s n t v → kind_at s t ≡ an_integer c → IsNumber v
@@ -126,7 +126,7 @@ greatest_in : (P : ℤ → Type 0) (o : Option ℤ) (z : ℤ) → IsGreatest P o
 greatest_in P None z h p = tt
 greatest_in P (Some g) z h p = h.1 z p
 
-pub in_bounds : (c : Constraint) (n : ℕ) → AreBounds IsSize c → IsAllowedSize c n → c.visible.extensible ≡ false → IsInRoot c.visible (pos n)
+pub in_bounds : (c : Constraint) (n : ℕ) → AreBounds IsSize c → IsAllowedSize c n → c.visible.extensible ≡ false → IsInRootBounds c.visible (pos n)
 in_bounds c n b a e =
     let q : InRoot IsSize b.root (pos n) = (tt, subst (λ r. IfSome r (IsInSome (pos n))) (b.not_extensible e) a) in
     (least_in (InRoot IsSize b.root) c.visible.least (pos n) b.least q, greatest_in (InRoot IsSize b.root) c.visible.greatest (pos n) b.greatest q)

@@ -11,7 +11,8 @@ use Rattle.asn_base.specs.Types.{Resolved}
 use Rattle.packed_encodings.specs.Computed.{bits_of, open_bits}
 use Rattle.packed_encodings.specs.Lengths.{Bits, Items}
 use Rattle.packed_encodings.specs.Orders.{Member}
-use Rattle.packed_encodings.specs.Packing.{Packed, IsEncoding}
+use Rattle.packed_encodings.specs.Packing.{Packed}
+use Rattle.packed_encodings.specs.Computed.{IsEncoding}
 use Rattle.packed_code.specs.declared.step.PackedField.{PackedField}
 use Rattle.packed_code.specs.declared.step.PackedStep.{PackedStep}
 use Rattle.packed_code.specs.Meaning.{any_written, is_written, bits_at, members_of, map_bits, field_bits, group_bits, steps_bits}

@@ -23,7 +23,7 @@ pub fn is_default(schema: &Schema, id: TypeId, place: usize, value: &Value) -> b
         → HasComponent schema.now id.index place c
         → result ≡ computed.is_default schema.now c (abstract value.now) }
 {
-    schema.accepted();
+    schema.lemma_invariant();
     is_the_default(schema, component_at(schema, id, place), value)
 }
 

@@ -11,7 +11,7 @@ ghost use Rattle.std.specs.Prelude.{◌≡◌, ◌≤◌, ◌++◌, ◌∷◌, [
 use crate::default::is_default;
 use crate::typed::Typed;
 use crate::values::component;
-use asn_base::law::levels_grow;
+use asn_base::law::lemma_levels_grow;
 use asn_base::value::Value;
 use bits::buffer::BitBuf;
 use packed_code::{PackedCode, PackedField, PackedStep};
@@ -31,7 +31,7 @@ pub(crate) fn written<'a>(
         (λ w. Written code.now typed.entry.id.index (abstract typed.entry.value.now) field typed.entry.levels
         (abstract w.now)) }
 {
-    levels_grow();
+    lemma_levels_grow();
     let Some(value) = component(typed.value, field.place) else {
         return None;
     };
@@ -64,7 +64,10 @@ pub fn field_of(step: PackedStep) -> Option<PackedField>
     match step {
         PackedStep::Field(field) => Some(field),
         PackedStep::Member(field) => Some(field),
-        PackedStep::Bit | PackedStep::Number(_, _) | PackedStep::Leaf | PackedStep::Mark(_) => None,
+        PackedStep::Bit
+        | PackedStep::Number(_, _)
+        | PackedStep::Leaf
+        | PackedStep::ExtensionBit(_) => None,
         PackedStep::Map(_) | PackedStep::Bitmap(_) | PackedStep::Added(_) => None,
         PackedStep::Group(_) | PackedStep::Rest | PackedStep::Each(_) => None,
         PackedStep::EachSorted(_) | PackedStep::Pick(_) => None,
@@ -188,7 +191,10 @@ fn addition(code: &PackedCode, typed: Typed<'_>, steps: &[PackedStep]) -> Option
     match step {
         PackedStep::Added(field) => Some(is_written(code, typed, field)),
         PackedStep::Group(count) => Some(any_written(code, typed, next(rest, count))),
-        PackedStep::Bit | PackedStep::Number(_, _) | PackedStep::Leaf | PackedStep::Mark(_) => None,
+        PackedStep::Bit
+        | PackedStep::Number(_, _)
+        | PackedStep::Leaf
+        | PackedStep::ExtensionBit(_) => None,
         PackedStep::Map(_) | PackedStep::Bitmap(_) | PackedStep::Field(_) => None,
         PackedStep::Member(_) | PackedStep::Rest | PackedStep::Each(_) => None,
         PackedStep::EachSorted(_) | PackedStep::Pick(_) => None,

@@ -5,8 +5,8 @@ ghost use Rattle.bits.specs.Words.{word_bits};
 ghost use Rattle.packed_counts.specs.Counts.{Adds, HasLeast};
 ghost use Rattle.packed_encodings.specs.Computed as computed;
 ghost use Rattle.packed_encodings.specs.Computed.{sized_bits};
-ghost use Rattle.packed_encodings.specs.Lengths.{Counted, IsInRoot, all_bits};
-ghost use Rattle.packed_encodings.specs.Orders.{Ascending};
+ghost use Rattle.packed_encodings.specs.Lengths.{Counted, IsInRootBounds, all_bits};
+ghost use Rattle.packed_encodings.specs.Orders.{BitsAscend};
 ghost use Rattle.std.specs.List.Sorted.{IsPermutation};
 ghost use Rattle.std.specs.Ordering.{is_lt};
 ghost use Rattle.std.specs.Prelude.{◌≡◌, ◌++◌, OnOk, false, get_or, length, pos};
@@ -64,7 +64,7 @@ fn compare(first: &BitBuf, second: &BitBuf) -> Ordering
 /// Sorts the items in ascending order. `AllocError` only if an allocation fails.
 pub(crate) fn sort(items: &mut Vec<BitBuf>) -> Result<(), AllocError>
     ensures same { IsPermutation items.old.items items.new.items }
-    ensures order { OnOk result (Ascending items.new.items) }
+    ensures order { OnOk result (BitsAscend items.new.items) }
 {
     order_laws();
     items.sort_by(|first, second| compare(first, second))?;
@@ -104,7 +104,7 @@ pub(crate) fn push_items(
     items: &[BitBuf],
 ) -> Result<(), AllocError>
     requires least { HasLeast (bounds_of bounds.now) }
-    requires allowed { bounds.now.extensible ≡ false → IsInRoot (bounds_of bounds.now) (pos (length items.now)) }
+    requires allowed { bounds.now.extensible ≡ false → IsInRootBounds (bounds_of bounds.now) (pos (length items.now)) }
     ensures { OnOk result (out.new ≡ out.old ++ sized_bits (bounds_of bounds.now) items.now) }
 {
     function_laws();

@@ -12,7 +12,7 @@ ghost use Rattle.std.specs.Prelude.{List, ℕ};
 use packed_encodings::writing_laws;
 
 /// The steps of a type's routine are those of its components, elements and alternatives.
-pub fn routines_fit()
+pub fn lemma_routines_fit()
     ensures { (s : List Resolved) (t : ℕ) → StepsFit s t (routine_at s t) }
 {}
 

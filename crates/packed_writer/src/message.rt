@@ -13,7 +13,7 @@ use crate::run::push_value;
 use crate::typed::Typed;
 use crate::weight::is_light;
 use asn_base::decide::is_value;
-use asn_base::law::sameness;
+use asn_base::law::lemma_sameness;
 use asn_base::schema::TypeId;
 use asn_base::value::Value;
 use bits::buffer::BitBuf;
@@ -46,11 +46,11 @@ pub fn write_uper(
         → 16777216 < weight (abstract value.now)
         → result ≡ Err TooLong }
 {
-    code.accepted();
+    code.lemma_invariant();
     computing_laws();
     writing_laws();
     message_laws();
-    sameness();
+    lemma_sameness();
     if !is_value(value, code.schema(), id) {
         return Err(WriteFault::NotOfType);
     }

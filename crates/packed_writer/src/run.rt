@@ -24,12 +24,12 @@ ghost use Rattle.std.specs.Prelude.{slice_get, true};
 
 use crate::fields::{after, any_written, field_of, first, next, push_bitmap, push_map, written};
 use crate::items::{push_items, sort};
-use crate::law::routines_fit;
+use crate::law::lemma_routines_fit;
 use crate::open::push_open;
 use crate::typed::{Elements, Typed};
 use crate::values::{any_from, chosen, elements, number};
 use asn_base::constraint::Constraint;
-use asn_base::law::levels_grow;
+use asn_base::law::lemma_levels_grow;
 use asn_base::schema::{Core, Schema, TypeId};
 use asn_base::value::Value;
 use bits::buffer::BitBuf;
@@ -65,10 +65,10 @@ pub(crate) fn push_value(
     ensures { OnOk result (out.new ≡ out.old
         ++ bits_of code.now (abstract typed.entry.value.now) typed.entry.id.index) }
 {
-    code.accepted();
+    code.lemma_invariant();
     routine_laws();
-    levels_grow();
-    routines_fit();
+    lemma_levels_grow();
+    lemma_routines_fit();
     let steps = code.steps(typed.id);
     match only(steps) {
         Some(PackedStep::Number(least, width)) => push_offset(out, typed.value, least, width),
@@ -125,7 +125,7 @@ fn push_step(
         PackedStep::Bit => push_contents(alloc, code, out, typed),
         PackedStep::Leaf => push_contents(alloc, code, out, typed),
         PackedStep::Number(least, width) => push_offset(out, typed.value, least, width),
-        PackedStep::Mark(from) => out.push(any_from(typed.value, from)),
+        PackedStep::ExtensionBit(from) => out.push(any_from(typed.value, from)),
         PackedStep::Map(count) => push_map(code, out, typed, next(rest, count)),
         PackedStep::Field(field) => push_field(alloc, code, out, typed, field),
         PackedStep::Bitmap(count) => push_bitmap(code, out, typed, count, rest),
@@ -463,9 +463,9 @@ fn push_sorted(
         ++ listed_bits (kind_at code.now typed.entry.id.index)
         (computed.sorted (items_of code.now element.index (abstract typed.entry.value.now)))) }
 {
-    code.accepted();
+    code.lemma_invariant();
     computing_laws();
-    levels_grow();
+    lemma_levels_grow();
     function_laws();
     let size = size_of(code.schema(), typed.id);
     let elements = elements_of(typed, element);
@@ -558,9 +558,10 @@ fn push_call(
             push_opened(alloc, code, out, retyped(typed, ty))?;
             Ok(())
         }
-        PackedStep::Bit | PackedStep::Number(_, _) | PackedStep::Leaf | PackedStep::Mark(_) => Ok(
-            (),
-        ),
+        PackedStep::Bit
+        | PackedStep::Number(_, _)
+        | PackedStep::Leaf
+        | PackedStep::ExtensionBit(_) => Ok(()),
         PackedStep::Map(_) | PackedStep::Field(_) | PackedStep::Bitmap(_) => Ok(()),
         PackedStep::Added(_) | PackedStep::Group(_) | PackedStep::Member(_) => Ok(()),
         PackedStep::Rest | PackedStep::Each(_) | PackedStep::EachSorted(_) => Ok(()),

@@ -6,7 +6,7 @@ ghost use Rattle.packed_writer.specs.proving.Values.{value_at};
 ghost use Rattle.packed_code.specs.Meaning.{mark_bit};
 ghost use Rattle.std.specs.Prelude.{◌≡◌, ℕ, ℤ, MatchOption, None, Some, map, option_map};
 
-use asn_base::law::abstract_values;
+use asn_base::law::lemma_abstract_values;
 use asn_base::value::Value;
 
 /// The number of an INTEGER.
@@ -14,7 +14,7 @@ pub(crate) fn number(value: &Value) -> i128
     requires { (z : ℤ) × (abstract value.now ≡ integer z) }
     ensures { abstract value.now ≡ integer result }
 {
-    abstract_values();
+    lemma_abstract_values();
     match value {
         Value::Int(number) => *number,
         Value::Bool(_) | Value::Enum(_) | Value::Bits(_) | Value::Octets(_) => unreachable!(),
@@ -28,7 +28,7 @@ pub(crate) fn elements(value: &Value) -> &[Value]
     requires { (r : Row) × (abstract value.now ≡ list r) }
     ensures { abstract value.now ≡ list (row_of_list (map abstract result.now)) }
 {
-    abstract_values();
+    lemma_abstract_values();
     match value {
         Value::List(values) => values.as_slice(),
         Value::Bool(_) | Value::Int(_) | Value::Enum(_) | Value::Bits(_) => unreachable!(),
@@ -42,7 +42,7 @@ pub(crate) fn chosen(value: &Value) -> (usize, &Value)
     requires { (i : ℕ) × (w : AbstractValue) × (abstract value.now ≡ alternative i w) }
     ensures { abstract value.now ≡ alternative result.0 (abstract result.1.now) }
 {
-    abstract_values();
+    lemma_abstract_values();
     match value {
         Value::Alt(index, inner) => (*index, inner),
         Value::Bool(_) | Value::Int(_) | Value::Enum(_) | Value::Bits(_) => unreachable!(),
@@ -56,7 +56,7 @@ pub(crate) fn fields_of(value: &Value) -> Option<&[Option<Value>]>
     ensures { MatchOption result ((row : Row) → abstract value.now ≡ fields row → ⊥)
         (λ vs. abstract value.now ≡ fields (row_of_options (map (option_map abstract) vs.now))) }
 {
-    abstract_values();
+    lemma_abstract_values();
     match value {
         Value::Fields(values) => Some(values.as_slice()),
         Value::Bool(_) | Value::Int(_) | Value::Enum(_) | Value::Bits(_) => None,

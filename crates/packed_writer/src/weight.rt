@@ -4,7 +4,7 @@ ghost use Rattle.asn_base.specs.Abstract.{abstract, row_of_list, row_of_options}
 ghost use Rattle.packed_encodings.specs.Weights.{row_weight, weight};
 ghost use Rattle.std.specs.Prelude.{◌≡◌, ◌<◌, ◌≤◌, ◌-◌, IsTrue, false, map, option_map};
 
-use asn_base::law::abstract_values;
+use asn_base::law::lemma_abstract_values;
 use asn_base::value::Value;
 use limits::MAX_NODES;
 
@@ -24,7 +24,7 @@ pub(crate) fn is_light(value: &Value) -> bool
 fn weigh(value: &Value, left: &mut usize)
     ensures { left.new ≡ left.old - weight (abstract value.now) }
 {
-    abstract_values();
+    lemma_abstract_values();
     *left = left.saturating_sub(1);
     match value {
         Value::Bool(_) | Value::Int(_) | Value::Enum(_) | Value::Bits(_) => {}

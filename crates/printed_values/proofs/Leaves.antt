@@ -6,7 +6,7 @@ use Rattle.std.specs.Int.Digits.{number_from_digits, AllBelowBase}
 use Rattle.asn_base.specs.declared.strings.StringKind.{StringKind}
 use Rattle.asn_base.specs.Names.{IsMember, is_first, is_later}
 use Rattle.asn_base.specs.Schemas.{is_character}
-use Rattle.print_laws.specs.Back.{bit_values, nibbles}
+use Rattle.laws_print.specs.Back.{bit_values, nibbles}
 use Rattle.value_notations.specs.Leaves.{AreOctets}
 
 -- ---- bits

@@ -7,11 +7,11 @@ use Rattle.asn_base.specs.Names as base
 use Rattle.asn_base.specs.Types.{Component, Presence, Resolved}
 use Rattle.asn_base.specs.Typed.{MayBeAbsent}
 use Rattle.trees.specs.Values.{Name, Tree, trees, members}
-use Rattle.names.specs.Modules.{StandsIn, StandsTwice}
+use Rattle.names.specs.Modules.{OccursIn, OccursTwice}
 use Rattle.names.specs.Modules as modules
 use Rattle.type_table.specs.Table.{Part}
 use Rattle.resolve.specs.Program.{Program}
-use Rattle.print_laws.specs.Back.{fields_tree, items_tree}
+use Rattle.laws_print.specs.Back.{fields_tree, items_tree}
 use Rattle.value_notations.specs.Notations.{list_of, named_list, values_in, fields_in, field_names, part_names, may_be_absent, IsPartOf, none_left, left_out, taken, Fields, no_part, part_absent, part_present}
 use Rattle.schema_of.specs.SchemaOf.{IsPresenceOf, is_mandatory, is_optional, has_default, is_addition, is_optional_addition, IsComponentOf, AreComponentsOf, AreAlternativesOf, IsAlternativeOf}
 use Rattle.schema_of.specs.SchemaOf as schema_of
@@ -46,7 +46,7 @@ pub distinct : {A : Type 0} (xs : List A) → base.AreDistinct xs → modules.Ar
 distinct [] d x t = absurd (let e = t.here in cc)
 distinct (y ∷ xs) d x t = go t.first t.second t.apart t.here t.there (λ u. distinct xs d.1 x u)
   where
-    go : (i j : ℕ) → i < j → slice_get (y ∷ xs) i ≡ Some x → slice_get (y ∷ xs) j ≡ Some x → (StandsTwice xs x → ⊥) → ⊥
+    go : (i j : ℕ) → i < j → slice_get (y ∷ xs) i ≡ Some x → slice_get (y ∷ xs) j ≡ Some x → (OccursTwice xs x → ⊥) → ⊥
     go i zero l e f more = absurd (omega (arith, l))
     go zero (suc j) l e f more = let q : y ≡ x = cc in d.0 (subst (λ z. IsMember z xs) (sym q) (at_place x xs j f))
     go (suc i) (suc j) l e f more = more (record { first = i; second = j; apart = omega (arith, l); here = e; there = f })
@@ -62,11 +62,11 @@ distinct_part none_left d = tt
 distinct_part (left_out p) d = distinct_part p d.1
 distinct_part (taken p) d = (λ m. d.0 (in_whole p m), distinct_part p d.1)
 
-pub placed : {A : Type 0} {x : A} {xs : List A} → IsMember x xs → StandsIn xs x
+pub placed : {A : Type 0} {x : A} {xs : List A} → IsMember x xs → OccursIn xs x
 placed is_first = (0, refl)
 placed (is_later m) = let r = placed m in (suc r.0, r.1)
 
-pub member_of_place : {A : Type 0} (x : A) (xs : List A) → StandsIn xs x → IsMember x xs
+pub member_of_place : {A : Type 0} (x : A) (xs : List A) → OccursIn xs x → IsMember x xs
 member_of_place x xs s = at_place x xs s.0 s.1
 
 -- ---- components
@@ -94,7 +94,7 @@ one_more f other no_part = no_part
 one_more {fs} f other (part_absent {c} {cs} out may rest) =
     part_absent (λ s. elim (front s) [ inl e ↦ other (subst (λ z. IsMember z (c.name ∷ part_names cs)) (sym e) is_first) | inr b ↦ out b ]) may (one_more f (λ m. other (is_later m)) rest)
   where
-    front : StandsIn (f.0 ∷ field_names fs) c.name → (f.0 ≡ c.name) ⊎ StandsIn (field_names fs) c.name
+    front : OccursIn (f.0 ∷ field_names fs) c.name → (f.0 ≡ c.name) ⊎ OccursIn (field_names fs) c.name
     front (zero, e) = inl (let q : f.0 ≡ c.name = cc in q)
     front (suc i, e) = inr (i, e)
 one_more f other (part_present {c} {cs} there n rest) =

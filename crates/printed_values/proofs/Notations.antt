@@ -8,7 +8,7 @@ use Rattle.asn_base.specs.Names as base
 use Rattle.asn_base.specs.Types.{Component, Alternative, Resolved, Is}
 use Rattle.asn_base.specs.Types as types
 use Rattle.asn_base.specs.Schemas.{components, IsSchema, IsSound}
-use Rattle.asn_base.specs.Typed.{Fits, fits_boolean, fits_integer, fits_enumerated, fits_bits, fits_named_bits, fits_octets, fits_null, fits_oid, fits_relative_oid, fits_utf8, fits_restricted, HasNumber, arcs, ValueIn, value_in, ValueOf, of_leaf, of_sequence, of_set, of_sequence_of, of_set_of, of_choice, AreComponents, no_component, component_absent, component_present, AreElements, no_element, one_element, GroupsAreWhole}
+use Rattle.asn_base.specs.Typed.{IsPrimitive, fits_boolean, fits_integer, fits_enumerated, fits_bits, fits_named_bits, fits_octets, fits_null, fits_oid, fits_relative_oid, fits_utf8, fits_restricted, HasNumber, arcs, ValueIn, value_in, ValueOf, of_leaf, of_sequence, of_set, of_sequence_of, of_set_of, of_choice, AreComponents, no_component, component_absent, component_present, AreElements, no_element, one_element, GroupsAreWhole}
 use Rattle.trees.specs.declared.types.ListKind.{ListKind}
 use Rattle.trees.specs.declared.types.ListKind.TheVariants.{Sequence, Set, Choice}
 use Rattle.trees.specs.declared.types.ElementsKind.{ElementsKind}
@@ -18,7 +18,7 @@ use Rattle.type_table.specs.Items.{Item, additions_of}
 use Rattle.type_table.specs.Table.{Part, Kind, simple, members, elements}
 use Rattle.resolve.specs.Program.{Program}
 use Rattle.value_text.specs.Print.{kind_in, kind_at, items_in, name_with, name_in, element_in, alternatives_in}
-use Rattle.print_laws.specs.Back.{nibbles, numbers_tree, fields_tree, items_tree, tree_of, members_of, trees_of}
+use Rattle.laws_print.specs.Back.{nibbles, numbers_tree, fields_tree, items_tree, tree_of, members_of, trees_of}
 use Rattle.value_notations.specs.References.{IsOwn, own}
 use Rattle.value_notations.specs.Leaves as leaves
 use Rattle.value_notations.specs.Leaves.{IsItem, is_rooted}
@@ -32,9 +32,9 @@ use Rattle.printed_values.proofs.Items.{found_item, own_item}
 use Rattle.printed_values.proofs.Lists.{values_back, fields_back, distinct, in_whole, distinct_part, placed, member_of_place, names_alike, absent_too, one_more}
 
 -- the notation determines its value under a type of kind k by itself, in any module and whatever is being read
-pub record Told (p : Program) (k : Kind) (n : Tree) (v : AbstractValue) : Type 0 where
+pub record Determines (p : Program) (k : Kind) (n : Tree) (v : AbstractValue) : Type 0 where
   pub own : IsOwn k n
-  pub stands : (os : List ℕ) (M : Name) → NotationOf p os M k n v
+  pub determined : (os : List ℕ) (M : Name) → NotationOf p os M k n v
 
 own_fields : (k : Kind) (ms : List (Name × Tree)) → IsOwn k (fields_tree ms)
 own_fields k [] = tt
@@ -64,108 +64,108 @@ pub record SchemaLaws : Type 0 where
       → IsChosenPart cs i a
 
 module _ (laws : SchemaLaws) (p : Program) (Allows : ℕ → ℤ → Type 0) (AllowsCode : ℕ → ℕ → Type 0) (s : List Resolved) where
-  told_item : (t : ℕ) (root : List Item) (more : Option (List Item)) (in_root added : List types.Item) (marker : Bool) (z : ℤ)
+  determines_item : (t : ℕ) (root : List Item) (more : Option (List Item)) (in_root added : List types.Item) (marker : Bool) (z : ℤ)
       → kind_at s t ≡ types.an_enumerated in_root marker added
       → AreItemsOf root more in_root marker added
       → HasNumber (in_root ++ added) z
-      → Told p (simple (an_enumerated root more)) (tree_of s t (enumerated z)) (enumerated z)
-  told_item t root more in_root added marker z e a h =
+      → Determines p (simple (an_enumerated root more)) (tree_of s t (enumerated z)) (enumerated z)
+  determines_item t root more in_root added marker z e a h =
       let x = name_in (name_with (in_root ++ added) z) in
       let i = laws.items root more in_root added marker x z a (found_item (in_root ++ added) z h) in
       let there = subst (λ (k : types.Kind). IsItem root (additions_of more) (name_in (name_with (items_in k) z)) z) (sym e) i in
       record {
         own = own_item root (additions_of more) (name_in (name_with (items_in (kind_at s t)) z)) z there;
-        stands = λ os M. notations.of_leaf (leaves.named_item there);
+        determined = λ os M. notations.of_leaf (leaves.named_item there);
       }
 
-  told_text : (t : ℕ) (k : Plain) (o : List ℕ)
+  determines_text : (t : ℕ) (k : Plain) (o : List ℕ)
       → HasNoLineEnd (text o)
       → leaves.IsLeaf k (chars o) (text o)
-      → Told p (simple k) (tree_of s t (text o)) (text o)
-  told_text t k o l leaf =
+      → Determines p (simple k) (tree_of s t (text o)) (text o)
+  determines_text t k o l leaf =
       let e : tree_of s t (text o) ≡ chars o = ap (λ q. if q then hex (nibbles o) else chars o) l in
-      subst (λ (n : Tree). Told p (simple k) n (text o)) (sym e) (record { own = tt; stands = λ os M. notations.of_leaf leaf })
+      subst (λ (n : Tree). Determines p (simple k) n (text o)) (sym e) (record { own = tt; determined = λ os M. notations.of_leaf leaf })
 
-  told_relative : (t : ℕ) (ns : List ℕ) → 1 ≤ length ns → Told p (simple a_relative_oid) (numbers_tree ns) (relative_oid ns)
-  told_relative t [] l = absurd (omega (arith, l))
-  told_relative t (n ∷ []) l = record { own = tt; stands = λ os M. notations.of_leaf leaves.relative_alone }
-  told_relative t (m ∷ n ∷ ns) l = record { own = tt; stands = λ os M. notations.of_leaf leaves.relative }
+  determines_relative : (t : ℕ) (ns : List ℕ) → 1 ≤ length ns → Determines p (simple a_relative_oid) (numbers_tree ns) (relative_oid ns)
+  determines_relative t [] l = absurd (omega (arith, l))
+  determines_relative t (n ∷ []) l = record { own = tt; determined = λ os M. notations.of_leaf leaves.relative_alone }
+  determines_relative t (m ∷ n ∷ ns) l = record { own = tt; determined = λ os M. notations.of_leaf leaves.relative }
 
-  told_truth : (t : ℕ) (b : Bool) → Told p (simple a_boolean) (tree_of s t (boolean b)) (boolean b)
-  told_truth t true = record { own = tt; stands = λ os M. notations.of_leaf leaves.truth }
-  told_truth t false = record { own = tt; stands = λ os M. notations.of_leaf leaves.falsehood }
+  determines_truth : (t : ℕ) (b : Bool) → Determines p (simple a_boolean) (tree_of s t (boolean b)) (boolean b)
+  determines_truth t true = record { own = tt; determined = λ os M. notations.of_leaf leaves.truth }
+  determines_truth t false = record { own = tt; determined = λ os M. notations.of_leaf leaves.falsehood }
 
-  told_bits : (t : ℕ) (bs : List (Name × ℕ)) (b : List Bool) → Told p (simple (a_bit_string bs)) (tree_of s t (bits b)) (bits b)
-  told_bits t bs b = record { own = tt; stands = λ os M. notations.of_leaf (leaves.bit_digits (below_two b) (bits_back b)) }
+  determines_bits : (t : ℕ) (bs : List (Name × ℕ)) (b : List Bool) → Determines p (simple (a_bit_string bs)) (tree_of s t (bits b)) (bits b)
+  determines_bits t bs b = record { own = tt; determined = λ os M. notations.of_leaf (leaves.bit_digits (below_two b) (bits_back b)) }
 
-  told_leaf : {k : types.Kind} {v : AbstractValue} {K : Kind} {W : Name} (t : ℕ)
+  determines_leaf : {k : types.Kind} {v : AbstractValue} {K : Kind} {W : Name} (t : ℕ)
       → kind_at s t ≡ k
       → IsSound s k
-      → Fits k v
+      → IsPrimitive k v
       → IsKindOf p Allows AllowsCode t W K k
       → HasNoLineEnd v
-      → Told p K (tree_of s t v) v
-  told_leaf t e d (fits_boolean {b}) schema_of.boolean l = told_truth t b
-  told_leaf t e d (fits_integer w a) (schema_of.integer f) l = record { own = tt; stands = λ os M. notations.of_leaf leaves.written_number }
-  told_leaf t e d (fits_enumerated {z} w h) (schema_of.enumerated {root} {more} {in_root} {added} {marker} a) l = told_item t root more in_root added marker z e a h
-  told_leaf t e d (fits_bits {s = b} a) (schema_of.bits f) l = told_bits t [] b
-  told_leaf t e d (fits_named_bits {s = b}) (schema_of.named_bits {b = x} {bs} f) l = told_bits t (x ∷ bs) b
-  told_leaf t e d (fits_octets {o} b a) (schema_of.octets f) l = record { own = tt; stands = λ os M. notations.of_leaf (leaves.octet_hex (octets_back o b)) }
-  told_leaf t e d fits_null schema_of.null l = record { own = tt; stands = λ os M. notations.of_leaf leaves.nothing_more }
-  told_leaf t e d (fits_oid (arcs a b c f n)) schema_of.object_identifier l = record { own = tt; stands = λ os M. notations.of_leaf (leaves.identifier (is_rooted a b)) }
-  told_leaf t e d (fits_relative_oid {ns} r) schema_of.relative_oid l = told_relative t ns r.some
-  told_leaf t e d (fits_utf8 {o} u a) (schema_of.utf8 f) l = told_text t a_utf8_string o l (leaves.utf8 u)
-  told_leaf t e d (fits_restricted {k} {alphabet} {c} {o} m a) (schema_of.restricted g f) l =
-      told_text t (a_restricted_string k) o l (leaves.restricted (characters k alphabet o d.0.are_characters m))
+      → Determines p K (tree_of s t v) v
+  determines_leaf t e d (fits_boolean {b}) schema_of.boolean l = determines_truth t b
+  determines_leaf t e d (fits_integer w a) (schema_of.integer f) l = record { own = tt; determined = λ os M. notations.of_leaf leaves.written_number }
+  determines_leaf t e d (fits_enumerated {z} w h) (schema_of.enumerated {root} {more} {in_root} {added} {marker} a) l = determines_item t root more in_root added marker z e a h
+  determines_leaf t e d (fits_bits {s = b} a) (schema_of.bits f) l = determines_bits t [] b
+  determines_leaf t e d (fits_named_bits {s = b}) (schema_of.named_bits {b = x} {bs} f) l = determines_bits t (x ∷ bs) b
+  determines_leaf t e d (fits_octets {o} b a) (schema_of.octets f) l = record { own = tt; determined = λ os M. notations.of_leaf (leaves.octet_hex (octets_back o b)) }
+  determines_leaf t e d fits_null schema_of.null l = record { own = tt; determined = λ os M. notations.of_leaf leaves.nothing_more }
+  determines_leaf t e d (fits_oid (arcs a b c f n)) schema_of.object_identifier l = record { own = tt; determined = λ os M. notations.of_leaf (leaves.identifier (is_rooted a b)) }
+  determines_leaf t e d (fits_relative_oid {ns} r) schema_of.relative_oid l = determines_relative t ns r.some
+  determines_leaf t e d (fits_utf8 {o} u a) (schema_of.utf8 f) l = determines_text t a_utf8_string o l (leaves.utf8 u)
+  determines_leaf t e d (fits_restricted {k} {alphabet} {c} {o} m a) (schema_of.restricted g f) l =
+      determines_text t (a_restricted_string k) o l (leaves.restricted (characters k alphabet o d.0.are_characters m))
 
   -- ---- values that hold others
 
-  told_fields : (t : ℕ) (k : types.Kind) (ds : List Component) (vs : Row) (K : ListKind) (marker : Bool) (cs : List Part)
+  determines_fields : (t : ℕ) (k : types.Kind) (ds : List Component) (vs : Row) (K : ListKind) (marker : Bool) (cs : List Part)
       → kind_at s t ≡ k
       → components k ≡ ds
       → AreArranged K (part_names cs) (field_names (members_of s ds vs))
       → ((os : List ℕ) (M : Name) → Fields p os M (members_of s ds vs) cs vs)
       → GroupsAreWhole (map notations.component_of cs) vs
-      → Told p (members K marker cs) (tree_of s t (fields' vs)) (fields' vs)
-  told_fields t k ds vs K marker cs e f arranged h groups =
+      → Determines p (members K marker cs) (tree_of s t (fields' vs)) (fields' vs)
+  determines_fields t k ds vs K marker cs e f arranged h groups =
       let g : ds ≡ components (kind_at s t) = sym (ap components e ∙ f) in
-      subst (λ (ds : List Component). Told p (members K marker cs) (fields_tree (members_of s ds vs)) (fields' vs)) g
+      subst (λ (ds : List Component). Determines p (members K marker cs) (fields_tree (members_of s ds vs)) (fields' vs)) g
       (record {
         own = own_fields (members K marker cs) (members_of s ds vs);
-        stands = λ os M. notations.of_fields (fields_back (members_of s ds vs)) arranged (h os M) groups;
+        determined = λ os M. notations.of_fields (fields_back (members_of s ds vs)) arranged (h os M) groups;
       })
 
   abbrev listed_tree : Option ℕ → Row → Tree
   listed_tree o vs = elim o [ None ↦ nothing | Some u ↦ items_tree (trees_of s u vs) ]
 
-  told_list : (t : ℕ) (k : types.Kind) (u : ℕ) (vs : Row) (K : ElementsKind)
+  determines_list : (t : ℕ) (k : types.Kind) (u : ℕ) (vs : Row) (K : ElementsKind)
       → kind_at s t ≡ k
       → element_in k ≡ Some u
       → ((os : List ℕ) (M : Name) → Elements p os M u (trees_of s u vs) vs)
-      → Told p (elements K u) (tree_of s t (list vs)) (list vs)
-  told_list t k u vs K e f h =
+      → Determines p (elements K u) (tree_of s t (list vs)) (list vs)
+  determines_list t k u vs K e f h =
       let g : Some u ≡ element_in (kind_at s t) = sym (ap element_in e ∙ f) in
-      subst (λ (o : Option ℕ). Told p (elements K u) (listed_tree o vs) (list vs)) g
+      subst (λ (o : Option ℕ). Determines p (elements K u) (listed_tree o vs) (list vs)) g
       (record {
         own = own_items (elements K u) (trees_of s u vs);
-        stands = λ os M. notations.of_list (values_back (trees_of s u vs)) (h os M);
+        determined = λ os M. notations.of_list (values_back (trees_of s u vs)) (h os M);
       })
 
   abbrev chosen_tree : Option Alternative → AbstractValue → Tree
   chosen_tree o v = elim o [ None ↦ nothing | Some a ↦ chosen a.name (tree_of s a.type v) ]
 
-  told_choice : (t : ℕ) (k : types.Kind) (i : ℕ) (a : Alternative) (v : AbstractValue) (marker : Bool) (cs : List Part)
+  determines_choice : (t : ℕ) (k : types.Kind) (i : ℕ) (a : Alternative) (v : AbstractValue) (marker : Bool) (cs : List Part)
       → kind_at s t ≡ k
       → slice_get (alternatives_in k) i ≡ Some a
       → IsChosenPart cs i a
       → ((os : List ℕ) (M : Name) → Notation p os M a.type (tree_of s a.type v) v)
-      → Told p (members Choice marker cs) (tree_of s t (alternative i v)) (alternative i v)
-  told_choice t k i a v marker cs e f c h =
+      → Determines p (members Choice marker cs) (tree_of s t (alternative i v)) (alternative i v)
+  determines_choice t k i a v marker cs e f c h =
       let g : Some a ≡ slice_get (alternatives_in (kind_at s t)) i = sym (ap (λ (k : types.Kind). slice_get (alternatives_in k) i) e ∙ f) in
-      subst (λ (o : Option Alternative). Told p (members Choice marker cs) (chosen_tree o v) (alternative i v)) g
+      subst (λ (o : Option Alternative). Determines p (members Choice marker cs) (chosen_tree o v) (alternative i v)) g
       (record {
         own = tt;
-        stands = λ os M. notations.of_choice c.there (sym c.alike.name) (subst (λ (j : ℕ). Notation p os M j (tree_of s a.type v) v) c.alike.type (h os M));
+        determined = λ os M. notations.of_choice c.there (sym c.alike.name) (subst (λ (j : ℕ). Notation p os M j (tree_of s a.type v) v) c.alike.type (h os M));
       })
 
   -- components as they are in braces
@@ -211,28 +211,28 @@ module _ (laws : SchemaLaws) (p : Program) (Allows : ℕ → ℤ → Type 0) (Al
       pub notated : {n t : ℕ} {v : AbstractValue} → ValueIn s n t v → HasNoLineEnd v → (os : List ℕ) (M : Name) → Notation p os M t (tree_of s t v) v
       notated (value_in {n} {t} {tags} {k} {v} is of) l os M =
           let f = seen.each t (record { tags = tags; kind = k }) is.found in
-          let w = told t tags is of f.kind l in
-          notation (record { core = f.core; type = f.type; leads = f.leads; there = f.there; kind = refl }) (own w.own) (w.stands os M)
+          let w = is_determined t tags is of f.kind l in
+          notation (record { core = f.core; type = f.type; chain = f.chain; there = f.there; kind = refl }) (own w.own) (w.determined os M)
 
-      told : {n : ℕ} {k : types.Kind} {v : AbstractValue} {K : Kind} {W : Name} (t : ℕ) (tags : List Tag)
+      is_determined : {n : ℕ} {k : types.Kind} {v : AbstractValue} {K : Kind} {W : Name} (t : ℕ) (tags : List Tag)
           → Is s t tags k
           → ValueOf s n k v
           → IsKindOf p Allows AllowsCode t W K k
           → HasNoLineEnd v
-          → Told p K (tree_of s t v) v
-      told {k} t tags is (of_leaf h) kind l = told_leaf t (kind_is s t tags k is) (schema.sound t tags k is) h kind l
-      told {k} t tags is (of_sequence {cs = ds} {vs} h g) (schema_of.sequence {marker} {cs} a) l =
+          → Determines p K (tree_of s t v) v
+      is_determined {k} t tags is (of_leaf h) kind l = determines_leaf t (kind_is s t tags k is) (schema.sound t tags k is) h kind l
+      is_determined {k} t tags is (of_sequence {cs = ds} {vs} h g) (schema_of.sequence {marker} {cs} a) l =
           let d = subst base.AreDistinct (names_alike a) (schema.sound t tags k is).names.distinct in
           let f = filled h a d l in
-          told_fields t k ds vs Sequence marker cs (kind_is s t tags k is) refl (in_order cs ds vs d f) f.stand ((laws.groups p _ cs ds vs a).0 g)
-      told {k} t tags is (of_set {cs = ds} {vs} h g) (schema_of.set {marker} {cs} a) l =
+          determines_fields t k ds vs Sequence marker cs (kind_is s t tags k is) refl (in_order cs ds vs d f) f.stand ((laws.groups p _ cs ds vs a).0 g)
+      is_determined {k} t tags is (of_set {cs = ds} {vs} h g) (schema_of.set {marker} {cs} a) l =
           let d = subst base.AreDistinct (names_alike a) (schema.sound t tags k is).0.names.distinct in
           let f = filled h a d l in
-          told_fields t k ds vs Set marker cs (kind_is s t tags k is) refl (in_any_order cs ds vs d f) f.stand ((laws.groups p _ cs ds vs a).0 g)
-      told {k} t tags is (of_sequence_of {u} {vs} h a) (schema_of.sequence_of f) l = told_list t k u vs _ (kind_is s t tags k is) refl (notated_elements h l)
-      told {k} t tags is (of_set_of {u} {vs} h a) (schema_of.set_of f) l = told_list t k u vs _ (kind_is s t tags k is) refl (notated_elements h l)
-      told {k} t tags is (of_choice {i} {e} {root} {more} {a} {v = w} at h) (schema_of.choice {marker} {cs} as') l =
-          told_choice t k i a w marker cs (kind_is s t tags k is) at (laws.alternatives cs root more i a as' at) (notated h l)
+          determines_fields t k ds vs Set marker cs (kind_is s t tags k is) refl (in_any_order cs ds vs d f) f.stand ((laws.groups p _ cs ds vs a).0 g)
+      is_determined {k} t tags is (of_sequence_of {u} {vs} h a) (schema_of.sequence_of f) l = determines_list t k u vs _ (kind_is s t tags k is) refl (notated_elements h l)
+      is_determined {k} t tags is (of_set_of {u} {vs} h a) (schema_of.set_of f) l = determines_list t k u vs _ (kind_is s t tags k is) refl (notated_elements h l)
+      is_determined {k} t tags is (of_choice {i} {e} {root} {more} {a} {v = w} at h) (schema_of.choice {marker} {cs} as') l =
+          determines_choice t k i a w marker cs (kind_is s t tags k is) at (laws.alternatives cs root more i a as' at) (notated h l)
 
       filled : {n : ℕ} {cs : List Part} {ds : List Component} {vs : Row} {W : Name}
           → AreComponents s n ds vs

@@ -4,7 +4,7 @@ use Rattle.asn_base.specs.Abstract.{AbstractValue}
 use Rattle.text.specs.declared.token.Token.{Token}
 use Rattle.grammar.specs.Lexeme.{lexemes}
 use Rattle.grammar.specs.Places.{small}
-use Rattle.kernel.specs.Given.{IsLexed}
+use Rattle.parser_combinators.specs.Given.{IsLexed}
 use Rattle.notation.specs.Reading.{value_at}
 use Rattle.trees.specs.Values.{Name, Tree}
 use Rattle.resolve.specs.Program.{Program}

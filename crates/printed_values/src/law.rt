@@ -6,7 +6,7 @@ ghost use Rattle.asn_base.specs.Schemas.{IsSchema};
 ghost use Rattle.asn_base.specs.Types.{Resolved};
 ghost use Rattle.asn_base.specs.Typed.{IsValue, IsValueWithoutNodes};
 ghost use Rattle.names.specs.Names.{IsApart};
-ghost use Rattle.print_laws.specs.Back.{tree_of};
+ghost use Rattle.laws_print.specs.Back.{tree_of};
 ghost use Rattle.printed_values.specs.LineEnds.{HasNoLineEnd};
 ghost use Rattle.printed_values.specs.ReadBack.{IsReadBack};
 ghost use Rattle.resolve.specs.Program.{Program};
@@ -20,7 +20,7 @@ ghost use Rattle.values.specs.Allowing.{Allows, AllowsCode};
 
 /// The tree of a printed value is a notation of this value under its type, in any module. The exception is a value with
 /// a line end in one of its texts.
-pub fn printed_is_a_notation()
+pub fn lemma_printed_is_a_notation()
     ensures { (p : Program) (s : List Resolved) (os : List ℕ) (M : Name) (i : ℕ) (v : AbstractValue)
         → IsSchema s
         → IsSchemaOf p (Allows p) (AllowsCode p) s
@@ -28,12 +28,12 @@ pub fn printed_is_a_notation()
         → HasNoLineEnd v
         → Notation p os M i (tree_of s i v) v }
 {
-    schema_of::law::parts_are_written();
+    schema_of::law::lemma_parts_are_written();
 }
 
 /// A printed text of at most 16,777,216 octets is read back as the value that was printed. The exception is a value
 /// with a line end in one of its texts.
-pub fn printed_is_read_back()
+pub fn lemma_printed_is_read_back()
     ensures { (p : Program) (s : List Resolved) (M : Name) (i : ℕ) (v : AbstractValue)
         → IsApart p.modules
         → AreSound p.types
@@ -45,9 +45,9 @@ pub fn printed_is_read_back()
         → length (print s i v) ≤ max_text
         → IsReadBack p (Allows p) (AllowsCode p) M i (print s i v) v }
 {
-    print_laws::law::printed_has_tokens();
-    print_laws::law::printed_is_read_back();
-    printed_is_a_notation();
+    laws_print::law::lemma_printed_has_tokens();
+    laws_print::law::lemma_printed_is_read_back();
+    lemma_printed_is_a_notation();
     schema_of::law::same_values();
     value_notations::law::one_value();
 }

@@ -6,7 +6,7 @@ ghost use Rattle.command_line.specs.declared.request.Verb.TheVariants.{Check};
 
 use check_jobs::Inputs;
 use command_line::{Given, Job, Verb};
-use reports::messages::Fault;
+use diagnostics::messages::Fault;
 use std::io::Read;
 use std::{fs, io};
 

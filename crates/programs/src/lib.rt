@@ -5,6 +5,6 @@ mod ending;
 mod files;
 mod words;
 
-pub use ending::{end, end_in};
+pub use ending::{exit_with, exit_with_report};
 pub use files::inputs_of;
 pub use words::job_of;

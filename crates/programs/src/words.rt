@@ -1,11 +1,11 @@
 //! The words of a command line.
 
 ghost use Rattle.std.specs.Prelude.{◌≡◌, ◌∷◌, ℕ, List, IfOk, map, string_bytes};
-ghost use Rattle.command_line.specs.CommandLine.{IsAsked};
+ghost use Rattle.command_line.specs.CommandLine.{IsRequested};
 
 use check_jobs::refusal;
 use command_line::{Job, job};
-use reports::messages::Fault;
+use diagnostics::messages::Fault;
 use std::env;
 
 /// The words of the command line, the first of them the product's name.
@@ -30,7 +30,7 @@ fn words_of(rt: &HostRuntime, program: &str) -> Result<Vec<String>, Fault>
 
 /// The job that the words of the command line ask for, of the product with this name.
 pub fn job_of(rt: &HostRuntime, program: &str) -> Result<Job, Fault>
-    ensures { IfOk result (λ j. (rest : List (List ℕ)) × IsAsked (program.now ∷ rest) j) }
+    ensures { IfOk result (λ j. (rest : List (List ℕ)) × IsRequested (program.now ∷ rest) j) }
 {
     let words = words_of(rt, program)?;
     match job(rt.alloc(), words.as_slice()) {

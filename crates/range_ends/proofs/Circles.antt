@@ -45,8 +45,8 @@ ends_before next i c d k l h e f g =
 pub ends_unique : (next : ℕ → Option ℕ) (i c d : ℕ) → EndsAt next i c → EndsAt next i d → c ≡ d
 ends_unique next i c d u v =
     elim (le_or u.steps v.steps) [
-      | inl h ↦ sym (ends_before next i c d u.steps v.steps h u.leads u.ends v.leads)
-      | inr h ↦ ends_before next i d c v.steps u.steps h v.leads v.ends u.leads
+      | inl h ↦ sym (ends_before next i c d u.steps v.steps h u.chain u.ends v.chain)
+      | inr h ↦ ends_before next i d c v.steps u.steps h v.chain v.ends u.chain
     ]
 
 -- what comes before the end has that end
@@ -57,16 +57,16 @@ ends_after next i p c k e u =
           let s : k + r ≡ u.steps = omega (arith, h) in
           record {
             steps = r;
-            leads = sym (walk_walk next k r i p e) ∙ ap (λ j. follow next j i) s ∙ u.leads;
+            chain = sym (walk_walk next k r i p e) ∙ ap (λ j. follow next j i) s ∙ u.chain;
             ends = u.ends;
           })
-      | inr h ↦ (let q : p ≡ c = ends_before next i c p u.steps k h u.leads u.ends e in
-          record { steps = 0; leads = ap Some q; ends = u.ends })
+      | inr h ↦ (let q : p ≡ c = ends_before next i c p u.steps k h u.chain u.ends e in
+          record { steps = 0; chain = ap Some q; ends = u.ends })
     ]
 
 pub ends_next : (next : ℕ → Option ℕ) (i j c : ℕ) → next i ≡ Some j → EndsAt next j c → EndsAt next i c
 ends_next next i j c e u = record {
   steps = suc u.steps;
-  leads = ap (λ o. onward o (λ k. follow next u.steps k)) e ∙ u.leads;
+  chain = ap (λ o. onward o (λ k. follow next u.steps k)) e ∙ u.chain;
   ends = u.ends;
 }

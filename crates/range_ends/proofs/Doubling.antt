@@ -10,13 +10,13 @@ use Rattle.range_ends.proofs.Circles.{below, after_end}
 
 -- no reference leads on from a place
 pub far_none : (os : List (Option ℕ)) (i : ℕ) → listed os i ≡ None → IsFar os 1 i i
-far_none os i e = record { steps = 0; leads = refl; far = inl e }
+far_none os i e = record { steps = 0; chain = refl; far = inl e }
 
 -- one reference
 pub far_one : (os : List (Option ℕ)) (i j : ℕ) → listed os i ≡ Some j → IsFar os 1 i j
 far_one os i j e = record {
   steps = 1;
-  leads = ap (λ o. onward o (λ k. follow (listed os) 0 k)) e;
+  chain = ap (λ o. onward o (λ k. follow (listed os) 0 k)) e;
   far = inr (omega arith);
 }
 
@@ -24,9 +24,9 @@ far_one os i j e = record {
 pub far_twice : (os : List (Option ℕ)) (n i j k : ℕ) → IsFar os n i j → IsFar os n j k → IsFar os (n + n) i k
 far_twice os n i j k u v = record {
   steps = u.steps + v.steps;
-  leads = walk_walk (listed os) u.steps v.steps i j u.leads ∙ v.leads;
+  chain = walk_walk (listed os) u.steps v.steps i j u.chain ∙ v.chain;
   far = elim u.far [
-    | inl e ↦ (let q : k ≡ j = after_end (listed os) v.steps j k e v.leads in inl (ap (listed os) q ∙ e))
+    | inl e ↦ (let q : k ≡ j = after_end (listed os) v.steps j k e v.chain in inl (ap (listed os) q ∙ e))
     | inr l ↦ elim v.far [ inl e ↦ inl e | inr m ↦ inr (omega (arith, l, m)) ]
   ];
 }
@@ -34,7 +34,7 @@ far_twice os n i j k u v = record {
 pub far_less : (os : List (Option ℕ)) (n m i c : ℕ) → m ≤ n → IsFar os n i c → IsFar os m i c
 far_less os n m i c l u = record {
   steps = u.steps;
-  leads = u.leads;
+  chain = u.chain;
   far = elim u.far [ inl e ↦ inl e | inr k ↦ inr (omega (arith, l, k)) ];
 }
 
@@ -42,7 +42,7 @@ pub all_less : (os : List (Option ℕ)) (n m : ℕ) (cs : List ℕ) → m ≤ n 
 all_less os n m cs l a = record { all = a.all; each = λ i c e. far_less os n m i c l (a.each i c e) }
 
 pub far_inside : (os : List (Option ℕ)) (n i c : ℕ) → IsWithin (listed os) (length os) → i < length os → IsFar os n i c → c < length os
-far_inside os n i c w l u = below (listed os) (length os) u.steps i c w l u.leads
+far_inside os n i c w l u = below (listed os) (length os) u.steps i c w l u.chain
 
 split_on : (next : ℕ → Option ℕ) (r n c : ℕ) (o : Option ℕ) →
     ((j : ℕ) → follow next (r + n) j ≡ Some c → (b : ℕ) × (follow next r j ≡ Some b) × (follow next n b ≡ Some c)) →

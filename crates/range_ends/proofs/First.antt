@@ -11,9 +11,9 @@ use Rattle.names.specs.declared.scope.Assigned.TheVariants as assigned
 use Rattle.type_table.specs.Table.{Kind}
 use Rattle.resolve.specs.Program.{Program}
 use Rattle.range_ends.specs.Answers.{IsOf}
-use Rattle.range_ends.specs.Ends.{EndIs, IsValueAt, Means, LeadsTo, there, onward, IsLost, ComesRound}
+use Rattle.range_ends.specs.Ends.{EndIs, IsValueAt, Means, ReferencePath, there, onward, HasNoNumber, IsCircularEnd}
 use Rattle.range_ends.specs.Ranges.{IsEnd, IsRange, AreRanges}
-use Rattle.range_ends.specs.First.{HaveOneMeaning, IsEndWrong, IsTurnedAt, IsBetweenWrong, of_lower, of_upper, of_both, IsRangeWrong, IsFirstWrong, TellsSame}
+use Rattle.range_ends.specs.First.{HaveOneMeaning, IsEndWrong, IsTurnedAt, IsBetweenWrong, of_lower, of_upper, of_both, IsRangeWrong, IsFirstWrong, ReportsSame}
 use Rattle.range_ends.specs.declared.ranges.Counted.{Counted}
 use Rattle.range_ends.specs.declared.ranges.RangeFault.{RangeFault}
 use Rattle.range_ends.specs.declared.ranges.RangeFault.TheVariants as faults
@@ -44,21 +44,21 @@ module _ (p : Program) (k : Kind) (once : HaveOneMeaning p) where
       let e = means_once M n i j a b in
       value_once p j N O m o (subst (λ z. IsValueAt p z N m) e v) w
 
-  further : (M K L : Name) (n l m : Tree) → LeadsTo p k M n K l → LeadsTo p k K l L m → LeadsTo p k M n L m
+  further : (M K L : Name) (n l m : Tree) → ReferencePath p k M n K l → ReferencePath p k K l L m → ReferencePath p k M n L m
   further M K L n l m there w = w
   further M K L n l m (onward {N = N} {m = o} i a v u) w = onward i a v (further N K L o l m u w)
 
   back_on : (M N : Name) (n m : Tree) (i : ℕ) →
       Means p k M n i →
       IsValueAt p i N m →
-      LeadsTo p k N m M n →
+      ReferencePath p k N m M n →
       ComesBack p k N m
-  back_on M N n m i a v there = record { next = i; means = a; owner = N; behind = m; first = v; back = there }
+  back_on M N n m i a v there = record { next = i; means = a; owner = N; target = m; first = v; back = there }
   back_on M N n m i a v (onward {N = O} {m = o} j b w u) = record {
     next = j;
     means = b;
     owner = O;
-    behind = o;
+    target = o;
     first = w;
     back = further O M N o n m u (onward i a v there);
   }
@@ -69,17 +69,17 @@ module _ (p : Program) (k : Kind) (once : HaveOneMeaning p) where
       IsValueAt p i N m →
       ComesBack p k N m
   turns_on M N n m i t a v =
-      let e = same_value M t.owner N n t.behind m t.next i t.means t.first a v in
+      let e = same_value M t.owner N n t.target m t.next i t.means t.first a v in
       back_on M N n m i a v
-      (subst (λ z. LeadsTo p k z m M n) e.0 (subst (λ z. LeadsTo p k t.owner z M n) e.1 t.back))
+      (subst (λ z. ReferencePath p k z m M n) e.0 (subst (λ z. ReferencePath p k t.owner z M n) e.1 t.back))
 
-  turns_far : (M K : Name) (n l : Tree) → ComesBack p k M n → LeadsTo p k M n K l → ComesBack p k K l
+  turns_far : (M K : Name) (n l : Tree) → ComesBack p k M n → ReferencePath p k M n K l → ComesBack p k K l
   turns_far M K n l t there = t
   turns_far M K n l t (onward {N = N} {m = m} i a v u) = turns_far N K m l (turns_on M N n m i t a v) u
 
   lost_apart : (M K L : Name) (n l m : Tree) →
-      LeadsTo p k M n K l →
-      LeadsTo p k M n L m →
+      ReferencePath p k M n K l →
+      ReferencePath p k M n L m →
       ((i : ℕ) → Means p k K l i → ⊥) →
       ComesBack p k L m → ⊥
   lost_apart M K L n l m there there alone t = alone t.next t.means
@@ -89,11 +89,11 @@ module _ (p : Program) (k : Kind) (once : HaveOneMeaning p) where
   lost_apart M K L n l m (onward {N = N} {m = x} i a v u) (onward {N = O} {m = o} j b w y) alone t =
       let e = same_value M N O n x o i j a v b w in
       lost_apart O K L o l m
-      (subst (λ z. LeadsTo p k z o K l) e.0 (subst (λ z. LeadsTo p k N z K l) e.1 u)) y alone t
+      (subst (λ z. ReferencePath p k z o K l) e.0 (subst (λ z. ReferencePath p k N z K l) e.1 u)) y alone t
 
-  lost_or_round : (M : Name) (n : Tree) (v : ℕ) → IsLost p k M n → ComesRound p k M n v → ⊥
-  lost_or_round M n v a b = lost_apart M a.within b.within n a.notation b.notation a.leads b.leads a.no_value
-      (record { next = b.next; means = b.means; owner = b.owner; behind = b.behind; first = b.first; back = b.back })
+  lost_or_round : (M : Name) (n : Tree) (v : ℕ) → HasNoNumber p k M n → IsCircularEnd p k M n v → ⊥
+  lost_or_round M n v a b = lost_apart M a.within b.within n a.notation b.notation a.chain b.chain a.no_value
+      (record { next = b.next; means = b.means; owner = b.owner; target = b.target; first = b.first; back = b.back })
 
   -- ---- of one end, of one range, of several
 
@@ -107,7 +107,7 @@ module _ (p : Program) (k : Kind) (once : HaveOneMeaning p) where
           | inr s ↦ b.nothing s.0 s.1
         ]
 
-    end_same : (e : EndSyntax) (f g : RangeFault) → IsEndWrong p k M of e f → IsEndWrong p k M of e g → TellsSame f g
+    end_same : (e : EndSyntax) (f g : RangeFault) → IsEndWrong p k M of e f → IsEndWrong p k M of e g → ReportsSame f g
     end_same e (faults.NoEnd m) (faults.NoEnd n) a b = a.0 ∙ sym b.0
     end_same e (faults.NoEnd m) (faults.Circular v) a b = absurd (lost_and_round e m v a b)
     end_same e (faults.Circular v) (faults.NoEnd n) a b = absurd (lost_and_round e n v b a)
@@ -143,7 +143,7 @@ module _ (p : Program) (k : Kind) (M : Name) (of : Counted) where
   turned_same : (a b : EndSyntax) (f g : RangeFault) →
       IsTurnedAt p k M of a b f →
       IsTurnedAt p k M of a b g →
-      TellsSame f g
+      ReportsSame f g
   turned_same a b (faults.Reversed m) (faults.Reversed n) t u = t.0 ∙ sym u.0
   turned_same a b (faults.Reversed m) (faults.NoEnd n) t u = absurd u
   turned_same a b (faults.Reversed m) (faults.Circular n) t u = absurd u
@@ -153,7 +153,7 @@ module _ (p : Program) (k : Kind) (M : Name) (of : Counted) where
   between_same : HaveOneMeaning p → (a b : EndSyntax) (f g : RangeFault) →
       IsBetweenWrong p k M of a b f →
       IsBetweenWrong p k M of a b g →
-      TellsSame f g
+      ReportsSame f g
   between_same o a b f g (of_lower w) (of_lower x) = end_same p k o M of a f g w x
   between_same o a b f g (of_lower w) (of_upper e x) = absurd (end_fine a f e w)
   between_same o a b f g (of_lower w) (of_both t) = absurd (end_fine a f (both_fine a b g t).0 w)
@@ -167,7 +167,7 @@ module _ (p : Program) (k : Kind) (M : Name) (of : Counted) where
   range_same : HaveOneMeaning p → (r : RangeSyntax) (f g : RangeFault) →
       IsRangeWrong p k M of r f →
       IsRangeWrong p k M of r g →
-      TellsSame f g
+      ReportsSame f g
   range_same o (syntax.Single e) f g a b = end_same p k o M of e f g a b
   range_same o (syntax.Between (Some x) (Some y)) f g a b = between_same o x y f g a b
   range_same o (syntax.Between (Some x) None) f g a b = end_same p k o M of x f g a b
@@ -228,7 +228,7 @@ module _ (p : Program) (k : Kind) (M : Name) (of : Counted) where
       HaveOneMeaning p →
       IsFirstWrong p k M of rs f →
       IsFirstWrong p k M of rs g →
-      TellsSame f g
+      ReportsSame f g
   first_same rs f g o a b =
       elim (in_order a.number b.number) [
         | inl e ↦ (let r : a.range ≡ b.range = some_same a.range b.range

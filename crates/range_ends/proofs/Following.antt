@@ -8,9 +8,9 @@ use Rattle.type_table.specs.Table.{Kind}
 use Rattle.resolve.specs.Program.{Program, IsWhole}
 use Rattle.range_ends.specs.declared.ends.EndFault.{EndFault}
 use Rattle.range_ends.specs.declared.ends.EndFault.TheVariants as ends
-use Rattle.range_ends.specs.Answers.{StandsForOnly, IsEndFault}
-use Rattle.range_ends.specs.Ends.{IsValueAt, named, told, Means, LeadsTo, there, onward, StandsFor, IsLost, ComesRound}
-use Rattle.range_ends.specs.proving.Steps.{MeansValue, listed, AreReferred, told_by, told_at, unless, next}
+use Rattle.range_ends.specs.Answers.{DenotesOnly, IsEndFault}
+use Rattle.range_ends.specs.Ends.{IsValueAt, named, direct_number, Means, ReferencePath, there, onward, DenotesNumber, HasNoNumber, IsCircularEnd}
+use Rattle.range_ends.specs.proving.Steps.{MeansValue, listed, AreReferred, number_by, number_at, unless, next}
 use Rattle.type_table.specs.Walks as walks
 use Rattle.type_table.specs.Walks.{follow, EndsAt, ComesBack, ArrivesAt, IsWithin}
 use Rattle.range_ends.specs.proving.Ways.{Ends, EndsWithout, Turns, IsWayFault}
@@ -20,16 +20,16 @@ use Rattle.range_ends.proofs.References.{some_same, value_once, its_meaning, ref
 
 -- ---- one step
 
-pub told_here : (p : Program) (k : Kind) (i : ℕ) (M : Name) (n : Tree) → IsValueAt p i M n → told_at p k i ≡ told k n
-told_here p k i M n a = ap (told_by k) a.there ∙ ap (told k) a.notation
+pub number_here : (p : Program) (k : Kind) (i : ℕ) (M : Name) (n : Tree) → IsValueAt p i M n → number_at p k i ≡ direct_number k n
+number_here p k i M n a = ap (number_by k) a.there ∙ ap (direct_number k) a.notation
 
-pub next_told : (p : Program) (k : Kind) (os : List (Option ℕ)) (i : ℕ) (z : ℤ) →
-    told_at p k i ≡ Some z →
+pub next_number : (p : Program) (k : Kind) (os : List (Option ℕ)) (i : ℕ) (z : ℤ) →
+    number_at p k i ≡ Some z →
     next p k os i ≡ None
-next_told p k os i z e = ap (λ o. unless o (listed os i)) e
+next_number p k os i z e = ap (λ o. unless o (listed os i)) e
 
 pub next_on : (p : Program) (k : Kind) (os : List (Option ℕ)) (i : ℕ) →
-    told_at p k i ≡ None →
+    number_at p k i ≡ None →
     next p k os i ≡ listed os i
 next_on p k os i e = ap (λ o. unless o (listed os i)) e
 
@@ -38,7 +38,7 @@ unless_some None r j e = (refl, e)
 unless_some (Some z) r j e = absurd cc
 
 pub within_next : (p : Program) (k : Kind) (os : List (Option ℕ)) → IsWithin (listed os) (length os) → IsWithin (next p k os) (length os)
-within_next p k os w i j e = w i j (unless_some (told_at p k i) (listed os i) j e).1
+within_next p k os w i j e = w i j (unless_some (number_at p k i) (listed os i) j e).1
 
 there_is : {X : Type 0} (xs : List X) (i : ℕ) → i < length xs → (x : X) × (slice_get xs i ≡ Some x)
 there_is [] i l = absurd (omega (arith, l))
@@ -62,11 +62,11 @@ value_is p i w l =
       },
     )
 
-as_value : (p : Program) (k : Kind) (M : Name) (n : Tree) (j : ℕ) → Means p k M n j → (told k n ≡ None) × MeansValue p M n j
+as_value : (p : Program) (k : Kind) (M : Name) (n : Tree) (j : ℕ) → Means p k M n j → (direct_number k n ≡ None) × MeansValue p M n j
 as_value p k M (reference q x) j m = m
 as_value p k M n j m = absurd m
 
-as_means : (p : Program) (k : Kind) (M : Name) (n : Tree) (j : ℕ) → told k n ≡ None → MeansValue p M n j → Means p k M n j
+as_means : (p : Program) (k : Kind) (M : Name) (n : Tree) (j : ℕ) → direct_number k n ≡ None → MeansValue p M n j → Means p k M n j
 as_means p k M (reference q x) j e m = (e, m)
 as_means p k M n j e m = absurd m
 
@@ -74,13 +74,13 @@ module _ (p : Program) (k : Kind) (os : List (Option ℕ)) (a : AreReferred p os
   means_next : (i : ℕ) (M : Name) (n : Tree) (j : ℕ) → IsValueAt p i M n → Means p k M n j → next p k os i ≡ Some j
   means_next i M n j at m =
       let v = as_value p k M n j m in
-      next_on p k os i (told_here p k i M n at ∙ v.0)
+      next_on p k os i (number_here p k i M n at ∙ v.0)
       ∙ (a.each i j).1 (record { within = M; notation = n; at = at; means = v.1 })
 
   next_means : (i : ℕ) (M : Name) (n : Tree) (j : ℕ) → IsValueAt p i M n → next p k os i ≡ Some j → Means p k M n j
   next_means i M n j at e =
-      let u = unless_some (told_at p k i) (listed os i) j e in
-      as_means p k M n j (sym (told_here p k i M n at) ∙ u.0) (its_meaning p i M n j at ((a.each i j).0 u.1))
+      let u = unless_some (number_at p k i) (listed os i) j e in
+      as_means p k M n j (sym (number_here p k i M n at) ∙ u.0) (its_meaning p i M n j at ((a.each i j).0 u.1))
 
   next_there : (i j : ℕ) → next p k os i ≡ Some j → j < length p.values
   next_there i j e = let l = within_next p k os (refers_within p os w a) i j e in omega (arith, l, a.all)
@@ -94,9 +94,9 @@ module _ (p : Program) (k : Kind) (os : List (Option ℕ)) (a : AreReferred p os
   leads_on : (s i c : ℕ) (M : Name) (n : Tree) (K : Name) (l : Tree) (o : Option ℕ) →
       next p k os i ≡ o →
       IsValueAt p i M n →
-      ((j : ℕ) (N : Name) (m : Tree) → follow (next p k os) s j ≡ Some c → IsValueAt p j N m → LeadsTo p k N m K l) →
+      ((j : ℕ) (N : Name) (m : Tree) → follow (next p k os) s j ≡ Some c → IsValueAt p j N m → ReferencePath p k N m K l) →
       walks.onward o (λ j. follow (next p k os) s j) ≡ Some c →
-      LeadsTo p k M n K l
+      ReferencePath p k M n K l
   leads_on s i c M n K l None f at go e = absurd cc
   leads_on s i c M n K l (Some j) f at go e =
       let v = value_is p j w (next_there i j f) in
@@ -106,22 +106,22 @@ module _ (p : Program) (k : Kind) (os : List (Option ℕ)) (a : AreReferred p os
       follow (next p k os) s i ≡ Some c →
       IsValueAt p i M n →
       IsValueAt p c K l →
-      LeadsTo p k M n K l
+      ReferencePath p k M n K l
   walk_leads zero i c M n K l e at to =
       let q : i ≡ c = cc in
       let s = value_once p c M K n l (subst (λ z. IsValueAt p z M n) q at) to in
-      subst (λ N. LeadsTo p k M n N l) s.0 (subst (λ t. LeadsTo p k M n M t) s.1 there)
+      subst (λ N. ReferencePath p k M n N l) s.0 (subst (λ t. ReferencePath p k M n M t) s.1 there)
   walk_leads (suc s) i c M n K l e at to =
       leads_on s i c M n K l (next p k os i) refl at (λ j N m f b. walk_leads s j c N m K l f b to) e
 
   leads_ends : (i : ℕ) (M : Name) (n : Tree) (K : Name) (l : Tree) (z : ℤ) →
       IsValueAt p i M n →
-      LeadsTo p k M n K l →
-      told k l ≡ Some z →
-      (c : ℕ) × EndsAt (next p k os) i c × (told_at p k c ≡ Some z)
+      ReferencePath p k M n K l →
+      direct_number k l ≡ Some z →
+      (c : ℕ) × EndsAt (next p k os) i c × (number_at p k c ≡ Some z)
   leads_ends i M n K l z at there e =
-      let t = told_here p k i M n at ∙ e in
-      (i, record { steps = 0; leads = refl; ends = next_told p k os i z t }, t)
+      let t = number_here p k i M n at ∙ e in
+      (i, record { steps = 0; chain = refl; ends = next_number p k os i z t }, t)
   leads_ends i M n K l z at (onward {N = N} {m = m} j means to rest) e =
       let r = leads_ends j N m K l z to rest e in
       (r.0, ends_next (next p k os) i j r.0 (means_next i M n j at means) r.1, r.2)
@@ -129,47 +129,47 @@ module _ (p : Program) (k : Kind) (os : List (Option ℕ)) (a : AreReferred p os
   -- the number of a value is that at the end
   stands_ends : (i : ℕ) (M : Name) (n : Tree) (z : ℤ) →
       IsValueAt p i M n →
-      StandsFor p k M n z →
-      (c : ℕ) × EndsAt (next p k os) i c × (told_at p k c ≡ Some z)
-  stands_ends i M n z at s = leads_ends i M n s.within s.notation z at s.leads s.tells
+      DenotesNumber p k M n z →
+      (c : ℕ) × EndsAt (next p k os) i c × (number_at p k c ≡ Some z)
+  stands_ends i M n z at s = leads_ends i M n s.within s.notation z at s.chain s.number_is
 
   pub value_only : (i : ℕ) (M : Name) (n : Tree) (z : ℤ) →
       i < length p.values →
       IsValueAt p i M n →
       Ends p k os i z →
-      StandsForOnly p k M n z
+      DenotesOnly p k M n z
   value_only i M n z l at e =
-      let v = value_is p e.last w (walk_there e.way.steps i e.last l e.way.leads) in
+      let v = value_is p e.last w (walk_there e.way.steps i e.last l e.way.chain) in
       record {
         stands = record {
           within = v.0;
           notation = v.1;
-          leads = walk_leads e.way.steps i e.last M n v.0 v.1 e.way.leads at v.2;
-          tells = sym (told_here p k e.last v.0 v.1 v.2) ∙ e.tells;
+          chain = walk_leads e.way.steps i e.last M n v.0 v.1 e.way.chain at v.2;
+          number_is = sym (number_here p k e.last v.0 v.1 v.2) ∙ e.number_is;
         };
         only_one = λ y s. (
             let r = stands_ends i M n y at s in
             let q = ends_unique (next p k os) i r.0 e.last r.1 e.way in
-            some_same y z (sym r.2 ∙ ap (told_at p k) q ∙ e.tells));
+            some_same y z (sym r.2 ∙ ap (number_at p k) q ∙ e.number_is));
       }
 
   pub value_lost : (i : ℕ) (M : Name) (n : Tree) →
       i < length p.values →
       IsValueAt p i M n →
       EndsWithout p k os i →
-      IsLost p k M n
+      HasNoNumber p k M n
   value_lost i M n l at e =
-      let v = value_is p e.last w (walk_there e.way.steps i e.last l e.way.leads) in
+      let v = value_is p e.last w (walk_there e.way.steps i e.last l e.way.chain) in
       record {
         nothing = λ z s. (
             let r = stands_ends i M n z at s in
             let q = ends_unique (next p k os) i r.0 e.last r.1 e.way in
-            let f : None ≡ Some z = sym e.tells ∙ sym (ap (told_at p k) q) ∙ r.2 in
+            let f : None ≡ Some z = sym e.number_is ∙ sym (ap (number_at p k) q) ∙ r.2 in
             absurd cc);
         within = v.0;
         notation = v.1;
-        leads = walk_leads e.way.steps i e.last M n v.0 v.1 e.way.leads at v.2;
-        no_number = sym (told_here p k e.last v.0 v.1 v.2) ∙ e.tells;
+        chain = walk_leads e.way.steps i e.last M n v.0 v.1 e.way.chain at v.2;
+        no_number = sym (number_here p k e.last v.0 v.1 v.2) ∙ e.number_is;
         no_value = λ j m. (
             let f : None ≡ Some j = sym e.way.ends ∙ means_next e.last v.0 v.1 j v.2 m in
             absurd cc);
@@ -180,22 +180,22 @@ module _ (p : Program) (k : Kind) (os : List (Option ℕ)) (a : AreReferred p os
       walks.onward o (λ j. follow (next p k os) s j) ≡ Some v →
       (within : Name) (notation : Tree) →
       IsValueAt p v within notation →
-      LeadsTo p k M n within notation →
-      ((z : ℤ) → StandsFor p k M n z → ⊥) →
-      ComesRound p k M n v
-  round_on i v M n s None f e within notation at leads nothing = absurd cc
-  round_on i v M n s (Some j) f e within notation at leads nothing =
+      ReferencePath p k M n within notation →
+      ((z : ℤ) → DenotesNumber p k M n z → ⊥) →
+      IsCircularEnd p k M n v
+  round_on i v M n s None f e within notation at chain nothing = absurd cc
+  round_on i v M n s (Some j) f e within notation at chain nothing =
       let y = value_is p j w (next_there v j f) in
       record {
         nothing = nothing;
         within = within;
         notation = notation;
         value = at;
-        leads = leads;
+        chain = chain;
         next = j;
         means = next_means v within notation j at f;
         owner = y.0;
-        behind = y.1;
+        target = y.1;
         first = y.2;
         back = walk_leads s j v y.0 y.1 within notation e y.2 at;
       }
@@ -204,69 +204,69 @@ module _ (p : Program) (k : Kind) (os : List (Option ℕ)) (a : AreReferred p os
       i < length p.values →
       IsValueAt p i M n →
       Turns p k os i v →
-      ComesRound p k M n v
+      IsCircularEnd p k M n v
   value_round i v M n l at t =
-      let y = value_is p v w (walk_there t.reaches.steps i v l t.reaches.leads) in
+      let y = value_is p v w (walk_there t.reaches.steps i v l t.reaches.chain) in
       round_on i v M n t.back.steps (next p k os v) refl t.back.back y.0 y.1 y.2
-      (walk_leads t.reaches.steps i v M n y.0 y.1 t.reaches.leads at y.2)
+      (walk_leads t.reaches.steps i v M n y.0 y.1 t.reaches.chain at y.2)
       (λ z s. (
       let r = stands_ends i M n z at s in
       ends_not_back (next p k os) v r.0
-      (ends_after (next p k os) i v r.0 t.reaches.steps t.reaches.leads r.1) t.back))
+      (ends_after (next p k os) i v r.0 t.reaches.steps t.reaches.chain r.1) t.back))
 
 -- ---- an end itself
 
-number_stands : (p : Program) (k : Kind) (M : Name) (z y : ℤ) → StandsFor p k M (number z) y → y ≡ z
-number_stands p k M z y s = go s.within s.notation s.leads s.tells
+number_stands : (p : Program) (k : Kind) (M : Name) (z y : ℤ) → DenotesNumber p k M (number z) y → y ≡ z
+number_stands p k M z y s = go s.within s.notation s.chain s.number_is
   where
-    go : (K : Name) (l : Tree) → LeadsTo p k M (number z) K l → told k l ≡ Some y → y ≡ z
+    go : (K : Name) (l : Tree) → ReferencePath p k M (number z) K l → direct_number k l ≡ Some y → y ≡ z
     go K l there e = some_same y z (sym e)
     go K l (onward j means to rest) e = absurd means
 
-pub number_only : (p : Program) (k : Kind) (M : Name) (z : ℤ) → StandsForOnly p k M (number z) z
+pub number_only : (p : Program) (k : Kind) (M : Name) (z : ℤ) → DenotesOnly p k M (number z) z
 number_only p k M z = record {
-  stands = record { within = M; notation = number z; leads = there; tells = refl };
+  stands = record { within = M; notation = number z; chain = there; number_is = refl };
   only_one = number_stands p k M z;
 }
 
 pub named_only : (p : Program) (k : Kind) (M : Name) (q : Option Name) (x : Name) (z : ℤ) →
     named k q x ≡ Some z →
-    StandsForOnly p k M (reference q x) z
+    DenotesOnly p k M (reference q x) z
 named_only p k M q x z e = record {
-  stands = record { within = M; notation = reference q x; leads = there; tells = e };
-  only_one = λ y s. go y s.within s.notation s.leads s.tells;
+  stands = record { within = M; notation = reference q x; chain = there; number_is = e };
+  only_one = λ y s. go y s.within s.notation s.chain s.number_is;
 }
   where
-    go : (y : ℤ) (K : Name) (l : Tree) → LeadsTo p k M (reference q x) K l → told k l ≡ Some y → y ≡ z
+    go : (y : ℤ) (K : Name) (l : Tree) → ReferencePath p k M (reference q x) K l → direct_number k l ≡ Some y → y ≡ z
     go y K l there f = some_same y z (sym f ∙ e)
     go y K l (onward j means to rest) f = let g : None ≡ Some z = sym means.0 ∙ e in absurd cc
 
 -- a name that stands for value i, and for no other
-behind_stands : (p : Program) (k : Kind) (M : Name) (q : Option Name) (x : Name) (i : ℕ) (N : Name) (m : Tree) (z : ℤ) →
+target_denotes : (p : Program) (k : Kind) (M : Name) (q : Option Name) (x : Name) (i : ℕ) (N : Name) (m : Tree) (z : ℤ) →
     named k q x ≡ None →
     ((j : ℕ) → Means p k M (reference q x) j → j ≡ i) →
     IsValueAt p i N m →
-    StandsFor p k M (reference q x) z →
-    StandsFor p k N m z
-behind_stands p k M q x i N m z e only at s = go s.within s.notation s.leads s.tells
+    DenotesNumber p k M (reference q x) z →
+    DenotesNumber p k N m z
+target_denotes p k M q x i N m z e only at s = go s.within s.notation s.chain s.number_is
   where
-    go : (K : Name) (l : Tree) → LeadsTo p k M (reference q x) K l → told k l ≡ Some z → StandsFor p k N m z
+    go : (K : Name) (l : Tree) → ReferencePath p k M (reference q x) K l → direct_number k l ≡ Some z → DenotesNumber p k N m z
     go K l there f = let g : None ≡ Some z = sym e ∙ f in absurd cc
     go K l (onward {N = O} {m = o} j means to rest) f =
         let v = value_once p i O N o m (subst (λ t. IsValueAt p t O o) (only j means) to) at in
-        subst (λ t. StandsFor p k t m z) v.0
-        (subst (λ t. StandsFor p k O t z) v.1 (record { within = K; notation = l; leads = rest; tells = f }))
+        subst (λ t. DenotesNumber p k t m z) v.0
+        (subst (λ t. DenotesNumber p k O t z) v.1 (record { within = K; notation = l; chain = rest; number_is = f }))
 
 further : (p : Program) (k : Kind) (M : Name) (n : Tree) (i : ℕ) (N : Name) (m : Tree) (z : ℤ) →
     Means p k M n i →
     IsValueAt p i N m →
-    StandsFor p k N m z →
-    StandsFor p k M n z
+    DenotesNumber p k N m z →
+    DenotesNumber p k M n z
 further p k M n i N m z means at s = record {
   within = s.within;
   notation = s.notation;
-  leads = onward i means at s.leads;
-  tells = s.tells;
+  chain = onward i means at s.chain;
+  number_is = s.number_is;
 }
 
 module _ (p : Program) (k : Kind) (M : Name) (q : Option Name) (x : Name) (i : ℕ) (N : Name) (m : Tree)
@@ -274,31 +274,31 @@ module _ (p : Program) (k : Kind) (M : Name) (q : Option Name) (x : Name) (i : �
     (means : Means p k M (reference q x) i)
     (only : (j : ℕ) → Means p k M (reference q x) j → j ≡ i)
     (at : IsValueAt p i N m) where
-  pub only_behind : (z : ℤ) → StandsForOnly p k N m z → StandsForOnly p k M (reference q x) z
-  only_behind z s = record {
+  pub only_target : (z : ℤ) → DenotesOnly p k N m z → DenotesOnly p k M (reference q x) z
+  only_target z s = record {
     stands = further p k M (reference q x) i N m z means at s.stands;
-    only_one = λ y t. s.only_one y (behind_stands p k M q x i N m y e only at t);
+    only_one = λ y t. s.only_one y (target_denotes p k M q x i N m y e only at t);
   }
 
-  pub fault_behind : (f : EndFault) → IsEndFault p k N m f → IsEndFault p k M (reference q x) f
-  fault_behind ends.Lost s = record {
-    nothing = λ z t. s.nothing z (behind_stands p k M q x i N m z e only at t);
+  pub target_fault : (f : EndFault) → IsEndFault p k N m f → IsEndFault p k M (reference q x) f
+  target_fault ends.NoMeaning s = record {
+    nothing = λ z t. s.nothing z (target_denotes p k M q x i N m z e only at t);
     within = s.within;
     notation = s.notation;
-    leads = onward i means at s.leads;
+    chain = onward i means at s.chain;
     no_number = s.no_number;
     no_value = s.no_value;
   }
-  fault_behind (ends.Circular v) s = record {
-    nothing = λ z t. s.nothing z (behind_stands p k M q x i N m z e only at t);
+  target_fault (ends.Circular v) s = record {
+    nothing = λ z t. s.nothing z (target_denotes p k M q x i N m z e only at t);
     within = s.within;
     notation = s.notation;
     value = s.value;
-    leads = onward i means at s.leads;
+    chain = onward i means at s.chain;
     next = s.next;
     means = s.means;
     owner = s.owner;
-    behind = s.behind;
+    target = s.target;
     first = s.first;
     back = s.back;
   }
@@ -307,17 +307,17 @@ module _ (p : Program) (k : Kind) (M : Name) (q : Option Name) (x : Name) (i : �
 pub lost_here : (p : Program) (k : Kind) (M : Name) (q : Option Name) (x : Name) →
     named k q x ≡ None →
     ((j : ℕ) → Refers p.modules M q x (assigned.Value j) → ⊥) →
-    IsLost p k M (reference q x)
+    HasNoNumber p k M (reference q x)
 lost_here p k M q x e none = record {
-  nothing = λ z s. go z s.within s.notation s.leads s.tells;
+  nothing = λ z s. go z s.within s.notation s.chain s.number_is;
   within = M;
   notation = reference q x;
-  leads = there;
+  chain = there;
   no_number = e;
   no_value = λ j means. none j means.1;
 }
   where
-    go : (z : ℤ) (K : Name) (l : Tree) → LeadsTo p k M (reference q x) K l → told k l ≡ Some z → ⊥
+    go : (z : ℤ) (K : Name) (l : Tree) → ReferencePath p k M (reference q x) K l → direct_number k l ≡ Some z → ⊥
     go z K l there f = let g : None ≡ Some z = sym e ∙ f in absurd cc
     go z K l (onward j means to rest) f = none j means.1
 
@@ -338,15 +338,15 @@ module _ (p : Program) (k : Kind) (os : List (Option ℕ)) (M : Name) (q : Optio
       IsValueAt p i N m →
       IsWayFault p k os i f →
       IsEndFault p k M (reference q x) f
-  fault_at ends.Lost N m at s =
-      fault_behind p k M q x i N m e means_it means_only at ends.Lost (value_lost p k os a w i N m l at s)
+  fault_at ends.NoMeaning N m at s =
+      target_fault p k M q x i N m e means_it means_only at ends.NoMeaning (value_lost p k os a w i N m l at s)
   fault_at (ends.Circular v) N m at s =
-      fault_behind p k M q x i N m e means_it means_only at (ends.Circular v) (value_round p k os a w i v N m l at s)
+      target_fault p k M q x i N m e means_it means_only at (ends.Circular v) (value_round p k os a w i v N m l at s)
 
   pub end_answers : (r : Result ℤ EndFault) →
       MatchResult r (Ends p k os i) (IsWayFault p k os i) →
-      MatchResult r (StandsForOnly p k M (reference q x)) (IsEndFault p k M (reference q x))
+      MatchResult r (DenotesOnly p k M (reference q x)) (IsEndFault p k M (reference q x))
   end_answers (Ok z) s =
       let v = value_is p i w l in
-      only_behind p k M q x i v.0 v.1 e means_it means_only v.2 z (value_only p k os a w i v.0 v.1 z l v.2 s)
+      only_target p k M q x i v.0 v.1 e means_it means_only v.2 z (value_only p k os a w i v.0 v.1 z l v.2 s)
   end_answers (Err f) s = let v = value_is p i w l in fault_at f v.0 v.1 v.2 s

@@ -1,6 +1,5 @@
 mod Circles
 mod Doubling
-mod Under
 mod References
 mod Lists
 mod Following

@@ -4,33 +4,33 @@ use Rattle.trees.specs.Values.{Name, Tree, reference}
 use Rattle.type_table.specs.Table.{Kind}
 use Rattle.resolve.specs.Program.{Program, IsWhole}
 use Rattle.type_table.specs.Walks.{follow}
-use Rattle.range_ends.specs.Ends.{told}
-use Rattle.range_ends.specs.proving.Steps.{MeansValue, listed, AreReferred, told_at, next}
+use Rattle.range_ends.specs.Ends.{direct_number}
+use Rattle.range_ends.specs.proving.Steps.{MeansValue, listed, AreReferred, number_at, next}
 use Rattle.range_ends.specs.proving.Ways.{Ends, EndsWithout, Turns}
 use Rattle.range_ends.specs.proving.Far.{IsFar, AreFar, IsNameless}
 use Rattle.range_ends.proofs.References.{refers_within}
 use Rattle.range_ends.proofs.Doubling.{far_at, far_inside, far_back, same_follow}
-use Rattle.range_ends.proofs.Following.{told_here, next_told, next_on, within_next}
+use Rattle.range_ends.proofs.Following.{number_here, next_number, next_on, within_next}
 
-nameless_told : (p : Program) (k : Kind) (M : Name) (n : Tree) (j : ℕ) → IsNameless k → MeansValue p M n j → told k n ≡ None
-nameless_told p k M (reference q x) j h m = h q x
-nameless_told p k M n j h m = absurd m
+nameless_number : (p : Program) (k : Kind) (M : Name) (n : Tree) (j : ℕ) → IsNameless k → MeansValue p M n j → direct_number k n ≡ None
+nameless_number p k M (reference q x) j h m = h q x
+nameless_number p k M n j h m = absurd m
 
 module _ (p : Program) (k : Kind) (os : List (Option ℕ)) (a : AreReferred p os) (h : IsNameless k) where
-  refers_none : (i : ℕ) (z : ℤ) (o : Option ℕ) → listed os i ≡ o → told_at p k i ≡ Some z → o ≡ None
+  refers_none : (i : ℕ) (z : ℤ) (o : Option ℕ) → listed os i ≡ o → number_at p k i ≡ Some z → o ≡ None
   refers_none i z None e t = refl
   refers_none i z (Some j) e t =
       let r = (a.each i j).0 e in
-      let f : None ≡ Some z = sym (nameless_told p k r.within r.notation j h r.means)
-      ∙ sym (told_here p k i r.within r.notation r.at) ∙ t in
+      let f : None ≡ Some z = sym (nameless_number p k r.within r.notation j h r.means)
+      ∙ sym (number_here p k i r.within r.notation r.at) ∙ t in
       absurd cc
 
-  next_at : (i : ℕ) (o : Option ℤ) → told_at p k i ≡ o → next p k os i ≡ listed os i
+  next_at : (i : ℕ) (o : Option ℤ) → number_at p k i ≡ o → next p k os i ≡ listed os i
   next_at i None t = next_on p k os i t
-  next_at i (Some z) t = next_told p k os i z t ∙ sym (refers_none i z (listed os i) refl t)
+  next_at i (Some z) t = next_number p k os i z t ∙ sym (refers_none i z (listed os i) refl t)
 
   pub same_next : (i : ℕ) → next p k os i ≡ listed os i
-  same_next i = next_at i (told_at p k i) refl
+  same_next i = next_at i (number_at p k i) refl
 
 module _ (p : Program) (k : Kind) (os : List (Option ℕ)) (cs : List ℕ) (i : ℕ)
     (a : AreReferred p os)
@@ -45,26 +45,26 @@ module _ (p : Program) (k : Kind) (os : List (Option ℕ)) (cs : List ℕ) (i : 
   it_inside = far_inside os (length os) i (get_or cs i 0) (refers_within p os w a) (omega (arith, l, a.all)) it
 
   leads_there : follow (next p k os) it.steps i ≡ Some (get_or cs i 0)
-  leads_there = same_follow (next p k os) (listed os) it.steps i (same_next p k os a h) ∙ it.leads
+  leads_there = same_follow (next p k os) (listed os) it.steps i (same_next p k os a h) ∙ it.chain
 
-  pub it_ends : (z : ℤ) → told_at p k (get_or cs i 0) ≡ Some z → Ends p k os i z
+  pub it_ends : (z : ℤ) → number_at p k (get_or cs i 0) ≡ Some z → Ends p k os i z
   it_ends z t = record {
     last = get_or cs i 0;
-    way = record { steps = it.steps; leads = leads_there; ends = next_told p k os (get_or cs i 0) z t };
-    tells = t;
+    way = record { steps = it.steps; chain = leads_there; ends = next_number p k os (get_or cs i 0) z t };
+    number_is = t;
   }
 
-  pub it_is_lost : told_at p k (get_or cs i 0) ≡ None → listed os (get_or cs i 0) ≡ None → EndsWithout p k os i
+  pub it_is_lost : number_at p k (get_or cs i 0) ≡ None → listed os (get_or cs i 0) ≡ None → EndsWithout p k os i
   it_is_lost t e = record {
     last = get_or cs i 0;
-    way = record { steps = it.steps; leads = leads_there; ends = next_on p k os (get_or cs i 0) t ∙ e };
-    tells = t;
+    way = record { steps = it.steps; chain = leads_there; ends = next_on p k os (get_or cs i 0) t ∙ e };
+    number_is = t;
     alone = e;
   }
 
   pub it_turns : (j : ℕ) → listed os (get_or cs i 0) ≡ Some j → Turns p k os i (get_or cs i 0)
   it_turns j e = record {
-    reaches = record { steps = it.steps; leads = leads_there };
+    reaches = record { steps = it.steps; chain = leads_there };
     back = elim it.far [
       | inl g ↦ (let b : None ≡ Some j = sym g ∙ e in absurd cc)
       | inr m ↦ far_back (next p k os) (length os) it.steps i (get_or cs i 0)

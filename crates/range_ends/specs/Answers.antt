@@ -6,10 +6,10 @@ use Rattle.asn_base.specs.Types.{Range}
 use Rattle.asn_base.specs.Typed.{IsInRange, IsInSome}
 use Rattle.trees.specs.Values.{Name, Tree}
 use Rattle.trees.specs.Constraints.{RangeTree}
-use Rattle.names.specs.Modules.{StandsIn}
+use Rattle.names.specs.Modules.{OccursIn}
 use Rattle.type_table.specs.Table.{Kind}
 use Rattle.resolve.specs.Program.{Program}
-use Rattle.range_ends.specs.Ends.{StandsFor, IsLost, ComesRound}
+use Rattle.range_ends.specs.Ends.{DenotesNumber, HasNoNumber, IsCircularEnd}
 use Rattle.range_ends.specs.Ranges.{IsWithin, IsWithinOne, IsRange, AreRanges, HasNoEnd, GoesRound, IsReversed}
 use Rattle.range_ends.specs.declared.ends.EndFault.{EndFault}
 use Rattle.range_ends.specs.declared.ends.EndFault.TheVariants as ends
@@ -21,14 +21,14 @@ use Rattle.range_ends.specs.declared.ranges.RangesFault.{RangesFault}
 use Rattle.range_ends.specs.declared.ranges.RangesFault.TheVariants as wrong
 
 -- the notation stands for number z, and for no other
-pub record StandsForOnly (p : Program) (k : Kind) (M : Name) (n : Tree) (z : ℤ) : Type 0 where
-  pub stands : StandsFor p k M n z
-  pub only_one : (w : ℤ) → StandsFor p k M n w → w ≡ z
+pub record DenotesOnly (p : Program) (k : Kind) (M : Name) (n : Tree) (z : ℤ) : Type 0 where
+  pub stands : DenotesNumber p k M n z
+  pub only_one : (w : ℤ) → DenotesNumber p k M n w → w ≡ z
 
 -- why the notation stands for no number
 abbrev pub IsEndFault : Program → Kind → Name → Tree → EndFault → Type 0
-IsEndFault p k M n ends.Lost = IsLost p k M n
-IsEndFault p k M n (ends.Circular v) = ComesRound p k M n v
+IsEndFault p k M n ends.NoMeaning = HasNoNumber p k M n
+IsEndFault p k M n (ends.Circular v) = IsCircularEnd p k M n v
 
 -- the numbers that may be ends of a range
 abbrev pub IsOf : Counted → ℤ → Type 0
@@ -55,4 +55,4 @@ IsRangeFault p k M of r (faults.Circular v) = GoesRound p k M v r
 -- memory ran out, or one of the ranges has no meaning
 abbrev pub AreRangesWrong : Program → Kind → Name → Counted → List RangeTree → RangesFault → Type 0
 AreRangesWrong p k M of rs wrong.Memory = Unit {0}
-AreRangesWrong p k M of rs (wrong.At f) = (r : RangeTree) × StandsIn rs r × IsRangeFault p k M of r f
+AreRangesWrong p k M of rs (wrong.At f) = (r : RangeTree) × OccursIn rs r × IsRangeFault p k M of r f

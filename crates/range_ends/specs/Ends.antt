@@ -6,7 +6,7 @@ use Rattle.trees.specs.Types.{an_integer}
 use Rattle.names.specs.declared.scope.Assigned.TheVariants as assigned
 use Rattle.names.specs.Names.{Refers, under}
 use Rattle.names.specs.Sources.{Value}
-use Rattle.type_table.specs.Table.{Type', Kind, simple, IsCore}
+use Rattle.type_table.specs.Table.{Type', Kind, simple, IsUnderlying}
 use Rattle.resolve.specs.Program.{Program, IsAssignment}
 
 -- type i of the table is of this kind, once its references and tags are removed
@@ -14,7 +14,7 @@ pub record IsOfKind (ts : List Type') (i : ℕ) (k : Kind) : Type 0 where
   -- the number of the type that its references and tags lead to
   pub core : ℕ
   pub type : Type'
-  pub leads : IsCore ts i core
+  pub chain : IsUnderlying ts i core
   pub there : slice_get ts core ≡ Some type
   pub kind : type.kind ≡ k
 
@@ -34,10 +34,10 @@ named k q x = None
 
 -- the number that a notation is by itself, for a constrained type of kind k: a written number, or a named number of
 -- that type
-abbrev pub told : Kind → Tree → Option ℤ
-told k (number z) = Some z
-told k (reference q x) = named k q x
-told k n = None
+abbrev pub direct_number : Kind → Tree → Option ℤ
+direct_number k (number z) = Some z
+direct_number k (reference q x) = named k q x
+direct_number k n = None
 
 -- the notation, read in module M, is a name that means value i. A named number of the type takes precedence over a
 -- value.
@@ -46,24 +46,24 @@ Means p k M (reference q x) i = (named k q x ≡ None) × Refers p.modules M q x
 Means p k M n i = ⊥
 
 -- notation n, read in module M, is notation l, read in module K, or means a value whose notation leads to l
-pub data LeadsTo (p : Program) (k : Kind) : (M : Name) (n : Tree) (K : Name) (l : Tree) → Type 0 where
+pub data ReferencePath (p : Program) (k : Kind) : (M : Name) (n : Tree) (K : Name) (l : Tree) → Type 0 where
   -- the notation itself
-  there : {M : Name} {n : Tree} → LeadsTo p k M n M n
+  there : {M : Name} {n : Tree} → ReferencePath p k M n M n
   -- a name that means value i, whose notation, read in the module of its assignment, leads to l
   onward : {M N K : Name} {n m l : Tree} (i : ℕ) →
       Means p k M n i →
       IsValueAt p i N m →
-      LeadsTo p k N m K l →
-      LeadsTo p k M n K l
+      ReferencePath p k N m K l →
+      ReferencePath p k M n K l
 
 -- Notation n, read in module M in a constraint on a type of kind k, stands for number z: it leads to a notation that is
 -- the number by itself. At each step a name is first a named number of the constrained type, also where the value that
 -- is named is of another type.
-pub record StandsFor (p : Program) (k : Kind) (M : Name) (n : Tree) (z : ℤ) : Type 0 where
+pub record DenotesNumber (p : Program) (k : Kind) (M : Name) (n : Tree) (z : ℤ) : Type 0 where
   pub within : Name
   pub notation : Tree
-  pub leads : LeadsTo p k M n within notation
-  pub tells : told k notation ≡ Some z
+  pub chain : ReferencePath p k M n within notation
+  pub number_is : direct_number k notation ≡ Some z
 
 -- the end of a range, in the form of the notation of a value
 abbrev pub notation_of : EndTree → Tree
@@ -72,29 +72,29 @@ notation_of (name_end q x) = reference q x
 
 -- the end of a range stands for number z
 abbrev pub EndIs : Program → Kind → Name → EndTree → ℤ → Type 0
-EndIs p k M e z = StandsFor p k M (notation_of e) z
+EndIs p k M e z = DenotesNumber p k M (notation_of e) z
 
 -- ---- what is wrong
 
 -- the notation stands for no number: it leads to a notation that is no number by itself and means no value
-pub record IsLost (p : Program) (k : Kind) (M : Name) (n : Tree) : Type 0 where
-  pub nothing : (z : ℤ) → StandsFor p k M n z → ⊥
+pub record HasNoNumber (p : Program) (k : Kind) (M : Name) (n : Tree) : Type 0 where
+  pub nothing : (z : ℤ) → DenotesNumber p k M n z → ⊥
   pub within : Name
   pub notation : Tree
-  pub leads : LeadsTo p k M n within notation
-  pub no_number : told k notation ≡ None
+  pub chain : ReferencePath p k M n within notation
+  pub no_number : direct_number k notation ≡ None
   pub no_value : (i : ℕ) → Means p k within notation i → ⊥
 
 -- the notation stands for no number: it leads to value i, which leads back to itself
-pub record ComesRound (p : Program) (k : Kind) (M : Name) (n : Tree) (i : ℕ) : Type 0 where
-  pub nothing : (z : ℤ) → StandsFor p k M n z → ⊥
+pub record IsCircularEnd (p : Program) (k : Kind) (M : Name) (n : Tree) (i : ℕ) : Type 0 where
+  pub nothing : (z : ℤ) → DenotesNumber p k M n z → ⊥
   pub within : Name
   pub notation : Tree
   pub value : IsValueAt p i within notation
-  pub leads : LeadsTo p k M n within notation
+  pub chain : ReferencePath p k M n within notation
   pub next : ℕ
   pub means : Means p k within notation next
   pub owner : Name
-  pub behind : Tree
-  pub first : IsValueAt p next owner behind
-  pub back : LeadsTo p k owner behind within notation
+  pub target : Tree
+  pub first : IsValueAt p next owner target
+  pub back : ReferencePath p k owner target within notation

@@ -13,7 +13,7 @@ use Rattle.names.specs.Names.{Meaning}
 use Rattle.type_table.specs.Table.{Kind}
 use Rattle.resolve.specs.Program.{Program}
 use Rattle.range_ends.specs.Answers.{IsOf}
-use Rattle.range_ends.specs.Ends.{EndIs, IsLost, ComesRound, notation_of}
+use Rattle.range_ends.specs.Ends.{EndIs, HasNoNumber, IsCircularEnd, notation_of}
 use Rattle.range_ends.specs.Ranges.{IsEnd, IsRange, IsReversed}
 use Rattle.range_ends.specs.declared.ranges.Counted.{Counted}
 use Rattle.range_ends.specs.declared.ranges.RangeFault.{RangeFault}
@@ -30,8 +30,8 @@ end_place (written.Reference r) = r.at
 abbrev pub IsEndWrong : Program → Kind → Name → Counted → EndSyntax → RangeFault → Type 0
 IsEndWrong p k M of e (faults.NoEnd at) =
     (at ≡ end_place e)
-    × (IsLost p k M (notation_of (end_of e)) ⊎ ((z : ℤ) × EndIs p k M (end_of e) z × (IsOf of z → ⊥)))
-IsEndWrong p k M of e (faults.Circular v) = ComesRound p k M (notation_of (end_of e)) v
+    × (HasNoNumber p k M (notation_of (end_of e)) ⊎ ((z : ℤ) × EndIs p k M (end_of e) z × (IsOf of z → ⊥)))
+IsEndWrong p k M of e (faults.Circular v) = IsCircularEnd p k M (notation_of (end_of e)) v
 IsEndWrong p k M of e (faults.Reversed at) = ⊥
 
 -- the lower end is above the upper one; the fault has the offset of the lower end
@@ -83,8 +83,8 @@ abbrev pub HaveOneMeaning : Program → Type 0
 HaveOneMeaning p = (M x : Name) (a b : Assigned) → Meaning p.modules M x a → Meaning p.modules M x b → a ≡ b
 
 -- both faults report the same: any value of a circle may be named
-abbrev pub TellsSame : RangeFault → RangeFault → Type 0
-TellsSame (faults.NoEnd m) (faults.NoEnd n) = m ≡ n
-TellsSame (faults.Reversed m) (faults.Reversed n) = m ≡ n
-TellsSame (faults.Circular v) (faults.Circular w) = Unit {0}
-TellsSame f g = ⊥
+abbrev pub ReportsSame : RangeFault → RangeFault → Type 0
+ReportsSame (faults.NoEnd m) (faults.NoEnd n) = m ≡ n
+ReportsSame (faults.Reversed m) (faults.Reversed n) = m ≡ n
+ReportsSame (faults.Circular v) (faults.Circular w) = Unit {0}
+ReportsSame f g = ⊥

@@ -6,7 +6,7 @@ use Rattle.trees.specs.Values.{Name}
 use Rattle.trees.specs.Constraints.{EndTree, RangeTree, only, between}
 use Rattle.type_table.specs.Table.{Kind}
 use Rattle.resolve.specs.Program.{Program}
-use Rattle.range_ends.specs.Ends.{EndIs, IsLost, ComesRound, notation_of}
+use Rattle.range_ends.specs.Ends.{EndIs, HasNoNumber, IsCircularEnd, notation_of}
 
 -- z is not below the lower end. MIN sets no bound.
 abbrev pub IsFrom : Program → Kind → Name → Option EndTree → ℤ → Type 0
@@ -67,13 +67,13 @@ IsEndOf (between a b) e = (a ≡ Some e) ⊎ (b ≡ Some e)
 pub record HasNoEnd (p : Program) (k : Kind) (M : Name) (P : ℤ → Type 0) (r : RangeTree) : Type 0 where
   pub end : EndTree
   pub stands : IsEndOf r end
-  pub none : IsLost p k M (notation_of end) ⊎ ((z : ℤ) × EndIs p k M end z × (P z → ⊥))
+  pub none : HasNoNumber p k M (notation_of end) ⊎ ((z : ℤ) × EndIs p k M end z × (P z → ⊥))
 
 -- an end of the range leads to value i, which leads back to itself
 pub record GoesRound (p : Program) (k : Kind) (M : Name) (i : ℕ) (r : RangeTree) : Type 0 where
   pub end : EndTree
   pub stands : IsEndOf r end
-  pub round : ComesRound p k M (notation_of end) i
+  pub round : IsCircularEnd p k M (notation_of end) i
 
 -- both ends stand for numbers for which P is true, and the lower one is the greater one
 pub record IsReversed (p : Program) (k : Kind) (M : Name) (P : ℤ → Type 0) (r : RangeTree) : Type 0 where

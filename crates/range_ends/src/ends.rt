@@ -6,9 +6,9 @@ ghost use Rattle.trees.specs.Types.{number_of};
 ghost use Rattle.trees.specs.Values.{tree_of};
 ghost use Rattle.names.specs.Names.{under};
 ghost use Rattle.type_table.specs.Seen.{kind_of};
-ghost use Rattle.range_ends.specs.Answers.{StandsForOnly, IsEndFault};
-ghost use Rattle.range_ends.specs.Ends.{named as named', told as told', notation_of};
-ghost use Rattle.range_ends.specs.proving.Steps.{next, told_at, AreReferred};
+ghost use Rattle.range_ends.specs.Answers.{DenotesOnly, IsEndFault};
+ghost use Rattle.range_ends.specs.Ends.{named as named', direct_number as direct_number', notation_of};
+ghost use Rattle.range_ends.specs.proving.Steps.{next, number_at, AreReferred};
 ghost use Rattle.range_ends.specs.proving.Ways.{Ends, IsWayFault};
 ghost use Rattle.range_ends.specs.proving.Far.{AreFar, IsNameless};
 
@@ -22,7 +22,7 @@ use type_table::Shape;
 #[derive(Clone, Copy, Debug, PartialEq, Eq)]
 pub enum EndFault {
     /// The end is a name, or leads to one, that means no value; or it leads to a notation that is no number.
-    Lost,
+    NoMeaning,
     /// The end leads to this value, by its number, whose notation leads back to the value itself.
     Circular(usize),
 }
@@ -53,8 +53,8 @@ fn named(shape: &Shape, reference: &Reference) -> Option<i128>
 }
 
 /// The number that a notation is by itself, or None.
-fn told(shape: &Shape, notation: &ValueSyntax) -> Option<i128>
-    ensures { result ≡ told' (kind_of shape.now) (tree_of notation.now) }
+fn direct_number(shape: &Shape, notation: &ValueSyntax) -> Option<i128>
+    ensures { result ≡ direct_number' (kind_of shape.now) (tree_of notation.now) }
 {
     match &notation.form {
         ValueForm::Number(number) => Some(*number),
@@ -75,28 +75,28 @@ fn is_nameless(shape: &Shape) -> bool
 
 /// The number that a value stands for, in a constraint on a type without named numbers: the number at the end of the
 /// value's references.
-fn farthest_told(
+fn farthest_number(
     linked: &Linked,
-    behind: &[Option<usize>],
+    target: &[Option<usize>],
     far: &[usize],
     shape: &Shape,
     start: usize,
 ) -> Result<i128, EndFault>
     requires inside { start < length linked.now.values }
-    requires referred { AreReferred linked.now behind.now }
-    requires far { AreFar behind.now (length behind.now) far.now }
+    requires referred { AreReferred linked.now target.now }
+    requires far { AreFar target.now (length target.now) far.now }
     requires nameless { IsNameless (kind_of shape.now) }
     ensures { MatchResult result
-        (Ends linked.now (kind_of shape.now) behind.now start)
-        (IsWayFault linked.now (kind_of shape.now) behind.now start) }
+        (Ends linked.now (kind_of shape.now) target.now start)
+        (IsWayFault linked.now (kind_of shape.now) target.now start) }
 {
     linked.whole();
     let at = far[start];
     let (_, notation) = notation_at(linked, at);
-    match told(shape, notation) {
+    match direct_number(shape, notation) {
         Some(number) => Ok(number),
-        None => match behind[at] {
-            None => Err(EndFault::Lost),
+        None => match target[at] {
+            None => Err(EndFault::NoMeaning),
             Some(next) => Err(EndFault::Circular(at)),
         },
     }
@@ -104,26 +104,26 @@ fn farthest_told(
 
 /// The number that a value stands for, in a constraint on a type of a shape. It is that of the first named number of
 /// the type among the value's references, or the number at their end.
-fn first_told(
+fn first_number(
     linked: &Linked,
-    behind: &[Option<usize>],
+    target: &[Option<usize>],
     shape: &Shape,
     start: usize,
 ) -> Result<i128, EndFault>
     requires inside { start < length linked.now.values }
-    requires referred { AreReferred linked.now behind.now }
+    requires referred { AreReferred linked.now target.now }
     ensures { MatchResult result
-        (Ends linked.now (kind_of shape.now) behind.now start)
-        (IsWayFault linked.now (kind_of shape.now) behind.now start) }
+        (Ends linked.now (kind_of shape.now) target.now start)
+        (IsWayFault linked.now (kind_of shape.now) target.now start) }
 {
     linked.whole();
     let mut at = start;
-    for step in 0..behind.len() {
+    for step in 0..target.len() {
         let (_, notation) = notation_at(linked, at);
-        match told(shape, notation) {
+        match direct_number(shape, notation) {
             Some(number) => return Ok(number),
-            None => match behind[at] {
-                None => return Err(EndFault::Lost),
+            None => match target[at] {
+                None => return Err(EndFault::NoMeaning),
                 Some(next) => at = next,
             },
         }
@@ -134,22 +134,22 @@ fn first_told(
 /// The number that a value stands for, in a constraint on a type of a shape.
 fn followed(
     linked: &Linked,
-    behind: &[Option<usize>],
+    target: &[Option<usize>],
     far: &[usize],
     shape: &Shape,
     start: usize,
 ) -> Result<i128, EndFault>
     requires inside { start < length linked.now.values }
-    requires referred { AreReferred linked.now behind.now }
-    requires far { AreFar behind.now (length behind.now) far.now }
+    requires referred { AreReferred linked.now target.now }
+    requires far { AreFar target.now (length target.now) far.now }
     ensures { MatchResult result
-        (Ends linked.now (kind_of shape.now) behind.now start)
-        (IsWayFault linked.now (kind_of shape.now) behind.now start) }
+        (Ends linked.now (kind_of shape.now) target.now start)
+        (IsWayFault linked.now (kind_of shape.now) target.now start) }
 {
     if is_nameless(shape) {
-        farthest_told(linked, behind, far, shape, start)
+        farthest_number(linked, target, far, shape, start)
     } else {
-        first_told(linked, behind, shape, start)
+        first_number(linked, target, shape, start)
     }
 }
 
@@ -161,7 +161,7 @@ pub(crate) fn end_at(
     end: &EndSyntax,
 ) -> Result<i128, EndFault>
     ensures { MatchResult result
-        (StandsForOnly scope.now (kind_of shape.now) within.now (notation_of (end_of end.now)))
+        (DenotesOnly scope.now (kind_of shape.now) within.now (notation_of (end_of end.now)))
         (IsEndFault scope.now (kind_of shape.now) within.now (notation_of (end_of end.now))) }
 {
     let linked = scope.linked();
@@ -171,10 +171,10 @@ pub(crate) fn end_at(
         EndSyntax::Reference(reference) => match named(shape, reference) {
             Some(number) => Ok(number),
             None => match named_value(linked, within, reference) {
-                None => Err(EndFault::Lost),
+                None => Err(EndFault::NoMeaning),
                 Some(start) => {
-                    let (behind, far) = scope.ways();
-                    followed(linked, behind, far, shape, start)
+                    let (target, far) = scope.ways();
+                    followed(linked, target, far, shape, start)
                 }
             },
         },

@@ -8,12 +8,12 @@ ghost use Rattle.range_ends.specs.proving.Far.{AreFar};
 use std::alloc::{AllocError, Global};
 
 /// The value that each value refers to, or the value itself if it refers to none.
-fn one_step(alloc: Global, behind: &[Option<usize>]) -> Result<Vec<usize>, AllocError>
-    ensures { IfOk result (λ v. AreFar behind.now 1 v.items) }
+fn one_step(alloc: Global, target: &[Option<usize>]) -> Result<Vec<usize>, AllocError>
+    ensures { IfOk result (λ v. AreFar target.now 1 v.items) }
 {
     let mut all = Vec::new(alloc);
-    for at in 0..behind.len() {
-        let next = match behind[at] {
+    for at in 0..target.len() {
+        let next = match target[at] {
             None => at,
             Some(next) => next,
         };
@@ -25,13 +25,13 @@ fn one_step(alloc: Global, behind: &[Option<usize>]) -> Result<Vec<usize>, Alloc
 /// The values that twice as many steps lead to.
 fn twice(
     alloc: Global,
-    behind: &[Option<usize>],
+    target: &[Option<usize>],
     steps: usize,
     far: &[usize],
 ) -> Result<Vec<usize>, AllocError>
-    requires within { IsWithin (listed behind.now) (length behind.now) }
-    requires far { AreFar behind.now steps far.now }
-    ensures { IfOk result (λ v. AreFar behind.now (steps + steps) v.items) }
+    requires within { IsWithin (listed target.now) (length target.now) }
+    requires far { AreFar target.now steps far.now }
+    ensures { IfOk result (λ v. AreFar target.now (steps + steps) v.items) }
 {
     let mut all = Vec::new(alloc);
     for at in 0..far.len() {
@@ -42,17 +42,17 @@ fn twice(
 }
 
 /// The value that each value leads to in as many steps as there are values, or in fewer if its references end before.
-pub(crate) fn farthest(alloc: Global, behind: &[Option<usize>]) -> Result<Vec<usize>, AllocError>
-    requires within { IsWithin (listed behind.now) (length behind.now) }
-    ensures { IfOk result (λ v. AreFar behind.now (length behind.now) v.items) }
+pub(crate) fn farthest(alloc: Global, target: &[Option<usize>]) -> Result<Vec<usize>, AllocError>
+    requires within { IsWithin (listed target.now) (length target.now) }
+    ensures { IfOk result (λ v. AreFar target.now (length target.now) v.items) }
 {
-    let mut far = one_step(alloc, behind)?;
+    let mut far = one_step(alloc, target)?;
     let mut steps: usize = 1;
-    for round in 0..behind.len() {
-        if behind.len() <= steps {
+    for round in 0..target.len() {
+        if target.len() <= steps {
             return Ok(far);
         }
-        far = twice(alloc, behind, steps, &far)?;
+        far = twice(alloc, target, steps, &far)?;
         steps = steps.saturating_add(steps);
     }
     Ok(far)

@@ -7,7 +7,7 @@ ghost use Rattle.trees.specs.declared.constraint.RangeSyntax.{RangeSyntax};
 ghost use Rattle.type_table.specs.Table.{Kind};
 ghost use Rattle.resolve.specs.Program.{Program};
 ghost use Rattle.range_ends.specs.Answers.{IsOf};
-ghost use Rattle.range_ends.specs.First.{HaveOneMeaning, IsFirstWrong, TellsSame};
+ghost use Rattle.range_ends.specs.First.{HaveOneMeaning, IsFirstWrong, ReportsSame};
 ghost use Rattle.range_ends.specs.Ranges.{AreRanges};
 ghost use Rattle.range_ends.specs.declared.ranges.Counted.{Counted};
 ghost use Rattle.range_ends.specs.declared.ranges.RangeFault.{RangeFault};
@@ -18,7 +18,7 @@ pub fn one_fault()
         HaveOneMeaning p →
         IsFirstWrong p k M of rs f →
         IsFirstWrong p k M of rs g →
-        TellsSame f g }
+        ReportsSame f g }
 {}
 
 /// Ranges with a first fault have no meaning as ranges.

@@ -9,5 +9,5 @@ mod ranges;
 mod reference_table;
 
 pub use ends::EndFault;
-pub use ranges::{Counted, RangeFault, RangesFault, Site, ranges_at};
+pub use ranges::{Counted, RangeContext, RangeFault, RangesFault, ranges_at};
 pub use reference_table::ReferenceTable;

@@ -46,7 +46,7 @@ pub enum RangesFault {
 
 /// What ends of ranges are read by: a module, and the shape of the type that is constrained.
 #[derive(Clone, Copy)]
-pub struct Site<'a> {
+pub struct RangeContext<'a> {
     pub scope: &'a ReferenceTable<'a>,
     pub shape: &'a Shape,
     pub within: &'a str,
@@ -84,7 +84,7 @@ fn floor_of(of: Counted) -> Option<i128>
 }
 
 /// The number of an end.
-fn bound_at(site: &Site<'_>, end: &EndSyntax) -> Result<i128, RangeFault>
+fn bound_at(site: &RangeContext<'_>, end: &EndSyntax) -> Result<i128, RangeFault>
     ensures found { MatchResult result
         (IsBoundOf site.now.scope.now (kind_of site.now.shape.now) site.now.within.now site.now.of (end_of end.now))
         (IsBoundFault site.now.scope.now (kind_of site.now.shape.now) site.now.within.now site.now.of (end_of end.now)) }
@@ -92,7 +92,7 @@ fn bound_at(site: &Site<'_>, end: &EndSyntax) -> Result<i128, RangeFault>
         (IsEndWrong site.now.scope.now (kind_of site.now.shape.now) site.now.within.now site.now.of end.now) }
 {
     match end_at(site.scope, site.shape, site.within, end) {
-        Err(EndFault::Lost) => Err(RangeFault::NoEnd(place(end))),
+        Err(EndFault::NoMeaning) => Err(RangeFault::NoEnd(place(end))),
         Err(EndFault::Circular(value)) => Err(RangeFault::Circular(value)),
         Ok(number) => {
             if may_end(site.of, number) {
@@ -105,7 +105,11 @@ fn bound_at(site: &Site<'_>, end: &EndSyntax) -> Result<i128, RangeFault>
 }
 
 /// The range from one end to the other.
-fn between(site: &Site<'_>, first: &EndSyntax, last: &EndSyntax) -> Result<Range, RangeFault>
+fn between(
+    site: &RangeContext<'_>,
+    first: &EndSyntax,
+    last: &EndSyntax,
+) -> Result<Range, RangeFault>
     ensures found { MatchResult result
         (λ r. IsRangeOf site.now.scope.now (kind_of site.now.shape.now) site.now.within.now site.now.of
         (between' (Some (end_of first.now)) (Some (end_of last.now))) (seen_of r))
@@ -132,7 +136,7 @@ fn between(site: &Site<'_>, first: &EndSyntax, last: &EndSyntax) -> Result<Range
 }
 
 /// A range as numbers.
-fn range_at(site: &Site<'_>, range: &RangeSyntax) -> Result<Range, RangeFault>
+fn range_at(site: &RangeContext<'_>, range: &RangeSyntax) -> Result<Range, RangeFault>
     ensures found { MatchResult result
         (λ r. IsRangeOf site.now.scope.now (kind_of site.now.shape.now) site.now.within.now site.now.of
         (tree_of_range range.now) (seen_of r))
@@ -178,7 +182,7 @@ fn range_at(site: &Site<'_>, range: &RangeSyntax) -> Result<Range, RangeFault>
 /// order. `NoEnd` has the offset of the end, `Reversed` that of the lower end. `Memory`: there is not enough memory.
 pub fn ranges_at(
     alloc: Global,
-    site: &Site<'_>,
+    site: &RangeContext<'_>,
     ranges: &[RangeSyntax],
 ) -> Result<Vec<Range>, RangesFault>
     ensures found { MatchResult result

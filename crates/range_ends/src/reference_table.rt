@@ -15,7 +15,7 @@ use std::marker::Model;
 #[derive(Drop)]
 pub struct ReferenceTable<'a> {
     linked: &'a Linked,
-    behind: Vec<Option<usize>>,
+    target: Vec<Option<usize>>,
     far: Vec<usize>,
 }
 
@@ -34,19 +34,19 @@ impl<'a> Model for ReferenceTable<'a> {
     ghost use Rattle.range_ends.specs.proving.Steps.{AreReferred};
     ghost use Rattle.range_ends.specs.proving.Far.{AreFar};
 
-    ghost invariant = { λ s. AreReferred s.linked.now s.behind.items
-        × AreFar s.behind.items (length s.behind.items) s.far.items };
+    ghost invariant = { λ s. AreReferred s.linked.now s.target.items
+        × AreFar s.target.items (length s.target.items) s.far.items };
 }
 
 /// The value that each value refers to.
 fn referred_by_all(alloc: Global, linked: &Linked) -> Result<Vec<Option<usize>>, AllocError>
     ensures { IfOk result (λ v. AreReferred linked.now v.items) }
 {
-    let mut behind = Vec::new(alloc);
+    let mut target = Vec::new(alloc);
     for number in 0..linked.values().len() {
-        behind.push(referred(linked, number))?;
+        target.push(referred(linked, number))?;
     }
-    Ok(behind)
+    Ok(target)
 }
 
 impl<'a> ReferenceTable<'a> {
@@ -55,11 +55,11 @@ impl<'a> ReferenceTable<'a> {
         ensures { IfOk result (λ s. s ≡ linked.now) }
     {
         linked.whole();
-        let behind = referred_by_all(alloc, linked)?;
-        let far = farthest(alloc, &behind)?;
+        let target = referred_by_all(alloc, linked)?;
+        let far = farthest(alloc, &target)?;
         Ok(ReferenceTable {
             linked,
-            behind,
+            target,
             far,
         })
     }
@@ -76,6 +76,6 @@ impl<'a> ReferenceTable<'a> {
         ensures referred { AreReferred self.now result.0.now }
         ensures far { AreFar result.0.now (length result.0.now) result.1.now }
     {
-        (&self.behind, &self.far)
+        (&self.target, &self.far)
     }
 }

@@ -5,6 +5,7 @@ pub mod Steps
 pub mod Meets
 pub mod Ends
 pub mod Searches
+pub mod Skips
 pub mod Bits
 pub mod Tables
 pub mod SameCodes

@@ -44,7 +44,7 @@ all_at P [] i d a h = absurd (omega arith)
 all_at P (x ∷ xs) zero d a h = a.0
 all_at P (x ∷ xs) (suc i) d a h = all_at P xs i d a.1 (omega arith)
 
-holds_at : (xs : List Range') (i : ℕ) (d : Range')
+pub holds_at : (xs : List Range') (i : ℕ) (d : Range')
     → AreApart (map range_of xs)
     → i < length xs
     → HoldsSome (range_of (slice_index_or xs i d))
@@ -71,14 +71,14 @@ in_at z [] i d h k = absurd (omega arith)
 in_at z (x ∷ xs) zero d h k = inl k
 in_at z (x ∷ xs) (suc i) d h k = inr (in_at z xs i d (omega arith) k)
 
-in_none_behind : (x : Range') (z : ℤ) (xs : List Range')
+in_none_after : (x : Range') (z : ℤ) (xs : List Range')
     → below z x ≡ false
     → AllByRecursion (EndsBefore (range_of x)) (map range_of xs)
     → IsInSome z (map range_of xs)
     → ⊥
-in_none_behind x z [] b a i = i
-in_none_behind x z (y ∷ xs) b a (inl i) = past_end x.greatest y.least z b a.0 i.0
-in_none_behind x z (y ∷ xs) b a (inr i) = in_none_behind x z xs b a.1 i
+in_none_after x z [] b a i = i
+in_none_after x z (y ∷ xs) b a (inl i) = past_end x.greatest y.least z b a.0 i.0
+in_none_after x z (y ∷ xs) b a (inr i) = in_none_after x z xs b a.1 i
 
 -- a number in the ranges is in the one at the first place whose range doesn't end below it
 pub only_at : (z : ℤ) (xs : List Range') (i : ℕ) (d : Range')
@@ -89,7 +89,7 @@ pub only_at : (z : ℤ) (xs : List Range') (i : ℕ) (d : Range')
     → (i < length xs) × IsInRange z (range_of (slice_index_or xs i d))
 only_at z [] i d a f b n = absurd n
 only_at z (x ∷ xs) zero d a f b (inl n) = (omega arith, n)
-only_at z (x ∷ xs) zero d a f b (inr n) = absurd (in_none_behind x z xs (b (omega arith)) a.1 n)
+only_at z (x ∷ xs) zero d a f b (inr n) = absurd (in_none_after x z xs (b (omega arith)) a.1 n)
 only_at z (x ∷ xs) (suc i) d a f b (inl n) = absurd (above_none x.greatest z (f 0 (omega arith) (omega arith)) n.1)
 only_at z (x ∷ xs) (suc i) d a f b (inr n) =
     let o = only_at z xs i d a.2 (λ k h l. f (suc k) (omega arith) (omega arith)) (λ h. b (omega arith)) n in

@@ -39,23 +39,23 @@ agree_at (suc n) mask c k e h =
       | inr l ↦ agree_at n mask c k both.1 l
     ]
 
-pub told : (mask : ℕ) (k : StringKind)
+pub by_mask : (mask : ℕ) (k : StringKind)
     → agree 128 mask k ≡ true
     → (c : ℕ)
     → c < 128
     → (bit_at mask c ≡ 1) ↔ IsTrue (is_character k c)
-told mask k e c h =
+by_mask mask k e c h =
     let same = agree_at 128 mask c k e h in
     (λ s. sym same ∙ is_set (bit_at mask c) s, λ t. set_is (bit_at mask c) (same ∙ t))
 
-pub told_as : (mask : ℕ) (k j : StringKind)
+pub listed_as : (mask : ℕ) (k j : StringKind)
     → k ≡ j
     → agree 128 mask j ≡ true
     → (c : ℕ)
     → c < 128
     → (bit_at mask c ≡ 1) ↔ IsTrue (is_character k c)
-told_as mask k j e a =
-    subst (λ (x : StringKind). (c : ℕ) → c < 128 → (bit_at mask c ≡ 1) ↔ IsTrue (is_character x c)) (sym e) (told mask j a)
+listed_as mask k j e a =
+    subst (λ (x : StringKind). (c : ℕ) → c < 128 → (bit_at mask c ≡ 1) ↔ IsTrue (is_character x c)) (sym e) (by_mask mask j a)
 
 numeric : (c : ℕ) → IsTrue (is_character Numeric c) → c < 128
 numeric c t = grind arith

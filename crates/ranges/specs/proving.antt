@@ -3,3 +3,4 @@ pub mod Joining
 pub mod Meeting
 pub mod Searching
 pub mod Masking
+pub mod Skipping

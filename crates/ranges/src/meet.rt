@@ -1,11 +1,14 @@
 //! What two sets of ranges have in common.
 
-ghost use Rattle.std.specs.Prelude.{◌≡◌, ◌⊎◌, ◌↔◌, ℤ, true, false, map, List, ◌++◌, IfOk};
+ghost use Rattle.std.specs.Prelude.{◌≡◌, ◌⊎◌, ◌↔◌, ◌+◌, ◌<◌, ◌≤◌, ℤ, true, false, length, map, List, ◌++◌, IfOk};
 ghost use Rattle.asn_base.specs.Seen.{range_of};
+ghost use Rattle.ranges.specs.Numbers.{AreApart};
 ghost use Rattle.ranges.specs.proving.Meeting.{common as common', later_beginning as later', earlier_end as earlier', EndsAtMost, IsPutBefore, Meets};
+ghost use Rattle.ranges.specs.proving.Skipping.{AreEnded, IsPast};
 ghost use Rattle.asn_base.specs.Types.{Range as Range'};
 
 use crate::join::holds_some;
+use crate::set::ends_below;
 use asn_base::constraint::Range;
 use std::alloc::{AllocError, Global};
 
@@ -64,8 +67,40 @@ fn keep(both: &mut Vec<Range>, part: Range) -> Result<(), AllocError>
     Ok(())
 }
 
-/// The ranges of the numbers in both sets.
+/// How many of the ranges end below a number. For n ranges the time grows as log n.
+fn count_below(ranges: &[Range], number: i128) -> usize
+    requires { AreApart (map range_of ranges.now) }
+    ensures { AreEnded number ranges.now 0 result }
+{
+    ranges.partition_point(|range| ends_below(range, number))
+}
+
+/// The next place, or a later one if the ranges between the two end before another range begins.
+fn past(ranges: &[Range], place: usize, other: Range) -> usize
+    requires apart { AreApart (map range_of ranges.now) }
+    requires inside { place < length ranges.now }
+    ensures later { place < result }
+    ensures within { result ≤ length ranges.now }
+    ensures skipped { IsPast (range_of other) ranges.now (place + 1) result }
+{
+    let next = place + 1;
+    let Some(least) = other.least else {
+        return next;
+    };
+    if next < ranges.len() && ends_below(&ranges[next], least) {
+        let count = count_below(ranges, least);
+        if next < count && count <= ranges.len() {
+            return count;
+        }
+    }
+    next
+}
+
+/// The ranges of the numbers in both sets. Ranges of one set that end before one of the other begins are skipped by a
+/// search. So for one range and n others the time grows as log n, besides the ranges that are returned.
 pub(crate) fn meet(alloc: Global, left: &[Range], right: &[Range]) -> Result<Vec<Range>, AllocError>
+    requires left { AreApart (map range_of left.now) }
+    requires right { AreApart (map range_of right.now) }
     ensures { IfOk result (λ both.
         Meets (map range_of left.now) (map range_of right.now) (map range_of both.items)) }
 {
@@ -76,9 +111,9 @@ pub(crate) fn meet(alloc: Global, left: &[Range], right: &[Range]) -> Result<Vec
         let part = common(left[i], right[j]);
         keep(&mut both, part)?;
         if ends_at_most(left[i], right[j]) {
-            i += 1;
+            i = past(left, i, right[j]);
         } else {
-            j += 1;
+            j = past(right, j, left[i]);
         }
     }
     Ok(both)

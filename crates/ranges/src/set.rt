@@ -12,9 +12,10 @@ use crate::meet::meet;
 use asn_base::constraint::Range;
 use std::alloc::{AllocError, Global};
 use std::marker::Model;
+use std::rc::Rc;
 
 /// Whether the range ends below the number.
-fn ends_below(range: &Range, number: i128) -> bool
+pub(crate) fn ends_below(range: &Range, number: i128) -> bool
     ensures { result ≡ is_below number (range_of range.now).greatest }
 {
     match range.greatest {
@@ -47,9 +48,10 @@ fn search(ranges: &[Range], number: i128) -> bool
 }
 
 /// A set of numbers: ranges in ascending order, each of which contains a number and ends before the next one begins.
+/// Copies of a set share the memory of the ranges.
 #[derive(Drop)]
 pub struct Ranges {
-    items: Vec<Range>,
+    items: Rc<Vec<Range>>,
 }
 
 impl Model for Ranges {
@@ -60,11 +62,11 @@ impl Model for Ranges {
 
     ghost use Rattle.asn_base.specs.Seen.{range_of};
 
-    ghost view = { λ r. map range_of r.items.items };
+    ghost view = { λ r. map range_of r.items.value.items };
 
     ghost use Rattle.ranges.specs.Numbers.{AreApart};
 
-    ghost invariant = { λ r. AreApart (map range_of r.items.items) };
+    ghost invariant = { λ r. AreApart (map range_of r.items.value.items) };
 }
 
 impl Ranges {
@@ -75,25 +77,31 @@ impl Ranges {
         ensures members { IfOk result (λ all. (z : ℤ) → IsInSome z all ↔ IsInSome z (map range_of ranges.items)) }
     {
         let items = join(alloc, ranges)?;
-        Ok(Ranges { items })
+        Ok(Ranges {
+            items: Rc::new(alloc, items)?,
+        })
     }
 
-    /// The numbers that are in both sets, in time linear in the number of their ranges. The error is that there is not
-    /// enough memory.
+    /// The numbers that are in both sets. For k ranges in one set and n in the other, k at most n, the time grows as
+    /// k log n and with the ranges of the result. The error is that there is not enough memory.
     pub fn meet(&self, alloc: Global, other: &Ranges) -> Result<Self, AllocError>
         ensures members { IfOk result (λ both. (z : ℤ) → IsInSome z both
             ↔ (IsInSome z self.now × IsInSome z other.now)) }
     {
-        let items = meet(alloc, &self.items, &other.items)?;
-        Ok(Ranges { items })
+        let items = meet(alloc, self.ranges(), other.ranges())?;
+        Ok(Ranges {
+            items: Rc::new(alloc, items)?,
+        })
     }
 
-    /// A copy of the set. The error is that there is not enough memory.
-    pub fn copy(&self, alloc: Global) -> Result<Self, AllocError>
+    /// A copy of the set, which shares its memory, in a time that is the same for all sets. The error is that there are
+    /// too many copies.
+    pub fn copy(&self) -> Result<Self, AllocError>
         ensures { IfOk result (λ copy. copy ≡ self.now) }
     {
-        let items = self.items.iter().copied().collect(alloc)?;
-        Ok(Ranges { items })
+        Ok(Ranges {
+            items: self.items.clone()?,
+        })
     }
 
     /// Whether no number is in the set.
@@ -101,7 +109,7 @@ impl Ranges {
         ensures ranges { MatchBool result (self.now ≡ []) (0 < length self.now) }
         ensures members { result ≡ true ↔ ((z : ℤ) → IsInSome z self.now → ⊥) }
     {
-        self.items.as_slice().is_empty()
+        self.ranges().is_empty()
     }
 
     /// The least number of a set that is not empty, or None if there is no bound.
@@ -109,7 +117,8 @@ impl Ranges {
         requires { 0 < length self.now }
         ensures { IsLeast (λ z. IsInSome z self.now) result }
     {
-        self.items[0].least
+        let ranges = self.ranges();
+        ranges[0].least
     }
 
     /// The greatest number of a set that is not empty, or None if there is no bound.
@@ -117,7 +126,7 @@ impl Ranges {
         requires { 0 < length self.now }
         ensures { IsGreatest (λ z. IsInSome z self.now) result }
     {
-        let ranges = self.items.as_slice();
+        let ranges = self.ranges();
         ranges[ranges.len() - 1].greatest
     }
 
@@ -125,7 +134,7 @@ impl Ranges {
     pub fn has(&self, number: i128) -> bool
         ensures { result ≡ true ↔ IsInSome number self.now }
     {
-        search(&self.items, number)
+        search(self.ranges(), number)
     }
 
     /// The ranges of the set, borrowed.
@@ -133,14 +142,13 @@ impl Ranges {
         ensures is { map range_of result.now ≡ self.now }
         ensures apart { AreApart self.now }
     {
-        &self.items
+        self.items.as_slice()
     }
 
-    /// The ranges of the set, as their owner.
-    pub fn into_ranges(self) -> Vec<Range>
-        ensures is { map range_of result.items ≡ self }
-        ensures apart { AreApart self }
+    /// A list of the ranges of the set. The error is that there is not enough memory.
+    pub fn list(&self, alloc: Global) -> Result<Vec<Range>, AllocError>
+        ensures is { IfOk result (λ all. map range_of all.items ≡ self.now) }
     {
-        self.items
+        self.ranges().iter().copied().collect(alloc)
     }
 }

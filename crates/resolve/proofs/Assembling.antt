@@ -20,7 +20,7 @@ use Rattle.names.specs.proving.Ready.{IsGiven, IsReady}
 use Rattle.type_table.specs.Numbering.{AreNumbered}
 use Rattle.type_table.specs.Table.{Type', AllUnfold, IsCircular, IsClosed, IsLinked}
 use Rattle.resolve.specs.Program.{IsThere, IsWhole}
-use Rattle.resolve.specs.proving.Assembled.{IsTableFrom, IsTablesFault, TellsType, program_from}
+use Rattle.resolve.specs.proving.Assembled.{IsTableFrom, IsTablesFault, ReportsType, program_from}
 
 -- what the laws of the table say of types that are numbered
 pub record Laws : Type 0 where
@@ -50,7 +50,7 @@ table_of g ns hs as' ts en eh ea all =
 pub circular_fault : (g : ModuleTables) (hs : List Header) (as' : List AssignedAt) (ts : List Type') (i : ℕ) (w : Type')
     (e : NameFault) → hs ≡ g.headers.items → as' ≡ g.tables.assignments.items → IsTableFrom g ts →
     slice_get ts i ≡ Some w → IsCircular ts i →
-    TellsType (map header_of hs) (map assignment_of as') w e → IsTablesFault g e
+    ReportsType (map header_of hs) (map assignment_of as') w e → IsTablesFault g e
 circular_fault g hs as' ts i w faults.Memory eh ea all there back f = tt
 circular_fault g hs as' ts i w (faults.Circular s) eh ea all there back f = record {
   types = ts;

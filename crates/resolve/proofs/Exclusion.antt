@@ -2,7 +2,7 @@
 use Rattle.std.proofs.Common.{◌≡◌, ◌⊎◌, ◌^◌, inl, inr, ℕ, pos, List, length, map, get_or, ◌<◌, ◌+◌, Some, refl, sym, subst, ap, ◌∙◌, arith}
 use Rattle.std.specs.Prelude.{slice_get}
 use Rattle.std.proofs.lemmas.Option.{same_Some}
-use Rattle.trees.specs.declared.place.Spot.{Spot}
+use Rattle.trees.specs.declared.location.SourceLocation.{SourceLocation}
 use Rattle.trees.specs.Values.{Name}
 use Rattle.trees.specs.Types.{Plain, an_integer, a_bit_string, an_enumerated}
 use Rattle.trees.specs.declared.module.TagDefault.{TagDefault}
@@ -11,20 +11,20 @@ use Rattle.names.specs.declared.fault.NameFault.TheVariants as faults
 use Rattle.names.specs.declared.fault.Limit.{Limit}
 use Rattle.names.specs.declared.fault.Limit.TheVariants as limits
 use Rattle.names.specs.declared.scope.Assigned.TheVariants as assigned
-use Rattle.names.specs.Faults.{module_told, name_told}
-use Rattle.names.specs.Modules.{StandsIn, AreDistinct}
+use Rattle.names.specs.Faults.{fault_module, fault_name}
+use Rattle.names.specs.Modules.{OccursIn, AreDistinct}
 use Rattle.names.specs.Names.{Refers}
 use Rattle.names.specs.Sources.{Value}
 use Rattle.names.specs.proving.Distinct.{item_at, mapped, right}
 use Rattle.type_table.specs.Items.{additions_of, root_numbers, addition_numbers}
 use Rattle.circles.specs.Circles.{IsFirstDefaultCircle, NoDefaultCircles}
-use Rattle.type_table.specs.declared.table.Written.{Written}
+use Rattle.type_table.specs.declared.table.TypeNode.{TypeNode}
 use Rattle.type_table.specs.Lists.{AreSound, IsSoundPlain, IsSoundKind}
 use Rattle.type_table.specs.ListFaults.{IsTwiceAmong, IsTwicePlain, IsTwiceIn, HasManyMembers, HasManyItems, HasFarBit, HasGreatNumber, HasPassed}
 use Rattle.type_table.specs.Seen.{types_of}
 use Rattle.type_table.specs.Table.{Kind, simple, members, Type'}
 use Rattle.type_table.specs.proving.Checks.{IsKindFault}
-use Rattle.resolve.specs.First.{IsFirstList, IsFirstUnknown, TellsFirst, TypeMeans, ValueMeans, in_circle, in_list, in_type, in_value}
+use Rattle.resolve.specs.First.{IsFirstList, IsFirstUnknown, ReportsFirst, TypeMeans, ValueMeans, in_circle, in_list, in_type, in_value}
 use Rattle.resolve.specs.Program.{Program, IsAssignment, IsTypeIn, IsValueIn}
 use Rattle.resolve.specs.Qualified.{qualified, qualified_in, MeanValues}
 use Rattle.resolve.specs.Sound.{IsSound, IsSoundFault, TypesMean}
@@ -80,8 +80,8 @@ pub kind_fault : (p : Program) (i : ℕ) (t : Type') (M a : Name) (e : NameFault
     IsAssignment p t.assignment M a → IsKindFault M a t.kind e → IsSoundFault p e
 kind_fault p i t M a faults.Memory h s u = tt
 kind_fault p i t M a (faults.Twice z) h s u =
-    record { assigns = a; written = record { number = i; written = t; there = h; stands = moved p t.assignment M (module_told z) a a u.0 refl s; such = u.1 } }
-kind_fault p i t M a (faults.Limit l z) h s u = record { number = i; written = t; there = h; stands = moved p t.assignment M (module_told z) a (name_told z) u.0 u.1 s; such = u.2 }
+    record { assigns = a; written = record { number = i; written = t; there = h; stands = moved p t.assignment M (fault_module z) a a u.0 refl s; such = u.1 } }
+kind_fault p i t M a (faults.Limit l z) h s u = record { number = i; written = t; there = h; stands = moved p t.assignment M (fault_module z) a (fault_name z) u.0 u.1 s; such = u.2 }
 kind_fault p i t M a (faults.UnknownName z) h s u = absurd u
 kind_fault p i t M a (faults.NotExported z) h s u = u
 kind_fault p i t M a (faults.Circular z) h s u = absurd u
@@ -89,17 +89,17 @@ kind_fault p i t M a (faults.UnknownModule z) h s u = u
 
 -- names in a type or a value of which one stands for nothing
 abbrev IsWrittenIn : Program → Name → Name → Name → Name → Type 0
-IsWrittenIn p M a N x = IsTypeIn p M a (λ t. StandsIn (qualified_in t) (N, x)) ⊎ IsValueIn p M a (λ v. StandsIn (qualified v.notation) (N, x))
+IsWrittenIn p M a N x = IsTypeIn p M a (λ t. OccursIn (qualified_in t) (N, x)) ⊎ IsValueIn p M a (λ v. OccursIn (qualified v.notation) (N, x))
 
 unknown_fault : (p : Program) (M a : Name) (rs : List (Name × Name)) (e : NameFault) →
-    ((m N x : Name) → m ≡ M → StandsIn rs (N, x) → IsWrittenIn p m a N x) → IsUnknownIn p.modules M rs e →
+    ((m N x : Name) → m ≡ M → OccursIn rs (N, x) → IsWrittenIn p m a N x) → IsUnknownIn p.modules M rs e →
     IsSoundFault p e
 unknown_fault p M a rs faults.Memory w u = tt
 unknown_fault p M a rs (faults.UnknownName s) w u = record {
   owner = u.1.owner;
   assigns = a;
-  written = w (module_told s) u.1.owner (name_told s) u.0 (u.1.number, u.1.there);
-  nothing = subst (λ z. (i : ℕ) → Refers p.modules z (Some u.1.owner) (name_told s) (assigned.Value i) → ⊥) (sym u.0) u.1.nothing;
+  written = w (fault_module s) u.1.owner (fault_name s) u.0 (u.1.number, u.1.there);
+  nothing = subst (λ z. (i : ℕ) → Refers p.modules z (Some u.1.owner) (fault_name s) (assigned.Value i) → ⊥) (sym u.0) u.1.nothing;
 }
 unknown_fault p M a rs (faults.Limit l s) w u = absurd u
 unknown_fault p M a rs (faults.Twice s) w u = absurd u
@@ -174,9 +174,9 @@ no_value p M x N a none g (inr v) = let r = g.values v.number v.value M a v.ther
 
 pub fault_not_sound : (p : Program) (e : NameFault) → (e ≡ faults.Memory → ⊥) → IsSoundFault p e → IsSound p → ⊥
 fault_not_sound p faults.Memory n f g = n refl
-fault_not_sound p (faults.Twice s) n f g = twice_in f.written.written.kind (name_told s) f.written.such (g.lists f.written.number f.written.written f.written.there)
+fault_not_sound p (faults.Twice s) n f g = twice_in f.written.written.kind (fault_name s) f.written.such (g.lists f.written.number f.written.written f.written.there)
 fault_not_sound p (faults.Limit l s) n f g = passed l f.written.kind f.such (g.lists f.number f.written f.there)
-fault_not_sound p (faults.UnknownName s) n f g = no_value p (module_told s) (name_told s) f.owner f.assigns f.nothing g f.written
+fault_not_sound p (faults.UnknownName s) n f g = no_value p (fault_module s) (fault_name s) f.owner f.assigns f.nothing g f.written
 fault_not_sound p (faults.NotExported s) n f g = f
 fault_not_sound p (faults.Circular s) n f g = g.defaults f.number f.circle
 fault_not_sound p (faults.UnknownModule s) n f g = f
@@ -188,8 +188,8 @@ moved_first : (p : Program) (M N x : Name) (rs : List (Name × Name)) → N ≡ 
 moved_first p M N x rs q u = subst (λ z. IsFirstUnknown p.modules z rs x) (sym q) u
 
 -- the first fault in a list
-pub first_list : (p : Program) (ws : List Written) (e : NameFault) → types_of ws ≡ p.types → IsFirstList p ws e →
-    TellsFirst p e
+pub first_list : (p : Program) (ws : List TypeNode) (e : NameFault) → types_of ws ≡ p.types → IsFirstList p ws e →
+    ReportsFirst p e
 first_list p ws faults.Memory q f = tt
 first_list p ws (faults.Limit k z) q f = (ws, q, in_list f)
 first_list p ws (faults.Twice z) q f = (ws, q, in_list f)
@@ -199,21 +199,21 @@ first_list p ws (faults.Circular z) q f = (ws, q, in_list f)
 first_list p ws (faults.UnknownModule z) q f = (ws, q, in_list f)
 
 -- a list in a circle of DEFAULTs, after lists were checked
-pub first_circle : (p : Program) (ws : List Written) (i : ℕ) (w : Written) (M a : Name) (s : Spot) →
+pub first_circle : (p : Program) (ws : List TypeNode) (i : ℕ) (w : TypeNode) (M a : Name) (s : SourceLocation) →
     types_of ws ≡ p.types → AreSound p.types → slice_get ws i ≡ Some w → IsAssignment p w.assignment M a →
-    module_told s ≡ M → name_told s ≡ a → s.at ≡ w.at → IsFirstDefaultCircle p.types i →
-    TellsFirst p (faults.Circular s)
+    fault_module s ≡ M → fault_name s ≡ a → s.at ≡ w.at → IsFirstDefaultCircle p.types i →
+    ReportsFirst p (faults.Circular s)
 first_circle p ws i w M a s q l h u m x n c =
-    (ws, q, in_circle l (record { number = i; written = w; there = h; stands = moved p w.assignment M (module_told s) a (name_told s) m x u; at = n; circle = c }))
+    (ws, q, in_circle l (record { number = i; written = w; there = h; stands = moved p w.assignment M (fault_module s) a (fault_name s) m x u; at = n; circle = c }))
 
-module _ (p : Program) (ws : List Written) (q : types_of ws ≡ p.types) (l : AreSound p.types) (d : NoDefaultCircles p.types) where
+module _ (p : Program) (ws : List TypeNode) (q : types_of ws ≡ p.types) (l : AreSound p.types) (d : NoDefaultCircles p.types) where
   -- the fault of a name in a type, after lists and circles were checked
   pub first_type : (i : ℕ) (t : Type') (M a : Name) (e : NameFault) → slice_get p.types i ≡ Some t →
       IsAssignment p t.assignment M a → ((k : ℕ) → k < i → TypeMeans p k) → IsUnknownIn p.modules M (qualified_in t) e →
-      TellsFirst p e
+      ReportsFirst p e
   first_type i t M a faults.Memory h s b u = tt
   first_type i t M a (faults.UnknownName z) h s b u =
-      (ws, q, in_type l d (record { number = i; written = t; there = h; assigns = a; stands = moved p t.assignment M (module_told z) a a u.0 refl s; first = moved_first p M (module_told z) (name_told z) (qualified_in t) u.0 u.1; before = b }))
+      (ws, q, in_type l d (record { number = i; written = t; there = h; assigns = a; stands = moved p t.assignment M (fault_module z) a a u.0 refl s; first = moved_first p M (fault_module z) (fault_name z) (qualified_in t) u.0 u.1; before = b }))
   first_type i t M a (faults.Limit k z) h s b u = absurd u
   first_type i t M a (faults.Twice z) h s b u = absurd u
   first_type i t M a (faults.NotExported z) h s b u = absurd u
@@ -223,10 +223,10 @@ module _ (p : Program) (ws : List Written) (q : types_of ws ≡ p.types) (l : Ar
   -- the fault of a name in a value, after lists, circles and types were checked
   pub first_value : (i : ℕ) (v : Value) (M a : Name) (e : NameFault) → TypesMean p → slice_get p.values i ≡ Some v →
       IsAssignment p v.assignment M a → ((k : ℕ) → k < i → ValueMeans p k) →
-      IsUnknownIn p.modules M (qualified v.notation) e → TellsFirst p e
+      IsUnknownIn p.modules M (qualified v.notation) e → ReportsFirst p e
   first_value i v M a faults.Memory m h s b u = tt
   first_value i v M a (faults.UnknownName z) m h s b u =
-      (ws, q, in_value l d m (record { number = i; value = v; there = h; assigns = a; stands = moved p v.assignment M (module_told z) a a u.0 refl s; first = moved_first p M (module_told z) (name_told z) (qualified v.notation) u.0 u.1; before = b }))
+      (ws, q, in_value l d m (record { number = i; value = v; there = h; assigns = a; stands = moved p v.assignment M (fault_module z) a a u.0 refl s; first = moved_first p M (fault_module z) (fault_name z) (qualified v.notation) u.0 u.1; before = b }))
   first_value i v M a (faults.Limit k z) m h s b u = absurd u
   first_value i v M a (faults.Twice z) m h s b u = absurd u
   first_value i v M a (faults.NotExported z) m h s b u = absurd u

@@ -2,7 +2,7 @@
 use Rattle.std.proofs.Common.{◌≡◌, ◌<◌, ℕ, List, Some, length, map, refl, sym, subst, ap, ◌∙◌}
 use Rattle.std.specs.Prelude.{slice_get}
 use Rattle.trees.specs.declared.module.TagDefault.{TagDefault}
-use Rattle.trees.specs.declared.place.Spot.{Spot}
+use Rattle.trees.specs.declared.location.SourceLocation.{SourceLocation}
 use Rattle.trees.specs.Modules.{ModuleTree}
 use Rattle.trees.specs.Values.{Name}
 use Rattle.names.specs.declared.fault.Limit.TheVariants as limits
@@ -12,21 +12,21 @@ use Rattle.names.specs.declared.gather.ModuleTables.{ModuleTables}
 use Rattle.names.specs.declared.sources.AssignedAt.{AssignedAt}
 use Rattle.names.specs.declared.sources.Header.{Header}
 use Rattle.names.specs.ByNumber.{headers_of, owned_from, roots_of, scopes_from}
-use Rattle.names.specs.Faults.{module_told, name_told}
-use Rattle.names.specs.First.{IsFirstStanding}
+use Rattle.names.specs.Faults.{fault_module, fault_name}
+use Rattle.names.specs.First.{IsFirstExports}
 use Rattle.names.specs.Modules.{AreFew, AreNamed}
 use Rattle.names.specs.Names.{Module}
 use Rattle.names.specs.Scopes.{module_of, seen}
 use Rattle.names.specs.Sources.{Source, assignment_of, header_of, sources_of}
 use Rattle.names.specs.proving.Gathering.{HasGathered, IsNamingFault, IsSomeLimit, IsTwiceFirst}
-use Rattle.type_table.specs.declared.table.Written.{Written}
+use Rattle.type_table.specs.declared.table.TypeNode.{TypeNode}
 use Rattle.type_table.specs.Faults.{HasTooMany, IsFirstCircle, IsFirstNumbering}
 use Rattle.type_table.specs.Seen.{type_of, types_of}
 use Rattle.type_table.specs.Table.{AllUnfold}
 use Rattle.type_table.specs.proving.Checks.{IsTypesLimit}
-use Rattle.resolve.specs.First.{IsFirstFault, TellsFirst, of_counts, of_many, of_meanings, of_offers, of_program, of_types, of_unfolding}
+use Rattle.resolve.specs.First.{IsFirstFault, ReportsFirst, of_counts, of_many, of_meanings, of_offers, of_program, of_types, of_unfolding}
 use Rattle.resolve.specs.Program.{Program}
-use Rattle.resolve.specs.proving.Assembled.{IsCircularAt, IsOf, IsTableFrom, IsTablesFault, TellsType}
+use Rattle.resolve.specs.proving.Assembled.{IsCircularAt, IsOf, IsTableFrom, IsTablesFault, ReportsType}
 use Rattle.resolve.proofs.Ready.{program_of, same_table}
 
 pub counts_first : (ms : List ModuleTree) (e : NameFault) → IsNamingFault ms e → IsSomeLimit e → IsFirstFault ms e
@@ -48,7 +48,7 @@ meanings_first ms (faults.Circular s) n f = absurd f
 meanings_first ms (faults.UnknownModule s) n f = absurd f
 
 pub offers_first : (ms : List ModuleTree) (g : ModuleTables) (e : NameFault) → AreFew ms → HasGathered ms g →
-    IsNamingFault ms e → IsFirstStanding g.modules.entries e → IsFirstFault ms e
+    IsNamingFault ms e → IsFirstExports g.modules.entries e → IsFirstFault ms e
 offers_first ms g faults.Memory n h f t = tt
 offers_first ms g (faults.Limit l s) n h f t = of_offers g.modules.entries n (h.distinct, h.apart) h.scopes f t
 offers_first ms g (faults.Twice s) n h f t = of_offers g.modules.entries n (h.distinct, h.apart) h.scopes f t
@@ -88,11 +88,11 @@ module _ (ms : List ModuleTree) (g : ModuleTables) where
       types_first e n f (moved (λ a b c d. IsFirstNumbering a b c d e) ns hs as' h en eh ea q)
 
   -- more assignments than there may be types
-  many : (s : Spot) → HasGathered ms g → AreNamed ms → AreFew ms → 65536 < length (sources_of g.tables.roots.items) →
+  many : (s : SourceLocation) → HasGathered ms g → AreNamed ms → AreFew ms → 65536 < length (sources_of g.tables.roots.items) →
       IsTablesFault g (faults.Limit limits.Types s) → IsFirstFault ms (faults.Limit limits.Types s)
   many s h n f l t =
       of_many n f (subst (λ r. 65536 < length r) h.roots l)
-      (moved (λ a b c d. HasTooMany b c d (module_told s) (name_told s)) (seen module_of g.modules.entries) g.headers.items g.tables.assignments.items h refl refl refl t)
+      (moved (λ a b c d. HasTooMany b c d (fault_module s) (fault_name s)) (seen module_of g.modules.entries) g.headers.items g.tables.assignments.items h refl refl refl t)
 
   pub many_first : (M x : Name) (e : NameFault) → HasGathered ms g → AreNamed ms → AreFew ms →
       65536 < length (sources_of g.tables.roots.items) → IsTypesLimit M x e → IsTablesFault g e → IsFirstFault ms e
@@ -110,10 +110,10 @@ module _ (ms : List ModuleTree) (g : ModuleTables) where
   many_first M x (faults.Circular s) h n f l y t = absurd y
   many_first M x (faults.UnknownModule s) h n f l y t = absurd y
 
-  pub circular_first : (hs : List Header) (as' : List AssignedAt) (ws : List Written) (i : ℕ) (w : Written) (e : NameFault) →
+  pub circular_first : (hs : List Header) (as' : List AssignedAt) (ws : List TypeNode) (i : ℕ) (w : TypeNode) (e : NameFault) →
       HasGathered ms g → AreNamed ms → AreFew ms → hs ≡ g.headers.items → as' ≡ g.tables.assignments.items →
       IsTableFrom g (types_of ws) → slice_get ws i ≡ Some w → IsFirstCircle (types_of ws) i →
-      TellsType (map header_of hs) (map assignment_of as') (type_of w) e → IsCircularAt w.at e → IsFirstFault ms e
+      ReportsType (map header_of hs) (map assignment_of as') (type_of w) e → IsCircularAt w.at e → IsFirstFault ms e
   circular_first hs as' ws i w faults.Memory h n f eh ea all there c t at = tt
   circular_first hs as' ws i w (faults.Circular s) h n f eh ea all there c t at = of_unfolding n f (record {
     written_types = ws;
@@ -135,7 +135,7 @@ module _ (ms : List ModuleTree) (g : ModuleTables) where
   circular_first hs as' ws i w (faults.UnknownModule s) h n f eh ea all there c t at = absurd t
 
   pub sound_first : (p : Program) (e : NameFault) → HasGathered ms g → AreNamed ms → AreFew ms → IsOf g p →
-      AllUnfold p.types → TellsFirst p e → IsFirstFault ms e
+      AllUnfold p.types → ReportsFirst p e → IsFirstFault ms e
   sound_first p faults.Memory h n f o u t = tt
   sound_first p (faults.Limit l s) h n f o u t = of_program p n f (program_of ms g p h o) u t
   sound_first p (faults.Twice s) h n f o u t = of_program p n f (program_of ms g p h o) u t

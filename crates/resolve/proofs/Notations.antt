@@ -2,7 +2,7 @@
 use Rattle.std.proofs.Common.{◌≡◌, ℕ, ◌++◌, List, [], ◌∷◌, map, Option, Some, refl, sym, subst, ap, ◌∙◌, arith}
 use Rattle.std.specs.Prelude.{slice_get, Vec, Box, String}
 use Rattle.std.specs.Global.{Global}
-use Rattle.trees.specs.declared.place.Reference.{Reference}
+use Rattle.trees.specs.declared.location.Reference.{Reference}
 use Rattle.trees.specs.declared.value.Named.{Named}
 use Rattle.trees.specs.declared.value.ValueForm.{ValueForm}
 use Rattle.trees.specs.declared.value.ValueForm.TheVariants as forms
@@ -13,7 +13,7 @@ use Rattle.trees.specs.Values.{Name, Tree, trees, members, member_of, name_at, t
 use Rattle.names.specs.declared.scope.Assigned.TheVariants as assigned
 use Rattle.names.specs.Names.{Module, Refers}
 use Rattle.resolve.specs.First.{IsFirstUnknown}
-use Rattle.resolve.specs.Qualified.{each, behind_module, qualified, qualified_each, qualified_fields}
+use Rattle.resolve.specs.Qualified.{each, after_module, qualified, qualified_each, qualified_fields}
 use Rattle.resolve.specs.proving.Unknown.{named}
 
 -- the tree of a value whose form is this
@@ -57,14 +57,14 @@ fields_names v fs e =
     ap qualified (by_form v (forms.Fields fs) e) ∙ ap (λ ms. qualified_fields (members ms)) (same_members _ (λ n. refl) fs.items) ∙ all_fields (map member_of fs.items)
 
 -- a name after the name of module N isn't that of a value
-pub behind_none : (ms : List (Name × Module)) (M : Name) (o : Option Name) (N x m y : Name) → o ≡ Some N → m ≡ M →
-    y ≡ x → ((i : ℕ) → Refers ms M o x (assigned.Value i) → ⊥) → (m ≡ M) × IsFirstUnknown ms M (behind_module o x) y
-behind_none ms M o N x m y q e f none = (
+pub after_none : (ms : List (Name × Module)) (M : Name) (o : Option Name) (N x m y : Name) → o ≡ Some N → m ≡ M →
+    y ≡ x → ((i : ℕ) → Refers ms M o x (assigned.Value i) → ⊥) → (m ≡ M) × IsFirstUnknown ms M (after_module o x) y
+after_none ms M o N x m y q e f none = (
   e,
   record {
     number = 0;
     owner = N;
-    there = ap (λ p. slice_get (behind_module p x) 0) q ∙ ap (λ z. Some (N, z)) (sym f);
+    there = ap (λ p. slice_get (after_module p x) 0) q ∙ ap (λ z. Some (N, z)) (sym f);
     nothing = λ i r. none i (subst (λ p. Refers ms M p x (assigned.Value i)) (sym q) (subst (λ z. Refers ms M (Some N) z (assigned.Value i)) f r));
     before = λ k K z l h. absurd (omega (arith, l));
   },

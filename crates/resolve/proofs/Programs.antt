@@ -11,7 +11,7 @@ use Rattle.resolve.specs.Links.{IsProgramOf, Links, IsLinkFault}
 use Rattle.names.specs.Names.{IsApart, Module}
 use Rattle.names.specs.Sources.{Source, Value}
 use Rattle.type_table.specs.Table.{Type', AllUnfold}
-use Rattle.names.specs.Modules.{AreDistinct, AreFew, AreNamed, StandsIn, names_in}
+use Rattle.names.specs.Modules.{AreDistinct, AreFew, AreNamed, OccursIn, names_in}
 use Rattle.names.specs.ByNumber.{scopes_from, headers_of, owned_from, roots_of}
 use Rattle.type_table.specs.Numbering.{AreNumbered}
 use Rattle.resolve.specs.Program.{Program}
@@ -27,7 +27,7 @@ numbered_of ms p a =
 
 -- what the laws of names and of the table say
 abbrev pub Apart : Type 0
-Apart = (ms : List ModuleTree) → ((m : ModuleTree) → StandsIn ms m → AreDistinct (names_in m)) → IsApart (scopes_from 0 0 ms)
+Apart = (ms : List ModuleTree) → ((m : ModuleTree) → OccursIn ms m → AreDistinct (names_in m)) → IsApart (scopes_from 0 0 ms)
 
 abbrev pub OneTable : Type 0
 OneTable = (ms : List (Name × Module)) (hs : List (Name × TagDefault)) (gs : List (ℕ × Name)) (roots : List Source) (ts us : List Type') → IsApart ms → AreNumbered ms hs gs roots ts → AreNumbered ms hs gs roots us → ts ≡ us
@@ -41,15 +41,15 @@ TableExcludes = (ms : List (Name × Module)) (hs : List (Name × TagDefault)) (g
 
 pub one_program : Apart → OneTable → (ms : List ModuleTree) (p q : Program) → AreNamed ms → IsProgramOf ms p →
     IsProgramOf ms q → p ≡ q
-one_program apart one_table ms p q n a b =
-    let t = one_table (scopes_from 0 0 ms) (headers_of ms) (owned_from 0 ms) (roots_of ms) p.types q.types (apart ms n.names) (numbered_of ms p a) (numbered_of ms q b) in
+one_program apart lemma_one_table ms p q n a b =
+    let t = lemma_one_table (scopes_from 0 0 ms) (headers_of ms) (owned_from 0 ms) (roots_of ms) p.types q.types (apart ms n.names) (numbered_of ms p a) (numbered_of ms q b) in
     ap (λ l. program l p.headers p.assignments p.types p.values) (a.modules ∙ sym b.modules)
     ∙ ap (λ l. program q.modules l p.assignments p.types p.values) (a.headers ∙ sym b.headers)
     ∙ ap (λ l. program q.modules q.headers l p.types p.values) (a.assignments ∙ sym b.assignments)
     ∙ ap (λ l. program q.modules q.headers q.assignments l p.values) t
     ∙ ap (λ l. program q.modules q.headers q.assignments q.types l) (a.values ∙ sym b.values)
 
-module _ (apart : Apart) (one_table : OneTable) (names_exclude : NamesExclude) (table_exclude : TableExcludes)
+module _ (apart : Apart) (lemma_one_table : OneTable) (names_exclude : NamesExclude) (table_exclude : TableExcludes)
     (sound : (p : Program) (e : NameFault) → (e ≡ faults.Memory → ⊥) → IsSoundFault p e → IsSound p →
     ⊥) (ms : List ModuleTree) (p : Program) (l : Links ms p) where
   one_of : (e : NameFault) → (e ≡ faults.Memory → ⊥) →
@@ -60,7 +60,7 @@ module _ (apart : Apart) (one_table : OneTable) (names_exclude : NamesExclude) (
       ⊥
   one_of e n (inl f) = names_exclude ms e f l.named l.few
   one_of e n (inr (inl f)) = table_exclude (scopes_from 0 0 ms) (headers_of ms) (owned_from 0 ms) (roots_of ms) p.types (numbered_of ms p l.program) (apart ms l.named.names) l.types l.unfolds e n f
-  one_of e n (inr (inr r)) = sound p e n (subst (λ z. IsSoundFault z e) (one_program apart one_table ms r.0 p l.named r.1 l.program) r.2) l.sound
+  one_of e n (inr (inr r)) = sound p e n (subst (λ z. IsSoundFault z e) (one_program apart lemma_one_table ms r.0 p l.named r.1 l.program) r.2) l.sound
 
   pub link_exclude : (e : NameFault) → (e ≡ faults.Memory → ⊥) → IsLinkFault ms e → ⊥
   link_exclude faults.Memory n f = n refl

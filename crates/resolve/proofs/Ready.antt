@@ -64,21 +64,21 @@ naming_link ms (faults.UnknownModule s) f = inl f
 abbrev Behind : List ModuleTree → NameFault → Type 0
 Behind ms e = IsTableFault (scopes_from 0 0 ms) (headers_of ms) (owned_from 0 ms) (roots_of ms) e ⊎ ((p : Program) × IsProgramOf ms p × IsSoundFault p e)
 
-behind_link : (ms : List ModuleTree) (e : NameFault) → Behind ms e → IsLinkFault ms e
-behind_link ms faults.Memory f = tt
-behind_link ms (faults.Limit l s) f = inr f
-behind_link ms (faults.Twice s) f = inr f
-behind_link ms (faults.UnknownName s) f = inr f
-behind_link ms (faults.NotExported s) f = inr f
-behind_link ms (faults.Circular s) f = inr f
-behind_link ms (faults.UnknownModule s) f = inr f
+after_link : (ms : List ModuleTree) (e : NameFault) → Behind ms e → IsLinkFault ms e
+after_link ms faults.Memory f = tt
+after_link ms (faults.Limit l s) f = inr f
+after_link ms (faults.Twice s) f = inr f
+after_link ms (faults.UnknownName s) f = inr f
+after_link ms (faults.NotExported s) f = inr f
+after_link ms (faults.Circular s) f = inr f
+after_link ms (faults.UnknownModule s) f = inr f
 
 pub assembly_link : (ms : List ModuleTree) (g : ModuleTables) (e : NameFault) → HasGathered ms g → IsAssemblyFault g e →
     IsLinkFault ms e
 assembly_link ms g e h (inl f) =
-    behind_link ms e (inl (subst (λ l. IsTableFault l (headers_of ms) (owned_from 0 ms) (roots_of ms) e) h.scopes (subst (λ l. IsTableFault (seen module_of g.modules.entries) l (owned_from 0 ms) (roots_of ms) e) h.headers
+    after_link ms e (inl (subst (λ l. IsTableFault l (headers_of ms) (owned_from 0 ms) (roots_of ms) e) h.scopes (subst (λ l. IsTableFault (seen module_of g.modules.entries) l (owned_from 0 ms) (roots_of ms) e) h.headers
     (subst (λ l. IsTableFault (seen module_of g.modules.entries) (map header_of g.headers.items) l (roots_of ms) e) h.assignments (subst (λ l. IsTableFault (seen module_of g.modules.entries) (map header_of g.headers.items) (map assignment_of g.tables.assignments.items) l e) h.roots f)))))
-assembly_link ms g e h (inr r) = behind_link ms e (inr (r.0, program_of ms g r.0 h r.1, r.2))
+assembly_link ms g e h (inr r) = after_link ms e (inr (r.0, program_of ms g r.0 h r.1, r.2))
 
 -- more assignments than there may be types
 pub more_roots : (g : ModuleTables) (s : Source) (owner : ℕ) (M x : Name) (d : TagDefault) (e : NameFault) →

@@ -3,7 +3,7 @@ use Rattle.std.proofs.Common.{◌≡◌, ◌<◌, ◌≤◌, ◌+◌, inl, inr, 
 use Rattle.trees.specs.Values.{Name}
 use Rattle.names.specs.declared.fault.NameFault.{NameFault}
 use Rattle.names.specs.declared.fault.NameFault.TheVariants as faults
-use Rattle.names.specs.Faults.{name_told}
+use Rattle.names.specs.Faults.{fault_name}
 use Rattle.std.specs.Prelude.{slice_get}
 use Rattle.std.proofs.lemmas.Option.{slice_get_within}
 use Rattle.names.specs.Names.{Module}
@@ -28,12 +28,12 @@ module _ (ms : List (Name × Module)) (M : Name) where
   unknown_front xs ys faults.Memory u = tt
   unknown_front xs ys (faults.UnknownName s) u =
       let r = u.1 in
-      let w = slice_get_within xs r.number (r.owner, name_told s) r.there in (
+      let w = slice_get_within xs r.number (r.owner, fault_name s) r.there in (
         u.0,
         record {
           number = r.number;
           owner = r.owner;
-          there = left xs ys r.number (r.owner, name_told s) r.there;
+          there = left xs ys r.number (r.owner, fault_name s) r.there;
           nothing = r.nothing;
           before = λ k N y l h.
               elim (either xs ys k (N, y) h) [
@@ -49,10 +49,10 @@ module _ (ms : List (Name × Module)) (M : Name) where
   unknown_front xs ys (faults.UnknownModule s) u = u
 
   -- a fault of the names after names that mean values is one of all
-  pub unknown_behind : (xs ys : List (Name × Name)) (e : NameFault) → MeanValues ms M xs → IsUnknownIn ms M ys e →
+  pub unknown_after : (xs ys : List (Name × Name)) (e : NameFault) → MeanValues ms M xs → IsUnknownIn ms M ys e →
       IsUnknownIn ms M (xs ++ ys) e
-  unknown_behind xs ys faults.Memory m u = tt
-  unknown_behind xs ys (faults.UnknownName s) m u =
+  unknown_after xs ys faults.Memory m u = tt
+  unknown_after xs ys (faults.UnknownName s) m u =
       let r = u.1 in (
         u.0,
         record {
@@ -67,11 +67,11 @@ module _ (ms : List (Name × Module)) (M : Name) where
               ];
         },
       )
-  unknown_behind xs ys (faults.Limit l s) m u = u
-  unknown_behind xs ys (faults.Twice s) m u = u
-  unknown_behind xs ys (faults.NotExported s) m u = u
-  unknown_behind xs ys (faults.Circular s) m u = u
-  unknown_behind xs ys (faults.UnknownModule s) m u = u
+  unknown_after xs ys (faults.Limit l s) m u = u
+  unknown_after xs ys (faults.Twice s) m u = u
+  unknown_after xs ys (faults.NotExported s) m u = u
+  unknown_after xs ys (faults.Circular s) m u = u
+  unknown_after xs ys (faults.UnknownModule s) m u = u
 
   -- what holds of the rest holds of the whole
   pub record Left (whole rest : List (Name × Name)) : Type 0 where
@@ -95,7 +95,7 @@ module _ (ms : List (Name × Module)) (M : Name) where
         let q = front x l e in
         record {
           good = λ r. h.good (subst (MeanValues ms M) (sym q) (mean_both (f (g x)) rest m r));
-          fault = λ b u. h.fault b (subst (λ l. IsUnknownIn ms M l b) (sym q) (unknown_behind (f (g x)) rest b m u));
+          fault = λ b u. h.fault b (subst (λ l. IsUnknownIn ms M l b) (sym q) (unknown_after (f (g x)) rest b m u));
         }
 
     pub left_fault : (x : X) (b : NameFault) → i < length xs → x ≡ get_or xs i x →

@@ -3,7 +3,7 @@
 -- are checked in the order of their numbers (X.680, clauses 13 to 29).
 use Rattle.std.specs.Prelude.{◌≡◌, ◌<◌, ℕ, List, Some, String, length, map, slice_get}
 use Rattle.std.specs.Global.{Global}
-use Rattle.trees.specs.declared.place.Spot.{Spot}
+use Rattle.trees.specs.declared.location.SourceLocation.{SourceLocation}
 use Rattle.trees.specs.declared.module.TagDefault.{TagDefault}
 use Rattle.trees.specs.Modules.{ModuleTree}
 use Rattle.trees.specs.Values.{Name}
@@ -14,14 +14,14 @@ use Rattle.names.specs.declared.fault.NameFault.TheVariants as faults
 use Rattle.names.specs.declared.scope.Assigned.TheVariants as assigned
 use Rattle.names.specs.declared.scope.Scope.{Scope}
 use Rattle.names.specs.ByNumber.{scopes_from, headers_of, owned_from, roots_of}
-use Rattle.names.specs.Faults.{IsFirstTwice, IsNamesFault, module_told, name_told}
-use Rattle.names.specs.First.{IsFirstStanding}
-use Rattle.names.specs.Modules.{AreDistinct, AreFew, AreNamed, StandsIn, names_in}
+use Rattle.names.specs.Faults.{IsFirstTwice, IsNamesFault, fault_module, fault_name}
+use Rattle.names.specs.First.{IsFirstExports}
+use Rattle.names.specs.Modules.{AreDistinct, AreFew, AreNamed, OccursIn, names_in}
 use Rattle.names.specs.Names.{Module, Refers}
 use Rattle.names.specs.Scopes.{scopes}
 use Rattle.names.specs.Sources.{Value}
 use Rattle.circles.specs.Circles.{IsFirstDefaultCircle, NoDefaultCircles}
-use Rattle.type_table.specs.declared.table.Written.{Written}
+use Rattle.type_table.specs.declared.table.TypeNode.{TypeNode}
 use Rattle.type_table.specs.Faults.{HasTooMany, IsFirstCircle, IsFirstNumbering}
 use Rattle.type_table.specs.FirstInList.{IsFirstInList}
 use Rattle.type_table.specs.Lists.{AreSound, IsSoundKind}
@@ -34,9 +34,9 @@ use Rattle.resolve.specs.Qualified.{qualified, qualified_in, MeanValues}
 use Rattle.resolve.specs.Sound.{TypesMean}
 
 -- the fault is the first one of the first type with a fault in its list, reported for the assignment of the type
-pub record IsFirstList (p : Program) (ws : List Written) (e : NameFault) : Type 0 where
+pub record IsFirstList (p : Program) (ws : List TypeNode) (e : NameFault) : Type 0 where
   pub number : ℕ
-  pub written : Written
+  pub written : TypeNode
   pub there : slice_get ws number ≡ Some written
   pub within : Name
   pub assigns : Name
@@ -45,11 +45,11 @@ pub record IsFirstList (p : Program) (ws : List Written) (e : NameFault) : Type 
   pub before : (k : ℕ) (t : Type') → k < number → slice_get p.types k ≡ Some t → IsSoundKind t.kind
 
 -- the first list in a circle of DEFAULTs is reported where its type begins
-pub record IsFirstInCircle (p : Program) (ws : List Written) (s : Spot) : Type 0 where
+pub record IsFirstInCircle (p : Program) (ws : List TypeNode) (s : SourceLocation) : Type 0 where
   pub number : ℕ
-  pub written : Written
+  pub written : TypeNode
   pub there : slice_get ws number ≡ Some written
-  pub stands : IsAssignment p written.assignment (module_told s) (name_told s)
+  pub stands : IsAssignment p written.assignment (fault_module s) (fault_name s)
   pub at : s.at ≡ written.at
   pub circle : IsFirstDefaultCircle p.types number
 
@@ -79,35 +79,35 @@ ValueMeans p i = (v : Value) (M x : Name) →
     MeanValues p.modules M (qualified v.notation)
 
 -- the name is the first one in the first type with a name that isn't that of a value
-pub record IsFirstInType (p : Program) (s : Spot) : Type 0 where
+pub record IsFirstInType (p : Program) (s : SourceLocation) : Type 0 where
   pub number : ℕ
   pub written : Type'
   pub there : slice_get p.types number ≡ Some written
   pub assigns : Name
-  pub stands : IsAssignment p written.assignment (module_told s) assigns
-  pub first : IsFirstUnknown p.modules (module_told s) (qualified_in written) (name_told s)
+  pub stands : IsAssignment p written.assignment (fault_module s) assigns
+  pub first : IsFirstUnknown p.modules (fault_module s) (qualified_in written) (fault_name s)
   pub before : (k : ℕ) → k < number → TypeMeans p k
 
 -- the name is the first one in the first assigned value with a name that isn't that of a value
-pub record IsFirstInValue (p : Program) (s : Spot) : Type 0 where
+pub record IsFirstInValue (p : Program) (s : SourceLocation) : Type 0 where
   pub number : ℕ
   pub value : Value
   pub there : slice_get p.values number ≡ Some value
   pub assigns : Name
-  pub stands : IsAssignment p value.assignment (module_told s) assigns
-  pub first : IsFirstUnknown p.modules (module_told s) (qualified value.notation) (name_told s)
+  pub stands : IsAssignment p value.assignment (fault_module s) assigns
+  pub first : IsFirstUnknown p.modules (fault_module s) (qualified value.notation) (fault_name s)
   pub before : (k : ℕ) → k < number → ValueMeans p k
 
 -- the first fault of program p, whose types are written so
-pub data IsFirst (p : Program) (ws : List Written) : NameFault → Type 0 where
+pub data IsFirst (p : Program) (ws : List TypeNode) : NameFault → Type 0 where
   in_list : {e : NameFault} → IsFirstList p ws e → IsFirst p ws e
-  in_circle : {s : Spot} → AreSound p.types → IsFirstInCircle p ws s → IsFirst p ws (faults.Circular s)
-  in_type : {s : Spot} →
+  in_circle : {s : SourceLocation} → AreSound p.types → IsFirstInCircle p ws s → IsFirst p ws (faults.Circular s)
+  in_type : {s : SourceLocation} →
       AreSound p.types →
       NoDefaultCircles p.types →
       IsFirstInType p s →
       IsFirst p ws (faults.UnknownName s)
-  in_value : {s : Spot} →
+  in_value : {s : SourceLocation} →
       AreSound p.types →
       NoDefaultCircles p.types →
       TypesMean p →
@@ -115,67 +115,67 @@ pub data IsFirst (p : Program) (ws : List Written) : NameFault → Type 0 where
       IsFirst p ws (faults.UnknownName s)
 
 -- this fault is the first one for the program's types as they are written; `Memory` says nothing
-abbrev pub TellsFirst : Program → NameFault → Type 0
-TellsFirst p faults.Memory = Unit {0}
-TellsFirst p e = (ws : List Written) × (types_of ws ≡ p.types) × IsFirst p ws e
+abbrev pub ReportsFirst : Program → NameFault → Type 0
+ReportsFirst p faults.Memory = Unit {0}
+ReportsFirst p e = (ws : List TypeNode) × (types_of ws ≡ p.types) × IsFirst p ws e
 
 -- ---- modules
 
 -- a type of these modules doesn't unfold; the one that is reported is reported where it begins
-pub record IsFirstCircular (ms : List ModuleTree) (s : Spot) : Type 0 where
-  pub written_types : List Written
+pub record IsFirstCircular (ms : List ModuleTree) (s : SourceLocation) : Type 0 where
+  pub written_types : List TypeNode
   pub numbered :
       AreNumbered (scopes_from 0 0 ms) (headers_of ms) (owned_from 0 ms) (roots_of ms) (types_of written_types)
   pub number : ℕ
-  pub written : Written
+  pub written : TypeNode
   pub there : slice_get written_types number ≡ Some written
   pub circle : IsFirstCircle (types_of written_types) number
   pub at : s.at ≡ written.at
   pub owner : ℕ
   pub default : TagDefault
-  pub assigned : slice_get (owned_from 0 ms) written.assignment ≡ Some (owner, name_told s)
-  pub header : slice_get (headers_of ms) owner ≡ Some (module_told s, default)
+  pub assigned : slice_get (owned_from 0 ms) written.assignment ≡ Some (owner, fault_name s)
+  pub header : slice_get (headers_of ms) owner ≡ Some (fault_module s, default)
 
 -- the names of modules are distinct, and so are the names in each module
 abbrev pub HaveOneMeaning : List ModuleTree → Type 0
 HaveOneMeaning ms =
-    AreDistinct (map (λ m. m.name) ms) × ((m : ModuleTree) → StandsIn ms m → AreDistinct (names_in m))
+    AreDistinct (map (λ m. m.name) ms) × ((m : ModuleTree) → OccursIn ms m → AreDistinct (names_in m))
 
 -- The first fault of modules: a passed limit; otherwise a name that is given twice; otherwise an export or an import;
 -- otherwise too many assignments; otherwise the first type, by number, that is a reference to nothing or holds too many
 -- types; otherwise a type that doesn't unfold; otherwise a fault of the linked program. For exports and imports, es are
 -- the names of the modules with their offsets.
 pub data IsFirstLink (ms : List ModuleTree) : NameFault → Type 0 where
-  of_counts : {l : Limit} {s : Spot} → IsNamesFault ms (faults.Limit l s) → IsFirstLink ms (faults.Limit l s)
-  of_meanings : {s : Spot} →
+  of_counts : {l : Limit} {s : SourceLocation} → IsNamesFault ms (faults.Limit l s) → IsFirstLink ms (faults.Limit l s)
+  of_meanings : {s : SourceLocation} →
       AreFew ms →
-      IsFirstTwice ms (module_told s) (name_told s) →
+      IsFirstTwice ms (fault_module s) (fault_name s) →
       IsFirstLink ms (faults.Twice s)
   of_offers : {e : NameFault} (es : List (String Global × Scope)) →
       AreFew ms →
       HaveOneMeaning ms →
       scopes es ≡ scopes_from 0 0 ms →
       IsNamesFault ms e →
-      IsFirstStanding es e →
+      IsFirstExports es e →
       IsFirstLink ms e
-  of_many : {s : Spot} →
+  of_many : {s : SourceLocation} →
       AreNamed ms →
       AreFew ms →
       65536 < length (roots_of ms) →
-      HasTooMany (headers_of ms) (owned_from 0 ms) (roots_of ms) (module_told s) (name_told s) →
+      HasTooMany (headers_of ms) (owned_from 0 ms) (roots_of ms) (fault_module s) (fault_name s) →
       IsFirstLink ms (faults.Limit limits.Types s)
   of_types : {e : NameFault} →
       AreNamed ms →
       AreFew ms →
       IsFirstNumbering (scopes_from 0 0 ms) (headers_of ms) (owned_from 0 ms) (roots_of ms) e →
       IsFirstLink ms e
-  of_unfolding : {s : Spot} → AreNamed ms → AreFew ms → IsFirstCircular ms s → IsFirstLink ms (faults.Circular s)
+  of_unfolding : {s : SourceLocation} → AreNamed ms → AreFew ms → IsFirstCircular ms s → IsFirstLink ms (faults.Circular s)
   of_program : {e : NameFault} (p : Program) →
       AreNamed ms →
       AreFew ms →
       IsProgramOf ms p →
       AllUnfold p.types →
-      TellsFirst p e →
+      ReportsFirst p e →
       IsFirstLink ms e
 
 -- this fault of modules is the first one; `Memory` says nothing

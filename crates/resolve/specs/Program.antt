@@ -9,7 +9,7 @@ use Rattle.names.specs.declared.sources.Header.{Header}
 use Rattle.names.specs.declared.sources.ValueAt.{ValueAt}
 use Rattle.names.specs.Names.{Module, Meaning}
 use Rattle.names.specs.Sources.{Value, assignment_of, header_of, value_of}
-use Rattle.type_table.specs.declared.table.Written.{Written}
+use Rattle.type_table.specs.declared.table.TypeNode.{TypeNode}
 use Rattle.type_table.specs.Seen.{types_of}
 use Rattle.type_table.specs.Table.{Type', IsLinked}
 
@@ -28,7 +28,7 @@ pub record Program : Type 0 where
 
 -- the program of names, headers, assignments, types and values in memory
 abbrev pub program_seen :
-    List (Name × Module) → List Header → List AssignedAt → List Written → List ValueAt → Program
+    List (Name × Module) → List Header → List AssignedAt → List TypeNode → List ValueAt → Program
 program_seen ms hs gs ts vs = record {
   modules = ms;
   headers = map header_of hs;

@@ -15,14 +15,14 @@ each f [] = []
 each f (x ∷ xs) = f x ++ each f xs
 
 -- the module's name and the name after it, if a module's name is given
-abbrev pub behind_module : Option Name → Name → List (Name × Name)
-behind_module None x = []
-behind_module (Some N) x = (N, x) ∷ []
+abbrev pub after_module : Option Name → Name → List (Name × Name)
+after_module None x = []
+after_module (Some N) x = (N, x) ∷ []
 
 abbrev mutual
   -- the names after modules' names in a value, each with its module's name
   pub qualified : Tree → List (Name × Name)
-  qualified (trees.reference N x) = behind_module N x
+  qualified (trees.reference N x) = after_module N x
   qualified (trees.chosen x v) = qualified v
   qualified (trees.items vs) = qualified_each vs
   qualified (trees.fields vs) = qualified_fields vs
@@ -40,7 +40,7 @@ abbrev mutual
 
 -- the end of a range, if it is a name after a module's name
 abbrev pub qualified_end : EndTree → List (Name × Name)
-qualified_end (name_end N x) = behind_module N x
+qualified_end (name_end N x) = after_module N x
 qualified_end e = []
 
 -- the end of a range, if there is one, and it is a name after a module's name

@@ -5,8 +5,8 @@ use Rattle.trees.specs.Values.{Name}
 use Rattle.names.specs.declared.fault.NameFault.{NameFault}
 use Rattle.names.specs.declared.fault.NameFault.TheVariants as faults
 use Rattle.names.specs.declared.scope.Assigned.TheVariants as assigned
-use Rattle.names.specs.Faults.{module_told, name_told}
-use Rattle.names.specs.Modules.{StandsIn}
+use Rattle.names.specs.Faults.{fault_module, fault_name}
+use Rattle.names.specs.Modules.{OccursIn}
 use Rattle.names.specs.Names.{Refers}
 use Rattle.names.specs.Sources.{Value}
 use Rattle.circles.specs.Circles.{IsDefaultCircle, NoDefaultCircles}
@@ -46,8 +46,8 @@ pub record IsNoValue (p : Program) (M x : Name) : Type 0 where
   pub owner : Name
   pub assigns : Name
   pub written :
-      IsTypeIn p M assigns (λ t. StandsIn (qualified_in t) (owner, x))
-      ⊎ IsValueIn p M assigns (λ v. StandsIn (qualified v.notation) (owner, x))
+      IsTypeIn p M assigns (λ t. OccursIn (qualified_in t) (owner, x))
+      ⊎ IsValueIn p M assigns (λ v. OccursIn (qualified v.notation) (owner, x))
   pub nothing : (i : ℕ) → Refers p.modules M (Some owner) x (assigned.Value i) → ⊥
 
 -- name x is twice in the list of a type in module M, or its number is
@@ -70,8 +70,8 @@ HasKind p M x Q = IsTypeIn p M x (λ t. Q t.kind)
 -- a reason why the lists or names of a program break a rule
 abbrev pub IsSoundFault : Program → NameFault → Type 0
 IsSoundFault p faults.Memory = Unit {0}
-IsSoundFault p (faults.Twice s) = IsListedTwice p (module_told s) (name_told s)
-IsSoundFault p (faults.Limit l s) = HasKind p (module_told s) (name_told s) (HasPassed l)
-IsSoundFault p (faults.UnknownName s) = IsNoValue p (module_told s) (name_told s)
-IsSoundFault p (faults.Circular s) = IsInCircle p (module_told s) (name_told s)
+IsSoundFault p (faults.Twice s) = IsListedTwice p (fault_module s) (fault_name s)
+IsSoundFault p (faults.Limit l s) = HasKind p (fault_module s) (fault_name s) (HasPassed l)
+IsSoundFault p (faults.UnknownName s) = IsNoValue p (fault_module s) (fault_name s)
+IsSoundFault p (faults.Circular s) = IsInCircle p (fault_module s) (fault_name s)
 IsSoundFault p e = ⊥

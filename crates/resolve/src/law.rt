@@ -6,24 +6,24 @@ ghost use Rattle.names.specs.Modules.{AreNamed};
 ghost use Rattle.resolve.specs.Links.{FaultsExclude, IsProgramOf};
 ghost use Rattle.resolve.specs.Program.{Program};
 
-use names::law::{apart, name_faults_exclude};
-use type_table::law::{one_table, table_faults_exclude};
+use names::law::{apart, lemma_name_faults_exclude};
+use type_table::law::{lemma_one_table, lemma_table_faults_exclude};
 
 /// Modules have at most one program.
 pub fn one_program()
     ensures { (ms : List ModuleTree) (p q : Program) → AreNamed ms → IsProgramOf ms p → IsProgramOf ms q → p ≡ q }
 {
     apart();
-    one_table();
+    lemma_one_table();
 }
 
 /// Modules with a fault other than `Memory` can't be linked. So [`crate::link`] is Ok exactly if the modules can be
 /// linked and no allocation fails.
-pub fn link_faults_exclude()
+pub fn lemma_link_faults_exclude()
     ensures { FaultsExclude }
 {
     apart();
-    one_table();
-    name_faults_exclude();
-    table_faults_exclude();
+    lemma_one_table();
+    lemma_name_faults_exclude();
+    lemma_table_faults_exclude();
 }

@@ -8,6 +8,6 @@ pub mod linking;
 mod qualified;
 mod sound;
 
-pub use linked::{Home, Linked, Referent};
+pub use linked::{Linked, QualifiedName, Referent};
 pub use linking::link;
-pub use sound::faults_exclude_sound;
+pub use sound::lemma_faults_exclude_sound;

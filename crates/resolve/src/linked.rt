@@ -9,21 +9,21 @@ ghost use Rattle.names.specs.Modules.{AreFew, AreNamed};
 ghost use Rattle.names.specs.proving.Gathering.{HasGathered};
 ghost use Rattle.names.specs.proving.Ready.{IsReady};
 ghost use Rattle.type_table.specs.Seen.{type_of, types_of};
-ghost use Rattle.type_table.specs.Table.{AllUnfold, IsCore, IsLinked};
+ghost use Rattle.type_table.specs.Table.{AllUnfold, IsUnderlying, IsLinked};
 ghost use Rattle.resolve.specs.First.{IsFirstFault};
 ghost use Rattle.resolve.specs.Finds.{Finds, RefersTo};
 ghost use Rattle.resolve.specs.Program.{IsAssignment, IsHome, IsWhole};
-ghost use Rattle.resolve.specs.proving.Assembled.{ArePlaced, IsCircularAt, IsOf, IsTablesFault, TellsType};
+ghost use Rattle.resolve.specs.proving.Assembled.{ArePlaced, IsCircularAt, IsOf, IsTablesFault, ReportsType};
 
 use asn_base::schema::TypeId;
-use names::fault::spot;
+use names::fault::source_location;
 use names::gather::{ModuleTables, Tables};
 use names::{Assigned, AssignedAt, Header, NameFault, Names, ValueAt};
 use std::alloc::Global;
 use std::marker::Model;
 use trees::ValueSyntax;
-use type_table::Written;
-use type_table::law::{numbered_linked, numbered_there};
+use type_table::TypeNode;
+use type_table::law::{lemma_numbered_linked, lemma_numbered_there};
 use type_table::number::number_all;
 use type_table::unfolding::unfold_all;
 
@@ -38,7 +38,7 @@ pub enum Referent<'a> {
 
 /// The names of the module and of the assignment in which something is written.
 #[derive(Clone, Copy, Debug, Drop)]
-pub struct Home<'a> {
+pub struct QualifiedName<'a> {
     pub module: &'a str,
     pub name: &'a str,
 }
@@ -49,7 +49,7 @@ pub struct Linked {
     names: Names,
     headers: Vec<Header>,
     assignments: Vec<AssignedAt>,
-    types: Vec<Written>,
+    types: Vec<TypeNode>,
     values: Vec<ValueAt>,
     /// The core of each type.
     cores: Vec<usize>,
@@ -78,23 +78,23 @@ fn circular_at(
     alloc: Global,
     headers: &[Header],
     assignments: &[AssignedAt],
-    written: &Written,
+    written: &TypeNode,
 ) -> NameFault
     requires assigned { written.now.assignment < length assignments.now }
     requires placed { ArePlaced assignments.now headers.now }
-    ensures fault { TellsType (map header_of headers.now) (map assignment_of assignments.now)
+    ensures fault { ReportsType (map header_of headers.now) (map assignment_of assignments.now)
         (type_of written.now) result }
     ensures at { IsCircularAt written.now.at result }
 {
     let assignment = &assignments[written.assignment];
     let header = &headers[assignment.module];
-    match spot(
+    match source_location(
         alloc,
         header.name.it.as_str(),
         assignment.name.it.as_str(),
         written.at,
     ) {
-        Ok(spot) => NameFault::Circular(spot),
+        Ok(source_location) => NameFault::Circular(source_location),
         Err(_) => NameFault::Memory,
     }
 }
@@ -142,7 +142,7 @@ impl Linked {
     /// cores were found when the modules were linked, so the call takes constant time.
     pub fn core(&self, ty: TypeId) -> TypeId
         requires { ty.index < length self.now.types }
-        ensures core { IsCore self.now.types ty.index result.index }
+        ensures core { IsUnderlying self.now.types ty.index result.index }
         ensures there { result.index < length self.now.types }
     {
         TypeId {
@@ -151,20 +151,20 @@ impl Linked {
     }
 
     /// The module and the name of an assignment.
-    pub fn assigned(&self, assignment: usize) -> Home<'_>
+    pub fn assigned(&self, assignment: usize) -> QualifiedName<'_>
         requires { assignment < length self.now.assignments }
         ensures { IsAssignment self.now assignment result.module.now result.name.now }
     {
         let assignment = &self.assignments[assignment];
         let header = &self.headers[assignment.module];
-        Home {
+        QualifiedName {
             module: header.name.it.as_str(),
             name: assignment.name.it.as_str(),
         }
     }
 
     /// The module and the name of the assignment in which a type is written.
-    pub fn home(&self, ty: TypeId) -> Home<'_>
+    pub fn home(&self, ty: TypeId) -> QualifiedName<'_>
         requires { ty.index < length self.now.types }
         ensures { IsHome self.now ty.index result.module.now result.name.now }
     {
@@ -179,7 +179,7 @@ impl Linked {
     }
 
     /// The written types, each at its number.
-    pub fn types(&self) -> &[Written]
+    pub fn types(&self) -> &[TypeNode]
         ensures types { types_of result.now ≡ self.now.types }
         ensures linked { IsLinked self.now.types }
     {
@@ -217,8 +217,8 @@ impl Linked {
             AreFew ms →
             IfErr result (IsFirstFault ms) }
     {
-        numbered_there();
-        numbered_linked();
+        lemma_numbered_there();
+        lemma_numbered_linked();
         let ModuleTables {
             modules,
             headers,

@@ -13,8 +13,8 @@ use crate::linked::Linked;
 use crate::sound::sound;
 use limits::MAX_WRITTEN;
 use names::gather::{ModuleTables, gather};
-use names::law::{ready, stood};
-use names::{NameFault, all_stand, within_limits};
+use names::law::{lemma_all_named, ready};
+use names::{NameFault, check_all, within_limits};
 use std::alloc::Global;
 use trees::Module;
 use type_table::number::too_many;
@@ -67,7 +67,7 @@ pub fn link(alloc: Global, modules: Vec<Module>) -> Result<Linked, NameFault>
     ensures first { IfErr result (IsFirstFault (map module_tree_of modules.items)) }
 {
     ready();
-    stood();
+    lemma_all_named();
     match within_limits(alloc, &modules) {
         Ok(()) => {}
         Err(fault) => return Err(fault),
@@ -76,7 +76,7 @@ pub fn link(alloc: Global, modules: Vec<Module>) -> Result<Linked, NameFault>
         Ok(gathered) => gathered,
         Err(fault) => return Err(fault),
     };
-    match all_stand(alloc, &gathered.modules) {
+    match check_all(alloc, &gathered.modules) {
         Ok(()) => {}
         Err(fault) => return Err(fault),
     }

@@ -9,14 +9,14 @@ ghost use Rattle.resolve.specs.Qualified.{each, qualified, qualified_end, qualif
 ghost use Rattle.resolve.specs.proving.Unknown.{Answers, MeansValue, named};
 
 use crate::linked::Linked;
-use names::fault::spot;
+use names::fault::source_location;
 use names::{Assigned, NameFault};
 use std::alloc::Global;
 use trees::{
     ConstraintForm, ConstraintSyntax, EndSyntax, Named, PresenceSyntax, RangeSyntax, Reference,
     ValueForm, ValueSyntax,
 };
-use type_table::{ListMember, Shape, Written};
+use type_table::{ListMember, Shape, TypeNode};
 
 /// Whether a name, which may be after a module's name, is that of a value.
 fn is_value(linked: &Linked, within: &str, given: &Reference) -> bool
@@ -46,8 +46,8 @@ fn qualified_name(
             if is_value(linked, within, given) {
                 return Ok(());
             }
-            let spot = spot(alloc, within, given.name.as_str(), given.at)?;
-            Err(NameFault::UnknownName(spot))
+            let source_location = source_location(alloc, within, given.name.as_str(), given.at)?;
+            Err(NameFault::UnknownName(source_location))
         }
     }
 }
@@ -289,7 +289,7 @@ pub(crate) fn names_in_type(
     alloc: Global,
     linked: &Linked,
     within: &str,
-    written: &Written,
+    written: &TypeNode,
 ) -> Result<(), NameFault>
     ensures { Answers linked.now within.now (qualified_in (type_of written.now)) result }
 {

@@ -5,7 +5,7 @@ ghost use Rattle.names.specs.declared.fault.NameFault.{NameFault as NameFault'};
 ghost use Rattle.names.specs.declared.fault.NameFault.TheVariants as faults;
 ghost use Rattle.circles.specs.Circles.{NoDefaultCircles};
 ghost use Rattle.type_table.specs.Lists.{AreSound};
-ghost use Rattle.resolve.specs.First.{TellsFirst};
+ghost use Rattle.resolve.specs.First.{ReportsFirst};
 ghost use Rattle.resolve.specs.Program.{Program};
 ghost use Rattle.resolve.specs.Sound.{IsSound, IsSoundFault, TypesMean, ValuesMean};
 
@@ -14,7 +14,7 @@ use crate::qualified::{names_in_type, names_in_value};
 use asn_base::schema::TypeId;
 use circles::circle_of;
 use names::NameFault;
-use names::fault::spot;
+use names::fault::source_location;
 use std::alloc::Global;
 use type_table::lists::sound_shape;
 
@@ -22,7 +22,7 @@ use type_table::lists::sound_shape;
 fn sound_lists(alloc: Global, linked: &Linked) -> Result<(), NameFault>
     ensures good { OnOk result (AreSound linked.now.types) }
     ensures fault { IfErr result (IsSoundFault linked.now) }
-    ensures first { IfErr result (TellsFirst linked.now) }
+    ensures first { IfErr result (ReportsFirst linked.now) }
 {
     let types = linked.types();
     for index in 0..types.len() {
@@ -38,14 +38,19 @@ fn no_default_circles(alloc: Global, linked: &Linked) -> Result<(), NameFault>
     requires lists { AreSound linked.now.types }
     ensures good { OnOk result (NoDefaultCircles linked.now.types) }
     ensures fault { IfErr result (IsSoundFault linked.now) }
-    ensures first { IfErr result (TellsFirst linked.now) }
+    ensures first { IfErr result (ReportsFirst linked.now) }
 {
     let types = linked.types();
     match circle_of(alloc, types)? {
         None => Ok(()),
         Some(index) => {
             let home = linked.home(TypeId { index });
-            Err(NameFault::Circular(spot(alloc, home.module, home.name, types[index].at)?))
+            Err(NameFault::Circular(source_location(
+                alloc,
+                home.module,
+                home.name,
+                types[index].at,
+            )?))
         }
     }
 }
@@ -56,7 +61,7 @@ fn names_in_types(alloc: Global, linked: &Linked) -> Result<(), NameFault>
     requires circles { NoDefaultCircles linked.now.types }
     ensures good { OnOk result (TypesMean linked.now) }
     ensures fault { IfErr result (IsSoundFault linked.now) }
-    ensures first { IfErr result (TellsFirst linked.now) }
+    ensures first { IfErr result (ReportsFirst linked.now) }
 {
     let types = linked.types();
     for index in 0..types.len() {
@@ -73,7 +78,7 @@ fn names_in_values(alloc: Global, linked: &Linked) -> Result<(), NameFault>
     requires types { TypesMean linked.now }
     ensures good { OnOk result (ValuesMean linked.now) }
     ensures fault { IfErr result (IsSoundFault linked.now) }
-    ensures first { IfErr result (TellsFirst linked.now) }
+    ensures first { IfErr result (ReportsFirst linked.now) }
 {
     let values = linked.values();
     let _types = linked.types();
@@ -94,7 +99,7 @@ fn names_in_values(alloc: Global, linked: &Linked) -> Result<(), NameFault>
 pub(crate) fn sound(alloc: Global, linked: &Linked) -> Result<(), NameFault>
     ensures ok { OnOk result (IsSound linked.now) }
     ensures fault { IfErr result (IsSoundFault linked.now) }
-    ensures first { IfErr result (TellsFirst linked.now) }
+    ensures first { IfErr result (ReportsFirst linked.now) }
 {
     sound_lists(alloc, linked)?;
     no_default_circles(alloc, linked)?;
@@ -104,6 +109,6 @@ pub(crate) fn sound(alloc: Global, linked: &Linked) -> Result<(), NameFault>
 }
 
 /// A program with such a fault, other than `Memory`, isn't sound.
-pub fn faults_exclude_sound()
+pub fn lemma_faults_exclude_sound()
     ensures { (p : Program) (e : NameFault') → (e ≡ faults.Memory → ⊥) → IsSoundFault p e → IsSound p → ⊥ }
 {}

@@ -1,8 +1,8 @@
 //! Answers rows of data. It prints the name of each file, and for each row of the file an entry: the words of the row,
 //! and below them the lines of its answer, each after two blanks.
 //!
-//! The words of the command line name files of rows. `text_answers` answers those of the folders `text` and `expected`,
-//! `module_answers` those of `modules`, and `codec_answers` those of `codec`. This crate answers all others by the
+//! The words of the command line name files of rows. `test_text_answers` answers those of the folders `text` and `expected`,
+//! `test_module_answers` those of `modules`, and `test_codec_answers` those of `codec`. This crate answers all others by the
 //! calls that the program `asnc` makes. It also prints the wanted answer of each row that has another one.
 //!
 //! The first word of such a row is a command, and the second is the name of the row. The commands are `line`,
@@ -11,7 +11,7 @@
 //! `wanted` says. This program doesn't know these answers.
 //!
 //! The answers of the stored run and of the rows were written by hand or made by other tools, not taken from this
-//! program. The exceptions are those of `hints.rows` and lists of expected tokens, which were compared by hand with the
+//! program. The exceptions are those of `suggestions.rows` and lists of expected tokens, which were compared by hand with the
 //! grammar. The answer to a row with the word `caret` includes the line of its fault. In a row with the word `numbered`
 //! each `#` of its texts is replaced by a number, counted from 0.
 #![tactic(auto)]
@@ -24,15 +24,15 @@ mod sweeps;
 mod wanted;
 
 ghost use Rattle.std.specs.Prelude.{IfOk, map, string_bytes};
-ghost use Rattle.row_files.specs.Rows.{IsEntry};
+ghost use Rattle.row_format.specs.Rows.{IsEntry};
 
-use crate::refusal::{Refusal, told};
+use crate::refusal::{Refusal, refuse};
 use crate::wanted::{Count, differs, push_shown};
-use codec_answers::Samples;
-use row_files::{Row, rows};
+use row_format::{Row, rows};
 use std::alloc::{AllocError, Global};
 use std::process::ExitCode;
 use std::{env, fs, io};
+use test_codec_answers::Samples;
 
 /// The answer to a row, by its command.
 fn answer_of(alloc: Global, row: &Row) -> Result<String, Refusal> {
@@ -45,7 +45,7 @@ fn answer_of(alloc: Global, row: &Row) -> Result<String, Refusal> {
         "octjob" => programs::job_of(alloc, row, "octcheck"),
         "sweep" => sweeps::sweep(alloc, row),
         "packed-sweep" => packed_sweeps::sweep(alloc, row),
-        _ => Err(told(alloc, &"no such command")),
+        _ => Err(refuse(alloc, &"no such command")),
     }
 }
 
@@ -56,7 +56,7 @@ fn own_answer(alloc: Global, row: &Row, count: &mut Count) -> Result<String, All
 {
     let answer = match answer_of(alloc, row) {
         Ok(answer) => answer,
-        Err(Refusal::Told(words)) => words,
+        Err(Refusal::Message(words)) => words,
         Err(Refusal::Memory) => return Err(AllocError),
     };
     let mut lines = String::new(alloc);
@@ -80,10 +80,10 @@ fn answer(
 {
     let alloc = rt.alloc();
     match folder {
-        "text" => Ok(text_answers::answer(alloc, row)?),
-        "expected" => Ok(text_answers::compare(alloc, row)?),
-        "modules" if row.command() == "speed" => module_answers::measure(rt, row),
-        "modules" => Ok(module_answers::answer(alloc, row)?),
+        "text" => Ok(test_text_answers::answer(alloc, row)?),
+        "expected" => Ok(test_text_answers::compare(alloc, row)?),
+        "modules" if row.command() == "speed" => test_module_answers::measure(rt, row),
+        "modules" => Ok(test_module_answers::answer(alloc, row)?),
         "codec" => Ok(samples.answer(alloc, row)?),
         _ => Ok(own_answer(alloc, row, count)?),
     }

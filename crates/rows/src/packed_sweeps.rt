@@ -1,10 +1,10 @@
 //! What canonical PER says of a message that is cut, and of one in which a bit is changed.
 
 use crate::programs::asked_in;
-use crate::refusal::{Refusal, told};
+use crate::refusal::{Refusal, refuse};
 use crate::sweeps::with_bit;
 use asnc::{Fault, Kit, number};
-use row_files::Row;
+use row_format::Row;
 use std::alloc::{AllocError, Global};
 
 /// How many messages were read, how many additions were skipped in them, the sum of the octets of the printed values,
@@ -141,7 +141,7 @@ pub fn sweep(alloc: Global, row: &Row) -> Result<String, Refusal> {
     let asked = asked_in(alloc, row, "asnc")?;
     let kit = match Kit::open(alloc, asked.texts()) {
         Ok(kit) => kit,
-        Err(fault) => return Err(told(alloc, &fault)),
+        Err(fault) => return Err(refuse(alloc, &fault)),
     };
     let (ty, octets) = (asked.job.ty.as_str(), asked.octets());
     match kit.unper(alloc, ty, octets) {
@@ -149,6 +149,6 @@ pub fn sweep(alloc: Global, row: &Row) -> Result<String, Refusal> {
             let lines = lines(alloc, &kit, ty, octets)?;
             Ok(format!(in alloc; "{printed}\nskipped {skipped}{lines}")?)
         }
-        Err(fault) => Err(told(alloc, &fault)),
+        Err(fault) => Err(refuse(alloc, &fault)),
     }
 }

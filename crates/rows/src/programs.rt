@@ -1,14 +1,14 @@
 //! The answers of the programs asnc and octcheck to their words and to texts.
 
-use crate::refusal::{Refusal, told};
+use crate::refusal::{Refusal, refuse};
 use crate::requests::{asked, is_file, is_notation, texts_of, word};
 use asnc::{Fault, status};
 use check_jobs::refusal;
 use command_line::{Given, Job, ValueWords, Verb, job};
+use diagnostics::report;
 use input_lines::InputLines;
 use jobs::{Inputs, LineCommand, LineJob, line_command, output, work_lines};
-use reports::report;
-use row_files::{Row, RowText};
+use row_format::{Row, RowText};
 use sinks::InMemory;
 use std::alloc::{AllocError, Global};
 
@@ -108,7 +108,7 @@ fn lines_of(row: &Row) -> &[u8] {
 fn refused(alloc: Global, fault: &Fault) -> Refusal {
     let status = status(fault);
     match format!(in alloc; "status {status}: {fault}") {
-        Ok(line) => Refusal::Told(line),
+        Ok(line) => Refusal::Message(line),
         Err(_) => Refusal::Memory,
     }
 }
@@ -173,7 +173,7 @@ pub fn notation(alloc: Global, row: &Row) -> Result<String, Refusal> {
     };
     let text = match str::from_utf8(octets) {
         Ok(text) => text.strip_suffix('\n').unwrap_or(text),
-        Err(_) => return Err(told(alloc, &"a notation that is not text")),
+        Err(_) => return Err(refuse(alloc, &"a notation that is not text")),
     };
     of_value(
         alloc,

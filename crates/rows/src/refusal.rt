@@ -3,11 +3,11 @@
 use std::alloc::{AllocError, AllocFailed, Global};
 use std::fmt;
 
-/// `Memory`: an allocation failed. `Told`: the words of a fault.
+/// `Memory`: an allocation failed. `Message`: the words of a fault.
 #[derive(Drop)]
 pub enum Refusal {
     Memory,
-    Told(String),
+    Message(String),
 }
 
 impl From<AllocError> for Refusal {
@@ -23,9 +23,9 @@ impl<T: Drop> From<AllocFailed<T>> for Refusal {
 }
 
 /// The words that a fault prints.
-pub fn told<F: fmt::Display>(alloc: Global, fault: &F) -> Refusal {
+pub fn refuse<F: fmt::Display>(alloc: Global, fault: &F) -> Refusal {
     match fault.to_string(alloc) {
-        Ok(words) => Refusal::Told(words),
+        Ok(words) => Refusal::Message(words),
         Err(_) => Refusal::Memory,
     }
 }

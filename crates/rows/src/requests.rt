@@ -1,7 +1,7 @@
 //! The words and texts of a row.
 
 use crate::wanted::is_wanted;
-use row_files::{Row, RowText};
+use row_format::{Row, RowText};
 use std::alloc::{AllocError, Global};
 
 /// Whether a word changes how texts are read or how a fault is printed, and isn't part of what the row asks.

@@ -1,11 +1,11 @@
 //! The checker's verdicts after a change of an account or of octets.
 
 use crate::programs::{Asked, asked_in};
-use crate::refusal::{Refusal, told};
+use crate::refusal::{Refusal, refuse};
 use asnc::Fault;
 use check_jobs::value_of;
 use judging::{Verdict, answer, judge};
-use row_files::Row;
+use row_format::Row;
 use std::alloc::{AllocError, Global};
 
 /// The kinds of an account's rows.
@@ -103,14 +103,14 @@ fn rows(alloc: Global, text: &str) -> Result<Vec<Span>, AllocError> {
                 start = at;
             }
         }
-        let behind = at.saturating_add(1);
+        let after = at.saturating_add(1);
         if *octet == b']' {
             if depth == 2 {
-                spans.push(Span { start, end: behind })?;
+                spans.push(Span { start, end: after })?;
             }
             depth = depth.saturating_sub(1);
         }
-        at = behind;
+        at = after;
     }
     Ok(spans)
 }
@@ -133,14 +133,14 @@ fn other_numbers(alloc: Global, asked: &Asked, text: &str) -> Result<Tally, Allo
 
 /// The span of a row and of the comma next to it.
 fn with_comma(text: &str, span: Span) -> Span {
-    let behind = Span {
+    let after = Span {
         start: span.end,
         end: span.end.saturating_add(1),
     };
-    if part(text, behind) == "," {
+    if part(text, after) == "," {
         Span {
             start: span.start,
-            end: behind.end,
+            end: after.end,
         }
     } else {
         Span {
@@ -278,6 +278,6 @@ pub fn sweep(alloc: Global, row: &Row) -> Result<String, Refusal> {
             out.push_str(lines(alloc, &asked, text)?.as_str())?;
             Ok(out)
         }
-        Err(fault) => Err(told(alloc, &fault)),
+        Err(fault) => Err(refuse(alloc, &fault)),
     }
 }

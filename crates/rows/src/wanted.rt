@@ -6,7 +6,7 @@
 ghost use Rattle.std.specs.Prelude.{◌≡◌, ◌≤◌, ◌+◌, ◌-◌, ◌^◌, min, IfOk, IsSome, None};
 ghost use Rattle.rows.specs.Wanted.{dense as dense', is_as_wanted as is_as_wanted'};
 
-use row_files::{Row, RowText};
+use row_format::{Row, RowText};
 use std::alloc::{AllocError, Global};
 
 /// How many rows want an answer, and how many of these have another answer.

@@ -8,7 +8,7 @@ use Rattle.asn_base.specs.Types.{Component, Presence, Alternative}
 use Rattle.asn_base.specs.Types as types
 use Rattle.asn_base.specs.Typed.{HasNumber, group_of, HasOfGroup, LacksOfGroup, GroupsAreWhole}
 use Rattle.trees.specs.Values.{Name}
-use Rattle.names.specs.Modules.{StandsIn}
+use Rattle.names.specs.Modules.{OccursIn}
 use Rattle.type_table.specs.Items.{Item, additions_of, numbers_of, root_from, root_numbers, additions_from, addition_numbers, given_numbers, counted_to, number_or, past}
 use Rattle.type_table.specs.Table.{Part}
 use Rattle.resolve.specs.Program.{Program}
@@ -115,7 +115,7 @@ item_with (i ∷ is) z (inr h) = let r = item_with is z h in (r.0, is_later r.1)
 pub number_written : (root : List Item) (more : Option (List Item)) (in_root added : List types.Item) (marker : Bool) (z : ℤ)
     → AreItemsOf root more in_root marker added
     → HasNumber (in_root ++ added) z
-    → StandsIn (numbers_of root (additions_of more)) z
+    → OccursIn (numbers_of root (additions_of more)) z
 number_written root more in_root added marker z a h =
     let m = item_with (in_root ++ added) z h in
     let i = item_written root more in_root added marker m.0 z a m.1 in
@@ -133,7 +133,7 @@ has_number (i ∷ is) js x z (inr m) = inr (has_number is js x z (inr m))
 root_or_added : (root more : List Item) (x : Name) (z : ℤ) (i : IsItem root more x z) → IsRootItem root more x z ⊎ IsAddedItem root more x z
 root_or_added root more x z i = elim (less (i.place) (length root)) [
   | inl l ↦ inl (record { item = i; in_root = l })
-  | inr l ↦ inr (record { item = i; behind = l })
+  | inr l ↦ inr (record { item = i; following = l })
 ]
   where
     less : (m n : ℕ) → (m < n) ⊎ (n ≤ m)
@@ -174,7 +174,7 @@ there_too (z ∷ xs) (y ∷ ys) (suc i) x l e = there_too xs ys i x (omega (arit
 
 pub number_resolved : (root : List Item) (more : Option (List Item)) (in_root added : List types.Item) (marker : Bool) (z : ℤ)
     → AreItemsOf root more in_root marker added
-    → StandsIn (numbers_of root (additions_of more)) z
+    → OccursIn (numbers_of root (additions_of more)) z
     → HasNumber (in_root ++ added) z
 number_resolved root more in_root added marker z a h =
     let i = there_too (numbers_of root (additions_of more)) (root ++ additions_of more) h.0 z (numbers_long root (additions_of more)) h.1 in

@@ -8,13 +8,13 @@ use Rattle.asn_base.specs.Names.{IsMember}
 use Rattle.asn_base.specs.Types.{Component, Presence, Resolved}
 use Rattle.asn_base.specs.Types as types
 use Rattle.asn_base.specs.Typed as typed
-use Rattle.asn_base.specs.Typed.{Fits, fits_boolean, fits_integer, fits_enumerated, fits_bits, fits_named_bits, fits_octets, fits_null, fits_oid, fits_relative_oid, fits_utf8, fits_restricted}
+use Rattle.asn_base.specs.Typed.{IsPrimitive, fits_boolean, fits_integer, fits_enumerated, fits_bits, fits_named_bits, fits_octets, fits_null, fits_oid, fits_relative_oid, fits_utf8, fits_restricted}
 use Rattle.trees.specs.declared.module.TagDefault.{TagDefault}
 use Rattle.trees.specs.Values.{Name, Tree}
 use Rattle.trees.specs.Types.{Plain, default}
 use Rattle.type_table.specs.Lists.{AreSound, IsSoundKind, IsSoundPlain}
 use Rattle.type_table.specs.Walks.{follow, onward}
-use Rattle.type_table.specs.Table.{Part, Kind, Type', simple, IsCore, next, behind_of}
+use Rattle.type_table.specs.Table.{Part, Kind, Type', simple, IsUnderlying, next, target_of}
 use Rattle.resolve.specs.Program.{Program, IsAssignment}
 use Rattle.value_notations.specs.Notations.{Notation}
 use Rattle.value_notations.specs.Values as values
@@ -43,18 +43,18 @@ same_end f (suc k) (suc m) i c d e n g o = go (f i) refl (λ j. same_end f k m j
     go None q more = absurd (none-some c (sym (ap (λ y. onward y (λ j. follow f k j)) q) ∙ e))
     go (Some j) q more = more j (sym (ap (λ y. onward y (λ j. follow f k j)) q) ∙ e) n (sym (ap (λ y. onward y (λ j. follow f m j)) q) ∙ g) o
 
-one_core : (ts : List Type') (i c d : ℕ) → IsCore ts i c → IsCore ts i d → c ≡ d
-one_core ts i c d a b = same_end (next ts) a.steps b.steps i c d a.leads a.ends b.leads b.ends
+one_core : (ts : List Type') (i c d : ℕ) → IsUnderlying ts i c → IsUnderlying ts i d → c ≡ d
+one_core ts i c d a b = same_end (next ts) a.steps b.steps i c d a.chain a.ends b.chain b.ends
 
 -- what unfolds is a type of the table
-in_table : (ts : List Type') (i c : ℕ) (t : Type') → IsCore ts i c → slice_get ts c ≡ Some t → (u : Type') × (slice_get ts i ≡ Some u)
+in_table : (ts : List Type') (i c : ℕ) (t : Type') → IsUnderlying ts i c → slice_get ts c ≡ Some t → (u : Type') × (slice_get ts i ≡ Some u)
 in_table ts i c t a e = go (slice_get ts i) refl
   where
     go : (x : Option Type') → slice_get ts i ≡ x → (u : Type') × (slice_get ts i ≡ Some u)
     go (Some u) q = (u, q)
     go None q =
-        let n : next ts i ≡ None = ap behind_of q in
-        let same : i ≡ c = same_end (next ts) 0 a.steps i i c refl n a.leads a.ends in
+        let n : next ts i ≡ None = ap target_of q in
+        let same : i ≡ c = same_end (next ts) 0 a.steps i i c refl n a.chain a.ends in
         absurd (none-some t (sym q ∙ ap (slice_get ts) same ∙ e))
 
 -- one module
@@ -76,7 +76,7 @@ record Found (p : Program) (Allows : ℕ → ℤ → Type 0) (AllowsCode : ℕ �
 module _ (p : Program) (Allows : ℕ → ℤ → Type 0) (AllowsCode : ℕ → ℕ → Type 0) (s : List Resolved) where
   found : (i core : ℕ) (t : Type') (M x : Name)
       → IsSchemaOf p Allows AllowsCode s
-      → IsCore p.types i core
+      → IsUnderlying p.types i core
       → slice_get p.types core ≡ Some t
       → IsAssignment p t.assignment M x
       → Found p Allows AllowsCode s i M t.kind
@@ -84,7 +84,7 @@ module _ (p : Program) (Allows : ℕ → ℤ → Type 0) (AllowsCode : ℕ → �
       let u = in_table p.types i core t c e in
       let r = there_too p.types s i u.0 of.as_many u.1 in
       let f = of.each i r.0 r.1 in
-      let same : f.core ≡ core = one_core p.types i f.core core f.leads c in
+      let same : f.core ≡ core = one_core p.types i f.core core f.chain c in
       let one : f.type ≡ t = same_Some f.type t (sym f.there ∙ ap (slice_get p.types) same ∙ e) in
       let home : f.within ≡ M = one_home p t.assignment f.within M f.assigns x (subst (λ (w : Type'). IsAssignment p w.assignment f.within f.assigns) one f.stands) a in
       record {
@@ -93,7 +93,7 @@ module _ (p : Program) (Allows : ℕ → ℤ → Type 0) (AllowsCode : ℕ → �
         kind = subst (λ (N : Name). IsKindOf p Allows AllowsCode i N t.kind r.0.kind) home (subst (λ (w : Type'). IsKindOf p Allows AllowsCode i f.within w.kind r.0.kind) one f.kind);
       }
 
-  leaf_resolved : {k : types.Kind} {K : Plain} {M : Name} (i : ℕ) (v : AbstractValue) → IsSoundPlain K → IsPlainValue Allows AllowsCode i K v → IsKindOf p Allows AllowsCode i M (simple K) k → Fits k v
+  leaf_resolved : {k : types.Kind} {K : Plain} {M : Name} (i : ℕ) (v : AbstractValue) → IsSoundPlain K → IsPlainValue Allows AllowsCode i K v → IsKindOf p Allows AllowsCode i M (simple K) k → IsPrimitive k v
   leaf_resolved i (boolean b) d h schema_of.boolean = fits_boolean
   leaf_resolved i (integer z) d h schema_of.boolean = absurd h
   leaf_resolved i (enumerated z) d h schema_of.boolean = absurd h
@@ -235,8 +235,8 @@ module _ (p : Program) (Allows : ℕ → ℤ → Type 0) (AllowsCode : ℕ → �
 
     mutual
       pub resolved : {n i : ℕ} {v : AbstractValue} → values.ValueIn p Allows AllowsCode n i v → typed.ValueIn s n i v
-      resolved (values.value_in {n} {i} {core} {t} {M} {x} leads there stands h) =
-          let f = found i core t M x of leads there stands in
+      resolved (values.value_in {n} {i} {core} {t} {M} {x} chain there stands h) =
+          let f = found i core t M x of chain there stands in
           typed.value_in (record { found = f.there }) (value_resolved i h f.kind (sound core t there))
 
       value_resolved : {n : ℕ} {k : types.Kind} {v : AbstractValue} {K : Kind} {M : Name} (i : ℕ) → values.ValueOf p Allows AllowsCode n i M K v → IsKindOf p Allows AllowsCode i M K k → IsSoundKind K → typed.ValueOf s n k v

@@ -80,7 +80,7 @@ NoCode i x = ⊥
 true_stands : Notation p [] (77 ∷ []) 2 yes (boolean true)
 true_stands =
     notation
-    (record { core = 4; type = type_of (simple a_boolean) None 1; leads = record { steps = 1; few = omega arith; leads = refl; ends = refl }; there = refl; kind = refl })
+    (record { core = 4; type = type_of (simple a_boolean) None 1; chain = record { steps = 1; few = omega arith; chain = refl; ends = refl }; there = refl; kind = refl })
     (own tt) (of_leaf leaves.truth)
 
 first : IsTypeOf p Any NoCode 0 (types.a_sequence true (a_component ∷ b_component true ∷ c_component ∷ []))
@@ -88,7 +88,7 @@ unfolding a_part b_part c_part a_component c_component
 first = record {
   core = 0;
   type = type_of (members Sequence true (a_part ∷ b_part ∷ c_part ∷ [])) None 0;
-  leads = record { steps = 0; few = omega arith; leads = refl; ends = refl };
+  chain = record { steps = 0; few = omega arith; chain = refl; ends = refl };
   there = refl;
   within = 77 ∷ [];
   assigns = 83 ∷ [];
@@ -103,10 +103,10 @@ first = record {
 }
 
 the_boolean : (i : ℕ) → (steps : ℕ) → steps < 5 → walk p.types steps i ≡ Some 4 → IsTypeOf p Any NoCode i types.a_boolean
-the_boolean i steps few leads = record {
+the_boolean i steps few chain = record {
   core = 4;
   type = type_of (simple a_boolean) None 1;
-  leads = record { steps = steps; few = few; leads = leads; ends = refl };
+  chain = record { steps = steps; few = few; chain = chain; ends = refl };
   there = refl;
   within = 77 ∷ [];
   assigns = 66 ∷ [];
@@ -118,7 +118,7 @@ the_integer : IsTypeOf p Any NoCode 3 (types.an_integer any_number)
 the_integer = record {
   core = 3;
   type = type_of (simple (an_integer ((111 ∷ [], pos 1) ∷ []))) (Some (0, 2)) 0;
-  leads = record { steps = 0; few = omega arith; leads = refl; ends = refl };
+  chain = record { steps = 0; few = omega arith; chain = refl; ends = refl };
   there = refl;
   within = 77 ∷ [];
   assigns = 83 ∷ [];
@@ -208,7 +208,7 @@ red_written = record { item = record { place = 0; item = (114 ∷ [], None); the
 
 new_written : IsAddedItem the_root the_additions (110 ∷ []) (pos 1)
 unfolding the_root the_additions
-new_written = record { item = record { place = 2; item = (110 ∷ [], None); there = refl; named = refl; numbered = refl }; behind = omega arith }
+new_written = record { item = record { place = 2; item = (110 ∷ [], None); there = refl; named = refl; numbered = refl }; following = omega arith }
 
 root_written : (x : Name) (z : ℤ) → IsMember (numbered_item x z) (low ∷ red ∷ []) → IsRootItem the_root the_additions x z
 root_written x z m =
@@ -241,6 +241,6 @@ items_hold : AreItemsOf the_root (Some the_additions) (low ∷ red ∷ []) true 
 unfolding the_root the_additions
 items_hold = record {
   roots = λ x z. (root_written x z, λ i. root_at i.item.place i.item.item x z i.in_root i.item.there i.item.named i.item.numbered);
-  additions = λ x z. (added_written x z, λ i. added_at i.item.place i.item.item x z i.behind i.item.there i.item.named i.item.numbered);
+  additions = λ x z. (added_written x z, λ i. added_at i.item.place i.item.item x z i.following i.item.there i.item.named i.item.numbered);
   marked = (λ e. absurd cc, λ e. absurd cc);
 }

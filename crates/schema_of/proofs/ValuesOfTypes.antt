@@ -7,7 +7,7 @@ use Rattle.asn_base.specs.Names.{IsMember}
 use Rattle.asn_base.specs.Types.{Component, Presence, Resolved}
 use Rattle.asn_base.specs.Types as types
 use Rattle.asn_base.specs.Typed as typed
-use Rattle.asn_base.specs.Typed.{Fits, fits_boolean, fits_integer, fits_enumerated, fits_bits, fits_named_bits, fits_octets, fits_null, fits_oid, fits_relative_oid, fits_utf8, fits_restricted, IsWithinLimit}
+use Rattle.asn_base.specs.Typed.{IsPrimitive, fits_boolean, fits_integer, fits_enumerated, fits_bits, fits_named_bits, fits_octets, fits_null, fits_oid, fits_relative_oid, fits_utf8, fits_restricted, IsWithinLimit}
 use Rattle.trees.specs.declared.types.ListKind.{ListKind}
 use Rattle.trees.specs.declared.types.ListKind.TheVariants.{Sequence, Set, Choice}
 use Rattle.trees.specs.Values.{Name}
@@ -24,7 +24,7 @@ codes_allowed C alphabet [] f h = tt
 codes_allowed C alphabet (c ∷ o) f h = (f c h.0, codes_allowed C alphabet o f h.1)
 
 module _ (p : Program) (Allows : ℕ → ℤ → Type 0) (AllowsCode : ℕ → ℕ → Type 0) (s : List Resolved) where
-  leaf_written : {k : types.Kind} {v : AbstractValue} {K : Kind} {M : Name} (n i : ℕ) → Fits k v → IsKindOf p Allows AllowsCode i M K k → values.ValueOf p Allows AllowsCode n i M K v
+  leaf_written : {k : types.Kind} {v : AbstractValue} {K : Kind} {M : Name} (n i : ℕ) → IsPrimitive k v → IsKindOf p Allows AllowsCode i M K k → values.ValueOf p Allows AllowsCode n i M K v
   leaf_written n i fits_boolean schema_of.boolean = values.of_leaf tt
   leaf_written n i (fits_integer {z} w a) (schema_of.integer f) = values.of_leaf (w, (f z).0 a)
   leaf_written n i (fits_enumerated {z} w h) (schema_of.enumerated {root} {more} {in_root} {added} {marker} a) = values.of_leaf (number_written root more in_root added marker z a h)
@@ -48,7 +48,7 @@ module _ (p : Program) (Allows : ℕ → ℤ → Type 0) (AllowsCode : ℕ → �
       pub written : {n i : ℕ} {v : AbstractValue} → typed.ValueIn s n i v → values.ValueIn p Allows AllowsCode n i v
       written (typed.value_in {n} {t} {tags} {k} is h) =
           let f = of.each t (record { tags = tags; kind = k }) is.found in
-          values.value_in f.leads f.there f.stands (value_written t h f.kind)
+          values.value_in f.chain f.there f.stands (value_written t h f.kind)
 
       value_written : {n : ℕ} {k : types.Kind} {v : AbstractValue} {K : Kind} {M : Name} (i : ℕ) → typed.ValueOf s n k v → IsKindOf p Allows AllowsCode i M K k → values.ValueOf p Allows AllowsCode n i M K v
       value_written {n} i (typed.of_leaf h) kind = leaf_written n i h kind

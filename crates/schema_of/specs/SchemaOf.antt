@@ -17,7 +17,7 @@ use Rattle.trees.specs.Types.{a_boolean, an_integer, a_bit_string, an_octet_stri
 use Rattle.trees.specs.Types.{a_relative_oid, an_enumerated, a_utf8_string, a_restricted_string}
 use Rattle.trees.specs.Types.{mandatory, optional, default}
 use Rattle.type_table.specs.Items.{Item, additions_of}
-use Rattle.type_table.specs.Table.{Kind, simple, members, elements, Part, Type', IsCore}
+use Rattle.type_table.specs.Table.{Kind, simple, members, elements, Part, Type', IsUnderlying}
 use Rattle.resolve.specs.Program.{Program, IsAssignment}
 use Rattle.value_notations.specs.Leaves.{IsItem}
 use Rattle.value_notations.specs.Notations.{Notation}
@@ -40,7 +40,7 @@ pub record IsRootItem (root more : List Item) (x : Name) (z : ℤ) : Type 0 wher
 -- item x of a written enumeration, with number z, is after the extension marker
 pub record IsAddedItem (root more : List Item) (x : Name) (z : ℤ) : Type 0 where
   pub item : IsItem root more x z
-  pub behind : length root ≤ item.place
+  pub following : length root ≤ item.place
 
 -- The items in a schema are those of a written enumeration, each with its number, in any order (X.680, clause 20). They
 -- are those of the root, and those after the marker; the flag says whether there is a marker.
@@ -181,7 +181,7 @@ pub record IsTypeOf (p : Program) (Allows : ℕ → ℤ → Type 0) (AllowsCode 
   -- the number of the type to which its references and tags lead
   pub core : ℕ
   pub type : Type'
-  pub leads : IsCore p.types i core
+  pub chain : IsUnderlying p.types i core
   pub there : slice_get p.types core ≡ Some type
   -- the module in which the core is written
   pub within : Name

@@ -34,7 +34,7 @@ pub fn same_values()
 }
 
 /// The parts of a schema's type are written in the program's type.
-pub fn parts_are_written()
+pub fn lemma_parts_are_written()
     ensures items { (root : List Item) (more : Option (List Item)) (in_root added : List types.Item)
         (marker : Bool) (x : Name) (z : ℤ)
         → AreItemsOf root more in_root marker added

@@ -9,12 +9,12 @@ use Rattle.asn_base.specs.declared.tag.Tag.{Tag}
 use Rattle.encodings.specs.Header.{Header}
 use Rattle.encodings.specs.Strings.{BitPieces, whole_bits, cut_bits, BitSegments, last_segment, bit_segment, WholeBits, bit_string_tag}
 use Rattle.encodings.specs.Levels.{bit_piece_levels, bit_segment_levels}
-use Rattle.segmented_strings.specs.declared.fault.Why.{Why}
-use Rattle.segmented_strings.specs.declared.fault.Why.TheVariants as whys
+use Rattle.segmented_strings.specs.declared.fault.SegmentError.{SegmentError}
+use Rattle.segmented_strings.specs.declared.fault.SegmentError.TheVariants as whys
 use Rattle.segmented_strings.specs.declared.fault.SegmentsFault.{SegmentsFault}
 use Rattle.segmented_strings.specs.declared.fault.SegmentsFault.TheVariants.{Memory, At}
-use Rattle.segmented_strings.specs.Within.{UnitAt, BitPiecesWithin, BitsWithin}
-use Rattle.segmented_strings.specs.Failing.{NoSegment, BitsFail, no_bits, without_segments, bad_bits, odd_bits, in_bits, behind_bits}
+use Rattle.segmented_strings.specs.Within.{SegmentAt, BitPiecesWithin, BitsWithin}
+use Rattle.segmented_strings.specs.Failing.{NoSegment, BitsFail, no_bits, without_segments, bad_bits, odd_bits, in_bits, after_bits}
 use Rattle.segmented_strings.specs.Refusing.{place_of, moved_by, IsRefused, for_memory, at_place, JoinsBits, JoinsOneBits, IsWhole}
 use Rattle.segmented_strings.proofs.Units.{unit_length}
 
@@ -84,12 +84,12 @@ none_whole = record { unused = 0; octets = []; filling = []; few = omega arith; 
 
 -- ---- segments
 
-last_within : (r : ℕ) (s : List Bool) (c : Bool) (x o : List ℕ) → UnitAt bit_string_tag c x [] o → BitPiecesWithin r s c x → BitsWithin (suc r) s o
+last_within : (r : ℕ) (s : List Bool) (c : Bool) (x o : List ℕ) → SegmentAt bit_string_tag c x [] o → BitPiecesWithin r s c x → BitsWithin (suc r) s o
 last_within r s c x o u p =
     let l : suc (bit_piece_levels p.pieces) ≤ suc r = let a = p.few in omega arith in
     subst (λ z. BitsWithin (suc r) s z) (ap (λ q. u.header ++ q) (sym (append-nil x)) ∙ sym u.whole) (record { segments = last_segment u.is_header p.pieces; few = l })
 
-one_within : (r : ℕ) (s t : List Bool) (c : Bool) (x rest o : List ℕ) → UnitAt bit_string_tag c x rest o → BitPiecesWithin r s c x → length s % 8 ≡ 0 → BitsWithin (suc r) t rest → BitsWithin (suc r) (s ++ t) o
+one_within : (r : ℕ) (s t : List Bool) (c : Bool) (x rest o : List ℕ) → SegmentAt bit_string_tag c x rest o → BitPiecesWithin r s c x → length s % 8 ≡ 0 → BitsWithin (suc r) t rest → BitsWithin (suc r) (s ++ t) o
 one_within r s t c x rest o u p m w =
     let g = bit_segment u.is_header p.pieces m w.segments in
     let l : max (suc (bit_piece_levels p.pieces)) (bit_segment_levels w.segments) ≤ suc r = let a = p.few in let b = w.few in omega arith in
@@ -106,7 +106,7 @@ pub record BitsSoFar (room : ℕ) (contents rest old now : List ℕ) : Type 0 wh
   pub joined : now ≡ old ++ octets
   pub whole : WholeBits string (0 ∷ octets)
   pub holds : (t : List Bool) → BitsWithin room t rest → BitsWithin room (string ++ t) contents
-  pub fails : (n : ℕ) (e : Why) (i : ℕ) → n + length rest ≡ length contents → BitsFail room e i rest → BitsFail room e (n + i) contents
+  pub fails : (n : ℕ) (e : SegmentError) (i : ℕ) → n + length rest ≡ length contents → BitsFail room e i rest → BitsFail room e (n + i) contents
   pub shorter : length rest ≤ length contents
   pub some : 1 ≤ length rest
 
@@ -122,8 +122,8 @@ bits_begin room contents old some = record {
   some = some;
 }
 
-pub bits_next : (room unused : ℕ) (contents rest behind old now new : List ℕ) → BitsSoFar room contents rest old now → JoinsOneBits room rest behind now new unused → unused ≡ 0 → 1 ≤ length behind → BitsSoFar room contents behind old new
-bits_next room unused contents rest behind old now new s j z more = record {
+pub bits_next : (room unused : ℕ) (contents rest following old now new : List ℕ) → BitsSoFar room contents rest old now → JoinsOneBits room rest following now new unused → unused ≡ 0 → 1 ≤ length following → BitsSoFar room contents following old new
+bits_next room unused contents rest following old now new s j z more = record {
   string = s.string ++ j.string;
   octets = s.octets ++ j.octets;
   joined = j.joined ∙ ap (λ q. q ++ j.octets) s.joined ∙ append_assoc old s.octets j.octets;
@@ -137,21 +137,21 @@ bits_next room unused contents rest behind old now new s j z more = record {
     here : WholeBits j.string (0 ∷ j.octets)
     here = subst (λ q. WholeBits j.string (q ∷ j.octets)) z j.whole
 
-    first : (t : List Bool) → BitsWithin room t behind → BitsWithin room (j.string ++ t) rest
-    first t w = subst (λ q. BitsWithin q (j.string ++ t) rest) (sym j.deep) (one_within j.below j.string t j.constructed j.contents behind rest j.unit j.holds (even j.string j.octets here) (subst (λ q. BitsWithin q t behind) j.deep w))
+    first : (t : List Bool) → BitsWithin room t following → BitsWithin room (j.string ++ t) rest
+    first t w = subst (λ q. BitsWithin q (j.string ++ t) rest) (sym j.deep) (one_within j.below j.string t j.constructed j.contents following rest j.unit j.holds (even j.string j.octets here) (subst (λ q. BitsWithin q t following) j.deep w))
 
-    on : (n : ℕ) (e : Why) (i : ℕ) → n + length behind ≡ length contents → BitsFail room e i behind → BitsFail room e (n + i) contents
+    on : (n : ℕ) (e : SegmentError) (i : ℕ) → n + length following ≡ length contents → BitsFail room e i following → BitsFail room e (n + i) contents
     on n e i l f =
         let a = unit_length j.unit in
         let b = s.shorter in
         let h = length j.unit.header in
         let k = length j.contents in
         let m = length contents - length rest in
-        let front : BitsFail room e (h + (k + i)) rest = subst (λ q. BitsFail q e (h + (k + i)) rest) (sym j.deep) (behind_bits j.unit j.holds (even j.string j.octets here) more (subst (λ q. BitsFail q e i behind) j.deep f) refl) in
+        let front : BitsFail room e (h + (k + i)) rest = subst (λ q. BitsFail q e (h + (k + i)) rest) (sym j.deep) (after_bits j.unit j.holds (even j.string j.octets here) more (subst (λ q. BitsFail q e i following) j.deep f) refl) in
         let far : m + (h + (k + i)) ≡ n + i = omega arith in
         subst (λ q. BitsFail room e q contents) far (s.fails m e (h + (k + i)) (omega arith) front)
 
-pub bits_end : (room unused : ℕ) (contents rest behind old now new : List ℕ) → BitsSoFar room contents rest old now → JoinsOneBits room rest behind now new unused → length behind ≡ 0 → JoinsBits room contents old new unused
+pub bits_end : (room unused : ℕ) (contents rest following old now new : List ℕ) → BitsSoFar room contents rest old now → JoinsOneBits room rest following now new unused → length following ≡ 0 → JoinsBits room contents old new unused
 bits_end room unused contents rest [] old now new s j l = record {
   string = s.string ++ j.string;
   octets = s.octets ++ j.octets;
@@ -159,33 +159,33 @@ bits_end room unused contents rest [] old now new s j l = record {
   joined = j.joined ∙ ap (λ q. q ++ j.octets) s.joined ∙ append_assoc old s.octets j.octets;
   whole = both_whole unused s.string j.string s.octets j.octets s.whole j.whole;
 }
-bits_end room unused contents rest (x ∷ behind) old now new s j l = absurd (omega arith)
+bits_end room unused contents rest (x ∷ following) old now new s j l = absurd (omega arith)
 
 pub bits_refused : (room : ℕ) (contents rest old now : List ℕ) (n : ℕ) (f : SegmentsFault) → BitsSoFar room contents rest old now → n + length rest ≡ length contents → IsRefused (BitsFail room) f rest → IsRefused (BitsFail room) (moved_by n f) contents
 bits_refused room contents rest old now n Memory s l for_memory = for_memory
 bits_refused room contents rest old now n (At i e) s l (at_place f b) = at_place (s.fails n e i l f) (omega arith)
 
 -- unused bits before more segments
-pub bits_odd : (room unused : ℕ) (contents rest behind old now new : List ℕ) (n : ℕ) → BitsSoFar room contents rest old now → JoinsOneBits room rest behind now new unused → n + length rest ≡ length contents → 0 < unused → 1 ≤ length behind → IsRefused (BitsFail room) (At n whys.BadContents) contents
-bits_odd room unused contents rest behind old now new n s j l u more =
+pub bits_odd : (room unused : ℕ) (contents rest following old now new : List ℕ) (n : ℕ) → BitsSoFar room contents rest old now → JoinsOneBits room rest following now new unused → n + length rest ≡ length contents → 0 < unused → 1 ≤ length following → IsRefused (BitsFail room) (At n whys.BadContents) contents
+bits_odd room unused contents rest following old now new n s j l u more =
     let front : BitsFail room whys.BadContents 0 rest = subst (λ q. BitsFail q whys.BadContents 0 rest) (sym j.deep) (odd_bits j.unit j.holds (uneven unused j.string j.octets j.whole u) more) in
     let z : n + 0 ≡ n = omega arith in
     at_place (subst (λ q. BitsFail room whys.BadContents q contents) z (s.fails n whys.BadContents 0 l front)) (omega arith)
 
 -- ---- the segment at the front
 
-pub primitive_bits : (room r unused : ℕ) (s : List Bool) (x a behind octets old new : List ℕ) → UnitAt bit_string_tag false x behind octets → room ≡ suc r → WholeBits s x → x ≡ unused ∷ a → new ≡ old ++ a → JoinsOneBits room octets behind old new unused
-primitive_bits room r unused s x a behind octets old new u e w is j = record { below = r; constructed = false; contents = x; string = s; octets = a; unit = u; deep = e; holds = record { pieces = whole_bits w; few = omega arith }; joined = j; whole = subst (WholeBits s) is w }
+pub primitive_bits : (room r unused : ℕ) (s : List Bool) (x a following octets old new : List ℕ) → SegmentAt bit_string_tag false x following octets → room ≡ suc r → WholeBits s x → x ≡ unused ∷ a → new ≡ old ++ a → JoinsOneBits room octets following old new unused
+primitive_bits room r unused s x a following octets old new u e w is j = record { below = r; constructed = false; contents = x; string = s; octets = a; unit = u; deep = e; holds = record { pieces = whole_bits w; few = omega arith }; joined = j; whole = subst (WholeBits s) is w }
 
-pub constructed_bits : (room r unused : ℕ) (x behind octets old new : List ℕ) → UnitAt bit_string_tag true x behind octets → room ≡ suc r → JoinsBits r x old new unused → JoinsOneBits room octets behind old new unused
-constructed_bits room r unused x behind octets old new u e j = record { below = r; constructed = true; contents = x; string = j.string; octets = j.octets; unit = u; deep = e; holds = record { pieces = cut_bits j.holds.segments; few = j.holds.few }; joined = j.joined; whole = j.whole }
+pub constructed_bits : (room r unused : ℕ) (x following octets old new : List ℕ) → SegmentAt bit_string_tag true x following octets → room ≡ suc r → JoinsBits r x old new unused → JoinsOneBits room octets following old new unused
+constructed_bits room r unused x following octets old new u e j = record { below = r; constructed = true; contents = x; string = j.string; octets = j.octets; unit = u; deep = e; holds = record { pieces = cut_bits j.holds.segments; few = j.holds.few }; joined = j.joined; whole = j.whole }
 
-pub bad_primitive : (room r : ℕ) (x behind octets : List ℕ) → UnitAt bit_string_tag false x behind octets → room ≡ suc r → ((s : List Bool) → WholeBits s x → ⊥) → IsRefused (BitsFail room) (At 0 whys.BadContents) octets
-bad_primitive room r x behind octets u e n = at_place (subst (λ q. BitsFail q whys.BadContents 0 octets) (sym e) (bad_bits u n)) (omega arith)
+pub bad_primitive : (room r : ℕ) (x following octets : List ℕ) → SegmentAt bit_string_tag false x following octets → room ≡ suc r → ((s : List Bool) → WholeBits s x → ⊥) → IsRefused (BitsFail room) (At 0 whys.BadContents) octets
+bad_primitive room r x following octets u e n = at_place (subst (λ q. BitsFail q whys.BadContents 0 octets) (sym e) (bad_bits u n)) (omega arith)
 
-pub refused_in_bits : (room r n : ℕ) (x behind octets : List ℕ) (f : SegmentsFault) (u : UnitAt bit_string_tag true x behind octets) → room ≡ suc r → n + (length x + length behind) ≡ length octets → IsRefused (BitsFail r) f x → IsRefused (BitsFail room) (moved_by n f) octets
-refused_in_bits room r n x behind octets Memory u e l for_memory = for_memory
-refused_in_bits room r n x behind octets (At i w) u e l (at_place f b) =
+pub refused_in_bits : (room r n : ℕ) (x following octets : List ℕ) (f : SegmentsFault) (u : SegmentAt bit_string_tag true x following octets) → room ≡ suc r → n + (length x + length following) ≡ length octets → IsRefused (BitsFail r) f x → IsRefused (BitsFail room) (moved_by n f) octets
+refused_in_bits room r n x following octets Memory u e l for_memory = for_memory
+refused_in_bits room r n x following octets (At i w) u e l (at_place f b) =
     let a = unit_length u in
     let k : n + i ≡ length u.header + i = omega arith in
     at_place (subst (λ q. BitsFail q w (n + i) octets) (sym e) (in_bits u f k)) (omega arith)
@@ -203,13 +203,13 @@ record Cut (n : ℕ) (xs : List Bool) : Type 0 where
   long : length latter ≡ n
 
 cut_at : (n : ℕ) (xs : List Bool) → n ≤ length xs → Cut n xs
-cut_at n xs l = behind (length xs - n) xs (omega arith)
+cut_at n xs l = following (length xs - n) xs (omega arith)
   where
-    behind : (k : ℕ) (xs : List Bool) → k + n ≡ length xs → Cut n xs
-    behind zero xs e = record { former = []; latter = xs; is = refl; long = omega arith }
-    behind (suc k) [] e = absurd (omega arith)
-    behind (suc k) (x ∷ xs) e =
-        let c = behind k xs (omega arith) in
+    following : (k : ℕ) (xs : List Bool) → k + n ≡ length xs → Cut n xs
+    following zero xs e = record { former = []; latter = xs; is = refl; long = omega arith }
+    following (suc k) [] e = absurd (omega arith)
+    following (suc k) (x ∷ xs) e =
+        let c = following k xs (omega arith) in
         record { former = x ∷ c.former; latter = c.latter; is = ap (λ q. x ∷ q) c.is; long = c.long }
 
 many_bits : (n : ℕ) (os : List ℕ) → n < 8 → (length os ≡ 0 → n ≡ 0) → n ≤ length (flat_map bits_of_octet os)
@@ -239,5 +239,5 @@ unused_of_none n os o e z l s w =
     let c = (counted n s os (subst (WholeBits s) e w)).0 in
     omega arith
 
-pub front_bits : (g : Tag) (room : ℕ) (w : Why) (o : List ℕ) → NoSegment g room o w → g ≡ bit_string_tag → IsRefused (BitsFail room) (At 0 w) o
+pub front_bits : (g : Tag) (room : ℕ) (w : SegmentError) (o : List ℕ) → NoSegment g room o w → g ≡ bit_string_tag → IsRefused (BitsFail room) (At 0 w) o
 front_bits g room w o n e = at_place (no_bits (subst (λ q. NoSegment q room o w) e n)) (omega arith)

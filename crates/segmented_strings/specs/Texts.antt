@@ -3,12 +3,12 @@ use Rattle.std.specs.Prelude.{Bool, true, false}
 use Rattle.asn_base.specs.Abstract.{text}
 use Rattle.encodings.specs.Header.{Octets}
 use Rattle.encodings.specs.declared.leaf_kind.LeafKind.{LeafKind}
-use Rattle.leaf_readings.specs.declared.leaf.Leaf.{Leaf}
-use Rattle.leaf_readings.specs.declared.leaf.Leaf.TheVariants as leaves
-use Rattle.leaf_readings.specs.Leaves.{Suits}
+use Rattle.primitive_reader.specs.declared.leaf.Leaf.{Leaf}
+use Rattle.primitive_reader.specs.declared.leaf.Leaf.TheVariants as leaves
+use Rattle.primitive_reader.specs.Leaves.{Suits}
 use Rattle.segmented_strings.specs.declared.fault.SegmentsFault.{SegmentsFault}
 use Rattle.segmented_strings.specs.declared.fault.SegmentsFault.TheVariants.{Memory, At}
-use Rattle.segmented_strings.specs.declared.fault.Why.TheVariants.{BadContents}
+use Rattle.segmented_strings.specs.declared.fault.SegmentError.TheVariants.{BadContents}
 
 abbrev pub is_text : Leaf → Bool
 is_text (leaves.Text s) = true

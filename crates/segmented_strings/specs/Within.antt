@@ -6,7 +6,7 @@ use Rattle.encodings.specs.Strings.{Pieces, Segments, BitPieces, BitSegments}
 use Rattle.encodings.specs.Levels.{piece_levels, segment_levels, bit_piece_levels, bit_segment_levels}
 
 -- o starts with a header of tag g, constructed or not by c; x are the contents that it promises, and rest follows them
-pub record UnitAt (g : Tag) (c : Bool) (x rest o : Octets) : Type 0 where
+pub record SegmentAt (g : Tag) (c : Bool) (x rest o : Octets) : Type 0 where
   pub header : Octets
   pub is_header : Header g c (length x) header
   pub whole : o ≡ header ++ (x ++ rest)

@@ -5,7 +5,7 @@ ghost use Rattle.segmented_strings.specs.Failing.{BitsFail};
 ghost use Rattle.segmented_strings.specs.Refusing.{IsRefused, IsWhole, JoinsBits, JoinsOneBits};
 ghost use Rattle.std.specs.Prelude.{◌≡◌, ◌≤◌, Bool, IfErr, IfNone, IfOk, IfSome, List, length};
 
-use crate::fault::{SegmentsFault, Why};
+use crate::fault::{SegmentError, SegmentsFault};
 use crate::joined::moved;
 use crate::segment::{are_octets, extend, next_segment};
 use asn_base::tag::{Class, Tag};
@@ -25,18 +25,18 @@ fn whole_bits(octets: &[u8]) -> Option<(u8, &[u8])>
     ensures some { IfSome result (λ r. IsWhole r.0 r.1.now octets.now) }
     ensures none { IfNone result ((s : List Bool) → WholeBits s octets.now → ⊥) }
 {
-    let Some((unused, behind)) = octets.split_first() else {
+    let Some((unused, following)) = octets.split_first() else {
         return None;
     };
     let unused = *unused;
     if unused > 7 {
         return None;
     }
-    if behind.len() == 0 && unused > 0 {
+    if following.len() == 0 && unused > 0 {
         return None;
     }
-    are_octets(behind);
-    Some((unused, behind))
+    are_octets(following);
+    Some((unused, following))
 }
 
 /// Adds the octets of segments' bits, within `room` levels of headers, and returns how many bits of the last one are
@@ -48,22 +48,22 @@ pub(crate) fn add_bits(out: &mut Vec<u8>, contents: &[u8], room: usize) -> Resul
     ensures err { IfErr result (λ e. IsRefused (BitsFail room) e contents.now) }
 {
     if contents.is_empty() {
-        return Err(SegmentsFault::At(0, Why::EmptySegments));
+        return Err(SegmentsFault::At(0, SegmentError::EmptySegments));
     }
     let mut rest = contents;
     loop {
         let before = contents.len() - rest.len();
-        let (unused, behind) = match add_bit_segment(out, rest, room) {
+        let (unused, following) = match add_bit_segment(out, rest, room) {
             Ok(added) => added,
             Err(fault) => return Err(moved(before, fault)),
         };
-        if behind.is_empty() {
+        if following.is_empty() {
             return Ok(unused);
         }
         if unused > 0 {
-            return Err(SegmentsFault::At(before, Why::BadContents));
+            return Err(SegmentsFault::At(before, SegmentError::BadContents));
         }
-        rest = behind;
+        rest = following;
     }
 }
 
@@ -87,15 +87,15 @@ fn add_bit_segment<'a>(
     match segment.form {
         Form::Primitive => match whole_bits(segment.contents) {
             Some((unused, bits)) => match extend(out, bits) {
-                Ok(()) => Ok((unused, segment.behind)),
+                Ok(()) => Ok((unused, segment.following)),
                 Err(fault) => Err(fault),
             },
-            None => Err(SegmentsFault::At(0, Why::BadContents)),
+            None => Err(SegmentsFault::At(0, SegmentError::BadContents)),
         },
         Form::Constructed => {
-            let before = octets.len() - segment.behind.len() - segment.contents.len();
+            let before = octets.len() - segment.following.len() - segment.contents.len();
             match add_bits(out, segment.contents, room - 1) {
-                Ok(unused) => Ok((unused, segment.behind)),
+                Ok(unused) => Ok((unused, segment.following)),
                 Err(fault) => Err(moved(before, fault)),
             }
         }

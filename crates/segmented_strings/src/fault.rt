@@ -9,7 +9,7 @@ use thiserror::Error;
 
 /// What is wrong at a place.
 #[derive(Clone, Copy, Debug, PartialEq, Eq, Error)]
-pub enum Why {
+pub enum SegmentError {
     /// No header is there with its contents, which must be within those of the header around it.
     #[error("{0}")]
     Header(HeaderFault),
@@ -35,7 +35,7 @@ pub enum SegmentsFault {
     #[error("1 Memory")]
     Memory,
     #[error("{1}, at octet {0}")]
-    At(usize, Why),
+    At(usize, SegmentError),
 }
 
 impl From<AllocError> for SegmentsFault {

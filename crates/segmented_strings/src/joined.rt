@@ -3,7 +3,7 @@
 ghost use Rattle.encodings.specs.Header.{Octets};
 ghost use Rattle.encodings.specs.Strings.{octet_string_tag};
 ghost use Rattle.segmented_strings.specs.Failing.{OctetsFail};
-ghost use Rattle.segmented_strings.specs.Within.{OctetsWithin, PiecesWithin, UnitAt};
+ghost use Rattle.segmented_strings.specs.Within.{OctetsWithin, PiecesWithin, SegmentAt};
 ghost use Rattle.segmented_strings.specs.Refusing.{IsRefused, Joins, JoinsOne, place_of, moved_by};
 ghost use Rattle.std.specs.Prelude.{◌≡◌, ◌+◌, ◌<◌, ◌≤◌, ◌^◌, ◌++◌, IfErr, IfOk, OnOk, length};
 
@@ -46,7 +46,7 @@ pub(crate) fn add_octets(
     while !rest.is_empty() {
         let before = contents.len() - rest.len();
         rest = match add_segment(out, rest, room) {
-            Ok(behind) => behind,
+            Ok(following) => following,
             Err(fault) => return Err(moved(before, fault)),
         };
     }
@@ -73,14 +73,14 @@ fn add_segment<'a>(
         Form::Primitive => {
             are_octets(segment.contents);
             match extend(out, segment.contents) {
-                Ok(()) => Ok(segment.behind),
+                Ok(()) => Ok(segment.following),
                 Err(fault) => Err(fault),
             }
         }
         Form::Constructed => {
-            let before = octets.len() - segment.behind.len() - segment.contents.len();
+            let before = octets.len() - segment.following.len() - segment.contents.len();
             match add_octets(out, segment.contents, room - 1) {
-                Ok(()) => Ok(segment.behind),
+                Ok(()) => Ok(segment.following),
                 Err(fault) => Err(moved(before, fault)),
             }
         }

@@ -10,5 +10,5 @@ mod read;
 mod segment;
 mod text;
 
-pub use fault::{SegmentsFault, Why};
-pub use read::{Joined, read_segments};
+pub use fault::{SegmentError, SegmentsFault};
+pub use read::{Reassembled, read_segments};

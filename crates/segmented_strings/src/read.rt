@@ -2,23 +2,23 @@
 
 ghost use Rattle.asn_base.specs.Abstract.{AbstractValue, text as text'};
 ghost use Rattle.encodings.specs.declared.leaf_kind.LeafKind.TheVariants.{OctetString};
-ghost use Rattle.segmented_strings.specs.Joining.{Fails, HasFewUnused, IsJoinedAs, Reads, holding, some_bits, some_text};
+ghost use Rattle.segmented_strings.specs.Joining.{Fails, HasFewUnused, IsJoinedAs, ReadsContents, kind_of, some_bits, some_text};
 ghost use Rattle.segmented_strings.specs.Refusing.{IsRefused};
 ghost use Rattle.segmented_strings.specs.declared.fault.SegmentsFault.TheVariants.{At, Memory};
-ghost use Rattle.segmented_strings.specs.declared.fault.Why.{Why as Why'};
+ghost use Rattle.segmented_strings.specs.declared.fault.SegmentError.{SegmentError as SegmentError'};
 ghost use Rattle.std.specs.Prelude.{◌≡◌, ◌≤◌, ◌⊎◌, Err, IfErr, IfOk, length, ℕ};
 
 use crate::bits::add_bits;
-use crate::fault::{SegmentsFault, Why};
+use crate::fault::{SegmentError, SegmentsFault};
 use crate::joined::add_octets;
-use crate::law::one_joining;
+use crate::law::lemma_one_joining;
 use crate::text::text_of;
 use encodings::LeafKind;
 use std::alloc::Global;
 
 /// A string that was joined from segments.
 #[derive(Debug, Drop)]
-pub enum Joined {
+pub enum Reassembled {
     /// How many bits of the last octet are unused, and the octets.
     Bits(u8, Vec<u8>),
     Octets(Vec<u8>),
@@ -42,17 +42,17 @@ pub fn read_segments(
     kind: LeafKind,
     contents: &[u8],
     room: usize,
-) -> Result<Joined, SegmentsFault>
+) -> Result<Reassembled, SegmentsFault>
     requires { length contents.now ≤ 16777216 }
-    ensures ok { IfOk result (λ j. Reads kind room contents.now j) }
+    ensures ok { IfOk result (λ j. ReadsContents kind room contents.now j) }
     ensures few_unused { IfOk result (λ j. HasFewUnused j) }
     ensures err { IfErr result (λ e. IsRefused (Fails kind room) e contents.now) }
     // Octets that are those of a value are read, and each fault that they have is the error, unless memory runs out.
     ensures only { (v : AbstractValue) → IsJoinedAs kind v room contents.now → IfErr result (λ e. e ≡ Memory) }
-    ensures just { (e : Why') (i : ℕ) → Fails kind room e i contents.now
+    ensures refused_if { (e : SegmentError') (i : ℕ) → Fails kind room e i contents.now
         → (result ≡ Err (At i e)) ⊎ (result ≡ Err Memory) }
 {
-    one_joining();
+    lemma_one_joining();
     read_kind(alloc, kind, contents, room)
 }
 
@@ -62,9 +62,9 @@ fn read_kind(
     kind: LeafKind,
     contents: &[u8],
     room: usize,
-) -> Result<Joined, SegmentsFault>
+) -> Result<Reassembled, SegmentsFault>
     requires { length contents.now ≤ 16777216 }
-    ensures ok { IfOk result (λ j. Reads kind room contents.now j) }
+    ensures ok { IfOk result (λ j. ReadsContents kind room contents.now j) }
     ensures few_unused { IfOk result (λ j. HasFewUnused j) }
     ensures err { IfErr result (λ e. IsRefused (Fails kind room) e contents.now) }
 {
@@ -74,12 +74,12 @@ fn read_kind(
         LeafKind::OctetString => as_octets(alloc, contents, room),
         LeafKind::Utf8String => as_text(alloc, kind, contents, room),
         LeafKind::RestrictedString(_) => as_text(alloc, kind, contents, room),
-        LeafKind::Boolean => Err(SegmentsFault::At(0, Why::UnexpectedTag)),
-        LeafKind::Integer => Err(SegmentsFault::At(0, Why::UnexpectedTag)),
-        LeafKind::Enumerated => Err(SegmentsFault::At(0, Why::UnexpectedTag)),
-        LeafKind::Null => Err(SegmentsFault::At(0, Why::UnexpectedTag)),
-        LeafKind::ObjectIdentifier => Err(SegmentsFault::At(0, Why::UnexpectedTag)),
-        LeafKind::RelativeOid => Err(SegmentsFault::At(0, Why::UnexpectedTag)),
+        LeafKind::Boolean => Err(SegmentsFault::At(0, SegmentError::UnexpectedTag)),
+        LeafKind::Integer => Err(SegmentsFault::At(0, SegmentError::UnexpectedTag)),
+        LeafKind::Enumerated => Err(SegmentsFault::At(0, SegmentError::UnexpectedTag)),
+        LeafKind::Null => Err(SegmentsFault::At(0, SegmentError::UnexpectedTag)),
+        LeafKind::ObjectIdentifier => Err(SegmentsFault::At(0, SegmentError::UnexpectedTag)),
+        LeafKind::RelativeOid => Err(SegmentsFault::At(0, SegmentError::UnexpectedTag)),
     }
 }
 
@@ -88,29 +88,29 @@ fn as_bits(
     kind: LeafKind,
     contents: &[u8],
     room: usize,
-) -> Result<Joined, SegmentsFault>
-    requires kind { holding kind ≡ some_bits }
+) -> Result<Reassembled, SegmentsFault>
+    requires kind { kind_of kind ≡ some_bits }
     requires short { length contents.now ≤ 16777216 }
-    ensures ok { IfOk result (λ j. Reads kind room contents.now j) }
+    ensures ok { IfOk result (λ j. ReadsContents kind room contents.now j) }
     ensures few_unused { IfOk result (λ j. HasFewUnused j) }
     ensures err { IfErr result (λ e. IsRefused (Fails kind room) e contents.now) }
 {
     let mut octets = Vec::new(alloc);
     match add_bits(&mut octets, contents, room) {
-        Ok(unused) => Ok(Joined::Bits(unused, octets)),
+        Ok(unused) => Ok(Reassembled::Bits(unused, octets)),
         Err(fault) => Err(fault),
     }
 }
 
-fn as_octets(alloc: Global, contents: &[u8], room: usize) -> Result<Joined, SegmentsFault>
+fn as_octets(alloc: Global, contents: &[u8], room: usize) -> Result<Reassembled, SegmentsFault>
     requires { length contents.now ≤ 16777216 }
-    ensures ok { IfOk result (λ j. Reads OctetString room contents.now j) }
+    ensures ok { IfOk result (λ j. ReadsContents OctetString room contents.now j) }
     ensures few_unused { IfOk result (λ j. HasFewUnused j) }
     ensures err { IfErr result (λ e. IsRefused (Fails OctetString room) e contents.now) }
 {
     let mut octets = Vec::new(alloc);
     match add_octets(&mut octets, contents, room) {
-        Ok(()) => Ok(Joined::Octets(octets)),
+        Ok(()) => Ok(Reassembled::Octets(octets)),
         Err(fault) => Err(fault),
     }
 }
@@ -120,10 +120,10 @@ fn as_text(
     kind: LeafKind,
     contents: &[u8],
     room: usize,
-) -> Result<Joined, SegmentsFault>
-    requires kind { holding kind ≡ some_text }
+) -> Result<Reassembled, SegmentsFault>
+    requires kind { kind_of kind ≡ some_text }
     requires short { length contents.now ≤ 16777216 }
-    ensures ok { IfOk result (λ j. Reads kind room contents.now j) }
+    ensures ok { IfOk result (λ j. ReadsContents kind room contents.now j) }
     ensures few_unused { IfOk result (λ j. HasFewUnused j) }
     ensures err { IfErr result (λ e. IsRefused (Fails kind room) e contents.now) }
 {
@@ -133,7 +133,7 @@ fn as_text(
         Err(fault) => return Err(fault),
     }
     match text_of(alloc, kind, octets.as_slice()) {
-        Ok(text) => Ok(Joined::Text(text)),
+        Ok(text) => Ok(Reassembled::Text(text)),
         Err(fault) => Err(fault),
     }
 }

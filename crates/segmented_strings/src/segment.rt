@@ -2,12 +2,12 @@
 
 ghost use Rattle.octets.specs.Forms.{is_constructed};
 ghost use Rattle.segmented_strings.specs.Failing.{NoSegment};
-ghost use Rattle.segmented_strings.specs.Within.{UnitAt};
+ghost use Rattle.segmented_strings.specs.Within.{SegmentAt};
 ghost use Rattle.segmented_strings.specs.declared.fault.SegmentsFault.TheVariants.{Memory};
 ghost use Rattle.std.specs.Int.Digits.{AllBelowBase};
 ghost use Rattle.std.specs.Prelude.{◌≡◌, ◌≤◌, ◌↔◌, ◌++◌, IfErr, IfOk, IsTrue, OnOk, length};
 
-use crate::fault::{SegmentsFault, Why};
+use crate::fault::{SegmentError, SegmentsFault};
 use asn_base::tag::Tag;
 use octets::{Form, read_header};
 
@@ -16,32 +16,36 @@ use octets::{Form, read_header};
 pub(crate) struct Segment<'a> {
     pub(crate) form: Form,
     pub(crate) contents: &'a [u8],
-    pub(crate) behind: &'a [u8],
+    pub(crate) following: &'a [u8],
 }
 
 /// The segment of this tag at the start of octets, within `room` levels of headers.
-pub(crate) fn next_segment(tag: Tag, room: usize, octets: &[u8]) -> Result<Segment<'_>, Why>
+pub(crate) fn next_segment(
+    tag: Tag,
+    room: usize,
+    octets: &[u8],
+) -> Result<Segment<'_>, SegmentError>
     requires { 1 ≤ length octets.now }
     ensures room { IfOk result (λ r. 1 ≤ room) }
-    ensures ok { IfOk result (λ r. UnitAt tag (is_constructed r.form) r.contents.now r.behind.now octets.now) }
+    ensures ok { IfOk result (λ r. SegmentAt tag (is_constructed r.form) r.contents.now r.following.now octets.now) }
     ensures err { IfErr result (λ e. NoSegment tag room octets.now e) }
 {
     let header = match read_header(octets) {
         Ok(header) => header,
-        Err(fault) => return Err(Why::Header(fault)),
+        Err(fault) => return Err(SegmentError::Header(fault)),
     };
     if room == 0 {
-        return Err(Why::TooDeep);
+        return Err(SegmentError::TooDeep);
     }
     if !are_same(header.tag, tag) {
-        return Err(Why::UnexpectedTag);
+        return Err(SegmentError::UnexpectedTag);
     }
     let (_, rest) = octets.split_at(header.octets);
-    let (contents, behind) = rest.split_at(header.contents);
+    let (contents, following) = rest.split_at(header.contents);
     Ok(Segment {
         form: header.form,
         contents,
-        behind,
+        following,
     })
 }
 

@@ -1,17 +1,17 @@
 //! Texts from joined octets.
 
 ghost use Rattle.asn_base.specs.Abstract.{text as text'};
-ghost use Rattle.leaf_readings.specs.Leaves.{Suits};
-ghost use Rattle.segmented_strings.specs.Joining.{holding, some_text};
+ghost use Rattle.primitive_reader.specs.Leaves.{Suits};
+ghost use Rattle.segmented_strings.specs.Joining.{kind_of, some_text};
 ghost use Rattle.segmented_strings.specs.Texts.{IsTextRefused, is_text};
 ghost use Rattle.std.specs.Prelude.{◌≡◌, IfErr, IfNone, IfOk, IfSome, false, string_bytes};
-ghost use Rattle.leaf_readings.specs.declared.leaf.Leaf.TheVariants.{Text};
+ghost use Rattle.primitive_reader.specs.declared.leaf.Leaf.TheVariants.{Text};
 ghost use Rattle.segmented_strings.specs.declared.fault.SegmentsFault.TheVariants.{Memory};
 
-use crate::fault::{SegmentsFault, Why};
+use crate::fault::{SegmentError, SegmentsFault};
 use crate::segment::are_octets;
 use encodings::LeafKind;
-use leaf_readings::{Leaf, read_leaf};
+use primitive_reader::{Leaf, read_leaf};
 use std::alloc::Global;
 
 /// The text of a leaf that is one.
@@ -34,7 +34,7 @@ fn text_in(leaf: Leaf<'_>) -> Option<&str>
 
 /// A copy of the text of octets, if they are UTF-8, or characters of the kind.
 pub(crate) fn text_of(alloc: Global, kind: LeafKind, octets: &[u8]) -> Result<String, SegmentsFault>
-    requires { holding kind ≡ some_text }
+    requires { kind_of kind ≡ some_text }
     ensures same { IfOk result (λ s. string_bytes s ≡ octets.now) }
     ensures suits { IfOk result (λ s. Suits kind (text' octets.now)) }
     ensures err { IfErr result (λ e. IsTextRefused kind octets.now e) }
@@ -42,11 +42,11 @@ pub(crate) fn text_of(alloc: Global, kind: LeafKind, octets: &[u8]) -> Result<St
     are_octets(octets);
     let leaf = match read_leaf(kind, octets) {
         Ok(leaf) => leaf,
-        Err(_) => return Err(SegmentsFault::At(0, Why::BadContents)),
+        Err(_) => return Err(SegmentsFault::At(0, SegmentError::BadContents)),
     };
     match text_in(leaf) {
         Some(text) => copied(alloc, text),
-        None => Err(SegmentsFault::At(0, Why::BadContents)),
+        None => Err(SegmentsFault::At(0, SegmentError::BadContents)),
     }
 }
 

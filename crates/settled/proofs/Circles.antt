@@ -6,7 +6,7 @@ use Rattle.asn_base.specs.declared.tag.Tag.{Tag}
 use Rattle.asn_base.specs.Names.{IsMember}
 use Rattle.asn_base.specs.Types.{Component, Resolved, Is}
 use Rattle.asn_base.specs.Types as types
-use Rattle.asn_base.specs.Schemas.{components, LeadsTo, leads_itself, leads_onward}
+use Rattle.asn_base.specs.Schemas.{components, PathLeadsTo, leads_itself, leads_onward}
 use Rattle.asn_base.specs.Schemas as schemas
 use Rattle.trees.specs.Values.{Name}
 use Rattle.type_table.specs.Table.{Part, Kind, Type', members, HasPlaces}
@@ -25,7 +25,7 @@ module _ (p : Program) (A : ℕ → ℤ → Type 0) (C : ℕ → ℕ → Type 0)
     is : Is s end tags k
     reached : Reaches p.types t end
 
-  reached : (k : types.Kind) (t : ℕ) → LeadsTo s k t → IsReached k t
+  reached : (k : types.Kind) (t : ℕ) → PathLeadsTo s k t → IsReached k t
   reached k t (leads_itself {tags} is) = record { end = t; tags = tags; is = is; reached = itself }
   reached k t (leads_onward {u} {tags} {m} is h l) =
       let f = of.each t (record { tags = tags; kind = m }) is.found in
@@ -34,7 +34,7 @@ module _ (p : Program) (A : ℕ → ℤ → Type 0) (C : ℕ → ℕ → Type 0)
         end = r.end;
         tags = r.tags;
         is = r.is;
-        reached = joined (reaches_core p.types t f.core f.leads) (onward u f.type f.there (part_of u f.kind h) r.reached);
+        reached = joined (reaches_core p.types t f.core f.chain) (onward u f.type f.there (part_of u f.kind h) r.reached);
       }
 
   -- Two lists of the program of which the schema has the same component at the same place are one: a type is a member
@@ -71,5 +71,5 @@ module _ (p : Program) (A : ℕ → ℤ → Type 0) (C : ℕ → ℕ → Type 0)
         held = w.there;
         notation = v.notation;
         defaulted = v.is;
-        back = subst (λ z. Reaches p.types w.part.ty z) (sym same) (subst (λ z. Reaches p.types z g.core) w.alike.type (joined r.reached (reaches_core p.types r.end g.core g.leads)));
+        back = subst (λ z. Reaches p.types w.part.ty z) (sym same) (subst (λ z. Reaches p.types z g.core) w.alike.type (joined r.reached (reaches_core p.types r.end g.core g.chain)));
       })

@@ -4,8 +4,8 @@ use Rattle.std.specs.Prelude.{slice_get}
 use Rattle.std.proofs.lemmas.Option.{same_Some, none-some}
 use Rattle.trees.specs.declared.module.TagDefault.{TagDefault}
 use Rattle.type_table.specs.Walks.{follow, onward}
-use Rattle.type_table.specs.Table.{Kind, Type', simple, reference, tagged, members, elements, IsCore, Is, next, behind, behind_of}
-use Rattle.circles.specs.Circles.{Reaches, itself, onward as further, IsPart, referred, behind_tag}
+use Rattle.type_table.specs.Table.{Kind, Type', simple, reference, tagged, members, elements, IsUnderlying, Is, next, target, target_of}
+use Rattle.circles.specs.Circles.{Reaches, itself, onward as further, IsPart, referred, target_tag}
 use Rattle.range_ends.specs.Ends.{IsOfKind}
 
 -- ---- one core
@@ -28,12 +28,12 @@ same_end f (suc k) (suc m) i c d e n g o = go (f i) refl (λ j. same_end f k m j
     go None q more = absurd (none-some c (sym (ap (λ y. onward y (λ j. follow f k j)) q) ∙ e))
     go (Some j) q more = more j (sym (ap (λ y. onward y (λ j. follow f k j)) q) ∙ e) n (sym (ap (λ y. onward y (λ j. follow f m j)) q) ∙ g) o
 
-pub one_core : (ts : List Type') (i c d : ℕ) → IsCore ts i c → IsCore ts i d → c ≡ d
-one_core ts i c d a b = same_end (next ts) a.steps b.steps i c d a.leads a.ends b.leads b.ends
+pub one_core : (ts : List Type') (i c d : ℕ) → IsUnderlying ts i c → IsUnderlying ts i d → c ≡ d
+one_core ts i c d a b = same_end (next ts) a.steps b.steps i c d a.chain a.ends b.chain b.ends
 
 -- what the core is, is what the type is
-pub kind_of_core : (ts : List Type') (i c : ℕ) (t : Type') (k : Kind) → IsCore ts i c → slice_get ts c ≡ Some t → IsOfKind ts i k → k ≡ t.kind
-kind_of_core ts i c t k a e h = sym h.kind ∙ ap (λ (u : Type'). u.kind) (same_Some h.type t (sym h.there ∙ ap (slice_get ts) (one_core ts i h.core c h.leads a) ∙ e))
+pub kind_of_core : (ts : List Type') (i c : ℕ) (t : Type') (k : Kind) → IsUnderlying ts i c → slice_get ts c ≡ Some t → IsOfKind ts i k → k ≡ t.kind
+kind_of_core ts i c t k a e h = sym h.kind ∙ ap (λ (u : Type'). u.kind) (same_Some h.type t (sym h.there ∙ ap (slice_get ts) (one_core ts i h.core c h.chain a) ∙ e))
 
 -- ---- what is reached
 
@@ -41,20 +41,20 @@ pub joined : {ts : List Type'} {i j k : ℕ} → Reaches ts i j → Reaches ts j
 joined itself r = r
 joined (further m t e p q) r = further m t e p (joined q r)
 
-part_behind : (k : Kind) (j : ℕ) → behind k ≡ Some j → IsPart j k
-part_behind (reference m) j e = subst (λ z. IsPart z (reference m)) (same_Some m j e) referred
-part_behind (tagged g w m) j e = subst (λ z. IsPart z (tagged g w m)) (same_Some m j e) behind_tag
-part_behind (simple p) j e = absurd (none-some j e)
-part_behind (members l m cs) j e = absurd (none-some j e)
-part_behind (elements y m) j e = absurd (none-some j e)
+part_target : (k : Kind) (j : ℕ) → target k ≡ Some j → IsPart j k
+part_target (reference m) j e = subst (λ z. IsPart z (reference m)) (same_Some m j e) referred
+part_target (tagged g w m) j e = subst (λ z. IsPart z (tagged g w m)) (same_Some m j e) target_tag
+part_target (simple p) j e = absurd (none-some j e)
+part_target (members l m cs) j e = absurd (none-some j e)
+part_target (elements y m) j e = absurd (none-some j e)
 
 -- a type reaches the type after its references and tags
 reaches_next : (ts : List Type') (i j k : ℕ) → next ts i ≡ Some j → Reaches ts j k → Reaches ts i k
 reaches_next ts i j k e r = go (slice_get ts i) refl
   where
     go : (o : Option Type') → slice_get ts i ≡ o → Reaches ts i k
-    go None q = absurd (none-some j (sym (ap behind_of q) ∙ e))
-    go (Some t) q = further j t q (part_behind t.kind j (sym (ap behind_of q) ∙ e)) r
+    go None q = absurd (none-some j (sym (ap target_of q) ∙ e))
+    go (Some t) q = further j t q (part_target t.kind j (sym (ap target_of q) ∙ e)) r
 
 reaches_end : (ts : List Type') (n i c : ℕ) → follow (next ts) n i ≡ Some c → Reaches ts i c
 reaches_end ts zero i c e = subst (Reaches ts i) (same_Some i c e) itself
@@ -64,8 +64,8 @@ reaches_end ts (suc n) i c e = go (next ts i) refl (λ j. reaches_end ts n j c)
     go None q more = absurd (none-some c (sym (ap (λ y. onward y (λ j. follow (next ts) n j)) q) ∙ e))
     go (Some j) q more = reaches_next ts i j c q (more j (sym (ap (λ y. onward y (λ j. follow (next ts) n j)) q) ∙ e))
 
-pub reaches_core : (ts : List Type') (i c : ℕ) → IsCore ts i c → Reaches ts i c
-reaches_core ts i c a = reaches_end ts a.steps i c a.leads
+pub reaches_core : (ts : List Type') (i c : ℕ) → IsUnderlying ts i c → Reaches ts i c
+reaches_core ts i c a = reaches_end ts a.steps i c a.chain
 
 -- ---- a type with its kind
 

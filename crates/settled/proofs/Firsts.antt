@@ -10,13 +10,13 @@ use Rattle.asn_base.specs.Tags.{IsChoice}
 use Rattle.asn_base.specs.Tags as firsts
 use Rattle.trees.specs.declared.module.TagDefault.{TagDefault}
 use Rattle.trees.specs.declared.types.ListKind.TheVariants.{Choice}
-use Rattle.type_table.specs.Table.{Part, Kind, Type', simple, reference, tagged, members, elements, Is, IsCore, next, behind_of, behind as behind_kind}
+use Rattle.type_table.specs.Table.{Part, Kind, Type', simple, reference, tagged, members, elements, Is, IsUnderlying, next, target_of, target as target_kind}
 use Rattle.type_table.specs.Walks.{follow, onward}
 use Rattle.type_table.specs.proving.Walks.{stops}
 use Rattle.resolve.specs.Program.{Program}
 use Rattle.tagging.specs.declared.path.TagForm.{TagForm}
 use Rattle.tagging.specs.declared.path.TagForm.TheVariants.{Implicit, Explicit}
-use Rattle.tagging.specs.Tags.{Label, Path, Tags, label, own, Written, core, behind, inside, as_written, numbered}
+use Rattle.tagging.specs.Tags.{Label, Path, Tags, label, own, WrittenTags, core, target, inside, as_written, numbered}
 use Rattle.tagging.specs.First.{First, outermost, alternative}
 use Rattle.schema_of.specs.SchemaOf.{IsSchemaOf, IsKindOf, IsChosenPart, AreAlternativesOf}
 use Rattle.settled.specs.Settled.{HasTags, standing}
@@ -29,30 +29,30 @@ pub is_at : (ts : List Type') (i : ℕ) (t : Type') (k : Kind) → slice_get ts 
 is_at ts i t k e f = record { constraints = t.constraints; assignment = t.assignment; found = e ∙ ap (λ k. Some (record t { kind = k })) f }
 
 -- a type that has tags by its kind leads to no other type
-ends : (k : Kind) (p : Path) → own k ≡ Some p → behind_kind k ≡ None
+ends : (k : Kind) (p : Path) → own k ≡ Some p → target_kind k ≡ None
 ends (simple s) p e = refl
 ends (members y m cs) p e = refl
 ends (elements y j) p e = refl
 ends (reference j) p e = absurd cc
 ends (tagged t k j) p e = absurd cc
 
-next_is : {ts : List Type'} {i : ℕ} {k : Kind} {d : TagDefault} {l : Option (ℕ × ℕ)} → Is ts i k d l → next ts i ≡ behind_kind k
-next_is is = ap behind_of is.found
+next_is : {ts : List Type'} {i : ℕ} {k : Kind} {d : TagDefault} {l : Option (ℕ × ℕ)} → Is ts i k d l → next ts i ≡ target_kind k
+next_is is = ap target_of is.found
 
 -- if a type bears no tags, nor does the type after its references
-untagged_core : (ts : List Type') (n i c : ℕ) → Written ts i [] → follow (next ts) n i ≡ Some c → Written ts c []
-untagged_core ts zero i c w e = let q : i ≡ c = cc in subst (λ i. Written ts i []) q w
+untagged_core : (ts : List Type') (n i c : ℕ) → WrittenTags ts i [] → follow (next ts) n i ≡ Some c → WrittenTags ts c []
+untagged_core ts zero i c w e = let q : i ≡ c = cc in subst (λ i. WrittenTags ts i []) q w
 untagged_core ts (suc n) i c (core {k} is o) e =
     let q : next ts i ≡ None = next_is is ∙ ends k [] o in
     let f : onward (next ts i) (λ j. follow (next ts) n j) ≡ None = ap (λ o. onward o (λ j. follow (next ts) n j)) q in
     let g = sym f ∙ e in
     absurd cc
-untagged_core ts (suc n) i c (behind {j} is w) e =
+untagged_core ts (suc n) i c (target {j} is w) e =
     let f : onward (next ts i) (λ j. follow (next ts) n j) ≡ follow (next ts) n j = ap (λ o. onward o (λ j. follow (next ts) n j)) (next_is is) in
     untagged_core ts n j c w (sym f ∙ e)
 
 -- and it is a CHOICE
-own_none : (ts : List Type') (c : ℕ) (t : Type') → slice_get ts c ≡ Some t → next ts c ≡ None → Written ts c [] → own t.kind ≡ Some []
+own_none : (ts : List Type') (c : ℕ) (t : Type') → slice_get ts c ≡ Some t → next ts c ≡ None → WrittenTags ts c [] → own t.kind ≡ Some []
 own_none ts c t e n (core {k} is o) =
     let q : k ≡ t.kind = let f = sym is.found ∙ e in ap kind_in f in
     subst (λ k. own k ≡ Some []) q o
@@ -60,7 +60,7 @@ own_none ts c t e n (core {k} is o) =
     kind_in : Option Type' → Kind
     kind_in None = reference 0
     kind_in (Some t) = t.kind
-own_none ts c t e n (behind is w) = let q = sym (next_is is) ∙ n in absurd cc
+own_none ts c t e n (target is w) = let q = sym (next_is is) ∙ n in absurd cc
 
 -- the references of a type end at one type
 one_end : (f : ℕ → Option ℕ) (k m i c d : ℕ) → follow f k i ≡ Some c → f c ≡ None → follow f m i ≡ Some d → f d ≡ None → c ≡ d
@@ -80,12 +80,12 @@ one_end f k m i c d e n g o =
         let h = sym (stops f k r i c e n) ∙ ap (λ k. follow f k i) q ∙ g in
         absurd cc
 
-one_core : (ts : List Type') (i c d : ℕ) → IsCore ts i c → IsCore ts i d → c ≡ d
-one_core ts i c d a b = one_end (next ts) a.steps b.steps i c d a.leads a.ends b.leads b.ends
+one_core : (ts : List Type') (i c d : ℕ) → IsUnderlying ts i c → IsUnderlying ts i d → c ≡ d
+one_core ts i c d a b = one_end (next ts) a.steps b.steps i c d a.chain a.ends b.chain b.ends
 
-of_written : {ts : List Type'} {i : ℕ} {p : Path} → Written ts i p → i < length ts
+of_written : {ts : List Type'} {i : ℕ} {p : Path} → WrittenTags ts i p → i < length ts
 of_written {ts} {i} (core is o) = slice_get_within ts i _ is.found
-of_written {ts} {i} (behind is w) = slice_get_within ts i _ is.found
+of_written {ts} {i} (target is w) = slice_get_within ts i _ is.found
 of_written {ts} {i} (inside is w e) = slice_get_within ts i _ is.found
 
 in_table : {ts : List Type'} {i : ℕ} {p : Path} → Tags ts i p → i < length ts
@@ -127,14 +127,14 @@ module _ (p : Program) (A : ℕ → ℤ → Type 0) (C : ℕ → ℕ → Type 0)
   untagged : (t : ℕ) (k : types.Kind) → slice_get s t ≡ Some (record { tags = []; kind = k }) → Tags p.types t []
   untagged t k e = let h = has t (record { tags = []; kind = k }) e in subst (λ p'. Tags p.types t p') (none_stands h.path h.same) h.tags
 
-  written_none : {t : ℕ} → Tags p.types t [] → Written p.types t []
+  written_none : {t : ℕ} → Tags p.types t [] → WrittenTags p.types t []
   written_none (as_written e w) = w
 
   pub all_tagged : (t : ℕ) (k : types.Kind) → types.Is s t [] k → IsChoice k
   all_tagged t k is =
       let o = of.each t (record { tags = []; kind = k }) is.found in
-      let w = untagged_core p.types o.leads.steps t o.core (written_none (untagged t k is.found)) o.leads.leads in
-      is_choice o.kind (own_none p.types o.core o.type o.there o.leads.ends w)
+      let w = untagged_core p.types o.chain.steps t o.core (written_none (untagged t k is.found)) o.chain.chain in
+      is_choice o.kind (own_none p.types o.core o.type o.there o.chain.ends w)
 
   -- ---- first tags
 
@@ -149,7 +149,7 @@ module _ (p : Program) (A : ℕ → ℤ → Type 0) (C : ℕ → ℕ → Type 0)
         let o = of.each t (record { tags = []; kind = types.a_choice root e more }) is.found in
         let l = alternatives_of o.kind in
         let c = chosen l.0 root more i a l.2 there in
-        alternative o.core e l.0 i c.part (untagged t (types.a_choice root e more) is.found) o.leads
+        alternative o.core e l.0 i c.part (untagged t (types.a_choice root e more) is.found) o.chain
         (is_at p.types o.core o.type (members Choice e l.0) o.there l.1) c.there
         (subst (λ u. First p.types u (label g)) c.alike.type (first_written f))
 
@@ -164,12 +164,12 @@ module _ (p : Program) (A : ℕ → ℤ → Type 0) (C : ℕ → ℕ → Type 0)
 
     -- a CHOICE without tags
     untagged_choice : (t c : ℕ) (m : Bool) (cs : List Part) (d : TagDefault) (l : Option (ℕ × ℕ)) (r : Resolved) → slice_get s t ≡ Some r → HasTags p t r → Tags p.types t [] →
-        IsCore p.types t c → Is p.types c (members Choice m cs) d l → IsUntaggedChoice s t cs
-    untagged_choice t c m cs d l r e h w leads is =
+        IsUnderlying p.types t c → Is p.types c (members Choice m cs) d l → IsUntaggedChoice s t cs
+    untagged_choice t c m cs d l r e h w chain is =
         let z = unique t h.path [] h.tags w in
         let n : r.tags ≡ [] = no_labels r.tags (h.same ∙ ap standing z) in
         let o = of.each t r e in
-        let q : o.core ≡ c = one_core p.types t o.core c o.leads leads in
+        let q : o.core ≡ c = one_core p.types t o.core c o.chain chain in
         let k : o.type.kind ≡ members Choice m cs = same_kind p.types c o.type _ (sym (ap (slice_get p.types) q) ∙ o.there) is.found in
         let a = choice_of (subst (λ k. IsKindOf p A C t o.within k r.kind) k o.kind) in
         record { root = a.0; marker = m; more = a.1; is = as_is s t r (types.a_choice a.0 m a.1) e n a.2; alternatives = a.3 }
@@ -178,9 +178,9 @@ module _ (p : Program) (A : ℕ → ℤ → Type 0) (C : ℕ → ℕ → Type 0)
     first_resolved {t} {l} g (outermost {f} {p = q} w) e =
         let h = at s t (omega (arith, of.as_many, in_table w)) in
         outer t g f q h.element h.there (has t h.element h.there) (subst (λ l. Tags p.types t ((l, f) ∷ q)) e w)
-    first_resolved {t} {l} g (alternative {d} {l = place} c marker cs n a w leads is there f) e =
+    first_resolved {t} {l} g (alternative {d} {l = place} c marker cs n a w chain is there f) e =
         let h = at s t (omega (arith, of.as_many, in_table w)) in
-        let u = untagged_choice t c marker cs d place h.element h.there (has t h.element h.there) w leads is in
+        let u = untagged_choice t c marker cs d place h.element h.there (has t h.element h.there) w chain is in
         let x = chosen_of n a u.alternatives there in
         firsts.first_of_choice n u.is x.there (subst (λ t. firsts.First s t g) (sym x.type) (first_resolved g f e))
 

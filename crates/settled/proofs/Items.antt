@@ -10,7 +10,7 @@ use Rattle.asn_base.specs.Typed.{HasNumber, IsWithinLimit}
 use Rattle.asn_base.specs.Schemas.{NumbersAscend, AreItems}
 use Rattle.asn_base.specs.Types as types
 use Rattle.trees.specs.Values.{Name}
-use Rattle.names.specs.Modules.{StandsIn, StandsTwice}
+use Rattle.names.specs.Modules.{OccursIn, OccursTwice}
 use Rattle.type_table.specs.Items.{Item, additions_of, numbers_of, root_from, root_numbers, additions_from, addition_numbers, given_numbers, counted_to, number_or, past}
 use Rattle.type_table.specs.Lists.{IsSoundEnumeration}
 use Rattle.value_notations.specs.Leaves.{IsItem}
@@ -89,7 +89,7 @@ module _ (root : List Item) (more : Option (List Item)) (in_root added : List ty
       let g = written_added j n in
       let same = one_place (numbers_of root (additions_of more)) j.number f.item.place g.item.place sound.numbers (f.item.numbered ∙ ap Some e) g.item.numbered in
       let l = f.in_root in
-      let k = g.behind in
+      let k = g.following in
       omega (arith, same, l, k)
 
   distinct_names : NumbersAscend in_root → NumbersAscend added → AreDistinct (map (λ i. i.name) (in_root ++ added))
@@ -109,7 +109,7 @@ module _ (root : List Item) (more : Option (List Item)) (in_root added : List ty
   added_among : (i : types.Item) → IsMember i added → IsMember i.number (addition_numbers root (additions_of more))
   added_among i m =
       let f = written_added i m in
-      let l = f.behind in
+      let l = f.following in
       let e = root_count root in
       let s = in_back (root_numbers root) (addition_numbers root (additions_of more)) f.item.place i.number (omega (arith, l, e)) f.item.numbered in
       member_at i.number (addition_numbers root (additions_of more)) s.0 s.1
@@ -119,7 +119,7 @@ module _ (root : List Item) (more : Option (List Item)) (in_root added : List ty
       let n = a.marked.0 e in
       no_members added (λ i m. (
       let f = written_added i m in
-      let l = f.behind in
+      let l = f.following in
       let w = slice_get_within (root ++ additions_of more) f.item.place f.item.item f.item.there in
       let c = length-append root (additions_of more) in
       let z : length (additions_of more) ≡ 0 = ap (λ (o : Option (List Item)). length (additions_of o)) n in

@@ -5,7 +5,7 @@ use Rattle.std.specs.List.{AllByRecursion}
 use Rattle.asn_base.specs.declared.tag.Tag.{Tag}
 use Rattle.asn_base.specs.Types.{Alternative, Component, Resolved}
 use Rattle.asn_base.specs.Types as types
-use Rattle.asn_base.specs.Tags.{AreApart, AllApart, RunsApart, IsTellable, TagBefore}
+use Rattle.asn_base.specs.Tags.{AreApart, AllApart, RunsApart, HasDistinctTags, TagBefore}
 use Rattle.asn_base.specs.Tags as firsts
 use Rattle.asn_base.specs.Schemas.{HasTag, TagsAscend}
 use Rattle.trees.specs.Values.{Name}
@@ -49,20 +49,20 @@ module _ (p : Program) (A : ℕ → ℤ → Type 0) (C : ℕ → ℕ → Type 0)
     distinct : (c : ℕ) (t : Type') (k : ListKind) (m : Bool) (cs : List Part) → slice_get p.types c ≡ Some t → t.kind ≡ members k m cs → Distinct p.types k cs
     distinct c t k m cs e f = tagged.distinct c k m cs t.default t.place (is_at p.types c t (members k m cs) e f)
 
-    tellable : (t : ℕ) (k : types.Kind) → IsTypeOf p A C t k → IsTellable s k
-    tellable t (types.a_sequence m ds) o =
+    distinct_tags : (t : ℕ) (k : types.Kind) → IsTypeOf p A C t k → HasDistinctTags s k
+    distinct_tags t (types.a_sequence m ds) o =
         let l = components_of o.kind in
         runs o.within l.2 (distinct o.core o.type Sequence m l.0 o.there l.1)
-    tellable t (types.a_set m ds) o =
+    distinct_tags t (types.a_set m ds) o =
         let l = set_of o.kind in
         subst (AllApart s) (sym (alike_components l.2)) (lists l.0 Set (λ q r. tt) (distinct o.core o.type Set m l.0 o.there l.1))
-    tellable t (types.a_choice root m more) o =
+    distinct_tags t (types.a_choice root m more) o =
         let l = alternatives_of o.kind in
         subst (AllApart s) (sym (alike_alternatives l.2)) (lists l.0 Choice (λ q r. tt) (distinct o.core o.type Choice m l.0 o.there l.1))
-    tellable t k o = tt
+    distinct_tags t k o = tt
 
-    pub all_tellable : (t : ℕ) (tags : List Tag) (k : types.Kind) → types.Is s t tags k → IsTellable s k
-    all_tellable t tags k is = tellable t k (of.each t (record { tags = tags; kind = k }) is.found)
+    pub all_tellable : (t : ℕ) (tags : List Tag) (k : types.Kind) → types.Is s t tags k → HasDistinctTags s k
+    all_tellable t tags k is = distinct_tags t k (of.each t (record { tags = tags; kind = k }) is.found)
 
     pub has_few : (t : ℕ) (tags : List Tag) (k : types.Kind) → types.Is s t tags k → length tags ≤ 6
     has_few t tags k is =

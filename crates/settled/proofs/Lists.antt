@@ -5,12 +5,12 @@ use Rattle.std.specs.List.{AllByRecursion}
 use Rattle.std.proofs.lemmas.Option.{same_Some, none-some, slice_get-map}
 use Rattle.asn_base.specs.Names.{IsMember, is_first, is_later, AreDistinct, AreNames, IsIdentifier}
 use Rattle.trees.specs.Values.{Name}
-use Rattle.names.specs.Modules.{StandsIn}
+use Rattle.names.specs.Modules.{OccursIn}
 use Rattle.names.specs.Modules as modules
 
 -- ---- members and places
 
-pub place_of : {A : Type 0} (x : A) (xs : List A) → IsMember x xs → StandsIn xs x
+pub place_of : {A : Type 0} (x : A) (xs : List A) → IsMember x xs → OccursIn xs x
 place_of x [] m = elim m [ ]
 place_of x (y ∷ ys) is_first = (0, refl)
 place_of x (y ∷ ys) (is_later m) = let r = place_of x ys m in (suc r.0, r.1)
@@ -119,7 +119,7 @@ in_front [] ys n x l e = absurd (omega (arith, l))
 in_front (y ∷ xs) ys zero x l e = e
 in_front (y ∷ xs) ys (suc n) x l e = in_front xs ys n x (omega (arith, l)) e
 
-pub in_back : {A : Type 0} (xs ys : List A) (n : ℕ) (x : A) → length xs ≤ n → slice_get (xs ++ ys) n ≡ Some x → StandsIn ys x
+pub in_back : {A : Type 0} (xs ys : List A) (n : ℕ) (x : A) → length xs ≤ n → slice_get (xs ++ ys) n ≡ Some x → OccursIn ys x
 in_back [] ys n x l e = (n, e)
 in_back (y ∷ xs) ys zero x l e = absurd (omega (arith, l))
 in_back (y ∷ xs) ys (suc n) x l e = in_back xs ys n x (omega (arith, l)) e

@@ -12,12 +12,12 @@ use Rattle.asn_base.specs.Schemas.{is_addition as adds}
 use Rattle.trees.specs.declared.types.Standing.{Standing}
 use Rattle.trees.specs.declared.types.Standing.TheVariants.{Root, Addition}
 use Rattle.trees.specs.Values.{Name}
-use Rattle.names.specs.Modules.{StandsIn}
+use Rattle.names.specs.Modules.{OccursIn}
 use Rattle.names.specs.Modules as modules
 use Rattle.type_table.specs.Lists.{in_root, in_additions, root_count, addition_count, IsSoundList}
 use Rattle.type_table.specs.Table.{Part}
 use Rattle.resolve.specs.Program.{Program}
-use Rattle.tagging.specs.First.{is_addition as stands_behind}
+use Rattle.tagging.specs.First.{is_addition as occurs_after}
 use Rattle.additions.specs.Additions.{IsAdded, IsPlaced}
 use Rattle.schema_of.specs.SchemaOf as schema_of
 use Rattle.schema_of.specs.SchemaOf.{IsPresenceOf, is_mandatory, is_optional, has_default, is_optional_addition, AreComponentsOf, no_component, component_and, AreAlternativesOf, no_alternative, root_and, addition_and, named_bit}
@@ -43,11 +43,11 @@ added_standing c (has_default f g h) e = absurd cc
 added_standing c (schema_of.is_addition {g = k} f g) e = (k, f)
 added_standing c (is_optional_addition {g = k} f g) e = (k, f)
 
-no_root : (s : Standing) → s ≡ Root → stands_behind s ≡ true → ⊥
-no_root s f h = absurd (let e : false ≡ true = sym (ap stands_behind f) ∙ h in cc)
+no_root : (s : Standing) → s ≡ Root → occurs_after s ≡ true → ⊥
+no_root s f h = absurd (let e : false ≡ true = sym (ap occurs_after f) ∙ h in cc)
 
 written_added : {p : Program} {M : Name} {q : Presence} (c : Part) → IsPresenceOf p M c q → added q ≡ true → IsAdded c
-written_added c a e = ap stands_behind (added_standing c a e).1
+written_added c a e = ap occurs_after (added_standing c a e).1
 
 resolved_added : {p : Program} {M : Name} {q : Presence} (c : Part) → IsPresenceOf p M c q → IsAdded c → added q ≡ true
 resolved_added c (is_mandatory f g) e = absurd (no_root c.standing f e)
@@ -93,7 +93,7 @@ record Split (cs : List Part) (ds : List Component) : Type 0 where
   more : List Component
   parts : ds ≡ root ++ more
   in_root : AllByRecursion (λ c. adds c ≡ false) root
-  behind : AllByRecursion (λ c. adds c ≡ true) more
+  following : AllByRecursion (λ c. adds c ≡ true) more
   few_root : length root ≤ root_count cs
   few_more : length more ≤ addition_count cs
 
@@ -106,15 +106,15 @@ all_added (component_and {c} a as') h =
     omega (arith, e, f)
 
 split : {p : Program} {M : Name} {cs : List Part} {ds : List Component} → AreComponentsOf p M cs ds → AreInOrder ds → Split cs ds
-split no_component o = record { root = []; more = []; parts = refl; in_root = tt; behind = tt; few_root = omega arith; few_more = omega arith }
+split no_component o = record { root = []; more = []; parts = refl; in_root = tt; following = tt; few_root = omega arith; few_more = omega arith }
 split (component_and {c} {cs} {d} {ds} a as') o =
     go (adds d) refl (split as' (λ m n x y l e g. o (suc m) (suc n) x y (omega (arith, l)) e g))
   where
-    behind : adds d ≡ true → AllByRecursion (λ c. adds c ≡ true) (d ∷ ds)
-    behind e = (e, all_members (λ c. adds c ≡ true) ds (λ b m. (let n = place_of b ds m in o 0 (suc n.0) d b (omega arith) refl n.1 e)))
+    following : adds d ≡ true → AllByRecursion (λ c. adds c ≡ true) (d ∷ ds)
+    following e = (e, all_members (λ c. adds c ≡ true) ds (λ b m. (let n = place_of b ds m in o 0 (suc n.0) d b (omega arith) refl n.1 e)))
 
     go : (b : Bool) → adds d ≡ b → Split cs ds → Split (c ∷ cs) (d ∷ ds)
-    go true e r = record { root = []; more = d ∷ ds; parts = refl; in_root = tt; behind = behind e; few_root = omega arith; few_more = all_added (component_and a as') (behind e) }
+    go true e r = record { root = []; more = d ∷ ds; parts = refl; in_root = tt; following = following e; few_root = omega arith; few_more = all_added (component_and a as') (following e) }
     go false e r =
         let s : in_root c.standing ≡ 1 = ap in_root (root_standing c a.presence e) in
         let f = r.few_root in
@@ -124,7 +124,7 @@ split (component_and {c} {cs} {d} {ds} a as') o =
           more = r.more;
           parts = ap (λ z. d ∷ z) r.parts;
           in_root = (e, r.in_root);
-          behind = r.behind;
+          following = r.following;
           few_root = omega (arith, s, f);
           few_more = omega (arith, g);
         }
@@ -141,9 +141,9 @@ decided (Some h) g = elim (equal_or_not h g) [ inl e ↦ inl (ap Some e) | inr n
 one_on : (c : Component) (ds : List Component) → AreTogether (c ∷ ds) → AreTogether ds
 one_on c ds t l m n g d e b i j x y z u v = t (suc l) (suc m) (suc n) g d e b (omega (arith, i)) (omega (arith, j)) x y z u v
 
-behind_root : (root more : List Component) → AreTogether (root ++ more) → AreTogether more
-behind_root [] more t = t
-behind_root (c ∷ root) more t = behind_root root more (one_on c (root ++ more) t)
+after_root : (root more : List Component) → AreTogether (root ++ more) → AreTogether more
+after_root [] more t = t
+after_root (c ∷ root) more t = after_root root more (one_on c (root ++ more) t)
 
 groups_together : (ds : List Component) → AreTogether ds → GroupsTogether ds
 groups_together [] t = tt
@@ -177,7 +177,7 @@ module _ {p : Program} {M : Name} (cs : List Part) (ds : List Component) (marker
   in_order m n d e l x y h =
       let u = written_component m d a x in
       let v = written_component n e a y in
-      resolved_added v.part v.alike.presence ((placed n v.part v.there).behind m u.part l u.there (written_added u.part u.alike.presence h))
+      resolved_added v.part v.alike.presence ((placed n v.part v.there).following m u.part l u.there (written_added u.part u.alike.presence h))
 
   together : AreTogether ds
   together l m n g d e b i j x y z h k =
@@ -187,9 +187,9 @@ module _ {p : Program} {M : Name} (cs : List Part) (ds : List Component) (marker
       resolved_group v.part g v.alike.presence
       ((placed n w.part w.there).together l m g u.part v.part i j u.there v.there (written_group u.part g u.alike.presence h) (written_group w.part g w.alike.presence k))
 
-  none_behind : marker ≡ false → (more : List Component) → ((d : Component) → IsMember d more → IsMember d ds) → AllByRecursion (λ c. adds c ≡ true) more → more ≡ []
-  none_behind e [] f h = refl
-  none_behind e (d ∷ more) f h =
+  none_after : marker ≡ false → (more : List Component) → ((d : Component) → IsMember d more → IsMember d ds) → AllByRecursion (λ c. adds c ≡ true) more → more ≡ []
+  none_after e [] f h = refl
+  none_after e (d ∷ more) f h =
       let n = place_of d ds (f d is_first) in
       let w = written_component n.0 d a n.1 in
       absurd (true_or_false marker ((placed n.0 w.part w.there).marked (written_added w.part w.alike.presence h.0)) e)
@@ -207,9 +207,9 @@ module _ {p : Program} {M : Name} (cs : List Part) (ds : List Component) (marker
         more = r.more;
         parts = r.parts;
         in_root = r.in_root;
-        behind = r.behind;
-        groups = groups_together r.more (behind_root r.root r.more (subst AreTogether r.parts together));
-        marked = λ e. none_behind e r.more (λ d m. subst (IsMember d) (sym r.parts) (of_back d r.root r.more m)) r.behind;
+        behind = r.following;
+        groups = groups_together r.more (after_root r.root r.more (subst AreTogether r.parts together));
+        marked = λ e. none_after e r.more (λ d m. subst (IsMember d) (sym r.parts) (of_back d r.root r.more m)) r.following;
         few_root = omega (arith, f, i);
         few_more = omega (arith, g, j);
         names = names_kept (map (λ d. d.name) ds) (map (λ c. c.name) cs) (same_names a) spelled sound.names;
@@ -232,15 +232,15 @@ alternatives_in_root no_alternative = refl
 alternatives_in_root (root_and f h hs) = let s : in_root _ ≡ 1 = ap in_root f in let e = alternatives_in_root hs in omega (arith, s, e)
 alternatives_in_root (addition_and g f h hs) = let s : in_root _ ≡ 0 = ap in_root f in let e = alternatives_in_root hs in omega (arith, s, e)
 
-pub alternatives_behind : {cs : List Part} {root more : List Alternative} → AreAlternativesOf cs root more → addition_count cs ≡ length more
-alternatives_behind no_alternative = refl
-alternatives_behind (root_and f h hs) = let s : in_additions _ ≡ 0 = ap in_additions f in let e = alternatives_behind hs in omega (arith, s, e)
-alternatives_behind (addition_and g f h hs) = let s : in_additions _ ≡ 1 = ap in_additions f in let e = alternatives_behind hs in omega (arith, s, e)
+pub alternatives_after : {cs : List Part} {root more : List Alternative} → AreAlternativesOf cs root more → addition_count cs ≡ length more
+alternatives_after no_alternative = refl
+alternatives_after (root_and f h hs) = let s : in_additions _ ≡ 0 = ap in_additions f in let e = alternatives_after hs in omega (arith, s, e)
+alternatives_after (addition_and g f h hs) = let s : in_additions _ ≡ 1 = ap in_additions f in let e = alternatives_after hs in omega (arith, s, e)
 
 none_added : {cs : List Part} {root more : List Alternative} → AreAlternativesOf cs root more → ((n : ℕ) (c : Part) → slice_get cs n ≡ Some c → IsAdded c → ⊥) → more ≡ []
 none_added no_alternative none = refl
 none_added (root_and f h hs) none = none_added hs (λ n c e. none (suc n) c e)
-none_added (addition_and {c} g f h hs) none = absurd (none 0 c refl (ap stands_behind f))
+none_added (addition_and {c} g f h hs) none = absurd (none 0 c refl (ap occurs_after f))
 
 pub alternatives_marked : {cs : List Part} {root more : List Alternative} (marker : Bool) → AreAlternativesOf cs root more → ArePlaced marker cs → marker ≡ false → more ≡ []
 alternatives_marked marker a placed e = none_added a (λ n c g h. true_or_false marker ((placed n c g).marked h) e)

@@ -9,7 +9,7 @@ use Rattle.asn_base.specs.declared.tag.Tag.{Tag}
 use Rattle.asn_base.specs.declared.tag.Class.TheVariants.{Universal}
 use Rattle.tagging.specs.declared.path.TagForm.{TagForm}
 use Rattle.tagging.specs.declared.path.TagForm.TheVariants.{Implicit, Explicit}
-use Rattle.tagging.specs.Tags.{Label, Path, label, Written, TagCount, own, core, behind, inside, none_written, as_behind, one_more, Tags, as_written, numbered}
+use Rattle.tagging.specs.Tags.{Label, Path, label, WrittenTags, TagCount, own, core, target, inside, none_written, as_target, one_more, Tags, as_written, numbered}
 use Rattle.trees.specs.declared.types.ListKind.TheVariants.{Sequence, Set, Choice}
 use Rattle.type_table.specs.Table.{Type', Kind, simple, reference, tagged, members, elements}
 use Rattle.settled.specs.Settled.{without_first, standing}
@@ -111,9 +111,9 @@ pub record Counted (ts : List Type') (i : ℕ) (p : Path) : Type 0 where
   pub counts : TagCount ts i count
   pub within : length p ≤ suc count
 
-pub counted : {ts : List Type'} {i : ℕ} {p : Path} → Written ts i p → Counted ts i p
+pub counted : {ts : List Type'} {i : ℕ} {p : Path} → WrittenTags ts i p → Counted ts i p
 counted (core {k} {p} is e) = record { count = 0; counts = none_written is e; within = one_own k p e }
-counted (behind is w) = let c = counted w in record { count = c.count; counts = as_behind is c.counts; within = c.within }
+counted (target is w) = let c = counted w in record { count = c.count; counts = as_target is c.counts; within = c.within }
 counted (inside is w e) = let c = counted w in record { count = suc c.count; counts = one_more is c.counts; within = omega (arith, c.within) }
 
 pub few_tags : {ts : List Type'} {i : ℕ} {p : Path} → ((n : ℕ) → TagCount ts i n → n ≤ 4) → Tags ts i p → length p ≤ 6

@@ -13,13 +13,13 @@ use Rattle.trees.specs.declared.types.Standing.TheVariants.{Root}
 use Rattle.trees.specs.declared.module.TagDefault.{TagDefault}
 use Rattle.trees.specs.declared.module.TagDefault.TheVariants.{Explicit as ExplicitTags, Automatic}
 use Rattle.trees.specs.Types.{a_restricted_string, a_boolean, mandatory}
-use Rattle.type_table.specs.Table.{IsCore, walk, Kind, Type', simple, reference, tagged, members, Is}
+use Rattle.type_table.specs.Table.{IsUnderlying, walk, Kind, Type', simple, reference, tagged, members, Is}
 use Rattle.resolve.specs.Program.{Program, IsAssignment}
 use Rattle.schema_of.specs.values.Allowing.{Allows, AllowsCode}
 use Rattle.schema_of.specs.SchemaOf.{IsTypeOf, boolean as boolean_kind}
 use Rattle.tagging.specs.declared.path.TagForm.TheVariants.{Implicit, Explicit}
-use Rattle.tagging.specs.Tags.{Path, label, universal_tag, Written, core, behind, inside, as_written, numbered}
-use Rattle.settled.specs.Settled.{standing, HasTags, ItemsAscend, IsSettledType, IsSettled}
+use Rattle.tagging.specs.Tags.{Path, label, universal_tag, WrittenTags, core, target, inside, as_written, numbered}
+use Rattle.settled.specs.Settled.{standing, HasTags, ItemsAscend, IsProgramType, IsProgramSchema}
 
 -- ---- the worked example of X.690, clause 8.14, in a module with EXPLICIT TAGS: `Type1 ::= VisibleString`,
 -- `Type2 ::= [APPLICATION 3] IMPLICIT Type1`, `Type3 ::= [2] Type2`, `Type4 ::= [APPLICATION 7] IMPLICIT Type3` and
@@ -75,25 +75,25 @@ path_5 = (label context_2, Implicit) ∷ path_2
 is : (i : ℕ) (k : Kind) → slice_get ts i ≡ Some (type_of k ExplicitTags None) → Is ts i k ExplicitTags None
 is i k e = record { constraints = []; assignment = 0; found = e }
 
-written_1 : Written ts 0 path_1
+written_1 : WrittenTags ts 0 path_1
 unfolding ts path_1
 written_1 = core (is 0 _ refl) refl
 
-written_2 : Written ts 1 path_2
+written_2 : WrittenTags ts 1 path_2
 unfolding ts path_2
-written_2 = inside (is 1 _ refl) (behind (is 5 _ refl) written_1) refl
+written_2 = inside (is 1 _ refl) (target (is 5 _ refl) written_1) refl
 
-written_3 : Written ts 2 path_3
+written_3 : WrittenTags ts 2 path_3
 unfolding ts path_3
-written_3 = inside (is 2 _ refl) (behind (is 6 _ refl) written_2) refl
+written_3 = inside (is 2 _ refl) (target (is 6 _ refl) written_2) refl
 
-written_4 : Written ts 3 path_4
+written_4 : WrittenTags ts 3 path_4
 unfolding ts path_4
-written_4 = inside (is 3 _ refl) (behind (is 7 _ refl) written_3) refl
+written_4 = inside (is 3 _ refl) (target (is 7 _ refl) written_3) refl
 
-written_5 : Written ts 4 path_5
+written_5 : WrittenTags ts 4 path_5
 unfolding ts path_5
-written_5 = inside (is 4 _ refl) (behind (is 8 _ refl) written_2) refl
+written_5 = inside (is 4 _ refl) (target (is 8 _ refl) written_2) refl
 
 abbrev with_tags : List Tag → Resolved
 with_tags gs = record { tags = gs; kind = types.a_restricted_string Visible [] types.any_size }
@@ -161,21 +161,21 @@ the_types =
     ∷ record { tags = boolean ∷ []; kind = types.a_boolean }
     ∷ []
 
-leads : (i steps : ℕ) → steps < 2 → walk the_tagged.types steps i ≡ Some 1 → IsCore the_tagged.types i 1
+chain : (i steps : ℕ) → steps < 2 → walk the_tagged.types steps i ≡ Some 1 → IsUnderlying the_tagged.types i 1
 unfolding the_tagged
-leads i n l e = record { steps = n; few = l; leads = e; ends = refl }
+chain i n l e = record { steps = n; few = l; chain = e; ends = refl }
 
 stands : IsAssignment the_tagged 0 (77 ∷ []) (84 ∷ [])
 unfolding the_tagged
 stands = record { owner = 0; tags = ExplicitTags; assigned = refl; header = refl }
 
 -- both types are BOOLEAN after the tag
-is_boolean : (i : ℕ) → IsCore the_tagged.types i 1 → IsTypeOf the_tagged (Allows the_tagged) (AllowsCode the_tagged) i types.a_boolean
+is_boolean : (i : ℕ) → IsUnderlying the_tagged.types i 1 → IsTypeOf the_tagged (Allows the_tagged) (AllowsCode the_tagged) i types.a_boolean
 unfolding the_tagged
 is_boolean i l = record {
   core = 1;
   type = type_of (simple a_boolean) ExplicitTags None;
-  leads = l;
+  chain = l;
   there = refl;
   within = 77 ∷ [];
   assigns = 84 ∷ [];
@@ -183,18 +183,18 @@ is_boolean i l = record {
   kind = boolean_kind;
 }
 
-of_boolean : (i : ℕ) (gs : List Tag) → IsCore the_tagged.types i 1 → HasTags the_tagged i (record { tags = gs; kind = types.a_boolean }) →
-    IsSettledType the_tagged i (record { tags = gs; kind = types.a_boolean })
+of_boolean : (i : ℕ) (gs : List Tag) → IsUnderlying the_tagged.types i 1 → HasTags the_tagged i (record { tags = gs; kind = types.a_boolean }) →
+    IsProgramType the_tagged i (record { tags = gs; kind = types.a_boolean })
 unfolding the_tagged
 of_boolean i gs l h = record {
   tags = h;
   kind = simple a_boolean;
-  is = record { core = 1; type = type_of (simple a_boolean) ExplicitTags None; leads = l; there = refl; kind = refl };
+  is = record { core = 1; type = type_of (simple a_boolean) ExplicitTags None; chain = l; there = refl; kind = refl };
   constrained = tt;
   items = tt;
 }
 
-own_tag : Written the_tagged.types 1 ((universal_tag 1, Explicit) ∷ [])
+own_tag : WrittenTags the_tagged.types 1 ((universal_tag 1, Explicit) ∷ [])
 unfolding the_tagged
 own_tag = core (record { constraints = []; assignment = 0; found = refl }) refl
 
@@ -212,19 +212,19 @@ one_tag = record { path = (universal_tag 1, Explicit) ∷ []; tags = as_written 
 
 is_type : (i : ℕ) (r : Resolved) → slice_get the_types i ≡ Some r → IsTypeOf the_tagged (Allows the_tagged) (AllowsCode the_tagged) i r.kind
 unfolding the_tagged the_types
-is_type zero r e = subst (λ (r : Resolved). IsTypeOf the_tagged (Allows the_tagged) (AllowsCode the_tagged) 0 r.kind) (same_Some _ r e) (is_boolean 0 (leads 0 1 (omega arith) refl))
-is_type (suc zero) r e = subst (λ (r : Resolved). IsTypeOf the_tagged (Allows the_tagged) (AllowsCode the_tagged) 1 r.kind) (same_Some _ r e) (is_boolean 1 (leads 1 0 (omega arith) refl))
+is_type zero r e = subst (λ (r : Resolved). IsTypeOf the_tagged (Allows the_tagged) (AllowsCode the_tagged) 0 r.kind) (same_Some _ r e) (is_boolean 0 (chain 0 1 (omega arith) refl))
+is_type (suc zero) r e = subst (λ (r : Resolved). IsTypeOf the_tagged (Allows the_tagged) (AllowsCode the_tagged) 1 r.kind) (same_Some _ r e) (is_boolean 1 (chain 1 0 (omega arith) refl))
 is_type (suc (suc i)) r e = absurd cc
 
-each_type : (i : ℕ) (r : Resolved) → slice_get the_types i ≡ Some r → IsSettledType the_tagged i r
+each_type : (i : ℕ) (r : Resolved) → slice_get the_types i ≡ Some r → IsProgramType the_tagged i r
 unfolding the_tagged the_types
-each_type zero r e = subst (IsSettledType the_tagged 0) (same_Some _ r e) (of_boolean 0 _ (leads 0 1 (omega arith) refl) two_tags)
-each_type (suc zero) r e = subst (IsSettledType the_tagged 1) (same_Some _ r e) (of_boolean 1 _ (leads 1 0 (omega arith) refl) one_tag)
+each_type zero r e = subst (IsProgramType the_tagged 0) (same_Some _ r e) (of_boolean 0 _ (chain 0 1 (omega arith) refl) two_tags)
+each_type (suc zero) r e = subst (IsProgramType the_tagged 1) (same_Some _ r e) (of_boolean 1 _ (chain 1 0 (omega arith) refl) one_tag)
 each_type (suc (suc i)) r e = absurd cc
 
-is_settled : IsSettled the_tagged the_types
+is_program_schema : IsProgramSchema the_tagged the_types
 unfolding the_tagged the_types
-is_settled = record { types = record { as_many = refl; each = is_type }; each = each_type }
+is_program_schema = record { types = record { as_many = refl; each = is_type }; each = each_type }
 
 -- ---- `ENUMERATED {low(-5), red(0), ..., new(1), last(7)}`
 

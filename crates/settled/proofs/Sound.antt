@@ -28,13 +28,13 @@ use Rattle.schema_of.specs.values.Allowing.{Allows, AllowsCode}
 use Rattle.spelled.specs.Spelled.{IsSpelledKind}
 use Rattle.schema_of.specs.SchemaOf as schema_of
 use Rattle.schema_of.specs.SchemaOf.{IsKindOf, IsSchemaOf, AreComponentsOf}
-use Rattle.settled.specs.Settled.{IsConstrained, ItemsAscend, IsSettled}
+use Rattle.settled.specs.Settled.{IsConstrained, ItemsAscend, IsProgramSchema}
 use Rattle.settled.specs.Parts.{IsChecked, HasKeptTags}
 use Rattle.settled.proofs.Lists.{place_of}
 use Rattle.settled.proofs.Items.{items_kept}
 use Rattle.settled.proofs.Cores.{kind_of_core, is_kind}
 use Rattle.settled.proofs.Written.{written_component, default_written}
-use Rattle.settled.proofs.Members.{ArePlaced, listed, alternatives_in_root, alternatives_behind, alternatives_marked, alternative_names, bits_kept}
+use Rattle.settled.proofs.Members.{ArePlaced, listed, alternatives_in_root, alternatives_after, alternatives_marked, alternative_names, bits_kept}
 
 -- the rules of a type of this kind for the tags of the types in it
 abbrev KeepsTags : List Resolved → types.Kind → Type 0
@@ -100,7 +100,7 @@ kind_sound (schema_of.sequence_of {j} f) c a h t = record { bounds = c.sizes ref
 kind_sound (schema_of.set_of {j} f) c a h t = record { bounds = c.sizes refl; type = h.element SetOf j refl }
 kind_sound (schema_of.choice {marker} {cs} {root} {more} f) c a h t =
     let r = alternatives_in_root f in
-    let b = alternatives_behind f in
+    let b = alternatives_after f in
     let some = h.spelled.1 in
     let few = h.sound.root_few in
     let fewer = h.sound.more_few in
@@ -120,7 +120,7 @@ one_below n [] j c a e = absurd (none-some c e)
 one_below n (x ∷ cs) zero c a e = subst (λ z. z.ty < n) (same_Some x c e) (a zero x (omega arith))
 one_below n (x ∷ cs) (suc j) c a e = one_below n cs j c (λ m d l. a (suc m) d (omega (arith, l))) e
 
-module _ (p : Program) (s : List Resolved) (ok : IsChecked p) (settled : IsSettled p s)
+module _ (p : Program) (s : List Resolved) (ok : IsChecked p) (settled : IsProgramSchema p s)
     (one : (M : Name) (i : ℕ) (n : Tree) (v w : AbstractValue) → Notation p [] M i n v → Notation p [] M i n w → v ≡ w)
     (same : (i : ℕ) (v : AbstractValue) → values.IsValue p (Allows p) (AllowsCode p) i v → IsValue s i v) where
   kept : (c : ℕ) (t : Type') (M x : Name) → slice_get p.types c ≡ Some t → IsAssignment p t.assignment M x → IsKept p s M t.kind
@@ -146,5 +146,5 @@ module _ (p : Program) (s : List Resolved) (ok : IsChecked p) (settled : IsSettl
       let r : Resolved = record { tags = tags; kind = k } in
       let f = settled.types.each i r is.found in
       let g = settled.each i r is.found in
-      let q = kind_of_core p.types i f.core f.type g.kind f.leads f.there g.is in
+      let q = kind_of_core p.types i f.core f.type g.kind f.chain f.there g.is in
       kind_sound f.kind (subst (λ z. IsConstrained p z i k) q g.constrained) g.items (kept f.core f.type f.within f.assigns f.there f.stands) (tags_kept s i tags k h is)

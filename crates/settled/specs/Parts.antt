@@ -3,7 +3,7 @@ use Rattle.std.specs.Prelude.{ℕ, Bool, List, ◌++◌}
 use Rattle.std.specs.List.{AllByRecursion}
 use Rattle.asn_base.specs.declared.tag.Tag.{Tag}
 use Rattle.asn_base.specs.Types.{a_set, a_choice, Alternative, Component, Resolved, Is}
-use Rattle.asn_base.specs.Tags.{AllTagged, AllTellable, HasFewTags}
+use Rattle.asn_base.specs.Tags.{AllTagged, AllHaveDistinctTags, HasFewTags}
 use Rattle.asn_base.specs.Schemas.{HasTag, TagsAscend}
 use Rattle.names.specs.Names.{IsApart}
 use Rattle.resolve.specs.Program.{Program, IsWhole}
@@ -30,7 +30,7 @@ pub record IsChecked (p : Program) : Type 0 where
 -- marker are in the order of their tags (X.680, clauses 25.6, 27.3, 29.3 and 31.2).
 pub record HasKeptTags (s : List Resolved) : Type 0 where
   pub tagged : AllTagged s
-  pub tellable : AllTellable s
+  pub distinct_tags : AllHaveDistinctTags s
   pub few : HasFewTags s
   pub components : (i : ℕ) (tags : List Tag) (marker : Bool) (cs : List Component) →
       Is s i tags (a_set marker cs) →

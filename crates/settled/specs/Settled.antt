@@ -10,7 +10,7 @@ use Rattle.trees.specs.Types.{default}
 use Rattle.type_table.specs.Table.{Kind, Part, members}
 use Rattle.asn_base.specs.Abstract.{AbstractValue}
 use Rattle.trees.specs.declared.types.ListKind.{ListKind}
-use Rattle.names.specs.Modules.{StandsIn}
+use Rattle.names.specs.Modules.{OccursIn}
 use Rattle.resolve.specs.Program.{Program, IsAssignment}
 use Rattle.type_table.specs.Table.{Type'}
 use Rattle.range_ends.specs.Ends.{IsOfKind}
@@ -63,7 +63,7 @@ ItemsAscend k = Unit {0}
 -- ---- schemas
 
 -- resolved type r has the tags of type i of program p, what its constraints allow, and its items in order of number
-pub record IsSettledType (p : Program) (i : ℕ) (r : Resolved) : Type 0 where
+pub record IsProgramType (p : Program) (i : ℕ) (r : Resolved) : Type 0 where
   pub tags : HasTags p i r
   pub kind : Kind
   pub is : IsOfKind p.types i kind
@@ -71,9 +71,9 @@ pub record IsSettledType (p : Program) (i : ℕ) (r : Resolved) : Type 0 where
   pub items : ItemsAscend r.kind
 
 -- schema s is that of program p: its types are the written ones, with their tags, constraints and items
-pub record IsSettled (p : Program) (s : List Resolved) : Type 0 where
+pub record IsProgramSchema (p : Program) (s : List Resolved) : Type 0 where
   pub types : IsSchemaOf p (Allows p) (AllowsCode p) s
-  pub each : (i : ℕ) (r : Resolved) → slice_get s i ≡ Some r → IsSettledType p i r
+  pub each : (i : ℕ) (r : Resolved) → slice_get s i ≡ Some r → IsProgramType p i r
 
 -- ---- DEFAULTs in the notation
 
@@ -91,5 +91,5 @@ AreTypedDefaults p = (i : ℕ) (t : Type') (M x : Name) (l : ListKind) (m : Bool
     slice_get p.types i ≡ Some t →
     IsAssignment p t.assignment M x →
     t.kind ≡ members l m cs →
-    StandsIn cs c →
+    OccursIn cs c →
     IsTypedDefault p M c

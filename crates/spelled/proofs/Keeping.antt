@@ -6,7 +6,7 @@ use Rattle.text.specs.declared.token.Mark.TheVariants.{Comma, Ellipsis, OpenVers
 use Rattle.asn_base.specs.Names.{IsIdentifier}
 use Rattle.grammar.specs.Lexeme.{Lexeme, TypeRef, Ident, Number, BString, HString, CString, Word, Mark}
 use Rattle.text.specs.declared.token.Mark.TheVariants.{OpenBrace, CloseBrace, CloseVersion}
-use Rattle.grammar.specs.Grammar.{mark, Grammar, token, only, ◌∙◌, ◌∣◌, ◌⇒◌, many, behind, listed, braces, cut_off, optional, opens, marked, extensible, rootless, version, addition}
+use Rattle.grammar.specs.Grammar.{mark, Grammar, token, only, ◌∙◌, ◌∣◌, ◌⇒◌, many, preceded, listed, braces, cut_off, optional, opens, marked, extensible, rootless, version, addition}
 
 -- the name of an identifier lexeme is one
 abbrev pub IsGood : Lexeme → Type 0
@@ -87,16 +87,16 @@ keeps_many a P k (x ∷ xs) ts h (u, v, e, i, j) =
     let g : AreGood (u ++ v) = subst AreGood e h in
     (k x u (all_front IsGood u v g) i, keeps_many a P k xs v (all_rest IsGood u v g) j)
 
-pub keeps_behind : {A : Type 0} (t : Lexeme) (a : Grammar A) (P : A → Type 0) → Keeps a P → Keeps (behind t a) P
-keeps_behind t a P k =
+pub keeps_preceded : {A : Type 0} (t : Lexeme) (a : Grammar A) (P : A → Type 0) → Keeps a P → Keeps (preceded t a) P
+keeps_preceded t a P k =
     keeps_made (only t ∙ a) (λ p. p.1) (λ p. Unit {0} × P p.1) P (keeps_pair (only t) a Nothing P (keeps_nothing (only t)) k) (λ p h. h.1)
 
 pub keeps_listed : {A : Type 0} (a : Grammar A) (P : A → Type 0)
     → Keeps a P
     → Keeps (listed a) (λ xs. (1 ≤ length xs) × AllByRecursion P xs)
 keeps_listed a P k =
-    keeps_made (a ∙ many (behind (Mark Comma) a)) (λ p. p.0 ∷ p.1) (λ p. P p.0 × AllByRecursion P p.1) (λ xs. (1 ≤ length xs) × AllByRecursion P xs)
-    (keeps_pair a (many (behind (Mark Comma) a)) P (AllByRecursion P) k (keeps_many (behind (Mark Comma) a) P (keeps_behind (Mark Comma) a P k)))
+    keeps_made (a ∙ many (preceded (Mark Comma) a)) (λ p. p.0 ∷ p.1) (λ p. P p.0 × AllByRecursion P p.1) (λ xs. (1 ≤ length xs) × AllByRecursion P xs)
+    (keeps_pair a (many (preceded (Mark Comma) a)) P (AllByRecursion P) k (keeps_many (preceded (Mark Comma) a) P (keeps_preceded (Mark Comma) a P k)))
     (λ p h. (omega arith, h))
 
 -- a part between two parts without trees
@@ -129,7 +129,7 @@ keeps_optional a P k (Some x) ts h i = k x ts h i
 
 pub keeps_marked : {B : Type 0} (b : Grammar B) (Q : B → Type 0) → Keeps b Q → Keeps (marked b) (AllByRecursion Q)
 keeps_marked b Q k =
-    keeps_behind (Mark Ellipsis) (many (behind (Mark Comma) b)) (AllByRecursion Q) (keeps_many (behind (Mark Comma) b) Q (keeps_behind (Mark Comma) b Q k))
+    keeps_preceded (Mark Ellipsis) (many (preceded (Mark Comma) b)) (AllByRecursion Q) (keeps_many (preceded (Mark Comma) b) Q (keeps_preceded (Mark Comma) b Q k))
 
 -- the parts before the marker, and those after it
 abbrev pub OfListing : {A B : Type 0} → (A → Type 0) → (B → Type 0) → List A × Option (List B) → Type 0
@@ -140,7 +140,7 @@ pub keeps_extensible : {A B : Type 0} (a : Grammar A) (b : Grammar B) (P : A →
     → Keeps b Q
     → Keeps (extensible a b) (λ l. (1 ≤ length l.0) × OfListing P Q l)
 keeps_extensible a b P Q k q l ts h i =
-    let s = keeps_pair (listed a) (optional (behind (Mark Comma) (marked b))) (λ xs. (1 ≤ length xs) × AllByRecursion P xs) (OfOption (AllByRecursion Q)) (keeps_listed a P k) (keeps_optional (behind (Mark Comma) (marked b)) (AllByRecursion Q) (keeps_behind (Mark Comma) (marked b) (AllByRecursion Q) (keeps_marked b Q q))) l ts h i in
+    let s = keeps_pair (listed a) (optional (preceded (Mark Comma) (marked b))) (λ xs. (1 ≤ length xs) × AllByRecursion P xs) (OfOption (AllByRecursion Q)) (keeps_listed a P k) (keeps_optional (preceded (Mark Comma) (marked b)) (AllByRecursion Q) (keeps_preceded (Mark Comma) (marked b) (AllByRecursion Q) (keeps_marked b Q q))) l ts h i in
     (s.0.0, (s.0.1, s.1))
 
 pub keeps_rootless : {A B : Type 0} (a : Grammar A) (b : Grammar B) (P : A → Type 0) (Q : B → Type 0)
@@ -161,10 +161,10 @@ pub keeps_addition : {A : Type 0} (fits : ℕ → Bool) (a : Grammar A) (P : A �
     → Keeps a P
     → Keeps (addition fits a) (OfAddition P)
 keeps_addition fits a P k =
-    keeps_either (a ⇒ inl) (behind (Mark OpenVersion) (version fits ∙ (listed a ∙ mark CloseVersion)) ⇒ (λ p. inr p.1.0)) (OfAddition P)
+    keeps_either (a ⇒ inl) (preceded (Mark OpenVersion) (version fits ∙ (listed a ∙ mark CloseVersion)) ⇒ (λ p. inr p.1.0)) (OfAddition P)
     (keeps_made a inl P (OfAddition P) k (λ x h. h))
-    (keeps_made (behind (Mark OpenVersion) (version fits ∙ (listed a ∙ mark CloseVersion))) (λ p. inr p.1.0) (λ p. Unit {0} × (((1 ≤ length p.1.0) × AllByRecursion P p.1.0) × Unit {0})) (OfAddition P)
-    (keeps_behind (Mark OpenVersion) (version fits ∙ (listed a ∙ mark CloseVersion)) (λ p. Unit {0} × (((1 ≤ length p.1.0) × AllByRecursion P p.1.0) × Unit {0}))
+    (keeps_made (preceded (Mark OpenVersion) (version fits ∙ (listed a ∙ mark CloseVersion))) (λ p. inr p.1.0) (λ p. Unit {0} × (((1 ≤ length p.1.0) × AllByRecursion P p.1.0) × Unit {0})) (OfAddition P)
+    (keeps_preceded (Mark OpenVersion) (version fits ∙ (listed a ∙ mark CloseVersion)) (λ p. Unit {0} × (((1 ≤ length p.1.0) × AllByRecursion P p.1.0) × Unit {0}))
     (keeps_pair (version fits) (listed a ∙ mark CloseVersion) Nothing (λ p. ((1 ≤ length p.0) × AllByRecursion P p.0) × Unit {0}) (keeps_nothing (version fits))
     (keeps_pair (listed a) (mark CloseVersion) (λ xs. (1 ≤ length xs) × AllByRecursion P xs) Nothing (keeps_listed a P k) (keeps_nothing (mark CloseVersion)))))
     (λ p h. h.1.0.1))

@@ -10,7 +10,7 @@ use Rattle.text.specs.declared.reserved.Word.TheVariants.{End}
 use Rattle.text.specs.Items.{IsOfKind}
 use Rattle.text.specs.Text.{IsTokenOf}
 use Rattle.grammar.specs.Lexeme.{lexeme_at, lexemes, TypeRef, Ident, Mark}
-use Rattle.grammar.specs.Grammar.{Grammar, token, word, ◌∙◌, ◌⇒◌, many, behind}
+use Rattle.grammar.specs.Grammar.{Grammar, token, word, ◌∙◌, ◌⇒◌, many, preceded}
 use Rattle.grammar.specs.Places.{Limits}
 use Rattle.trees.specs.Types.{TypeTree}
 use Rattle.trees.specs.Modules.{AssignmentTree, assigns_type, assigns_value, ModuleTree}
@@ -20,7 +20,7 @@ use Rattle.module_head.specs.Heading.{head}
 use Rattle.syntax.specs.Syntax.{assignment, module_text, module_of}
 use Rattle.spelled.specs.Written.{IsSpelledTree, IsSpelledAssignment, IsSpelledModule}
 use Rattle.spelled.proofs.Words.{identifier_is}
-use Rattle.spelled.proofs.Keeping.{Keeps, Nothing, IsGood, AreGood, keeps_nothing, keeps_pair, keeps_either, keeps_made, keeps_many, keeps_behind}
+use Rattle.spelled.proofs.Keeping.{Keeps, Nothing, IsGood, AreGood, keeps_nothing, keeps_pair, keeps_either, keeps_made, keeps_many, keeps_preceded}
 use Rattle.spelled.proofs.Typing.{type_keeps}
 
 -- ---- lexemes of a text
@@ -49,13 +49,13 @@ module _ (fits tags : ℕ → Bool) (n : ℕ) where
 
   assignment_keeps : Keeps (assignment fits tags n) IsSpelledAssignment
   assignment_keeps =
-      keeps_either ((token TypeRef ∙ behind (Mark Assign) types) ⇒ (λ p. assigns_type p.0 p.1)) ((token Ident ∙ (types ∙ behind (Mark Assign) (value fits n))) ⇒ (λ p. assigns_value p.0 p.1.0 p.1.1)) IsSpelledAssignment
-      (keeps_made (token TypeRef ∙ behind (Mark Assign) types) (λ p. assigns_type p.0 p.1) (λ p. Unit {0} × IsSpelledTree p.1) IsSpelledAssignment
-      (keeps_pair (token TypeRef) (behind (Mark Assign) types) Nothing IsSpelledTree (keeps_nothing (token TypeRef)) (keeps_behind (Mark Assign) types IsSpelledTree (type_keeps fits tags n)))
+      keeps_either ((token TypeRef ∙ preceded (Mark Assign) types) ⇒ (λ p. assigns_type p.0 p.1)) ((token Ident ∙ (types ∙ preceded (Mark Assign) (value fits n))) ⇒ (λ p. assigns_value p.0 p.1.0 p.1.1)) IsSpelledAssignment
+      (keeps_made (token TypeRef ∙ preceded (Mark Assign) types) (λ p. assigns_type p.0 p.1) (λ p. Unit {0} × IsSpelledTree p.1) IsSpelledAssignment
+      (keeps_pair (token TypeRef) (preceded (Mark Assign) types) Nothing IsSpelledTree (keeps_nothing (token TypeRef)) (keeps_preceded (Mark Assign) types IsSpelledTree (type_keeps fits tags n)))
       (λ p h. h.1))
-      (keeps_made (token Ident ∙ (types ∙ behind (Mark Assign) (value fits n))) (λ p. assigns_value p.0 p.1.0 p.1.1) (λ p. Unit {0} × (IsSpelledTree p.1.0 × Unit {0})) IsSpelledAssignment
-      (keeps_pair (token Ident) (types ∙ behind (Mark Assign) (value fits n)) Nothing (λ p. IsSpelledTree p.0 × Unit {0}) (keeps_nothing (token Ident))
-      (keeps_pair types (behind (Mark Assign) (value fits n)) IsSpelledTree Nothing (type_keeps fits tags n) (keeps_nothing (behind (Mark Assign) (value fits n)))))
+      (keeps_made (token Ident ∙ (types ∙ preceded (Mark Assign) (value fits n))) (λ p. assigns_value p.0 p.1.0 p.1.1) (λ p. Unit {0} × (IsSpelledTree p.1.0 × Unit {0})) IsSpelledAssignment
+      (keeps_pair (token Ident) (types ∙ preceded (Mark Assign) (value fits n)) Nothing (λ p. IsSpelledTree p.0 × Unit {0}) (keeps_nothing (token Ident))
+      (keeps_pair types (preceded (Mark Assign) (value fits n)) IsSpelledTree Nothing (type_keeps fits tags n) (keeps_nothing (preceded (Mark Assign) (value fits n)))))
       (λ p h. h.1.0))
 
 module _ (a : Limits) where

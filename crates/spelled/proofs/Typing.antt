@@ -6,7 +6,7 @@ use Rattle.text.specs.declared.token.Mark.TheVariants.{OpenBracket, Dot}
 use Rattle.text.specs.declared.reserved.Word.{Word as Word'}
 use Rattle.text.specs.declared.reserved.Word.TheVariants as words
 use Rattle.grammar.specs.Lexeme.{TypeRef, Ident, Word, Mark}
-use Rattle.grammar.specs.Grammar.{Grammar, token, word, number_of, ◌∙◌, ◌∣◌, ◌⇒◌, many, optional, behind, listed, braces, parens, cut_off, opens, extensible, rootless, addition}
+use Rattle.grammar.specs.Grammar.{Grammar, token, word, number_of, ◌∙◌, ◌∣◌, ◌⇒◌, many, optional, preceded, listed, braces, parens, cut_off, opens, extensible, rootless, addition}
 use Rattle.trees.specs.Values.{Name, Tree}
 use Rattle.trees.specs.declared.types.ListKind.TheVariants as lists
 use Rattle.trees.specs.declared.types.Standing.TheVariants as standings
@@ -14,10 +14,10 @@ use Rattle.trees.specs.Types.{mandatory, MemberTree, TypeTree, a_type, a_simple,
 use Rattle.notation.specs.ConstraintGrammar.{constraint}
 use Rattle.notation.specs.Value.{value}
 use Rattle.type_parts.specs.PlainGrammar.{type_of_word, one_word, signed, named_number, named_bit, item, integer, bit_string, enumerated, simple, integer_with, bits_with, enumerated_of, ref, referred, keyword, presence, tag, list_size}
-use Rattle.type_syntax.specs.TypeGrammar.{ComponentTree, Listing, a_member, additions_from, behind_marker, all_members, of_listing, list_kind, listing_of, list_of, constrained, sequence_or_set, member, alternative, tagged, members, choice, one_type, plain, list, type_with, type}
+use Rattle.type_syntax.specs.TypeGrammar.{ComponentTree, Listing, a_member, additions_from, after_marker, all_members, of_listing, list_kind, listing_of, list_of, constrained, sequence_or_set, member, alternative, tagged, members, choice, one_type, plain, list, type_with, type}
 use Rattle.type_table.specs.Items.{additions_of}
 use Rattle.spelled.specs.Written.{IsSpelledPlain, roots_in, IsSpelledTree, IsSpelledForm, AreSpelledMembers}
-use Rattle.spelled.proofs.Keeping.{Keeps, Nothing, keeps_nothing, keeps_name, keeps_pair, keeps_either, keeps_made, keeps_behind, keeps_listed, keeps_braces, keeps_cut_off, keeps_opens, OfOption, keeps_optional, OfListing, keeps_extensible, keeps_rootless, OfAddition, keeps_addition, all_joined, all_mapped}
+use Rattle.spelled.proofs.Keeping.{Keeps, Nothing, keeps_nothing, keeps_name, keeps_pair, keeps_either, keeps_made, keeps_preceded, keeps_listed, keeps_braces, keeps_cut_off, keeps_opens, OfOption, keeps_optional, OfListing, keeps_extensible, keeps_rootless, OfAddition, keeps_addition, all_joined, all_mapped}
 
 -- ---- types that hold no type
 
@@ -146,18 +146,18 @@ added_are n (inr ms ∷ xs) h =
     (all_mapped IsMember IsSpelledMember (a_member (standings.Addition (Some n))) (λ m h. h) ms h.0)
     (added_are (suc n) xs h.1)
 
-behind_are : (o : Option (List ((Name × ComponentTree) ⊎ List (Name × ComponentTree))))
+additions_are : (o : Option (List ((Name × ComponentTree) ⊎ List (Name × ComponentTree))))
     → OfOption (AllByRecursion (OfAddition IsMember)) o
-    → AllByRecursion IsSpelledMember (behind_marker o)
-behind_are None h = tt
-behind_are (Some xs) h = added_are 0 xs h
+    → AllByRecursion IsSpelledMember (after_marker o)
+additions_are None h = tt
+additions_are (Some xs) h = added_are 0 xs h
 
 all_are : (l : Listing) → OfListing IsMember (OfAddition IsMember) l → AreSpelledMembers (type_members (all_members l))
 all_are l h =
     members_are (all_members l)
-    (all_joined IsSpelledMember (map (a_member standings.Root) l.0) (behind_marker l.1)
+    (all_joined IsSpelledMember (map (a_member standings.Root) l.0) (after_marker l.1)
     (all_mapped IsMember IsSpelledMember (a_member standings.Root) (λ m h. h) l.0 h.0)
-    (behind_are l.1 h.1))
+    (additions_are l.1 h.1))
 
 -- a member of the root, if there is one, is one of those before the marker
 some_root : (ms : List (Name × ComponentTree)) (more : List MemberTree)
@@ -217,7 +217,7 @@ module _ (fits : ℕ → Bool) (n : ℕ) (t : Grammar TypeTree) (v : Grammar Tre
       (keeps_pair (word words.Choice) (opens n (braces alternatives)) Nothing Chosen (keeps_nothing (word words.Choice))
       (keeps_opens n (braces alternatives) Chosen (keeps_braces alternatives Chosen
       (keeps_extensible (alternative t) (addition fits (alternative t)) IsMember (OfAddition IsMember) alternative_keeps (keeps_addition fits (alternative t) IsMember alternative_keeps)))))
-      (λ p h. (all_are p.1 h.1.1, some_root p.1.0 (behind_marker p.1.1) h.1.0))
+      (λ p h. (all_are p.1 h.1.1, some_root p.1.0 (after_marker p.1.1) h.1.0))
 
   referred_spelled : (p : Name × Option Name) → IsSpelledForm (referred p)
   referred_spelled (x, None) = tt
@@ -229,20 +229,20 @@ module _ (fits : ℕ → Bool) (n : ℕ) (t : Grammar TypeTree) (v : Grammar Tre
       (keeps_either (simple fits n ⇒ a_simple) (ref ∣ choice fits n t) IsSpelledForm
       (keeps_made (simple fits n) a_simple IsSpelledPlain IsSpelledForm (simple_spelled fits n) (λ p h. h))
       (keeps_either ref (choice fits n t) IsSpelledForm
-      (spelled_anyway (token TypeRef ∙ optional (behind (Mark Dot) (token TypeRef))) referred IsSpelledForm referred_spelled) choice_keeps))
+      (spelled_anyway (token TypeRef ∙ optional (preceded (Mark Dot) (token TypeRef))) referred IsSpelledForm referred_spelled) choice_keeps))
       (keeps_made (sequence_or_set ∙ members fits n t v) (λ p. of_listing (list_kind p.0) p.1) (λ p. Unit {0} × Listed p.1) IsSpelledForm
       (keeps_pair sequence_or_set (members fits n t v) Nothing Listed (keeps_nothing sequence_or_set) members_keep)
       (λ p h. list_spelled p.0 p.1 h.1))
 
   abbrev element : Grammar TypeTree
-  element = opens n (behind (Word words.Of) t)
+  element = opens n (preceded (Word words.Of) t)
 
   list_keeps : Keeps (list fits n t) IsSpelledTree
   list_keeps =
       keeps_made (sequence_or_set ∙ (list_size fits ∙ element)) (λ p. list_of p.0 p.1.0 p.1.1) (λ p. Unit {0} × (Unit {0} × IsSpelledTree p.1.1)) IsSpelledTree
       (keeps_pair sequence_or_set (list_size fits ∙ element) Nothing (λ p. Unit {0} × IsSpelledTree p.1) (keeps_nothing sequence_or_set)
       (keeps_pair (list_size fits) element Nothing IsSpelledTree (keeps_nothing (list_size fits))
-      (keeps_opens n (behind (Word words.Of) t) IsSpelledTree (keeps_behind (Word words.Of) t IsSpelledTree k))))
+      (keeps_opens n (preceded (Word words.Of) t) IsSpelledTree (keeps_preceded (Word words.Of) t IsSpelledTree k))))
       (λ p h. h.1.1)
 
   module _ (tags : ℕ → Bool) where
@@ -251,7 +251,7 @@ module _ (fits : ℕ → Bool) (n : ℕ) (t : Grammar TypeTree) (v : Grammar Tre
 
     tagged_keeps : Keeps (tagged tags n t) IsSpelledTree
     tagged_keeps =
-        keeps_opens n (behind (Mark OpenBracket) tagging) IsSpelledTree (keeps_behind (Mark OpenBracket) tagging IsSpelledTree
+        keeps_opens n (preceded (Mark OpenBracket) tagging) IsSpelledTree (keeps_preceded (Mark OpenBracket) tagging IsSpelledTree
         (keeps_made (tag tags ∙ (keyword ∙ t)) (λ p. a_type (a_tagged p.0 p.1.0 p.1.1) []) (λ p. Unit {0} × (Unit {0} × IsSpelledTree p.1.1)) IsSpelledTree
         (keeps_pair (tag tags) (keyword ∙ t) Nothing (λ p. Unit {0} × IsSpelledTree p.1) (keeps_nothing (tag tags)) (keeps_pair keyword t Nothing IsSpelledTree (keeps_nothing keyword) k))
         (λ p h. h.1.1)))

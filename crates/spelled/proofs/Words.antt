@@ -37,9 +37,9 @@ either true p q f g = f refl
 either false p q f g = g refl
 
 module _ (x : List ℕ) (s j : ℕ) (f : IsFirst (stops_name x) s j) where
-  no_letter_behind : is_ascii_alphanumeric (octet_at x j) ≡ true → ⊥
+  no_letter_after : is_ascii_alphanumeric (octet_at x j) ≡ true → ⊥
   unfolding stops_name
-  no_letter_behind = stop_no_letter (octet_at x j) ((octet_at x j == 45) && is_ascii_alphanumeric (octet_at x (j + 1))) f.here
+  no_letter_after = stop_no_letter (octet_at x j) ((octet_at x j == 45) && is_ascii_alphanumeric (octet_at x (j + 1))) f.here
 
   letter_here : (k : ℕ) → s ≤ k → k < j → (octet_at x k == 45) ≡ false → is_ascii_alphanumeric (octet_at x k) ≡ true
   unfolding stops_name
@@ -58,7 +58,7 @@ module _ (x : List ℕ) (s j : ℕ) (f : IsFirst (stops_name x) s j) where
         (λ h. both (is_ascii_alphanumeric (octet_at x k)) (goes_on false (from x (k + 1) n)) (letter_here k le (omega arith) h) (plain n (k + 1) (omega arith) (omega arith)))
 
     after : (n k : ℕ) → s ≤ k → k + n ≡ j → is_ascii_alphanumeric (octet_at x k) ≡ true → goes_on true (from x k n) ≡ true
-    after zero k le e h = let same : k ≡ j = omega arith in absurd (no_letter_behind (subst (λ (k : ℕ). is_ascii_alphanumeric (octet_at x k) ≡ true) same h))
+    after zero k le e h = let same : k ≡ j = omega arith in absurd (no_letter_after (subst (λ (k : ℕ). is_ascii_alphanumeric (octet_at x k) ≡ true) same h))
     after (suc n) k le e h = both (is_ascii_alphanumeric (octet_at x k)) (goes_on false (from x (k + 1) n)) h (plain n (k + 1) (omega arith) (omega arith))
 
 -- the octets between two places of a text
@@ -93,4 +93,4 @@ pub identifier_is : (x : List ℕ) (i j : ℕ)
     → IsOfKind x kinds.Identifier i j
     → IsIdentifier (slice_range x i j)
 identifier_is x i j le h =
-    name_between x (j - i - 1) i j (omega (arith, h.0.first.behind)) le h.0 h.2
+    name_between x (j - i - 1) i j (omega (arith, h.0.first.follows)) le h.0 h.2

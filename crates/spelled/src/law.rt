@@ -4,7 +4,7 @@ ghost use Rattle.std.specs.Prelude.{ℕ, List, map};
 ghost use Rattle.std.specs.List.{All};
 ghost use Rattle.grammar.specs.Lexeme.{lexemes};
 ghost use Rattle.grammar.specs.Places.{Limits};
-ghost use Rattle.kernel.specs.Given.{IsLexed};
+ghost use Rattle.parser_combinators.specs.Given.{IsLexed};
 ghost use Rattle.names.specs.Names.{IsApart};
 ghost use Rattle.resolve.specs.Links.{Links};
 ghost use Rattle.resolve.specs.Program.{Program};
@@ -17,22 +17,22 @@ ghost use Rattle.trees.specs.declared.module.Module.{Module as Module'};
 ghost use Rattle.type_table.specs.Lists.{AreSound};
 
 use names::law::apart;
-use text::law::tokens_known;
+use text::law::lemma_tokens_known;
 
 /// The module that a text's tokens are is spelled as the notation requires, whatever the limits. [`syntax::parse`]
 /// returns only such modules.
-pub fn modules_are_spelled()
+pub fn lemma_modules_are_spelled()
     ensures { (text : List ℕ) (tokens : List Token) (limits : Limits) (m : ModuleTree) →
         IsLexed text tokens →
         (module_text limits).Is m (lexemes text tokens) →
         IsSpelledModule m }
 {
-    tokens_known();
+    lemma_tokens_known();
 }
 
 /// The types of linked modules are spelled as required if the modules are: both modules as trees, and modules in
 /// memory.
-pub fn types_are_spelled()
+pub fn lemma_types_are_spelled()
     ensures trees { (ms : List ModuleTree) (p : Program) →
         Links ms p →
         All IsSpelledModule ms →
@@ -45,7 +45,7 @@ pub fn types_are_spelled()
 
 /// What laws on linked modules require besides: no module imports a name that it assigns, and the names and numbers of
 /// each list are distinct.
-pub fn linked_are_sound()
+pub fn lemma_linked_are_sound()
     ensures apart { (ms : List ModuleTree) (p : Program) → Links ms p → IsApart p.modules }
     ensures sound { (ms : List ModuleTree) (p : Program) → Links ms p → AreSound p.types }
 {

@@ -8,10 +8,10 @@ use Rattle.grammar.specs.Laws.{left_of}
 use Rattle.grammar.specs.Places.{small, bounded, Ends}
 use Rattle.grammar.specs.Answers.{whole_is, whole_read}
 use Rattle.grammar.specs.Texts.{rest_fits, left_fits, first, passes, stopped, from_whole}
-use Rattle.kernel.specs.declared.fault.Limit.{Limit}
-use Rattle.notation.specs.declared.fault.SyntaxFault.TheVariants as faults
-use Rattle.kernel.specs.Given.{limit_of}
-use Rattle.notation.specs.Answer.{Stands}
+use Rattle.parser_combinators.specs.declared.read_error.Limit.{Limit}
+use Rattle.notation.specs.declared.syntax_fault.SyntaxFault.TheVariants as faults
+use Rattle.parser_combinators.specs.Given.{limit_of}
+use Rattle.notation.specs.Answer.{IsRightFault}
 use Rattle.trees.specs.Modules.{ModuleTree}
 use Rattle.syntax.specs.Syntax.{module_text}
 use Rattle.syntax.specs.ModuleReading.{module_at}
@@ -88,10 +88,10 @@ module _ (laws : ModuleLaws) (n : ℕ) (x : List ℕ) (ts : List Token) where
       → Ends module_text (bounded n) (lexemes x ts) 0 (length ts - k)
   first_left k e = first module_text (bounded n) (module_at small n) (module_reads laws n) x ts 0 none k (from_whole (module_at small n) x ts (Err (Unexpected k)) e)
 
-  pub limit_stands : (l : Limit) (k : ℕ)
+  pub limit_is_true : (l : Limit) (k : ℕ)
       → module_at small n (lexemes x ts) ≡ Err (Beyond (limit_of l) k)
-      → Stands module_text (lexemes x ts) 0 (bounded n) (faults.Limit l (length ts - k))
-  limit_stands l k e = passes module_text (bounded n) (module_at small n) (module_reads laws n) x ts 0 none (limit_of l) k (from_whole (module_at small n) x ts (Err (Beyond (limit_of l) k)) e)
+      → IsRightFault module_text (lexemes x ts) 0 (bounded n) (faults.Limit l (length ts - k))
+  limit_is_true l k e = passes module_text (bounded n) (module_at small n) (module_reads laws n) x ts 0 none (limit_of l) k (from_whole (module_at small n) x ts (Err (Beyond (limit_of l) k)) e)
 
 not_zero : (n : ℕ) → (suc n == 0) ≡ true → ⊥
 not_zero n e = grind (arith, nat_tests)

@@ -3,7 +3,7 @@ use Rattle.std.specs.Prelude.{ℕ, Bool, List}
 use Rattle.text.specs.declared.token.Mark.TheVariants.{Assign}
 use Rattle.text.specs.declared.reserved.Word.TheVariants.{End}
 use Rattle.grammar.specs.Lexeme.{TypeRef, Ident, Mark}
-use Rattle.grammar.specs.Grammar.{Grammar, token, word, ◌∙◌, ◌∣◌, ◌⇒◌, many, behind}
+use Rattle.grammar.specs.Grammar.{Grammar, token, word, ◌∙◌, ◌∣◌, ◌⇒◌, many, preceded}
 use Rattle.grammar.specs.Places.{Limited}
 use Rattle.notation.specs.Value.{value}
 use Rattle.type_syntax.specs.TypeGrammar.{type}
@@ -24,8 +24,8 @@ module_of h xs = record {
 -- on the numbers of tags, is a test that these must pass.
 abbrev pub assignment : (ℕ → Bool) → (ℕ → Bool) → ℕ → Grammar AssignmentTree
 assignment fits tags n =
-    (token TypeRef ∙ behind (Mark Assign) (type fits tags n)) ⇒ (λ p. assigns_type p.0 p.1)
-    ∣ (token Ident ∙ (type fits tags n ∙ behind (Mark Assign) (value fits n)))
+    (token TypeRef ∙ preceded (Mark Assign) (type fits tags n)) ⇒ (λ p. assigns_type p.0 p.1)
+    ∣ (token Ident ∙ (type fits tags n ∙ preceded (Mark Assign) (value fits n)))
     ⇒ (λ p. assigns_value p.0 p.1.0 p.1.1)
 
 -- A module within limits (X.680, clause 13). The limit on nesting must allow at least one open brace: that of an object

@@ -5,16 +5,16 @@ ghost use Rattle.text.specs.declared.token.TokenKind.TheVariants as kinds;
 ghost use Rattle.grammar.specs.Lexeme.{lexemes};
 ghost use Rattle.grammar.specs.Manies.{is_begun_by};
 ghost use Rattle.grammar.specs.Places.{small};
-ghost use Rattle.kernel.specs.Reads.{ReadsAs, name_in};
-ghost use Rattle.kernel.specs.Given.{IsTokenOf, AreTokens};
+ghost use Rattle.parser_combinators.specs.Reads.{ReadsAs, name_in};
+ghost use Rattle.parser_combinators.specs.Given.{IsTokenIn, AreTokens};
 ghost use Rattle.trees.specs.Modules.{assignment_of, module_tree_of};
 ghost use Rattle.syntax.specs.Reading.{type_assigned_at, value_assigned_at, begins_assignment, assignment_at, many_assignments_at, assignments_at};
 ghost use Rattle.syntax.specs.ModuleReading.{module_at};
 
-use kernel::decode::name_at;
-use kernel::{Read, ReadError};
 use module_head::head::{assign, head};
 use notation::reading::value;
+use parser_combinators::decode::name_at;
+use parser_combinators::{Read, ReadError};
 use std::alloc::Global;
 use text::{Token, kind, word};
 use trees::{Assignment, Module, TypeAssignment, ValueAssignment};
@@ -29,7 +29,7 @@ fn type_assignment<'a>(
     depth: usize,
 ) -> Read<'a, Assignment>
     requires tokens { AreTokens text.now tokens.now }
-    requires before { IsTokenOf text.now name }
+    requires before { IsTokenIn text.now name }
     requires name { name.kind ≡ kinds.TypeReference }
     ensures read { ReadsAs assignment_of (type_assigned_at small depth (name_in text.now name))
         text.now tokens.now result }
@@ -50,7 +50,7 @@ fn value_assignment<'a>(
     depth: usize,
 ) -> Read<'a, Assignment>
     requires tokens { AreTokens text.now tokens.now }
-    requires before { IsTokenOf text.now name }
+    requires before { IsTokenIn text.now name }
     requires name { name.kind ≡ kinds.Identifier }
     ensures read { ReadsAs assignment_of (value_assigned_at small depth (name_in text.now name))
         text.now tokens.now result }
@@ -112,7 +112,7 @@ fn many<'a>(
         text.now tokens.now result }
     ensures rest { IfOk result (λ x. AreTokens text.now x.1.now) }
 {
-    type_syntax::law::types_are_read();
+    type_syntax::law::lemma_types_are_read();
     let mut assignments = Vec::new(alloc);
     let mut rest = tokens;
     while begins(text, rest) {

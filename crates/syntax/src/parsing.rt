@@ -3,10 +3,10 @@
 ghost use Rattle.std.specs.Prelude.{◌≡◌, IfOk, IfErr, MatchResult, List};
 ghost use Rattle.grammar.specs.Lexeme.{Lexeme, lexemes};
 ghost use Rattle.grammar.specs.Places.{bounded, free};
-ghost use Rattle.kernel.specs.Given.{IsLexed};
-ghost use Rattle.notation.specs.Answer.{Stands};
-ghost use Rattle.notation.specs.declared.fault.SyntaxFault.{SyntaxFault as SyntaxFault'};
-ghost use Rattle.notation.specs.declared.fault.SyntaxFault.TheVariants as faults;
+ghost use Rattle.parser_combinators.specs.Given.{IsLexed};
+ghost use Rattle.notation.specs.Answer.{IsRightFault};
+ghost use Rattle.notation.specs.declared.syntax_fault.SyntaxFault.{SyntaxFault as SyntaxFault'};
+ghost use Rattle.notation.specs.declared.syntax_fault.SyntaxFault.TheVariants as faults;
 ghost use Rattle.trees.specs.Modules.{ModuleTree, module_tree_of};
 ghost use Rattle.syntax.specs.Syntax.{module_text};
 
@@ -43,11 +43,11 @@ pub fn parse(alloc: Global, text: &[u8], tokens: &[Token]) -> Result<Module, Syn
     ensures only { (m : ModuleTree) → (module_text (bounded 128)).Is m (lexemes text.now tokens.now)
         → MatchResult result (λ x. module_tree_of x ≡ m) (λ f. f ≡ SyntaxFault.Memory) }
     // A fault is the right one, with its place.
-    ensures fault { IfErr result (Stands module_text (lexemes text.now tokens.now) 0 (bounded 128)) }
+    ensures fault { IfErr result (IsRightFault module_text (lexemes text.now tokens.now) 0 (bounded 128)) }
 {
-    notation::law::lexed_tokens();
-    module_head::law::heads_are_read();
-    type_syntax::law::types_are_read();
+    notation::law::lemma_lexed_tokens();
+    module_head::law::lemma_heads_are_read();
+    type_syntax::law::lemma_types_are_read();
     match module(alloc, text, tokens, MAX_NESTING) {
         Ok((module, rest)) => {
             if rest.is_empty() {
@@ -63,24 +63,24 @@ pub fn parse(alloc: Global, text: &[u8], tokens: &[Token]) -> Result<Module, Syn
 }
 
 /// A list of lexemes is one module at most.
-pub fn one_module()
+pub fn lemma_one_module()
     ensures { (ts : List Lexeme) (m n : ModuleTree)
         → (free module_text).Is m ts
         → (free module_text).Is n ts
         → m ≡ n }
 {
-    module_head::law::heads_are_read();
-    type_syntax::law::types_are_read();
+    module_head::law::lemma_heads_are_read();
+    type_syntax::law::lemma_types_are_read();
 }
 
 /// At most one fault is right where a module is read, apart from `Memory`.
-pub fn one_fault()
+pub fn lemma_one_fault()
     ensures { (ts : List Lexeme) (f g : SyntaxFault') → (f ≡ faults.Memory → ⊥)
         → (g ≡ faults.Memory → ⊥)
-        → Stands module_text ts 0 (bounded 128) f
-        → Stands module_text ts 0 (bounded 128) g
+        → IsRightFault module_text ts 0 (bounded 128) f
+        → IsRightFault module_text ts 0 (bounded 128) g
         → f ≡ g }
 {
-    module_head::law::heads_are_read();
-    type_syntax::law::types_are_read();
+    module_head::law::lemma_heads_are_read();
+    type_syntax::law::lemma_types_are_read();
 }

@@ -9,22 +9,22 @@ use Rattle.trees.specs.declared.types.ListKind.{ListKind}
 use Rattle.type_table.specs.declared.table.ListMember.{ListMember}
 use Rattle.type_table.specs.declared.table.Shape.{Shape}
 use Rattle.type_table.specs.declared.table.Shape.TheVariants as shapes
-use Rattle.type_table.specs.declared.table.Written.{Written}
+use Rattle.type_table.specs.declared.table.TypeNode.{TypeNode}
 use Rattle.type_table.specs.Seen.{part_of}
 use Rattle.type_table.specs.Table.{Part, Type'}
 use Rattle.tagging.specs.declared.check.Fault.{Fault}
 use Rattle.tagging.specs.declared.check.Fault.TheVariants.{Memory, At}
 use Rattle.tagging.specs.declared.check.Rule.{Rule}
 use Rattle.tagging.specs.declared.check.Rule.TheVariants as rules
-use Rattle.tagging.specs.declared.first.FrontFault.{FrontFault}
-use Rattle.tagging.specs.declared.first.FrontFault.TheVariants as fronts
+use Rattle.tagging.specs.declared.first.FirstTagFault.{FirstTagFault}
+use Rattle.tagging.specs.declared.first.FirstTagFault.TheVariants as fronts
 use Rattle.tagging.specs.Tags.{Label, Tags}
 use Rattle.tagging.specs.Tagged.{BearTags, Clash}
 use Rattle.tagging.specs.FirstFault.{IsBearingAt, IsClashingAt, own, inner, IsListFault, IsShapeFault, IsTypeFault, IsFirstOf}
 use Rattle.tagging.specs.proving.Checks.{BearsAt, BearsHere, HasFew, IsGood, IsNumbered, NoneBears, SuitsAutomatic}
 use Rattle.tagging.specs.proving.Heads.{Fronts, IsFirstFault}
-use Rattle.tagging.specs.proving.Lists.{IsClear, TellsClash}
-use Rattle.tagging.specs.proving.Told.{IsImplicitFault, IsMixedFault, IsBareFault, IsClashFault, IsBroken, as_fault}
+use Rattle.tagging.specs.proving.Lists.{IsClear, ReportsClash}
+use Rattle.tagging.specs.proving.Reported.{IsImplicitFault, IsMixedFault, IsBareFault, IsClashFault, IsBroken, as_fault}
 use Rattle.tagging.proofs.Taggings.{front_none}
 
 -- ---- members
@@ -66,7 +66,7 @@ bearing_at ts ms n m at a b h f =
       number = n;
       member = m;
       there = t;
-      told = a;
+      reported = a;
       bears = subst (λ z. BearsHere ts z true) q (record { stands = r.stands; bears = r.bears });
       before = f;
     }
@@ -90,12 +90,12 @@ clear_before ts k cs q f m n l c =
 pub clashing_at : (ts : List Type') (k : ListKind) (ms : List ListMember) (n : ℕ) (m : ListMember) (o : Option ℕ) (at : ℕ) →
     at ≡ m.name.at →
     o ≡ Some n →
-    TellsClash ts k (map part_of ms) o →
+    ReportsClash ts k (map part_of ms) o →
     slice_get ms n ≡ Some m →
     IsClashingAt ts k ms at
 clashing_at ts k ms n m o at a e t h =
-    let f = subst (TellsClash ts k (map part_of ms)) e t in
-    record { number = n; member = m; there = h; told = a; earlier = f.earlier; clash = f.clash; before = f.before }
+    let f = subst (ReportsClash ts k (map part_of ms)) e t in
+    record { number = n; member = m; there = h; reported = a; earlier = f.earlier; clash = f.clash; before = f.before }
 
 pub later_inside : (l n : ℕ) (o : Option ℕ) → o ≡ Some n → IfSome o (λ q. q < l) → n < l
 later_inside l n o e h = subst (λ z. IfSome z (λ q. q < l)) e h
@@ -113,7 +113,7 @@ of_mixed ts i k d ms (At rules.TagClash ty at) f = absurd f
 of_mixed ts i k d ms (At rules.ImplicitChoice ty at) f = absurd f
 of_mixed ts i k d ms (At rules.UntaggedChoice ty at) f = absurd f
 
-pub of_bare : (ts : List Type') (i : ℕ) (k : ListKind) (d : TagDefault) (ms : List ListMember) (e : FrontFault) →
+pub of_bare : (ts : List Type') (i : ℕ) (k : ListKind) (d : TagDefault) (ms : List ListMember) (e : FirstTagFault) →
     SuitsAutomatic ts (map part_of ms) d →
     IsBareFault ts ms e →
     IsListFault ts i k d ms (as_fault e)
@@ -133,7 +133,7 @@ of_clash ts i k d ms (At rules.TagNumber ty at) s b f = absurd f
 of_clash ts i k d ms (At rules.ImplicitChoice ty at) s b f = absurd f
 of_clash ts i k d ms (At rules.MixedAutomatic ty at) s b f = absurd f
 
-pub of_front : (ts : List Type') (i : ℕ) (k : ListKind) (ms : List ListMember) (e : FrontFault) →
+pub of_front : (ts : List Type') (i : ℕ) (k : ListKind) (ms : List ListMember) (e : FirstTagFault) →
     IsFirstFault ts e →
     IsClashFault ts i k ms (as_fault e)
 of_front ts i k ms fronts.Memory f = tt
@@ -181,7 +181,7 @@ no_number ts i place d (shapes.Tagged t w j) ty at f = f
 no_number ts i place d (shapes.Members k m ms) ty at f = f
 no_number ts i place d (shapes.Elements k j) ty at f = f
 
-pub of_shape : (ts : List Type') (i : ℕ) (w : Written) (e : Fault) →
+pub of_shape : (ts : List Type') (i : ℕ) (w : TypeNode) (e : Fault) →
     HasFew ts i →
     IsNumbered ts i →
     IsShapeFault ts i w.at w.default w.shape e →
@@ -194,7 +194,7 @@ of_shape ts i w (At rules.ImplicitChoice ty at) h n f = (h, n, f)
 of_shape ts i w (At rules.UntaggedChoice ty at) h n f = (h, n, f)
 of_shape ts i w (At rules.MixedAutomatic ty at) h n f = (h, n, f)
 
-pub of_broken : (ts : List Type') (i : ℕ) (w : Written) (r : Rule) →
+pub of_broken : (ts : List Type') (i : ℕ) (w : TypeNode) (r : Rule) →
     IsBroken ts r i →
     IsTypeFault ts i w (At r i w.at)
 of_broken ts i w rules.Tags b = (refl, refl, b)
@@ -204,7 +204,7 @@ of_broken ts i w rules.ImplicitChoice b = absurd b
 of_broken ts i w rules.UntaggedChoice b = absurd b
 of_broken ts i w rules.MixedAutomatic b = absurd b
 
-pub first_of : (ts : List Type') (ws : List Written) (n : ℕ) (w : Written) (e : Fault) →
+pub first_of : (ts : List Type') (ws : List TypeNode) (n : ℕ) (w : TypeNode) (e : Fault) →
     slice_get ws n ≡ Some w →
     IsTypeFault ts n w e →
     ((i : ℕ) → i < n → IsGood ts i) →

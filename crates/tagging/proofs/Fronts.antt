@@ -7,19 +7,19 @@ use Rattle.trees.specs.declared.module.TagDefault.{TagDefault}
 use Rattle.type_table.specs.Table.{Part}
 use Rattle.trees.specs.declared.types.ListKind.{ListKind}
 use Rattle.trees.specs.declared.types.ListKind.TheVariants.{Sequence, Set, Choice}
-use Rattle.type_table.specs.Table.{Type', Kind, simple, reference, tagged, members, elements, behind as behind_kind, behind_of, next, walk, Is, IsCore, IsLinked}
+use Rattle.type_table.specs.Table.{Type', Kind, simple, reference, tagged, members, elements, target as target_kind, target_of, next, walk, Is, IsUnderlying, IsLinked}
 use Rattle.type_table.specs.Walks.{onward}
 use Rattle.type_table.specs.proving.Walks.{stops}
 use Rattle.tagging.specs.declared.path.TagForm.{TagForm}
 use Rattle.tagging.specs.declared.path.FormedTag.{FormedTag}
-use Rattle.tagging.specs.Tags.{Label, label, Path, path_of, context_tag, outermost, automatic, form_of, Written, core, behind, own, Tags, as_written, numbered}
-use Rattle.tagging.specs.proving.Step.{Outermost, Adds}
+use Rattle.tagging.specs.Tags.{Label, label, Path, path_of, context_tag, outermost, automatic, form_of, WrittenTags, core, target, own, Tags, as_written, numbered}
+use Rattle.tagging.specs.proving.TagStep.{Outermost, Adds}
 use Rattle.trees.specs.declared.types.Keyword.TheVariants.{Absent}
 use Rattle.trees.specs.declared.module.TagDefault.TheVariants.{Automatic}
 use Rattle.tagging.specs.First.{First, outermost as outermost_tag, alternative}
 use Rattle.tagging.specs.proving.Heads.{Head, Fronts, none, front, AreFirst, IsFrontFault, IsFirstFault, members_of}
-use Rattle.tagging.specs.declared.first.FrontFault.{FrontFault}
-use Rattle.tagging.specs.declared.first.FrontFault.TheVariants.{Memory, Untagged}
+use Rattle.tagging.specs.declared.first.FirstTagFault.{FirstTagFault}
+use Rattle.tagging.specs.declared.first.FirstTagFault.TheVariants.{Memory, Untagged}
 use Rattle.tagging.proofs.Paths.{same_kind, written_exists, written_unique}
 
 pub tags_unique : (ts : List Type') (i : ℕ) (p q : Path) → Tags ts i p → Tags ts i q → p ≡ q
@@ -42,20 +42,20 @@ pub head_numbered : (ts : List Type') (i n : ℕ) → IsLinked ts → i < length
 head_numbered ts i n k l e = let w = written_exists ts i k l in record { path = _; tags = numbered e w.1 refl; is = refl }
 
 -- a core is the only one
-core_below : (ts : List Type') (i a b : ℕ) (u : IsCore ts i a) (v : IsCore ts i b) → u.steps < v.steps → ⊥
+core_below : (ts : List Type') (i a b : ℕ) (u : IsUnderlying ts i a) (v : IsUnderlying ts i b) → u.steps < v.steps → ⊥
 core_below ts i a b u v l =
     let r : ℕ = v.steps - suc u.steps in
     let s : u.steps + suc r ≡ v.steps = omega arith in
-    let x = sym (stops (next ts) u.steps r i a u.leads u.ends) ∙ ap (λ k. walk ts k i) s ∙ v.leads in
+    let x = sym (stops (next ts) u.steps r i a u.chain u.ends) ∙ ap (λ k. walk ts k i) s ∙ v.chain in
     absurd cc
 
-pub core_unique : (ts : List Type') (i a b : ℕ) → IsCore ts i a → IsCore ts i b → a ≡ b
+pub core_unique : (ts : List Type') (i a b : ℕ) → IsUnderlying ts i a → IsUnderlying ts i b → a ≡ b
 core_unique ts i a b u v =
     elim (cases_lt u.steps v.steps) [
       | inl l ↦ absurd (core_below ts i a b u v l)
       | inr m ↦ elim (cases_lt v.steps u.steps) [
         | inl l ↦ absurd (core_below ts i b a v u l)
-        | inr n ↦ (let s : u.steps ≡ v.steps = omega arith in let x = sym u.leads ∙ ap (λ k. walk ts k i) s ∙ v.leads in cc)
+        | inr n ↦ (let s : u.steps ≡ v.steps = omega arith in let x = sym u.chain ∙ ap (λ k. walk ts k i) s ∙ v.chain in cc)
       ]
     ]
 
@@ -110,7 +110,7 @@ same_members ts a b u v cs es {k = k} {d = d} {m = m} s x y = let q = same_kind 
 
 all_of : (ts : List Type') (i c : ℕ) (b : Bool) (cs : List Part) (us : List Label) (d : TagDefault)
     (l : Option (ℕ × ℕ)) (t : Label) →
-    Head ts i None → IsCore ts i c → Is ts c (members Choice b cs) d l → Fronts ts cs us → First ts i t → Contains us t
+    Head ts i None → IsUnderlying ts i c → Is ts c (members Choice b cs) d l → Fronts ts cs us → First ts i t → Contains us t
 all_of ts i c b cs us d l t h k m f (outermost_tag g) = let e = head_unique ts i None (Some t) h (record { path = _; tags = g; is = refl }) in absurd cc
 all_of ts i c b cs us d l t h k m f (alternative c' b' cs' n a g k' m' e x) =
     let s = core_unique ts i c' c k' k in
@@ -121,7 +121,7 @@ all_of ts i c b cs us d l t h k m f (alternative c' b' cs' n a g k' m' e x) =
 -- those of an untagged CHOICE are its alternatives'
 pub choice_first : (ts : List Type') (i c : ℕ) (b : Bool) (cs : List Part) (us : List Label) (d : TagDefault)
     (l : Option (ℕ × ℕ)) →
-    Head ts i None → IsCore ts i c → Is ts c (members Choice b cs) d l → Fronts ts cs us → AreFirst ts i us
+    Head ts i None → IsUnderlying ts i c → Is ts c (members Choice b cs) d l → Fronts ts cs us → AreFirst ts i us
 choice_first ts i c b cs us d l h k m f = record {
   each = λ t g. let w = front_at ts cs us g.0 t f g.1 g.2 in alternative c b cs g.0 w.member (untagged h.path h.tags h.is) k m w.there (head_first ts w.member.ty t w.head);
   all = λ t g. all_of ts i c b cs us d l t h k m f g;
@@ -141,27 +141,27 @@ same_at : (ts : List Type') (a b : ℕ) {k m : Kind} {d e : TagDefault} {l n : O
     Is ts a k d l → Is ts b m e n → k ≡ m
 same_at ts a b {k = k} {d = d} {l = l} s x y = same_kind (subst (λ z. Is ts z k d l) s x) y
 
-own_behind : (k : Kind) (p : Path) → own k ≡ Some p → behind_kind k ≡ None
-own_behind (simple n) p e = refl
-own_behind (reference j) p e = absurd cc
-own_behind (tagged t w j) p e = absurd cc
-own_behind (members m b cs) p e = refl
-own_behind (elements y j) p e = refl
+own_target : (k : Kind) (p : Path) → own k ≡ Some p → target_kind k ≡ None
+own_target (simple n) p e = refl
+own_target (reference j) p e = absurd cc
+own_target (tagged t w j) p e = absurd cc
+own_target (members m b cs) p e = refl
+own_target (elements y j) p e = refl
 
 own_stops : (ts : List Type') (i c n : ℕ) (k : Kind) (d : TagDefault) (l : Option (ℕ × ℕ)) (p : Path) →
     Is ts i k d l → own k ≡ Some p → walk ts (suc n) i ≡ Some c → ⊥
 own_stops ts i c n k d l p h e w =
-    let x = ap behind_of h.found ∙ own_behind k p e in
+    let x = ap target_of h.found ∙ own_target k p e in
     let y = sym (ap (λ o. onward o (λ q. walk ts n q)) x) ∙ w in
     absurd cc
 
 -- the references of an untagged CHOICE lead to the CHOICE
-untagged_core : (ts : List Type') (i c n : ℕ) (k : Kind) (d : TagDefault) (l : Option (ℕ × ℕ)) → Written ts i [] →
+untagged_core : (ts : List Type') (i c n : ℕ) (k : Kind) (d : TagDefault) (l : Option (ℕ × ℕ)) → WrittenTags ts i [] →
     walk ts n i ≡ Some c → next ts c ≡ None → Is ts c k d l → own k ≡ Some []
 untagged_core ts i c zero k d l (core h e) w f g = let s : i ≡ c = cc in let q = same_at ts i c s h g in ap own (sym q) ∙ e
 untagged_core ts i c (suc n) k d l (core {k = k'} h e) w f g = absurd (own_stops ts i c n k' _ _ [] h e w)
-untagged_core ts i c zero k d l (behind h v) w f g = let s : i ≡ c = cc in let x = sym (ap (next ts) s) ∙ ap behind_of h.found in let y = sym f ∙ x in absurd cc
-untagged_core ts i c (suc n) k d l (behind {j = j} h v) w f g = untagged_core ts j c n k d l v (sym (ap (λ o. onward o (λ q. walk ts n q)) (ap behind_of h.found)) ∙ w) f g
+untagged_core ts i c zero k d l (target h v) w f g = let s : i ≡ c = cc in let x = sym (ap (next ts) s) ∙ ap target_of h.found in let y = sym f ∙ x in absurd cc
+untagged_core ts i c (suc n) k d l (target {j = j} h v) w f g = untagged_core ts j c n k d l v (sym (ap (λ o. onward o (λ q. walk ts n q)) (ap target_of h.found)) ∙ w) f g
 
 abbrev marker_of : Kind → Bool
 marker_of (members k m cs) = m
@@ -177,13 +177,13 @@ is_choice ts c (members Set m cs) d l e g = absurd cc
 is_choice ts c (members Choice m cs) d l e g = g
 is_choice ts c (elements y j) d l e g = absurd cc
 
-written_of : (ts : List Type') (i : ℕ) (p : Path) → Tags ts i p → None ≡ outermost p → Written ts i []
+written_of : (ts : List Type') (i : ℕ) (p : Path) → Tags ts i p → None ≡ outermost p → WrittenTags ts i []
 written_of ts i [] (as_written e w) f = w
 written_of ts i (x ∷ p) h f = absurd cc
 
 pub choice_core : (ts : List Type') (i c : ℕ) (k : Kind) (d : TagDefault) (l : Option (ℕ × ℕ)) → Head ts i None →
-    IsCore ts i c → Is ts c k d l → Is ts c (members Choice (marker_of k) (members_of k)) d l
-choice_core ts i c k d l h u g = is_choice ts c k d l (untagged_core ts i c u.steps k d l (written_of ts i h.path h.tags h.is) u.leads u.ends g) g
+    IsUnderlying ts i c → Is ts c k d l → Is ts c (members Choice (marker_of k) (members_of k)) d l
+choice_core ts i c k d l h u g = is_choice ts c k d l (untagged_core ts i c u.steps k d l (written_of ts i h.path h.tags h.is) u.chain u.ends g) g
 
 pub parts_of : (ts : List Type') (i : ℕ) (k : Kind) (d : TagDefault) (l : Option (ℕ × ℕ)) → IsLinked ts →
     Is ts i k d l → All (λ c. c.ty < length ts) (members_of k)
@@ -202,18 +202,18 @@ headless ts i h = no_tags h.path h.tags h.is
 
 -- a member that is an untagged CHOICE, in a CHOICE or a SET
 pub front_untagged : (ts : List Type') (k : ListKind) (m : Bool) (cs : List Part) (i : ℕ) (d : TagDefault)
-    (p : Option (ℕ × ℕ)) (e : FrontFault) → (k ≡ Choice) ⊎ (k ≡ Set) → Is ts i (members k m cs) d p →
+    (p : Option (ℕ × ℕ)) (e : FirstTagFault) → (k ≡ Choice) ⊎ (k ≡ Set) → Is ts i (members k m cs) d p →
     IsFrontFault ts cs e → IsFirstFault ts e
 front_untagged ts k m cs i d p Memory w h f = tt
 front_untagged ts k m cs i d p (Untagged j at) w h f = record { list = i; kind = k; marker = m; cs = cs; default = d; place = p; is = h; within = w; number = f.0; member = f.1; there = f.2; at = f.3; untagged = headless ts j f.4 }
 
 pub choice_answer : (ts : List Type') (i c : ℕ) (k : Kind) (d : TagDefault) (l : Option (ℕ × ℕ))
-    (r : Result (Vec Label Global) FrontFault) → Head ts i None → IsCore ts i c → Is ts c k d l →
+    (r : Result (Vec Label Global) FirstTagFault) → Head ts i None → IsUnderlying ts i c → Is ts c k d l →
     MatchResult r (λ v. Fronts ts (members_of k) v.items) (IsFrontFault ts (members_of k)) → MatchResult r (λ v. AreFirst ts i v.items) (IsFirstFault ts)
 choice_answer ts i c k d l (Ok v) h u g f = choice_first ts i c (marker_of k) (members_of k) v.items d l h u (choice_core ts i c k d l h u g) f
 choice_answer ts i c k d l (Err e) h u g f = front_untagged ts Choice (marker_of k) (members_of k) c d l e (inl refl) (choice_core ts i c k d l h u g) f
 
-pub single_answer : (ts : List Type') (i : ℕ) (t : Label) (r : Result (Vec Label Global) FrontFault) →
+pub single_answer : (ts : List Type') (i : ℕ) (t : Label) (r : Result (Vec Label Global) FirstTagFault) →
     Head ts i (Some t) → MatchResult r (λ v. v.items ≡ t ∷ []) (λ e. e ≡ Memory) →
     MatchResult r (λ v. AreFirst ts i v.items) (IsFirstFault ts)
 single_answer ts i t (Ok v) h e = subst (AreFirst ts i) (sym e) (one_first ts i t h)
@@ -221,10 +221,10 @@ single_answer ts i t (Err f) h e = subst (IsFirstFault ts) (sym e) tt
 
 pub written_answer : (ts : List Type') (i : ℕ) (b q : Path) → automatic ts i ≡ None → b ≡ [] → Adds ts i b q →
     Tags ts i q
-written_answer ts i b q e f a = as_written e (subst (Written ts i) (sym (a.is ∙ ap (λ x. x ++ a.path) f)) a.written)
+written_answer ts i b q e f a = as_written e (subst (WrittenTags ts i) (sym (a.is ∙ ap (λ x. x ++ a.path) f)) a.written)
 
 pub numbered_answer : (ts : List Type') (i n : ℕ) (b q : Path) (f : TagForm) → automatic ts i ≡ Some n →
-    ((p : Path) → Written ts i p → f ≡ form_of Absent Automatic p) → b ≡ (context_tag n, f) ∷ [] → Adds ts i b q →
+    ((p : Path) → WrittenTags ts i p → f ≡ form_of Absent Automatic p) → b ≡ (context_tag n, f) ∷ [] → Adds ts i b q →
     Tags ts i q
 numbered_answer ts i n b q f e g h a = subst (Tags ts i) (sym (a.is ∙ ap (λ x. x ++ a.path) h)) (numbered e a.written (g a.path a.written))
 

@@ -15,7 +15,7 @@ use Rattle.trees.specs.declared.types.ListKind.TheVariants.{Sequence, Set, Choic
 use Rattle.trees.specs.declared.types.ElementsKind.TheVariants.{SequenceOf, SetOf}
 use Rattle.type_table.specs.Table.{Part, Type', Kind, simple, reference, tagged, members, elements, Is}
 use Rattle.tagging.specs.declared.path.TagForm.TheVariants.{Implicit, Explicit}
-use Rattle.tagging.specs.Tags.{Label, Path, own, core, behind, inside, Tags, as_written, numbered, none_written, one_more, bears_tag, automatic}
+use Rattle.tagging.specs.Tags.{Label, Path, own, core, target, inside, Tags, as_written, numbered, none_written, one_more, bears_tag, automatic}
 use Rattle.tagging.specs.First.{First, is_addition, may_be_absent, outermost, alternative, Together}
 use Rattle.tagging.specs.Tagged.{Bears, IsOverfull, IsImplicit, IsUntagged, IsMixed, HasClash}
 
@@ -142,7 +142,7 @@ choice_types d = written (members Sequence false with_choice) d None ∷ written
 choice_clash : HasClash (choice_types tags.Explicit) 0
 choice_clash = clash_of 0 1 (here refl) (omega arith) refl refl both (integer_first refl refl)
     (alternative 2 false choice_parts 0 (part 3 mandatory) (as_written refl (core (here refl) refl))
-    (record { steps = 0; few = omega arith; leads = refl; ends = refl }) (here refl) refl (integer_first refl refl))
+    (record { steps = 0; few = omega arith; chain = refl; ends = refl }) (here refl) refl (integer_first refl refl))
   where
     both : Together Sequence with_choice 0 1
     both zero c l m e = absent_as (part 1 optional) c e refl
@@ -235,10 +235,10 @@ choice_tagged k d = written (tagged zero_tag k 1) d None ∷ written (reference 
     written (simple a_null) d (Some (2, 0)) ∷ written (simple a_boolean) d (Some (2, 1)) ∷ []
 
 through_reference : IsImplicit (choice_tagged word.Implicit tags.Explicit) 0
-through_reference = record { tag = zero_tag; inner = 1; default = tags.Explicit; place = None; is = here refl; untagged = behind (here refl) (core (here refl) refl) }
+through_reference = record { tag = zero_tag; inner = 1; default = tags.Explicit; place = None; is = here refl; untagged = target (here refl) (core (here refl) refl) }
 
 explicit_there : Tags (choice_tagged word.Absent tags.Implicit) 0 (((Context, 0), Explicit) ∷ [])
-explicit_there = as_written refl (inside (here refl) (behind (here refl) (core (here refl) refl)) refl)
+explicit_there = as_written refl (inside (here refl) (target (here refl) (core (here refl) refl)) refl)
 
 -- a tag after the reference: no untagged CHOICE
 passing_a_tag :
@@ -246,7 +246,7 @@ passing_a_tag :
     (tag_before 1 ∷ written (reference 2) tags.Explicit None ∷ written
     (tagged zero_tag word.Implicit 3) tags.Explicit None ∷ written int tags.Explicit None ∷ []) 0
     (((Context, 0), Explicit) ∷ ((Context, 0), Implicit) ∷ ((Universal, 2), Explicit) ∷ [])
-passing_a_tag = as_written refl (inside (here refl) (behind (here refl) (inside (here refl) (core (here refl) refl) refl)) refl)
+passing_a_tag = as_written refl (inside (here refl) (target (here refl) (inside (here refl) (core (here refl) refl) refl)) refl)
 
 -- SEQUENCE {a INTEGER OPTIONAL, ..., b INTEGER}
 abbrev extended : List Part
@@ -263,13 +263,13 @@ extended_clash = clash_of 0 1 (here refl) (omega arith) refl refl both (integer_
     both (suc r) c l m e = absurd (omega arith)
 
 -- SEQUENCE {a INTEGER, ..., b INTEGER, c INTEGER}: a is before all additions, but b may be absent
-abbrev behind_mandatory : List Part
-behind_mandatory = part 1 mandatory ∷ addition 2 mandatory None ∷ addition 3 mandatory None ∷ []
+abbrev after_mandatory : List Part
+after_mandatory = part 1 mandatory ∷ addition 2 mandatory None ∷ addition 3 mandatory None ∷ []
 
-root_apart : Together Sequence behind_mandatory 0 1 → ⊥
+root_apart : Together Sequence after_mandatory 0 1 → ⊥
 root_apart t = let e = t 0 (part 1 mandatory) (omega arith) (omega arith) refl in absurd cc
 
-additions_together : Together Sequence behind_mandatory 1 2
+additions_together : Together Sequence after_mandatory 1 2
 additions_together zero c l m e = absurd (omega arith)
 additions_together (suc zero) c l m e = absent_as (addition 2 mandatory None) c e refl
 additions_together (suc (suc r)) c l m e = absurd (omega arith)

@@ -4,20 +4,20 @@ use Rattle.asn_base.specs.declared.tag.Tag.{Tag}
 use Rattle.trees.specs.declared.types.Keyword.{Keyword}
 use Rattle.trees.specs.declared.module.TagDefault.{TagDefault}
 use Rattle.trees.specs.declared.types.ListKind.TheVariants.{Sequence, Set, Choice}
-use Rattle.type_table.specs.Table.{Type', Kind, simple, reference, tagged, members, elements, behind_of, Is, IsLinked}
+use Rattle.type_table.specs.Table.{Type', Kind, simple, reference, tagged, members, elements, target_of, Is, IsLinked}
 use Rattle.tagging.specs.proving.Columns.{is_reference, Front, here, through}
-use Rattle.tagging.specs.Tags.{Path, label, own, is_tagged, form_of, Written, core, behind, inside, TagCount, none_written, as_behind, one_more}
+use Rattle.tagging.specs.Tags.{Path, label, own, is_tagged, form_of, WrittenTags, core, target, inside, TagCount, none_written, as_target, one_more}
 use Rattle.tagging.specs.Tagged.{IsOverfull}
-use Rattle.tagging.specs.proving.Step.{IsInside}
+use Rattle.tagging.specs.proving.TagStep.{IsInside}
 use Rattle.tagging.proofs.Paths.{same_kind, written_exists}
 
-pub front_written : (ts : List Type') (i f : ℕ) (p : Path) → Front ts i f → Written ts f p → Written ts i p
+pub front_written : (ts : List Type') (i f : ℕ) (p : Path) → Front ts i f → WrittenTags ts f p → WrittenTags ts i p
 front_written ts i f p (here h e) w = w
-front_written ts i f p (through {j = j} h u) w = behind h (front_written ts j f p u w)
+front_written ts i f p (through {j = j} h u) w = target h (front_written ts j f p u w)
 
 pub front_count : (ts : List Type') (i f n : ℕ) → Front ts i f → TagCount ts f n → TagCount ts i n
 front_count ts i f n (here h e) w = w
-front_count ts i f n (through {j = j} h u) w = as_behind h (front_count ts j f n u w)
+front_count ts i f n (through {j = j} h u) w = as_target h (front_count ts j f n u w)
 
 pub front_not : (ts : List Type') (i f : ℕ) (k : Kind) (d : TagDefault) (l : Option (ℕ × ℕ)) → Front ts i f →
     Is ts f k d l → is_reference k ≡ false
@@ -41,24 +41,24 @@ own_there (tagged t k j) e f = absurd cc
 
 pub ends_there : (ts : List Type') (i f : ℕ) (k : Kind) (d : TagDefault) (l : Option (ℕ × ℕ)) (q : Path) →
     Front ts i f → Is ts f k d l → is_tagged k ≡ false → ((p : Path) → own k ≡ Some p → p ≡ q) →
-    Written ts i q × TagCount ts i 0
+    WrittenTags ts i q × TagCount ts i 0
 ends_there ts i f k d l q u h e g =
     let o = own_there k (front_not ts i f k d l u h) e in (
-      subst (Written ts i) (g o.0 o.1) (front_written ts i f o.0 u (core h o.1)),
+      subst (WrittenTags ts i) (g o.0 o.1) (front_written ts i f o.0 u (core h o.1)),
       front_count ts i f 0 u (none_written h o.1),
     )
 
 pub inside_there : (ts : List Type') (i f j : ℕ) (t : Tag) (w : Keyword) (d : TagDefault) (l : Option (ℕ × ℕ)) →
     IsLinked ts → Front ts i f → Is ts f (tagged t w j) d l → IsInside ts i t w d j
 inside_there ts i f j t w d l k u h = record {
-  there = k.closed f j (ap behind_of h.found);
+  there = k.closed f j (ap target_of h.found);
   tags = λ p v. front_written ts i f ((label t, form_of w d p) ∷ p) u (inside h v refl);
   count = λ n c. front_count ts i f (suc n) u (one_more h c);
 }
 
-count_of : (ts : List Type') (i : ℕ) (p : Path) → Written ts i p → (n : ℕ) × TagCount ts i n
+count_of : (ts : List Type') (i : ℕ) (p : Path) → WrittenTags ts i p → (n : ℕ) × TagCount ts i n
 count_of ts i p (core h e) = (0, none_written h e)
-count_of ts i p (behind {j = j} {p = q} h w) = let c = count_of ts j q w in (c.0, as_behind h c.1)
+count_of ts i p (target {j = j} {p = q} h w) = let c = count_of ts j q w in (c.0, as_target h c.1)
 count_of ts i p (inside {j = j} {p = q} h w e) = let c = count_of ts j q w in (suc c.0, one_more h c.1)
 
 pub count_exists : (ts : List Type') (i : ℕ) → IsLinked ts → i < length ts → (n : ℕ) × TagCount ts i n
@@ -67,13 +67,13 @@ count_exists ts i k l = let w = written_exists ts i k l in count_of ts i w.0 w.1
 -- a type has one number of written tags
 pub count_unique : (ts : List Type') (i m n : ℕ) → TagCount ts i m → TagCount ts i n → m ≡ n
 count_unique ts i m n (none_written h e) (none_written g f) = refl
-count_unique ts i m n (none_written h e) (as_behind g w) = let s = same_kind h g in let t = ap own s in absurd cc
+count_unique ts i m n (none_written h e) (as_target g w) = let s = same_kind h g in let t = ap own s in absurd cc
 count_unique ts i m n (none_written h e) (one_more g w) = let s = same_kind h g in let t = ap own s in absurd cc
-count_unique ts i m n (as_behind h v) (none_written g f) = let s = same_kind h g in let t = ap own s in absurd cc
-count_unique ts i m n (as_behind {j = j} h v) (as_behind {j = q} g w) = let s = same_kind h g in let t : j ≡ q = cc in count_unique ts q m n (subst (λ z. TagCount ts z m) t v) w
-count_unique ts i m n (as_behind h v) (one_more g w) = let s = same_kind h g in absurd cc
+count_unique ts i m n (as_target h v) (none_written g f) = let s = same_kind h g in let t = ap own s in absurd cc
+count_unique ts i m n (as_target {j = j} h v) (as_target {j = q} g w) = let s = same_kind h g in let t : j ≡ q = cc in count_unique ts q m n (subst (λ z. TagCount ts z m) t v) w
+count_unique ts i m n (as_target h v) (one_more g w) = let s = same_kind h g in absurd cc
 count_unique ts i m n (one_more h v) (none_written g f) = let s = same_kind h g in let t = ap own s in absurd cc
-count_unique ts i m n (one_more h v) (as_behind g w) = let s = same_kind h g in absurd cc
+count_unique ts i m n (one_more h v) (as_target g w) = let s = same_kind h g in absurd cc
 count_unique ts i m n (one_more {j = j} {n = m'} h v) (one_more {j = q} {n = n'} g w) =
     let s = same_kind h g in
     let t : j ≡ q = cc in

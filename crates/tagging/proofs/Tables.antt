@@ -4,7 +4,7 @@ use Rattle.std.specs.Prelude.{slice_get, Contains}
 use Rattle.std.proofs.lemmas.Option.{slice_get_read, slice_get_within, get_or_from_slice_get}
 use Rattle.std.proofs.lemmas.List.{length-map, take_more}
 use Rattle.std.specs.List.{list_any}
-use Rattle.type_table.specs.declared.table.Written.{Written}
+use Rattle.type_table.specs.declared.table.TypeNode.{TypeNode}
 use Rattle.names.specs.Sources.{place_of}
 use Rattle.names.specs.proving.Distinct.{item_at}
 use Rattle.type_table.specs.proving.Tables.{type_at}
@@ -19,12 +19,12 @@ use Rattle.resolve.specs.Program.{Program, IsAssignment}
 use Rattle.tagging.specs.Faults.{IsWrittenIn}
 use Rattle.tagging.specs.Tags.{is_tagged}
 
-pub is_here : (ws : List Written) (i : ℕ) (w : Written) → i < length ws → w ≡ get_or ws i w →
+pub is_here : (ws : List TypeNode) (i : ℕ) (w : TypeNode) → i < length ws → w ≡ get_or ws i w →
     Is (types_of ws) i (kind_of w.shape) w.default (place_of w.place)
 is_here ws i w l e = record { constraints = _; assignment = _; found = type_at ws i w l e }
 
 -- a type that is written as one of this kind
-pub is_kind : (ts : List Type') (i : ℕ) (w : Written) (k : Kind) → slice_get ts i ≡ Some (type_of w) →
+pub is_kind : (ts : List Type') (i : ℕ) (w : TypeNode) (k : Kind) → slice_get ts i ≡ Some (type_of w) →
     kind_of w.shape ≡ k → Is ts i k w.default (place_of w.place)
 is_kind ts i w k e f = subst (λ m. Is ts i m w.default (place_of w.place)) f (record { constraints = _; assignment = _; found = e })
 

@@ -11,19 +11,19 @@ use Rattle.trees.specs.declared.module.TagDefault.TheVariants.{Automatic}
 use Rattle.resolve.specs.Program.{Program}
 use Rattle.trees.specs.declared.types.ListKind.{ListKind}
 use Rattle.trees.specs.declared.types.ListKind.TheVariants.{Sequence, Set, Choice}
-use Rattle.type_table.specs.Table.{Part, Type', tagged, members, behind_of, Is, IsLinked}
+use Rattle.type_table.specs.Table.{Part, Type', tagged, members, target_of, Is, IsLinked}
 use Rattle.tagging.specs.declared.check.Rule.{Rule}
 use Rattle.tagging.specs.declared.check.Rule.TheVariants.{Tags as TagsRule, TagNumber, TagClash, ImplicitChoice, UntaggedChoice, MixedAutomatic}
-use Rattle.tagging.specs.Tags.{Label, Path, outermost, Tags, as_written, numbered, Written, TagCount, none_written, as_behind, one_more, automatic, automatic_of}
+use Rattle.tagging.specs.Tags.{Label, Path, outermost, Tags, as_written, numbered, WrittenTags, TagCount, none_written, as_target, one_more, automatic, automatic_of}
 use Rattle.tagging.specs.proving.Heads.{Head, Fronts, none, front, AreFirst}
 use Rattle.tagging.specs.proving.Lists.{Collected, none as nothing, one}
 use Rattle.tagging.specs.Tagged.{Bears, OneFirst, HaveOneFirst, BearTags, IsTagged, IsImplicit, Breaks}
-use Rattle.tagging.specs.Faults.{Stands}
+use Rattle.tagging.specs.Faults.{IsRightFault}
 use Rattle.tagging.specs.declared.fault.TagFault.{TagFault}
 use Rattle.tagging.specs.declared.fault.TagFault.TheVariants as faults
 use Rattle.tagging.specs.declared.fault.Limit.TheVariants as limits
 use Rattle.tagging.specs.proving.Checks.{SuitsTag, IsGood, BearsHere, BearsAt, NoneBears}
-use Rattle.tagging.specs.proving.Step.{Outermost}
+use Rattle.tagging.specs.proving.TagStep.{Outermost}
 use Rattle.tagging.proofs.Paths.{written_exists, written_unique}
 use Rattle.tagging.proofs.Fronts.{within_all, head_first, first_head, head_unique}
 
@@ -48,11 +48,11 @@ bear ts Sequence cs us f = tt
 bear ts Set cs us f = λ n c e t. front_none ts cs us n c f e t
 bear ts Choice cs us f = λ n c e t. front_none ts cs us n c f e t
 
-written_none : (ts : List Type') (i : ℕ) (p : Path) → Written ts i p → None ≡ outermost p → Written ts i []
+written_none : (ts : List Type') (i : ℕ) (p : Path) → WrittenTags ts i p → None ≡ outermost p → WrittenTags ts i []
 written_none ts i [] w e = w
 written_none ts i (x ∷ p) w e = absurd cc
 
-pub untagged : (ts : List Type') (i : ℕ) → Outermost ts i None → Written ts i []
+pub untagged : (ts : List Type') (i : ℕ) → Outermost ts i None → WrittenTags ts i []
 untagged ts i o = written_none ts i o.path o.written o.is
 
 pub not_sequence : (k : ListKind) → (k ≡ Sequence → ⊥) → (k ≡ Choice) ⊎ (k ≡ Set)
@@ -60,12 +60,12 @@ not_sequence Sequence f = absurd (f refl)
 not_sequence Set f = inr refl
 not_sequence Choice f = inl refl
 
-pub has_tag : (ts : List Type') (i : ℕ) (t : Label) → Outermost ts i (Some t) → Written ts i [] → ⊥
+pub has_tag : (ts : List Type') (i : ℕ) (t : Label) → Outermost ts i (Some t) → WrittenTags ts i [] → ⊥
 has_tag ts i t o w = let e = written_unique ts i o.path [] o.written w in let f = o.is ∙ ap outermost e in absurd cc
 
 pub inside_table : (ts : List Type') (i j : ℕ) (t : Tag) (w : Keyword) (d : TagDefault) (p : Option (ℕ × ℕ)) →
     IsLinked ts → Is ts i (tagged t w j) d p → j < length ts
-inside_table ts i j t w d p k h = k.closed i j (ap behind_of h.found)
+inside_table ts i j t w d p k h = k.closed i j (ap target_of h.found)
 
 -- if each type breaks no rule, the table is tagged
 below : {X : Type 0} (xs : List X) (i : ℕ) (x : X) → slice_get xs i ≡ Some x → i < length xs
@@ -75,7 +75,7 @@ below (y ∷ ys) (suc i) x e = let h = below ys i x e in omega arith
 
 count_there : (ts : List Type') (i n : ℕ) → TagCount ts i n → i < length ts
 count_there ts i n (none_written h e) = below ts i _ h.found
-count_there ts i n (as_behind h c) = below ts i _ h.found
+count_there ts i n (as_target h c) = below ts i _ h.found
 count_there ts i n (one_more h c) = below ts i _ h.found
 
 numbered_at : (ts : List Type') (i n : ℕ) (o : Option Type') → slice_get ts i ≡ o → automatic_of ts o ≡ Some n →
@@ -116,10 +116,10 @@ none_breaks ts TagClash i s t =
     t.distinct i s.kind s.marker s.cs s.default s.place s.is s.one s.other c.first c.second c.before c.at_first c.at_second c.together c.tag c.in_first c.in_second
 
 pub implicit_at : (ts : List Type') (i j : ℕ) (k : Keyword) (t : Tag) (d : TagDefault) (p : Option (ℕ × ℕ)) →
-    k ≡ Implicit → Is ts i (tagged t k j) d p → Written ts j [] → IsImplicit ts i
+    k ≡ Implicit → Is ts i (tagged t k j) d p → WrittenTags ts j [] → IsImplicit ts i
 implicit_at ts i j k t d p e h w = record { tag = t; inner = j; default = d; place = p; is = subst (λ q. Is ts i (tagged t q j) d p) e h; untagged = w }
 
-pub suits_tag : (ts : List Type') (k : Keyword) (j : ℕ) → (Written ts j [] → ⊥) → SuitsTag ts k j
+pub suits_tag : (ts : List Type') (k : Keyword) (j : ℕ) → (WrittenTags ts j [] → ⊥) → SuitsTag ts k j
 suits_tag ts Absent j f = tt
 suits_tag ts Implicit j f = f
 suits_tag ts Explicit j f = tt
@@ -128,7 +128,7 @@ suits_tag ts Explicit j f = tt
 pub tags_exist : (ts : List Type') (i : ℕ) → IsLinked ts → i < length ts → (p : Path) × Tags ts i p
 tags_exist ts i k l = tags_by ts i (automatic ts i) (written_exists ts i k l) refl
   where
-    tags_by : (ts : List Type') (i : ℕ) (o : Option ℕ) → (p : Path) × Written ts i p → automatic ts i ≡ o →
+    tags_by : (ts : List Type') (i : ℕ) (o : Option ℕ) → (p : Path) × WrittenTags ts i p → automatic ts i ≡ o →
         (p : Path) × Tags ts i p
     tags_by ts i None w e = (w.0, as_written e w.1)
     tags_by ts i (Some n) w e = (_, numbered e w.1 refl)
@@ -144,7 +144,7 @@ one_each ts l t i k m cs d p n c h w e =
     first_of ts c.ty u.0 u.1 (bears ts k cs n c w (t.bear i k m cs d p h) e)
 
 -- tagged modules have no fault
-pub no_other_fault : (p : Program) (e : TagFault) → (e ≡ faults.Memory → ⊥) → Stands p e → IsTagged p.types → ⊥
+pub no_other_fault : (p : Program) (e : TagFault) → (e ≡ faults.Memory → ⊥) → IsRightFault p e → IsTagged p.types → ⊥
 no_other_fault p faults.Memory n s t = n refl
 no_other_fault p (faults.Limit limits.Tags x) n s t = none_breaks p.types TagsRule s.ty s.has t
 no_other_fault p (faults.Limit limits.TagNumber x) n s t = none_breaks p.types TagNumber s.ty s.has t

@@ -1,9 +1,9 @@
 -- What faults of tags say of linked modules (X.680, clauses 25, 27, 29 and 31): program p has the written types
 -- p.types. Names are lists of octets.
 use Rattle.std.specs.Prelude.{◌≡◌, ℕ, List, Some, slice_get}
-use Rattle.trees.specs.declared.place.Spot.{Spot}
+use Rattle.trees.specs.declared.location.SourceLocation.{SourceLocation}
 use Rattle.type_table.specs.Table.{Type'}
-use Rattle.names.specs.Faults.{module_told, name_told}
+use Rattle.names.specs.Faults.{fault_module, fault_name}
 use Rattle.resolve.specs.Program.{Program, IsAssignment}
 use Rattle.tagging.specs.declared.fault.TagFault.{TagFault}
 use Rattle.tagging.specs.declared.fault.TagFault.TheVariants.{Memory, Limit, TagClash, ImplicitChoice, UntaggedChoice, MixedAutomatic}
@@ -17,18 +17,18 @@ pub record IsWrittenIn (p : Program) (i : ℕ) (M x : List ℕ) : Type 0 where
   pub assigned : IsAssignment p type.assignment M x
 
 -- a type with property P is written in the module and the assignment that the spot names
-pub record Somewhere (p : Program) (P : ℕ → Type 0) (s : Spot) : Type 0 where
+pub record Somewhere (p : Program) (P : ℕ → Type 0) (s : SourceLocation) : Type 0 where
   pub ty : ℕ
   pub has : P ty
-  pub stands : IsWrittenIn p ty (module_told s) (name_told s)
+  pub stands : IsWrittenIn p ty (fault_module s) (fault_name s)
 
 -- the fault is one of this program: a type in the module and the assignment that it names has that fault. `Memory` says
 -- nothing
-abbrev pub Stands : Program → TagFault → Type 0
-Stands p Memory = Unit {0}
-Stands p (Limit Tags s) = Somewhere p (IsOverfull p.types) s
-Stands p (Limit TagNumber s) = Somewhere p (IsTooGreat p.types) s
-Stands p (TagClash s) = Somewhere p (HasClash p.types) s
-Stands p (ImplicitChoice s) = Somewhere p (IsImplicit p.types) s
-Stands p (UntaggedChoice s) = Somewhere p (IsUntagged p.types) s
-Stands p (MixedAutomatic s) = Somewhere p (IsMixed p.types) s
+abbrev pub IsRightFault : Program → TagFault → Type 0
+IsRightFault p Memory = Unit {0}
+IsRightFault p (Limit Tags s) = Somewhere p (IsOverfull p.types) s
+IsRightFault p (Limit TagNumber s) = Somewhere p (IsTooGreat p.types) s
+IsRightFault p (TagClash s) = Somewhere p (HasClash p.types) s
+IsRightFault p (ImplicitChoice s) = Somewhere p (IsImplicit p.types) s
+IsRightFault p (UntaggedChoice s) = Somewhere p (IsUntagged p.types) s
+IsRightFault p (MixedAutomatic s) = Somewhere p (IsMixed p.types) s

@@ -3,16 +3,16 @@
 -- written on it, the number of its automatic tag, and the word IMPLICIT. For a list: its automatic tags, its members
 -- that need a tag, and whether first tags differ.
 use Rattle.std.specs.Prelude.{◌≡◌, ◌<◌, ℕ, true, List, [], Some, map, slice_get}
-use Rattle.trees.specs.declared.place.Spot.{Spot}
+use Rattle.trees.specs.declared.location.SourceLocation.{SourceLocation}
 use Rattle.trees.specs.declared.module.TagDefault.{TagDefault}
 use Rattle.trees.specs.declared.types.ListKind.{ListKind}
 use Rattle.type_table.specs.declared.table.ListMember.{ListMember}
 use Rattle.type_table.specs.declared.table.Shape.{Shape}
 use Rattle.type_table.specs.declared.table.Shape.TheVariants as shapes
-use Rattle.type_table.specs.declared.table.Written.{Written}
+use Rattle.type_table.specs.declared.table.TypeNode.{TypeNode}
 use Rattle.type_table.specs.Seen.{part_of, types_of}
 use Rattle.type_table.specs.Table.{Part, Type'}
-use Rattle.names.specs.Faults.{module_told, name_told}
+use Rattle.names.specs.Faults.{fault_module, fault_name}
 use Rattle.resolve.specs.Program.{Program}
 use Rattle.tagging.specs.declared.check.Fault.{Fault}
 use Rattle.tagging.specs.declared.check.Fault.TheVariants.{Memory, At}
@@ -33,7 +33,7 @@ pub record IsBearingAt (ts : List Type') (ms : List ListMember) (at : ℕ) : Typ
   pub number : ℕ
   pub member : ListMember
   pub there : slice_get ms number ≡ Some member
-  pub told : at ≡ member.name.at
+  pub reported : at ≡ member.name.at
   pub bears : BearsHere ts (part_of member) true
   pub before : (n : ℕ) (c : Part) → n < number → slice_get (map part_of ms) n ≡ Some c → BearsHere ts c true → ⊥
 
@@ -42,7 +42,7 @@ pub record IsBareAt (ts : List Type') (ms : List ListMember) (ty at : ℕ) : Typ
   pub number : ℕ
   pub member : ListMember
   pub there : slice_get ms number ≡ Some member
-  pub told : at ≡ member.name.at
+  pub reported : at ≡ member.name.at
   pub is : member.ty ≡ ty
   pub untagged : Tags ts ty []
   pub before : (n : ℕ) (c : Part) → n < number → slice_get (map part_of ms) n ≡ Some c → Tags ts c.ty [] → ⊥
@@ -52,7 +52,7 @@ pub record IsClashingAt (ts : List Type') (k : ListKind) (ms : List ListMember) 
   pub number : ℕ
   pub member : ListMember
   pub there : slice_get ms number ≡ Some member
-  pub told : at ≡ member.name.at
+  pub reported : at ≡ member.name.at
   pub earlier : ℕ
   pub clash : Clash ts k (map part_of ms) earlier number
   pub before : (m n : ℕ) → n < number → Clash ts k (map part_of ms) m n → ⊥
@@ -88,7 +88,7 @@ IsShapeFault ts i place d s e = ⊥
 
 -- the first fault of type i, which is written so: a rule broken by the type as a whole is reported where the type
 -- begins
-abbrev pub IsTypeFault : List Type' → ℕ → Written → Fault → Type 0
+abbrev pub IsTypeFault : List Type' → ℕ → TypeNode → Fault → Type 0
 IsTypeFault ts i w Memory = Unit {0}
 IsTypeFault ts i w (At rules.Tags ty at) = (ty ≡ i) × (at ≡ w.at) × IsOverfull ts i
 IsTypeFault ts i w (At rules.TagNumber ty at) = (ty ≡ i) × (at ≡ w.at) × HasFew ts i × IsTooGreat ts i
@@ -96,27 +96,27 @@ IsTypeFault ts i w (At r ty at) =
     HasFew ts i × IsNumbered ts i × IsShapeFault ts i w.at w.default w.shape (At r ty at)
 
 -- the first fault of these written types: no type before that one breaks a rule
-pub record IsFirstFault (ts : List Type') (ws : List Written) (r : Rule) (ty at : ℕ) : Type 0 where
+pub record IsFirstFault (ts : List Type') (ws : List TypeNode) (r : Rule) (ty at : ℕ) : Type 0 where
   pub number : ℕ
-  pub written : Written
+  pub written : TypeNode
   pub there : slice_get ws number ≡ Some written
   pub fault : IsTypeFault ts number written (At r ty at)
   pub before : (i : ℕ) → i < number → IsGood ts i
 
-abbrev pub IsFirstOf : List Type' → List Written → Fault → Type 0
+abbrev pub IsFirstOf : List Type' → List TypeNode → Fault → Type 0
 IsFirstOf ts ws Memory = Unit {0}
 IsFirstOf ts ws (At r ty at) = IsFirstFault ts ws r ty at
 
 -- ---- faults by name
 
 -- the first fault is at this spot, reported with the module and the assignment in which its type is written
-pub record IsFirstAt (p : Program) (ws : List Written) (r : Rule) (s : Spot) : Type 0 where
+pub record IsFirstAt (p : Program) (ws : List TypeNode) (r : Rule) (s : SourceLocation) : Type 0 where
   pub ty : ℕ
   pub first : IsFirstFault p.types ws r ty s.at
-  pub stands : IsWrittenIn p ty (module_told s) (name_told s)
+  pub stands : IsWrittenIn p ty (fault_module s) (fault_name s)
 
 -- this fault of program p, whose types are written so, is the first one; `Memory` says nothing
-abbrev pub IsFirst : Program → List Written → TagFault → Type 0
+abbrev pub IsFirst : Program → List TypeNode → TagFault → Type 0
 IsFirst p ws faults.Memory = Unit {0}
 IsFirst p ws (faults.Limit limits.Tags s) = IsFirstAt p ws rules.Tags s
 IsFirst p ws (faults.Limit limits.TagNumber s) = IsFirstAt p ws rules.TagNumber s
@@ -126,5 +126,5 @@ IsFirst p ws (faults.UntaggedChoice s) = IsFirstAt p ws rules.UntaggedChoice s
 IsFirst p ws (faults.MixedAutomatic s) = IsFirstAt p ws rules.MixedAutomatic s
 
 -- this fault is the first one for the program's types as they are written
-abbrev pub TellsFirst : Program → TagFault → Type 0
-TellsFirst p e = (ws : List Written) × (types_of ws ≡ p.types) × IsFirst p ws e
+abbrev pub ReportsFirst : Program → TagFault → Type 0
+ReportsFirst p e = (ws : List TypeNode) × (types_of ws ≡ p.types) × IsFirst p ws e

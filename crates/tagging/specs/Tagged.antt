@@ -10,7 +10,7 @@ use Rattle.trees.specs.declared.types.ListKind.TheVariants.{Sequence, Set, Choic
 use Rattle.type_table.specs.Table.{Part, Type', tagged, members, Is}
 use Rattle.tagging.specs.declared.check.Rule.{Rule}
 use Rattle.tagging.specs.declared.check.Rule.TheVariants.{Tags as TagsRule, TagNumber, TagClash, ImplicitChoice, UntaggedChoice, MixedAutomatic}
-use Rattle.tagging.specs.Tags.{Label, Tags, Written, TagCount, bears_tag, automatic, AreNumbered}
+use Rattle.tagging.specs.Tags.{Label, Tags, WrittenTags, TagCount, bears_tag, automatic, AreNumbered}
 use Rattle.tagging.specs.First.{First, is_addition, Together, Distinct}
 
 -- no SET component and no CHOICE alternative, of the root or an addition, is an untagged CHOICE (own rule); a SEQUENCE
@@ -37,7 +37,7 @@ pub record IsTagged (ts : List Type') : Type 0 where
   -- the word IMPLICIT comes before no untagged CHOICE (X.680, clause 31.2)
   pub forms : (i j : ℕ) (t : Tag) (d : TagDefault) (p : Option (ℕ × ℕ)) →
       Is ts i (tagged t Implicit j) d p →
-      Written ts j [] → ⊥
+      WrittenTags ts j [] → ⊥
   -- a list in an AUTOMATIC module whose additions bear written tags has written tags in its root too (X.680, clauses
   -- 25, 27 and 29)
   pub unmixed : (i : ℕ) (k : ListKind) (m : Bool) (cs : List Part) (p : Option (ℕ × ℕ)) →
@@ -87,7 +87,7 @@ pub record IsImplicit (ts : List Type') (i : ℕ) : Type 0 where
   pub default : TagDefault
   pub place : Option (ℕ × ℕ)
   pub is : Is ts i (tagged tag Implicit inner) default place
-  pub untagged : Written ts inner []
+  pub untagged : WrittenTags ts inner []
 
 -- type i is an untagged CHOICE, and directly an alternative of a CHOICE or a component of a SET
 pub record IsUntagged (ts : List Type') (i : ℕ) : Type 0 where

@@ -66,23 +66,23 @@ outermost [] = None
 outermost (x ∷ p) = Some x.0
 
 -- the tags of type i as its notation gives them, through references
-pub data Written (ts : List Type') : ℕ → Path → Type 0 where
+pub data WrittenTags (ts : List Type') : ℕ → Path → Type 0 where
   -- a type that is neither a reference nor tagged has the tags of its kind
   core : {i : ℕ} {k : Kind} {d : TagDefault} {l : Option (ℕ × ℕ)} {p : Path} →
       Is ts i k d l →
       own k ≡ Some p →
-      Written ts i p
+      WrittenTags ts i p
   -- a reference has the tags of the type that it refers to
-  behind : {i j : ℕ} {d : TagDefault} {l : Option (ℕ × ℕ)} {p : Path} →
+  target : {i j : ℕ} {d : TagDefault} {l : Option (ℕ × ℕ)} {p : Path} →
       Is ts i (reference j) d l →
-      Written ts j p →
-      Written ts i p
+      WrittenTags ts j p →
+      WrittenTags ts i p
   -- a tagged type has its written tag, and then the tags of the type after that tag
   inside : {i j : ℕ} {t : Tag} {k : Keyword} {d : TagDefault} {l : Option (ℕ × ℕ)} {f : TagForm} {p : Path} →
       Is ts i (tagged t k j) d l →
-      Written ts j p →
+      WrittenTags ts j p →
       f ≡ form_of k d p →
-      Written ts i ((label t, f) ∷ p)
+      WrittenTags ts i ((label t, f) ∷ p)
 
 -- n tags are written on type i, through references
 pub data TagCount (ts : List Type') : ℕ → ℕ → Type 0 where
@@ -90,7 +90,7 @@ pub data TagCount (ts : List Type') : ℕ → ℕ → Type 0 where
       Is ts i k d l →
       own k ≡ Some p →
       TagCount ts i zero
-  as_behind : {i j n : ℕ} {d : TagDefault} {l : Option (ℕ × ℕ)} →
+  as_target : {i j n : ℕ} {d : TagDefault} {l : Option (ℕ × ℕ)} →
       Is ts i (reference j) d l →
       TagCount ts j n →
       TagCount ts i n
@@ -150,11 +150,11 @@ pub data Tags (ts : List Type') (i : ℕ) : Path → Type 0 where
   -- a type without an automatic tag has the tags of its notation
   as_written : {p : Path} →
       automatic ts i ≡ None →
-      Written ts i p →
+      WrittenTags ts i p →
       Tags ts i p
   -- an automatic tag is implicit, and explicit before an untagged CHOICE
   numbered : {n : ℕ} {f : TagForm} {p : Path} →
       automatic ts i ≡ Some n →
-      Written ts i p →
+      WrittenTags ts i p →
       f ≡ form_of Absent Automatic p →
       Tags ts i ((context_tag n, f) ∷ p)

@@ -2,8 +2,8 @@
 -- through references and tags. Outermost tags, the first tags of a list during its check, and what the check of one
 -- type returns.
 pub mod Columns
-pub mod Step
+pub mod TagStep
 pub mod Heads
 pub mod Lists
 pub mod Checks
-pub mod Told
+pub mod Reported

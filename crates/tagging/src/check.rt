@@ -12,18 +12,18 @@ ghost use Rattle.tagging.specs.proving.Heads.{IsFirstFault};
 ghost use Rattle.tagging.specs.proving.Lists.{Collected, tag_lists};
 ghost use Rattle.tagging.specs.Tagged.{Bears, BearTags, Breaks, IsTagged};
 ghost use Rattle.tagging.specs.proving.Checks.{IsList, AreThere, HasFew, IsNumbered, Suits, SuitsAutomatic, SuitsList, SuitsTag};
-ghost use Rattle.tagging.specs.proving.Checks.{IsGood, Checked, StandsAt, BearsHere, BearsAt, NoneBears};
-ghost use Rattle.tagging.specs.proving.Told.{IsImplicitFault, IsMixedFault, IsBareFault, IsClashFault, IsBroken, as_fault};
+ghost use Rattle.tagging.specs.proving.Checks.{IsGood, Checked, OccursAt, BearsHere, BearsAt, NoneBears};
+ghost use Rattle.tagging.specs.proving.Reported.{IsImplicitFault, IsMixedFault, IsBareFault, IsClashFault, IsBroken, as_fault};
 
 use crate::automatic::automatic_number;
 use crate::columns::Columns;
-use crate::first::{FrontFault, first_tags, fronts};
+use crate::first::{FirstTagFault, first_tags, fronts};
 use crate::lists::clash;
 use crate::path::{Label, has_few, written_outermost};
 use limits::AUTOMATIC_NUMBERS;
 use std::alloc::Global;
 use trees::{Keyword, ListKind, Standing, TagDefault};
-use type_table::{ListMember, Shape, Written};
+use type_table::{ListMember, Shape, TypeNode};
 
 /// A rule that a type can break.
 #[derive(Clone, Copy, Debug, PartialEq)]
@@ -53,7 +53,7 @@ fn collect(
     alloc: Global,
     columns: &Columns<'_>,
     components: &[ListMember],
-) -> Result<Vec<Vec<Label>>, FrontFault>
+) -> Result<Vec<Vec<Label>>, FirstTagFault>
     requires parts { AreThere columns.now.types (map part_of components.now) }
     ensures { MatchResult result
         (λ v. Collected columns.now.types (map part_of components.now) (tag_lists v.items))
@@ -66,7 +66,7 @@ fn collect(
             Err(fault) => return Err(fault),
             Ok(tags) => match lists.push(tags) {
                 Ok(()) => {}
-                Err(_) => return Err(FrontFault::Memory),
+                Err(_) => return Err(FirstTagFault::Memory),
             },
         }
     }
@@ -138,7 +138,7 @@ fn bear_tags(
     list: usize,
     kind: ListKind,
     components: &[ListMember],
-) -> Result<(), FrontFault>
+) -> Result<(), FirstTagFault>
     requires parts { AreThere columns.now.types (map part_of components.now) }
     requires there { (d : TagDefault) × IsList columns.now.types list kind d (map part_of components.now) }
     ensures found { MatchResult result
@@ -155,13 +155,13 @@ fn bear_tags(
     }
 }
 
-fn fault_of(fault: FrontFault) -> Fault
+fn fault_of(fault: FirstTagFault) -> Fault
     ensures same { result ≡ as_fault fault }
-    ensures found { (ts : List Type') → IsFirstFault ts fault → StandsAt ts result }
+    ensures found { (ts : List Type') → IsFirstFault ts fault → OccursAt ts result }
 {
     match fault {
-        FrontFault::Memory => Fault::Memory,
-        FrontFault::Untagged(ty, at) => Fault::At(Rule::UntaggedChoice, ty, at),
+        FirstTagFault::Memory => Fault::Memory,
+        FirstTagFault::Untagged(ty, at) => Fault::At(Rule::UntaggedChoice, ty, at),
     }
 }
 
@@ -244,7 +244,7 @@ fn check_written(
     alloc: Global,
     columns: &Columns<'_>,
     ty: usize,
-    written: &Written,
+    written: &TypeNode,
 ) -> Result<(), Fault>
     requires linked { IsLinked columns.now.types }
     requires is { slice_get columns.now.types ty ≡ Some (type_of written.now) }
@@ -285,7 +285,7 @@ fn check_type(
     alloc: Global,
     columns: &Columns<'_>,
     ty: usize,
-    written: &Written,
+    written: &TypeNode,
 ) -> Result<(), Fault>
     requires there { ty < length columns.now.types }
     requires linked { IsLinked columns.now.types }
@@ -304,7 +304,7 @@ fn check_type(
 
 /// Checks whether all types of a table, which are written so, can be tagged; the fault is that of the first type that
 /// breaks a rule.
-pub(crate) fn check(alloc: Global, columns: &Columns<'_>, types: &[Written]) -> Result<(), Fault>
+pub(crate) fn check(alloc: Global, columns: &Columns<'_>, types: &[TypeNode]) -> Result<(), Fault>
     requires linked { IsLinked columns.now.types }
     requires types { types_of types.now ≡ columns.now.types }
     ensures found { Checked columns.now.types result (IsTagged columns.now.types) }

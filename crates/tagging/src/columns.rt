@@ -4,22 +4,22 @@ ghost use Rattle.std.specs.Prelude.{ℕ, ◌≡◌, ◌<◌, false, not, length,
 ghost use Rattle.std.specs.List.{list_any};
 ghost use Rattle.type_table.specs.proving.Notes.{IsKnown, AreUnknown};
 ghost use Rattle.type_table.specs.Seen.{kind_of, type_of, types_of};
-ghost use Rattle.type_table.specs.Table.{IsCore, IsLinked, reference};
+ghost use Rattle.type_table.specs.Table.{IsUnderlying, IsLinked, reference};
 ghost use Rattle.resolve.specs.Program.{IsWhole};
 ghost use Rattle.tagging.specs.Tags.{bears_tag, automatic_kind, is_automatic};
 ghost use Rattle.tagging.specs.Faults.{IsWrittenIn};
 ghost use Rattle.tagging.specs.proving.Columns.{is_reference, Front, AreKnown, AreFronts, all_automatic, HoldsOf};
 
-use crate::table::{Held, TagTable};
+use crate::table::{TableRef, TagTable};
 use asn_base::schema::TypeId;
-use resolve::{Home, Linked};
+use resolve::{Linked, QualifiedName};
 use std::alloc::{AllocError, Global};
 use std::marker::Model;
 use trees::TagDefault;
-use type_table::{ListMember, Shape, Written};
+use type_table::{ListMember, Shape, TypeNode};
 
 /// The type that a type refers to, if it is a reference.
-fn referred(written: &Written) -> Option<usize>
+fn referred(written: &TypeNode) -> Option<usize>
     ensures { MatchOption result
         (is_reference (kind_of written.now.shape) ≡ false)
         (λ j. kind_of written.now.shape ≡ reference j) }
@@ -32,7 +32,7 @@ fn referred(written: &Written) -> Option<usize>
 
 /// The first type, from `start` on through references, that is no reference. The search stops early at a type whose
 /// front is noted already.
-fn front_by(types: &[Written], fronts: &[usize], start: usize) -> usize
+fn front_by(types: &[TypeNode], fronts: &[usize], start: usize) -> usize
     requires linked { IsLinked (types_of types.now) }
     requires long { length fronts.now ≡ length types.now }
     requires known { AreKnown (types_of types.now) fronts.now }
@@ -56,7 +56,7 @@ fn front_by(types: &[Written], fronts: &[usize], start: usize) -> usize
 
 /// Notes the front of a type for it and for all types that it leads to through references, up to one whose front is
 /// noted already.
-fn note(types: &[Written], fronts: &mut [usize], start: usize, front: usize)
+fn note(types: &[TypeNode], fronts: &mut [usize], start: usize, front: usize)
     requires linked { IsLinked (types_of types.now) }
     requires long { length fronts.old ≡ length types.now }
     requires known { AreKnown (types_of types.now) fronts.old }
@@ -83,7 +83,7 @@ fn note(types: &[Written], fronts: &mut [usize], start: usize, front: usize)
 
 /// Notes the fronts of all types. No type is passed more than three times, so the time grows with the table's length
 /// alone, however its references are chained.
-fn note_all(types: &[Written], fronts: &mut [usize])
+fn note_all(types: &[TypeNode], fronts: &mut [usize])
     requires linked { IsLinked (types_of types.now) }
     requires long { length fronts.old ≡ length types.now }
     requires unknown { AreUnknown (length types.now) fronts.old }
@@ -95,7 +95,7 @@ fn note_all(types: &[Written], fronts: &mut [usize])
     }
 }
 
-fn fronts_of(alloc: Global, types: &[Written]) -> Result<Vec<usize>, AllocError>
+fn fronts_of(alloc: Global, types: &[TypeNode]) -> Result<Vec<usize>, AllocError>
     requires { IsLinked (types_of types.now) }
     ensures { IfOk result (λ v. AreFronts (types_of types.now) v.items) }
 {
@@ -105,7 +105,7 @@ fn fronts_of(alloc: Global, types: &[Written]) -> Result<Vec<usize>, AllocError>
     Ok(fronts)
 }
 
-fn bears_tag_at(types: &[Written], ty: usize) -> bool
+fn bears_tag_at(types: &[TypeNode], ty: usize) -> bool
     ensures { result ≡ bears_tag (slice_get (types_of types.now) ty) }
 {
     match types.get(ty) {
@@ -114,14 +114,14 @@ fn bears_tag_at(types: &[Written], ty: usize) -> bool
     }
 }
 
-fn any_tagged(types: &[Written], members: &[ListMember]) -> bool
+fn any_tagged(types: &[TypeNode], members: &[ListMember]) -> bool
     ensures { result ≡ list_any (λ c. bears_tag (slice_get (types_of types.now) c.ty)) members.now }
 {
     members.iter().any(|c| bears_tag_at(types, c.ty))
 }
 
 /// Whether the members of a type are tagged automatically; false for a type that is no list.
-fn numbers(types: &[Written], written: &Written) -> bool
+fn numbers(types: &[TypeNode], written: &TypeNode) -> bool
     ensures { result ≡ automatic_kind (types_of types.now) (kind_of written.now.shape) written.now.default }
 {
     match (&written.shape, written.default) {
@@ -130,7 +130,7 @@ fn numbers(types: &[Written], written: &Written) -> bool
     }
 }
 
-fn automatic_of(alloc: Global, types: &[Written]) -> Result<Vec<bool>, AllocError>
+fn automatic_of(alloc: Global, types: &[TypeNode]) -> Result<Vec<bool>, AllocError>
     ensures { IfOk result (λ v. v.items ≡ all_automatic (types_of types.now)) }
 {
     let mut automatic = Vec::new(alloc);
@@ -156,7 +156,7 @@ pub(crate) fn table_of(alloc: Global, linked: &Linked) -> Result<TagTable, Alloc
 /// Linked modules, with what is found once for all their types.
 pub(crate) struct Columns<'a> {
     linked: &'a Linked,
-    table: Held<'a>,
+    table: TableRef<'a>,
 }
 
 impl<'a> Model for Columns<'a> {
@@ -183,7 +183,7 @@ impl<'a> Columns<'a> {
     {
         Columns {
             linked,
-            table: Held::Owned(table),
+            table: TableRef::Owned(table),
         }
     }
 
@@ -194,7 +194,7 @@ impl<'a> Columns<'a> {
     {
         Columns {
             linked,
-            table: Held::Lent(table),
+            table: TableRef::Lent(table),
         }
     }
 
@@ -222,7 +222,7 @@ impl<'a> Columns<'a> {
     }
 
     /// A type as it is written.
-    pub(crate) fn written(&self, ty: usize) -> &Written
+    pub(crate) fn written(&self, ty: usize) -> &TypeNode
         requires { ty < length self.now.types }
         ensures written { slice_get self.now.types ty ≡ Some (type_of result.now) }
         ensures linked { IsLinked self.now.types }
@@ -242,7 +242,7 @@ impl<'a> Columns<'a> {
     /// The type after all references and tags of a type.
     pub(crate) fn core(&self, ty: usize) -> usize
         requires { ty < length self.now.types }
-        ensures core { IsCore self.now.types ty result }
+        ensures core { IsUnderlying self.now.types ty result }
         ensures there { result < length self.now.types }
     {
         self.linked.core(TypeId { index: ty }).index
@@ -266,7 +266,7 @@ impl<'a> Columns<'a> {
     }
 
     /// The module and the assignment in which a type is written.
-    pub(crate) fn home(&self, ty: usize) -> Home<'_>
+    pub(crate) fn home(&self, ty: usize) -> QualifiedName<'_>
         requires { ty < length self.now.types }
         ensures { IsWrittenIn self.now ty result.module.now result.name.now }
     {

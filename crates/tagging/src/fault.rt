@@ -1,18 +1,18 @@
 //! Why modules could not be tagged.
 
 ghost use Rattle.std.specs.Prelude.{ℕ, List};
-ghost use Rattle.names.specs.Faults.{module_told, name_told};
+ghost use Rattle.names.specs.Faults.{fault_module, fault_name};
 ghost use Rattle.resolve.specs.Program.{Program};
 ghost use Rattle.tagging.specs.Tagged.{Breaks};
-ghost use Rattle.tagging.specs.Faults.{Stands, IsWrittenIn};
+ghost use Rattle.tagging.specs.Faults.{IsRightFault, IsWrittenIn};
 ghost use Rattle.tagging.specs.FirstFault.{IsFirstFault, IsFirst};
-ghost use Rattle.type_table.specs.declared.table.Written.{Written as Written'};
+ghost use Rattle.type_table.specs.declared.table.TypeNode.{TypeNode as TypeNode'};
 
 use crate::check::Rule;
-use names::fault::spot;
+use names::fault::source_location;
 use std::alloc::Global;
 use thiserror::Error;
-use trees::Spot;
+use trees::SourceLocation;
 
 /// A limit that is passed.
 #[derive(Clone, Copy, Debug, PartialEq, Eq)]
@@ -32,22 +32,22 @@ pub enum TagFault {
     Memory,
     /// A limit is passed by the type that begins at this offset.
     #[error("2 Limit({0:?}): {1}")]
-    Limit(Limit, Spot),
+    Limit(Limit, SourceLocation),
     /// Two members of a list can't be distinguished. One tag can be first in both, and either can come next at the same
     /// point of an encoding (X.680, clauses 25, 27 and 29). The offset is that of the later member.
     #[error("40 TagClash: {0}")]
-    TagClash(Spot),
+    TagClash(SourceLocation),
     /// The word IMPLICIT comes before an untagged CHOICE (X.680, clause 31.2), after the tag at this offset.
     #[error("41 ImplicitChoice: {0}")]
-    ImplicitChoice(Spot),
+    ImplicitChoice(SourceLocation),
     /// An untagged CHOICE is directly a component of a SET or an alternative of a CHOICE: the member at this offset.
     /// X.680 allows it; this compiler leaves it out.
     #[error("42 UntaggedChoice: {0}")]
-    UntaggedChoice(Spot),
+    UntaggedChoice(SourceLocation),
     /// Additions of a list in an AUTOMATIC module bear written tags, and its root bears none. The offset is that of the
     /// first such addition.
     #[error("43 MixedAutomatic: {0}")]
-    MixedAutomatic(Spot),
+    MixedAutomatic(SourceLocation),
 }
 
 /// The fault of a type in this module, in the assignment of this name, that breaks the rule.
@@ -55,34 +55,34 @@ pub(crate) fn fault_at(alloc: Global, rule: Rule, owner: &str, name: &str, at: u
     ensures stands { (p : Program) (i : ℕ) →
         Breaks p.types rule i →
         IsWrittenIn p i owner.now name.now →
-        Stands p result }
-    ensures first { (p : Program) (ws : List Written') (i : ℕ) →
+        IsRightFault p result }
+    ensures first { (p : Program) (ws : List TypeNode') (i : ℕ) →
         IsFirstFault p.types ws rule i at →
         IsWrittenIn p i owner.now name.now →
         IsFirst p ws result }
 {
-    match spot(alloc, owner, name, at) {
-        Ok(spot) => fault_of(rule, spot),
+    match source_location(alloc, owner, name, at) {
+        Ok(source_location) => fault_of(rule, source_location),
         Err(_) => TagFault::Memory,
     }
 }
 
-fn fault_of(rule: Rule, spot: Spot) -> TagFault
+fn fault_of(rule: Rule, source_location: SourceLocation) -> TagFault
     ensures stands { (p : Program) (i : ℕ) →
         Breaks p.types rule i →
-        IsWrittenIn p i (module_told spot) (name_told spot) →
-        Stands p result }
-    ensures first { (p : Program) (ws : List Written') (i : ℕ) →
-        IsFirstFault p.types ws rule i spot.at →
-        IsWrittenIn p i (module_told spot) (name_told spot) →
+        IsWrittenIn p i (fault_module source_location) (fault_name source_location) →
+        IsRightFault p result }
+    ensures first { (p : Program) (ws : List TypeNode') (i : ℕ) →
+        IsFirstFault p.types ws rule i source_location.at →
+        IsWrittenIn p i (fault_module source_location) (fault_name source_location) →
         IsFirst p ws result }
 {
     match rule {
-        Rule::Tags => TagFault::Limit(Limit::Tags, spot),
-        Rule::TagNumber => TagFault::Limit(Limit::TagNumber, spot),
-        Rule::TagClash => TagFault::TagClash(spot),
-        Rule::ImplicitChoice => TagFault::ImplicitChoice(spot),
-        Rule::UntaggedChoice => TagFault::UntaggedChoice(spot),
-        Rule::MixedAutomatic => TagFault::MixedAutomatic(spot),
+        Rule::Tags => TagFault::Limit(Limit::Tags, source_location),
+        Rule::TagNumber => TagFault::Limit(Limit::TagNumber, source_location),
+        Rule::TagClash => TagFault::TagClash(source_location),
+        Rule::ImplicitChoice => TagFault::ImplicitChoice(source_location),
+        Rule::UntaggedChoice => TagFault::UntaggedChoice(source_location),
+        Rule::MixedAutomatic => TagFault::MixedAutomatic(source_location),
     }
 }

@@ -2,25 +2,25 @@
 
 ghost use Rattle.std.specs.Prelude.{ℕ, ◌≡◌, ◌<◌, length, map, IfErr, MatchResult, [], ◌∷◌};
 ghost use Rattle.type_table.specs.Seen.{kind_of, part_of};
-ghost use Rattle.tagging.specs.declared.first.FrontFault.TheVariants.{Memory};
+ghost use Rattle.tagging.specs.declared.first.FirstTagFault.TheVariants.{Memory};
 ghost use Rattle.tagging.specs.proving.Checks.{AreThere};
-ghost use Rattle.tagging.specs.proving.Told.{IsBareFault};
+ghost use Rattle.tagging.specs.proving.Reported.{IsBareFault};
 ghost use Rattle.tagging.specs.proving.Heads.{Fronts, AreFirst, IsFrontFault, IsFirstFault, members_of};
 
 use crate::automatic::head;
 use crate::columns::Columns;
 use crate::path::Label;
 use std::alloc::Global;
-use type_table::{ListMember, Shape, Written};
+use type_table::{ListMember, Shape, TypeNode};
 
 /// Why members have no outermost tags: memory ran out, or this member, at this offset, is an untagged CHOICE.
 #[derive(Clone, Copy, Debug, PartialEq)]
-pub(crate) enum FrontFault {
+pub(crate) enum FirstTagFault {
     Memory,
     Untagged(usize, usize),
 }
 
-fn members(written: &Written) -> &[ListMember]
+fn members(written: &TypeNode) -> &[ListMember]
     ensures { map part_of result.now ≡ members_of (kind_of written.now.shape) }
 {
     match &written.shape {
@@ -29,13 +29,13 @@ fn members(written: &Written) -> &[ListMember]
     }
 }
 
-fn single(alloc: Global, tag: Label) -> Result<Vec<Label>, FrontFault>
+fn single(alloc: Global, tag: Label) -> Result<Vec<Label>, FirstTagFault>
     ensures { MatchResult result (λ v. v.items ≡ tag ∷ []) (λ e. e ≡ Memory) }
 {
     let mut tags = Vec::new(alloc);
     match tags.push(tag) {
         Ok(()) => Ok(tags),
-        Err(_) => Err(FrontFault::Memory),
+        Err(_) => Err(FirstTagFault::Memory),
     }
 }
 
@@ -44,7 +44,7 @@ pub(crate) fn fronts(
     alloc: Global,
     columns: &Columns<'_>,
     members: &[ListMember],
-) -> Result<Vec<Label>, FrontFault>
+) -> Result<Vec<Label>, FirstTagFault>
     requires parts { AreThere columns.now.types (map part_of members.now) }
     ensures found { MatchResult result
         (λ v. Fronts columns.now.types (map part_of members.now) v.items)
@@ -55,10 +55,10 @@ pub(crate) fn fronts(
     for place in 0..members.len() {
         let member = &members[place];
         match head(columns, member.ty) {
-            None => return Err(FrontFault::Untagged(member.ty, member.name.at)),
+            None => return Err(FirstTagFault::Untagged(member.ty, member.name.at)),
             Some(tag) => match tags.push(tag) {
                 Ok(()) => {}
-                Err(_) => return Err(FrontFault::Memory),
+                Err(_) => return Err(FirstTagFault::Memory),
             },
         }
     }
@@ -70,7 +70,7 @@ pub(crate) fn first_tags(
     alloc: Global,
     columns: &Columns<'_>,
     ty: usize,
-) -> Result<Vec<Label>, FrontFault>
+) -> Result<Vec<Label>, FirstTagFault>
     requires there { ty < length columns.now.types }
     ensures { MatchResult result
         (λ v. AreFirst columns.now.types ty v.items)

@@ -6,14 +6,14 @@ ghost use Rattle.type_table.specs.Table.{Type', IsLinked};
 ghost use Rattle.resolve.specs.Program.{Program};
 ghost use Rattle.tagging.specs.Tags.{Path, Tags};
 ghost use Rattle.tagging.specs.Tagged.{IsTagged, HaveOneFirst};
-ghost use Rattle.tagging.specs.Faults.{Stands};
+ghost use Rattle.tagging.specs.Faults.{IsRightFault};
 ghost use Rattle.tagging.specs.declared.fault.TagFault.{TagFault};
 ghost use Rattle.tagging.specs.declared.fault.TagFault.TheVariants.{Memory};
 
 /// Modules that have a fault other than `Memory` do not have their tags. So `tag` succeeds exactly if the modules have
 /// them, unless memory runs out.
-pub fn no_other()
-    ensures { (p : Program) (e : TagFault) → (e ≡ Memory → ⊥) → Stands p e → IsTagged p.types → ⊥ }
+pub fn lemma_fault_excludes()
+    ensures { (p : Program) (e : TagFault) → (e ≡ Memory → ⊥) → IsRightFault p e → IsTagged p.types → ⊥ }
 {}
 
 /// Each type has one list of tags, and no other.

@@ -5,7 +5,7 @@ ghost use Rattle.type_table.specs.Seen.{part_of};
 ghost use Rattle.type_table.specs.Table.{Part, Type'};
 ghost use Rattle.asn_base.specs.Tags.{class_rank};
 ghost use Rattle.tagging.specs.First;
-ghost use Rattle.tagging.specs.proving.Lists.{Collected, tag_lists, Passes, key_of, IsIn, HasKey, Meets, TellsClash};
+ghost use Rattle.tagging.specs.proving.Lists.{Collected, tag_lists, Passes, key_of, IsIn, HasKey, Meets, ReportsClash};
 ghost use Rattle.tagging.specs.Tags.{Label as Tag};
 
 use crate::path::Label;
@@ -87,7 +87,7 @@ fn put_all(seen: &mut BTreeSet<(u8, usize)>, tags: &[Label]) -> Result<(), Alloc
 
 /// The tags that the member after `member` can meet: those that `member` could meet, and the tags of `member`; none if
 /// `member` must be present.
-fn behind(
+fn seen_after(
     alloc: Global,
     kind: ListKind,
     member: &ListMember,
@@ -120,14 +120,14 @@ pub(crate) fn clash(
     ensures within { IfOk result (λ o. IfSome o (λ q. q < length members.now)) }
     ensures clash { (ts : List Type') →
         Collected ts (map part_of members.now) (tag_lists firsts.now) →
-        IfOk result (TellsClash ts kind (map part_of members.now)) }
+        IfOk result (ReportsClash ts kind (map part_of members.now)) }
 {
     let mut seen = BTreeSet::new(alloc);
     for place in 0..members.len() {
         let tags = firsts[place].as_slice();
         match met(&seen, tags) {
             Some(_key) => return Ok(Some(place)),
-            None => seen = behind(alloc, kind, &members[place], tags, seen)?,
+            None => seen = seen_after(alloc, kind, &members[place], tags, seen)?,
         }
     }
     Ok(None)

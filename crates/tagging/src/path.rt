@@ -4,9 +4,9 @@ ghost use Rattle.std.specs.Prelude.{ℕ, ◌≡◌, ◌<◌, ◌≤◌, ◌+◌,
 ghost use Rattle.type_table.specs.Seen.{kind_of};
 ghost use Rattle.trees.specs.Types.{plain_of, universal};
 ghost use Rattle.tagging.specs.proving.Checks.{HasFew};
-ghost use Rattle.tagging.specs.proving.Step.{ending, form_before, Outermost, Adds, IsStep};
+ghost use Rattle.tagging.specs.proving.TagStep.{ending, form_before, Outermost, Adds, IsStep};
 ghost use Rattle.tagging.specs.Tagged.{IsOverfull};
-ghost use Rattle.tagging.specs.Tags.{Path, form_of, label, own, path_of, Written as HasWritten};
+ghost use Rattle.tagging.specs.Tags.{Path, form_of, label, own, path_of, WrittenTags as HasWritten};
 
 use crate::columns::Columns;
 use asn_base::strings::StringKind;
@@ -15,7 +15,7 @@ use limits::MAX_TAGS;
 use smallvec::SmallVec;
 use std::alloc::AllocError;
 use trees::{ElementsKind, Keyword, ListKind, Simple, TagDefault};
-use type_table::{Shape, Written};
+use type_table::{Shape, TypeNode};
 
 /// Whether a tag replaces the tag after it, or comes before it (X.680, clause 31.2).
 #[derive(Clone, Copy, Debug, PartialEq, Eq)]
@@ -54,7 +54,7 @@ pub(crate) type Label = (Class, usize);
 /// What follows a type's references: the end of its tags, with the universal tag if there is one, or one more tag. That
 /// tag has its keyword, its module's tag default and the type that it is written before.
 #[derive(Clone, Copy)]
-pub(crate) enum Step {
+pub(crate) enum TagStep {
     Ends(Option<Tag>),
     Inside(Tag, Keyword, TagDefault, usize),
 }
@@ -92,7 +92,7 @@ fn universal_number(simple: &Simple) -> u8
 }
 
 /// The universal tag of a type that is neither a reference nor a tag (X.680, clause 8, table 1); a CHOICE has none.
-fn own_tag(written: &Written) -> Option<Tag>
+fn own_tag(written: &TypeNode) -> Option<Tag>
     ensures { (p : Path) → own (kind_of written.now.shape) ≡ Some p → p ≡ ending result }
 {
     match &written.shape {
@@ -108,14 +108,14 @@ fn own_tag(written: &Written) -> Option<Tag>
 }
 
 /// What follows a type's references.
-fn step_at(columns: &Columns<'_>, ty: usize) -> Step
+fn step_at(columns: &Columns<'_>, ty: usize) -> TagStep
     requires { ty < length columns.now.types }
     ensures { IsStep columns.now.types ty result }
 {
     let written = columns.written(columns.front(ty));
     match &written.shape {
-        Shape::Tagged(tag, keyword, j) => Step::Inside(*tag, *keyword, written.default, *j),
-        _ => Step::Ends(own_tag(written)),
+        Shape::Tagged(tag, keyword, j) => TagStep::Inside(*tag, *keyword, written.default, *j),
+        _ => TagStep::Ends(own_tag(written)),
     }
 }
 
@@ -132,9 +132,9 @@ pub(crate) fn written_outermost(columns: &Columns<'_>, ty: usize) -> Option<Labe
 {
     columns.whole();
     match step_at(columns, ty) {
-        Step::Ends(None) => None,
-        Step::Ends(Some(tag)) => Some(label_of(tag)),
-        Step::Inside(tag, _, _, _) => Some(label_of(tag)),
+        TagStep::Ends(None) => None,
+        TagStep::Ends(Some(tag)) => Some(label_of(tag)),
+        TagStep::Inside(tag, _, _, _) => Some(label_of(tag)),
     }
 }
 
@@ -148,8 +148,8 @@ pub(crate) fn has_few(columns: &Columns<'_>, ty: usize) -> bool
     let mut at = ty;
     for passed in 0..MAX_TAGS + 1 {
         match step_at(columns, at) {
-            Step::Ends(_) => return true,
-            Step::Inside(_, _, _, j) => at = j,
+            TagStep::Ends(_) => return true,
+            TagStep::Inside(_, _, _, j) => at = j,
         }
     }
     false
@@ -207,13 +207,13 @@ pub(crate) fn with_written(
     let mut at = start;
     for passed in 0..MAX_TAGS + 1 {
         match step_at(columns, at) {
-            Step::Ends(None) => return Ok(path),
-            Step::Ends(Some(tag)) => {
+            TagStep::Ends(None) => return Ok(path),
+            TagStep::Ends(Some(tag)) => {
                 let form = TagForm::Explicit;
                 path.push(FormedTag { tag, form })?;
                 return Ok(path);
             }
-            Step::Inside(tag, keyword, default, j) => {
+            TagStep::Inside(tag, keyword, default, j) => {
                 let form = form_at(columns, keyword, default, j);
                 path.push(FormedTag { tag, form })?;
                 at = j;

@@ -14,19 +14,19 @@ pub struct TagTable {
 
 /// A table that is owned, or one that someone else owns.
 #[derive(Drop)]
-pub(crate) enum Held<'a> {
+pub(crate) enum TableRef<'a> {
     Owned(TagTable),
     Lent(&'a TagTable),
 }
 
-impl<'a> Held<'a> {
+impl<'a> TableRef<'a> {
     /// The table.
     pub(crate) fn get(&self) -> &TagTable
         ensures { result.now ≡ held self.now }
     {
         match self {
-            Held::Owned(table) => table,
-            Held::Lent(table) => table,
+            TableRef::Owned(table) => table,
+            TableRef::Lent(table) => table,
         }
     }
 }

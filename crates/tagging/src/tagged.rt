@@ -5,11 +5,11 @@ ghost use Rattle.tagging.specs.Tags.{Path, path_of, Tags};
 ghost use Rattle.tagging.specs.Tables.{AreTagsOf};
 ghost use Rattle.tagging.specs.proving.Columns.{HoldsOf};
 ghost use Rattle.tagging.specs.Tagged.{Breaks, IsTagged, HaveOneFirst};
-ghost use Rattle.tagging.specs.Faults.{Stands};
-ghost use Rattle.tagging.specs.FirstFault.{IsFirst, IsFirstFault, TellsFirst};
+ghost use Rattle.tagging.specs.Faults.{IsRightFault};
+ghost use Rattle.tagging.specs.FirstFault.{IsFirst, IsFirstFault, ReportsFirst};
 ghost use Rattle.type_table.specs.Seen.{types_of};
 ghost use Rattle.type_table.specs.Table.{IsLinked};
-ghost use Rattle.type_table.specs.declared.table.Written.{Written as Written'};
+ghost use Rattle.type_table.specs.declared.table.TypeNode.{TypeNode as TypeNode'};
 
 use crate::automatic::path_of;
 use crate::check::{Fault, Rule, check};
@@ -21,7 +21,7 @@ use asn_base::schema::TypeId;
 use resolve::Linked;
 use std::alloc::{AllocError, Global};
 use std::marker::Model;
-use type_table::Written;
+use type_table::TypeNode;
 
 /// Linked modules whose types have their tags as X.680 requires. First tags differ in every list where they must. Each
 /// SET component and each CHOICE alternative has exactly one tag that can be first. A `Tagged` borrows the modules, so
@@ -86,8 +86,8 @@ impl<'a> Tagged<'a> {
 /// written.
 fn named(alloc: Global, columns: &Columns<'_>, rule: Rule, ty: usize, at: usize) -> TagFault
     requires { Breaks columns.now.types rule ty }
-    ensures stands { Stands columns.now result }
-    ensures first { (ws : List Written') →
+    ensures stands { IsRightFault columns.now result }
+    ensures first { (ws : List TypeNode') →
         IsFirstFault columns.now.types ws rule ty at →
         IsFirst columns.now ws result }
 {
@@ -97,10 +97,10 @@ fn named(alloc: Global, columns: &Columns<'_>, rule: Rule, ty: usize, at: usize)
 
 /// Checks whether types, which are written so, can be tagged; the error is the first fault of them, with its names and
 /// its offset.
-fn checked(alloc: Global, columns: &Columns<'_>, types: &[Written]) -> Result<(), TagFault>
+fn checked(alloc: Global, columns: &Columns<'_>, types: &[TypeNode]) -> Result<(), TagFault>
     requires linked { IsLinked columns.now.types }
     requires types { types_of types.now ≡ columns.now.types }
-    ensures found { MatchResult result (λ _. IsTagged columns.now.types) (Stands columns.now) }
+    ensures found { MatchResult result (λ _. IsTagged columns.now.types) (IsRightFault columns.now) }
     ensures first { IfErr result (IsFirst columns.now types.now) }
 {
     match check(alloc, columns, types) {
@@ -116,11 +116,11 @@ fn checked_by(
     alloc: Global,
     linked: &Linked,
     table: &TagTable,
-    types: &[Written],
+    types: &[TypeNode],
 ) -> Result<(), TagFault>
     requires holds { HoldsOf linked.now.types table.now }
     requires types { types_of types.now ≡ linked.now.types }
-    ensures found { MatchResult result (λ _. IsTagged linked.now.types) (Stands linked.now) }
+    ensures found { MatchResult result (λ _. IsTagged linked.now.types) (IsRightFault linked.now) }
     ensures first { IfErr result (IsFirst linked.now types.now) }
 {
     let columns = Columns::lent(linked, table);
@@ -135,8 +135,8 @@ fn checked_by(
 ///
 /// # Errors The first fault, as [`tag`] returns it.
 pub fn tag_table(alloc: Global, linked: &Linked) -> Result<TagTable, TagFault>
-    ensures found { MatchResult result (AreTagsOf linked.now) (Stands linked.now) }
-    ensures first { IfErr result (TellsFirst linked.now) }
+    ensures found { MatchResult result (AreTagsOf linked.now) (IsRightFault linked.now) }
+    ensures first { IfErr result (ReportsFirst linked.now) }
 {
     let types = linked.types();
     let table = match table_of(alloc, linked) {
@@ -158,8 +158,8 @@ pub fn tag_table(alloc: Global, linked: &Linked) -> Result<TagTable, TagFault>
 pub fn tag(alloc: Global, linked: &Linked) -> Result<Tagged<'_>, TagFault>
     ensures found { MatchResult result
         (λ t. (t ≡ linked.now) × IsTagged linked.now.types)
-        (Stands linked.now) }
-    ensures first { IfErr result (TellsFirst linked.now) }
+        (IsRightFault linked.now) }
+    ensures first { IfErr result (ReportsFirst linked.now) }
 {
     match tag_table(alloc, linked) {
         Ok(table) => Ok(Tagged::of(Columns::owning(linked, table))),

@@ -5,13 +5,13 @@ use Rattle.std.specs.List.{AllByRecursion}
 use Rattle.std.specs.Str.{IsValidUpTo}
 use Rattle.std.proofs.lemmas.Str.{utf8_valid_len-IsValidUpTo}
 use Rattle.text.specs.declared.token.Token.{Token}
-use Rattle.text.specs.declared.fault.LexFault.{LexFault}
-use Rattle.text.specs.declared.fault.LexFault.TheVariants as faults
-use Rattle.text.specs.declared.fault.Limit.{Limit}
-use Rattle.text.specs.declared.fault.Limit.TheVariants as limits
+use Rattle.text.specs.declared.lex_fault.LexFault.{LexFault}
+use Rattle.text.specs.declared.lex_fault.LexFault.TheVariants as faults
+use Rattle.text.specs.declared.lex_fault.Limit.{Limit}
+use Rattle.text.specs.declared.lex_fault.Limit.TheVariants as limits
 use Rattle.text.specs.Octets.{dashes}
 use Rattle.text.specs.Items.{IsGap, IsToken, IsNumber, mark_at}
-use Rattle.text.specs.Text.{Holds, holds_none, holds_gap, holds_token, IsSmall, can_begin, IsFaultAt, IsReached, Stands, max_text}
+use Rattle.text.specs.Text.{HoldsTokens, holds_none, holds_gap, holds_token, IsSmall, can_begin, IsFaultAt, IsReached, IsRightFault, max_text}
 use Rattle.text.proofs.Unique.{Start, Space, Letter, Digit, Quote, Apostrophe, Line, Block, Sign, start_of, letter_starts, digit_starts, quote_starts, apostrophe_starts, block_starts, gap_unique, gap_no_token, pair_first}
 use Rattle.text.proofs.Complete.{fault_no_gap, fault_token, same_token, is_nothing, hyphen_mark, not_valid}
 
@@ -32,7 +32,7 @@ no_small_there x e t p f r a small =
     let gt = c.1 in omega arith
 
 same_place : (x : List ℕ) (e f : LexFault) {i p q : ℕ} {ts us : List Token} → IsFaultAt x p e → IsFaultAt x q f
-    → AllByRecursion (IsSmall x) ts → AllByRecursion (IsSmall x) us → Holds x i p ts → Holds x i q us → p ≡ q
+    → AllByRecursion (IsSmall x) ts → AllByRecursion (IsSmall x) us → HoldsTokens x i p ts → HoldsTokens x i q us → p ≡ q
 same_place x e f a b s t (holds_none r) (holds_none r') = sym r ∙ r'
 same_place x e f a b s t (holds_none r) (holds_gap k g h) = absurd (no_gap_there x e _ _ k a r g)
 same_place x e f a b s t (holds_none r) (holds_token u n v h) = absurd (no_small_there x e u _ a (n ∙ r) v t.0)
@@ -122,7 +122,7 @@ data Way (x : List ℕ) (e : LexFault) : Type 0 where
   way_long : (p : ℕ) → e ≡ faults.Limit limits.Text p → p ≡ max_text → max_text < length x → IsUtf8 x → Way x e
   way_reached : IsReached x e → Way x e
 
-way : (x : List ℕ) (e : LexFault) → (e ≡ faults.Memory → ⊥) → Stands x e → Way x e
+way : (x : List ℕ) (e : LexFault) → (e ≡ faults.Memory → ⊥) → IsRightFault x e → Way x e
 way x faults.Memory n s = absurd (n refl)
 way x (faults.NotUtf8 p) n s = way_octets p refl s
 way x (faults.Limit limits.Text p) n s = way_long p refl s.0 s.1 s.2
@@ -144,10 +144,10 @@ ways_meet x e f (way_reached c) (way_reached d) =
     let r : c.place ≡ d.place = same_place x e f c.shown d.shown c.limits.numbers d.limits.numbers c.up_to d.up_to in
     same_fault x d.place e f (rw r at c.shown) d.shown
 
-pub one_fault : (x : List ℕ) (e f : LexFault)
+pub lemma_one_fault : (x : List ℕ) (e f : LexFault)
     → (e ≡ faults.Memory → ⊥)
     → (f ≡ faults.Memory → ⊥)
-    → Stands x e
-    → Stands x f
+    → IsRightFault x e
+    → IsRightFault x f
     → e ≡ f
-one_fault x e f n m s t = ways_meet x e f (way x e n s) (way x f m t)
+lemma_one_fault x e f n m s t = ways_meet x e f (way x e n s) (way x f m t)

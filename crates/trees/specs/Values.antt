@@ -2,7 +2,7 @@
 -- (X.680, clause 17). A name is the list of its octets.
 use Rattle.std.specs.Prelude.{ℕ, ℤ, Option, List, [], ◌∷◌, map, option_map, string_bytes, String}
 use Rattle.std.specs.Global.{Global}
-use Rattle.trees.specs.declared.place.At.{At}
+use Rattle.trees.specs.declared.location.At.{At}
 use Rattle.trees.specs.declared.value.ValueSyntax.{ValueSyntax}
 use Rattle.trees.specs.declared.value.Named.{Named}
 use Rattle.trees.specs.declared.value.ValueSyntax.TheOpen.{ValueSyntax-F}

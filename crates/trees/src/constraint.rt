@@ -1,6 +1,6 @@
 //! Trees of constraints as they are written.
 
-use crate::place::{At, Reference};
+use crate::location::{At, Reference};
 
 /// A constraint after a type, or the size before the OF of a list type (X.680, clauses 49.6, 26.1 and 28.1).
 #[derive(Drop)]

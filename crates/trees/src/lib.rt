@@ -2,16 +2,16 @@
 #![tactic(auto)]
 
 pub mod constraint;
+pub mod location;
 pub mod module;
-pub mod place;
 pub mod types;
 pub mod value;
 
 pub use constraint::{
     CharsSyntax, ConstraintForm, ConstraintSyntax, EndSyntax, RangeSyntax, RangesSyntax,
 };
+pub use location::{At, Reference, SourceLocation};
 pub use module::{Assignment, Import, Module, TagDefault, TypeAssignment, ValueAssignment};
-pub use place::{At, Reference, Spot};
 pub use types::{
     ElementsKind, EnumeratedItem, EnumeratedSyntax, Keyword, ListKind, Member, NamedBit,
     NamedNumber, PresenceSyntax, Simple, Standing, TypeForm, TypeSyntax,

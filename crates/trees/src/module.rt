@@ -1,6 +1,6 @@
 //! Trees of modules as they are written.
 
-use crate::place::At;
+use crate::location::At;
 use crate::types::TypeSyntax;
 use crate::value::ValueSyntax;
 

@@ -1,7 +1,7 @@
 //! Trees of types as they are written.
 
 use crate::constraint::ConstraintSyntax;
-use crate::place::{At, Reference};
+use crate::location::{At, Reference};
 use crate::value::ValueSyntax;
 use asn_base::strings::StringKind;
 use asn_base::tag::Tag;

@@ -1,6 +1,6 @@
 //! Trees of values as they are written.
 
-use crate::place::{At, Reference};
+use crate::location::{At, Reference};
 
 /// A value as it is written (X.680, clause 17.1). Its meaning depends on its type.
 pub struct ValueSyntax {

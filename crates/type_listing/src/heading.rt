@@ -1,13 +1,13 @@
 //! The place where a type is written.
 
 use asn_base::schema::TypeId;
-use names::Place;
-use resolve::{Home, Linked};
+use names::MemberIndex;
+use resolve::{Linked, QualifiedName};
 use std::alloc::AllocError;
 use type_table::Shape;
 
 /// The identifier of a list's member.
-fn member_name(linked: &Linked, place: Place) -> Option<&str> {
+fn member_name(linked: &Linked, place: MemberIndex) -> Option<&str> {
     let list = linked.types().get(place.list)?;
     match &list.shape {
         Shape::Members(_, _, members) => members.get(place.number).map(|it| it.name.it.as_str()),
@@ -24,7 +24,11 @@ fn is_of_value(name: &str) -> bool {
 }
 
 /// Writes the line of a type that an assignment names, or of the type of a value that an assignment names.
-fn push_assigned(out: &mut String, index: usize, home: Home<'_>) -> Result<(), AllocError> {
+fn push_assigned(
+    out: &mut String,
+    index: usize,
+    home: QualifiedName<'_>,
+) -> Result<(), AllocError> {
     let (module, name) = (home.module, home.name);
     if is_of_value(name) {
         write!(out, "type {index}: the type of {module}.{name}\n")
@@ -38,7 +42,7 @@ fn push_assigned(out: &mut String, index: usize, home: Home<'_>) -> Result<(), A
 fn push_part(
     out: &mut String,
     index: usize,
-    home: Home<'_>,
+    home: QualifiedName<'_>,
     member: Option<&str>,
     list: usize,
 ) -> Result<(), AllocError> {

@@ -9,9 +9,9 @@ use Rattle.asn_base.specs.declared.tag.Tag.{Tag}
 use Rattle.grammar.specs.Lexeme.{Lexeme, Number}
 use Rattle.grammar.specs.Places.{small}
 use Rattle.grammar.specs.Reading.{Fault, Read, ◌>>=◌}
-use Rattle.kernel.specs.declared.fault.ReadError.{ReadError}
-use Rattle.kernel.specs.declared.fault.ReadError.TheVariants as errors
-use Rattle.kernel.specs.Given.{Fails}
+use Rattle.parser_combinators.specs.declared.read_error.ReadError.{ReadError}
+use Rattle.parser_combinators.specs.declared.read_error.ReadError.TheVariants as errors
+use Rattle.parser_combinators.specs.Given.{Fails}
 use Rattle.grammar.specs.Rules.{made}
 use Rattle.type_parts.specs.PlainGrammar.{TagNumber, tag_of}
 use Rattle.type_parts.specs.PlainReading.{by_limit, bracket_at, low, low_number_at, low_end_at, tag_number_at, tag_end_at, class_at, tag_at}

@@ -8,7 +8,7 @@ use Rattle.asn_base.specs.declared.tag.Class.{Class}
 use Rattle.asn_base.specs.declared.tag.Class.TheVariants as classes
 use Rattle.asn_base.specs.declared.tag.Tag.{Tag}
 use Rattle.grammar.specs.Lexeme.{TypeRef, Ident, Number, Word, Mark}
-use Rattle.grammar.specs.Grammar.{Grammar, token, mark, word, number_of, ◌∙◌, ◌∣◌, ◌⇒◌, optional, behind, listed, braces, parens, opens, extensible}
+use Rattle.grammar.specs.Grammar.{Grammar, token, mark, word, number_of, ◌∙◌, ◌∣◌, ◌⇒◌, optional, preceded, listed, braces, parens, opens, extensible}
 use Rattle.trees.specs.Values.{Name, Tree}
 use Rattle.trees.specs.Constraints.{ConstraintTree}
 use Rattle.notation.specs.ConstraintGrammar.{size}
@@ -85,23 +85,23 @@ pub not_context : classes.Context ≡ classes.Universal → ⊥
 not_context e = absurd cc
 
 -- a class that a written tag may have: one that is not UNIVERSAL (own rule; X.680, clause 31)
-abbrev pub Free : Type 0
-Free = (c : Class) × (c ≡ classes.Universal → ⊥)
+abbrev pub TagClass : Type 0
+TagClass = (c : Class) × (c ≡ classes.Universal → ⊥)
 
 -- APPLICATION, as the class of a written tag
-abbrev pub application : Free
+abbrev pub application : TagClass
 application = (classes.Application, not_application)
 
 -- PRIVATE, as the class of a written tag
-abbrev pub private : Free
+abbrev pub private : TagClass
 private = (classes.Private, not_private)
 
 -- the context-specific class, that of a written tag without a class
-abbrev pub context : Free
+abbrev pub context : TagClass
 context = (classes.Context, not_context)
 
 -- the tag of this class with this number
-abbrev pub tag_of : Free → TagNumber → Tag
+abbrev pub tag_of : TagClass → TagNumber → Tag
 tag_of c n = record { class = c.0; number = n.0; in_range = n.1; not_reserved = λ e. absurd (c.1 e) }
 
 -- ---- productions that hold no number
@@ -110,12 +110,12 @@ tag_of c n = record { class = c.0; number = n.0; in_range = n.1; not_reserved = 
 abbrev pub one_word : Grammar Plain
 one_word = record {
   Is = λ t ts. (w : Word') × (type_of_word w ≡ Some t) × (ts ≡ Word w ∷ []);
-  CanGoOn = λ ts. (ts ≡ []) ⊎ ((w : Word') × (t : Plain) × (type_of_word w ≡ Some t) × (ts ≡ Word w ∷ []));
+  IsPrefix = λ ts. (ts ≡ []) ⊎ ((w : Word') × (t : Plain) × (type_of_word w ≡ Some t) × (ts ≡ Word w ∷ []));
 }
 
 -- a reference to a type: its name, after a module's name and a dot, or alone (X.680, clause 14)
 abbrev pub ref : Grammar FormTree
-ref = (token TypeRef ∙ optional (behind (Mark Dot) (token TypeRef))) ⇒ referred
+ref = (token TypeRef ∙ optional (preceded (Mark Dot) (token TypeRef))) ⇒ referred
 
 -- IMPLICIT, EXPLICIT or nothing, after a tag (X.680, clause 31)
 abbrev pub keyword : Grammar Keyword
@@ -124,7 +124,7 @@ keyword =
 
 -- OPTIONAL, DEFAULT with a value, or nothing, after a component's type (X.680, clause 25)
 abbrev pub presence : Grammar Tree → Grammar PresenceTree
-presence v = optional (word words.Optional ⇒ (λ _. may_be_absent) ∣ behind (Word words.Default) v ⇒ default) ⇒ present
+presence v = optional (word words.Optional ⇒ (λ _. may_be_absent) ∣ preceded (Word words.Default) v ⇒ default) ⇒ present
 
 -- ---- productions that hold numbers
 
@@ -135,7 +135,7 @@ module _ (tags : ℕ → Bool) where
   abbrev pub tag_number : Grammar TagNumber
   tag_number = record {
     Is = λ x ts. IsTrue (tags x.0) × (ts ≡ Number x.0 ∷ []);
-    CanGoOn = λ ts. (ts ≡ []) ⊎ ((n : ℕ) × IsTrue (tags n) × (ts ≡ Number n ∷ []));
+    IsPrefix = λ ts. (ts ≡ []) ⊎ ((n : ℕ) × IsTrue (tags n) × (ts ≡ Number n ∷ []));
   }
 
   -- the number of a tag, and the bracket that closes it
@@ -146,15 +146,15 @@ module _ (tags : ℕ → Bool) where
   -- it (X.680, clause 31)
   abbrev pub tag : Grammar Tag
   tag =
-      behind (Word words.Application) tag_end ⇒ tag_of application
-      ∣ behind (Word words.Private) tag_end ⇒ tag_of private
+      preceded (Word words.Application) tag_end ⇒ tag_of application
+      ∣ preceded (Word words.Private) tag_end ⇒ tag_of private
       ∣ tag_end ⇒ tag_of context
 
 -- A limit on numbers is a test: numbers without a minus must pass it.
 module _ (fits : ℕ → Bool) where
   -- a number, with a minus before it or none
   abbrev pub signed : Grammar ℤ
-  signed = number_of fits ⇒ positive ∣ behind (Mark Minus) (token Number) ⇒ negative
+  signed = number_of fits ⇒ positive ∣ preceded (Mark Minus) (token Number) ⇒ negative
 
   -- a named number of an INTEGER, with its number in parentheses (X.680, clause 19)
   abbrev pub named_number : Grammar (Name × ℤ)

@@ -16,7 +16,7 @@ use Rattle.notation.specs.ConstraintReading.{size_at, constraint_at}
 use Rattle.trees.specs.declared.types.Keyword.{Keyword}
 use Rattle.trees.specs.declared.types.Keyword.TheVariants as keywords
 use Rattle.trees.specs.Types.{PresenceTree, mandatory, optional as may_be_absent, default, Plain, an_octet_string, an_object_identifier, FormTree, a_reference}
-use Rattle.type_parts.specs.PlainGrammar.{type_of_word, integer_with, bits_with, enumerated_of, positive, negative, TagNumber, Free, application, private, context, tag_of}
+use Rattle.type_parts.specs.PlainGrammar.{type_of_word, integer_with, bits_with, enumerated_of, positive, negative, TagNumber, TagClass, application, private, context, tag_of}
 
 -- ---- words and names
 
@@ -88,7 +88,7 @@ unfoldable pub low_end_at : Reader ℕ
 low_end_at ts = low_number_at ts >>= λ n. bracket_at n.1 >>= λ e. Ok (n.0, e.1)
 
 -- the class of a tag, and what comes after the word that names it
-unfoldable pub class_at : List Lexeme → Free × List Lexeme
+unfoldable pub class_at : List Lexeme → TagClass × List Lexeme
 class_at (Word words.Application ∷ rest) = (application, rest)
 class_at (Word words.Private ∷ rest) = (private, rest)
 class_at ts = (context, ts)

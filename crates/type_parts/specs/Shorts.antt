@@ -9,7 +9,7 @@ use Rattle.type_parts.specs.PlainGrammar.{positive}
 use Rattle.std.specs.Prelude.{option_map, string_bytes}
 use Rattle.grammar.specs.Reading.{is_open, parens_at}
 use Rattle.grammar.specs.Short.{named_short, optional_short, parens_short}
-use Rattle.trees.specs.declared.place.Reference.{Reference}
+use Rattle.trees.specs.declared.location.Reference.{Reference}
 use Rattle.trees.specs.Types.{FormTree, a_reference}
 use Rattle.type_parts.specs.PlainReading.{negative_at, signed_at, named_number_at, named_bit_at, item_at}
 

@@ -11,7 +11,7 @@ use Rattle.grammar.specs.Lists.{no_lexeme, is_ident}
 use Rattle.grammar.specs.Numbers.{Past}
 use Rattle.grammar.specs.Parts.{pick, perhaps}
 use Rattle.grammar.specs.Parens.{rule_parens}
-use Rattle.grammar.specs.Rules.{Owes, OwesLoosely, Rules, asked, either, rule_token, rule_made, rule_seq, rule_behind, rule_tail, rule_pick, rule_listed, loose_optional, loose_made, rule_read, rule_tests, is_number, number_at, rule_number, fitting_made, made, read_again, one_at}
+use Rattle.grammar.specs.Rules.{Owes, OwesLoosely, Rules, asked, either, rule_token, rule_made, rule_seq, rule_preceded, rule_tail, rule_pick, rule_listed, loose_optional, loose_made, rule_read, rule_tests, is_number, number_at, rule_number, fitting_made, made, read_again, one_at}
 use Rattle.grammar.specs.Openings.{loosely, loose_read, rule_named, rule_both, is_lbrace, inside, rule_inside, rule_in_braces}
 use Rattle.grammar.specs.Extensions.{rule_extensible}
 use Rattle.grammar.specs.Single.{module_name_at, is_typeref, typeref_is}
@@ -68,7 +68,7 @@ module _ {s f : Type 0} {over : Limit → ℕ} {within : Limit → Type 0} where
   loose_keyword = loose_read keyword_at keyword_same (loose_made keyword_of (loose_optional (rule_pick (rule_made (λ _. keywords.Implicit) rule_implicit_word) (rule_made (λ _. keywords.Explicit) rule_explicit_word) explicit_no_implicit)))
 
   pub rule_ref : Owes s f over within ref is_typeref (either no_lexeme (either is_dot no_lexeme)) ref_read
-  rule_ref = rule_tail referred (rule_token typeref_is) (loose_optional (rule_behind rule_dot (rule_token typeref_is))) (λ t e. refl)
+  rule_ref = rule_tail referred (rule_token typeref_is) (loose_optional (rule_preceded rule_dot (rule_token typeref_is))) (λ t e. refl)
 
 -- ---- parts that hold numbers
 
@@ -86,17 +86,17 @@ module _ (fits : ℕ → Bool) where
   abbrev bits_read : ℕ → Reader Plain
   bits_read n = then_read (λ (p : Unit {0} × (Unit {0} × Option (List (Name × ℕ)))). bits_with p.1.1) (one_at is_bit_word) (string_bits n)
 
-  behind_string : (r : Read (Option (List (Name × ℕ))))
+  after_string : (r : Read (Option (List (Name × ℕ))))
       →
       made (λ (p : Unit {0} × Option (List (Name × ℕ))). bits_with p.1) (made (λ (o : Option (List (Name × ℕ))). (tt, o)) r) ≡ made bits_with r
-  behind_string (Ok o) = refl
-  behind_string (Err e) = refl
+  after_string (Ok o) = refl
+  after_string (Err e) = refl
 
   string_then : (n : ℕ) (r : Read (Unit {0}))
       →
       made (λ (p : Unit {0} × Option (List (Name × ℕ))). bits_with p.1) (after_read (λ p. p) r (perhaps is_lbrace (braces_at n (listed_at (named_bit_at fits))))) ≡ (r >>= λ s. bits_at fits n s.1)
   unfolding bits_at
-  string_then n (Ok s) = behind_string (perhaps is_lbrace (braces_at n (listed_at (named_bit_at fits))) s.1)
+  string_then n (Ok s) = after_string (perhaps is_lbrace (braces_at n (listed_at (named_bit_at fits))) s.1)
   string_then n (Err e) = refl
 
   bits_same : (n : ℕ) (ts : List Lexeme) → bits_read n (Word words.Bit ∷ ts) ≡ bit_string_at fits n ts
@@ -201,7 +201,7 @@ module _ (over : Limit → ℕ) (within : Limit → Type 0) (fits fits' : ℕ �
 
   rule_signed :
       Rules over within (signed fits') (either is_number is_minus) (either no_lexeme no_lexeme) (signed_at fits)
-  rule_signed = rule_read (signed_at fits) signed_same (rule_pick (rule_made positive rule_num) (rule_made negative (rule_behind rule_minus rule_digits)) minus_no_number)
+  rule_signed = rule_read (signed_at fits) signed_same (rule_pick (rule_made positive rule_num) (rule_made negative (rule_preceded rule_minus rule_digits)) minus_no_number)
 
   rule_given : Rules over within (parens (signed fits')) is_open no_lexeme (parens_at (signed_at fits))
   rule_given = rule_parens rule_signed refl
@@ -286,4 +286,4 @@ module _ (over : Limit → ℕ) (within : Limit → Type 0) (fits fits' : ℕ �
       Rules over within (tag tags) (either is_application_word (either is_private_word is_number)) (either no_lexeme (either no_lexeme no_lexeme)) (tag_at fits)
   rule_tag =
       rule_read (tag_at fits) tag_same
-      (rule_pick (rule_made (tag_of application) (rule_behind rule_application_word rule_tag_end)) (rule_pick (rule_made (tag_of private) (rule_behind rule_private_word rule_tag_end)) (rule_made (tag_of context) rule_tag_end) number_no_private) rest_no_application)
+      (rule_pick (rule_made (tag_of application) (rule_preceded rule_application_word rule_tag_end)) (rule_pick (rule_made (tag_of private) (rule_preceded rule_private_word rule_tag_end)) (rule_made (tag_of context) rule_tag_end) number_no_private) rest_no_application)

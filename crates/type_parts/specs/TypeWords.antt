@@ -20,12 +20,12 @@ le_same us = omega arith
 
 -- ---- a word alone
 
-abbrev stands : Option Plain → Bool
-stands (Some t) = true
-stands None = false
+abbrev is_some_type : Option Plain → Bool
+is_some_type (Some t) = true
+is_some_type None = false
 
 abbrev pub is_type_word : Lexeme → Bool
-is_type_word (Word w) = stands (type_of_word w)
+is_type_word (Word w) = is_some_type (type_of_word w)
 is_type_word t = false
 
 module _ (over : Limit → ℕ) (within : Limit → Type 0) where
@@ -58,13 +58,13 @@ module _ (over : Limit → ℕ) (within : Limit → Type 0) where
   unfolding one_word_at
   word_is w x us e = ap (λ (o : Option Plain). known o (Word w ∷ us) us) e
 
-  word_front : (u us : List Lexeme) → one_word.CanGoOn u → Passes within us (one_word_at (u ++ us))
+  word_front : (u us : List Lexeme) → one_word.IsPrefix u → Passes within us (one_word_at (u ++ us))
   word_front u us (inl e) = subst (λ (l : List Lexeme). Passes within us (one_word_at (l ++ us))) (sym e) (word_passes us)
   word_front u us (inr (w, x, e, q)) = subst (Passes within us) (sym (ap (λ (l : List Lexeme). one_word_at (l ++ us)) q ⋆ word_is w x us e)) (le_same us)
 
-  word_first : (t : Lexeme) (u : List Lexeme) → one_word.CanGoOn (t ∷ u) → is_type_word t ≡ true
+  word_first : (t : Lexeme) (u : List Lexeme) → one_word.IsPrefix (t ∷ u) → is_type_word t ≡ true
   word_first t u (inl e) = absurd cc
-  word_first t u (inr (w, x, e, q)) = ap is_type_word (head_is t (Word w) u [] q) ⋆ ap stands e
+  word_first t u (inr (w, x, e, q)) = ap is_type_word (head_is t (Word w) u [] q) ⋆ ap is_some_type e
 
   pub rule_one_word : Rules over within one_word is_type_word no_lexeme one_word_at
   rule_one_word = record {
@@ -151,7 +151,7 @@ module _ (over : Limit → ℕ) (within : Limit → Type 0) (fits tags : ℕ →
         none true y p q = absurd cc
         none false y p q = q
 
-    tag_front : (u us : List Lexeme) → (tag_number tags).CanGoOn u → Passes within us (tag_number_at fits (u ++ us))
+    tag_front : (u us : List Lexeme) → (tag_number tags).IsPrefix u → Passes within us (tag_number_at fits (u ++ us))
     unfolding tag_number_at
     tag_front u us (inl e) = subst (λ (l : List Lexeme). Passes within us (tag_number_at fits (l ++ us))) (sym e) (tag_passes us)
     tag_front u us (inr (n, h, e)) = subst (λ (l : List Lexeme). Passes within us (tag_number_at fits (l ++ us))) (sym e) (limit_front (fits (2 ^ 127)) refl n (nat_lt n 2147483648) refl us h)
@@ -167,7 +167,7 @@ module _ (over : Limit → ℕ) (within : Limit → Type 0) (fits tags : ℕ →
     unfolding tag_number_at
     tag_whole x u us h = subst (λ (l : List Lexeme). ReadsAs within (tag_number_at fits (l ++ us)) x us) (sym h.1) (limit_whole (fits (2 ^ 127)) x (nat_lt x.0 2147483648) refl us)
 
-    tag_first : (t : Lexeme) (u : List Lexeme) → (tag_number tags).CanGoOn (t ∷ u) → is_number t ≡ true
+    tag_first : (t : Lexeme) (u : List Lexeme) → (tag_number tags).IsPrefix (t ∷ u) → is_number t ≡ true
     tag_first t u (inl e) = absurd cc
     tag_first t u (inr (n, h, e)) = ap is_number (head_is t (Number n) u [] e)
 

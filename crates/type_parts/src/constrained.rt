@@ -5,16 +5,16 @@ ghost use Rattle.grammar.specs.Lexeme.{lexemes};
 ghost use Rattle.grammar.specs.Manies.{is_begun_by};
 ghost use Rattle.grammar.specs.Places.{small};
 ghost use Rattle.grammar.specs.Reading.{many_at};
-ghost use Rattle.kernel.specs.Given.{Gives, AreTokens};
-ghost use Rattle.kernel.specs.Reads.{ReadsAs};
+ghost use Rattle.parser_combinators.specs.Given.{Gives, AreTokens};
+ghost use Rattle.parser_combinators.specs.Reads.{ReadsAs};
 ghost use Rattle.trees.specs.Constraints.{constraint_of};
 ghost use Rattle.notation.specs.ConstraintReading.{constraint_at};
 ghost use Rattle.grammar.specs.Reading.{is_open, parens_at};
 ghost use Rattle.type_parts.specs.PlainReading.{constraints_at, some_size_at, size_in_parens_at, list_size_at};
 
-use kernel::Read;
-use kernel::marks::{close, open};
 use notation::constraint_reading::{constraint, size};
+use parser_combinators::Read;
+use parser_combinators::punctuation::{close, open};
 use std::alloc::Global;
 use text::{Token, mark, word};
 use trees::ConstraintSyntax;
@@ -37,7 +37,7 @@ fn constraints<'a>(
         (many_at is_open (constraint_at small) (length (lexemes text.now tokens.now)) (lexemes text.now tokens.now)) }
     ensures rest { IfOk result (λ x. AreTokens text.now x.1.now) }
 {
-    crate::law::parts_are_read();
+    crate::law::lemma_parts_are_read();
     let mut constraints = Vec::new(alloc);
     let mut rest = tokens;
     while begins(text, rest) {
@@ -50,7 +50,7 @@ fn constraints<'a>(
 
 /// Reads the constraints after a type (X.680, clause 49.1).
 #[tactic(auto, unfolding(crate::specs::PlainReading::constraints_at))]
-pub fn behind_type<'a>(
+pub fn type_constraints<'a>(
     alloc: Global,
     text: &[u8],
     tokens: &'a [Token],

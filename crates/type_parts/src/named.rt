@@ -2,13 +2,15 @@
 
 ghost use Rattle.std.specs.Prelude.{IfOk};
 ghost use Rattle.grammar.specs.Places.{small};
-ghost use Rattle.kernel.specs.Given.{AreTokens};
-ghost use Rattle.kernel.specs.Reads.{ReadsAs};
+ghost use Rattle.parser_combinators.specs.Given.{AreTokens};
+ghost use Rattle.parser_combinators.specs.Reads.{ReadsAs};
 ghost use Rattle.trees.specs.Types.{plain_of};
 ghost use Rattle.type_parts.specs.PlainReading.{integer_at, bits_at, enumerated_at};
 
 use crate::numbers::{Number, Signed};
-use kernel::{ExtensibleList, InBraces, InParens, Listed, Optional, Part, Read, WithName};
+use parser_combinators::{
+    CommaList, ExtensibleList, InBraces, InParens, Optional, Parser, Read, WithName,
+};
 use std::alloc::Global;
 use text::Token;
 use trees::{EnumeratedItem, EnumeratedSyntax, NamedBit, NamedNumber, Simple};
@@ -17,7 +19,7 @@ use trees::{EnumeratedItem, EnumeratedSyntax, NamedBit, NamedNumber, Simple};
 #[derive(Drop)]
 pub struct NumberPart;
 
-impl<'t> Part<'t> for NumberPart {
+impl<'t> Parser<'t> for NumberPart {
     ghost use Rattle.std.specs.Prelude.{ℤ};
     ghost use Rattle.grammar.specs.Places.{small};
     ghost use Rattle.trees.specs.Values.{Name};
@@ -56,7 +58,7 @@ impl<'t> Part<'t> for NumberPart {
 #[derive(Drop)]
 pub struct BitPart;
 
-impl<'t> Part<'t> for BitPart {
+impl<'t> Parser<'t> for BitPart {
     ghost use Rattle.std.specs.Prelude.{ℕ};
     ghost use Rattle.grammar.specs.Places.{small};
     ghost use Rattle.trees.specs.Values.{Name};
@@ -95,7 +97,7 @@ impl<'t> Part<'t> for BitPart {
 #[derive(Drop)]
 pub struct ItemPart;
 
-impl<'t> Part<'t> for ItemPart {
+impl<'t> Parser<'t> for ItemPart {
     ghost use Rattle.std.specs.Prelude.{ℤ, Option};
     ghost use Rattle.grammar.specs.Places.{small};
     ghost use Rattle.trees.specs.Values.{Name};
@@ -144,7 +146,7 @@ pub fn integer<'t>(
     ensures read { ReadsAs plain_of (integer_at small depth) text.now tokens.now result }
     ensures rest { IfOk result (λ x. AreTokens text.now x.1.now) }
 {
-    let part = Listed { part: NumberPart };
+    let part = CommaList { part: NumberPart };
     let braces = Optional {
         part: InBraces { depth, part },
     };
@@ -162,7 +164,7 @@ pub fn bits<'t>(alloc: Global, text: &[u8], tokens: &'t [Token], depth: usize) -
     ensures read { ReadsAs plain_of (bits_at small depth) text.now tokens.now result }
     ensures rest { IfOk result (λ x. AreTokens text.now x.1.now) }
 {
-    let part = Listed { part: BitPart };
+    let part = CommaList { part: BitPart };
     let braces = Optional {
         part: InBraces { depth, part },
     };

@@ -1,8 +1,8 @@
 //! Reading numbers.
 
-use kernel::decode::small_number;
-use kernel::{Part, Read, ReadError};
 use notation::numbers::{negative, positive};
+use parser_combinators::decode::small_number;
+use parser_combinators::{Parser, Read, ReadError};
 use std::alloc::Global;
 use text::{Token, kind, mark};
 
@@ -10,7 +10,7 @@ use text::{Token, kind, mark};
 #[derive(Drop)]
 pub struct Number;
 
-impl<'t> Part<'t> for Number {
+impl<'t> Parser<'t> for Number {
     ghost use Rattle.std.specs.Prelude.{ℕ};
     ghost use Rattle.grammar.specs.Places.{small};
     ghost use Rattle.grammar.specs.Rules.{number_at};
@@ -44,7 +44,7 @@ impl<'t> Part<'t> for Number {
 #[derive(Drop)]
 pub struct Signed;
 
-impl<'t> Part<'t> for Signed {
+impl<'t> Parser<'t> for Signed {
     ghost use Rattle.std.specs.Prelude.{ℤ};
     ghost use Rattle.grammar.specs.Places.{small};
     ghost use Rattle.type_parts.specs.PlainReading.{signed_at};

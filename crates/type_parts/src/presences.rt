@@ -2,14 +2,14 @@
 
 ghost use Rattle.std.specs.Prelude.{IfOk};
 ghost use Rattle.grammar.specs.Places.{small};
-ghost use Rattle.kernel.specs.Given.{AreTokens};
-ghost use Rattle.kernel.specs.Reads.{ReadsAs};
+ghost use Rattle.parser_combinators.specs.Given.{AreTokens};
+ghost use Rattle.parser_combinators.specs.Reads.{ReadsAs};
 ghost use Rattle.notation.specs.Reading.{value_at};
 ghost use Rattle.trees.specs.Types.{presence_of};
 ghost use Rattle.type_parts.specs.PlainReading.{presence_at};
 
-use kernel::Read;
 use notation::reading::value;
+use parser_combinators::Read;
 use std::alloc::Global;
 use text::{Token, word};
 use trees::PresenceSyntax;

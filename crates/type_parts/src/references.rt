@@ -2,13 +2,13 @@
 
 ghost use Rattle.std.specs.Prelude.{◌≡◌, IfOk, slice_range};
 ghost use Rattle.text.specs.declared.token.TokenKind.TheVariants as kinds;
-ghost use Rattle.kernel.specs.Given.{IsTokenOf, AreTokens};
-ghost use Rattle.kernel.specs.Reads.{ReadsAs};
+ghost use Rattle.parser_combinators.specs.Given.{IsTokenIn, AreTokens};
+ghost use Rattle.parser_combinators.specs.Reads.{ReadsAs};
 ghost use Rattle.type_parts.specs.PlainReading.{ref_at};
 ghost use Rattle.type_parts.specs.Shorts.{reference_of};
 
-use kernel::decode::name_of;
-use kernel::{Read, ReadError};
+use parser_combinators::decode::name_of;
+use parser_combinators::{Read, ReadError};
 use std::alloc::Global;
 use text::{Token, kind, mark};
 use trees::Reference;
@@ -22,7 +22,7 @@ pub fn reference<'a>(
     tokens: &'a [Token],
 ) -> Read<'a, Reference>
     requires tokens { AreTokens text.now tokens.now }
-    requires before { IsTokenOf text.now first }
+    requires before { IsTokenIn text.now first }
     requires name { first.kind ≡ kinds.TypeReference }
     ensures read { ReadsAs reference_of (ref_at (slice_range text.now first.span.start first.span.end))
         text.now tokens.now result }

@@ -2,15 +2,15 @@
 
 ghost use Rattle.std.specs.Prelude.{◌≡◌, option_map, IfOk};
 ghost use Rattle.grammar.specs.Places.{small};
-ghost use Rattle.kernel.specs.Given.{AreTokens};
-ghost use Rattle.kernel.specs.Reads.{ReadsAs, SkipsAs};
+ghost use Rattle.parser_combinators.specs.Given.{AreTokens};
+ghost use Rattle.parser_combinators.specs.Reads.{ReadsAs, SkipsAs};
 ghost use Rattle.trees.specs.Types.{plain_of};
 ghost use Rattle.type_parts.specs.PlainGrammar.{type_of_word};
 ghost use Rattle.type_parts.specs.PlainReading.{string_at, one_word_at, bit_string_at, simple_at};
 
 use crate::named::{bits, enumerated, integer};
 use asn_base::strings::StringKind;
-use kernel::{Read, ReadError};
+use parser_combinators::{Read, ReadError};
 use std::alloc::Global;
 use text::reserved::Word;
 use text::{Token, TokenKind, word};

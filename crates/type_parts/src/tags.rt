@@ -4,14 +4,14 @@ ghost use Rattle.std.specs.Prelude.{◌≡◌, ◌<◌, IfOk};
 ghost use Rattle.asn_base.specs.declared.tag.Class.TheVariants as classes;
 ghost use Rattle.grammar.specs.Lexeme.{lexemes};
 ghost use Rattle.grammar.specs.Places.{small};
-ghost use Rattle.kernel.specs.Given.{AreTokens};
-ghost use Rattle.kernel.specs.Reads.{ReadsAs};
+ghost use Rattle.parser_combinators.specs.Given.{AreTokens};
+ghost use Rattle.parser_combinators.specs.Reads.{ReadsAs};
 ghost use Rattle.type_parts.specs.PlainReading.{keyword_at, low_number_at, low_end_at, class_at, tag_at};
 
 use asn_base::tag::{Class, Tag};
-use kernel::decode::number_of;
-use kernel::{Limit, Read, ReadError};
 use limits::TAG_NUMBERS;
+use parser_combinators::decode::number_of;
+use parser_combinators::{Limit, Read, ReadError};
 use text::{Token, kind, mark, word};
 use trees::Keyword;
 
@@ -56,7 +56,7 @@ fn end<'a>(text: &[u8], tokens: &'a [Token]) -> Read<'a, u32>
 fn class<'a>(text: &[u8], tokens: &'a [Token]) -> (Class, &'a [Token])
     requires tokens { AreTokens text.now tokens.now }
     ensures class { (class_at (lexemes text.now tokens.now)).0.0 ≡ result.0 }
-    ensures behind { (class_at (lexemes text.now tokens.now)).1 ≡ lexemes text.now result.1.now }
+    ensures remaining { (class_at (lexemes text.now tokens.now)).1 ≡ lexemes text.now result.1.now }
     ensures free { result.0 ≡ classes.Universal → ⊥ }
     ensures rest { AreTokens text.now result.1.now }
 {

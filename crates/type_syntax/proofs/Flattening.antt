@@ -10,10 +10,10 @@ pub same_items : {A : Type 0} (l : List A) → map (λ (x : A). x) l ≡ l
 same_items [] = refl
 same_items (x ∷ l) = ap (λ (l : List _). x ∷ l) (same_items l)
 
-pub map_behind : {A B : Type 0} (f : A → B) (l : List A) (x : A) (rest : List B)
+pub map_after : {A B : Type 0} (f : A → B) (l : List A) (x : A) (rest : List B)
     → map f (l ++ x ∷ []) ++ rest ≡ map f l ++ f x ∷ rest
-map_behind f [] x rest = refl
-map_behind f (y ∷ l) x rest = ap (λ (l : List _). f y ∷ l) (map_behind f l x rest)
+map_after f [] x rest = refl
+map_after f (y ∷ l) x rest = ap (λ (l : List _). f y ∷ l) (map_after f l x rest)
 
 abbrev pub Added : Type 0
 Added = (Name × ComponentTree) ⊎ List (Name × ComponentTree)
@@ -31,7 +31,7 @@ pub one_alone : {A : Type 0} (f : A → Added) (members members' root : List Mem
 one_alone f members members' root taken n x m e d h rest =
     ap (λ (l : List MemberTree). l ++ additions_from n rest) d ⋆ append_assoc members (a_member (standings.Addition None) m ∷ []) (additions_from n rest)
     ⋆ ap (λ (y : Added). members ++ additions_from n (y ∷ rest)) (sym e) ⋆ h (f x ∷ rest)
-    ⋆ ap (λ (l : List Added). root ++ additions_from 0 l) (sym (map_behind f taken x rest))
+    ⋆ ap (λ (l : List Added). root ++ additions_from 0 l) (sym (map_after f taken x rest))
 
 pub one_bracket : {A : Type 0} (f : A → Added) (members members' root : List MemberTree) (taken : List A) (n : ℕ)
     (x : A) (ms : List (Name × ComponentTree))
@@ -44,7 +44,7 @@ one_bracket f members members' root taken n x ms e d h =
     subst (Taken members' root (map f (taken ++ x ∷ []))) one_more (λ rest.
     ap (λ (l : List MemberTree). l ++ additions_from (suc n) rest) d ⋆ append_assoc members (map (a_member (standings.Addition (Some n))) ms) (additions_from (suc n) rest)
     ⋆ ap (λ (y : Added). members ++ additions_from n (y ∷ rest)) (sym e) ⋆ h (f x ∷ rest)
-    ⋆ ap (λ (l : List Added). root ++ additions_from 0 l) (sym (map_behind f taken x rest)))
+    ⋆ ap (λ (l : List Added). root ++ additions_from 0 l) (sym (map_after f taken x rest)))
 
 pub all_taken : {A : Type 0} (f : A → Added) (members root : List MemberTree) (taken all : List A) (n : ℕ)
     → Taken members root (map f taken) n

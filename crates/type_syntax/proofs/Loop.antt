@@ -25,7 +25,7 @@ use Rattle.notation.specs.Value.{value}
 use Rattle.type_parts.specs.PartLaws.{PartLaws}
 use Rattle.type_parts.specs.PlainReading.{presence_at, list_size_at}
 use Rattle.type_syntax.specs.TypeGrammar.{list_of, type}
-use Rattle.type_syntax.specs.TypeReading.{component_at, bare_at, body_at, choice_at, tagged_at, one_type_at, with_constraints_at, plain_at, of_at, list_at, structure_at, behind_at, type_step, type_at}
+use Rattle.type_syntax.specs.TypeReading.{component_at, alternative_type_at, body_at, choice_at, tagged_at, one_type_at, with_constraints_at, plain_at, element_type_at, list_at, structure_at, after_keyword_at, type_step, type_at}
 use Rattle.type_syntax.specs.Listings.{form_tree}
 use Rattle.type_syntax.proofs.Typing.{types_read}
 
@@ -35,8 +35,8 @@ abbrev list_pair : Bool → Option ConstraintTree × TypeTree → TypeTree
 list_pair set p = list_of set p.0 p.1
 
 module _ (fits : ℕ → Bool) (r r' : Reader TypeTree) (v v' : Reader Tree) where
-  of_none : (ts : List Lexeme) → of_at fits zero r ts ≡ of_at fits zero r' ts
-  unfolding of_at
+  of_none : (ts : List Lexeme) → element_type_at fits zero r ts ≡ element_type_at fits zero r' ts
+  unfolding element_type_at
   of_none [] = refl
   of_none (Word words.Of ∷ ts) = refl
   of_none (t ∷ ts) = refl
@@ -46,15 +46,15 @@ module _ (fits : ℕ → Bool) (r r' : Reader TypeTree) (v v' : Reader Tree) whe
   list_none set ts = go (list_size_at fits ts)
     where
       go : (q : Read (Option ConstraintTree))
-          → after_read (list_pair set) q (of_at fits zero r) ≡ after_read (list_pair set) q (of_at fits zero r')
+          → after_read (list_pair set) q (element_type_at fits zero r) ≡ after_read (list_pair set) q (element_type_at fits zero r')
       go (Ok s) = ap (made (λ (t : TypeTree). list_pair set (s.0, t))) (of_none s.1)
       go (Err e) = refl
 
-  behind_none : (set : Bool) (ts : List Lexeme) → behind_at fits zero r v set ts ≡ behind_at fits zero r' v' set ts
-  unfolding behind_at structure_at body_at braces_at
-  behind_none set [] = list_none set []
-  behind_none set (Mark OpenBrace ∷ ts) = refl
-  behind_none set (t ∷ ts) = list_none set (t ∷ ts)
+  after_keyword_none : (set : Bool) (ts : List Lexeme) → after_keyword_at fits zero r v set ts ≡ after_keyword_at fits zero r' v' set ts
+  unfolding after_keyword_at structure_at body_at braces_at
+  after_keyword_none set [] = list_none set []
+  after_keyword_none set (Mark OpenBrace ∷ ts) = refl
+  after_keyword_none set (t ∷ ts) = list_none set (t ∷ ts)
 
   choice_none : (ts : List Lexeme) → choice_at fits zero r ts ≡ choice_at fits zero r' ts
   unfolding choice_at braces_at
@@ -76,8 +76,8 @@ module _ (fits : ℕ → Bool) (r r' : Reader TypeTree) (v v' : Reader Tree) whe
   unfolding type_step tagged_at
   none_open [] = plain_none []
   none_open (Mark OpenBracket ∷ ts) = refl
-  none_open (Word words.Sequence ∷ ts) = behind_none false ts
-  none_open (Word words.Set ∷ ts) = behind_none true ts
+  none_open (Word words.Sequence ∷ ts) = after_keyword_none false ts
+  none_open (Word words.Set ∷ ts) = after_keyword_none true ts
   none_open (t ∷ ts) = plain_none (t ∷ ts)
 
 pub type_stepped : (fits : ℕ → Bool) (n : ℕ) (ts : List Lexeme)
@@ -118,9 +118,9 @@ module _ (laws : PartLaws) (n : ℕ) where
   unfolding component_at
   component_short ts = bind_leaves (length ts) (type_at small n ts) _ (type_short ts) (λ t. bind_leaves (length t.1) (presence_at (value_at small n) t.1) _ (presence_short (value_at small n) value_short t.1) (λ p. same (length p.1)))
 
-  pub bare_short : Short (bare_at (type_at small n))
-  unfolding bare_at
-  bare_short ts = bind_leaves (length ts) (type_at small n ts) _ (type_short ts) (λ t. same (length t.1))
+  pub alternative_type_short : Short (alternative_type_at (type_at small n))
+  unfolding alternative_type_at
+  alternative_type_short ts = bind_leaves (length ts) (type_at small n ts) _ (type_short ts) (λ t. same (length t.1))
 
 -- ---- trees
 

@@ -1,8 +1,8 @@
 -- If more numbers are allowed, more types are.
 use Rattle.std.proofs.Common.{◌≡◌, ℕ, zero, suc, inl, inr, Bool, true, List}
 use Rattle.grammar.specs.Lexeme.{Lexeme}
-use Rattle.grammar.specs.Grammar.{Grammar, number_of, ◌∙◌, ◌∣◌, ◌⇒◌, many, optional, behind, listed, braces, parens, cut_off, opens, addition}
-use Rattle.grammar.specs.Grows.{Grows, same_grows, number_grows, seq_grows, made_grows, either_grows, many_grows, behind_grows, listed_grows, braces_grows, optional_grows, parens_grows, opens_grows, extensible_grows, rootless_grows, addition_grows}
+use Rattle.grammar.specs.Grammar.{Grammar, number_of, ◌∙◌, ◌∣◌, ◌⇒◌, many, optional, preceded, listed, braces, parens, cut_off, opens, addition}
+use Rattle.grammar.specs.Grows.{Grows, same_grows, number_grows, seq_grows, made_grows, either_grows, many_grows, preceded_grows, listed_grows, braces_grows, optional_grows, parens_grows, opens_grows, extensible_grows, rootless_grows, addition_grows}
 use Rattle.notation.specs.ConstraintGrammar.{size, constraint}
 use Rattle.trees.specs.Values.{Tree}
 use Rattle.notation.specs.Value.{value}
@@ -22,8 +22,8 @@ made {A} {B} {a} {a'} {f} g = made_grows a a' f g
 either : {A : Type 0} {a a' b b' : Grammar A} → Grows a a' → Grows b b' → Grows (a ∣ b) (a' ∣ b')
 either {A} {a} {a'} {b} {b'} g h = either_grows a a' b b' g h
 
-back : {A : Type 0} {l : Lexeme} {a a' : Grammar A} → Grows a a' → Grows (behind l a) (behind l a')
-back {A} {l} {a} {a'} g = behind_grows l a a' g
+back : {A : Type 0} {l : Lexeme} {a a' : Grammar A} → Grows a a' → Grows (preceded l a) (preceded l a')
+back {A} {l} {a} {a'} g = preceded_grows l a a' g
 
 in_braces : {A : Type 0} {a a' : Grammar A} → Grows a a' → Grows (braces a) (braces a')
 in_braces {A} {a} {a'} g = braces_grows a a' g
@@ -55,7 +55,7 @@ module _ (fits fits' : ℕ → Bool) (grows : (n : ℕ) → fits n ≡ true → 
   tag_numbers : Grows (tag_number few) (tag_number more)
   tag_numbers = record { is = λ x u h. (grows_tags x.0 h.0, h.1); on = on }
     where
-      on : (u : List Lexeme) → (tag_number few).CanGoOn u → (tag_number more).CanGoOn u
+      on : (u : List Lexeme) → (tag_number few).IsPrefix u → (tag_number more).IsPrefix u
       on u (inl e) = inl e
       on u (inr (n, h, e)) = inr (n, grows_tags n h, e)
 

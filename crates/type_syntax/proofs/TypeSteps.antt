@@ -4,7 +4,7 @@ use Rattle.text.specs.declared.token.Mark.TheVariants.{OpenBrace, OpenParenthesi
 use Rattle.text.specs.declared.reserved.Word.TheVariants as words
 use Rattle.asn_base.specs.declared.tag.Tag.{Tag}
 use Rattle.grammar.specs.Lexeme.{Lexeme, TypeRef, Word, Mark}
-use Rattle.grammar.specs.Grammar.{Grammar, ◌∙◌, ◌∣◌, ◌⇒◌, many, optional, behind, opens, extensible, rootless, addition}
+use Rattle.grammar.specs.Grammar.{Grammar, ◌∙◌, ◌∣◌, ◌⇒◌, many, optional, preceded, opens, extensible, rootless, addition}
 use Rattle.grammar.specs.Reading.{Limit, Nesting, Integer, Read, Reader, ◌>>=◌, named_at, is_open, parens_at, inside_at, braces_at, extensible_at, rootless_at, addition_at}
 use Rattle.grammar.specs.Extensions.{FitsBrackets, rule_extensible, rule_rootless, rule_addition}
 use Rattle.grammar.specs.Laws.{then_read, after_read}
@@ -13,7 +13,7 @@ use Rattle.grammar.specs.Numbers.{Past}
 use Rattle.grammar.specs.Parts.{pick, perhaps}
 use Rattle.notation.specs.Laws.{goes_on}
 use Rattle.grammar.specs.Parens.{rule_parens}
-use Rattle.grammar.specs.Rules.{Owes, OwesLoosely, Rules, Same, asked, either, rule_made, rule_seq, rule_behind, rule_tail, rule_lead, rule_pick, loose_optional, loose_many, loose_made, rule_read, rule_tests, rule_same, is_number, made, one_at}
+use Rattle.grammar.specs.Rules.{Owes, OwesLoosely, Rules, Same, asked, either, rule_made, rule_seq, rule_preceded, rule_tail, rule_lead, rule_pick, loose_optional, loose_many, loose_made, rule_read, rule_tests, rule_same, is_number, made, one_at}
 use Rattle.grammar.specs.Openings.{loosely, loose_read, rule_both, rule_named, after_made, IsOpenable, opened_by, is_lbrace, inside, rule_opens, rule_inside, rule_inside_loose, rule_in_braces}
 use Rattle.trees.specs.Values.{Name, Tree}
 use Rattle.trees.specs.Constraints.{ConstraintTree}
@@ -30,7 +30,7 @@ use Rattle.type_parts.specs.TypeParts.{is_keyword, loose_keyword, ref_read, ref_
 use Rattle.grammar.specs.Single.{is_closed, is_typeref}
 use Rattle.type_syntax.specs.TypeGrammar.{ComponentTree, Listing, of_listing, list_kind, listing_of, list_of, constrained, sequence_or_set, member, alternative, members, choice, tagged, one_type, type_with}
 use Rattle.type_syntax.specs.TypeLaws.{type_ends}
-use Rattle.type_syntax.specs.TypeReading.{component_at, bare_at, is_listing, listing_at, body_at, alternatives_at, choice_at, inside_tag_at, tagged_at, plain_form_at, one_type_at, with_constraints_at, plain_at, of_at, list_at, structure_at, behind_at, type_step}
+use Rattle.type_syntax.specs.TypeReading.{component_at, alternative_type_at, is_listing, listing_at, body_at, alternatives_at, choice_at, inside_tag_at, tagged_at, plain_form_at, one_type_at, with_constraints_at, plain_at, element_type_at, list_at, structure_at, after_keyword_at, type_step}
 
 -- ---- what a type begins with, and what goes on with it
 
@@ -109,8 +109,8 @@ tagged_same fits n read (Mark OpenBracket ∷ ts) = refl
 tagged_same fits n read (t ∷ ts) = refl
 
 of_same : (fits : ℕ → Bool) (n : ℕ) (read : Reader TypeTree) (ts : List Lexeme)
-    → opened_by is_of_word n read ts ≡ of_at fits n read ts
-unfolding of_at
+    → opened_by is_of_word n read ts ≡ element_type_at fits n read ts
+unfolding element_type_at
 of_same fits n read [] = refl
 of_same fits n read (Word words.Of ∷ ts) = refl
 of_same fits n read (t ∷ ts) = refl
@@ -157,7 +157,7 @@ listing_same fits part ts = refl
 
 alternatives_same : (fits : ℕ → Bool) (read : Reader TypeTree) (ts : List Lexeme)
     →
-    extensible_at (named_at (bare_at read)) (addition_at fits (named_at (bare_at read))) ts ≡ alternatives_at fits read ts
+    extensible_at (named_at (alternative_type_at read)) (addition_at fits (named_at (alternative_type_at read))) ts ≡ alternatives_at fits read ts
 unfolding alternatives_at
 alternatives_same fits read ts = refl
 
@@ -195,14 +195,14 @@ module _ (fits : ℕ → Bool) (n : ℕ) (read : Reader TypeTree) (value : Reade
   list_or_not p set = list_of set p.0 p.1
 
   abbrev rest_read : Reader Rest
-  rest_read = pick is_lbrace (then_read set_or_not (body_at fits n read value) (constraints_at fits)) (then_read list_or_not (list_size_at fits) (of_at fits n read))
+  rest_read = pick is_lbrace (then_read set_or_not (body_at fits n read value) (constraints_at fits)) (then_read list_or_not (list_size_at fits) (element_type_at fits n read))
 
   rest_same : (set : Bool) (ts : List Lexeme)
-      → made (λ (g : Rest). g set) (rest_read ts) ≡ behind_at fits n read value set ts
-  unfolding behind_at structure_at list_at with_constraints_at
-  rest_same set [] = after_made (λ (g : Rest). g set) list_or_not (list_size_at fits []) (of_at fits n read)
+      → made (λ (g : Rest). g set) (rest_read ts) ≡ after_keyword_at fits n read value set ts
+  unfolding after_keyword_at structure_at list_at with_constraints_at
+  rest_same set [] = after_made (λ (g : Rest). g set) list_or_not (list_size_at fits []) (element_type_at fits n read)
   rest_same set (Mark OpenBrace ∷ ts) = after_made (λ (g : Rest). g set) set_or_not (body_at fits n read value (Mark OpenBrace ∷ ts)) (constraints_at fits)
-  rest_same set (t ∷ ts) = after_made (λ (g : Rest). g set) list_or_not (list_size_at fits (t ∷ ts)) (of_at fits n read)
+  rest_same set (t ∷ ts) = after_made (λ (g : Rest). g set) list_or_not (list_size_at fits (t ∷ ts)) (element_type_at fits n read)
 
   abbrev type_read : Reader TypeTree
   type_read = pick is_open_bracket (tagged_at fits n read) (pick one_starts (then_read constrained (one_type_at fits n read) (constraints_at fits)) (then_read (λ (p : Bool × Rest). p.1 p.0) which_read rest_read))
@@ -228,7 +228,7 @@ module _ (fits tags : ℕ → Bool) (m : ℕ) (t : Grammar TypeTree) (v : Gramma
   split =
       tagged tags m t
       ∣ (one_type fits m t ∙ many (constraint fits)) ⇒ constrained
-      ∣ (sequence_or_set ∙ ((members fits m t v ∙ many (constraint fits)) ⇒ of_members ∣ (list_size fits ∙ opens m (behind (Word words.Of) t)) ⇒ of_element)) ⇒ (λ p. p.1 p.0)
+      ∣ (sequence_or_set ∙ ((members fits m t v ∙ many (constraint fits)) ⇒ of_members ∣ (list_size fits ∙ opens m (preceded (Word words.Of) t)) ⇒ of_element)) ⇒ (λ p. p.1 p.0)
 
   type_is_split : Same split (type_with fits tags m t v)
   type_is_split = record { to = record { is = to_is; on = to_on }; back = record { is = back_is; on = back_on } }
@@ -240,7 +240,7 @@ module _ (fits tags : ℕ → Bool) (m : ℕ) (t : Grammar TypeTree) (v : Gramma
           inr (inl ((of_listing (list_kind p.0) r.0, r.1), d ⋆ ap (λ (g : Bool → TypeTree). g p.0) e, (a ++ a', b', q ⋆ ap (λ (l : List Lexeme). a ++ l) q' ⋆ sym (append_assoc a a' b'), inr ((p.0, r.0), refl, (a, a', refl, ha, hm)), hc)))
       to_is x u (inr (inr (p, d, (a, b, q, ha, inr (r, e, h))))) = inr (inr ((p.0, r), d ⋆ ap (λ (g : Bool → TypeTree). g p.0) e, (a, b, q, ha, h)))
 
-      to_on : (u : List Lexeme) → split.CanGoOn u → (type_with fits tags m t v).CanGoOn u
+      to_on : (u : List Lexeme) → split.IsPrefix u → (type_with fits tags m t v).IsPrefix u
       to_on u (inl h) = inl h
       to_on u (inr (inl (inl h))) = inr (inl (inl (inl h)))
       to_on u (inr (inl (inr (y, a, b, q, ha, hb)))) = inr (inl (inr (y, a, b, q, inl ha, hb)))
@@ -257,7 +257,7 @@ module _ (fits tags : ℕ → Bool) (m : ℕ) (t : Grammar TypeTree) (v : Gramma
           inr (inr ((r.0, of_members (r.1, p.1)), d ⋆ ap (λ (y : FormTree). constrained (y, p.1)) e, (a', b' ++ b, q ⋆ ap (λ (l : List Lexeme). l ++ b) q' ⋆ append_assoc a' b' b, hw, inl ((r.1, p.1), refl, (b', b, refl, hm, hc)))))
       back_is x u (inr (inr (p, d, (a, b, q, hw, h)))) = inr (inr ((p.0, of_element p.1), d, (a, b, q, hw, inr (p.1, refl, h))))
 
-      back_on : (u : List Lexeme) → (type_with fits tags m t v).CanGoOn u → split.CanGoOn u
+      back_on : (u : List Lexeme) → (type_with fits tags m t v).IsPrefix u → split.IsPrefix u
       back_on u (inl h) = inl h
       back_on u (inr (inl (inl (inl h)))) = inr (inl (inl h))
       back_on u (inr (inl (inl (inr (inl h))))) = inr (inr (inl h))
@@ -339,7 +339,7 @@ module _ {s f : Type 0} {over : Limit → ℕ} {within : Limit → Type 0} {v : 
     {value : Reader Tree} where
   loose_presence : Owes s f over within v value_starts goes_on value
       → OwesLoosely s f over within (presence v) is_presence presence_ends (presence_at value)
-  loose_presence kv = loose_read (presence_at value) (presence_same value) (loose_made present (loose_optional (rule_pick (rule_made (λ _. may_be_absent) rule_optional_word) (rule_made default (rule_behind rule_default_word kv)) default_no_optional)))
+  loose_presence kv = loose_read (presence_at value) (presence_same value) (loose_made present (loose_optional (rule_pick (rule_made (λ _. may_be_absent) rule_optional_word) (rule_made default (rule_preceded rule_default_word kv)) default_no_optional)))
 
 module _ {s f : Type 0} {over : Limit → ℕ} {within : Limit → Type 0} {t : Grammar TypeTree} {v : Grammar Tree}
     {value_starts : Lexeme → Bool} {read : Reader TypeTree} {value : Reader Tree} where
@@ -351,8 +351,8 @@ module _ {s f : Type 0} {over : Limit → ℕ} {within : Limit → Type 0} {t : 
 module _ {s f : Type 0} {over : Limit → ℕ} {within : Limit → Type 0} {t : Grammar TypeTree} {read : Reader TypeTree}
   where
     pub rule_alternative : Owes s f over within t type_starts type_ends read
-        → Owes s f over within (alternative t) is_ident type_ends (named_at (bare_at read))
-    unfolding bare_at
+        → Owes s f over within (alternative t) is_ident type_ends (named_at (alternative_type_at read))
+    unfolding alternative_type_at
     rule_alternative kt = rule_named (loosely (rule_made (λ t. (t, mandatory)) kt))
 
 member_fits : FitsBrackets is_ident member_ends
@@ -441,7 +441,7 @@ module _ (over : Limit → ℕ) (within : Limit → Type 0) (fits fits' : ℕ �
         to_is x u (inr (inl h)) = inr (inr h)
         to_is x u (inr (inr h)) = inl h
 
-        to_on : (u : List Lexeme) → (ref ∣ (choice fits' m t ∣ first_form)).CanGoOn u → (one_type fits' m t).CanGoOn u
+        to_on : (u : List Lexeme) → (ref ∣ (choice fits' m t ∣ first_form)).IsPrefix u → (one_type fits' m t).IsPrefix u
         to_on u (inl h) = inr (inl h)
         to_on u (inr (inl h)) = inr (inr h)
         to_on u (inr (inr h)) = inl h
@@ -453,7 +453,7 @@ module _ (over : Limit → ℕ) (within : Limit → Type 0) (fits fits' : ℕ �
         back_is x u (inr (inl h)) = inl h
         back_is x u (inr (inr h)) = inr (inl h)
 
-        back_on : (u : List Lexeme) → (one_type fits' m t).CanGoOn u → (ref ∣ (choice fits' m t ∣ first_form)).CanGoOn u
+        back_on : (u : List Lexeme) → (one_type fits' m t).IsPrefix u → (ref ∣ (choice fits' m t ∣ first_form)).IsPrefix u
         back_on u (inl h) = inr (inr h)
         back_on u (inr (inl h)) = inl h
         back_on u (inr (inr h)) = inr (inl h)
@@ -466,8 +466,8 @@ module _ (over : Limit → ℕ) (within : Limit → Type 0) (fits fits' : ℕ �
     rule_tagged : Owes s f over within (tagged tags m t) is_open_bracket type_ends (tagged_at fits n read)
     rule_tagged = rule_read (tagged_at fits n read) (tagged_same fits n read) (rule_opens (Mark OpenBracket) is_open_bracket refl open_bracket_one ((tag tags ∙ (keyword ∙ t)) ⇒ tag_tree) n m fit deep (λ q. ((rule_inside_tag kt0).finds q).part) (λ o. rule_inside_tag (kt o)))
 
-    rule_of : Owes s f over within (opens m (behind (Word words.Of) t)) is_of_word type_ends (of_at fits n read)
-    rule_of = rule_read (of_at fits n read) (of_same fits n read) (rule_opens (Word words.Of) is_of_word refl of_word_one t n m fit deep (λ q. (kt0.finds q).part) kt)
+    rule_of : Owes s f over within (opens m (preceded (Word words.Of) t)) is_of_word type_ends (element_type_at fits n read)
+    rule_of = rule_read (element_type_at fits n read) (of_same fits n read) (rule_opens (Word words.Of) is_of_word refl of_word_one t n m fit deep (λ q. (kt0.finds q).part) kt)
 
     pub rule_step :
         Owes s f over within (type_with fits' tags m t v) type_starts type_ends (type_step fits n read value)

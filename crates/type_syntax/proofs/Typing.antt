@@ -107,13 +107,13 @@ finds_weaker {A} within within' g starts ends read less f = record {
   nil = f.nil;
   part = f.part;
   first = f.first;
-  whole = λ x u us h e. stands (read (u ++ us)) x us (f.whole x u us h e);
+  whole = λ x u us h e. reads_as (read (u ++ us)) x us (f.whole x u us h e);
   front = λ u us h. passes us (read (u ++ us)) (f.front u us h);
 }
   where
-    stands : (r : Read A) (x : A) (us : List Lexeme) → ReadsAs within' r x us → ReadsAs within r x us
-    stands r x us (inl e) = inl e
-    stands r x us (inr (p, k, e)) = inr (p, (λ w. k (less p.0 w)), e)
+    reads_as : (r : Read A) (x : A) (us : List Lexeme) → ReadsAs within' r x us → ReadsAs within r x us
+    reads_as r x us (inl e) = inl e
+    reads_as r x us (inr (p, k, e)) = inr (p, (λ w. k (less p.0 w)), e)
 
     passes : (us : List Lexeme) (r : Read A) → Passes within' us r → Passes within us r
     passes us (Ok x) h = h

@@ -1,8 +1,8 @@
 -- What is read of types, as it is in memory.
 use Rattle.std.specs.Prelude.{map, option_map, string_bytes}
-use Rattle.kernel.specs.declared.lists.Extensible.{Extensible}
-use Rattle.kernel.specs.declared.lists.Addition.{Addition}
-use Rattle.kernel.specs.Parts.{extensible_of, addition_of}
+use Rattle.parser_combinators.specs.declared.lists.Extensible.{Extensible}
+use Rattle.parser_combinators.specs.declared.lists.Addition.{Addition}
+use Rattle.parser_combinators.specs.Parts.{extensible_of, addition_of}
 use Rattle.trees.specs.declared.value.Named.{Named}
 use Rattle.trees.specs.Values.{Name, name_at}
 use Rattle.trees.specs.declared.types.TypeForm.{TypeForm}

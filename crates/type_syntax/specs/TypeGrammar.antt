@@ -4,7 +4,7 @@ use Rattle.std.proofs.Common.{inl, inr}
 use Rattle.text.specs.declared.token.Mark.TheVariants.{OpenBracket}
 use Rattle.text.specs.declared.reserved.Word.TheVariants as words
 use Rattle.grammar.specs.Lexeme.{Ident, Word, Mark}
-use Rattle.grammar.specs.Grammar.{Grammar, token, word, ◌∙◌, ◌∣◌, ◌⇒◌, many, optional, behind, braces, cut_off, opens, extensible, rootless, addition}
+use Rattle.grammar.specs.Grammar.{Grammar, token, word, ◌∙◌, ◌∣◌, ◌⇒◌, many, optional, preceded, braces, cut_off, opens, extensible, rootless, addition}
 use Rattle.grammar.specs.Places.{Limited}
 use Rattle.trees.specs.Values.{Name, Tree}
 use Rattle.trees.specs.Constraints.{ConstraintTree}
@@ -40,13 +40,13 @@ additions_from n (inl m ∷ xs) = a_member (standings.Addition None) m ∷ addit
 additions_from n (inr ms ∷ xs) = map (a_member (standings.Addition (Some n))) ms ++ additions_from (suc n) xs
 
 -- the trees of the members after the marker of a list, none if there is no marker
-abbrev pub behind_marker : Option (List ((Name × ComponentTree) ⊎ List (Name × ComponentTree))) → List MemberTree
-behind_marker None = []
-behind_marker (Some xs) = additions_from 0 xs
+abbrev pub after_marker : Option (List ((Name × ComponentTree) ⊎ List (Name × ComponentTree))) → List MemberTree
+after_marker None = []
+after_marker (Some xs) = additions_from 0 xs
 
 -- the trees of all members in order, each as one of the root or as an addition
 abbrev pub all_members : Listing → List MemberTree
-all_members l = map (a_member standings.Root) l.0 ++ behind_marker l.1
+all_members l = map (a_member standings.Root) l.0 ++ after_marker l.1
 
 -- the tree of a SEQUENCE, SET or CHOICE with these members, and with an extension marker if they have one
 abbrev pub of_listing : ListKind → Listing → FormTree
@@ -102,7 +102,7 @@ module _ (tags : ℕ → Bool) where
   -- a tagged type: a tag, a keyword or none, and a type; n more parts may be open (X.680, clause 31)
   abbrev pub tagged : ℕ → Grammar TypeTree → Grammar TypeTree
   tagged n t =
-      opens n (behind (Mark OpenBracket) ((tag tags ∙ (keyword ∙ t)) ⇒ (λ p. a_type (a_tagged p.0 p.1.0 p.1.1) [])))
+      opens n (preceded (Mark OpenBracket) ((tag tags ∙ (keyword ∙ t)) ⇒ (λ p. a_type (a_tagged p.0 p.1.0 p.1.1) [])))
 
 -- A limit on numbers is a test: numbers without a minus must pass it.
 module _ (fits : ℕ → Bool) where
@@ -126,7 +126,7 @@ module _ (fits : ℕ → Bool) where
 
   -- a SEQUENCE OF or SET OF, with a size before OF or none (X.680, clauses 26, 28 and 49)
   abbrev pub list : ℕ → Grammar TypeTree → Grammar TypeTree
-  list n t = (sequence_or_set ∙ (list_size fits ∙ opens n (behind (Word words.Of) t))) ⇒ (λ p. list_of p.0 p.1.0 p.1.1)
+  list n t = (sequence_or_set ∙ (list_size fits ∙ opens n (preceded (Word words.Of) t))) ⇒ (λ p. list_of p.0 p.1.0 p.1.1)
 
   -- types in which n more braces, tags and lists may be open, with these types and values inside (X.680, clause 17)
   abbrev pub type_with : (ℕ → Bool) → ℕ → Grammar TypeTree → Grammar Tree → Grammar TypeTree

@@ -20,8 +20,8 @@ use Rattle.type_syntax.specs.TypeGrammar.{ComponentTree, Listing, of_listing, li
 unfoldable pub component_at : Reader TypeTree → Reader Tree → Reader ComponentTree
 component_at read value ts = read ts >>= λ t. presence_at value t.1 >>= λ p. Ok ((t.0, p.0), p.1)
 
-unfoldable pub bare_at : Reader TypeTree → Reader ComponentTree
-bare_at read ts = read ts >>= λ t. Ok ((t.0, mandatory), t.1)
+unfoldable pub alternative_type_at : Reader TypeTree → Reader ComponentTree
+alternative_type_at read ts = read ts >>= λ t. Ok ((t.0, mandatory), t.1)
 
 -- a list of members begins with one of these lexemes
 abbrev pub is_listing : Lexeme → Bool
@@ -40,7 +40,7 @@ module _ (fits : ℕ → Bool) where
 
   -- what is in the braces of a CHOICE
   unfoldable pub alternatives_at : Reader TypeTree → Reader Listing
-  alternatives_at read ts = extensible_at (named_at (bare_at read)) (addition_at fits (named_at (bare_at read))) ts
+  alternatives_at read ts = extensible_at (named_at (alternative_type_at read)) (addition_at fits (named_at (alternative_type_at read))) ts
 
   -- what comes after CHOICE
   unfoldable pub choice_at : ℕ → Reader TypeTree → Reader FormTree
@@ -72,13 +72,13 @@ module _ (fits : ℕ → Bool) where
   unfoldable pub plain_at : ℕ → Reader TypeTree → Reader TypeTree
   plain_at n read ts = one_type_at n read ts >>= λ f. with_constraints_at f.0 f.1
 
-  unfoldable pub of_at : ℕ → Reader TypeTree → Reader TypeTree
-  of_at n read (Word words.Of ∷ rest) = opened n (Word words.Of ∷ rest) (read rest)
-  of_at n read ts = stop ts
+  unfoldable pub element_type_at : ℕ → Reader TypeTree → Reader TypeTree
+  element_type_at n read (Word words.Of ∷ rest) = opened n (Word words.Of ∷ rest) (read rest)
+  element_type_at n read ts = stop ts
 
   -- what comes after SEQUENCE or SET in a list type
   unfoldable pub list_at : ℕ → Reader TypeTree → Bool → Reader TypeTree
-  list_at n read set ts = list_size_at fits ts >>= λ s. of_at n read s.1 >>= λ t. Ok (list_of set s.0 t.0, t.1)
+  list_at n read set ts = list_size_at fits ts >>= λ s. element_type_at n read s.1 >>= λ t. Ok (list_of set s.0 t.0, t.1)
 
   -- members and the constraints after them
   unfoldable pub structure_at : ℕ → Reader TypeTree → Reader Tree → Bool → Reader TypeTree
@@ -86,14 +86,14 @@ module _ (fits : ℕ → Bool) where
       body_at n read value ts >>= λ l. with_constraints_at (of_listing (list_kind set) l.0) l.1
 
   -- what comes after SET if set is true, else after SEQUENCE
-  unfoldable pub behind_at : ℕ → Reader TypeTree → Reader Tree → Bool → Reader TypeTree
-  behind_at n read value set (Mark OpenBrace ∷ rest) = structure_at n read value set (Mark OpenBrace ∷ rest)
-  behind_at n read value set ts = list_at n read set ts
+  unfoldable pub after_keyword_at : ℕ → Reader TypeTree → Reader Tree → Bool → Reader TypeTree
+  after_keyword_at n read value set (Mark OpenBrace ∷ rest) = structure_at n read value set (Mark OpenBrace ∷ rest)
+  after_keyword_at n read value set ts = list_at n read set ts
 
   unfoldable pub type_step : ℕ → Reader TypeTree → Reader Tree → Reader TypeTree
   type_step n read value (Mark OpenBracket ∷ rest) = tagged_at n read (Mark OpenBracket ∷ rest)
-  type_step n read value (Word words.Sequence ∷ rest) = behind_at n read value false rest
-  type_step n read value (Word words.Set ∷ rest) = behind_at n read value true rest
+  type_step n read value (Word words.Sequence ∷ rest) = after_keyword_at n read value false rest
+  type_step n read value (Word words.Set ∷ rest) = after_keyword_at n read value true rest
   type_step n read value ts = plain_at n read ts
 
   unfoldable pub type_at : ℕ → Reader TypeTree

@@ -5,18 +5,20 @@ ghost use Rattle.grammar.specs.Lexeme.{lexemes};
 ghost use Rattle.grammar.specs.Manies.{is_begun_by};
 ghost use Rattle.grammar.specs.Places.{small};
 ghost use Rattle.grammar.specs.Reading.{inside_at, extensible_at, rootless_at, addition_at};
-ghost use Rattle.kernel.specs.Given.{Gives, AreTokens};
-ghost use Rattle.kernel.specs.Reads.{ReadsAs};
-ghost use Rattle.kernel.specs.Parts.{extensible_of, addition_of};
+ghost use Rattle.parser_combinators.specs.Given.{Gives, AreTokens};
+ghost use Rattle.parser_combinators.specs.Reads.{ReadsAs};
+ghost use Rattle.parser_combinators.specs.Parts.{extensible_of, addition_of};
 ghost use Rattle.type_syntax.specs.TypeReading.{is_listing, listing_at};
 
-use kernel::marks::closed;
-use kernel::{Added, Addition, Extensible, ExtensibleList, Part, Read, RootlessList};
+use parser_combinators::punctuation::closed;
+use parser_combinators::{
+    Addition, AdditionParser, Extensible, ExtensibleList, Parser, Read, RootlessList,
+};
 use std::alloc::Global;
 use text::{Token, kind, mark};
 
 /// Reads parts, at least one before an extension marker, which version brackets may follow.
-fn rooted<'t, P: Part<'t>>(
+fn rooted<'t, P: Parser<'t>>(
     alloc: Global,
     text: &[u8],
     part: &P,
@@ -29,12 +31,12 @@ fn rooted<'t, P: Part<'t>>(
         text.now tokens.now result }
     ensures rest { IfOk result (λ x. AreTokens text.now x.1.now) }
 {
-    let addition = Added { part };
+    let addition = AdditionParser { part };
     ExtensibleList { part, addition }.read(alloc, text, tokens)
 }
 
 /// Reads parts as `rooted` does, but the marker may come first.
-fn rootless<'t, P: Part<'t>>(
+fn rootless<'t, P: Parser<'t>>(
     alloc: Global,
     text: &[u8],
     part: &P,
@@ -47,7 +49,7 @@ fn rootless<'t, P: Part<'t>>(
         text.now tokens.now result }
     ensures rest { IfOk result (λ x. AreTokens text.now x.1.now) }
 {
-    let addition = Added { part };
+    let addition = AdditionParser { part };
     RootlessList { part, addition }.read(alloc, text, tokens)
 }
 
@@ -60,7 +62,7 @@ fn begins(text: &[u8], tokens: &[Token]) -> bool
 
 /// Reads alternatives up to and with the closing brace, with an extension marker among them or not.
 #[tactic(auto, unfolding(grammar::specs::Reading::inside_at))]
-pub fn alternatives<'t, P: Part<'t>>(
+pub fn alternatives<'t, P: Parser<'t>>(
     alloc: Global,
     text: &[u8],
     part: &P,
@@ -79,7 +81,7 @@ pub fn alternatives<'t, P: Part<'t>>(
 
 /// Reads members, if there are any, with an extension marker among them or not.
 #[tactic(auto, using(crate::proofs::Begins::listing_begins, crate::proofs::Begins::no_listing))]
-fn listing<'t, P: Part<'t>>(
+fn listing<'t, P: Parser<'t>>(
     alloc: Global,
     text: &[u8],
     part: &P,
@@ -103,7 +105,7 @@ fn listing<'t, P: Part<'t>>(
 
 /// Reads members up to and with the closing brace, if there are any, with an extension marker among them or not.
 #[tactic(auto, unfolding(grammar::specs::Reading::inside_at))]
-pub fn members<'t, P: Part<'t>>(
+pub fn members<'t, P: Parser<'t>>(
     alloc: Global,
     text: &[u8],
     part: &P,

@@ -1,12 +1,12 @@
 //! The members of a list in order, each as one of the root or as an addition.
 
 ghost use Rattle.std.specs.Prelude.{◌≡◌, ◌++◌, map, IfOk};
-ghost use Rattle.kernel.specs.Parts.{addition_of};
+ghost use Rattle.parser_combinators.specs.Parts.{addition_of};
 ghost use Rattle.trees.specs.Types.{type_member_of};
 ghost use Rattle.type_syntax.specs.TypeGrammar.{a_member, additions_from, all_members as all_members_of};
 ghost use Rattle.type_syntax.specs.Listings.{named_component, listing_tree};
 
-use kernel::{Addition, Extensible};
+use parser_combinators::{Addition, Extensible};
 use std::alloc::{AllocError, Global};
 use trees::{Member, Named, PresenceSyntax, Standing, TypeSyntax};
 

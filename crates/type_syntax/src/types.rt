@@ -4,25 +4,25 @@ ghost use Rattle.std.specs.Prelude.{◌≡◌, ◌-◌, map, option_map, IfOk};
 ghost use Rattle.grammar.specs.Lexeme.{lexemes};
 ghost use Rattle.grammar.specs.Places.{small};
 ghost use Rattle.grammar.specs.Reading.{inside_at, braces_at, named_at};
-ghost use Rattle.kernel.specs.Given.{Gives, AreTokens};
-ghost use Rattle.kernel.specs.Reads.{ReadsAs};
+ghost use Rattle.parser_combinators.specs.Given.{Gives, AreTokens};
+ghost use Rattle.parser_combinators.specs.Reads.{ReadsAs};
 ghost use Rattle.notation.specs.Reading.{value_at};
 ghost use Rattle.trees.specs.Constraints.{constraint_of};
 ghost use Rattle.trees.specs.Types.{type_tree_of, a_type};
 ghost use Rattle.type_syntax.specs.TypeGrammar.{of_listing, list_kind as list_kind_of, elements_kind as elements_kind_of, size_constraints};
-ghost use Rattle.type_syntax.specs.TypeReading.{component_at, bare_at, listing_at, body_at, alternatives_at, choice_at, inside_tag_at, tagged_at, one_type_at, plain_at, of_at, list_at, structure_at, behind_at, type_step, type_at};
+ghost use Rattle.type_syntax.specs.TypeReading.{component_at, alternative_type_at, listing_at, body_at, alternatives_at, choice_at, inside_tag_at, tagged_at, one_type_at, plain_at, element_type_at, list_at, structure_at, after_keyword_at, type_step, type_at};
 ghost use Rattle.type_syntax.specs.Listings.{component_of, listing_tree, form_tree};
 
 use crate::braces::{alternatives, members};
 use crate::listing::{ComponentSyntax, Listing, all_members};
-use kernel::{Extensible, Limit, Production, Read, ReadError, WithName, reads_by};
+use parser_combinators::{Extensible, Limit, Production, Read, ReadError, WithName, fn_parser};
 use std::alloc::{AllocError, Global};
 use std::marker::PhantomData;
 use text::{Token, kind, mark, word};
 use trees::{
     ConstraintSyntax, ElementsKind, ListKind, Named, PresenceSyntax, TypeForm, TypeSyntax,
 };
-use type_parts::constrained::{behind_type, list_size};
+use type_parts::constrained::{list_size, type_constraints};
 use type_parts::presences::presence;
 use type_parts::references::reference;
 use type_parts::simple_types::simple;
@@ -54,7 +54,7 @@ impl Production for Alternatives {
     ghost use Rattle.grammar.specs.Places.{small};
     ghost use Rattle.type_syntax.specs.Listings.{component_of};
     ghost use Rattle.type_syntax.specs.TypeGrammar.{ComponentTree};
-    ghost use Rattle.type_syntax.specs.TypeReading.{bare_at, type_at};
+    ghost use Rattle.type_syntax.specs.TypeReading.{alternative_type_at, type_at};
 
     type Tree = ComponentSyntax;
 
@@ -62,7 +62,7 @@ impl Production for Alternatives {
 
     ghost view = { component_of };
 
-    ghost reader = { λ n. bare_at (type_at small n) };
+    ghost reader = { λ n. alternative_type_at (type_at small n) };
 }
 
 /// The offset at which these tokens begin, or 0 if there are none.
@@ -75,7 +75,11 @@ fn start(tokens: &[Token]) -> usize {
 
 /// A type, with the constraints after it.
 #[tactic(auto, using(crate::proofs::Loop::type_tree))]
-fn typed(at: usize, form: TypeForm<TypeSyntax>, constraints: Vec<ConstraintSyntax>) -> TypeSyntax
+fn make_type(
+    at: usize,
+    form: TypeForm<TypeSyntax>,
+    constraints: Vec<ConstraintSyntax>,
+) -> TypeSyntax
     ensures { type_tree_of result ≡ a_type (form_tree form) (map constraint_of constraints.items) }
 {
     TypeSyntax {
@@ -161,7 +165,7 @@ fn step<'a>(alloc: Global, text: &[u8], tokens: &'a [Token], depth: usize) -> Re
 {
     match tokens {
         [mark!(OpenBracket), ..] => tagged(alloc, text, tokens, depth),
-        [first @ word!(Sequence), rest @ ..] => behind(
+        [first @ word!(Sequence), rest @ ..] => after_keyword(
             alloc,
             text,
             first.span.start,
@@ -169,7 +173,14 @@ fn step<'a>(alloc: Global, text: &[u8], tokens: &'a [Token], depth: usize) -> Re
             depth,
             false,
         ),
-        [first @ word!(Set), rest @ ..] => behind(alloc, text, first.span.start, rest, depth, true),
+        [first @ word!(Set), rest @ ..] => after_keyword(
+            alloc,
+            text,
+            first.span.start,
+            rest,
+            depth,
+            true,
+        ),
         _ => plain(alloc, text, tokens, depth),
     }
 }
@@ -213,7 +224,7 @@ fn inside_tag<'a>(
     let (keyword, rest) = keyword(text, rest)?;
     let (inner, rest) = type_syntax(alloc, text, rest, depth)?;
     let form = TypeForm::Tagged(tag, keyword, Box::new(alloc, inner)?);
-    Ok((typed(at, form, Vec::new(alloc)), rest))
+    Ok((make_type(at, form, Vec::new(alloc)), rest))
 }
 
 /// Reads a type that is no SEQUENCE and no SET, and the constraints after it.
@@ -226,8 +237,8 @@ fn plain<'a>(alloc: Global, text: &[u8], tokens: &'a [Token], depth: usize) -> R
     ensures rest { IfOk result (λ x. AreTokens text.now x.1.now) }
 {
     let (form, rest) = one_type(alloc, text, tokens, depth)?;
-    let (constraints, rest) = behind_type(alloc, text, rest)?;
-    Ok((typed(start(tokens), form, constraints), rest))
+    let (constraints, rest) = type_constraints(alloc, text, rest)?;
+    Ok((make_type(start(tokens), form, constraints), rest))
 }
 
 /// Reads a type that is no SEQUENCE and no SET.
@@ -301,7 +312,7 @@ fn choice_braces<'a>(
 }
 
 /// Reads alternatives up to and with the closing brace, with an extension marker among them or not.
-#[tactic(auto, unfolding(grammar::specs::Reading::inside_at, crate::specs::TypeReading::alternatives_at), using(crate::proofs::Loop::bare_short))]
+#[tactic(auto, unfolding(grammar::specs::Reading::inside_at, crate::specs::TypeReading::alternatives_at), using(crate::proofs::Loop::alternative_type_short))]
 #[cycle(type_syntax)]
 fn inside_choice<'a>(
     alloc: Global,
@@ -314,31 +325,31 @@ fn inside_choice<'a>(
         (inside_at (alternatives_at small (type_at small depth)) (lexemes text.now tokens.now)) }
     ensures rest { IfOk result (λ x. AreTokens text.now x.1.now) }
 {
-    type_parts::law::parts_are_read();
-    let inner = reads_by(
+    type_parts::law::lemma_parts_are_read();
+    let inner = fn_parser(
         PhantomData::<Alternatives>,
         |ts|
             requires { AreTokens text.now ts.now }
             ensures read { Gives (λ x. (component_of x.0, lexemes text.entry.now x.1.now)) result
-                (bare_at (type_at small depth) (lexemes text.entry.now ts.now)) }
+                (alternative_type_at (type_at small depth) (lexemes text.entry.now ts.now)) }
             ensures rest { IfOk result (λ x. AreTokens text.entry.now x.1.now) }
-        { bare(alloc, text, ts, depth) },
+        { alternative_type(alloc, text, ts, depth) },
         depth,
     );
     alternatives(alloc, text, &WithName { part: inner }, tokens)
 }
 
 /// Reads the type of an alternative.
-#[tactic(auto, unfolding(crate::specs::TypeReading::bare_at))]
+#[tactic(auto, unfolding(crate::specs::TypeReading::alternative_type_at))]
 #[cycle(type_syntax)]
-fn bare<'a>(
+fn alternative_type<'a>(
     alloc: Global,
     text: &[u8],
     tokens: &'a [Token],
     depth: usize,
 ) -> Read<'a, ComponentSyntax>
     requires tokens { AreTokens text.now tokens.now }
-    ensures read { ReadsAs component_of (bare_at (type_at small depth)) text.now tokens.now result }
+    ensures read { ReadsAs component_of (alternative_type_at (type_at small depth)) text.now tokens.now result }
     ensures rest { IfOk result (λ x. AreTokens text.now x.1.now) }
 {
     let (syntax, rest) = type_syntax(alloc, text, tokens, depth)?;
@@ -347,9 +358,9 @@ fn bare<'a>(
 }
 
 /// Reads what comes after `SET` if `set` is true, else after `SEQUENCE`.
-#[tactic(auto, unfolding(crate::specs::TypeReading::behind_at))]
+#[tactic(auto, unfolding(crate::specs::TypeReading::after_keyword_at))]
 #[cycle(type_syntax)]
-fn behind<'a>(
+fn after_keyword<'a>(
     alloc: Global,
     text: &[u8],
     at: usize,
@@ -359,7 +370,7 @@ fn behind<'a>(
 ) -> Read<'a, TypeSyntax>
     requires tokens { AreTokens text.now tokens.now }
     ensures read { ReadsAs type_tree_of
-        (behind_at small depth (type_at small (depth - 1)) (value_at small (depth - 1)) set)
+        (after_keyword_at small depth (type_at small (depth - 1)) (value_at small (depth - 1)) set)
         text.now tokens.now result }
     ensures rest { IfOk result (λ x. AreTokens text.now x.1.now) }
 {
@@ -388,8 +399,8 @@ fn structure<'a>(
 {
     let (list, rest) = body(alloc, text, tokens, depth)?;
     let form = list_form(alloc, list_kind(set), list)?;
-    let (constraints, rest) = behind_type(alloc, text, rest)?;
-    Ok((typed(at, form, constraints), rest))
+    let (constraints, rest) = type_constraints(alloc, text, rest)?;
+    Ok((make_type(at, form, constraints), rest))
 }
 
 /// Reads what may be in braces: members, with an extension marker among them or not, or nothing (X.680, clause 25.1).
@@ -455,8 +466,8 @@ fn inside_list<'a>(
         text.now tokens.now result }
     ensures rest { IfOk result (λ x. AreTokens text.now x.1.now) }
 {
-    type_parts::law::parts_are_read();
-    let inner = reads_by(
+    type_parts::law::lemma_parts_are_read();
+    let inner = fn_parser(
         PhantomData::<Components>,
         |ts|
             requires { AreTokens text.now ts.now }
@@ -505,18 +516,23 @@ fn list<'a>(
     ensures rest { IfOk result (λ x. AreTokens text.now x.1.now) }
 {
     let (size, rest) = list_size(alloc, text, tokens)?;
-    let (element, rest) = of(alloc, text, rest, depth)?;
+    let (element, rest) = element_type(alloc, text, rest, depth)?;
     let form = TypeForm::Elements(elements_kind(set), Box::new(alloc, element)?);
     let constraints = size_alone(alloc, size)?;
-    Ok((typed(at, form, constraints), rest))
+    Ok((make_type(at, form, constraints), rest))
 }
 
 /// Reads `OF` and the type of the elements.
-#[tactic(auto, unfolding(crate::specs::TypeReading::of_at))]
+#[tactic(auto, unfolding(crate::specs::TypeReading::element_type_at))]
 #[cycle(type_syntax)]
-fn of<'a>(alloc: Global, text: &[u8], tokens: &'a [Token], depth: usize) -> Read<'a, TypeSyntax>
+fn element_type<'a>(
+    alloc: Global,
+    text: &[u8],
+    tokens: &'a [Token],
+    depth: usize,
+) -> Read<'a, TypeSyntax>
     requires tokens { AreTokens text.now tokens.now }
-    ensures read { ReadsAs type_tree_of (of_at small depth (type_at small (depth - 1)))
+    ensures read { ReadsAs type_tree_of (element_type_at small depth (type_at small (depth - 1)))
         text.now tokens.now result }
     ensures rest { IfOk result (λ x. AreTokens text.now x.1.now) }
 {

@@ -8,50 +8,50 @@ use Rattle.names.specs.declared.fault.Limit.{Limit}
 use Rattle.names.specs.declared.fault.NameFault.{NameFault}
 use Rattle.names.specs.declared.fault.NameFault.TheVariants as faults
 use Rattle.names.specs.First.{IsTwiceAt}
-use Rattle.names.specs.Modules.{AreDistinct, StandsIn}
+use Rattle.names.specs.Modules.{AreDistinct, OccursIn}
 use Rattle.names.specs.proving.Distinct.{either, left, right}
 use Rattle.names.specs.proving.Gathering.{IsTaken}
 use Rattle.type_table.specs.declared.table.ListMember.{ListMember}
-use Rattle.type_table.specs.FirstInList.{HasFewMembers, IsLimitAt, IsPastMember, IsSecond, Placed, TellsPassed, TellsSecond}
+use Rattle.type_table.specs.FirstInList.{HasFewMembers, IsLimitAt, IsPastMember, IsSecond, Placed, ReportsPassed, ReportsSecond}
 use Rattle.type_table.specs.Lists.{AreWithinLimit, addition_count, in_additions, in_root, root_count}
 use Rattle.type_table.specs.Seen.{part_of}
 use Rattle.type_table.specs.Table.{Part}
-use Rattle.type_table.specs.proving.Checks.{IsNumberFault, TellsLimit, TellsName}
+use Rattle.type_table.specs.proving.Checks.{IsNumberFault, ReportsLimit, ReportsName}
 use Rattle.type_table.proofs.Fronts.{Kept, KeptIn}
 
 -- ---- one fault
 
 pub second_taken : (M : Name) (names : List Placed) (xs done : List Name) (i : ℕ) (n : Placed) (P : ℕ → Type 0)
     (e : NameFault) → slice_get names i ≡ Some n → slice_get xs i ≡ Some (name_at n) → Kept xs done i → P i →
-    IsTaken M (name_at n) done e → IsTwiceAt n.at e → TellsSecond M names xs P e
+    IsTaken M (name_at n) done e → IsTwiceAt n.at e → ReportsSecond M names xs P e
 second_taken M names xs done i n P faults.Memory a b k p t q = tt
 second_taken M names xs done i n P (faults.Twice s) a b k p t q =
-    (t.0, i, record { name = n; named = a; told = t.1; at = q; element = name_at n; there = b; again = subst (λ d. StandsIn d (name_at n)) k.same t.2; before = k.apart }, p)
+    (t.0, i, record { name = n; named = a; reported = t.1; at = q; element = name_at n; there = b; again = subst (λ d. OccursIn d (name_at n)) k.same t.2; before = k.apart }, p)
 second_taken M names xs done i n P (faults.Limit l s) a b k p t q = absurd t
 second_taken M names xs done i n P (faults.UnknownName s) a b k p t q = absurd t
 second_taken M names xs done i n P (faults.NotExported s) a b k p t q = absurd t
 second_taken M names xs done i n P (faults.Circular s) a b k p t q = absurd t
 second_taken M names xs done i n P (faults.UnknownModule s) a b k p t q = absurd t
 
-pub second_told : {Z : Type 0} (M : Name) (names : List Placed) (zs : List Z) (i : ℕ) (n : Placed) (z : Z)
+pub second_reported : {Z : Type 0} (M : Name) (names : List Placed) (zs : List Z) (i : ℕ) (n : Placed) (z : Z)
     (P : ℕ → Type 0) (e : NameFault) → slice_get names i ≡ Some n → slice_get zs i ≡ Some z →
-    StandsIn (take i zs) z → AreDistinct (take i zs) → P i → TellsName M (name_at n) e → IsTwiceAt n.at e →
-    TellsSecond M names zs P e
-second_told M names zs i n z P faults.Memory a b s d p t q = tt
-second_told M names zs i n z P (faults.Twice s) a b w d p t q =
-    (t.0, i, record { name = n; named = a; told = t.1; at = q; element = z; there = b; again = w; before = d }, p)
-second_told M names zs i n z P (faults.Limit l s) a b w d p t q = absurd t
-second_told M names zs i n z P (faults.UnknownName s) a b w d p t q = absurd t
-second_told M names zs i n z P (faults.NotExported s) a b w d p t q = absurd t
-second_told M names zs i n z P (faults.Circular s) a b w d p t q = absurd t
-second_told M names zs i n z P (faults.UnknownModule s) a b w d p t q = absurd t
+    OccursIn (take i zs) z → AreDistinct (take i zs) → P i → ReportsName M (name_at n) e → IsTwiceAt n.at e →
+    ReportsSecond M names zs P e
+second_reported M names zs i n z P faults.Memory a b s d p t q = tt
+second_reported M names zs i n z P (faults.Twice s) a b w d p t q =
+    (t.0, i, record { name = n; named = a; reported = t.1; at = q; element = z; there = b; again = w; before = d }, p)
+second_reported M names zs i n z P (faults.Limit l s) a b w d p t q = absurd t
+second_reported M names zs i n z P (faults.UnknownName s) a b w d p t q = absurd t
+second_reported M names zs i n z P (faults.NotExported s) a b w d p t q = absurd t
+second_reported M names zs i n z P (faults.Circular s) a b w d p t q = absurd t
+second_reported M names zs i n z P (faults.UnknownModule s) a b w d p t q = absurd t
 
 pub second_numbered : {Z : Type 0} (M : Name) (names : List Placed) (zs keys : List Z) (i : ℕ) (n : Placed) (z : Z)
     (P : ℕ → Type 0) (e : NameFault) → slice_get names i ≡ Some n → slice_get zs i ≡ Some z → KeptIn zs keys i →
-    P i → IsNumberFault M (name_at n) z keys e → IsTwiceAt n.at e → TellsSecond M names zs P e
+    P i → IsNumberFault M (name_at n) z keys e → IsTwiceAt n.at e → ReportsSecond M names zs P e
 second_numbered M names zs keys i n z P faults.Memory a b k p t q = tt
 second_numbered M names zs keys i n z P (faults.Twice s) a b k p t q =
-    (t.0, i, record { name = n; named = a; told = t.1; at = q; element = z; there = b; again = (k.same z).0 t.2; before = k.apart }, p)
+    (t.0, i, record { name = n; named = a; reported = t.1; at = q; element = z; there = b; again = (k.same z).0 t.2; before = k.apart }, p)
 second_numbered M names zs keys i n z P (faults.Limit l s) a b k p t q = absurd t
 second_numbered M names zs keys i n z P (faults.UnknownName s) a b k p t q = absurd t
 second_numbered M names zs keys i n z P (faults.NotExported s) a b k p t q = absurd t
@@ -59,7 +59,7 @@ second_numbered M names zs keys i n z P (faults.Circular s) a b k p t q = absurd
 second_numbered M names zs keys i n z P (faults.UnknownModule s) a b k p t q = absurd t
 
 pub passed_at : (l : Limit) (M a : Name) (names : List Placed) (i : ℕ) (n : Placed) (P : ℕ → Type 0) (e : NameFault) →
-    slice_get names i ≡ Some n → P i → TellsLimit l M a e → IsLimitAt n.at e → TellsPassed l M a names P e
+    slice_get names i ≡ Some n → P i → ReportsLimit l M a e → IsLimitAt n.at e → ReportsPassed l M a names P e
 passed_at l M a names i n P faults.Memory h p t q = tt
 passed_at l M a names i n P (faults.Limit k s) h p t q = (t.0, t.1, t.2, i, n, h, q, p)
 passed_at l M a names i n P (faults.Twice s) h p t q = absurd t
@@ -78,18 +78,18 @@ wide names more xs ys i s d =
     record {
       name = d.name;
       named = left names more i d.name d.named;
-      told = d.told;
+      reported = d.reported;
       at = d.at;
       element = d.element;
       there = left xs ys i d.element d.there;
-      again = subst (λ l. StandsIn l d.element) (sym e) d.again;
+      again = subst (λ l. OccursIn l d.element) (sym e) d.again;
       before = subst AreDistinct (sym e) d.before;
     }
 
 -- the same with more known of the index, and in a longer list
 pub second_wide : {X : Type 0} (M : Name) (names more all : List Placed) (xs ys zs : List X) (P Q : ℕ → Type 0)
     (e : NameFault) → names ++ more ≡ all → xs ++ ys ≡ zs → ((i : ℕ) → P i → Q i) →
-    TellsSecond M names xs P e → TellsSecond M all zs Q e
+    ReportsSecond M names xs P e → ReportsSecond M all zs Q e
 second_wide M names more all xs ys zs P Q faults.Memory a b f t = tt
 second_wide M names more all xs ys zs P Q (faults.Twice s) a b f t =
     (t.0, t.1, subst (λ l. IsSecond l zs t.1 s) a (subst (λ l. IsSecond (names ++ more) l t.1 s) b (wide names more xs ys t.1 s t.2)), f t.1 t.3)
@@ -100,7 +100,7 @@ second_wide M names more all xs ys zs P Q (faults.Circular s) a b f t = absurd t
 second_wide M names more all xs ys zs P Q (faults.UnknownModule s) a b f t = absurd t
 
 pub second_such : {X : Type 0} (M : Name) (names all : List Placed) (xs zs : List X) (P Q : ℕ → Type 0) (e : NameFault) →
-    names ≡ all → xs ≡ zs → ((i : ℕ) → P i → Q i) → TellsSecond M names xs P e → TellsSecond M all zs Q e
+    names ≡ all → xs ≡ zs → ((i : ℕ) → P i → Q i) → ReportsSecond M names xs P e → ReportsSecond M all zs Q e
 second_such M names all xs zs P Q faults.Memory a b f t = tt
 second_such M names all xs zs P Q (faults.Twice s) a b f t =
     (t.0, t.1, subst (λ l. IsSecond l zs t.1 s) a (subst (λ l. IsSecond names l t.1 s) b t.2), f t.1 t.3)

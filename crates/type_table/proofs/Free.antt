@@ -7,7 +7,7 @@ use Rattle.std.specs.Ordering.{int_eq}
 use Rattle.std.proofs.lemmas.Cmp.{int_eq_equiv}
 use Rattle.std.proofs.lemmas.Bool.Decides.{Decides-int_eq}
 use Rattle.std.proofs.lemmas.Map.Made.{length-le_from_is_member}
-use Rattle.names.specs.Modules.{StandsIn}
+use Rattle.names.specs.Modules.{OccursIn}
 use Rattle.type_table.specs.proving.Sets.{IsFree}
 use Rattle.type_table.specs.Items.{is_among, first_free, free}
 
@@ -17,31 +17,31 @@ same_number m n e = cc
 -- ---- being among numbers
 
 on_head : (z y : ℤ) (ys : List ℤ) (b : Bool) → int_eq z y ≡ b → (b || is_among z ys) ≡ true →
-    (is_among z ys ≡ true → StandsIn ys z) → StandsIn (y ∷ ys) z
+    (is_among z ys ≡ true → OccursIn ys z) → OccursIn (y ∷ ys) z
 on_head z y ys true e h rest = (0, ap Some (sym ((Decides-int_eq z y).0 e)))
 on_head z y ys false e h rest = let r = rest h in (suc r.0, r.1)
 
-pub among_stands : (z : ℤ) (ys : List ℤ) → is_among z ys ≡ true → StandsIn ys z
-among_stands z [] h = absurd cc
-among_stands z (y ∷ ys) h = on_head z y ys (int_eq z y) refl h (among_stands z ys)
+pub among_occurs : (z : ℤ) (ys : List ℤ) → is_among z ys ≡ true → OccursIn ys z
+among_occurs z [] h = absurd cc
+among_occurs z (y ∷ ys) h = on_head z y ys (int_eq z y) refl h (among_occurs z ys)
 
-pub stands_among_at : (z : ℤ) (ys : List ℤ) (i : ℕ) → slice_get ys i ≡ Some z → is_among z ys ≡ true
-stands_among_at z [] i e = absurd cc
-stands_among_at z (y ∷ ys) zero e =
+pub occurs_among_at : (z : ℤ) (ys : List ℤ) (i : ℕ) → slice_get ys i ≡ Some z → is_among z ys ≡ true
+occurs_among_at z [] i e = absurd cc
+occurs_among_at z (y ∷ ys) zero e =
     let q : y ≡ z = cc in
     let t : int_eq z y ≡ true = (Decides-int_eq z y).1 (sym q) in
     rw t refl
-stands_among_at z (y ∷ ys) (suc i) e = either (int_eq z y) (is_among z ys) (stands_among_at z ys i e)
+occurs_among_at z (y ∷ ys) (suc i) e = either (int_eq z y) (is_among z ys) (occurs_among_at z ys i e)
   where
     either : (b c : Bool) → c ≡ true → (b || c) ≡ true
     either true c e = refl
     either false c e = e
 
-pub stands_among : (z : ℤ) (ys : List ℤ) → StandsIn ys z → is_among z ys ≡ true
-stands_among z ys s = stands_among_at z ys s.0 s.1
+pub occurs_among : (z : ℤ) (ys : List ℤ) → OccursIn ys z → is_among z ys ≡ true
+occurs_among z ys s = occurs_among_at z ys s.0 s.1
 
-pub not_among : (z : ℤ) (ys : List ℤ) → is_among z ys ≡ false → StandsIn ys z → ⊥
-not_among z ys e s = let t = stands_among z ys s in absurd cc
+pub not_among : (z : ℤ) (ys : List ℤ) → is_among z ys ≡ false → OccursIn ys z → ⊥
+not_among z ys e s = let t = occurs_among z ys s in absurd cc
 
 -- ---- as many numbers in a row as a list has at most
 
@@ -67,7 +67,7 @@ unfolding IsDistinct
 up_distinct n zero = tt
 up_distinct n (suc k) = (head_apart n (suc n) k (omega arith), up_distinct (suc n) k)
 
-in_up : (n k : ℕ) (z : ℤ) → StandsIn (up n k) z → (m : ℕ) × (z ≡ pos m) × (n ≤ m) × (m < n + k)
+in_up : (n k : ℕ) (z : ℤ) → OccursIn (up n k) z → (m : ℕ) × (z ≡ pos m) × (n ≤ m) × (m < n + k)
 in_up n zero z s = let e : slice_get [] s.0 ≡ Some z = s.1 in absurd cc
 in_up n (suc k) z (zero, e) = (n, (let q : pos n ≡ z = cc in sym q), omega arith, omega arith)
 in_up n (suc k) z (suc i, e) =
@@ -76,17 +76,17 @@ in_up n (suc k) z (suc i, e) =
     let b = r.3 in
     (r.0, r.1, omega (arith, a), omega (arith, b))
 
-pub row_fits : (n k : ℕ) (used : List ℤ) → ((m : ℕ) → n ≤ m → m < n + k → StandsIn used (pos m)) → k ≤ length used
+pub row_fits : (n k : ℕ) (used : List ℤ) → ((m : ℕ) → n ≤ m → m < n + k → OccursIn used (pos m)) → k ≤ length used
 row_fits n k used h =
     let l = length-le_from_is_member int_eq_equiv (up n k) used (up_distinct n k) (λ q e.
-    let r = in_up n k q (among_stands q (up n k) e) in
-    stands_among q used (subst (λ z. StandsIn used z) (sym r.1) (h r.0 r.2 r.3))) in
+    let r = in_up n k q (among_occurs q (up n k) e) in
+    occurs_among q used (subst (λ z. OccursIn used z) (sym r.1) (h r.0 r.2 r.3))) in
     omega (arith, l, length_up n k)
 
 -- ---- the least number from n on that isn't in the list
 
-pub one_free : (used other : List ℤ) (n y z : ℕ) → ((w : ℤ) → StandsIn used w → StandsIn other w) →
-    ((w : ℤ) → StandsIn other w → StandsIn used w) → IsFree used n y → IsFree other n z → y ≡ z
+pub one_free : (used other : List ℤ) (n y z : ℕ) → ((w : ℤ) → OccursIn used w → OccursIn other w) →
+    ((w : ℤ) → OccursIn other w → OccursIn used w) → IsFree used n y → IsFree other n z → y ≡ z
 one_free used other n y z f g a b = elim (cases_order y z) [
   | inl e ↦ e
   | inr (inl l) ↦ absurd (a.unused (g (pos y) (b.taken y a.from l)))
@@ -95,16 +95,16 @@ one_free used other n y z f g a b = elim (cases_order y z) [
 
 -- numbers from n to m that are all taken
 abbrev pub AreTaken : List ℤ → ℕ → ℕ → Type 0
-AreTaken used n m = (k : ℕ) → n ≤ k → k < m → StandsIn used (pos k)
+AreTaken used n m = (k : ℕ) → n ≤ k → k < m → OccursIn used (pos k)
 
-pub taken_more : (used : List ℤ) (n m : ℕ) → AreTaken used n m → StandsIn used (pos m) → AreTaken used n (suc m)
+pub taken_more : (used : List ℤ) (n m : ℕ) → AreTaken used n m → OccursIn used (pos m) → AreTaken used n (suc m)
 taken_more used n m h s k l r = elim (cases_lt k m) [
   | inl a ↦ h k l a
-  | inr b ↦ (let e : k ≡ m = omega (arith, b, r) in subst (λ z. StandsIn used (pos z)) (sym e) s)
+  | inr b ↦ (let e : k ≡ m = omega (arith, b, r) in subst (λ z. OccursIn used (pos z)) (sym e) s)
 ]
 
 -- if as many numbers are taken as the list has, the next one is free
-pub taken_all : (used : List ℤ) (n m : ℕ) → n + length used ≤ m → AreTaken used n m → StandsIn used (pos m) → ⊥
+pub taken_all : (used : List ℤ) (n m : ℕ) → n + length used ≤ m → AreTaken used n m → OccursIn used (pos m) → ⊥
 taken_all used n m l h s =
     let all = taken_more used n m h s in
     let d = row_fits n (suc (length used)) used (λ k a b. all k a (omega (arith, l, b))) in
@@ -113,7 +113,7 @@ taken_all used n m l h s =
 first_on : (used : List ℤ) (n m k : ℕ) (b : Bool) → is_among (pos m) used ≡ b → n + length used ≤ m + suc k →
     n ≤ m → AreTaken used n m →
     (n + length used ≤ suc m + k → n ≤ suc m → AreTaken used n (suc m) → IsFree used n (first_free k (suc m) used)) → IsFree used n (cond b (first_free k (suc m) used) m)
-first_on used n m k true e l f h go = go (omega (arith, l)) (omega (arith, f)) (taken_more used n m h (among_stands (pos m) used e))
+first_on used n m k true e l f h go = go (omega (arith, l)) (omega (arith, f)) (taken_more used n m h (among_occurs (pos m) used e))
 first_on used n m k false e l f h go = record { from = f; unused = not_among (pos m) used e; taken = h }
 
 first_is : (used : List ℤ) (n m k : ℕ) → n + length used ≤ m + k → n ≤ m → AreTaken used n m →

@@ -3,14 +3,14 @@ use Rattle.std.proofs.Common.{◌≡◌, inl, inr, ℕ, ◌+◌, ◌<◌, ◌≤
 use Rattle.std.specs.Prelude.{slice_get}
 use Rattle.std.proofs.lemmas.List.{length-map, take-append-drop, take_all, take_more}
 use Rattle.std.proofs.lemmas.Option.{slice_get_within, get_or_from_slice_get}
-use Rattle.names.specs.Modules.{StandsIn, StandsTwice, AreDistinct}
-use Rattle.names.specs.proving.Distinct.{distinct_more, distinct_none, drop_at, item_at, stands_either, stands_left, stands_map, stands_one, stands_right, twice_across}
+use Rattle.names.specs.Modules.{OccursIn, OccursTwice, AreDistinct}
+use Rattle.names.specs.proving.Distinct.{distinct_more, distinct_none, drop_at, item_at, occurs_either, occurs_left, occurs_map, occurs_once, occurs_right, twice_across}
 use Rattle.type_table.specs.proving.Sets.{Puts, IsSetOf}
 
 -- what is seen of this turn's item
 pub seen_at : {X Y A : Type 0} (f : Y → A) (g : X → Y) (xs : List X) (i : ℕ) (x : X) → i < length xs →
     x ≡ get_or xs i x → slice_get (map f (map g xs)) i ≡ Some (f (g x))
-seen_at f g xs i x l e = stands_map f (map g xs) i (g x) (item_at g xs i x l e)
+seen_at f g xs i x l e = occurs_map f (map g xs) i (g x) (item_at g xs i x l e)
 
 pub seen_long : {X Y A : Type 0} (f : Y → A) (g : X → Y) (xs : List X) (i : ℕ) → length xs ≤ i →
     length (map f (map g xs)) ≤ i
@@ -27,19 +27,19 @@ module _ {A : Type 0} (zs : List A) (i : ℕ) (x : A) (e : slice_get zs i ≡ So
   front_more = take_more zs i x within ∙ ap (λ y. take i zs ++ y ∷ []) (sym read)
 
   -- an element that is also before its place is there twice
-  pub front_twice : StandsIn (take i zs) x → StandsTwice zs x
+  pub front_twice : OccursIn (take i zs) x → OccursTwice zs x
   front_twice s =
       let around : take i zs ++ x ∷ drop (i + 1) zs ≡ zs = ap (λ r. take i zs ++ r) (sym (drop_at zs i x within read)) ∙ take-append-drop i zs in
-      subst (λ y. StandsTwice y x) around (twice_across (take i zs) (x ∷ drop (i + 1) zs) x s (0, refl))
+      subst (λ y. OccursTwice y x) around (twice_across (take i zs) (x ∷ drop (i + 1) zs) x s (0, refl))
 
   -- an element that isn't there yet
-  pub front_distinct : AreDistinct (take i zs) → (StandsIn (take i zs) x → ⊥) → AreDistinct (take (i + 1) zs)
+  pub front_distinct : AreDistinct (take i zs) → (OccursIn (take i zs) x → ⊥) → AreDistinct (take (i + 1) zs)
   front_distinct d fresh = subst AreDistinct (sym front_more) (distinct_more (take i zs) x d fresh)
 
 set_more : {A : Type 0} (old new ys : List A) (z : A) → IsSetOf old ys → Puts old new z → IsSetOf new (ys ++ z ∷ [])
 set_more old new ys z h put y = (
-  λ s. elim ((put y).0 s) [ inl a ↦ stands_left ys (z ∷ []) y ((h y).0 a) | inr q ↦ stands_right ys (z ∷ []) y (0, ap Some q) ],
-  λ s. elim (stands_either ys (z ∷ []) y s) [ inl a ↦ (put y).1 (inl ((h y).1 a)) | inr b ↦ (put y).1 (inr (stands_one z y b)) ],
+  λ s. elim ((put y).0 s) [ inl a ↦ occurs_left ys (z ∷ []) y ((h y).0 a) | inr q ↦ occurs_right ys (z ∷ []) y (0, ap Some q) ],
+  λ s. elim (occurs_either ys (z ∷ []) y s) [ inl a ↦ (put y).1 (inl ((h y).1 a)) | inr b ↦ (put y).1 (inr (occurs_once z y b)) ],
 )
 
 -- the set of those that come first, and this one
@@ -58,15 +58,15 @@ pub kept_start : {A : Type 0} (zs done : List A) → done ≡ [] → Kept zs don
 kept_start zs done e = record { same = e; apart = distinct_none }
 
 pub kept_more : {A : Type 0} (zs done new : List A) (i : ℕ) (x : A) → slice_get zs i ≡ Some x → Kept zs done i →
-    new ≡ done ++ x ∷ [] → (StandsIn done x → ⊥) → Kept zs new (i + 1)
+    new ≡ done ++ x ∷ [] → (OccursIn done x → ⊥) → Kept zs new (i + 1)
 kept_more zs done new i x e k n fresh = record {
   same = n ∙ ap (λ d. d ++ x ∷ []) k.same ∙ sym (front_more zs i x e);
-  apart = front_distinct zs i x e k.apart (λ s. fresh (subst (λ d. StandsIn d x) (sym k.same) s));
+  apart = front_distinct zs i x e k.apart (λ s. fresh (subst (λ d. OccursIn d x) (sym k.same) s));
 }
 
 pub kept_twice : {A : Type 0} (zs done : List A) (i : ℕ) (x : A) → slice_get zs i ≡ Some x → Kept zs done i →
-    StandsIn done x → StandsTwice zs x
-kept_twice zs done i x e k s = front_twice zs i x e (subst (λ d. StandsIn d x) k.same s)
+    OccursIn done x → OccursTwice zs x
+kept_twice zs done i x e k s = front_twice zs i x e (subst (λ d. OccursIn d x) k.same s)
 
 pub kept_all : {A : Type 0} (zs done : List A) (i : ℕ) → length zs ≤ i → Kept zs done i → (done ≡ zs) × AreDistinct zs
 kept_all zs done i l k = (k.same ∙ take_all i zs l, subst AreDistinct (take_all i zs l) k.apart)
@@ -78,17 +78,17 @@ pub record KeptIn {A : Type 0} (zs keys : List A) (i : ℕ) : Type 0 where
   pub apart : AreDistinct (take i zs)
 
 pub kept_in_start : {A : Type 0} (zs keys : List A) → keys ≡ [] → KeptIn zs keys 0
-kept_in_start zs keys e = record { same = λ y. (subst (λ l. StandsIn l y) e, subst (λ l. StandsIn l y) (sym e)); apart = distinct_none }
+kept_in_start zs keys e = record { same = λ y. (subst (λ l. OccursIn l y) e, subst (λ l. OccursIn l y) (sym e)); apart = distinct_none }
 
 pub kept_in_more : {A : Type 0} (zs keys new : List A) (i : ℕ) (x : A) → slice_get zs i ≡ Some x →
-    KeptIn zs keys i → Puts keys new x → (StandsIn keys x → ⊥) → KeptIn zs new (i + 1)
+    KeptIn zs keys i → Puts keys new x → (OccursIn keys x → ⊥) → KeptIn zs new (i + 1)
 kept_in_more zs keys new i x e k put fresh = record {
   same = front_set zs i x e keys new k.same put;
   apart = front_distinct zs i x e k.apart (λ s. fresh ((k.same x).1 s));
 }
 
 pub kept_in_twice : {A : Type 0} (zs keys : List A) (i : ℕ) (x : A) → slice_get zs i ≡ Some x → KeptIn zs keys i →
-    StandsIn keys x → StandsTwice zs x
+    OccursIn keys x → OccursTwice zs x
 kept_in_twice zs keys i x e k s = front_twice zs i x e ((k.same x).0 s)
 
 pub kept_in_all : {A : Type 0} (zs keys : List A) (i : ℕ) → length zs ≤ i → KeptIn zs keys i → AreDistinct zs

@@ -6,7 +6,7 @@ use Rattle.trees.specs.Values.{Name}
 use Rattle.trees.specs.declared.module.TagDefault.{TagDefault}
 use Rattle.trees.specs.Types.{TypeTree, FormTree}
 use Rattle.names.specs.Names.{Module, Refers}
-use Rattle.type_table.specs.Table.{Type', Kind, Part, simple, reference, tagged, members, elements, behind, behind_of, Is, IsClosed, HasMembers, HasElements, IsMember, AllUnfold, IsLinked}
+use Rattle.type_table.specs.Table.{Type', Kind, Part, simple, reference, tagged, members, elements, target, target_of, Is, IsClosed, HasMembers, HasElements, IsMember, AllUnfold, IsLinked}
 use Rattle.names.specs.declared.scope.Assigned.TheVariants as assigned
 use Rattle.trees.specs.declared.types.ListKind.{ListKind}
 use Rattle.trees.specs.declared.types.ElementsKind.{ElementsKind}
@@ -196,17 +196,17 @@ module _ (ms : List (Name × Module)) (hs : List (Name × TagDefault)) (gs : Lis
           let w : e.first + 0 < length ts = slice_get_within ts (e.first + 0) p.0 p.1 in
           omega (arith, w)
 
-      behind_there : (i : ℕ) (t : Type') (e : Entry ts i t) (k : Kind) (j : ℕ) →
-          Parts ms e.top.within e.first (form_of e.source.tree) k → behind k ≡ Some j → j < length ts
-      behind_there i t e (simple p) j (plain f) h = absurd cc
-      behind_there i t e (reference z) j (referring N x r f) h = let q : z ≡ j = cc in subst (λ y. y < length ts) q (meant e.top.within x N z r)
-      behind_there i t e (tagged g w n) j (tagging u f) h = let q : e.first ≡ j = cc in subst (λ y. y < length ts) q (one_there i t e (record { tree = u; assignment = e.source.assignment; place = None }) (ap (λ l. slice_get l 0) (f e.source.assignment i)))
-      behind_there i t e (members l m cs) j (listing us f) h = absurd cc
-      behind_there i t e (elements y n) j (having u f) h = absurd cc
+      target_there : (i : ℕ) (t : Type') (e : Entry ts i t) (k : Kind) (j : ℕ) →
+          Parts ms e.top.within e.first (form_of e.source.tree) k → target k ≡ Some j → j < length ts
+      target_there i t e (simple p) j (plain f) h = absurd cc
+      target_there i t e (reference z) j (referring N x r f) h = let q : z ≡ j = cc in subst (λ y. y < length ts) q (meant e.top.within x N z r)
+      target_there i t e (tagged g w n) j (tagging u f) h = let q : e.first ≡ j = cc in subst (λ y. y < length ts) q (one_there i t e (record { tree = u; assignment = e.source.assignment; place = None }) (ap (λ l. slice_get l 0) (f e.source.assignment i)))
+      target_there i t e (members l m cs) j (listing us f) h = absurd cc
+      target_there i t e (elements y n) j (having u f) h = absurd cc
 
-      closed_on : (i j : ℕ) (o : Option Type') → slice_get ts i ≡ o → behind_of o ≡ Some j → j < length ts
+      closed_on : (i j : ℕ) (o : Option Type') → slice_get ts i ≡ o → target_of o ≡ Some j → j < length ts
       closed_on i j None e h = absurd cc
-      closed_on i j (Some t) e h = let n = entry i t e in behind_there i t n t.kind j (kind_parts ms n.top.within n.first (form_of n.source.tree) t.kind n.top.kind) h
+      closed_on i j (Some t) e h = let n = entry i t e in target_there i t n t.kind j (kind_parts ms n.top.within n.first (form_of n.source.tree) t.kind n.top.kind) h
 
       listing_of : (M : Name) (n : ℕ) (f : FormTree) (l : ListKind) (m : Bool) (cs : List Part) →
           Parts ms M n f (members l m cs) →

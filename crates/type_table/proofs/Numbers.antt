@@ -2,15 +2,15 @@
 use Rattle.std.proofs.Common.{◌≡◌, inl, inr, ℕ, zero, suc, ◌≤◌, List, [], ◌∷◌, Some, None, refl, subst, ap, ◌∙◌, arith}
 use Rattle.std.proofs.lemmas.Bool.{cases_lt}
 use Rattle.std.specs.Prelude.{slice_get, ℤ, pos, negsuc, max}
-use Rattle.names.specs.Modules.{StandsIn}
+use Rattle.names.specs.Modules.{OccursIn}
 use Rattle.type_table.specs.Items.{Item, given_numbers, IsAbove, IsNext, AreRootNumbers, no_root_item, root_written, root_counted, AreAdditionNumbers, no_addition, addition_written, addition_counted, free, past, root_from, root_numbers, additions_from, addition_numbers}
 use Rattle.type_table.proofs.Free.{free_is}
 use Rattle.type_table.specs.proving.Sets.{IsFree}
 
 -- n is the first number from 0 above all of these
 record IsFront (earlier : List ℤ) (n : ℕ) : Type 0 where
-  above : (z : ℤ) → StandsIn earlier z → IsAbove n z
-  least : (m : ℕ) → ((z : ℤ) → StandsIn earlier z → IsAbove m z) → n ≤ m
+  above : (z : ℤ) → OccursIn earlier z → IsAbove n z
+  least : (m : ℕ) → ((z : ℤ) → OccursIn earlier z → IsAbove m z) → n ≤ m
 
 front_start : IsFront [] 0
 front_start = record { above = λ z s. (let e : slice_get [] s.0 ≡ Some z = s.1 in absurd cc); least = λ m h. omega arith }
@@ -27,7 +27,7 @@ past_least : (m : ℕ) (z : ℤ) → IsAbove m z → past z ≤ m
 past_least m (pos k) a = omega (arith, a)
 past_least m (negsuc k) a = omega arith
 
-above_more : (m : ℕ) (y : ℤ) (earlier : List ℤ) → IsAbove m y → ((z : ℤ) → StandsIn earlier z → IsAbove m z) →
+above_more : (m : ℕ) (y : ℤ) (earlier : List ℤ) → IsAbove m y → ((z : ℤ) → OccursIn earlier z → IsAbove m z) →
     (z : ℤ) (i : ℕ) → slice_get (y ∷ earlier) i ≡ Some z → IsAbove m z
 above_more m y earlier a h z zero e = let q : y ≡ z = cc in subst (IsAbove m) q a
 above_more m y earlier a h z (suc i) e = h z (i, e)

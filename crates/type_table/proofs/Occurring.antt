@@ -9,14 +9,14 @@ use Rattle.names.specs.declared.fault.NameFault.{NameFault}
 use Rattle.names.specs.declared.fault.NameFault.TheVariants as faults
 use Rattle.names.specs.declared.fault.Limit.TheVariants as limits
 use Rattle.type_table.specs.Faults.{HasUnknown, IsCircularAt, IsTableFault}
-use Rattle.names.specs.Faults.{module_told, name_told}
+use Rattle.names.specs.Faults.{fault_module, fault_name}
 use Rattle.names.specs.Names.{Module, IsApart}
 use Rattle.names.specs.Sources.{Source}
 use Rattle.type_table.specs.Numbering.{form_of, member_sources, parts_of, all_parts, IsKind, RefersToNothing, AreNumbered, Occurs, directly, inside}
 use Rattle.type_table.specs.Table.{Type', Kind, AllUnfold, IsCircular}
 use Rattle.names.specs.proving.Distinct.{left, at_all}
 use Rattle.type_table.proofs.Numbered.{at, part_there, as_long}
-use Rattle.type_table.proofs.Once.{one_table}
+use Rattle.type_table.proofs.Once.{lemma_one_table}
 use Rattle.type_table.proofs.Queue.{parts_of_one}
 use Rattle.type_table.proofs.Knowing.{core_not_circular}
 
@@ -93,7 +93,7 @@ module _ (ms : List (Name × Module)) (hs : List (Name × TagDefault)) (gs : Lis
 
   circular_not : IsApart ms → AllUnfold ts → (M x : Name) → IsCircularAt ms hs gs roots M x → ⊥
   circular_not apart unfolds M x c =
-      let q = one_table ms apart hs gs roots c.types ts c.numbered all in
+      let q = lemma_one_table ms apart hs gs roots c.types ts c.numbered all in
       let l = slice_get_within ts c.number c.written (ap (λ z. slice_get z c.number) (sym q) ∙ c.there) in
       let u = unfolds c.number l in
       core_not_circular ts c.number u.0 u.1 (subst (λ z. IsCircular z c.number) q c.circular)
@@ -101,8 +101,8 @@ module _ (ms : List (Name × Module)) (hs : List (Name × TagDefault)) (gs : Lis
   pub table_exclude : IsApart ms → length ts ≤ 65536 → AllUnfold ts → (e : NameFault) → (e ≡ faults.Memory → ⊥) →
       IsTableFault ms hs gs roots e → ⊥
   table_exclude apart few unfolds faults.Memory n f = n refl
-  table_exclude apart few unfolds (faults.UnknownName z) n f = unknown_not (module_told z) (name_told z) f
-  table_exclude apart few unfolds (faults.Circular z) n f = circular_not apart unfolds (module_told z) (name_told z) f
+  table_exclude apart few unfolds (faults.UnknownName z) n f = unknown_not (fault_module z) (fault_name z) f
+  table_exclude apart few unfolds (faults.Circular z) n f = circular_not apart unfolds (fault_module z) (fault_name z) f
   table_exclude apart few unfolds (faults.Limit limits.Types z) n f = let g = f.more all.sources all.all in let w = slice_get_within all.sources 65536 g.0 g.1 in let l = as_long ms hs gs roots ts all in absurd (omega (arith, w, l, few))
   table_exclude apart few unfolds (faults.Limit limits.Modules z) n f = f
   table_exclude apart few unfolds (faults.Limit limits.Values z) n f = f

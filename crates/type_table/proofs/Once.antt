@@ -115,8 +115,8 @@ module _ (ms : List (Name × Module)) (apart : IsApart ms) where
     one_tops i n (s ∷ ss) (t ∷ ts) (u ∷ us) a b =
         ap (λ z. z ∷ ts) (one_top n s t u a.0 b.0) ∙ ap (λ l. u ∷ l) (one_tops (suc i) (n + length (parts_of s.assignment i s.tree)) ss ts us a.1 b.1)
 
-    pub one_table : (roots : List Source) (ts us : List Type') → AreNumbered ms hs gs roots ts →
+    pub lemma_one_table : (roots : List Source) (ts us : List Type') → AreNumbered ms hs gs roots ts →
         AreNumbered ms hs gs roots us → ts ≡ us
-    one_table roots ts us a b =
+    lemma_one_table roots ts us a b =
         let s = one_sources 0 a.sources b.sources roots a.all b.all in
         one_tops 0 (length roots) a.sources ts us a.tops (subst (λ l. AreTops ms hs gs 0 (length roots) l us) (sym s) b.tops)

@@ -192,7 +192,7 @@ module _ (ms : List (Name × Module)) (hs : List (Name × TagDefault)) (gs : Lis
       record {
         before = h.done;
         source = s;
-        behind = rest;
+        remaining = rest;
         all = h.all;
         types = ts;
         tops = h.tops;

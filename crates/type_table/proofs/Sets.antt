@@ -13,7 +13,7 @@ use Rattle.std.proofs.lemmas.List.{map-append}
 use Rattle.std.proofs.lemmas.Map.Keys.{any_passes_from_place}
 use Rattle.indexmap.specs.IndexSet.{insert_key}
 use Rattle.trees.specs.Values.{Name}
-use Rattle.names.specs.Modules.{StandsIn}
+use Rattle.names.specs.Modules.{OccursIn}
 use Rattle.names.specs.proving.Distinct.{mapped}
 use Rattle.type_table.specs.proving.Checks.{texts}
 use Rattle.type_table.specs.proving.Sets.{Puts}
@@ -22,17 +22,17 @@ use Rattle.type_table.specs.proving.Sets.{Puts}
 
 here_or : {K A : Type 0} (f : K → A) (q : A) (test : K → Bool) (k : K) (ks : List K) (b : Bool) → test k ≡ b →
     ((k : K) → test k ≡ true → q ≡ f k) → (b || list_any test ks) ≡ true →
-    (list_any test ks ≡ true → StandsIn (map f ks) q) → StandsIn (f k ∷ map f ks) q
+    (list_any test ks ≡ true → OccursIn (map f ks) q) → OccursIn (f k ∷ map f ks) q
 here_or f q test k ks true e says h rest = (0, ap Some (sym (says k e)))
 here_or f q test k ks false e says h rest = let r = rest h in (suc r.0, r.1)
 
 pub any_true : {K A : Type 0} (f : K → A) (q : A) (test : K → Bool) (ks : List K) →
-    ((k : K) → test k ≡ true → q ≡ f k) → list_any test ks ≡ true → StandsIn (map f ks) q
+    ((k : K) → test k ≡ true → q ≡ f k) → list_any test ks ≡ true → OccursIn (map f ks) q
 any_true f q test [] says h = absurd (true≢false (sym h))
 any_true f q test (k ∷ ks) says h = here_or f q test k ks (test k) refl says h (any_true f q test ks says)
 
 pub any_false : {K A : Type 0} (f : K → A) (q : A) (test : K → Bool) (ks : List K) →
-    ((k : K) → q ≡ f k → test k ≡ true) → list_any test ks ≡ false → StandsIn (map f ks) q → ⊥
+    ((k : K) → q ≡ f k → test k ≡ true) → list_any test ks ≡ false → OccursIn (map f ks) q → ⊥
 any_false f q test ks says h s =
     let m = mapped f ks s.0 q s.1 in
     true≢false (sym (any_passes_from_place test ks s.0 m.0 m.1 (says m.0 (sym m.2))) ∙ h)
@@ -42,7 +42,7 @@ same_list [] = refl
 same_list (x ∷ xs) = ap (λ q. x ∷ q) (same_list xs)
 
 any_here : {A : Type 0} (q : A) (test : A → Bool) (ks : List A) → ((k : A) → test k ≡ true → q ≡ k) →
-    list_any test ks ≡ true → StandsIn ks q
+    list_any test ks ≡ true → OccursIn ks q
 any_here q test ks says h = let s = any_true (λ k. k) q test ks says h in (s.0, ap (λ l. slice_get l s.0) (sym (same_list ks)) ∙ s.1)
 
 -- ---- one name more
@@ -75,18 +75,18 @@ pub itself : {A : Type 0} {cmp : A → A → Ordering} → IsTotalOrder cmp → 
 itself {cmp = cmp} o x y e = ap (λ z. is_eq (cmp x z)) (sym e) ∙ ap is_eq (tied_itself o x)
 
 module _ {A : Type 0} (cmp : A → A → Ordering) (o : IsTotalOrder cmp) (exact : (x y : A) → is_eq (cmp x y) ≡ true → x ≡ y) where
-  pub has : (ks : List A) (x : A) → list_any (λ y. is_eq (cmp x y)) ks ≡ true → StandsIn ks x
+  pub has : (ks : List A) (x : A) → list_any (λ y. is_eq (cmp x y)) ks ≡ true → OccursIn ks x
   has ks x h = any_here x (λ y. is_eq (cmp x y)) ks (λ y e. exact x y e) h
 
-  pub had : (ks : List A) (x : A) → StandsIn ks x → list_any (λ y. is_eq (cmp x y)) ks ≡ true
+  pub had : (ks : List A) (x : A) → OccursIn ks x → list_any (λ y. is_eq (cmp x y)) ks ≡ true
   had ks x s = any_passes_from_place (λ y. is_eq (cmp x y)) ks s.0 x s.1 (itself o x x refl)
 
-  pub has_not : (ks : List A) (x : A) → list_any (λ y. is_eq (cmp x y)) ks ≡ false → StandsIn ks x → ⊥
+  pub has_not : (ks : List A) (x : A) → list_any (λ y. is_eq (cmp x y)) ks ≡ false → OccursIn ks x → ⊥
   has_not ks x e s = let h = sym e ∙ had ks x s in absurd cc
 
   put_here : (old new : List A) (k y : A) (b : Bool) → is_eq (cmp k y) ≡ b →
-      list_any (λ z. is_eq (cmp y z)) new ≡ cond b true (list_any (λ z. is_eq (cmp y z)) old) → StandsIn new y →
-      StandsIn old y ⊎ (k ≡ y)
+      list_any (λ z. is_eq (cmp y z)) new ≡ cond b true (list_any (λ z. is_eq (cmp y z)) old) → OccursIn new y →
+      OccursIn old y ⊎ (k ≡ y)
   put_here old new k y true e f s = inr (exact k y e)
   put_here old new k y false e f s = inl (has old y (sym f ∙ had new y s))
 

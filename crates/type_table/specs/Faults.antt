@@ -7,12 +7,12 @@ use Rattle.trees.specs.declared.module.TagDefault.{TagDefault}
 use Rattle.names.specs.declared.fault.NameFault.{NameFault}
 use Rattle.names.specs.declared.fault.NameFault.TheVariants as faults
 use Rattle.names.specs.declared.fault.Limit.TheVariants as limits
-use Rattle.names.specs.Faults.{module_told, name_told}
+use Rattle.names.specs.Faults.{fault_module, fault_name}
 use Rattle.names.specs.Names.{Module}
 use Rattle.names.specs.Sources.{Source}
 use Rattle.type_table.specs.Numbering.{Occurs, AreMore, AreNumbered, AreTops, RefersToNothing, all_parts, form_of}
 use Rattle.type_table.specs.proving.Checks.{IsSourceFault}
-use Rattle.type_table.specs.Table.{Type', IsCircular, IsCore, walk}
+use Rattle.type_table.specs.Table.{Type', IsCircular, IsUnderlying, walk}
 
 -- A reference in the assignment refers to name x, which is not the name of a type. M is the module of the assignment.
 pub record HasUnknown
@@ -42,8 +42,8 @@ pub record HasTooMany
 abbrev pub IsNumberingFault :
     List (Name × Module) → List (Name × TagDefault) → List (ℕ × Name) → List Source → NameFault → Type 0
 IsNumberingFault ms hs gs roots faults.Memory = Unit {0}
-IsNumberingFault ms hs gs roots (faults.UnknownName s) = HasUnknown ms hs gs roots (module_told s) (name_told s)
-IsNumberingFault ms hs gs roots (faults.Limit limits.Types s) = HasTooMany hs gs roots (module_told s) (name_told s)
+IsNumberingFault ms hs gs roots (faults.UnknownName s) = HasUnknown ms hs gs roots (fault_module s) (fault_name s)
+IsNumberingFault ms hs gs roots (faults.Limit limits.Types s) = HasTooMany hs gs roots (fault_module s) (fault_name s)
 IsNumberingFault ms hs gs roots e = ⊥
 
 -- The types before this one have a meaning, and no limit is passed by them. This one is a reference without a meaning,
@@ -53,12 +53,12 @@ pub record IsFirstSource
     (roots : List Source) (e : NameFault) : Type 0 where
   pub before : List Source
   pub source : Source
-  pub behind : List Source
-  pub all : roots ++ all_parts 0 before ≡ before ++ source ∷ behind
+  pub remaining : List Source
+  pub all : roots ++ all_parts 0 before ≡ before ++ source ∷ remaining
   pub types : List Type'
   pub tops : AreTops ms hs gs 0 (length roots) before types
-  pub few : length (before ++ source ∷ behind) ≤ 65536
-  pub fault : IsSourceFault ms hs gs (length before) (length (before ++ source ∷ behind)) source e
+  pub few : length (before ++ source ∷ remaining) ≤ 65536
+  pub fault : IsSourceFault ms hs gs (length before) (length (before ++ source ∷ remaining)) source e
 
 -- the first type, in the order of their numbers, that can't be numbered; `Memory` says nothing
 abbrev pub IsFirstNumbering :
@@ -86,11 +86,11 @@ pub record IsCircularAt
 pub record IsFirstCircle (ts : List Type') (p : ℕ) : Type 0 where
   pub start : ℕ
   pub there : start < length ts
-  pub leads : walk ts (length ts) start ≡ Some p
-  pub before : (i : ℕ) → i < start → (c : ℕ) × IsCore ts i c
+  pub chain : walk ts (length ts) start ≡ Some p
+  pub before : (i : ℕ) → i < start → (c : ℕ) × IsUnderlying ts i c
 
 -- a reason why types can't be linked
 abbrev pub IsTableFault :
     List (Name × Module) → List (Name × TagDefault) → List (ℕ × Name) → List Source → NameFault → Type 0
-IsTableFault ms hs gs roots (faults.Circular s) = IsCircularAt ms hs gs roots (module_told s) (name_told s)
+IsTableFault ms hs gs roots (faults.Circular s) = IsCircularAt ms hs gs roots (fault_module s) (fault_name s)
 IsTableFault ms hs gs roots e = IsNumberingFault ms hs gs roots e

@@ -4,8 +4,8 @@
 -- their numbers.
 use Rattle.std.specs.Prelude.{◌≡◌, ◌⊎◌, ◌<◌, ◌≤◌, ◌+◌, ◌++◌, ◌^◌, ℕ, ℤ, pos, List, [], Option, Some, None, String, Vec, map, length, slice_get, take}
 use Rattle.std.specs.Global.{Global}
-use Rattle.trees.specs.declared.place.At.{At}
-use Rattle.trees.specs.declared.place.Spot.{Spot}
+use Rattle.trees.specs.declared.location.At.{At}
+use Rattle.trees.specs.declared.location.SourceLocation.{SourceLocation}
 use Rattle.trees.specs.declared.types.EnumeratedItem.{EnumeratedItem}
 use Rattle.trees.specs.declared.types.EnumeratedSyntax.{EnumeratedSyntax}
 use Rattle.trees.specs.declared.types.NamedBit.{NamedBit}
@@ -18,8 +18,8 @@ use Rattle.names.specs.declared.fault.Limit.{Limit}
 use Rattle.names.specs.declared.fault.Limit.TheVariants as limits
 use Rattle.names.specs.declared.fault.NameFault.{NameFault}
 use Rattle.names.specs.declared.fault.NameFault.TheVariants as faults
-use Rattle.names.specs.Faults.{module_told, name_told}
-use Rattle.names.specs.Modules.{AreDistinct, StandsIn}
+use Rattle.names.specs.Faults.{fault_module, fault_name}
+use Rattle.names.specs.Modules.{AreDistinct, OccursIn}
 use Rattle.type_table.specs.declared.table.ListMember.{ListMember}
 use Rattle.type_table.specs.declared.table.Shape.{Shape}
 use Rattle.type_table.specs.declared.table.Shape.TheVariants as shapes
@@ -41,35 +41,35 @@ IsLimitAt n (faults.Limit l s) = s.at ≡ n
 IsLimitAt n e = ⊥
 
 -- Element i of xs is among those before it, which are distinct. The fault has name i and its offset.
-pub record IsSecond {X : Type 0} (names : List Placed) (xs : List X) (i : ℕ) (s : Spot) : Type 0 where
+pub record IsSecond {X : Type 0} (names : List Placed) (xs : List X) (i : ℕ) (s : SourceLocation) : Type 0 where
   pub name : Placed
   pub named : slice_get names i ≡ Some name
-  pub told : name_told s ≡ name_at name
+  pub reported : fault_name s ≡ name_at name
   pub at : s.at ≡ name.at
   pub element : X
   pub there : slice_get xs i ≡ Some element
-  pub again : StandsIn (take i xs) element
+  pub again : OccursIn (take i xs) element
   pub before : AreDistinct (take i xs)
 
 -- `Twice` for the first element of xs that is also before its place, at index i, for which P holds; M is the module
-abbrev pub TellsSecond : {X : Type 0} → Name → List Placed → List X → (ℕ → Type 0) → NameFault → Type 0
-TellsSecond M names xs P faults.Memory = Unit {0}
-TellsSecond M names xs P (faults.Twice s) = (module_told s ≡ M) × (i : ℕ) × IsSecond names xs i s × P i
-TellsSecond M names xs P e = ⊥
+abbrev pub ReportsSecond : {X : Type 0} → Name → List Placed → List X → (ℕ → Type 0) → NameFault → Type 0
+ReportsSecond M names xs P faults.Memory = Unit {0}
+ReportsSecond M names xs P (faults.Twice s) = (fault_module s ≡ M) × (i : ℕ) × IsSecond names xs i s × P i
+ReportsSecond M names xs P e = ⊥
 
 -- `Limit` with limit l, module M, the name of assignment a, and the offset of name i, for which P holds
-abbrev pub TellsPassed : Limit → Name → Name → List Placed → (ℕ → Type 0) → NameFault → Type 0
-TellsPassed l M a names P faults.Memory = Unit {0}
-TellsPassed l M a names P (faults.Limit k s) =
+abbrev pub ReportsPassed : Limit → Name → Name → List Placed → (ℕ → Type 0) → NameFault → Type 0
+ReportsPassed l M a names P faults.Memory = Unit {0}
+ReportsPassed l M a names P (faults.Limit k s) =
     (k ≡ l)
-    × (module_told s ≡ M)
-    × (name_told s ≡ a)
+    × (fault_module s ≡ M)
+    × (fault_name s ≡ a)
     × (i : ℕ)
     × (name : Placed)
     × (slice_get names i ≡ Some name)
     × (s.at ≡ name.at)
     × P i
-TellsPassed l M a names P e = ⊥
+ReportsPassed l M a names P e = ⊥
 
 -- ---- named numbers and named bits
 
@@ -88,8 +88,8 @@ numbers_given ns = map (λ (n : Name × ℤ). n.1) (map number_of ns)
 -- the first named number whose name, or whose number, is also before it
 abbrev pub IsFirstNumber : Name → List NamedNumber → NameFault → Type 0
 IsFirstNumber M ns e =
-    TellsSecond M (number_names ns) (numbers_named ns) (λ i. AreDistinct (take i (numbers_given ns))) e
-    ⊎ TellsSecond M (number_names ns) (numbers_given ns) (λ i. AreDistinct (take (i + 1) (numbers_named ns))) e
+    ReportsSecond M (number_names ns) (numbers_named ns) (λ i. AreDistinct (take i (numbers_given ns))) e
+    ⊎ ReportsSecond M (number_names ns) (numbers_given ns) (λ i. AreDistinct (take (i + 1) (numbers_named ns))) e
 
 -- the names of named bits, with their offsets
 abbrev pub bit_names : List NamedBit → List Placed
@@ -120,9 +120,9 @@ pub record IsFarBit (bs : List NamedBit) (i : ℕ) : Type 0 where
 -- the module, and a the name of the assignment.
 abbrev pub IsFirstBit : Name → Name → List NamedBit → NameFault → Type 0
 IsFirstBit M a bs e =
-    TellsSecond M (bit_names bs) (bits_named bs) (λ i. AreDistinct (take i (bit_places bs)) × AreNear i bs) e
-    ⊎ (TellsPassed limits.NamedBit M a (bit_names bs) (IsFarBit bs) e
-    ⊎ TellsSecond M (bit_names bs) (bit_places bs)
+    ReportsSecond M (bit_names bs) (bits_named bs) (λ i. AreDistinct (take i (bit_places bs)) × AreNear i bs) e
+    ⊎ (ReportsPassed limits.NamedBit M a (bit_names bs) (IsFarBit bs) e
+    ⊎ ReportsSecond M (bit_names bs) (bit_places bs)
     (λ i. AreDistinct (take (i + 1) (bits_named bs)) × AreNear (i + 1) bs) e)
 
 -- ---- enumerations
@@ -133,8 +133,8 @@ items_or_none None = []
 items_or_none (Some v) = v.items
 
 -- the items of an enumeration after the extension marker
-abbrev pub items_behind : EnumeratedSyntax → List EnumeratedItem
-items_behind e = items_or_none e.additions
+abbrev pub items_after : EnumeratedSyntax → List EnumeratedItem
+items_after e = items_or_none e.additions
 
 -- the names of items, with their offsets
 abbrev pub item_places : List EnumeratedItem → List Placed
@@ -146,7 +146,7 @@ all_names e = map (λ (i : Item). i.0) (root_of e ++ more_of e)
 
 -- the names of all items, with their offsets
 abbrev pub all_places : EnumeratedSyntax → List Placed
-all_places e = item_places e.root.items ++ item_places (items_behind e)
+all_places e = item_places e.root.items ++ item_places (items_after e)
 
 -- the enumeration has at most 1,024 items in its root, and at most 64 additions
 abbrev pub HasFewItems : EnumeratedSyntax → Type 0
@@ -162,21 +162,21 @@ pub record IsGreatItem (e : EnumeratedSyntax) (i : ℕ) : Type 0 where
 -- item 1,024 of the root, or addition 64 (both counted from 0), which is past the limit
 abbrev pub IsPassedItem : Name → Name → EnumeratedSyntax → NameFault → Type 0
 IsPassedItem M a e f =
-    TellsPassed limits.Items M a (item_places e.root.items) (λ i. i ≡ 1024) f
-    ⊎ TellsPassed limits.Items M a (item_places (items_behind e)) (λ i. (i ≡ 64) × (length (root_of e) ≤ 1024)) f
+    ReportsPassed limits.Items M a (item_places e.root.items) (λ i. i ≡ 1024) f
+    ⊎ ReportsPassed limits.Items M a (item_places (items_after e)) (λ i. (i ≡ 64) × (length (root_of e) ≤ 1024)) f
 
 -- an addition that gets too great a number, or else the first item whose number is also before it
 abbrev pub IsItemNumber : Name → Name → EnumeratedSyntax → NameFault → Type 0
 IsItemNumber M a e f =
-    TellsPassed limits.Integer M a (item_places (items_behind e)) (IsGreatItem e) f
-    ⊎ TellsSecond M (all_places e) (numbers_of (root_of e) (more_of e))
+    ReportsPassed limits.Integer M a (item_places (items_after e)) (IsGreatItem e) f
+    ⊎ ReportsSecond M (all_places e) (numbers_of (root_of e) (more_of e))
     (λ i. HasFewItems e × AreDistinct (all_names e) × AreWithinLimit (numbers_of (root_of e) (more_of e))) f
 
 -- The first fault of an enumeration: an item past the limit; then the first name that is also before it; then a number.
 abbrev pub IsFirstItem : Name → Name → EnumeratedSyntax → NameFault → Type 0
 IsFirstItem M a e f =
     IsPassedItem M a e f
-    ⊎ (TellsSecond M (all_places e) (all_names e) (λ i. HasFewItems e) f ⊎ IsItemNumber M a e f)
+    ⊎ (ReportsSecond M (all_places e) (all_names e) (λ i. HasFewItems e) f ⊎ IsItemNumber M a e f)
 
 -- ---- members
 
@@ -199,8 +199,8 @@ IsPastMember cs i = HasFewMembers (take i cs) × (HasFewMembers (take (i + 1) cs
 -- The first fault of a list of members: the first member past a limit; or else the first name that is also before it.
 abbrev pub IsFirstMember : Name → Name → List ListMember → NameFault → Type 0
 IsFirstMember M a cs e =
-    TellsPassed limits.Members M a (member_places cs) (IsPastMember cs) e
-    ⊎ TellsSecond M (member_places cs) (members_named cs) (λ i. HasFewMembers cs) e
+    ReportsPassed limits.Members M a (member_places cs) (IsPastMember cs) e
+    ⊎ ReportsSecond M (member_places cs) (members_named cs) (λ i. HasFewMembers cs) e
 
 -- ---- types
 
@@ -220,17 +220,17 @@ IsFirstInList M a s e = ⊥
 -- ---- two reports
 
 -- two reports have the same module, name and offset
-abbrev pub IsSameSpot : Spot → Spot → Type 0
-IsSameSpot s t = (module_told s ≡ module_told t) × (name_told s ≡ name_told t) × (s.at ≡ t.at)
+abbrev pub IsSameLocation : SourceLocation → SourceLocation → Type 0
+IsSameLocation s t = (fault_module s ≡ fault_module t) × (fault_name s ≡ fault_name t) × (s.at ≡ t.at)
 
 -- two faults say the same; `Memory` says nothing
-abbrev pub SaysSame : NameFault → NameFault → Type 0
-SaysSame faults.Memory f = Unit {0}
-SaysSame e faults.Memory = Unit {0}
-SaysSame (faults.Limit l s) (faults.Limit k t) = (l ≡ k) × IsSameSpot s t
-SaysSame (faults.Twice s) (faults.Twice t) = IsSameSpot s t
-SaysSame (faults.UnknownName s) (faults.UnknownName t) = IsSameSpot s t
-SaysSame (faults.NotExported s) (faults.NotExported t) = IsSameSpot s t
-SaysSame (faults.Circular s) (faults.Circular t) = IsSameSpot s t
-SaysSame (faults.UnknownModule s) (faults.UnknownModule t) = IsSameSpot s t
-SaysSame e f = ⊥
+abbrev pub ReportsAlike : NameFault → NameFault → Type 0
+ReportsAlike faults.Memory f = Unit {0}
+ReportsAlike e faults.Memory = Unit {0}
+ReportsAlike (faults.Limit l s) (faults.Limit k t) = (l ≡ k) × IsSameLocation s t
+ReportsAlike (faults.Twice s) (faults.Twice t) = IsSameLocation s t
+ReportsAlike (faults.UnknownName s) (faults.UnknownName t) = IsSameLocation s t
+ReportsAlike (faults.NotExported s) (faults.NotExported t) = IsSameLocation s t
+ReportsAlike (faults.Circular s) (faults.Circular t) = IsSameLocation s t
+ReportsAlike (faults.UnknownModule s) (faults.UnknownModule t) = IsSameLocation s t
+ReportsAlike e f = ⊥

@@ -3,7 +3,7 @@ use Rattle.std.specs.Prelude.{◌<◌, ◌≤◌, ℕ, zero, suc, max, ℤ, pos,
 use Rattle.std.specs.List.{list_any}
 use Rattle.std.specs.Ordering.{int_eq}
 use Rattle.trees.specs.Values.{Name}
-use Rattle.names.specs.Modules.{StandsIn}
+use Rattle.names.specs.Modules.{OccursIn}
 
 -- an item: its name, and its number if one is written
 abbrev pub Item : Type 0
@@ -27,9 +27,9 @@ IsAbove n (negsuc m) = Unit {0}
 
 -- n is the least number from 0 on that isn't in `used` and is greater than each number in `earlier`
 pub record IsNext (used earlier : List ℤ) (n : ℕ) : Type 0 where
-  pub unused : StandsIn used (pos n) → ⊥
-  pub above : (z : ℤ) → StandsIn earlier z → IsAbove n z
-  pub least : (m : ℕ) → (StandsIn used (pos m) → ⊥) → ((z : ℤ) → StandsIn earlier z → IsAbove m z) → n ≤ m
+  pub unused : OccursIn used (pos n) → ⊥
+  pub above : (z : ℤ) → OccursIn earlier z → IsAbove n z
+  pub least : (m : ℕ) → (OccursIn used (pos m) → ⊥) → ((z : ℤ) → OccursIn earlier z → IsAbove m z) → n ≤ m
 
 -- The numbers of root items (X.680, clause 20.5). An item has its written number. Each item without one gets the next
 -- number from 0 on that no root item has in writing. `earlier` holds the numbers of the earlier items without a written
@@ -56,7 +56,7 @@ pub data AreAdditionNumbers (root : List ℤ) : (earlier : List ℤ) → List It
       AreAdditionNumbers root (pos n ∷ earlier) is zs →
       AreAdditionNumbers root earlier ((x, None) ∷ is) (pos n ∷ zs)
 
--- ---- functions that compute the same numbers; the law `numbers_of_items` says that they agree
+-- ---- functions that compute the same numbers; the law `lemma_numbers_of_items` says that they agree
 
 -- whether z is in the list
 abbrev pub is_among : ℤ → List ℤ → Bool

@@ -4,7 +4,7 @@ use Rattle.trees.specs.Values.{Name}
 use Rattle.trees.specs.Types.{Plain, an_integer, a_bit_string, an_enumerated}
 use Rattle.names.specs.declared.fault.Limit.{Limit}
 use Rattle.names.specs.declared.fault.Limit.TheVariants as limits
-use Rattle.names.specs.Modules.{StandsIn, StandsTwice}
+use Rattle.names.specs.Modules.{OccursIn, OccursTwice}
 use Rattle.type_table.specs.Items.{additions_of, addition_numbers, numbers_of}
 use Rattle.type_table.specs.Lists.{root_count, addition_count}
 use Rattle.type_table.specs.Table.{Part, Kind, simple, members}
@@ -15,11 +15,11 @@ pub record IsNumberTwice {Z : Type 0} (numbers : List Z) (names : List Name) (x 
   pub number : Z
   pub named : slice_get names place ≡ Some x
   pub has : slice_get numbers place ≡ Some number
-  pub twice : StandsTwice numbers number
+  pub twice : OccursTwice numbers number
 
 -- name x is twice in a list of names with numbers, or its number is
 abbrev pub IsTwiceAmong : {Z : Type 0} → List Name → List Z → Name → Type 0
-IsTwiceAmong names numbers x = StandsTwice names x ⊎ IsNumberTwice numbers names x
+IsTwiceAmong names numbers x = OccursTwice names x ⊎ IsNumberTwice numbers names x
 
 -- Name x, or its number, is twice in the list of a type. An item without a written number has the number that it gets.
 abbrev pub IsTwicePlain : Plain → Name → Type 0
@@ -32,7 +32,7 @@ IsTwicePlain k x = ⊥
 -- name x is twice in the list of a type of this kind, or its number is
 abbrev pub IsTwiceIn : Kind → Name → Type 0
 IsTwiceIn (simple s) x = IsTwicePlain s x
-IsTwiceIn (members l m cs) x = StandsTwice (map (λ (c : Part). c.name) cs) x
+IsTwiceIn (members l m cs) x = OccursTwice (map (λ (c : Part). c.name) cs) x
 IsTwiceIn k x = ⊥
 
 -- a list has too many members in its root, or too many additions
@@ -47,12 +47,12 @@ HasManyItems k = ⊥
 
 -- the place of a named bit is greater than 65,535
 abbrev pub HasFarBit : Kind → Type 0
-HasFarBit (simple (a_bit_string bs)) = (n : ℕ) × StandsIn (map (λ b. b.1) bs) n × (65535 < n)
+HasFarBit (simple (a_bit_string bs)) = (n : ℕ) × OccursIn (map (λ b. b.1) bs) n × (65535 < n)
 HasFarBit k = ⊥
 
 -- an addition of an enumeration gets the number 2^127
 abbrev pub HasGreatNumber : Kind → Type 0
-HasGreatNumber (simple (an_enumerated root more)) = StandsIn (addition_numbers root (additions_of more)) (pos (2 ^ 127))
+HasGreatNumber (simple (an_enumerated root more)) = OccursIn (addition_numbers root (additions_of more)) (pos (2 ^ 127))
 HasGreatNumber k = ⊥
 
 -- a type of this kind passes this limit

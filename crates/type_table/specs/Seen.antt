@@ -12,7 +12,7 @@ use Rattle.names.specs.Sources.{place_of}
 use Rattle.type_table.specs.declared.table.ListMember.{ListMember}
 use Rattle.type_table.specs.declared.table.Shape.{Shape}
 use Rattle.type_table.specs.declared.table.Shape.TheVariants as shapes
-use Rattle.type_table.specs.declared.table.Written.{Written}
+use Rattle.type_table.specs.declared.table.TypeNode.{TypeNode}
 use Rattle.type_table.specs.Items.{Item, additions_of}
 use Rattle.type_table.specs.Table.{Part, Kind, simple, reference, tagged, members, elements, Type'}
 
@@ -29,7 +29,7 @@ kind_of (shapes.Members k m cs) = members k m (map part_of cs.items)
 kind_of (shapes.Elements k j) = elements k j
 
 -- the written type that one in memory is, without its place in the text
-abbrev pub type_of : Written → Type'
+abbrev pub type_of : TypeNode → Type'
 type_of w = record {
   kind = kind_of w.shape;
   constraints = map constraint_of w.constraints.items;
@@ -39,7 +39,7 @@ type_of w = record {
 }
 
 -- the written types of a table in memory, in order, without their places in the text
-abbrev pub types_of : List Written → List Type'
+abbrev pub types_of : List TypeNode → List Type'
 types_of = map type_of
 
 -- the form of a type
@@ -55,9 +55,9 @@ abbrev pub root_of : EnumeratedSyntax → List Item
 root_of e = map item_of e.root.items
 
 -- the items of an enumeration after the marker, if it has a marker
-abbrev pub behind_marker : EnumeratedSyntax → Option (List Item)
-behind_marker e = option_map (λ is. map item_of is.items) e.additions
+abbrev pub after_marker : EnumeratedSyntax → Option (List Item)
+after_marker e = option_map (λ is. map item_of is.items) e.additions
 
 -- the items after the marker, or none if it has no marker
 abbrev pub more_of : EnumeratedSyntax → List Item
-more_of e = additions_of (behind_marker e)
+more_of e = additions_of (after_marker e)

@@ -37,29 +37,29 @@ pub record Type' : Type 0 where
   pub assignment : ℕ
 
 -- the type that a type of this kind leads to, if it is a reference or a tag
-abbrev pub behind : Kind → Option ℕ
-behind (reference j) = Some j
-behind (tagged t k j) = Some j
-behind k = None
+abbrev pub target : Kind → Option ℕ
+target (reference j) = Some j
+target (tagged t k j) = Some j
+target k = None
 
 -- the type that a type leads to, or None if there is no type or it leads to none
-abbrev pub behind_of : Option Type' → Option ℕ
-behind_of None = None
-behind_of (Some t) = behind t.kind
+abbrev pub target_of : Option Type' → Option ℕ
+target_of None = None
+target_of (Some t) = target t.kind
 
 -- the type that type i leads to, if that is a reference or a tag
 abbrev pub next : List Type' → ℕ → Option ℕ
-next ts i = behind_of (slice_get ts i)
+next ts i = target_of (slice_get ts i)
 
 -- the type after k references and tags from type i on
 abbrev pub walk : List Type' → ℕ → ℕ → Option ℕ
 walk ts k i = follow (next ts) k i
 
 -- type c, which is neither a reference nor a tag, is the core of type i
-pub record IsCore (ts : List Type') (i c : ℕ) : Type 0 where
+pub record IsUnderlying (ts : List Type') (i c : ℕ) : Type 0 where
   pub steps : ℕ
   pub few : steps < length ts
-  pub leads : walk ts steps i ≡ Some c
+  pub chain : walk ts steps i ≡ Some c
   pub ends : next ts c ≡ None
 
 -- type i comes back to itself
@@ -72,7 +72,7 @@ IsClosed ts = IsWithin (next ts) (length ts)
 
 -- each type unfolds to a core
 abbrev pub AllUnfold : List Type' → Type 0
-AllUnfold ts = (i : ℕ) → i < length ts → (c : ℕ) × IsCore ts i c
+AllUnfold ts = (i : ℕ) → i < length ts → (c : ℕ) × IsUnderlying ts i c
 
 -- type i of the table has this kind, this tag default and this place in a list
 pub record Is (ts : List Type') (i : ℕ) (k : Kind) (d : TagDefault) (p : Option (ℕ × ℕ)) : Type 0 where

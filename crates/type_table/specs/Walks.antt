@@ -15,7 +15,7 @@ follow next (suc k) i = onward (next i) (λ j. follow next k j)
 -- the references from place i on end at place c
 pub record EndsAt (next : ℕ → Option ℕ) (i c : ℕ) : Type 0 where
   pub steps : ℕ
-  pub leads : follow next steps i ≡ Some c
+  pub chain : follow next steps i ≡ Some c
   pub ends : next c ≡ None
 
 -- the references from place i on come back to it
@@ -30,4 +30,4 @@ IsWithin next n = (i j : ℕ) → next i ≡ Some j → j < n
 -- the references from place i on lead to place p
 pub record ArrivesAt (next : ℕ → Option ℕ) (i p : ℕ) : Type 0 where
   pub steps : ℕ
-  pub leads : follow next steps i ≡ Some p
+  pub chain : follow next steps i ≡ Some p

@@ -3,14 +3,14 @@
 ghost use Rattle.std.specs.Prelude.{◌≡◌, ◌≤◌, ◌<◌, ◌+◌, ◌++◌, ◌^◌, ℤ, pos, List, IfOk, IfErr, OnOk, MatchOption, map};
 ghost use Rattle.trees.specs.Types.{item_of};
 ghost use Rattle.type_table.specs.declared.items.NumberFault.TheVariants as faults;
-ghost use Rattle.type_table.specs.FirstInList.{items_behind};
+ghost use Rattle.type_table.specs.FirstInList.{items_after};
 ghost use Rattle.type_table.specs.Items.{given_numbers, root_numbers, additions_from, numbers_of, number_or, past};
 ghost use Rattle.type_table.specs.Lists.{AreWithinLimit};
 ghost use Rattle.type_table.specs.Seen.{root_of, more_of};
 ghost use Rattle.type_table.specs.proving.Sets.{Puts, IsSetOf, IsFree};
 ghost use Rattle.type_table.specs.proving.Checks.{IsGreatAt, IsGreatFirst};
 
-use asn_base::law::integer_within_limit;
+use asn_base::law::lemma_integer_within_limit;
 use std::alloc::{AllocError, AllocFailed, Global};
 use std::collections::BTreeSet;
 use trees::{EnumeratedItem, EnumeratedSyntax};
@@ -59,7 +59,7 @@ fn put(number: i128, set: &mut BTreeSet<i128>) -> Result<(), AllocError>
     ensures added { OnOk result (Puts set.old.keys set.new.keys number) }
     ensures within { AreWithinLimit set.old.keys → OnOk result (AreWithinLimit set.new.keys) }
 {
-    integer_within_limit(number);
+    lemma_integer_within_limit(number);
     set.insert(number)?;
     Ok(())
 }
@@ -110,7 +110,7 @@ fn root(alloc: Global, items: &[EnumeratedItem]) -> Result<Vec<i128>, AllocError
     for item in items {
         match item.number {
             Some(number) => {
-                integer_within_limit(number);
+                lemma_integer_within_limit(number);
                 numbers.push(number)?;
             }
             None => {
@@ -175,7 +175,7 @@ fn with_additions(
         match number_or_free(&used, next, items[i].number) {
             None => return Err(NumberFault::TooGreat(i)),
             Some(number) => {
-                integer_within_limit(number);
+                lemma_integer_within_limit(number);
                 numbers.push(number)?;
                 next = next.max(above(number));
             }
@@ -187,7 +187,7 @@ fn with_additions(
 /// The items after the extension marker, or none if there is no marker.
 pub(crate) fn additions(given: &EnumeratedSyntax) -> &[EnumeratedItem]
     ensures items { map item_of result.now ≡ more_of given.now }
-    ensures same { result.now ≡ items_behind given.now }
+    ensures same { result.now ≡ items_after given.now }
 {
     match &given.additions {
         None => &[],

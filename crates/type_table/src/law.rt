@@ -10,13 +10,13 @@ ghost use Rattle.names.specs.Names.{Module, IsApart, Refers};
 ghost use Rattle.names.specs.Sources.{HaveNoPlace, Source};
 ghost use Rattle.type_table.specs.declared.table.Shape.{Shape};
 ghost use Rattle.type_table.specs.Faults.{IsTableFault};
-ghost use Rattle.type_table.specs.FirstInList.{IsFirstInList, SaysSame};
+ghost use Rattle.type_table.specs.FirstInList.{IsFirstInList, ReportsAlike};
 ghost use Rattle.type_table.specs.Items.{Item, given_numbers, AreRootNumbers, AreAdditionNumbers, root_numbers, addition_numbers};
 ghost use Rattle.type_table.specs.Numbering.{AreNumbered};
 ghost use Rattle.type_table.specs.Table.{Type', AllUnfold, IsClosed, IsLinked};
 
 /// If the names, module headers, assignments and their types are given, there is exactly one table of types.
-pub fn one_table()
+pub fn lemma_one_table()
     ensures { (ms : List (Name × Module)) (hs : List (Name × Default)) (gs : List (ℕ × Name)) (roots : List Source)
         (ts us : List Type') →
         IsApart ms →
@@ -27,7 +27,7 @@ pub fn one_table()
 
 /// If a fault of the types other than `Memory` is true, there is no table in which each type unfolds and no limit is
 /// passed.
-pub fn table_faults_exclude()
+pub fn lemma_table_faults_exclude()
     ensures { (ms : List (Name × Module)) (hs : List (Name × Default)) (gs : List (ℕ × Name)) (roots : List Source)
         (ts : List Type') →
         AreNumbered ms hs gs roots ts →
@@ -41,15 +41,15 @@ pub fn table_faults_exclude()
 {}
 
 /// The list of a type has at most one first fault: two that are the first of one list say the same, with one offset.
-pub fn one_first_in_list()
+pub fn lemma_one_first_in_list()
     ensures { (M a : Name) (k : Shape) (e f : NameFault) →
         IsFirstInList M a k e →
         IsFirstInList M a k f →
-        SaysSame e f }
+        ReportsAlike e f }
 {}
 
 /// The types of the assignments are in the table, and each type of the table is in one of the assignments.
-pub fn numbered_there()
+pub fn lemma_numbered_there()
     ensures roots { (ms : List (Name × Module)) (hs : List (Name × Default)) (gs : List (ℕ × Name))
         (roots : List Source) (ts : List Type') →
         AreNumbered ms hs gs roots ts →
@@ -63,7 +63,7 @@ pub fn numbered_there()
 {}
 
 /// If each reference leads to a type of the table and all types unfold, the table is one of linked types.
-pub fn numbered_linked()
+pub fn lemma_numbered_linked()
     ensures closed { (ms : List (Name × Module)) (hs : List (Name × Default)) (gs : List (ℕ × Name))
         (roots : List Source) (ts : List Type') →
         AreNumbered ms hs gs roots ts →
@@ -79,7 +79,7 @@ pub fn numbered_linked()
 {}
 
 /// The computed numbers of items are those of X.680, 20.5 and 20.6, and no others are.
-pub fn numbers_of_items()
+pub fn lemma_numbers_of_items()
     ensures root { (is : List Item) → AreRootNumbers (given_numbers is) [] is (root_numbers is) }
     ensures additions { (is more : List Item) →
         AreAdditionNumbers (root_numbers is) [] more (addition_numbers is more) }

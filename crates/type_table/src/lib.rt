@@ -10,7 +10,7 @@ pub mod table;
 pub mod unfolding;
 
 pub use items::{NumberFault, item_numbers};
-pub use table::{ListMember, Shape, Written};
+pub use table::{ListMember, Shape, TypeNode};
 
 // Libraries that crates above name through this one.
 pub use asn_base;

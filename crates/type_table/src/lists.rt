@@ -7,23 +7,23 @@ ghost use Rattle.trees.specs.Types.{number_of, bit_of, item_of, plain_of, an_int
 ghost use Rattle.trees.specs.declared.types.ListKind.{ListKind as Kinds};
 ghost use Rattle.names.specs.declared.fault.Limit.TheVariants as limits';
 ghost use Rattle.names.specs.First.{IsTwiceAt};
-ghost use Rattle.names.specs.Modules.{StandsIn, StandsTwice, AreDistinct};
+ghost use Rattle.names.specs.Modules.{OccursIn, OccursTwice, AreDistinct};
 ghost use Rattle.names.specs.proving.Gathering.{IsTaken, IsRepeated};
-ghost use Rattle.type_table.specs.FirstInList.{Placed, IsLimitAt, TellsSecond, TellsPassed};
+ghost use Rattle.type_table.specs.FirstInList.{Placed, IsLimitAt, ReportsSecond, ReportsPassed};
 ghost use Rattle.type_table.specs.FirstInList.{IsFirstNumber, IsFirstBit, IsFirstItem, IsFirstMember, IsFirstPlain, IsFirstInList};
 ghost use Rattle.type_table.specs.FirstInList.{HasFewItems, IsPassedItem, IsItemNumber, IsPastMember, all_names, all_places, item_places, member_places, members_named};
 ghost use Rattle.type_table.specs.Items.{numbers_of};
 ghost use Rattle.type_table.specs.Lists.{AreWithinLimit, IsSoundPlain, IsSoundKind, root_count, addition_count, in_root, in_additions};
-ghost use Rattle.type_table.specs.Seen.{part_of, kind_of, root_of, behind_marker, more_of};
+ghost use Rattle.type_table.specs.Seen.{part_of, kind_of, root_of, after_marker, more_of};
 ghost use Rattle.type_table.specs.Table.{Part, simple, members as list_of};
-ghost use Rattle.type_table.specs.proving.Checks.{texts, TellsLimit, TellsName, IsAgain, IsNumberFault, IsKindFault};
+ghost use Rattle.type_table.specs.proving.Checks.{texts, ReportsLimit, ReportsName, IsAgain, IsNumberFault, IsKindFault};
 ghost use Rattle.type_table.specs.proving.Sets.{Puts, IsSetOf};
 
 use crate::items::{NumberFault, additions, item_numbers};
 use crate::table::{ListMember, Shape};
 use indexmap::IndexSet;
 use limits::{MAX_ADDITIONS, MAX_ITEMS, MAX_MEMBERS};
-use names::fault::spot;
+use names::fault::source_location;
 use names::{Limit, NameFault};
 use std::alloc::{AllocError, Global};
 use std::collections::BTreeSet;
@@ -33,22 +33,22 @@ use trees::{
 
 /// The fault `Twice` for a name that, or whose number, is in a list already. `Memory` only if an allocation fails.
 fn twice(alloc: Global, within: &str, name: &At<String>) -> NameFault
-    ensures name { TellsName within.now (name_at name.now) result }
+    ensures name { ReportsName within.now (name_at name.now) result }
     ensures at { IsTwiceAt name.now.at result }
 {
-    match spot(alloc, within, name.it.as_str(), name.at) {
-        Ok(spot) => NameFault::Twice(spot),
+    match source_location(alloc, within, name.it.as_str(), name.at) {
+        Ok(source_location) => NameFault::Twice(source_location),
         Err(_) => NameFault::Memory,
     }
 }
 
 /// The fault `Limit` for a limit that an assignment passes. `Memory` only if an allocation fails.
 fn passed(alloc: Global, limit: Limit, within: &str, assigns: &str, at: usize) -> NameFault
-    ensures limit { TellsLimit limit within.now assigns.now result }
+    ensures limit { ReportsLimit limit within.now assigns.now result }
     ensures at { IsLimitAt at result }
 {
-    match spot(alloc, within, assigns, at) {
-        Ok(spot) => NameFault::Limit(limit, spot),
+    match source_location(alloc, within, assigns, at) {
+        Ok(source_location) => NameFault::Limit(limit, source_location),
         Err(_) => NameFault::Memory,
     }
 }
@@ -61,13 +61,13 @@ fn name_once(
     names: &mut IndexSet<String>,
 ) -> Result<(), NameFault>
     ensures added { OnOk result (texts names.new.keys ≡ texts names.old.keys ++ name_at name.now ∷ []) }
-    ensures fresh { OnOk result (StandsIn (texts names.old.keys) (name_at name.now) → ⊥) }
+    ensures fresh { OnOk result (OccursIn (texts names.old.keys) (name_at name.now) → ⊥) }
     ensures fault { IfErr result (IsTaken within.now (name_at name.now) (texts names.old.keys)) }
     ensures at { IfErr result (IsTwiceAt name.now.at) }
 {
     let text = name.it.as_str();
     if names.contains(text) {
-        return Err(NameFault::Twice(spot(alloc, within, text, name.at)?));
+        return Err(NameFault::Twice(source_location(alloc, within, text, name.at)?));
     }
     names.insert(String::from_str(alloc, text)?)?;
     Ok(())
@@ -82,12 +82,12 @@ fn number_once(
     numbers: &mut BTreeSet<i128>,
 ) -> Result<(), NameFault>
     ensures added { OnOk result (Puts numbers.old.keys numbers.new.keys number) }
-    ensures fresh { OnOk result (StandsIn numbers.old.keys number → ⊥) }
+    ensures fresh { OnOk result (OccursIn numbers.old.keys number → ⊥) }
     ensures fault { IfErr result (IsNumberFault within.now (name_at name.now) number numbers.old.keys) }
     ensures at { IfErr result (IsTwiceAt name.now.at) }
 {
     if numbers.contains(&number) {
-        return Err(NameFault::Twice(spot(alloc, within, name.it.as_str(), name.at)?));
+        return Err(NameFault::Twice(source_location(alloc, within, name.it.as_str(), name.at)?));
     }
     numbers.insert(number)?;
     Ok(())
@@ -102,12 +102,12 @@ fn place_once(
     places: &mut BTreeSet<u128>,
 ) -> Result<(), NameFault>
     ensures added { OnOk result (Puts places.old.keys places.new.keys place) }
-    ensures fresh { OnOk result (StandsIn places.old.keys place → ⊥) }
+    ensures fresh { OnOk result (OccursIn places.old.keys place → ⊥) }
     ensures fault { IfErr result (IsNumberFault within.now (name_at name.now) place places.old.keys) }
     ensures at { IfErr result (IsTwiceAt name.now.at) }
 {
     if places.contains(&place) {
-        return Err(NameFault::Twice(spot(alloc, within, name.it.as_str(), name.at)?));
+        return Err(NameFault::Twice(source_location(alloc, within, name.it.as_str(), name.at)?));
     }
     places.insert(place)?;
     Ok(())
@@ -175,7 +175,7 @@ fn few_items(
     ensures root { OnOk result (length (root_of given.now) ≤ 1024) }
     ensures more { OnOk result (length (more_of given.now) ≤ 64) }
     ensures fault { IfErr result
-        (IsKindFault within.now assigns.now (simple (an_enumerated (root_of given.now) (behind_marker given.now)))) }
+        (IsKindFault within.now assigns.now (simple (an_enumerated (root_of given.now) (after_marker given.now)))) }
     ensures first { IfErr result (IsPassedItem within.now assigns.now given.now) }
 {
     if given.root.len() > MAX_ITEMS {
@@ -205,7 +205,7 @@ fn item_names(
         (IsRepeated within.now (texts names.old.keys ++ map (λ i. i.0) (map item_of items.now))) }
     ensures first { (before : List Placed) →
         length before ≡ length (texts names.old.keys) →
-        IfErr result (TellsSecond within.now (before ++ item_places items.now)
+        IfErr result (ReportsSecond within.now (before ++ item_places items.now)
         (texts names.old.keys ++ map (λ i. i.0) (map item_of items.now)) (λ i. Unit {0})) }
 {
     for item in items {
@@ -221,7 +221,7 @@ fn item_names(
 fn first_again(alloc: Global, numbers: &[i128]) -> Result<Option<usize>, AllocError>
     ensures again { IfOk result (λ o. MatchOption o
         (AreDistinct numbers.now)
-        (λ i. (z : ℤ) × (slice_get numbers.now i ≡ Some z) × StandsTwice numbers.now z)) }
+        (λ i. (z : ℤ) × (slice_get numbers.now i ≡ Some z) × OccursTwice numbers.now z)) }
     ensures first { IfOk result (λ o. IfSome o (λ i. IsAgain numbers.now i)) }
 {
     let mut before = BTreeSet::new(alloc);
@@ -269,7 +269,7 @@ fn item_numbers_once(
     ensures distinct { OnOk result (AreDistinct (numbers_of (root_of given.now) (more_of given.now))) }
     ensures limit { OnOk result (AreWithinLimit (numbers_of (root_of given.now) (more_of given.now))) }
     ensures fault { IfErr result
-        (IsKindFault within.now assigns.now (simple (an_enumerated (root_of given.now) (behind_marker given.now)))) }
+        (IsKindFault within.now assigns.now (simple (an_enumerated (root_of given.now) (after_marker given.now)))) }
     ensures first { HasFewItems given.now →
         AreDistinct (all_names given.now) →
         IfErr result (IsItemNumber within.now assigns.now given.now) }
@@ -295,9 +295,9 @@ fn enumerated(
     assigns: &str,
     given: &EnumeratedSyntax,
 ) -> Result<(), NameFault>
-    ensures good { OnOk result (IsSoundPlain (an_enumerated (root_of given.now) (behind_marker given.now))) }
+    ensures good { OnOk result (IsSoundPlain (an_enumerated (root_of given.now) (after_marker given.now))) }
     ensures fault { IfErr result
-        (IsKindFault within.now assigns.now (simple (an_enumerated (root_of given.now) (behind_marker given.now)))) }
+        (IsKindFault within.now assigns.now (simple (an_enumerated (root_of given.now) (after_marker given.now)))) }
     ensures first { IfErr result (IsFirstItem within.now assigns.now given.now) }
 {
     match few_items(alloc, within, assigns, given) {
@@ -350,7 +350,7 @@ fn few_members(
     ensures more { OnOk result (addition_count (map part_of given.now) ≤ 64) }
     ensures fault { (l : Kinds) (m : Bool) →
         IfErr result (IsKindFault within.now assigns.now (list_of l m (map part_of given.now))) }
-    ensures first { IfErr result (TellsPassed limits'.Members within.now assigns.now (member_places given.now)
+    ensures first { IfErr result (ReportsPassed limits'.Members within.now assigns.now (member_places given.now)
         (IsPastMember given.now)) }
 {
     let mut counted = Members { root: 0, more: 0 };
@@ -372,7 +372,7 @@ fn member_names(alloc: Global, within: &str, given: &[ListMember]) -> Result<(),
     ensures distinct { OnOk result (AreDistinct (map (λ (c : Part). c.name) (map part_of given.now))) }
     ensures fault { IfErr result (IsRepeated within.now (map (λ (c : Part). c.name) (map part_of given.now))) }
     ensures first { IfErr result
-        (TellsSecond within.now (member_places given.now) (members_named given.now) (λ i. Unit {0})) }
+        (ReportsSecond within.now (member_places given.now) (members_named given.now) (λ i. Unit {0})) }
 {
     let mut names = IndexSet::new(alloc);
     for component in given {

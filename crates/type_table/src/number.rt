@@ -13,10 +13,10 @@ ghost use Rattle.type_table.specs.Numbering.{member_sources, inner_source, numbe
 ghost use Rattle.type_table.specs.Seen.{types_of, kind_of, part_of, type_of, form_seen};
 ghost use Rattle.type_table.specs.proving.Checks.{IsNothing, IsUnknown, IsTypesLimit, IsSourceFault};
 
-use crate::table::{ListMember, Shape, Written};
+use crate::table::{ListMember, Shape, TypeNode};
 use limits::MAX_WRITTEN;
-use names::fault::spot;
-use names::{Assigned, AssignedAt, Header, Limit, NameFault, Names, Place, Source};
+use names::fault::source_location;
+use names::{Assigned, AssignedAt, Header, Limit, MemberIndex, NameFault, Names, Source};
 use std::alloc::{AllocError, Global};
 use std::collections::VecDeque;
 use trees::{Member, Reference, TypeForm, TypeSyntax};
@@ -48,7 +48,7 @@ fn components_of(
         parts.push_back(Source {
             syntax,
             assignment,
-            place: Some(Place { list, number }),
+            place: Some(MemberIndex { list, number }),
         })?;
         components.push(ListMember {
             name,
@@ -91,7 +91,7 @@ fn meant_by(
     let name = reference.name.as_str();
     match names.refers(within, &reference.module, name) {
         Some(Assigned::Type(number)) => Ok(number),
-        _ => Err(NameFault::UnknownName(spot(alloc, within, name, reference.at)?)),
+        _ => Err(NameFault::UnknownName(source_location(alloc, within, name, reference.at)?)),
     }
 }
 
@@ -152,13 +152,13 @@ fn take_apart(
 pub fn too_many(alloc: Global, header: &Header, assignment: &AssignedAt, at: usize) -> NameFault
     ensures { IsTypesLimit (name_at header.now.name) (name_at assignment.now.name) result }
 {
-    match spot(
+    match source_location(
         alloc,
         header.name.it.as_str(),
         assignment.name.it.as_str(),
         at,
     ) {
-        Ok(spot) => NameFault::Limit(Limit::Types, spot),
+        Ok(source_location) => NameFault::Limit(Limit::Types, source_location),
         Err(_) => NameFault::Memory,
     }
 }
@@ -174,7 +174,7 @@ fn written_of(
     source: Source,
     number: usize,
     parts: &mut VecDeque<Source>,
-) -> Result<Written, NameFault>
+) -> Result<TypeNode, NameFault>
     requires assigned { source.assignment < length assignments.now }
     requires placed { (k : ℕ) (a : AssignedAt) → slice_get assignments.now k ≡ Some a → a.module < length headers.now }
     requires few { number + 1 + length parts.old.items ≤ 65536 }
@@ -215,7 +215,7 @@ fn written_of(
         first,
         parts,
     ) {
-        Ok(shape) => Ok(Written {
+        Ok(shape) => Ok(TypeNode {
             at,
             shape,
             constraints,
@@ -237,7 +237,7 @@ pub fn number_all(
     headers: &[Header],
     assignments: &[AssignedAt],
     roots: VecDeque<Source>,
-) -> Result<Vec<Written>, NameFault>
+) -> Result<Vec<TypeNode>, NameFault>
     requires assigned { AllAssigned (length assignments.now) (sources_of roots.items) }
     requires placed { (k : ℕ) (a : AssignedAt) → slice_get assignments.now k ≡ Some a → a.module < length headers.now }
     requires few { length roots.items ≤ 65536 }

@@ -1,7 +1,7 @@
 //! The written types, each by its number.
 
 use asn_base::tag::Tag;
-use names::Place;
+use names::MemberIndex;
 use trees::{
     At, ConstraintSyntax, ElementsKind, Keyword, ListKind, PresenceSyntax, Simple, Standing,
     TagDefault,
@@ -31,7 +31,7 @@ pub enum Shape {
 }
 
 /// A written type.
-pub struct Written {
+pub struct TypeNode {
     /// The offset in the text at which the type begins, in octets.
     pub at: usize,
     pub shape: Shape,
@@ -40,7 +40,7 @@ pub struct Written {
     /// The tag default of its module.
     pub default: TagDefault,
     /// Its list and its place there, if it is a member.
-    pub place: Option<Place>,
+    pub place: Option<MemberIndex>,
     /// The number of its assignment.
     pub assignment: usize,
 }
@@ -68,9 +68,9 @@ impl Drop for Shape {
     }
 }
 
-impl Drop for Written {
+impl Drop for TypeNode {
     fn drop(self) {
-        let Written {
+        let TypeNode {
             at: _,
             shape: _,
             constraints: _,

@@ -3,15 +3,15 @@
 ghost use Rattle.std.specs.Prelude.{◌≡◌, ℕ, ◌<◌, length, Ok, Err, IfErr, List, MatchResult, Some};
 ghost use Rattle.type_table.specs.Seen.{type_of, types_of};
 ghost use Rattle.type_table.specs.Faults.{IsFirstCircle};
-ghost use Rattle.type_table.specs.Table.{behind, walk, IsClosed, IsCircular, IsCore, Type'};
+ghost use Rattle.type_table.specs.Table.{target, walk, IsClosed, IsCircular, IsUnderlying, Type'};
 ghost use Rattle.type_table.specs.proving.Cores.{AreKnown, AreCores};
 ghost use Rattle.type_table.specs.proving.Notes.{IsKnown, AreUnknown};
 
-use crate::table::{Shape, Written};
+use crate::table::{Shape, TypeNode};
 
 /// The type that a reference or a tag leads to, or None for any other type.
-pub fn next(written: &Written) -> Option<usize>
-    ensures { result ≡ behind (type_of written.now).kind }
+pub fn next(written: &TypeNode) -> Option<usize>
+    ensures { result ≡ target (type_of written.now).kind }
 {
     match &written.shape {
         Shape::Reference(j) => Some(*j),
@@ -22,12 +22,12 @@ pub fn next(written: &Written) -> Option<usize>
 
 /// The core of a type. The walk ends at a type whose core is already noted. The error is a type that comes back to
 /// itself.
-fn core_by(types: &[Written], cores: &[usize], start: usize) -> Result<usize, usize>
+fn core_by(types: &[TypeNode], cores: &[usize], start: usize) -> Result<usize, usize>
     requires closed { IsClosed (types_of types.now) }
     requires long { length cores.now ≡ length types.now }
     requires known { AreKnown (types_of types.now) cores.now }
     requires there { start < length types.now }
-    ensures core { MatchResult result (λ c. (c < length types.now) × IsCore (types_of types.now) start c)
+    ensures core { MatchResult result (λ c. (c < length types.now) × IsUnderlying (types_of types.now) start c)
         (λ i. (i < length types.now) × IsCircular (types_of types.now) i) }
     ensures far { IfErr result (λ i. walk (types_of types.now) (length (types_of types.now)) start ≡ Some i) }
 {
@@ -46,12 +46,12 @@ fn core_by(types: &[Written], cores: &[usize], start: usize) -> Result<usize, us
 }
 
 /// Notes the core of a type for it and for each type on the way to the first one whose core was noted before.
-fn note(types: &[Written], cores: &mut [usize], start: usize, core: usize)
+fn note(types: &[TypeNode], cores: &mut [usize], start: usize, core: usize)
     requires long { length cores.old ≡ length types.now }
     requires known { AreKnown (types_of types.now) cores.old }
     requires there { start < length types.now }
     requires within { core < length types.now }
-    requires core { IsCore (types_of types.now) start core }
+    requires core { IsUnderlying (types_of types.now) start core }
     requires closed { IsClosed (types_of types.now) }
     ensures known { AreKnown (types_of types.now) cores.new }
     ensures kept { (i : ℕ) → IsKnown (length types.now) cores.old i → IsKnown (length types.now) cores.new i }
@@ -74,7 +74,7 @@ fn note(types: &[Written], cores: &mut [usize], start: usize, core: usize)
 /// Finds the core of each type. The error is a type that comes back to itself, to which the first type without a core
 /// leads. No type is passed more than three times,
 /// so the time depends only on the length of the table, even if its chains of references are long.
-pub fn unfold_all(types: &[Written], cores: &mut [usize]) -> Result<(), usize>
+pub fn unfold_all(types: &[TypeNode], cores: &mut [usize]) -> Result<(), usize>
     requires closed { IsClosed (types_of types.now) }
     requires long { length cores.old ≡ length types.now }
     requires unknown { AreUnknown (length types.now) cores.old }
@@ -93,5 +93,5 @@ pub fn unfold_all(types: &[Written], cores: &mut [usize]) -> Result<(), usize>
 
 /// A type that unfolds to a core doesn't come back to itself.
 pub fn not_both()
-    ensures { (ts : List Type') (i c : ℕ) → IsCore ts i c → IsCircular ts i → ⊥ }
+    ensures { (ts : List Type') (i c : ℕ) → IsUnderlying ts i c → IsCircular ts i → ⊥ }
 {}

@@ -12,8 +12,8 @@ use Rattle.value_notations.specs.Values.{ValueIn, ValueOf, AreComponents, AreEle
 use Rattle.value_notations.specs.Values as values
 use Rattle.values.specs.Allowing.{Allows, AllowsCode}
 use Rattle.typed_values.specs.Known.{AreKnown, IsListed}
-use Rattle.typed_values.proofs.Places.{one_some, less_or_more}
-use Rattle.typed_values.proofs.Following.{one_header}
+use Rattle.value_notations.specs.proving.Places.{one_some, less_or_more}
+use Rattle.value_notations.specs.proving.Following.{one_header}
 use Rattle.typed_values.proofs.Readings.{in_core}
 
 -- ---- levels

@@ -10,7 +10,7 @@ use Rattle.trees.specs.declared.types.ElementsKind.{ElementsKind}
 use Rattle.trees.specs.declared.types.Standing.TheVariants.{Root}
 use Rattle.trees.specs.Values.{Name, Tree, chosen}
 use Rattle.trees.specs.Types.{Plain, PresenceTree, mandatory, optional, default, a_bit_string}
-use Rattle.names.specs.Modules.{StandsIn, AreDistinct}
+use Rattle.names.specs.Modules.{OccursIn, AreDistinct}
 use Rattle.names.specs.Names.{IsApart}
 use Rattle.type_table.specs.Table.{Type', Kind, simple, elements, Part, next}
 use Rattle.type_table.specs.Table as table
@@ -24,18 +24,19 @@ use Rattle.value_notations.specs.Notations.{Notation, NotationOf, Fields, Elemen
 use Rattle.value_notations.specs.Notations as family
 use Rattle.value_notations.specs.Values.{ValueIn, ValueOf, AreComponents, AreElements, MayBeAbsent, IsPlainValue, value_in}
 use Rattle.value_notations.specs.Values as values
-use Rattle.value_notations.specs.Wrong.{Trouble, IsRead, IsWrongHere, IsLost, IsDisarranged}
+use Rattle.value_notations.specs.Wrong.{NotationTrouble, IsRead, IsWrongHere, HasNoMeaning, IsDisarranged}
 use Rattle.value_notations.specs.Wrong as wrong
 use Rattle.value_notations.specs.Outside.{IsLeftOut, HasPast, ArePast}
 use Rattle.values.specs.Allowing.{Allows, AllowsCode}
 use Rattle.typed_values.specs.declared.fault.Cause.{Cause}
 use Rattle.typed_values.specs.declared.fault.Cause.TheVariants as cause
 use Rattle.typed_values.specs.declared.fault.ValueFault.{ValueFault}
-use Rattle.typed_values.specs.Faults.{IsWritten, Stands, IsCause, HasKind, HasLeaf, HasNames, HasNoAlternative}
+use Rattle.typed_values.specs.Faults.{HasKindIn, IsRightFault, IsCause, HasKind, HasLeaf, HasNames, HasNoAlternative}
 use Rattle.typed_values.specs.Faults as faults
 use Rattle.typed_values.specs.Laws.{HaveFewNodes}
-use Rattle.typed_values.proofs.Places.{middle, one_some, some_none, one_place, mapped_at, stands_mapped}
-use Rattle.typed_values.proofs.Following.{one_kind, sound_kind, one_last, walks_to_one, one_header}
+use Rattle.typed_values.proofs.Places.{middle}
+use Rattle.value_notations.specs.proving.Places.{one_some, some_none, one_place, mapped_at, occurs_mapped}
+use Rattle.value_notations.specs.proving.Following.{one_kind, sound_kind, one_last, walks_to_one, one_header}
 use Rattle.typed_values.proofs.Readings.{of_kind}
 
 -- what the crate below says of notations
@@ -44,7 +45,7 @@ OneValue = (p : Program) (os : List ℕ) (M : Name) (i : ℕ) (n : Tree) (v w : 
     IsApart p.modules → AreSound p.types → Notation p os M i n v → Notation p os M i n w → v ≡ w
 
 abbrev pub NoneWrong : Type 0
-NoneWrong = (p : Program) (os qs : List ℕ) (M K : Name) (i j : ℕ) (n m : Tree) (t : Trouble) (v : AbstractValue) →
+NoneWrong = (p : Program) (os qs : List ℕ) (M K : Name) (i j : ℕ) (n m : Tree) (t : NotationTrouble) (v : AbstractValue) →
     IsApart p.modules → AreSound p.types → IsRead p os M i n qs K j m → IsWrongHere p qs K j m t →
     Notation p os M i n v → ⊥
 
@@ -72,7 +73,7 @@ no_choice : (cs : List Part) (fs : List (Name × Tree)) → AreArranged Choice (
 no_choice cs fs a = a
 
 one_field : (fs : List (Name × Tree)) (x : Name) (n m : Tree) →
-    AreDistinct (field_names fs) → StandsIn fs (x, n) → StandsIn fs (x, m) → n ≡ m
+    AreDistinct (field_names fs) → OccursIn fs (x, n) → OccursIn fs (x, m) → n ≡ m
 one_field fs x n m d a b =
     let first = mapped_at (λ (f : Name × Tree). f.0) fs a.0 (x, n) a.1 in
     let second = mapped_at (λ (f : Name × Tree). f.0) fs b.0 (x, m) b.1 in
@@ -190,25 +191,25 @@ module _ (p : Program) (s : IsKept p) (one : OneValue) (none_wrong : NoneWrong) 
     pub levels : ℕ
     pub fewer : n ≡ suc levels
     pub within : Name
-    pub written : IsWritten p i k within
+    pub written : HasKindIn p i k within
     pub value : ValueOf p (Allows p) (AllowsCode p) levels i within k v
 
   of_value : {n i : ℕ} {k : Kind} {v : AbstractValue} →
       IsOfKind p.types i k → ValueIn p (Allows p) (AllowsCode p) n i v → HasValueOf n i k v
   of_value {n} {i} {k} {v} a (value_in {n = m} {core = core} {t = t} {M = M} {x = x} c e f h) =
-      let b : IsOfKind p.types i t.kind = record { core = core; type = t; leads = c; there = e; kind = refl } in
+      let b : IsOfKind p.types i t.kind = record { core = core; type = t; chain = c; there = e; kind = refl } in
       let kinds = one_kind p.types i t.kind k b a in
       record {
         levels = m;
         fewer = refl;
         within = M;
-        written = record { core = core; type = t; leads = c; there = e; kind = kinds; assigns = x; stands = f };
+        written = record { core = core; type = t; chain = c; there = e; kind = kinds; assigns = x; stands = f };
         value = subst (λ (z : Kind). ValueOf p (Allows p) (AllowsCode p) m i M z v) kinds h;
       }
 
-  one_home : {i : ℕ} {k : Kind} {M N : Name} → IsWritten p i k M → IsWritten p i k N → M ≡ N
+  one_home : {i : ℕ} {k : Kind} {M N : Name} → HasKindIn p i k M → HasKindIn p i k N → M ≡ N
   one_home {i} {k} {M} {N} a b =
-      let cores = walks_to_one (next p.types) a.leads.steps b.leads.steps i a.core b.core a.leads.leads a.leads.ends b.leads.leads b.leads.ends in
+      let cores = walks_to_one (next p.types) a.chain.steps b.chain.steps i a.core b.core a.chain.chain a.chain.ends b.chain.chain b.chain.ends in
       let types = one_some (slice_get p.types a.core) a.type b.type a.there
       (subst (λ (x : ℕ). slice_get p.types x ≡ Some b.type) (sym cores) b.there) in
       one_header p a.type.assignment M N a.assigns b.assigns a.stands
@@ -255,7 +256,7 @@ module _ (p : Program) (s : IsKept p) (one : OneValue) (none_wrong : NoneWrong) 
       AreDistinct (part_names cs) →
       NotationOf p os K (table.members Choice e cs) (chosen x m) v →
       ValueOf p (Allows p) (AllowsCode p) n i N (table.members Choice e cs) v →
-      StandsIn cs c →
+      OccursIn cs c →
       c.name ≡ x →
       nodes v ≤ suc left →
       HasPart n left os K c.ty m
@@ -276,23 +277,23 @@ module _ (p : Program) (s : IsKept p) (one : OneValue) (none_wrong : NoneWrong) 
 
   field_at : {n : ℕ} {os : List ℕ} {K N : Name} {fs : List (Name × Tree)} {m : Tree} {r q : Row} (c : Part) (before after : List Part) →
       AreDistinct (field_names fs) →
-      StandsIn fs (c.name, m) →
+      OccursIn fs (c.name, m) →
       Fields p os K fs (before ++ c ∷ after) r →
       Fields p os K fs before q →
       AreComponents p (Allows p) (AllowsCode p) n N (before ++ c ∷ after) r →
       (w : AbstractValue) × Notation p os K c.ty m w × ValueIn p (Allows p) (AllowsCode p) n c.ty w
       × (row_nodes q + nodes w ≤ row_nodes r)
   field_at {fs = fs} {m = m} c [] after d t (family.part_absent away may h) family.no_part o =
-      absurd (away (stands_mapped (λ (f : Name × Tree). f.0) fs (c.name, m) t))
+      absurd (away (occurs_mapped (λ (f : Name × Tree). f.0) fs (c.name, m) t))
   field_at {os = os} {K = K} {fs = fs} {m = m} c [] after d t (family.part_present {n = l} {v = v} u h k) family.no_part (values.component_present g j) =
       let e = one_field fs c.name l m d u t in
       (v, subst (λ (z : Tree). Notation p os K c.ty z v) e h, g, omega arith)
   field_at c (b ∷ before) after d t (family.part_absent away may h) (family.part_absent x y k) (values.component_absent g j) =
       field_at c before after d t h k j
   field_at {fs = fs} c (b ∷ before) after d t (family.part_absent away may h) (family.part_present {n = l} u x k) o =
-      absurd (away (stands_mapped (λ (f : Name × Tree). f.0) fs (b.name, l) u))
+      absurd (away (occurs_mapped (λ (f : Name × Tree). f.0) fs (b.name, l) u))
   field_at {fs = fs} c (b ∷ before) after d t (family.part_present {n = l} u x k) (family.part_absent away may h) o =
-      absurd (away (stands_mapped (λ (f : Name × Tree). f.0) fs (b.name, l) u))
+      absurd (away (occurs_mapped (λ (f : Name × Tree). f.0) fs (b.name, l) u))
   field_at {os = os} {K = K} {fs = fs} c (b ∷ before) after d t (family.part_present {n = l} {v = v} u h k) (family.part_present {n = m} {v = w} x y z) (values.component_present g j) =
       let trees = one_field fs b.name l m d u x in
       let e = ap nodes (same_value (subst (λ (q : Tree). Notation p os K b.ty q v) trees h) y) in
@@ -307,7 +308,7 @@ module _ (p : Program) (s : IsKept p) (one : OneValue) (none_wrong : NoneWrong) 
       ValueOf p (Allows p) (AllowsCode p) n i N (table.members k e (before ++ c ∷ after)) v →
       fields_in l ≡ Some fs →
       Fields p os K fs before q →
-      StandsIn fs (c.name, m) →
+      OccursIn fs (c.name, m) →
       left ≡ suc (row_nodes q + rest) →
       nodes v ≤ left →
       HasPart n rest os K c.ty m
@@ -325,14 +326,14 @@ module _ (p : Program) (s : IsKept p) (one : OneValue) (none_wrong : NoneWrong) 
       Fields p os K fs cs r →
       AreComponents p (Allows p) (AllowsCode p) n N cs r →
       slice_get cs j ≡ Some c →
-      (StandsIn (field_names fs) c.name → ⊥) →
+      (OccursIn (field_names fs) c.name → ⊥) →
       MayBeAbsent p (Allows p) (AllowsCode p) n N c
   absent_at j c family.no_part o e none = absurd (some_none (slice_get [] j) c e refl)
   absent_at {n = n} {N = N} zero c (family.part_absent {c = b} away may h) (values.component_absent g o) e none =
       subst (λ (z : Part). MayBeAbsent p (Allows p) (AllowsCode p) n N z) (same_Some b c e) g
   absent_at {fs = fs} zero c (family.part_present {c = b} {n = l} t h k) o e none =
-      absurd (none (subst (λ (z : Part). StandsIn (field_names fs) z.name) (same_Some b c e)
-      (stands_mapped (λ (f : Name × Tree). f.0) fs (b.name, l) t)))
+      absurd (none (subst (λ (z : Part). OccursIn (field_names fs) z.name) (same_Some b c e)
+      (occurs_mapped (λ (f : Name × Tree). f.0) fs (b.name, l) t)))
   absent_at (suc j) c (family.part_absent away may h) (values.component_absent g o) e none = absent_at j c h o e none
   absent_at (suc j) c (family.part_present t h k) (values.component_present g o) e none = absent_at j c k o e none
 
@@ -342,8 +343,8 @@ module _ (p : Program) (s : IsKept p) (one : OneValue) (none_wrong : NoneWrong) 
       NotationOf p os K (table.members k e cs) l v →
       ValueOf p (Allows p) (AllowsCode p) n i N (table.members k e cs) v →
       fields_in l ≡ Some fs →
-      StandsIn cs c →
-      (StandsIn (field_names fs) c.name → ⊥) →
+      OccursIn cs c →
+      (OccursIn (field_names fs) c.name → ⊥) →
       MayBeAbsent p (Allows p) (AllowsCode p) n N c
   absent_in {K = K} {os = os} {l = l} {cs = cs} {c = c} {fs = fs} none (family.of_fields {fs = gs} {r = r} f a h w) (values.of_fields never g j) y t out =
       let same = one_some (fields_in l) gs fs f y in
@@ -367,18 +368,18 @@ module _ (p : Program) (s : IsKept p) (one : OneValue) (none_wrong : NoneWrong) 
 
   -- ---- what is wrong with the notation itself
 
-  wrong_none : {os : List ℕ} {M : Name} {i : ℕ} {n : Tree} {v : AbstractValue} (t : Trouble) →
+  wrong_none : {os : List ℕ} {M : Name} {i : ℕ} {n : Tree} {v : AbstractValue} (t : NotationTrouble) →
       IsWrongHere p os M i n t → Notation p os M i n v → ⊥
   wrong_none {os} {M} {i} {n} {v} t w h = none_wrong p os os M M i i n n t v s.apart s.sound wrong.itself w h
 
   lost_none : {os : List ℕ} {M : Name} {i : ℕ} {n : Tree} {v : AbstractValue} {k : Kind} (q : Option Name) (x : Name) →
-      IsOfKind p.types i k → IsLost p k os M n q x → Notation p os M i n v → ⊥
+      IsOfKind p.types i k → HasNoMeaning p k os M n q x → Notation p os M i n v → ⊥
   lost_none None x a l h = wrong_none (wrong.unknown_item x) (wrong.lost_item a l) h
   lost_none (Some q) x a l h = wrong_none (wrong.unknown_name x) (wrong.lost_name a l) h
 
   names_none : {os : List ℕ} {M K : Name} {i : ℕ} {n l : Tree} {v : AbstractValue}
       {P : ListKind → List Part → List Name → Type 0}
-      (h : HasNames p os M K i n l P) (t : Trouble) →
+      (h : HasNames p os M K i n l P) (t : NotationTrouble) →
       IsDisarranged h.list h.parts (field_names h.fields) t →
       Notation p os M i n v → ⊥
   names_none h t d g = wrong_none t (wrong.names h.is h.no_choice h.last h.in_braces d) g
@@ -402,7 +403,7 @@ module _ (p : Program) (s : IsKept p) (one : OneValue) (none_wrong : NoneWrong) 
   cause_none cause.Memory m w h a b = m refl
   cause_none cause.Depth m w h a b = no_level a w
   cause_none {v = v} cause.Nodes m w h a b = some_node v (omega (arith, w, b))
-  cause_none (cause.Lost K l) m w h a b = lost_none w.such.prefix w.such.name w.is w.such.lost h
+  cause_none (cause.NoMeaning K l) m w h a b = lost_none w.such.prefix w.such.name w.is w.such.lost h
   cause_none (cause.Circular j K l) m w h a b = wrong_none (wrong.circular j) (wrong.round w.is w.such.round) h
   cause_none cause.NotOfType m w h a b = wrong_none wrong.not_of_type w h
   cause_none (cause.UnknownBit K l) m w h a b =
@@ -418,7 +419,7 @@ module _ (p : Program) (s : IsKept p) (one : OneValue) (none_wrong : NoneWrong) 
   cause_none (cause.UnknownField j K l) m w h a b = names_none w (wrong.unknown_item w.such.name) w.such.wrong h
   cause_none (cause.Repeated j K l) m w h a b = names_none w (wrong.repeated w.such.name) w.such.wrong h
   cause_none (cause.Missing j K l) m w h a b = names_none w (wrong.missing w.such.part.name) w.such.wrong h
-  cause_none (cause.Behind j K l) m w h a b =
+  cause_none (cause.OutOfOrder j K l) m w h a b =
       names_none w (wrong.out_of_order w.such.name w.such.other) w.such.wrong h
   cause_none {i = i} {v = v} cause.Outside m w h a b =
       let u = w.outside in
@@ -440,35 +441,35 @@ module _ (p : Program) (s : IsKept p) (one : OneValue) (none_wrong : NoneWrong) 
       let e : o.levels ≡ m = let f = o.fewer in omega (arith, f) in
       subst (λ (z : ℕ). ValueOf p (Allows p) (AllowsCode p) z i o.within k v) e o.value
 
-  pub stands_none : {n left i : ℕ} {os : List ℕ} {M : Name} {t : Tree} {f : ValueFault} {v : AbstractValue} →
-      Stands p n left os M i t f →
+  pub occurs_none : {n left i : ℕ} {os : List ℕ} {M : Name} {t : Tree} {f : ValueFault} {v : AbstractValue} →
+      IsRightFault p n left os M i t f →
       (f.cause ≡ cause.Memory → ⊥) →
       Notation p os M i t v →
       ValueIn p (Allows p) (AllowsCode p) n i v →
       nodes v ≤ left → ⊥
-  stands_none (faults.no_memory e) m h a b = m e
-  stands_none {f = f} (faults.itself x y z r w) m h a b = cause_none f.cause m w h a b
-  stands_none (faults.in_element after k l e d u c w) m h a b =
+  occurs_none (faults.no_memory e) m h a b = m e
+  occurs_none {f = f} (faults.itself x y z r w) m h a b = cause_none f.cause m w h a b
+  occurs_none (faults.in_element after k l e d u c w) m h a b =
       let o = of_value k a in
       let q = element_in after (at_last k l h) (level_of o) e d c b in
-      stands_none w m q.stands q.value q.few
-  stands_none {i = i} (faults.in_alternative {e = e} {cs = cs} c k l t x w) m h a b =
+      occurs_none w m q.stands q.value q.few
+  occurs_none {i = i} (faults.in_alternative {e = e} {cs = cs} c k l t x w) m h a b =
       let o = of_value k a in
       let far = (sound_kind p.types i (table.members Choice e cs) s.sound k).names in
       let q = chosen_in far (at_last k l h) (level_of o) t x b in
-      stands_none w m q.stands q.value q.few
-  stands_none {i = i} {v = v} (faults.in_field {levels = n} {ps = ps} {K = K} c r t w) m h a b =
+      occurs_none w m q.stands q.value q.few
+  occurs_none {i = i} {v = v} (faults.in_field {levels = n} {ps = ps} {K = K} c r t w) m h a b =
       let o = of_value (of_kind r.written) a in
       let says = subst (λ (z : List Part). NotationOf p ps K (table.members r.kind r.marked z) r.notation v) r.split
       (at_last (of_kind r.written) r.last h) in
       let is = subst (λ (z : List Part). ValueOf p (Allows p) (AllowsCode p) n i o.within (table.members r.kind r.marked z) v) r.split
       (level_of o) in
       let q = field_in c r.after r.no_choice says is r.in_braces r.stand t r.counted b in
-      stands_none w m q.stands q.value q.few
-  stands_none {i = i} (faults.in_default {levels = n} {N = N} {d = d} c r out x y w) m h a b =
+      occurs_none w m q.stands q.value q.few
+  occurs_none {i = i} (faults.in_default {levels = n} {N = N} {d = d} c r out x y w) m h a b =
       let o = of_value (of_kind r.written) a in
-      let t = subst (λ (cs : List Part). StandsIn cs c) (sym r.split) (middle r.before c r.after) in
+      let t = subst (λ (cs : List Part). OccursIn cs c) (sym r.split) (middle r.before c r.after) in
       let q = absent_in r.no_choice (at_last (of_kind r.written) r.last h) (level_of o) r.in_braces t out in
       let homes = one_home o.written r.written in
       let z = default_of (subst (λ (M : Name). MayBeAbsent p (Allows p) (AllowsCode p) n M c) homes q) x y in
-      stands_none w m z.1 z.2 (s.defaults i r.kind r.marked r.parts N c d z.0 r.written t y z.1)
+      occurs_none w m z.1 z.2 (s.defaults i r.kind r.marked r.parts N c d z.0 r.written t y z.1)

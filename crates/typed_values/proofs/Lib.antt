@@ -1,6 +1,5 @@
 pub mod Braces
 pub mod Places
-pub mod Following
 pub mod Rows
 pub mod Readings
 pub mod Outcomes

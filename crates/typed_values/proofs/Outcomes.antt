@@ -8,9 +8,9 @@ use Rattle.type_table.specs.declared.table.ListMember.{ListMember}
 use Rattle.type_table.specs.Seen.{part_of}
 use Rattle.resolve.specs.Program.{Program}
 use Rattle.typed_values.specs.declared.fault.ValueFault.{ValueFault}
-use Rattle.typed_values.specs.Faults.{Stands}
+use Rattle.typed_values.specs.Faults.{IsRightFault}
 use Rattle.typed_values.specs.proving.Outcomes.{ShowsOption}
-use Rattle.typed_values.specs.proving.Reading.{Makes, MakeRow, MakeFields, MakesField, StandsInOne, StandsInField, IsWrongField}
+use Rattle.typed_values.specs.proving.Reading.{Makes, MakeRow, MakeFields, MakesField, FailsInOne, FailsInField, IsWrongField}
 use Rattle.typed_values.proofs.Rows.{none_yet, no_field_yet}
 use Rattle.typed_values.proofs.Readings.{row_more, row_wrong, fields_more, fields_wrong}
 
@@ -55,8 +55,8 @@ module _ {A : Type 0} (shows : A → AbstractValue → Type 0) (p : Program) (le
       i < length ns → n ≡ get_or ns i n →
       MakeRow shows p levels before between os M a (map tree_of (take i ns)) xs →
       ps ≡ os →
-      Stands p levels between ps M a (tree_of n) f →
-      StandsInOne p levels before os M a (map tree_of ns) f
+      IsRightFault p levels between ps M a (tree_of n) f →
+      FailsInOne p levels before os M a (map tree_of ns) f
   made_wrong xs ns i n l e r q h = row_wrong r.values ns i n l e r.mean q h
 
   pub fields_made_none : (left : ℕ) (K N : Name) (fs : List (Name × Tree)) (xs : List (Option A)) → xs ≡ [] →
@@ -88,5 +88,5 @@ module _ {A : Type 0} (shows : A → AbstractValue → Type 0) (p : Program) (le
       MakeFields shows p levels before between os K N fs (map part_of (take i ms)) xs →
       ps ≡ os →
       IsWrongField p levels between ps K N fs (part_of m) f →
-      StandsInField p levels before os K N fs (map part_of ms) f
+      FailsInField p levels before os K N fs (map part_of ms) f
   fields_made_wrong xs ms i m l e r q h = fields_wrong r.values ms i m l e r.mean q h

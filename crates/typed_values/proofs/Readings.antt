@@ -8,8 +8,8 @@ use Rattle.asn_base.specs.declared.tag.Tag.{Tag}
 use Rattle.trees.specs.declared.types.Keyword.{Keyword}
 use Rattle.trees.specs.declared.value.Named.{Named}
 use Rattle.trees.specs.declared.value.ValueSyntax.{ValueSyntax}
-use Rattle.names.specs.proving.Distinct.{same_bytes, equal_bytes, stands_map}
-use Rattle.type_table.specs.declared.table.Written.{Written}
+use Rattle.names.specs.proving.Distinct.{same_bytes, equal_bytes, occurs_map}
+use Rattle.type_table.specs.declared.table.TypeNode.{TypeNode}
 use Rattle.type_table.specs.Seen.{kind_of, part_of, type_of, types_of}
 use Rattle.values.specs.Arranged.{IsArranged, place_of}
 use Rattle.type_table.specs.declared.table.ListMember.{ListMember}
@@ -24,8 +24,8 @@ use Rattle.trees.specs.declared.types.Standing.{Standing}
 use Rattle.trees.specs.declared.types.Standing.TheVariants.{Root, Addition}
 use Rattle.trees.specs.declared.types.PresenceSyntax.TheVariants as syntax
 use Rattle.trees.specs.Types.{Plain, PresenceTree, presence_of, mandatory, optional, default}
-use Rattle.names.specs.Modules.{StandsIn}
-use Rattle.type_table.specs.Table.{Type', Kind, simple, reference, tagged, elements, Part, Is, IsLinked, IsCore, next, behind, behind_of}
+use Rattle.names.specs.Modules.{OccursIn}
+use Rattle.type_table.specs.Table.{Type', Kind, simple, reference, tagged, elements, Part, Is, IsLinked, IsUnderlying, next, target, target_of}
 use Rattle.type_table.specs.Table as table
 use Rattle.resolve.specs.Program.{Program, IsHome}
 use Rattle.range_ends.specs.Ends.{IsOfKind}
@@ -44,21 +44,21 @@ use Rattle.typed_values.specs.declared.fault.Cause.{Cause}
 use Rattle.typed_values.specs.declared.fault.Cause.TheVariants as cause
 use Rattle.value_notations.specs.declared.references.FollowFault.{FollowFault}
 use Rattle.value_notations.specs.Faults.{IsFollowFault}
-use Rattle.typed_values.specs.Faults.{IsWritten, Stands, IsCause, HasNoAlternative, HasRoom, IsOutsideAlone, AreReadTo}
+use Rattle.typed_values.specs.Faults.{HasKindIn, IsRightFault, IsCause, HasNoAlternative, HasRoom, IsOutsideAlone, AreReadTo}
 use Rattle.typed_values.specs.Faults as faults
-use Rattle.typed_values.specs.proving.Reading.{Means, MeanRow, MeanFields, StandsInOne, StandsInField, IsWrongField, IsWrongDefault, ArePlaced, IsField, option_nodes}
+use Rattle.typed_values.specs.proving.Reading.{Means, MeanRow, MeanFields, FailsInOne, FailsInField, IsWrongField, IsWrongDefault, ArePlaced, IsField, option_nodes}
 use Rattle.typed_values.specs.proving.Reading as reading
 
-pub of_kind : {p : Program} {i : ℕ} {k : Kind} {N : Name} → IsWritten p i k N → IsOfKind p.types i k
-of_kind w = record { core = w.core; type = w.type; leads = w.leads; there = w.there; kind = w.kind }
+pub of_kind : {p : Program} {i : ℕ} {k : Kind} {N : Name} → HasKindIn p i k N → IsOfKind p.types i k
+of_kind w = record { core = w.core; type = w.type; chain = w.chain; there = w.there; kind = w.kind }
 
 -- a value of what the type is
 pub shaped : {p : Program} {n i : ℕ} {k : Kind} {N : Name} {v : AbstractValue} →
-    IsWritten p i k N →
+    HasKindIn p i k N →
     ValueOf p (Allows p) (AllowsCode p) n i N k v →
     ValueIn p (Allows p) (AllowsCode p) (suc n) i v
 shaped {p} {n} {i} {k} {N} {v} w h =
-    value_in w.leads w.there w.stands
+    value_in w.chain w.there w.stands
     (subst (λ (x : Kind). ValueOf p (Allows p) (AllowsCode p) n i N x v) (sym w.kind) h)
 
 -- ---- leaves
@@ -84,7 +84,7 @@ leaf_nodes (leaves.restricted e) = refl
 
 pub leaf_means : {p : Program} {n left i : ℕ} {k : Plain} {N : Name} {os ps : List ℕ} {M K : Name} {t l : Tree}
     {v : AbstractValue} →
-    IsWritten p i (simple k) N →
+    HasKindIn p i (simple k) N →
     IsLast p (simple k) os M t ps K l →
     IsLeaf k l v →
     IsPlainValue (Allows p) (AllowsCode p) i k v →
@@ -99,7 +99,7 @@ leaf_means w e h a =
 
 pub leaf_outside : {p : Program} {n left i : ℕ} {k : Plain} {N : Name} {os ps : List ℕ} {M K : Name} {t l : Tree}
     {v : AbstractValue} →
-    IsWritten p i (simple k) N →
+    HasKindIn p i (simple k) N →
     IsLast p (simple k) os M t ps K l →
     IsLeaf k l v →
     IsLeftOut (Allows p) (AllowsCode p) i (simple k) v →
@@ -116,7 +116,7 @@ leaf_outside {k = k} {v = v} w e h o =
 
 pub list_means : {p : Program} {n before after i a : ℕ} {k : ElementsKind} {N : Name} {os ps : List ℕ} {M K : Name}
     {t l : Tree} {ts : List Tree} {r : Row} →
-    IsWritten p i (elements k a) N →
+    HasKindIn p i (elements k a) N →
     IsLast p (elements k a) os M t ps K l →
     values_in l ≡ Some ts →
     MeanRow p n before after ps K a ts r →
@@ -132,7 +132,7 @@ list_means w e f m a =
 
 pub list_outside : {p : Program} {n before after i a : ℕ} {k : ElementsKind} {N : Name} {os ps : List ℕ} {M K : Name}
     {t l : Tree} {ts : List Tree} {r : Row} →
-    IsWritten p i (elements k a) N →
+    HasKindIn p i (elements k a) N →
     IsLast p (elements k a) os M t ps K l →
     values_in l ≡ Some ts →
     MeanRow p n before after ps K a ts r →
@@ -154,17 +154,17 @@ list_outside {a = a} {k = k} {r = r} w e f m o =
 
 pub list_fault : {p : Program} {n left i a : ℕ} {k : ElementsKind} {N : Name} {os ps : List ℕ} {M K : Name} {t l : Tree}
     {ts : List Tree} {f : ValueFault} →
-    IsWritten p i (elements k a) N →
+    HasKindIn p i (elements k a) N →
     IsLast p (elements k a) os M t ps K l →
     values_in l ≡ Some ts →
-    StandsInOne p n left ps K a ts f →
-    Stands p (suc n) (suc left) os M i t f
+    FailsInOne p n left ps K a ts f →
+    IsRightFault p (suc n) (suc left) os M i t f
 list_fault w e g s =
     let c = s.counted in
     faults.in_element s.after (of_kind w) e (g ∙ ap Some s.split) s.stand s.values (omega (arith, c)) s.fault
 
 pub list_misfit : {p : Program} {i a : ℕ} {k : ElementsKind} {N : Name} {os ps : List ℕ} {M K : Name} {t l : Tree} →
-    IsWritten p i (elements k a) N →
+    HasKindIn p i (elements k a) N →
     IsLast p (elements k a) os M t ps K l →
     values_in l ≡ None →
     IsWrongHere p os M i t not_of_type
@@ -174,7 +174,7 @@ list_misfit w e f = misfit (of_kind w) e f
 
 pub choice_means : {p : Program} {n before after i a : ℕ} {e : Bool} {cs : List Part} {N : Name} {os ps : List ℕ}
     {M K x : Name} {t l m : Tree} {v : AbstractValue} (c : Part) →
-    IsWritten p i (table.members Choice e cs) N →
+    HasKindIn p i (table.members Choice e cs) N →
     IsLast p (table.members Choice e cs) os M t ps K l →
     l ≡ chosen x m →
     slice_get cs a ≡ Some c →
@@ -192,13 +192,13 @@ choice_means {p} {e = e} {cs = cs} {os = os} {ps = ps} {M = M} {K = K} {t = t} c
 
 pub choice_fault : {p : Program} {n left i : ℕ} {e : Bool} {cs : List Part} {N : Name} {os ps : List ℕ} {M K x : Name}
     {t l m : Tree} {f : ValueFault} (c : Part) →
-    IsWritten p i (table.members Choice e cs) N →
+    HasKindIn p i (table.members Choice e cs) N →
     IsLast p (table.members Choice e cs) os M t ps K l →
     l ≡ chosen x m →
-    StandsIn cs c →
+    OccursIn cs c →
     c.name ≡ x →
-    Stands p n left ps K c.ty m f →
-    Stands p (suc n) (suc left) os M i t f
+    IsRightFault p n left ps K c.ty m f →
+    IsRightFault p (suc n) (suc left) os M i t f
 choice_fault {p} {e = e} {cs = cs} {os = os} {ps = ps} {M = M} {K = K} {t = t} c w d q s g h =
     faults.in_alternative c (of_kind w) (subst (λ (z : Tree). IsLast p (table.members Choice e cs) os M t ps K z) q d) s g h
 
@@ -206,13 +206,13 @@ choice_fault {p} {e = e} {cs = cs} {os = os} {ps = ps} {M = M} {K = K} {t = t} c
 
 pub fields_fault : {p : Program} {n left i : ℕ} {k : ListKind} {e : Bool} {cs : List Part} {N : Name} {os ps : List ℕ}
     {M K : Name} {t l : Tree} {fs : List (Name × Tree)} {qs : List (Option ℕ)} {f : ValueFault} →
-    IsWritten p i (table.members k e cs) N →
+    HasKindIn p i (table.members k e cs) N →
     (k ≡ Choice → ⊥) →
     IsLast p (table.members k e cs) os M t ps K l →
     fields_in l ≡ Some fs →
     IsArranged k cs (field_names fs) qs →
-    StandsInField p n left ps K N fs cs f →
-    Stands p (suc n) (suc left) os M i t f
+    FailsInField p n left ps K N fs cs f →
+    IsRightFault p (suc n) (suc left) os M i t f
 fields_fault {p} {n} {left} {i} {k} {e} {cs} {N} {os} {ps} {M} {K} {t} {l} {fs} {qs} {f} w none d g a s = by s.fault
   where
     to : AreReadTo p n (suc left) s.rest os M i t ps K N fs s.one
@@ -238,14 +238,14 @@ fields_fault {p} {n} {left} {i} {k} {e} {cs} {N} {os} {ps} {M} {K} {t} {l} {fs} 
           counted = omega (arith, c);
         }
 
-    by : IsWrongField p n s.rest ps K N fs s.one f → Stands p (suc n) (suc left) os M i t f
+    by : IsWrongField p n s.rest ps K N fs s.one f → IsRightFault p (suc n) (suc left) os M i t f
     by (reading.no_memory m) = faults.no_memory m
     by (reading.in_field h o) = faults.in_field s.one to h o
     by (reading.in_default h o) = faults.in_default s.one to h o.standing o.presence o.fault
 
 pub fields_mean : {p : Program} {n before after i : ℕ} {k : ListKind} {e : Bool} {cs : List Part} {N : Name}
     {os ps : List ℕ} {M K : Name} {t l : Tree} {fs : List (Name × Tree)} {r : Row} →
-    IsWritten p i (table.members k e cs) N →
+    HasKindIn p i (table.members k e cs) N →
     (k ≡ Choice → ⊥) →
     IsLast p (table.members k e cs) os M t ps K l →
     NotationOf p ps K (table.members k e cs) l (fields r) →
@@ -262,7 +262,7 @@ fields_mean w none d h g m =
 
 -- ---- types
 
-pub in_core : {p : Program} {i : ℕ} {k : Kind} {N : Name} (w : IsWritten p i k N) → Is p.types w.core k w.type.default w.type.place
+pub in_core : {p : Program} {i : ℕ} {k : Kind} {N : Name} (w : HasKindIn p i k N) → Is p.types w.core k w.type.default w.type.place
 in_core {p} w =
     subst (λ (x : Kind). Is p.types w.core x w.type.default w.type.place) w.kind
     (record { constraints = w.type.constraints; assignment = w.type.assignment; found = w.there })
@@ -273,39 +273,39 @@ one_below n (x ∷ cs) zero c a e = let s : x ≡ c = cc in subst (λ z. z.ty < 
 one_below n (x ∷ cs) (suc j) c a e = one_below n cs j c (λ m d l. a (suc m) d (omega arith)) e
 
 pub member_there : {p : Program} {i : ℕ} {k : ListKind} {e : Bool} {cs : List Part} {N : Name} →
-    IsLinked p.types → IsWritten p i (table.members k e cs) N →
+    IsLinked p.types → HasKindIn p i (table.members k e cs) N →
     (j : ℕ) (c : Part) → slice_get cs j ≡ Some c → c.ty < length p.types
 member_there {p} {i} {k} {e} {cs} l w j c s =
     one_below (length p.types) cs j c (l.parts w.core k e cs w.type.default w.type.place (in_core w)) s
 
 pub element_there : {p : Program} {i j : ℕ} {k : ElementsKind} {N : Name} →
-    IsLinked p.types → IsWritten p i (elements k j) N → j < length p.types
+    IsLinked p.types → HasKindIn p i (elements k j) N → j < length p.types
 element_there {p} {i} {j} {k} l w = l.inner w.core j k w.type.default w.type.place (in_core w)
 
-reference_next : (t : Kind) (j : ℕ) → t ≡ reference j → behind t ≡ None → ⊥
-reference_next t j e f = let g : behind (reference j) ≡ None = subst (λ x. behind x ≡ None) e f in absurd cc
+reference_next : (t : Kind) (j : ℕ) → t ≡ reference j → target t ≡ None → ⊥
+reference_next t j e f = let g : target (reference j) ≡ None = subst (λ x. target x ≡ None) e f in absurd cc
 
-pub no_reference : {p : Program} {i j : ℕ} {N : Name} → IsWritten p i (reference j) N → ⊥
+pub no_reference : {p : Program} {i j : ℕ} {N : Name} → HasKindIn p i (reference j) N → ⊥
 no_reference {p} {i} {j} w =
-    reference_next w.type.kind j w.kind (sym (ap behind_of w.there) ∙ w.leads.ends)
+    reference_next w.type.kind j w.kind (sym (ap target_of w.there) ∙ w.chain.ends)
 
-tagged_next : (t : Kind) (g : Tag) (y : Keyword) (j : ℕ) → t ≡ tagged g y j → behind t ≡ None → ⊥
-tagged_next t g y j e f = let h : behind (tagged g y j) ≡ None = subst (λ x. behind x ≡ None) e f in absurd cc
+tagged_next : (t : Kind) (g : Tag) (y : Keyword) (j : ℕ) → t ≡ tagged g y j → target t ≡ None → ⊥
+tagged_next t g y j e f = let h : target (tagged g y j) ≡ None = subst (λ x. target x ≡ None) e f in absurd cc
 
-pub no_tagged : {p : Program} {i j : ℕ} {g : Tag} {y : Keyword} {N : Name} → IsWritten p i (tagged g y j) N → ⊥
+pub no_tagged : {p : Program} {i j : ℕ} {g : Tag} {y : Keyword} {N : Name} → HasKindIn p i (tagged g y j) N → ⊥
 no_tagged {p} {i} {j} {g} {y} w =
-    tagged_next w.type.kind g y j w.kind (sym (ap behind_of w.there) ∙ w.leads.ends)
+    tagged_next w.type.kind g y j w.kind (sym (ap target_of w.there) ∙ w.chain.ends)
 
-pub written_at : {p : Program} (ws : List Written) (i core : ℕ) (w : Written) (M x : Name) →
-    types_of ws ≡ p.types → core < length ws → w ≡ get_or ws core w → IsCore p.types i core → IsHome p core M x →
-    IsWritten p i (kind_of (get_or ws core w).shape) M
+pub written_at : {p : Program} (ws : List TypeNode) (i core : ℕ) (w : TypeNode) (M x : Name) →
+    types_of ws ≡ p.types → core < length ws → w ≡ get_or ws core w → IsUnderlying p.types i core → IsHome p core M x →
+    HasKindIn p i (kind_of (get_or ws core w).shape) M
 written_at {p} ws i core w M x e l g c h =
     let t : slice_get p.types core ≡ Some (type_of w) = ap (λ ts. slice_get ts core) (sym e) ∙ got type_of ws core w l g in
-    subst (λ (y : Written). IsWritten p i (kind_of y.shape) M) g
-    (record { core = core; type = type_of w; leads = c; there = t; kind = refl; assigns = x; stands = h (type_of w) t })
+    subst (λ (y : TypeNode). HasKindIn p i (kind_of y.shape) M) g
+    (record { core = core; type = type_of w; chain = c; there = t; kind = refl; assigns = x; stands = h (type_of w) t })
 
-pub written_of : {p : Program} {i : ℕ} {k j : Kind} {N : Name} → k ≡ j → IsWritten p i k N → IsWritten p i j N
-written_of {p} {i} {k} {j} {N} e w = subst (λ (x : Kind). IsWritten p i x N) e w
+pub written_of : {p : Program} {i : ℕ} {k j : Kind} {N : Name} → k ≡ j → HasKindIn p i k N → HasKindIn p i j N
+written_of {p} {i} {k} {j} {N} e w = subst (λ (x : Kind). HasKindIn p i x N) e w
 
 pub last_of : {p : Program} {k j : Kind} {os ps : List ℕ} {M K : Name} {n l : Tree} → k ≡ j →
     IsLast p k os M n ps K l → IsLast p j os M n ps K l
@@ -315,7 +315,7 @@ last_of {p} {k} {j} {os} {ps} {M} {K} {n} {l} e h = subst (λ (x : Kind). IsLast
 
 named_there : (cs : List Part) (i : ℕ) (c : Part) (x : Name) → slice_get cs i ≡ Some c → slice_get (part_names cs) i ≡ Some x →
     c.name ≡ x
-named_there cs i c x e f = same_Some c.name x (sym (stands_map (λ (c : Part). c.name) cs i c e) ∙ f)
+named_there cs i c x e f = same_Some c.name x (sym (occurs_map (λ (c : Part). c.name) cs i c e) ∙ f)
 
 pub alternative_named : (cs : List Part) (i : ℕ) (c : Part) (x : Name) → slice_get cs i ≡ Some c →
     slice_get (part_names cs) i ≡ Some x → c.name ≡ x
@@ -337,7 +337,7 @@ place_there x [] i e = absurd cc
 place_there x (y ∷ ys) i e = there_on x y ys i (bytes_eq x y) refl e (place_there x ys)
 
 none_on : (x y : Name) (ys : List Name) (b : Bool) → bytes_eq x y ≡ b →
-    cond b (Some 0) (option_map suc (place_of x ys)) ≡ None → (place_of x ys ≡ None → StandsIn ys x → ⊥) →
+    cond b (Some 0) (option_map suc (place_of x ys)) ≡ None → (place_of x ys ≡ None → OccursIn ys x → ⊥) →
     (i : ℕ) → slice_get (y ∷ ys) i ≡ Some x → ⊥
 none_on x y ys true q e go i s = absurd cc
 none_on x y ys false q e go zero s =
@@ -350,7 +350,7 @@ none_on x y ys false q e go (suc i) s = by (place_of x ys) refl e
     by None r f = go r (i, s)
     by (Some j) r f = absurd cc
 
-pub place_none : (x : Name) (xs : List Name) → place_of x xs ≡ None → StandsIn xs x → ⊥
+pub place_none : (x : Name) (xs : List Name) → place_of x xs ≡ None → OccursIn xs x → ⊥
 place_none x [] e s = absurd cc
 place_none x (y ∷ ys) e s = none_on x y ys (bytes_eq x y) refl e (place_none x ys) s.0 s.1
 
@@ -365,11 +365,11 @@ field_there gs x j e =
 
 pub field_stands : (gs : List (Named ValueSyntax)) (x : Name) (j : ℕ) (d : Named ValueSyntax) →
     place_of x (field_names (map member_of gs)) ≡ Some j →
-    StandsIn (map member_of gs) (x, tree_of (get_or gs j d).value)
+    OccursIn (map member_of gs) (x, tree_of (get_or gs j d).value)
 field_stands gs x j d e =
     let s = place_there x (field_names (map member_of gs)) j e in
     let h = got_or member_of gs j d (field_there gs x j e) in
-    let n = stands_map (λ (f : Name × Tree). f.0) (map member_of gs) j (member_of (get_or gs j d)) h in
+    let n = occurs_map (λ (f : Name × Tree). f.0) (map member_of gs) j (member_of (get_or gs j d)) h in
     let same = same_Some (name_at (get_or gs j d).name) x (sym n ∙ s) in
     (j, h ∙ ap (λ (y : Name). Some (y, tree_of (get_or gs j d).value)) same)
 
@@ -380,8 +380,8 @@ placed k cs fs ps a = record { placed = a.placed; may = λ i c e f. may i c e f 
         may_be_absent c ≡ true
     may i c e f true q = q
     may i c e f false q =
-        let names = stands_map (λ (c : Part). c.name) cs i c e in
-        let at = stands_map (λ x. place_of x fs) (part_names cs) i c.name names in
+        let names = occurs_map (λ (c : Part). c.name) cs i c e in
+        let at = occurs_map (λ x. place_of x fs) (part_names cs) i c.name names in
         let none = same_Some (place_of c.name fs) None (sym at ∙ ap (λ (qs : List (Option ℕ)). slice_get qs i) (sym a.placed) ∙ f) in
         absurd (a.complete c.name
         (record { part = c; there = (i, e); named = refl; needed = q; none = place_none c.name fs none }))
@@ -391,8 +391,8 @@ pub place_at : (cs : List Part) (fs : List Name) (ps : List (Option ℕ)) (i : �
     slice_get cs i ≡ Some c → i < length ps →
     (get_or ps i d ≡ place_of c.name fs) × (get_or ps i d ≡ None → may_be_absent c ≡ true)
 place_at cs fs ps i c d a e l =
-    let names = stands_map (λ (c : Part). c.name) cs i c e in
-    let at = stands_map (λ x. place_of x fs) (part_names cs) i c.name names in
+    let names = occurs_map (λ (c : Part). c.name) cs i c e in
+    let at = occurs_map (λ x. place_of x fs) (part_names cs) i c.name names in
     let here = got_plain ps i d l in
     let same = same_Some (get_or ps i d) (place_of c.name fs) (sym here ∙ ap (λ (qs : List (Option ℕ)). slice_get qs i) a.placed ∙ at) in
     (same, λ n. a.may i c e (here ∙ ap Some n))
@@ -407,7 +407,7 @@ has_room : (levels left : ℕ) → (levels ≡ 0 → ⊥) → (left ≡ 0 → �
 has_room levels left a b cause.Memory = tt
 has_room levels left a b cause.Depth = tt
 has_room levels left a b cause.Nodes = a
-has_room levels left a b (cause.Lost K l) = (a, b)
+has_room levels left a b (cause.NoMeaning K l) = (a, b)
 has_room levels left a b (cause.Circular j K l) = (a, b)
 has_room levels left a b cause.NotOfType = (a, b)
 has_room levels left a b (cause.UnknownBit K l) = (a, b)
@@ -416,7 +416,7 @@ has_room levels left a b cause.UnknownAlternative = (a, b)
 has_room levels left a b (cause.UnknownField j K l) = (a, b)
 has_room levels left a b (cause.Repeated j K l) = (a, b)
 has_room levels left a b (cause.Missing j K l) = (a, b)
-has_room levels left a b (cause.Behind j K l) = (a, b)
+has_room levels left a b (cause.OutOfOrder j K l) = (a, b)
 has_room levels left a b cause.Outside = (a, b)
 
 more_than_none : (n : ℕ) → suc n ≡ 0 → ⊥
@@ -426,19 +426,19 @@ more_than_none n e = omega (arith, e)
 pub room_fault : {p : Program} {levels left : ℕ} {os : List ℕ} {M : Name} {i : ℕ} {n : Tree} (f : ValueFault) →
     f.at.within.now ≡ M → f.at.ty.index ≡ i → tree_of f.at.notation.now ≡ n →
     (levels ≡ 0 → ⊥) → (left ≡ 0 → ⊥) →
-    IsCause p levels left os M i n f.cause → Stands p levels left os M i n f
+    IsCause p levels left os M i n f.cause → IsRightFault p levels left os M i n f
 room_fault {levels = levels} {left = left} f a b c g h d = faults.itself a b c (has_room levels left g h f.cause) d
 
 -- the same
 pub own_fault : {p : Program} {levels left : ℕ} {os : List ℕ} {M : Name} {i : ℕ} {n : Tree} (f : ValueFault) →
     f.at.within.now ≡ M → f.at.ty.index ≡ i → tree_of f.at.notation.now ≡ n →
-    IsCause p (suc levels) (suc left) os M i n f.cause → Stands p (suc levels) (suc left) os M i n f
+    IsCause p (suc levels) (suc left) os M i n f.cause → IsRightFault p (suc levels) (suc left) os M i n f
 own_fault {levels = levels} {left = left} f a b c d =
     room_fault f a b c (more_than_none levels) (more_than_none left) d
 
 pub opened_as : {p : Program} {levels left : ℕ} {os ps : List ℕ} {M : Name} {i : ℕ} {n : Tree} {f : ValueFault} → ps ≡ os →
-    Stands p levels left ps M i n f → Stands p levels left os M i n f
-opened_as {p} {levels} {left} {os} {ps} {M} {i} {n} {f} e h = subst (λ (x : List ℕ). Stands p levels left x M i n f) e h
+    IsRightFault p levels left ps M i n f → IsRightFault p levels left os M i n f
+opened_as {p} {levels} {left} {os} {ps} {M} {i} {n} {f} e h = subst (λ (x : List ℕ). IsRightFault p levels left x M i n f) e h
 
 pub means_as : {p : Program} {levels before after : ℕ} {os ps : List ℕ} {M : Name} {i : ℕ} {n : Tree} {v : AbstractValue} →
     ps ≡ os → Means p levels before after ps M i n v → Means p levels before after os M i n v
@@ -456,8 +456,8 @@ pub row_wrong : {p : Program} {levels before between : ℕ} {os ps : List ℕ} {
     i < length xs → x ≡ get_or xs i x →
     MeanRow p levels before between os M a (map tree_of (take i xs)) (row_of_list us) →
     ps ≡ os →
-    Stands p levels between ps M a (tree_of x) f →
-    StandsInOne p levels before os M a (map tree_of xs) f
+    IsRightFault p levels between ps M a (tree_of x) f →
+    FailsInOne p levels before os M a (map tree_of xs) f
 row_wrong {between = between} us xs i x l e r q h =
     let c = r.counted in
     record {
@@ -497,7 +497,7 @@ pub fields_wrong : {p : Program} {levels before between : ℕ} {os ps : List ℕ
     MeanFields p levels before between os K N fs (map part_of (take i xs)) (row_of_options us) →
     ps ≡ os →
     IsWrongField p levels between ps K N fs (part_of x) f →
-    StandsInField p levels before os K N fs (map part_of xs) f
+    FailsInField p levels before os K N fs (map part_of xs) f
 fields_wrong {between = between} us xs i x l e r q h =
     let c = r.counted in
     record {
@@ -549,10 +549,10 @@ alternative_name xs i d x e = named_there (map part_of xs) i (part_of (get_or xs
 
 pub no_alternative : {p : Program} {i : ℕ} {e : Bool} {cs : List Part} {N : Name} {os ps : List ℕ} {M K : Name} {t l : Tree}
     (x : Name) (m : Tree) →
-    IsWritten p i (table.members Choice e cs) N →
+    HasKindIn p i (table.members Choice e cs) N →
     IsLast p (table.members Choice e cs) os M t ps K l →
     l ≡ chosen x m →
-    (StandsIn (part_names cs) x → ⊥) →
+    (OccursIn (part_names cs) x → ⊥) →
     HasNoAlternative p os M i t
 no_alternative {p} {i} {e} {cs} {N} {os} {ps} {M} {K} {t} x m w h q none =
     record {
@@ -602,13 +602,13 @@ row_count (v ∷ vs) = ap suc (row_count vs)
 pub unfollowed_at : {p q : Program} {i : ℕ} {N : Name} {k : Kind} (levels left : ℕ) (os : List ℕ) (M : Name) (n : Tree)
     (f : FollowFault) (c : Cause) →
     q ≡ p →
-    IsWritten q i k N →
+    HasKindIn q i k N →
     IsFollowFault q k os M n f →
     ((p : Program) (levels left i : ℕ) (os : List ℕ) (M : Name) (n : Tree) (k : Kind) → IsOfKind p.types i k →
     IsFollowFault p k os M n f → IsCause p levels left os M i n c) →
     IsCause p levels left os M i n c
 unfollowed_at {p} {q} {i} {N} {k} levels left os M n f c e w h g =
-    g p levels left i os M n k (of_kind (subst (λ (x : Program). IsWritten x i k N) e w))
+    g p levels left i os M n k (of_kind (subst (λ (x : Program). HasKindIn x i k N) e w))
     (subst (λ (x : Program). IsFollowFault x k os M n f) e h)
 
 -- at a level and a node less
@@ -621,7 +621,7 @@ read_means (suc levels) (suc left) a b h = simp unary_clauses at h
 
 pub read_stands : {p : Program} {i : ℕ} {os : List ℕ} {M : Name} {n : Tree} {f : ValueFault} (levels left : ℕ) →
     (levels ≡ 0 → ⊥) → (left ≡ 0 → ⊥) →
-    Stands p (suc (levels - 1)) (suc (left - 1)) os M i n f → Stands p levels left os M i n f
+    IsRightFault p (suc (levels - 1)) (suc (left - 1)) os M i n f → IsRightFault p levels left os M i n f
 read_stands zero left a b h = absurd (a refl)
 read_stands (suc levels) zero a b h = absurd (b refl)
 read_stands (suc levels) (suc left) a b h = simp unary_clauses at h
@@ -631,5 +631,5 @@ pub last_at : {p q : Program} {k : Kind} {os ps : List ℕ} {M K : Name} {n l : 
 last_at {p} {q} {k} {os} {ps} {M} {K} {n} {l} e h = subst (λ (x : Program). IsLast x k os M n ps K l) e h
 
 pub stands_as : {p : Program} {levels left i : ℕ} {os ps : List ℕ} {M : Name} {n : Tree} {f : ValueFault} →
-    ps ≡ os → Stands p levels left ps M i n f → Stands p levels left os M i n f
-stands_as {p} {levels} {left} {i} {os} {ps} {M} {n} {f} e h = subst (λ (x : List ℕ). Stands p levels left x M i n f) e h
+    ps ≡ os → IsRightFault p levels left ps M i n f → IsRightFault p levels left os M i n f
+stands_as {p} {levels} {left} {i} {os} {ps} {M} {n} {f} e h = subst (λ (x : List ℕ). IsRightFault p levels left x M i n f) e h

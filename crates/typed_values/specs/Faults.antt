@@ -9,8 +9,8 @@ use Rattle.trees.specs.declared.types.ElementsKind.{ElementsKind}
 use Rattle.trees.specs.declared.types.Standing.TheVariants.{Root}
 use Rattle.trees.specs.Values.{Name, Tree, tree_of, chosen}
 use Rattle.trees.specs.Types.{Plain, default}
-use Rattle.names.specs.Modules.{StandsIn}
-use Rattle.type_table.specs.Table.{Type', Kind, simple, elements, Part, IsCore}
+use Rattle.names.specs.Modules.{OccursIn}
+use Rattle.type_table.specs.Table.{Type', Kind, simple, elements, Part, IsUnderlying}
 use Rattle.type_table.specs.Table as table
 use Rattle.resolve.specs.Program.{Program, IsAssignment}
 use Rattle.range_ends.specs.Ends.{IsOfKind}
@@ -19,18 +19,18 @@ use Rattle.value_notations.specs.Notations.{Fields, Elements, fields_in, values_
 use Rattle.value_notations.specs.Values.{AreComponents, AreElements}
 use Rattle.value_notations.specs.Wrong.{IsWrongHere, not_of_type}
 use Rattle.value_notations.specs.Outside.{IsOutside}
-use Rattle.value_notations.specs.Faults.{IsLostAt, ComesRoundAt, IsUnknownBitAt, StandsForPast}
+use Rattle.value_notations.specs.Faults.{HasNoMeaningAt, IsCircularNameAt, IsUnknownBitAt, IsPastOidLimit}
 use Rattle.values.specs.Allowing.{Allows, AllowsCode}
-use Rattle.values.specs.Arranged.{IsArranged, IsWrongField, IsRepeatedField, IsMissingPart, IsBehind}
+use Rattle.values.specs.Arranged.{IsArranged, IsWrongField, IsRepeatedField, IsMissingPart, IsOutOfOrder}
 use Rattle.typed_values.specs.declared.fault.Cause.{Cause}
 use Rattle.typed_values.specs.declared.fault.Cause.TheVariants as cause
 use Rattle.typed_values.specs.declared.fault.ValueFault.{ValueFault}
 
 -- type i is of this kind, after its references and tags, and that type is written in module M
-pub record IsWritten (p : Program) (i : ℕ) (k : Kind) (M : Name) : Type 0 where
+pub record HasKindIn (p : Program) (i : ℕ) (k : Kind) (M : Name) : Type 0 where
   pub core : ℕ
   pub type : Type'
-  pub leads : IsCore p.types i core
+  pub chain : IsUnderlying p.types i core
   pub there : slice_get p.types core ≡ Some type
   pub kind : type.kind ≡ k
   pub assigns : Name
@@ -82,7 +82,7 @@ pub record HasNoAlternative (p : Program) (os : List ℕ) (M : Name) (i : ℕ) (
   pub name : Name
   pub inner : Tree
   pub last : IsLast p (table.members Choice marked parts) os M n opened within (chosen name inner)
-  pub none : StandsIn (part_names parts) name → ⊥
+  pub none : OccursIn (part_names parts) name → ⊥
 
 -- the elements of a list are values of their type, each with fewer levels than `levels`
 abbrev pub AreWithin : Program → (levels : ℕ) → Kind → AbstractValue → Type 0
@@ -108,13 +108,13 @@ abbrev pub IsCause : Program → (levels left : ℕ) → List ℕ → Name → �
 IsCause p levels left os M i n cause.Memory = Unit {0}
 IsCause p levels left os M i n cause.Depth = levels ≡ 0
 IsCause p levels left os M i n cause.Nodes = left ≡ 0
-IsCause p levels left os M i n (cause.Lost K l) = HasKind p i (λ k. IsLostAt p k os M n K.now (tree_of l.now))
+IsCause p levels left os M i n (cause.NoMeaning K l) = HasKind p i (λ k. HasNoMeaningAt p k os M n K.now (tree_of l.now))
 IsCause p levels left os M i n (cause.Circular j K l) =
-    HasKind p i (λ k. ComesRoundAt p k os M n j K.now (tree_of l.now))
+    HasKind p i (λ k. IsCircularNameAt p k os M n j K.now (tree_of l.now))
 IsCause p levels left os M i n cause.NotOfType = IsWrongHere p os M i n not_of_type
 IsCause p levels left os M i n (cause.UnknownBit K b) =
     HasLeafIn p os M K.now i n (λ k l. IsUnknownBitAt k l (tree_of b.now))
-IsCause p levels left os M i n cause.Oid = HasLeaf p os M i n StandsForPast
+IsCause p levels left os M i n cause.Oid = HasLeaf p os M i n IsPastOidLimit
 IsCause p levels left os M i n cause.UnknownAlternative = HasNoAlternative p os M i n
 IsCause p levels left os M i n (cause.UnknownField a K l) =
     HasNames p os M K.now i n (tree_of l.now) (λ k cs fs. IsWrongField k cs fs a)
@@ -122,8 +122,8 @@ IsCause p levels left os M i n (cause.Repeated a K l) =
     HasNames p os M K.now i n (tree_of l.now) (λ k cs fs. IsRepeatedField k cs fs a)
 IsCause p levels left os M i n (cause.Missing a K l) =
     HasNames p os M K.now i n (tree_of l.now) (λ k cs fs. IsMissingPart k cs fs a)
-IsCause p levels left os M i n (cause.Behind a K l) =
-    HasNames p os M K.now i n (tree_of l.now) (λ k cs fs. IsBehind k cs fs a)
+IsCause p levels left os M i n (cause.OutOfOrder a K l) =
+    HasNames p os M K.now i n (tree_of l.now) (λ k cs fs. IsOutOfOrder k cs fs a)
 IsCause p levels left os M i n cause.Outside = IsOutsideAlone p levels left os M i n
 
 -- Notation n, read in module M under type i, has the fields fs, read in module K, of a SEQUENCE or SET that is written
@@ -134,7 +134,7 @@ pub record AreReadTo (p : Program) (levels left rest : ℕ) (os : List ℕ) (M :
   pub kind : ListKind
   pub marked : Bool
   pub parts : List Part
-  pub written : IsWritten p i (table.members kind marked parts) N
+  pub written : HasKindIn p i (table.members kind marked parts) N
   pub no_choice : kind ≡ Choice → ⊥
   pub notation : Tree
   pub last : IsLast p (table.members kind marked parts) os M n ps K notation
@@ -154,17 +154,17 @@ pub record AreReadTo (p : Program) (levels left rest : ℕ) (os : List ℕ) (M :
 -- everything before the nested notation stands for allowed values, whose nodes are counted. The DEFAULT of an absent
 -- component may have as many levels as a written value, and 2^24 nodes. `os` are the values whose notations are being
 -- read already.
-pub data Stands (p : Program) : (levels left : ℕ) (os : List ℕ) (M : Name) (i : ℕ) (n : Tree) → ValueFault → Type 0 where
+pub data IsRightFault (p : Program) : (levels left : ℕ) (os : List ℕ) (M : Name) (i : ℕ) (n : Tree) → ValueFault → Type 0 where
   no_memory : {levels left : ℕ} {os : List ℕ} {M : Name} {i : ℕ} {n : Tree} {f : ValueFault} →
       f.cause ≡ cause.Memory →
-      Stands p levels left os M i n f
+      IsRightFault p levels left os M i n f
   itself : {levels left : ℕ} {os : List ℕ} {M : Name} {i : ℕ} {n : Tree} {f : ValueFault} →
       f.at.within.now ≡ M →
       f.at.ty.index ≡ i →
       tree_of f.at.notation.now ≡ n →
       HasRoom levels left f.cause →
       IsCause p levels left os M i n f.cause →
-      Stands p levels left os M i n f
+      IsRightFault p levels left os M i n f
   in_element : {levels left rest : ℕ} {os ps : List ℕ} {M K : Name} {i a : ℕ} {n l m : Tree} {k : ElementsKind}
       {before : List Tree} {r : Row} {f : ValueFault} (after : List Tree) →
       IsOfKind p.types i (elements k a) →
@@ -173,27 +173,27 @@ pub data Stands (p : Program) : (levels left : ℕ) (os : List ℕ) (M : Name) (
       Elements p ps K a before r →
       AreElements p (Allows p) (AllowsCode p) levels a r →
       left ≡ suc (row_nodes r + rest) →
-      Stands p levels rest ps K a m f →
-      Stands p (suc levels) left os M i n f
+      IsRightFault p levels rest ps K a m f →
+      IsRightFault p (suc levels) left os M i n f
   in_alternative : {levels left : ℕ} {os ps : List ℕ} {M K : Name} {i : ℕ} {n m : Tree} {e : Bool} {cs : List Part}
       {x : Name} {f : ValueFault} (c : Part) →
       IsOfKind p.types i (table.members Choice e cs) →
       IsLast p (table.members Choice e cs) os M n ps K (chosen x m) →
-      StandsIn cs c →
+      OccursIn cs c →
       c.name ≡ x →
-      Stands p levels left ps K c.ty m f →
-      Stands p (suc levels) (suc left) os M i n f
+      IsRightFault p levels left ps K c.ty m f →
+      IsRightFault p (suc levels) (suc left) os M i n f
   in_field : {levels left rest : ℕ} {os ps : List ℕ} {M K N : Name} {i : ℕ} {n m : Tree} {fs : List (Name × Tree)}
       {f : ValueFault} (c : Part) →
       AreReadTo p levels left rest os M i n ps K N fs c →
-      StandsIn fs (c.name, m) →
-      Stands p levels rest ps K c.ty m f →
-      Stands p (suc levels) left os M i n f
+      OccursIn fs (c.name, m) →
+      IsRightFault p levels rest ps K c.ty m f →
+      IsRightFault p (suc levels) left os M i n f
   in_default : {levels left rest : ℕ} {os ps : List ℕ} {M K N : Name} {i : ℕ} {n d : Tree} {fs : List (Name × Tree)}
       {f : ValueFault} (c : Part) →
       AreReadTo p levels left rest os M i n ps K N fs c →
-      (StandsIn (field_names fs) c.name → ⊥) →
+      (OccursIn (field_names fs) c.name → ⊥) →
       c.standing ≡ Root →
       c.presence ≡ default d →
-      Stands p levels 16777216 [] N c.ty d f →
-      Stands p (suc levels) left os M i n f
+      IsRightFault p levels 16777216 [] N c.ty d f →
+      IsRightFault p (suc levels) left os M i n f

@@ -22,7 +22,7 @@ use values::NamesFault;
 
 /// A notation, the module that it is read in, and the type that it is read under.
 #[derive(Clone, Copy)]
-pub struct Place<'a> {
+pub struct ValueSite<'a> {
     pub ty: TypeId,
     pub within: &'a str,
     pub notation: &'a ValueSyntax,
@@ -39,7 +39,7 @@ pub enum Cause<'a> {
     Nodes,
     /// The notation is, or leads to, this name, which is read in this module and means neither something of the type
     /// nor a value.
-    Lost(&'a str, &'a ValueSyntax),
+    NoMeaning(&'a str, &'a ValueSyntax),
     /// The notation is, or leads to, this name, which is read in this module. The name means the value of this number,
     /// whose notation is being read already.
     Circular(usize, &'a str, &'a ValueSyntax),
@@ -59,7 +59,7 @@ pub enum Cause<'a> {
     /// This component has no field in the notation, which is read in this module, though it must be present.
     Missing(usize, &'a str, &'a ValueSyntax),
     /// This field of the notation, which is read in this module, comes after one that it must come before.
-    Behind(usize, &'a str, &'a ValueSyntax),
+    OutOfOrder(usize, &'a str, &'a ValueSyntax),
     /// The notation stands for a number, size or character that the constraints of the type don't allow.
     Outside,
 }
@@ -67,12 +67,12 @@ pub enum Cause<'a> {
 /// The first notation that is wrong, and what is wrong with it.
 #[derive(Clone, Copy)]
 pub struct ValueFault<'a> {
-    pub at: Place<'a>,
+    pub at: ValueSite<'a>,
     pub cause: Cause<'a>,
 }
 
 /// The cause of a fault in following the references of a notation.
-pub(crate) fn unfollowed<'a>(fault: FollowFault<'a>) -> Cause<'a>
+pub(crate) fn follow_cause<'a>(fault: FollowFault<'a>) -> Cause<'a>
     ensures { (p : Program) (levels left i : ℕ) (os : List ℕ) (M : Name) (n : Tree) (k : Kind)
         → IsOfKind p.types i k
         → IsFollowFault p k os M n fault.entry
@@ -80,13 +80,13 @@ pub(crate) fn unfollowed<'a>(fault: FollowFault<'a>) -> Cause<'a>
 {
     match fault {
         FollowFault::Memory => Cause::Memory,
-        FollowFault::Lost(within, name) => Cause::Lost(within, name),
+        FollowFault::NoMeaning(within, name) => Cause::NoMeaning(within, name),
         FollowFault::Circular(number, within, name) => Cause::Circular(number, within, name),
     }
 }
 
 /// The cause of a fault of a notation under a type that holds no others.
-pub(crate) fn no_leaf<'a>(fault: LeafFault<'a>, within: &'a str) -> Cause<'a>
+pub(crate) fn leaf_cause<'a>(fault: LeafFault<'a>, within: &'a str) -> Cause<'a>
     ensures { (p : Program) (levels left i : ℕ) (os ps : List ℕ) (M : Name) (n l : Tree) (k : Plain)
         → IsOfKind p.types i (simple k)
         → IsLast p (simple k) os M n ps within.now l
@@ -102,7 +102,7 @@ pub(crate) fn no_leaf<'a>(fault: LeafFault<'a>, within: &'a str) -> Cause<'a>
 }
 
 /// The cause of a fault in the names of fields.
-pub(crate) fn unarranged<'a>(
+pub(crate) fn names_cause<'a>(
     fault: NamesFault,
     within: &'a str,
     notation: &'a ValueSyntax,
@@ -121,6 +121,6 @@ pub(crate) fn unarranged<'a>(
         NamesFault::Unknown(field) => Cause::UnknownField(field, within, notation),
         NamesFault::Repeated(field) => Cause::Repeated(field, within, notation),
         NamesFault::Missing(component) => Cause::Missing(component, within, notation),
-        NamesFault::Behind(field) => Cause::Behind(field, within, notation),
+        NamesFault::OutOfOrder(field) => Cause::OutOfOrder(field, within, notation),
     }
 }

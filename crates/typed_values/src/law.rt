@@ -12,19 +12,19 @@ ghost use Rattle.value_notations.specs.Values.{ValueIn};
 ghost use Rattle.values.specs.Allowing.{Allows, AllowsCode};
 ghost use Rattle.typed_values.specs.declared.fault.Cause.TheVariants.{Memory};
 ghost use Rattle.typed_values.specs.declared.fault.ValueFault.{ValueFault as ValueFault'};
-ghost use Rattle.typed_values.specs.Faults.{Stands};
+ghost use Rattle.typed_values.specs.Faults.{IsRightFault};
 ghost use Rattle.typed_values.specs.Laws.{HaveFewNodes};
 
-use value_notations::law::{one_value, wrong_stand_for_none};
+use value_notations::law::{lemma_wrong_have_no_value, one_value};
 
 /// A notation with a fault other than `Memory`, in linked modules whose defaults have few nodes, stands for no value of
 /// its type within these limits. The limits are at most `levels` levels, and at most `left` nodes.
-pub fn faults_exclude()
+pub fn lemma_faults_exclude()
     ensures { (p : Program) (levels left i : ℕ) (os : List ℕ) (M : Name) (n : Tree) (f : ValueFault') (v : AbstractValue)
         → IsApart p.modules
         → AreSound p.types
         → HaveFewNodes p
-        → Stands p levels left os M i n f
+        → IsRightFault p levels left os M i n f
         → (f.cause ≡ Memory → ⊥)
         → Notation p os M i n v
         → ValueIn p (Allows p) (AllowsCode p) levels i v
@@ -32,5 +32,5 @@ pub fn faults_exclude()
         → ⊥ }
 {
     one_value();
-    wrong_stand_for_none();
+    lemma_wrong_have_no_value();
 }

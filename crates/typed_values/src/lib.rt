@@ -11,9 +11,9 @@ mod room;
 mod simple;
 mod written;
 
-pub use fault::{Cause, Place, ValueFault};
+pub use fault::{Cause, ValueFault, ValueSite};
 pub use levels::Defaults;
-pub use reading::{judged_with, typed, typed_with};
+pub use reading::{check_with, read_with, typed};
 
 // Libraries that crates above name through this one.
 pub use values::constraints;

@@ -5,7 +5,7 @@ ghost use Rattle.std.specs.List.{AllZip};
 ghost use Rattle.asn_base.specs.Abstract.{AbstractValue, abstract, alternative, fields, list, row_of_list, row_of_options};
 ghost use Rattle.typed_values.specs.proving.Outcomes.{ShowsOption};
 
-use asn_base::law::abstract_values;
+use asn_base::law::lemma_abstract_values;
 use asn_base::value::Value;
 use std::alloc::{AllocError, Global};
 
@@ -46,7 +46,7 @@ impl Outcome for Value {
         ensures { (vs : List AbstractValue) → AllZip (λ x v. abstract x ≡ v) elements.items vs →
             abstract result ≡ list (row_of_list vs) }
     {
-        abstract_values();
+        lemma_abstract_values();
         Value::List(elements)
     }
 
@@ -55,47 +55,51 @@ impl Outcome for Value {
             AllZip (ShowsOption (λ x v. abstract x ≡ v)) components.items vs →
             abstract result ≡ fields (row_of_options vs) }
     {
-        abstract_values();
+        lemma_abstract_values();
         Value::Fields(components)
     }
 
     fn alternative(alloc: Global, number: usize, chosen: Value) -> Result<Value, AllocError>
         ensures { IfOk result (λ r. (v : AbstractValue) → abstract chosen ≡ v → abstract r ≡ alternative number v) }
     {
-        abstract_values();
+        lemma_abstract_values();
         Ok(Value::Alt(number, Box::new(alloc, chosen)?))
     }
 }
 
 /// That there is a value, which takes no memory.
 #[derive(Drop)]
-pub(crate) struct Judged;
+pub(crate) struct CheckedOnly;
 
-impl Outcome for Judged {
+impl Outcome for CheckedOnly {
     ghost shows = { λ x v. Unit {0} };
 
-    fn leaf(value: Value) -> Judged
+    fn leaf(value: Value) -> CheckedOnly
         ensures { Unit {0} }
     {
-        Judged
+        CheckedOnly
     }
 
-    fn list(elements: Vec<Judged>) -> Judged
+    fn list(elements: Vec<CheckedOnly>) -> CheckedOnly
         ensures { (vs : List AbstractValue) → AllZip (λ x v. Unit {0}) elements.items vs → Unit {0} }
     {
-        Judged
+        CheckedOnly
     }
 
-    fn fields(components: Vec<Option<Judged>>) -> Judged
+    fn fields(components: Vec<Option<CheckedOnly>>) -> CheckedOnly
         ensures { (vs : List (Option AbstractValue)) → AllZip (ShowsOption (λ x v. Unit {0})) components.items vs →
             Unit {0} }
     {
-        Judged
+        CheckedOnly
     }
 
-    fn alternative(alloc: Global, number: usize, chosen: Judged) -> Result<Judged, AllocError>
+    fn alternative(
+        alloc: Global,
+        number: usize,
+        chosen: CheckedOnly,
+    ) -> Result<CheckedOnly, AllocError>
         ensures { IfOk result (λ r. (v : AbstractValue) → Unit {0} → Unit {0}) }
     {
-        Ok(Judged)
+        Ok(CheckedOnly)
     }
 }

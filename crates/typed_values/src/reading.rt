@@ -16,14 +16,14 @@ ghost use Rattle.value_notations.specs.References.{IsLast};
 ghost use Rattle.value_notations.specs.Values.{IsTyped, MayBeAbsent};
 ghost use Rattle.values.specs.Allowing.{Allows, AllowsCode};
 ghost use Rattle.values.specs.Arranged.{place_of};
-ghost use Rattle.typed_values.specs.Faults.{IsWritten, Stands};
+ghost use Rattle.typed_values.specs.Faults.{HasKindIn, IsRightFault};
 ghost use Rattle.typed_values.specs.Known.{AreKnown, AreListed, IsListed};
-ghost use Rattle.typed_values.specs.proving.Reading.{Answers, ArePlaced, IsMade, IsWrongDefault, IsWrongField, MakeFields, MakeRow, MakesField, StandsInField, StandsInOne};
+ghost use Rattle.typed_values.specs.proving.Reading.{Answers, ArePlaced, IsMade, IsWrongDefault, IsWrongField, MakeFields, MakeRow, MakesField, FailsInField, FailsInOne};
 
-use crate::fault::{Cause, Place, ValueFault, unarranged, unfollowed};
+use crate::fault::{Cause, ValueFault, ValueSite, follow_cause, names_cause};
 use crate::forms::{chosen_in, fields_in, values_in};
 use crate::levels::Defaults;
-use crate::outcome::{Judged, Outcome};
+use crate::outcome::{CheckedOnly, Outcome};
 use crate::room::room_for;
 use crate::simple::simple_value;
 use crate::written::written;
@@ -36,7 +36,7 @@ use type_table::{ListMember, Shape};
 use value_notations::opened::Opened;
 use value_notations::references::follow;
 use values::constraints::{Bounded, allows_size};
-use values::law::{groups_whole, stands_for_fields};
+use values::law::{lemma_groups_are_whole, lemma_value_of_fields};
 use values::{alternative, arranged};
 
 /// The most levels that a value may have.
@@ -64,12 +64,12 @@ fn read<'a, O: Outcome>(
     levels: u8,
     left: &mut u32,
     opened: &mut Opened,
-    at: Place<'a>,
+    at: ValueSite<'a>,
 ) -> Result<O, ValueFault<'a>>
     requires there { at.ty.index < length bounded.now.types }
     requires sound { AreSound bounded.now.types }
     requires known { AreKnown bounded.now defaults.old }
-    ensures tells { Answers O.shows bounded.now levels left.old left.new opened.old
+    ensures is_read { Answers O.shows bounded.now levels left.old left.new opened.old
         at.entry.within.now at.entry.ty.index (tree_of at.entry.notation.now) result }
     ensures back { OnOk result (opened.new ≡ opened.old) }
     ensures known { AreKnown bounded.now defaults.new }
@@ -89,7 +89,7 @@ fn read<'a, O: Outcome>(
     let (shape, home) = written(linked, at.ty);
     match follow(linked, opened, shape, at.within, at.notation) {
         Err(fault) => {
-            let cause = unfollowed(fault);
+            let cause = follow_cause(fault);
             Err(ValueFault { at, cause })
         }
         Ok((within, last)) => {
@@ -126,7 +126,7 @@ fn value_of<'a, O: Outcome>(
     levels: u8,
     left: &mut u32,
     opened: &mut Opened,
-    at: Place<'a>,
+    at: ValueSite<'a>,
     shape: &'a Shape,
     home: &'a str,
     within: &'a str,
@@ -134,9 +134,9 @@ fn value_of<'a, O: Outcome>(
 ) -> Result<O, ValueFault<'a>>
     requires there { at.ty.index < length bounded.now.types }
     requires sound { AreSound bounded.now.types }
-    requires written { IsWritten bounded.now at.ty.index (kind_of shape.now) home.now }
+    requires written { HasKindIn bounded.now at.ty.index (kind_of shape.now) home.now }
     requires known { AreKnown bounded.now defaults.old }
-    ensures tells { (os : List ℕ)
+    ensures is_read { (os : List ℕ)
         → IsLast bounded.now (kind_of shape.now) os at.entry.within.now (tree_of at.entry.notation.now) opened.old within.now
         (tree_of last.now)
         → Answers O.shows bounded.now (suc levels) (suc left.old) left.new os at.entry.within.now
@@ -185,7 +185,7 @@ fn list<'a, O: Outcome>(
     levels: u8,
     left: &mut u32,
     opened: &mut Opened,
-    at: Place<'a>,
+    at: ValueSite<'a>,
     element: TypeId,
     within: &'a str,
     last: &'a ValueSyntax,
@@ -194,8 +194,8 @@ fn list<'a, O: Outcome>(
     requires element { element.index < length bounded.now.types }
     requires sound { AreSound bounded.now.types }
     requires known { AreKnown bounded.now defaults.old }
-    ensures tells { (os : List ℕ) (k : ElementsKind') (N : Name)
-        → IsWritten bounded.now at.entry.ty.index (elements k element.index) N
+    ensures is_read { (os : List ℕ) (k : ElementsKind') (N : Name)
+        → HasKindIn bounded.now at.entry.ty.index (elements k element.index) N
         → IsLast bounded.now (elements k element.index) os at.entry.within.now (tree_of at.entry.notation.now) opened.old within.now
         (tree_of last.now)
         → Answers O.shows bounded.now (suc levels) (suc left.old) left.new os at.entry.within.now
@@ -239,14 +239,14 @@ fn all<'a, O: Outcome>(
     requires known { AreKnown bounded.now defaults.old }
     ensures value { IfOk result (λ vs. MakeRow O.shows bounded.now levels left.old left.new opened.old within.now
         element.index (map tree_of notations.now) vs.items) }
-    ensures fault { IfErr result (StandsInOne bounded.now levels left.old opened.old within.now element.index
+    ensures fault { IfErr result (FailsInOne bounded.now levels left.old opened.old within.now element.index
         (map tree_of notations.now)) }
     ensures back { OnOk result (opened.new ≡ opened.old) }
     ensures known { AreKnown bounded.now defaults.new }
 {
     let mut values = room_for(alloc, notations.len());
     for i in 0..notations.len() {
-        let at = Place {
+        let at = ValueSite {
             ty: element,
             within,
             notation: &notations[i],
@@ -275,7 +275,7 @@ fn chosen<'a, O: Outcome>(
     levels: u8,
     left: &mut u32,
     opened: &mut Opened,
-    at: Place<'a>,
+    at: ValueSite<'a>,
     alternatives: &'a [ListMember],
     within: &'a str,
     last: &'a ValueSyntax,
@@ -284,8 +284,8 @@ fn chosen<'a, O: Outcome>(
         → c.ty < length bounded.now.types }
     requires sound { AreSound bounded.now.types }
     requires known { AreKnown bounded.now defaults.old }
-    ensures tells { (os : List ℕ) (e : 𝔹) (N : Name)
-        → IsWritten bounded.now at.entry.ty.index (members choice e (map part_of alternatives.now)) N
+    ensures is_read { (os : List ℕ) (e : 𝔹) (N : Name)
+        → HasKindIn bounded.now at.entry.ty.index (members choice e (map part_of alternatives.now)) N
         → IsLast bounded.now (members choice e (map part_of alternatives.now)) os at.entry.within.now
         (tree_of at.entry.notation.now) opened.old within.now (tree_of last.now)
         → Answers O.shows bounded.now (suc levels) (suc left.old) left.new os at.entry.within.now
@@ -305,7 +305,7 @@ fn chosen<'a, O: Outcome>(
     let ty = TypeId {
         index: alternatives[number].ty,
     };
-    let inner = Place {
+    let inner = ValueSite {
         ty,
         within,
         notation,
@@ -332,7 +332,7 @@ fn fields<'a, O: Outcome>(
     levels: u8,
     left: &mut u32,
     opened: &mut Opened,
-    at: Place<'a>,
+    at: ValueSite<'a>,
     kind: ListKind,
     components: &'a [ListMember],
     home: &'a str,
@@ -346,8 +346,8 @@ fn fields<'a, O: Outcome>(
     requires sound { AreSound bounded.now.types }
     requires listed { AreListed bounded.now home.now (map part_of components.now) }
     requires known { AreKnown bounded.now defaults.old }
-    ensures tells { (os : List ℕ) (e : 𝔹)
-        → IsWritten bounded.now at.entry.ty.index (members kind e (map part_of components.now)) home.now
+    ensures is_read { (os : List ℕ) (e : 𝔹)
+        → HasKindIn bounded.now at.entry.ty.index (members kind e (map part_of components.now)) home.now
         → IsLast bounded.now (members kind e (map part_of components.now)) os at.entry.within.now (tree_of at.entry.notation.now)
         opened.old within.now (tree_of last.now)
         → Answers O.shows bounded.now (suc levels) (suc left.old) left.new os at.entry.within.now
@@ -356,8 +356,8 @@ fn fields<'a, O: Outcome>(
     ensures back { OnOk result (opened.new ≡ opened.old) }
     ensures known { AreKnown bounded.now defaults.new }
 {
-    stands_for_fields();
-    groups_whole();
+    lemma_value_of_fields();
+    lemma_groups_are_whole();
     let Some(given) = fields_in(last) else {
         let cause = Cause::NotOfType;
         return Err(ValueFault { at, cause });
@@ -365,7 +365,7 @@ fn fields<'a, O: Outcome>(
     let places = match arranged(alloc, kind, components, given) {
         Ok(places) => places,
         Err(fault) => {
-            let cause = unarranged(fault, within, last);
+            let cause = names_cause(fault, within, last);
             return Err(ValueFault { at, cause });
         }
     };
@@ -397,7 +397,7 @@ fn all_fields<'a, O: Outcome>(
     levels: u8,
     left: &mut u32,
     opened: &mut Opened,
-    at: Place<'a>,
+    at: ValueSite<'a>,
     components: &'a [ListMember],
     home: &'a str,
     within: &'a str,
@@ -412,7 +412,7 @@ fn all_fields<'a, O: Outcome>(
     requires known { AreKnown bounded.now defaults.old }
     ensures value { IfOk result (λ vs. MakeFields O.shows bounded.now levels left.old left.new opened.old within.now
         home.now (map member_of given.now) (map part_of components.now) vs.items) }
-    ensures fault { IfErr result (StandsInField bounded.now levels left.old opened.old within.now home.now
+    ensures fault { IfErr result (FailsInField bounded.now levels left.old opened.old within.now home.now
         (map member_of given.now) (map part_of components.now)) }
     ensures back { OnOk result (opened.new ≡ opened.old) }
     ensures known { AreKnown bounded.now defaults.new }
@@ -472,7 +472,7 @@ fn field<'a, O: Outcome>(
     match place {
         Some(place) => {
             let notation = &given[place].value;
-            let at = Place {
+            let at = ValueSite {
                 ty,
                 within,
                 notation,
@@ -583,7 +583,7 @@ fn read_default<'a, O: Outcome>(
     ensures fault { IfErr result (IsWrongDefault bounded.now levels home.now (part_of component.now)) }
     ensures known { AreKnown bounded.now defaults.new }
 {
-    let at = Place {
+    let at = ValueSite {
         ty: TypeId {
             index: component.ty,
         },
@@ -603,14 +603,14 @@ fn whole<'a, O: Outcome>(
     alloc: Global,
     bounded: &Bounded<'a>,
     defaults: &mut Defaults,
-    at: Place<'a>,
+    at: ValueSite<'a>,
 ) -> Result<O, ValueFault<'a>>
     requires there { at.ty.index < length bounded.now.types }
     requires sound { AreSound bounded.now.types }
     requires known { AreKnown bounded.now defaults.old }
     ensures value { IfOk result (IsMade O.shows bounded.now at.entry.within.now at.entry.ty.index
         (tree_of at.entry.notation.now)) }
-    ensures fault { IfErr result (Stands bounded.now 64 16777216 [] at.entry.within.now at.entry.ty.index
+    ensures fault { IfErr result (IsRightFault bounded.now 64 16777216 [] at.entry.within.now at.entry.ty.index
         (tree_of at.entry.notation.now)) }
     ensures known { AreKnown bounded.now defaults.new }
 {
@@ -629,7 +629,7 @@ fn whole<'a, O: Outcome>(
 
 /// The value that a notation stands for under a type (X.680, clause 17), as [`typed`] returns it. The caller gives the
 /// table, and one table serves all notations of the same modules.
-pub fn typed_with<'a>(
+pub fn read_with<'a>(
     alloc: Global,
     bounded: &Bounded<'a>,
     defaults: &mut Defaults,
@@ -642,10 +642,10 @@ pub fn typed_with<'a>(
     requires known { AreKnown bounded.now defaults.old }
     ensures value { IfOk result (λ v. IsTyped bounded.now (Allows bounded.now) (AllowsCode bounded.now) within.now ty.index
         (tree_of notation.now) (abstract v)) }
-    ensures fault { IfErr result (Stands bounded.now 64 16777216 [] within.now ty.index (tree_of notation.now)) }
+    ensures fault { IfErr result (IsRightFault bounded.now 64 16777216 [] within.now ty.index (tree_of notation.now)) }
     ensures known { AreKnown bounded.now defaults.new }
 {
-    let at = Place {
+    let at = ValueSite {
         ty,
         within,
         notation,
@@ -656,9 +656,9 @@ pub fn typed_with<'a>(
     }
 }
 
-/// Whether a notation stands for a value of a type, or its first fault, as [`typed_with`] returns it. No value is
+/// Whether a notation stands for a value of a type, or its first fault, as [`read_with`] returns it. No value is
 /// built, so the call takes little memory, however many nodes the value has.
-pub fn judged_with<'a>(
+pub fn check_with<'a>(
     alloc: Global,
     bounded: &Bounded<'a>,
     defaults: &mut Defaults,
@@ -671,15 +671,15 @@ pub fn judged_with<'a>(
     requires known { AreKnown bounded.now defaults.old }
     ensures value { OnOk result ((v : AbstractValue) × IsTyped bounded.now (Allows bounded.now) (AllowsCode bounded.now)
         within.now ty.index (tree_of notation.now) v) }
-    ensures fault { IfErr result (Stands bounded.now 64 16777216 [] within.now ty.index (tree_of notation.now)) }
+    ensures fault { IfErr result (IsRightFault bounded.now 64 16777216 [] within.now ty.index (tree_of notation.now)) }
     ensures known { AreKnown bounded.now defaults.new }
 {
-    let at = Place {
+    let at = ValueSite {
         ty,
         within,
         notation,
     };
-    match whole::<Judged>(alloc, bounded, defaults, at) {
+    match whole::<CheckedOnly>(alloc, bounded, defaults, at) {
         Ok(_) => Ok(()),
         Err(fault) => Err(fault),
     }
@@ -702,12 +702,12 @@ pub fn typed<'a>(
     requires sound { AreSound bounded.now.types }
     ensures value { IfOk result (λ v. IsTyped bounded.now (Allows bounded.now) (AllowsCode bounded.now) within.now ty.index
         (tree_of notation.now) (abstract v)) }
-    ensures fault { IfErr result (Stands bounded.now 64 16777216 [] within.now ty.index (tree_of notation.now)) }
+    ensures fault { IfErr result (IsRightFault bounded.now 64 16777216 [] within.now ty.index (tree_of notation.now)) }
 {
     match Defaults::of(alloc, bounded) {
-        Ok(mut defaults) => typed_with(alloc, bounded, &mut defaults, ty, within, notation),
+        Ok(mut defaults) => read_with(alloc, bounded, &mut defaults, ty, within, notation),
         Err(_) => {
-            let at = Place {
+            let at = ValueSite {
                 ty,
                 within,
                 notation,

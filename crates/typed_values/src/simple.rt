@@ -7,10 +7,10 @@ ghost use Rattle.type_table.specs.Lists.{IsSoundPlain};
 ghost use Rattle.type_table.specs.Table.{simple as simple'};
 ghost use Rattle.range_ends.specs.Ends.{IsOfKind};
 ghost use Rattle.value_notations.specs.References.{IsLast};
-ghost use Rattle.typed_values.specs.Faults.{IsWritten};
-ghost use Rattle.typed_values.specs.proving.Reading.{Tells};
+ghost use Rattle.typed_values.specs.Faults.{HasKindIn};
+ghost use Rattle.typed_values.specs.proving.Reading.{Reports};
 
-use crate::fault::{Cause, Place, ValueFault, no_leaf};
+use crate::fault::{Cause, ValueFault, ValueSite, leaf_cause};
 use asn_base::value::Value;
 use std::alloc::Global;
 use trees::{Simple, ValueSyntax};
@@ -22,7 +22,7 @@ use values::is_allowed;
 pub(crate) fn simple_value<'a>(
     alloc: Global,
     bounded: &Bounded<'a>,
-    at: Place<'a>,
+    at: ValueSite<'a>,
     simple: &Simple,
     within: &'a str,
     last: &'a ValueSyntax,
@@ -31,15 +31,15 @@ pub(crate) fn simple_value<'a>(
     requires sound { IsSoundPlain (plain_of simple.now) }
     requires is { IsOfKind bounded.now.types at.ty.index (simple' (plain_of simple.now)) }
     ensures { (levels left : ℕ) (os ps : List ℕ) (N : Name)
-        → IsWritten bounded.now at.entry.ty.index (simple' (plain_of simple.now)) N
+        → HasKindIn bounded.now at.entry.ty.index (simple' (plain_of simple.now)) N
         → IsLast bounded.now (simple' (plain_of simple.now)) os at.entry.within.now (tree_of at.entry.notation.now) ps
         within.now (tree_of last.now)
-        → Tells bounded.now (suc levels) (suc left) left os at.entry.within.now at.entry.ty.index (tree_of at.entry.notation.now) result }
+        → Reports bounded.now (suc levels) (suc left) left os at.entry.within.now at.entry.ty.index (tree_of at.entry.notation.now) result }
 {
     let value = match leaf(alloc, simple, last) {
         Ok(value) => value,
         Err(fault) => {
-            let cause = no_leaf(fault, within);
+            let cause = leaf_cause(fault, within);
             return Err(ValueFault { at, cause });
         }
     };

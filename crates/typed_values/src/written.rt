@@ -2,7 +2,7 @@
 
 ghost use Rattle.std.specs.Prelude.{◌<◌, ◌≡◌, length};
 ghost use Rattle.type_table.specs.Seen.{kind_of};
-ghost use Rattle.typed_values.specs.Faults.{IsWritten};
+ghost use Rattle.typed_values.specs.Faults.{HasKindIn};
 
 use asn_base::schema::TypeId;
 use resolve::Linked;
@@ -11,7 +11,7 @@ use type_table::Shape;
 /// The shape of a type after its references and tags, and the module in which that shape is written.
 pub(crate) fn written(linked: &Linked, ty: TypeId) -> (&Shape, &str)
     requires { ty.index < length linked.now.types }
-    ensures { IsWritten linked.now ty.index (kind_of result.0.now) result.1.now }
+    ensures { HasKindIn linked.now ty.index (kind_of result.0.now) result.1.now }
 {
     let core = linked.core(ty);
     let home = linked.home(core);

@@ -146,10 +146,10 @@ set_by (b ∷ s) (suc p) zero e = inr e
 set_by (b ∷ s) (suc p) (suc i) e =
     elim (set_by s p i e) [ inl h ↦ inl (ap suc h) | inr h ↦ inr h ]
 
-abbrev Stands : List ℕ → ℕ → Type 0
-Stands ps x = (i : ℕ) × (slice_get ps i ≡ Some x)
+abbrev Occurs : List ℕ → ℕ → Type 0
+Occurs ps x = (i : ℕ) × (slice_get ps i ≡ Some x)
 
-taken_stays : (ps : List ℕ) (k x : ℕ) → Stands (take k ps) x → Stands (take (k + 1) ps) x
+taken_stays : (ps : List ℕ) (k x : ℕ) → Occurs (take k ps) x → Occurs (take (k + 1) ps) x
 taken_stays [] zero x s = absurd (let e = s.1 in cc)
 taken_stays [] (suc k) x s = absurd (let e = s.1 in cc)
 taken_stays (p ∷ ps) zero x s = absurd (let e = s.1 in cc)
@@ -159,7 +159,7 @@ taken_stays (p ∷ ps) (suc k) x (suc i, e) =
     let s = taken_stays ps k x (i, e) in
     rw q (suc s.0, s.1)
 
-taken_last : (ps : List ℕ) (k p : ℕ) → slice_get ps k ≡ Some p → Stands (take (k + 1) ps) p
+taken_last : (ps : List ℕ) (k p : ℕ) → slice_get ps k ≡ Some p → Occurs (take (k + 1) ps) p
 taken_last [] k p e = absurd cc
 taken_last (y ∷ ps) zero p e = (0, e)
 taken_last (y ∷ ps) (suc k) p e =
@@ -167,22 +167,22 @@ taken_last (y ∷ ps) (suc k) p e =
     let s = taken_last ps k p e in
     rw q (suc s.0, s.1)
 
-one_behind : (y : ℕ) (xs zs : List ℕ) (x p : ℕ) → (Stands xs x → (x ≡ p) ⊎ Stands zs x) → Stands (y ∷ xs) x → (x ≡ p) ⊎ Stands (y ∷ zs) x
-one_behind y xs zs x p go (zero, f) = inr (zero, f)
-one_behind y xs zs x p go (suc i, f) = elim (go (i, f)) [ inl h ↦ inl h | inr h ↦ inr (suc h.0, h.1) ]
+one_after : (y : ℕ) (xs zs : List ℕ) (x p : ℕ) → (Occurs xs x → (x ≡ p) ⊎ Occurs zs x) → Occurs (y ∷ xs) x → (x ≡ p) ⊎ Occurs (y ∷ zs) x
+one_after y xs zs x p go (zero, f) = inr (zero, f)
+one_after y xs zs x p go (suc i, f) = elim (go (i, f)) [ inl h ↦ inl h | inr h ↦ inr (suc h.0, h.1) ]
 
-taken_by : (ps : List ℕ) (k p x : ℕ) → slice_get ps k ≡ Some p → Stands (take (k + 1) ps) x → (x ≡ p) ⊎ Stands (take k ps) x
+taken_by : (ps : List ℕ) (k p x : ℕ) → slice_get ps k ≡ Some p → Occurs (take (k + 1) ps) x → (x ≡ p) ⊎ Occurs (take k ps) x
 taken_by [] k p x e s = absurd cc
 taken_by (y ∷ ps) zero p x e (zero, f) = inl (same_Some x p (sym f ∙ e))
 taken_by (y ∷ ps) zero p x e (suc i, f) = absurd cc
 taken_by (y ∷ ps) (suc k) p x e s =
     let q : suc k + 1 ≡ suc (k + 1) = omega arith in
-    one_behind y (take (k + 1) ps) (take k ps) x p (taken_by ps k p x e)
-    (subst (λ (z : ℕ). Stands (take z (y ∷ ps)) x) q s)
+    one_after y (take (k + 1) ps) (take k ps) x p (taken_by ps k p x e)
+    (subst (λ (z : ℕ). Occurs (take z (y ∷ ps)) x) q s)
 
 -- the bits at the first k places are set
 abbrev pub AreSet : List ℕ → ℕ → List Bool → Type 0
-AreSet ps k s = (i : ℕ) → (slice_get s i ≡ Some true ↔ Stands (take k ps) i)
+AreSet ps k s = (i : ℕ) → (slice_get s i ≡ Some true ↔ Occurs (take k ps) i)
 
 pub set_first : (ps : List ℕ) (n : ℕ) → AreSet ps 0 (replicate n false)
 set_first ps n i = (λ e. absurd (none_set n i e), λ s. absurd (let e = s.1 in cc))
@@ -190,7 +190,7 @@ set_first ps n i = (λ e. absurd (none_set n i e), λ s. absurd (let e = s.1 in 
 pub set_more : (ps : List ℕ) (k p : ℕ) (s : List Bool) → slice_get ps k ≡ Some p → p < length s → AreSet ps k s → AreSet ps (k + 1) (set s p true)
 set_more ps k p s e l h i = (
   λ f. elim (set_by s p i f) [
-    | inl g ↦ subst (λ (z : ℕ). Stands (take (k + 1) ps) z) (sym g) (taken_last ps k p e)
+    | inl g ↦ subst (λ (z : ℕ). Occurs (take (k + 1) ps) z) (sym g) (taken_last ps k p e)
     | inr g ↦ taken_stays ps k i ((h i).0 g)
   ],
   λ t. elim (taken_by ps k p i e t) [
@@ -202,8 +202,8 @@ set_more ps k p s e l h i = (
 pub set_all : (ps : List ℕ) (k : ℕ) (s : List Bool) → length ps ≤ k → AreSet ps k s → ((n : ℕ) → length s ≡ suc n → IsAmong ps n) → AreSetBits ps s
 set_all ps k s l h g = record {
   set = λ i. (
-    λ e. let x = subst (λ (z : List ℕ). Stands z i) (taken_whole ps k l) ((h i).0 e) in record { place = x.0; there = x.1 },
-    λ a. (h i).1 (subst (λ (z : List ℕ). Stands z i) (sym (taken_whole ps k l)) (a.place, a.there)),
+    λ e. let x = subst (λ (z : List ℕ). Occurs z i) (taken_whole ps k l) ((h i).0 e) in record { place = x.0; there = x.1 },
+    λ a. (h i).1 (subst (λ (z : List ℕ). Occurs z i) (sym (taken_whole ps k l)) (a.place, a.there)),
   );
   greatest = g;
 }

@@ -2,8 +2,8 @@
 use Rattle.std.specs.Prelude.{◌≡◌, ℕ, List, take, Some, None, slice_get, string_bytes}
 use Rattle.asn_base.specs.Abstract.{AbstractValue}
 use Rattle.asn_base.specs.Types.{Alternative, Item, NamedBit, Resolved}
-use Rattle.value_builders.specs.declared.fault.BuildFault.{BuildFault}
-use Rattle.value_builders.specs.declared.fault.BuildFault.TheVariants as fault
+use Rattle.value_builders.specs.declared.build_fault.BuildFault.{BuildFault}
+use Rattle.value_builders.specs.declared.build_fault.BuildFault.TheVariants as fault
 use Rattle.value_builders.specs.Named.{Has, IsOther, kind_at, components_in, alternatives_in, items_in, bits_in}
 use Rattle.value_builders.specs.Named.{place_of}
 use Rattle.value_builders.specs.Named.{number_of, bit_of, component_names, alternative_names}

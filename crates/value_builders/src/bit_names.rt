@@ -11,9 +11,9 @@ ghost use Rattle.value_builders.specs.Made.{AreBitPlaces, AreSetBits, IsBits, Is
 ghost use Rattle.value_builders.specs.Named.{bit_of, bits_in};
 ghost use Rattle.value_builders.specs.Refused.{IsNoBitAmong, IsNoBits};
 
-use crate::fault::BuildFault;
+use crate::build_fault::BuildFault;
 use crate::names::core_of;
-use asn_base::law::abstract_values;
+use asn_base::law::lemma_abstract_values;
 use asn_base::schema::{Core, NamedBit, Schema, TypeId};
 use asn_base::value::{BitString, Value};
 use bits::buffer::BitBuf;
@@ -162,7 +162,7 @@ pub fn named_bits(
     // The reason of a refusal applies.
     ensures refused { IfErr result (IsNoBits schema.now id.index (map (λ n. n.now) names.now)) }
 {
-    abstract_values();
+    lemma_abstract_values();
     let Some(core) = core_of(schema, id) else {
         return Err(BuildFault::NoType);
     };

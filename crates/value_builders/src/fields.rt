@@ -9,9 +9,9 @@ ghost use Rattle.value_builders.specs.Building.{IsSet, begun, is_missing, missin
 ghost use Rattle.value_builders.specs.Named.{Has, components_in};
 ghost use Rattle.value_builders.specs.Refused.{IsNotBegun, IsNotSet, IsUnfinished};
 
-use crate::fault::BuildFault;
+use crate::build_fault::BuildFault;
 use crate::names::{component_place, components_of, core_of};
-use asn_base::law::abstract_values;
+use asn_base::law::lemma_abstract_values;
 use asn_base::schema::{Component, Presence, Schema, TypeId};
 use asn_base::value::Value;
 use std::alloc::{AllocError, Global};
@@ -168,7 +168,7 @@ impl<'s> Fields<'s> {
         // The reason of a refusal applies.
         ensures refused { IfErr result (IsUnfinished self.entry) }
     {
-        abstract_values();
+        lemma_abstract_values();
         match first_missing(self.components, self.values.as_slice()) {
             Some(component) => Err(BuildFault::Missing(component.name.clone()?)),
             None => Ok(Value::Fields(self.values)),

@@ -2,12 +2,12 @@
 #![tactic(auto)]
 
 mod bit_names;
-mod fault;
+mod build_fault;
 mod fields;
 pub mod names;
 mod parts;
 
 pub use bit_names::named_bits;
-pub use fault::BuildFault;
+pub use build_fault::BuildFault;
 pub use fields::Fields;
 pub use parts::{alternative, item};

@@ -5,9 +5,9 @@ ghost use Rattle.asn_base.specs.Abstract.{abstract};
 ghost use Rattle.value_builders.specs.Made.{IsAlternative, IsItem};
 ghost use Rattle.value_builders.specs.Refused.{IsNoAlternative, IsNoItem};
 
-use crate::fault::BuildFault;
+use crate::build_fault::BuildFault;
 use crate::names::{alternative_number, alternatives_of, core_of, item_number, items_of};
-use asn_base::law::abstract_values;
+use asn_base::law::lemma_abstract_values;
 use asn_base::schema::{Schema, TypeId};
 use asn_base::value::Value;
 use std::alloc::Global;
@@ -29,7 +29,7 @@ pub fn alternative(
     // The reason of a refusal applies.
     ensures refused { IfErr result (IsNoAlternative schema.now id.index name.now) }
 {
-    abstract_values();
+    lemma_abstract_values();
     let Some(core) = core_of(schema, id) else {
         return Err(BuildFault::NoType);
     };
@@ -52,7 +52,7 @@ pub fn item(alloc: Global, schema: &Schema, id: TypeId, name: &str) -> Result<Va
     // The reason of a refusal applies.
     ensures refused { IfErr result (IsNoItem schema.now id.index name.now) }
 {
-    abstract_values();
+    lemma_abstract_values();
     let Some(core) = core_of(schema, id) else {
         return Err(BuildFault::NoType);
     };

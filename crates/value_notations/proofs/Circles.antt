@@ -2,21 +2,21 @@
 use Rattle.std.proofs.Common.{ℕ, List, sym, subst, Option}
 use Rattle.trees.specs.Values.{Name, Tree, reference}
 use Rattle.names.specs.declared.scope.Assigned.TheVariants as assigned
-use Rattle.names.specs.Modules.{StandsIn}
+use Rattle.names.specs.Modules.{OccursIn}
 use Rattle.names.specs.Names.{Refers, IsApart}
 use Rattle.type_table.specs.Table.{Kind}
 use Rattle.resolve.specs.Program.{Program}
 use Rattle.range_ends.specs.Ends.{IsValueAt}
 use Rattle.value_notations.specs.References.{IsNamed, IsLast}
 use Rattle.value_notations.specs.References as last
-use Rattle.value_notations.specs.Wrong.{LeadsTo, IsLost, ComesRound}
+use Rattle.value_notations.specs.Wrong.{OpenedPath, HasNoMeaning, IsCircularName}
 use Rattle.value_notations.specs.Wrong as wrong
-use Rattle.value_notations.proofs.Following.{one_value_meant, one_module, moved}
+use Rattle.value_notations.specs.proving.Following.{one_value_meant, one_module, moved}
 
 -- what references lead to has the same end
 leads_last : {p : Program} {k : Kind} {os ps qs : List ℕ} {M N K : Name} {n m l : Tree}
     → IsApart p.modules
-    → LeadsTo p k os M n qs N m
+    → OpenedPath p k os M n qs N m
     → IsLast p k os M n ps K l
     → IsLast p k qs N m ps K l
 leads_last apart wrong.there d = d
@@ -36,25 +36,25 @@ dead none no_value (last.referred i without r f a d) = no_value i r
 
 pub lost_without_end : {p : Program} {k : Kind} {os ps : List ℕ} {M K : Name} {n l : Tree} {q : Option Name} {x : Name}
     → IsApart p.modules
-    → IsLost p k os M n q x
+    → HasNoMeaning p k os M n q x
     → IsLast p k os M n ps K l
     → ⊥
-lost_without_end apart s d = dead s.none s.no_value (leads_last apart s.leads d)
+lost_without_end apart s d = dead s.none s.no_value (leads_last apart s.chain d)
 
 met : {p : Program} {k : Kind} {os ps : List ℕ} {M K : Name} {q : Option Name} {x : Name} {l : Tree} (i : ℕ)
     → IsApart p.modules
     → (IsNamed k q x → ⊥)
     → Refers p.modules M q x (assigned.Value i)
-    → StandsIn os i
+    → OccursIn os i
     → IsLast p k os M (reference q x) ps K l
     → ⊥
 met i apart none r again (last.own o) = none o
 met {p} {os = os} {M = M} {q = q} {x = x} i apart none r again (last.referred j without s f a d) =
-    f (subst (λ (z : ℕ). StandsIn os z) (one_value_meant p.modules M q x i j apart r s) again)
+    f (subst (λ (z : ℕ). OccursIn os z) (one_value_meant p.modules M q x i j apart r s) again)
 
 pub round_without_end : {p : Program} {k : Kind} {os ps : List ℕ} {M K : Name} {n l : Tree} {i : ℕ}
     → IsApart p.modules
-    → ComesRound p k os M n i
+    → IsCircularName p k os M n i
     → IsLast p k os M n ps K l
     → ⊥
-round_without_end {i = i} apart c d = met i apart c.none c.refers c.again (leads_last apart c.leads d)
+round_without_end {i = i} apart c d = met i apart c.none c.refers c.again (leads_last apart c.chain d)

@@ -12,7 +12,7 @@ use Rattle.trees.specs.declared.types.Standing.{Standing}
 use Rattle.trees.specs.declared.types.Standing.TheVariants.{Addition}
 use Rattle.trees.specs.Types.{PresenceTree, mandatory, optional, default, Plain, a_bit_string}
 use Rattle.trees.specs.Values.{Name, Tree, Trees, items, chosen}
-use Rattle.names.specs.Modules.{StandsIn, AreDistinct}
+use Rattle.names.specs.Modules.{OccursIn, AreDistinct}
 use Rattle.names.specs.Names.{under}
 use Rattle.type_table.specs.Table.{Kind, Part, simple, members, elements}
 use Rattle.resolve.specs.Program.{Program}
@@ -22,10 +22,10 @@ use Rattle.value_notations.specs.Leaves.{IsLeaf, AreBitNames}
 use Rattle.value_notations.specs.Leaves as leaves
 use Rattle.value_notations.specs.Notations.{Notation, NotationOf, Fields, Elements, AreArranged, IsPartOf, field_names, part_names, fields_in, values_in, may_be_absent, presence_of, component_of}
 use Rattle.value_notations.specs.Notations as family
-use Rattle.value_notations.specs.Wrong.{Trouble, IsMisfit, IsUnknownBit, HasUnknownBit, IsMissing, IsMissingInGroup, IsDisarranged, IsWrongHere, IsRead}
+use Rattle.value_notations.specs.Wrong.{NotationTrouble, IsMisfit, IsUnknownBit, HasUnknownBit, IsMissing, IsMissingInGroup, IsDisarranged, IsWrongHere, IsRead}
 use Rattle.value_notations.specs.Wrong as wrong
-use Rattle.value_notations.proofs.Places.{one_some, some_none, one_place, mapped_at, stands_mapped}
-use Rattle.value_notations.proofs.Following.{one_kind, sound_kind, one_last}
+use Rattle.value_notations.specs.proving.Places.{one_some, some_none, one_place, mapped_at, occurs_mapped}
+use Rattle.value_notations.specs.proving.Following.{one_kind, sound_kind, one_last}
 use Rattle.value_notations.proofs.Circles.{lost_without_end, round_without_end}
 use Rattle.value_notations.proofs.SameValue.{IsKept, carried, distinct_fields, one_field}
 
@@ -55,15 +55,15 @@ field_value : {p : Program} {os : List ℕ} {M : Name} {fs : List (Name × Tree)
     → AreDistinct (field_names fs)
     → Fields p os M fs cs r
     → slice_get cs a ≡ Some c
-    → StandsIn fs (c.name, m)
+    → OccursIn fs (c.name, m)
     → (w : AbstractValue) × Notation p os M c.ty m w
 field_value a c m d family.no_part e s = absurd (some_none (slice_get [] a) c e refl)
 field_value {fs = fs} zero c m d (family.part_absent {c = b} none x h) e s =
-    absurd (none (subst (λ (z : Part). StandsIn (field_names fs) z.name) (sym (same_Some b c e))
-    (stands_mapped (λ (f : Name × Tree). f.0) fs (c.name, m) s)))
+    absurd (none (subst (λ (z : Part). OccursIn (field_names fs) z.name) (sym (same_Some b c e))
+    (occurs_mapped (λ (f : Name × Tree). f.0) fs (c.name, m) s)))
 field_value {p} {os} {M} {fs} zero c m d (family.part_present {c = b} {n = n} {v = v} t g h) e s =
     let same = same_Some b c e in
-    let notes = one_field fs c.name n m d (subst (λ (z : Part). StandsIn fs (z.name, n)) same t) s in
+    let notes = one_field fs c.name n m d (subst (λ (z : Part). OccursIn fs (z.name, n)) same t) s in
     (v, subst (λ (z : Tree). Notation p os M c.ty z v) notes (subst (λ (z : Part). Notation p os M z.ty n v) same g))
 field_value (suc a) c m d (family.part_absent none x h) e s = field_value a c m d h e s
 field_value (suc a) c m d (family.part_present t g h) e s = field_value a c m d h e s
@@ -87,8 +87,8 @@ fields_value : {p : Program} {os : List ℕ} {K : Name} {k : ListKind} {e : Bool
     {c : Part} {v : AbstractValue}
     → (k ≡ Choice → ⊥)
     → fields_in l ≡ Some fs
-    → StandsIn cs c
-    → StandsIn fs (c.name, m)
+    → OccursIn cs c
+    → OccursIn fs (c.name, m)
     → NotationOf p os K (members k e cs) l v
     → (w : AbstractValue) × Notation p os K c.ty m w
 fields_value {p} {os} {K} {k} {e} {cs} {l} {m} {fs} {c} none f s t (family.of_fields {fs = gs} {r = r} g a h w) =
@@ -100,7 +100,7 @@ fields_value none f s t (family.of_choice g a h) = absurd (none refl)
 
 elements_value : {p : Program} {os : List ℕ} {K : Name} {k : ElementsKind} {j : ℕ} {l m : Tree} {ts : List Tree} {v : AbstractValue}
     → values_in l ≡ Some ts
-    → StandsIn ts m
+    → OccursIn ts m
     → NotationOf p os K (elements k j) l v
     → (w : AbstractValue) × Notation p os K j m w
 elements_value {p} {os} {K} {k} {j} {l} {m} {ts} f s (family.of_list {ts = us} {r = r} g h) =
@@ -111,7 +111,7 @@ no_choice cs fs a = a
 
 choice_value : {p : Program} {os : List ℕ} {K : Name} {e : Bool} {cs : List Part} {x : Name} {m : Tree} {c : Part} {v : AbstractValue}
     → AreDistinct (part_names cs)
-    → StandsIn cs c
+    → OccursIn cs c
     → c.name ≡ x
     → NotationOf p os K (members Choice e cs) (chosen x m) v
     → (w : AbstractValue) × Notation p os K c.ty m w
@@ -171,19 +171,19 @@ leaf_of : {p : Program} {os : List ℕ} {K : Name} {k : Plain} {l : Tree} {v : A
 leaf_of (family.of_leaf h) = h
 
 other_none : {p : Program} {os : List ℕ} {K : Name} {e : Bool} {cs : List Part} {x : Name} {m : Tree} {v : AbstractValue}
-    → (StandsIn (part_names cs) x → ⊥)
+    → (OccursIn (part_names cs) x → ⊥)
     → NotationOf p os K (members Choice e cs) (chosen x m) v
     → ⊥
 other_none {cs = cs} none (family.of_fields {fs = fs} g a h w) = no_choice cs fs a
 other_none {cs = cs} {x = x} none (family.of_choice {c = c} {a = i} g f h) = none (i, named_at cs i c x g f)
 
-part_in : {A : Type 0} {xs ys : List A} (x : A) (i : ℕ) → IsPartOf xs ys → slice_get xs i ≡ Some x → StandsIn ys x
+part_in : {A : Type 0} {xs ys : List A} (x : A) (i : ℕ) → IsPartOf xs ys → slice_get xs i ≡ Some x → OccursIn ys x
 part_in x i family.none_left e = absurd (some_none (slice_get [] i) x e refl)
 part_in x i (family.left_out h) e = let s = part_in x i h e in (suc s.0, s.1)
 part_in x zero (family.taken h) e = (0, e)
 part_in x (suc i) (family.taken h) e = let s = part_in x i h e in (suc s.0, s.1)
 
-arranged_in : (k : ListKind) (cs fs : List Name) (x : Name) → AreArranged k cs fs → StandsIn fs x → StandsIn cs x
+arranged_in : (k : ListKind) (cs fs : List Name) (x : Name) → AreArranged k cs fs → OccursIn fs x → OccursIn cs x
 arranged_in Sequence cs fs x a s = part_in x s.0 a.1 s.1
 arranged_in Set cs fs x a s = a.1 x s
 arranged_in Choice cs fs x a s = absurd a
@@ -192,13 +192,13 @@ arranged_in Choice cs fs x a s = absurd a
 absent_may : {p : Program} {os : List ℕ} {M : Name} {fs : List (Name × Tree)} {cs : List Part} {r : Row} (a : ℕ) (c : Part)
     → Fields p os M fs cs r
     → slice_get cs a ≡ Some c
-    → (StandsIn (field_names fs) c.name → ⊥)
+    → (OccursIn (field_names fs) c.name → ⊥)
     → IsTrue (may_be_absent c)
 absent_may a c family.no_part e none = absurd (some_none (slice_get [] a) c e refl)
 absent_may zero c (family.part_absent {c = b} x t h) e none = subst (λ (z : Part). IsTrue (may_be_absent z)) (same_Some b c e) t
 absent_may {fs = fs} zero c (family.part_present {c = b} {n = n} t g h) e none =
-    absurd (none (subst (λ (z : Part). StandsIn (field_names fs) z.name) (same_Some b c e)
-    (stands_mapped (λ (f : Name × Tree). f.0) fs (b.name, n) t)))
+    absurd (none (subst (λ (z : Part). OccursIn (field_names fs) z.name) (same_Some b c e)
+    (occurs_mapped (λ (f : Name × Tree). f.0) fs (b.name, n) t)))
 absent_may (suc a) c (family.part_absent x t h) e none = absent_may a c h e none
 absent_may (suc a) c (family.part_present t g h) e none = absent_may a c h e none
 
@@ -219,11 +219,11 @@ has_group : {p : Program} {os : List ℕ} {M : Name} {fs : List (Name × Tree)} 
     → Fields p os M fs cs r
     → slice_get cs a ≡ Some c
     → c.standing ≡ Addition (Some g)
-    → StandsIn (field_names fs) c.name
+    → OccursIn (field_names fs) c.name
     → HasOfGroup g (map component_of cs) r
 has_group g a c family.no_part e f s = absurd (some_none (slice_get [] a) c e refl)
 has_group {fs = fs} g zero c (family.part_absent {c = b} none t h) e f s =
-    absurd (none (subst (λ (z : Part). StandsIn (field_names fs) z.name) (sym (same_Some b c e)) s))
+    absurd (none (subst (λ (z : Part). OccursIn (field_names fs) z.name) (sym (same_Some b c e)) s))
 has_group g zero c (family.part_present {c = b} t n h) e f s =
     inl (in_group b.presence b.standing g (ap (λ (z : Part). z.standing) (same_Some b c e) ∙ f))
 has_group g (suc a) c (family.part_absent none t h) e f s = has_group g a c h e f s
@@ -234,19 +234,19 @@ lacks_group : {p : Program} {os : List ℕ} {M : Name} {fs : List (Name × Tree)
     → slice_get cs a ≡ Some c
     → c.standing ≡ Addition (Some g)
     → c.presence ≡ mandatory
-    → (StandsIn (field_names fs) c.name → ⊥)
+    → (OccursIn (field_names fs) c.name → ⊥)
     → LacksOfGroup g (map component_of cs) r
 lacks_group g a c family.no_part e f q none = absurd (some_none (slice_get [] a) c e refl)
 lacks_group g zero c (family.part_absent {c = b} x t h) e f q none =
     let same = same_Some b c e in
     inl (needed_in b.presence b.standing g (ap (λ (z : Part). z.presence) same ∙ q) (ap (λ (z : Part). z.standing) same ∙ f))
 lacks_group {fs = fs} g zero c (family.part_present {c = b} {n = n} t k h) e f q none =
-    absurd (none (subst (λ (z : Part). StandsIn (field_names fs) z.name) (same_Some b c e)
-    (stands_mapped (λ (f : Name × Tree). f.0) fs (b.name, n) t)))
+    absurd (none (subst (λ (z : Part). OccursIn (field_names fs) z.name) (same_Some b c e)
+    (occurs_mapped (λ (f : Name × Tree). f.0) fs (b.name, n) t)))
 lacks_group g (suc a) c (family.part_absent x t h) e f q none = inr (lacks_group g a c h e f q none)
 lacks_group g (suc a) c (family.part_present t k h) e f q none = lacks_group g a c h e f q none
 
-disarranged_none : {p : Program} {os : List ℕ} {M : Name} {k : ListKind} {cs : List Part} {fs : List (Name × Tree)} {r : Row} {t : Trouble}
+disarranged_none : {p : Program} {os : List ℕ} {M : Name} {k : ListKind} {cs : List Part} {fs : List (Name × Tree)} {r : Row} {t : NotationTrouble}
     → IsDisarranged k cs (field_names fs) t
     → AreArranged k (part_names cs) (field_names fs)
     → Fields p os M fs cs r
@@ -255,17 +255,17 @@ disarranged_none : {p : Program} {os : List ℕ} {M : Name} {k : ListKind} {cs :
 disarranged_none {k = k} {cs = cs} {fs = fs} (wrong.strange {x = x} s none) a h w = none (arranged_in k (part_names cs) (field_names fs) x a s)
 disarranged_none {k = k} {cs = cs} {fs = fs} (wrong.twice {x = x} i s) a h w = distinct_fields k cs fs a x s
 disarranged_none {fs = fs} (wrong.lacking {x = x} i d m) a h w =
-    let may = absent_may m.there.0 m.part h m.there.1 (λ s. m.none (subst (λ (z : Name). StandsIn (field_names fs) z) m.named s)) in
+    let may = absent_may m.there.0 m.part h m.there.1 (λ s. m.none (subst (λ (z : Name). OccursIn (field_names fs) z) m.named s)) in
     let e : false ≡ true = sym m.needed ∙ may in
     absurd (grind arith)
 disarranged_none {fs = fs} (wrong.lacking_in_group {x = x} i d m) a h w =
     w m.group (has_group m.group m.other_there.0 m.other h m.other_there.1 m.other_standing m.other_present)
     (lacks_group m.group m.there.0 m.part h m.there.1 m.standing m.needed
-    (λ s. m.none (subst (λ (z : Name). StandsIn (field_names fs) z) m.named s)))
+    (λ s. m.none (subst (λ (z : Name). OccursIn (field_names fs) z) m.named s)))
 disarranged_none (wrong.jumbled i d m g none before behind) a h w = none a.1
 
 names_none : {p : Program} {os : List ℕ} {K : Name} {k : ListKind} {e : Bool} {cs : List Part} {l : Tree} {fs : List (Name × Tree)}
-    {t : Trouble} {v : AbstractValue}
+    {t : NotationTrouble} {v : AbstractValue}
     → (k ≡ Choice → ⊥)
     → fields_in l ≡ Some fs
     → IsDisarranged k cs (field_names fs) t
@@ -279,7 +279,7 @@ names_none {p} {os} {K} {k} {e} {cs} {l} {fs} {t} none f d (family.of_fields {fs
 names_none none f d (family.of_choice g a h) = none refl
 
 -- a notation with which something is wrong stands for no value
-pub wrong_none : {p : Program} {os : List ℕ} {M : Name} {i : ℕ} {n : Tree} {t : Trouble} {v : AbstractValue}
+pub wrong_none : {p : Program} {os : List ℕ} {M : Name} {i : ℕ} {n : Tree} {t : NotationTrouble} {v : AbstractValue}
     → IsKept p
     → IsWrongHere p os M i n t
     → Notation p os M i n v

@@ -18,77 +18,77 @@ use Rattle.value_notations.specs.proving.Forms.{truth_in, number_in, name_in, bi
 
 -- ---- a notation of a value
 
-truth_told : {n : Tree} {v : AbstractValue} → IsLeaf a_boolean n v → truth_in n ≡ None → ⊥
-truth_told leaves.truth e = absurd cc
-truth_told leaves.falsehood e = absurd cc
+truth_read : {n : Tree} {v : AbstractValue} → IsLeaf a_boolean n v → truth_in n ≡ None → ⊥
+truth_read leaves.truth e = absurd cc
+truth_read leaves.falsehood e = absurd cc
 
 pub no_truth : (n : Tree) → truth_in n ≡ None → IsNone a_boolean n
-no_truth n e v l = truth_told l e
+no_truth n e v l = truth_read l e
 
-integer_told : {n : Tree} {v : AbstractValue} {ns : List (Name × ℤ)}
+integer_read : {n : Tree} {v : AbstractValue} {ns : List (Name × ℤ)}
     → IsLeaf (an_integer ns) n v
     → number_in n ≡ None
     → ((x : Name) → name_in n ≡ Some x → under x ns ≡ None)
     → ⊥
-integer_told leaves.written_number e f = absurd cc
-integer_told (leaves.named_number {x = x} h) e f = absurd (let g = f x refl in cc)
+integer_read leaves.written_number e f = absurd cc
+integer_read (leaves.named_number {x = x} h) e f = absurd (let g = f x refl in cc)
 
 pub no_integer : (ns : List (Name × ℤ)) (n : Tree)
     → number_in n ≡ None
     → ((x : Name) → name_in n ≡ Some x → under x ns ≡ None)
     → IsNone (an_integer ns) n
-no_integer ns n e f v l = integer_told l e f
+no_integer ns n e f v l = integer_read l e f
 
-null_told : {n : Tree} {v : AbstractValue} → IsLeaf a_null n v → is_null n ≡ false → ⊥
-null_told leaves.nothing_more e = absurd cc
+null_read : {n : Tree} {v : AbstractValue} → IsLeaf a_null n v → is_null n ≡ false → ⊥
+null_read leaves.nothing_more e = absurd cc
 
 pub no_null : (n : Tree) → is_null n ≡ false → IsNone a_null n
-no_null n e v l = null_told l e
+no_null n e v l = null_read l e
 
-octets_told : {n : Tree} {v : AbstractValue}
+octets_read : {n : Tree} {v : AbstractValue}
     → IsLeaf an_octet_string n v
     → ((ds : List ℕ) → binary_in n ≡ Some ds → AllBelowBase 2 ds → ⊥)
     → ((ds : List ℕ) → hex_in n ≡ Some ds → AllBelowBase 16 ds → ⊥)
     → ⊥
-octets_told (leaves.octet_digits {ds = ds} a) e f = e ds refl a.digits_of
-octets_told (leaves.octet_hex {ds = ds} a) e f = f ds refl a.digits_of
+octets_read (leaves.octet_digits {ds = ds} a) e f = e ds refl a.digits_of
+octets_read (leaves.octet_hex {ds = ds} a) e f = f ds refl a.digits_of
 
 pub no_octets : (n : Tree)
     → ((ds : List ℕ) → binary_in n ≡ Some ds → AllBelowBase 2 ds → ⊥)
     → ((ds : List ℕ) → hex_in n ≡ Some ds → AllBelowBase 16 ds → ⊥)
     → IsNone an_octet_string n
-no_octets n e f v l = octets_told l e f
+no_octets n e f v l = octets_read l e f
 
-identifier_told : {n : Tree} {v : AbstractValue}
+identifier_read : {n : Tree} {v : AbstractValue}
     → IsLeaf an_object_identifier n v
     → ((ns : List ℕ) → numbers_in n ≡ Some ns → IsRooted ns → ⊥)
     → ⊥
-identifier_told (leaves.identifier {ns = ns} a) e = e ns refl a
+identifier_read (leaves.identifier {ns = ns} a) e = e ns refl a
 
 pub no_identifier : (n : Tree)
     → ((ns : List ℕ) → numbers_in n ≡ Some ns → IsRooted ns → ⊥)
     → IsNone an_object_identifier n
-no_identifier n e v l = identifier_told l e
+no_identifier n e v l = identifier_read l e
 
-utf8_told : {n : Tree} {v : AbstractValue}
+utf8_read : {n : Tree} {v : AbstractValue}
     → IsLeaf a_utf8_string n v
     → ((o : List ℕ) → text_in n ≡ Some o → IsUtf8 o → ⊥)
     → ⊥
-utf8_told (leaves.utf8 {o = o} a) e = e o refl a
+utf8_read (leaves.utf8 {o = o} a) e = e o refl a
 
 pub no_utf8 : (n : Tree) → ((o : List ℕ) → text_in n ≡ Some o → IsUtf8 o → ⊥) → IsNone a_utf8_string n
-no_utf8 n e v l = utf8_told l e
+no_utf8 n e v l = utf8_read l e
 
-restricted_told : {n : Tree} {v : AbstractValue} {k : StringKind}
+restricted_read : {n : Tree} {v : AbstractValue} {k : StringKind}
     → IsLeaf (a_restricted_string k) n v
     → ((o : List ℕ) → text_in n ≡ Some o → AllByRecursion (λ c. IsTrue (is_character k c)) o → ⊥)
     → ⊥
-restricted_told (leaves.restricted {o = o} a) e = e o refl a
+restricted_read (leaves.restricted {o = o} a) e = e o refl a
 
 pub no_restricted : (k : StringKind) (n : Tree)
     → ((o : List ℕ) → text_in n ≡ Some o → AllByRecursion (λ c. IsTrue (is_character k c)) o → ⊥)
     → IsNone (a_restricted_string k) n
-no_restricted k n e v l = restricted_told l e
+no_restricted k n e v l = restricted_read l e
 
 -- ---- what has a form is of it
 
@@ -175,16 +175,16 @@ restricted_made k n o e a =
 
 -- ---- relative object identifiers
 
-relative_told : {n : Tree} {v : AbstractValue}
+relative_read : {n : Tree} {v : AbstractValue}
     → IsLeaf a_relative_oid n v
     → ((m : ℕ) (ns : List ℕ) → numbers_in n ≡ Some (m ∷ ns) → ⊥)
     → alone_in n ≡ None
     → ⊥
-relative_told (leaves.relative {n = m} {ns = ns}) e f = e m ns refl
-relative_told leaves.relative_alone e f = absurd cc
+relative_read (leaves.relative {n = m} {ns = ns}) e f = e m ns refl
+relative_read leaves.relative_alone e f = absurd cc
 
 pub no_relative : (n : Tree) → numbers_in n ≡ None → alone_in n ≡ None → IsNone a_relative_oid n
-no_relative n e f v l = relative_told l (λ m ns g. absurd (let h = sym e ∙ g in cc)) f
+no_relative n e f v l = relative_read l (λ m ns g. absurd (let h = sym e ∙ g in cc)) f
 
 numbers_not_alone : (n : Tree) (ns : List ℕ) → numbers_in n ≡ Some ns → alone_in n ≡ None
 numbers_not_alone (numbers ms) ns e = refl
@@ -192,7 +192,7 @@ numbers_not_alone n ns e = absurd cc
 
 -- a list of no numbers stands for none
 pub no_numbers : (n : Tree) (ns : List ℕ) → numbers_in n ≡ Some ns → length ns ≡ 0 → IsNone a_relative_oid n
-no_numbers n [] e z v l = relative_told l (λ m ns g. absurd (let h = sym e ∙ g in cc)) (numbers_not_alone n [] e)
+no_numbers n [] e z v l = relative_read l (λ m ns g. absurd (let h = sym e ∙ g in cc)) (numbers_not_alone n [] e)
 no_numbers n (m ∷ ns) e z v l = absurd (omega (arith, z))
 
 pub relative_made : (n : Tree) (ns : List ℕ)

@@ -9,20 +9,20 @@ use Rattle.trees.specs.Values.{Name, Tree, name_at}
 use Rattle.trees.specs.Types.{item_of}
 use Rattle.names.specs.declared.scope.Assigned.{Assigned}
 use Rattle.names.specs.declared.scope.Assigned.TheVariants as assigned
-use Rattle.names.specs.Modules.{StandsIn}
+use Rattle.names.specs.Modules.{OccursIn}
 use Rattle.names.specs.Names.{Meaning, Refers, under, names_of}
 use Rattle.type_table.specs.Table.{Kind}
 use Rattle.resolve.specs.Program.{Program, IsThere}
 use Rattle.range_ends.specs.Ends.{IsValueAt}
 use Rattle.value_notations.specs.References.{IsNamed, IsOwn, IsLast}
 use Rattle.value_notations.specs.References as last
-use Rattle.value_notations.specs.Wrong.{LeadsTo, IsLost, ComesRound}
+use Rattle.value_notations.specs.Wrong.{OpenedPath, HasNoMeaning, IsCircularName}
 use Rattle.value_notations.specs.Wrong as wrong
-use Rattle.value_notations.specs.Faults.{IsLostAt, ComesRoundAt}
+use Rattle.value_notations.specs.Faults.{HasNoMeaningAt, IsCircularNameAt}
 use Rattle.value_notations.specs.proving.Next.{IsNameOf, IsNoName}
-use Rattle.value_notations.proofs.Following.{meaning_of}
+use Rattle.value_notations.specs.proving.Following.{meaning_of}
 use Rattle.value_notations.proofs.Lists.{seen_here}
-use Rattle.value_notations.proofs.Places.{less_or_more}
+use Rattle.value_notations.specs.proving.Places.{less_or_more}
 
 pub value_there : (p : Program) (M : Name) (q : Option Name) (x : Name) (i : ℕ)
     → ((N z : Name) (a : Assigned) → Meaning p.modules N z a → IsThere p a)
@@ -32,34 +32,34 @@ value_there p M q x i w r = w M x (assigned.Value i) (meaning_of p.modules M q x
 
 -- one reference more
 pub leads_more : {p : Program} {k : Kind} {os ps : List ℕ} {M K N : Name} {n l m : Tree} (i : ℕ)
-    → LeadsTo p k os M n ps K l
+    → OpenedPath p k os M n ps K l
     → IsNameOf p k K l i
-    → (StandsIn ps i → ⊥)
+    → (OccursIn ps i → ⊥)
     → IsValueAt p i N m
-    → LeadsTo p k os M n (i ∷ ps) N m
+    → OpenedPath p k os M n (i ∷ ps) N m
 leads_more {p} {k} {os} {M = M} {N = N} {m = m} i wrong.there a f v =
-    subst (λ (z : Tree). LeadsTo p k os M z (i ∷ os) N m) (sym a.notation)
+    subst (λ (z : Tree). OpenedPath p k os M z (i ∷ os) N m) (sym a.notation)
     (wrong.onward i a.none a.refers f v wrong.there)
 leads_more i (wrong.onward j none r g b h) a f v = wrong.onward j none r g b (leads_more i h a f v)
 
 pub leads_own : {p : Program} {k : Kind} {os ps : List ℕ} {M K : Name} {n l : Tree}
-    → LeadsTo p k os M n ps K l
+    → OpenedPath p k os M n ps K l
     → IsOwn k l
     → IsLast p k os M n ps K l
 leads_own wrong.there o = last.own o
 leads_own (wrong.onward i none r f a h) o = last.referred i none r f a (leads_own h o)
 
 pub leads_lost : {p : Program} {k : Kind} {os ps : List ℕ} {M K : Name} {n l : Tree}
-    → LeadsTo p k os M n ps K l
+    → OpenedPath p k os M n ps K l
     → IsNoName p k K l
-    → IsLostAt p k os M n K l
+    → HasNoMeaningAt p k os M n K l
 leads_lost {p} {k} {os} {ps} {M} {K} {n} {l} h a = record {
   prefix = a.prefix;
   name = a.name;
   lost = record {
     opened = ps;
     within = K;
-    leads = subst (λ (z : Tree). LeadsTo p k os M n ps K z) a.notation h;
+    chain = subst (λ (z : Tree). OpenedPath p k os M n ps K z) a.notation h;
     none = a.none;
     no_value = a.no_value;
   };
@@ -68,17 +68,17 @@ leads_lost {p} {k} {os} {ps} {M} {K} {n} {l} h a = record {
 }
 
 pub leads_round : {p : Program} {k : Kind} {os ps : List ℕ} {M K : Name} {n l : Tree} (i : ℕ)
-    → LeadsTo p k os M n ps K l
+    → OpenedPath p k os M n ps K l
     → IsNameOf p k K l i
-    → StandsIn ps i
-    → ComesRoundAt p k os M n i K l
+    → OccursIn ps i
+    → IsCircularNameAt p k os M n i K l
 leads_round {p} {k} {os} {ps} {M} {K} {n} {l} i h a s = record {
   round = record {
     opened = ps;
     within = K;
     prefix = a.prefix;
     name = a.name;
-    leads = subst (λ (z : Tree). LeadsTo p k os M n ps K z) a.notation h;
+    chain = subst (λ (z : Tree). OpenedPath p k os M n ps K z) a.notation h;
     none = a.none;
     refers = a.refers;
     again = s;
@@ -89,24 +89,24 @@ leads_round {p} {k} {os} {ps} {M} {K} {n} {l} i h a s = record {
 
 -- ---- names in tables
 
-stands_after : {X : Type 0} (x : Name) (e : Name × X) (es : List (Name × X)) (v : X) (b : Bool)
+occurs_after : {X : Type 0} (x : Name) (e : Name × X) (es : List (Name × X)) (v : X) (b : Bool)
     → (b ≡ true → x ≡ e.0)
-    → (under x es ≡ Some v → StandsIn (names_of es) x)
+    → (under x es ≡ Some v → OccursIn (names_of es) x)
     → cond b (Some e.1) (under x es) ≡ Some v
-    → StandsIn (names_of (e ∷ es)) x
-stands_after x e es v true same go h = (0, ap Some (sym (same refl)))
-stands_after x e es v false same go h = let s = go h in (suc s.0, s.1)
+    → OccursIn (names_of (e ∷ es)) x
+occurs_after x e es v true same go h = (0, ap Some (sym (same refl)))
+occurs_after x e es v false same go h = let s = go h in (suc s.0, s.1)
 
-pub under_stands : {X : Type 0} (x : Name) (es : List (Name × X)) (v : X) → under x es ≡ Some v → StandsIn (names_of es) x
-under_stands x [] v h = absurd cc
-under_stands x (e ∷ es) v h =
-    stands_after x e es v (bytes_eq x e.0) (λ t. (bytes_eq-Decides x e.0).0 t) (under_stands x es v) h
+pub under_occurs : {X : Type 0} (x : Name) (es : List (Name × X)) (v : X) → under x es ≡ Some v → OccursIn (names_of es) x
+under_occurs x [] v h = absurd cc
+under_occurs x (e ∷ es) v h =
+    occurs_after x e es v (bytes_eq x e.0) (λ t. (bytes_eq-Decides x e.0).0 t) (under_occurs x es v) h
 
 not_first : {X : Type 0} (b : Bool) (v : X) (o : Option X) → cond b (Some v) o ≡ None → (b ≡ false) × (o ≡ None)
 not_first true v o h = absurd cc
 not_first false v o h = (refl, h)
 
-pub under_none : {X : Type 0} (x : Name) (es : List (Name × X)) → under x es ≡ None → StandsIn (names_of es) x → ⊥
+pub under_none : {X : Type 0} (x : Name) (es : List (Name × X)) → under x es ≡ None → OccursIn (names_of es) x → ⊥
 under_none x [] h s = absurd (let e = s.1 in cc)
 under_none x (e ∷ es) h (zero, s) =
     let t : bytes_eq x e.0 ≡ true = (bytes_eq-Decides x e.0).1 (sym (same_Some e.0 x s)) in
@@ -124,20 +124,20 @@ module _ {X : Type 0} (x : Name) where
   name_front (e ∷ es) fs zero h = h
   name_front (e ∷ es) fs (suc i) h = name_front es fs i h
 
-  pub name_behind : (es fs : List (Name × X)) (n i : ℕ)
+  pub name_after : (es fs : List (Name × X)) (n i : ℕ)
       → n ≡ length es
       → slice_get (names_of fs) i ≡ Some x
       → slice_get (names_of (es ++ fs)) (n + i) ≡ Some x
-  name_behind [] fs n i l h = let q : n + i ≡ i = omega (arith, l) in rw q h
-  name_behind (e ∷ es) fs zero i l h = absurd (omega (arith, l))
-  name_behind (e ∷ es) fs (suc n) i l h =
+  name_after [] fs n i l h = let q : n + i ≡ i = omega (arith, l) in rw q h
+  name_after (e ∷ es) fs zero i l h = absurd (omega (arith, l))
+  name_after (e ∷ es) fs (suc n) i l h =
       let q : suc n + i ≡ suc (n + i) = omega arith in
-      rw q (name_behind es fs n i (omega (arith, l)) h)
+      rw q (name_after es fs n i (omega (arith, l)) h)
 
   pub name_neither : (es fs : List (Name × X))
-      → (StandsIn (names_of es) x → ⊥)
-      → (StandsIn (names_of fs) x → ⊥)
-      → StandsIn (names_of (es ++ fs)) x
+      → (OccursIn (names_of es) x → ⊥)
+      → (OccursIn (names_of fs) x → ⊥)
+      → OccursIn (names_of (es ++ fs)) x
       → ⊥
   name_neither [] fs f g s = g s
   name_neither (e ∷ es) fs f g (zero, s) = f (zero, s)
@@ -189,7 +189,7 @@ one_more_place Q i f g j l q =
 pub none_of_items : (is : List EnumeratedItem) (n : ℕ) (x : Name)
     → length is ≤ n
     → ((j : ℕ) → j < n → slice_get (names_of (map item_of is)) j ≡ Some x → ⊥)
-    → StandsIn (names_of (map item_of is)) x
+    → OccursIn (names_of (map item_of is)) x
     → ⊥
 none_of_items is n x l f s =
     let w = slice_get_within (names_of (map item_of is)) s.0 x s.1 in

@@ -20,12 +20,12 @@ use Rattle.value_notations.specs.Leaves as leaves
 use Rattle.value_notations.specs.Wrong.{IsMisfit}
 use Rattle.value_notations.specs.declared.leaves.LeafFault.{LeafFault}
 use Rattle.value_notations.specs.declared.leaves.LeafFault.TheVariants as fault
-use Rattle.value_notations.specs.Faults.{IsUnconstrained, IsLeafFault, IsLeafValue, StandsForPast}
+use Rattle.value_notations.specs.Faults.{IsUnconstrained, IsLeafFault, IsLeafValue, IsPastOidLimit}
 use Rattle.value_notations.specs.proving.Items.{IsNumberless}
-use Rattle.value_notations.specs.proving.Forms.{name_in, IsNone, ArePastLimit, StandsPastLimit}
+use Rattle.value_notations.specs.proving.Forms.{name_in, IsNone, ArePastLimit, IsPastLimit}
 use Rattle.value_notations.proofs.Groups.{below_group}
 use Rattle.value_notations.proofs.Inversions.{name_is}
-use Rattle.value_notations.proofs.Places.{one_place, some_none}
+use Rattle.value_notations.specs.proving.Places.{one_place, some_none}
 
 -- ---- no value, and no unknown bit
 
@@ -182,21 +182,21 @@ small_numbers ns f =
       | inr g ↦ absurd (f (inr g))
     ]
 
-small_behind : (x y : ℕ) (ns : List ℕ)
+small_after : (x y : ℕ) (ns : List ℕ)
     → AllByRecursion (λ n. n < 2 ^ 64) (x ∷ y ∷ ns)
     → (y < 2 ^ 64) × AllByRecursion (λ n. n < 2 ^ 64) ns
-small_behind x y ns (a, (b, r)) = (b, r)
+small_after x y ns (a, (b, r)) = (b, r)
 
 identifier_of : (ns : List ℕ) → IsRooted ns → (ArePastLimit ns → ⊥) → IsObjectIdentifier ns
 identifier_of [] r f = elim r [ ]
 identifier_of (x ∷ []) r f = elim r [ ]
 identifier_of (x ∷ y ∷ ns) (is_rooted l m) f =
     let few = few_numbers (x ∷ y ∷ ns) f in
-    let small = small_behind x y ns (small_numbers (x ∷ y ∷ ns) f) in
+    let small = small_after x y ns (small_numbers (x ∷ y ∷ ns) f) in
     arcs l m small.0 small.1 (omega (arith, few))
 
 free_identifier : {n : Tree} {v : AbstractValue}
-    → (StandsPastLimit an_object_identifier n → ⊥)
+    → (IsPastLimit an_object_identifier n → ⊥)
     → IsLeaf an_object_identifier n v
     → IsUnconstrained an_object_identifier v
 free_identifier f (leaves.identifier {ns = ns} r) =
@@ -204,7 +204,7 @@ free_identifier f (leaves.identifier {ns = ns} r) =
 
 pub value_identifier : (n : Tree) (v : AbstractValue)
     → IsLeaf an_object_identifier n v
-    → (StandsPastLimit an_object_identifier n → ⊥)
+    → (IsPastLimit an_object_identifier n → ⊥)
     → IsLeafValue an_object_identifier n v
 value_identifier n v l f = record { stands = l; within = free_identifier f l }
 
@@ -216,7 +216,7 @@ relative_of n ns f = record {
 }
 
 free_relative : {n : Tree} {v : AbstractValue}
-    → (StandsPastLimit a_relative_oid n → ⊥)
+    → (IsPastLimit a_relative_oid n → ⊥)
     → IsLeaf a_relative_oid n v
     → IsUnconstrained a_relative_oid v
 free_relative f (leaves.relative {n = m} {ns = ns}) = relative_of m ns (λ past. f (m ∷ ns, inr leaves.relative, past))
@@ -224,30 +224,30 @@ free_relative f (leaves.relative_alone {n = m}) = relative_of m [] (λ past. f (
 
 pub value_relative : (n : Tree) (v : AbstractValue)
     → IsLeaf a_relative_oid n v
-    → (StandsPastLimit a_relative_oid n → ⊥)
+    → (IsPastLimit a_relative_oid n → ⊥)
     → IsLeafValue a_relative_oid n v
 value_relative n v l f = record { stands = l; within = free_relative f l }
 
-pub past_stands : (k : Plain) (n : Tree) → StandsPastLimit k n → StandsForPast k n
+pub past_stands : (k : Plain) (n : Tree) → IsPastLimit k n → IsPastOidLimit k n
 past_stands k n (ns, inl l, past) = record { value = oid ns; stands = l; past = past }
 past_stands k n (ns, inr l, past) = record { value = relative_oid ns; stands = l; past = past }
 
 -- ---- items
 
-slice_get_behind : {X : Type 0} (xs ys : List X) (i : ℕ) (x : X)
+slice_get_after : {X : Type 0} (xs ys : List X) (i : ℕ) (x : X)
     → slice_get ys i ≡ Some x
     → slice_get (xs ++ ys) (length xs + i) ≡ Some x
-slice_get_behind {X = X} [] ys i x e = let q : length {A = X} [] + i ≡ i = omega arith in rw q e
-slice_get_behind (y ∷ xs) ys i x e =
+slice_get_after {X = X} [] ys i x e = let q : length {A = X} [] + i ≡ i = omega arith in rw q e
+slice_get_after (y ∷ xs) ys i x e =
     let q : length (y ∷ xs) + i ≡ suc (length xs + i) = omega arith in
-    rw q (slice_get_behind xs ys i x e)
+    rw q (slice_get_after xs ys i x e)
 
 pub no_great : (root more : List Item) (i : ℕ)
     → IsSoundEnumeration root more
     → slice_get (addition_numbers root more) i ≡ Some (pos (2 ^ 127))
     → ⊥
 no_great root more i s e =
-    let there = slice_get_behind (root_numbers root) (addition_numbers root more) i (pos (2 ^ 127)) e in
+    let there = slice_get_after (root_numbers root) (addition_numbers root more) i (pos (2 ^ 127)) e in
     let w = s.within (length (root_numbers root) + i) (pos (2 ^ 127)) there in
     absurd (omega (arith, w))
 

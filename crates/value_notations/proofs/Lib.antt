@@ -1,9 +1,6 @@
-pub mod Places
-pub mod Following
 pub mod SameLeaf
 pub mod SameValue
 pub mod Groups
-pub mod Under
 pub mod Lists
 pub mod Inversions
 pub mod Alls

@@ -4,7 +4,7 @@ use Rattle.std.specs.Prelude.{◌⊎◌, ◌↔◌, slice_get, slice_index_or, b
 use Rattle.std.specs.List.{AllByRecursion}
 use Rattle.std.proofs.lemmas.Option.{same_Some, slice_get-get_or}
 use Rattle.trees.specs.Values.{Name, Tree, Trees, trees, reference, tree_and}
-use Rattle.names.specs.Modules.{StandsIn}
+use Rattle.names.specs.Modules.{OccursIn}
 use Rattle.names.specs.Names.{under}
 use Rattle.value_notations.specs.Leaves.{AreBitNames, AreSetBits}
 use Rattle.value_notations.specs.Leaves as leaves
@@ -15,7 +15,7 @@ use Rattle.value_notations.specs.proving.Bits.{AreWithin}
 use Rattle.value_notations.proofs.Alls.{all_more, each_weaker}
 use Rattle.value_notations.proofs.Inversions.{name_is}
 use Rattle.value_notations.proofs.Lists.{taken_more}
-use Rattle.value_notations.proofs.Places.{some_none}
+use Rattle.value_notations.specs.proving.Places.{some_none}
 
 -- ---- names
 
@@ -43,19 +43,19 @@ not_unknown_here : {bs : List (Name × ℕ)} {n : Tree} {ts : Trees} {x : Name}
 not_unknown_here e (wrong.first_bit f) = absurd cc
 not_unknown_here e (wrong.later_bit f u) = absurd cc
 
-names_behind : {bs : List (Name × ℕ)} {n : Tree} {ts : Trees} {ps : List ℕ}
+names_after : {bs : List (Name × ℕ)} {n : Tree} {ts : Trees} {ps : List ℕ}
     → AreNoNames bs ts
     → AreBitNames bs (tree_and n ts) ps
     → ⊥
-names_behind r (leaves.bit_and {places = qs} f a) = r.none qs a
+names_after r (leaves.bit_and {places = qs} f a) = r.none qs a
 
-unknown_behind : {bs : List (Name × ℕ)} {y x : Name} {q : ℕ} {ts : Trees}
+unknown_after : {bs : List (Name × ℕ)} {y x : Name} {q : ℕ} {ts : Trees}
     → AreNoNames bs ts
     → under y bs ≡ Some q
     → IsUnknownBit bs x (tree_and (reference None y) ts)
     → ⊥
-unknown_behind {bs} {y} {q = q} r e (wrong.first_bit f) = some_none (under y bs) q e f
-unknown_behind {x = x} r e (wrong.later_bit f u) = r.unknown x u
+unknown_after {bs} {y} {q = q} r e (wrong.first_bit f) = some_none (under y bs) q e f
+unknown_after {x = x} r e (wrong.later_bit f u) = r.unknown x u
 
 pub names_stop : (bs : List (Name × ℕ)) (xs : List Tree) (ps : List ℕ) (i : ℕ) (n : Tree)
     → AreBitNames bs (trees (take i xs)) ps
@@ -68,7 +68,7 @@ names_stop bs (y ∷ xs) ps zero n a s e =
     record { none = λ qs b. no_names_here f b; unknown = λ x u. not_unknown_here f u }
 names_stop bs (y ∷ xs) ps (suc i) n (leaves.bit_and {places = qs} f a) s e =
     let r = names_stop bs xs qs i n a s e in
-    record { none = λ rs b. names_behind r b; unknown = λ x u. unknown_behind r f u }
+    record { none = λ rs b. names_after r b; unknown = λ x u. unknown_after r f u }
 
 pub names_unknown : (bs : List (Name × ℕ)) (xs : List Tree) (ps : List ℕ) (i : ℕ) (x : Name)
     → AreBitNames bs (trees (take i xs)) ps
@@ -135,46 +135,46 @@ set_by (b ∷ s) (suc p) zero e = inr e
 set_by (b ∷ s) (suc p) (suc i) e =
     elim (set_by s p i e) [ inl h ↦ inl (ap suc h) | inr h ↦ inr h ]
 
-stands_taken : (ps : List ℕ) (k x : ℕ) → StandsIn (take k ps) x → StandsIn (take (k + 1) ps) x
-stands_taken [] zero x s = absurd (let e = s.1 in cc)
-stands_taken [] (suc k) x s = absurd (let e = s.1 in cc)
-stands_taken (p ∷ ps) zero x s = absurd (let e = s.1 in cc)
-stands_taken (p ∷ ps) (suc k) x (zero, e) = let q : suc k + 1 ≡ suc (k + 1) = omega arith in rw q (zero, e)
-stands_taken (p ∷ ps) (suc k) x (suc i, e) =
+occurs_taken : (ps : List ℕ) (k x : ℕ) → OccursIn (take k ps) x → OccursIn (take (k + 1) ps) x
+occurs_taken [] zero x s = absurd (let e = s.1 in cc)
+occurs_taken [] (suc k) x s = absurd (let e = s.1 in cc)
+occurs_taken (p ∷ ps) zero x s = absurd (let e = s.1 in cc)
+occurs_taken (p ∷ ps) (suc k) x (zero, e) = let q : suc k + 1 ≡ suc (k + 1) = omega arith in rw q (zero, e)
+occurs_taken (p ∷ ps) (suc k) x (suc i, e) =
     let q : suc k + 1 ≡ suc (k + 1) = omega arith in
-    let s = stands_taken ps k x (i, e) in
+    let s = occurs_taken ps k x (i, e) in
     rw q (suc s.0, s.1)
 
-stands_last : (ps : List ℕ) (k p : ℕ) → slice_get ps k ≡ Some p → StandsIn (take (k + 1) ps) p
-stands_last [] k p e = absurd cc
-stands_last (y ∷ ps) zero p e = (0, e)
-stands_last (y ∷ ps) (suc k) p e =
+occurs_last : (ps : List ℕ) (k p : ℕ) → slice_get ps k ≡ Some p → OccursIn (take (k + 1) ps) p
+occurs_last [] k p e = absurd cc
+occurs_last (y ∷ ps) zero p e = (0, e)
+occurs_last (y ∷ ps) (suc k) p e =
     let q : suc k + 1 ≡ suc (k + 1) = omega arith in
-    let s = stands_last ps k p e in
+    let s = occurs_last ps k p e in
     rw q (suc s.0, s.1)
 
-one_behind : (y : ℕ) (xs zs : List ℕ) (x p : ℕ)
-    → (StandsIn xs x → (x ≡ p) ⊎ StandsIn zs x)
-    → StandsIn (y ∷ xs) x
-    → (x ≡ p) ⊎ StandsIn (y ∷ zs) x
-one_behind y xs zs x p go (zero, f) = inr (zero, f)
-one_behind y xs zs x p go (suc i, f) = elim (go (i, f)) [ inl h ↦ inl h | inr h ↦ inr (suc h.0, h.1) ]
+one_after : (y : ℕ) (xs zs : List ℕ) (x p : ℕ)
+    → (OccursIn xs x → (x ≡ p) ⊎ OccursIn zs x)
+    → OccursIn (y ∷ xs) x
+    → (x ≡ p) ⊎ OccursIn (y ∷ zs) x
+one_after y xs zs x p go (zero, f) = inr (zero, f)
+one_after y xs zs x p go (suc i, f) = elim (go (i, f)) [ inl h ↦ inl h | inr h ↦ inr (suc h.0, h.1) ]
 
 taken_by : (ps : List ℕ) (k p x : ℕ)
     → slice_get ps k ≡ Some p
-    → StandsIn (take (k + 1) ps) x
-    → (x ≡ p) ⊎ StandsIn (take k ps) x
+    → OccursIn (take (k + 1) ps) x
+    → (x ≡ p) ⊎ OccursIn (take k ps) x
 taken_by [] k p x e s = absurd cc
 taken_by (y ∷ ps) zero p x e (zero, f) = inl (same_Some x p (sym f ∙ e))
 taken_by (y ∷ ps) zero p x e (suc i, f) = absurd cc
 taken_by (y ∷ ps) (suc k) p x e s =
     let q : suc k + 1 ≡ suc (k + 1) = omega arith in
-    one_behind y (take (k + 1) ps) (take k ps) x p (taken_by ps k p x e)
-    (subst (λ (z : ℕ). StandsIn (take z (y ∷ ps)) x) q s)
+    one_after y (take (k + 1) ps) (take k ps) x p (taken_by ps k p x e)
+    (subst (λ (z : ℕ). OccursIn (take z (y ∷ ps)) x) q s)
 
 -- the bits at the first k places are set
 abbrev pub AreSet : List ℕ → ℕ → List Bool → Type 0
-AreSet ps k s = (i : ℕ) → (slice_get s i ≡ Some true ↔ StandsIn (take k ps) i)
+AreSet ps k s = (i : ℕ) → (slice_get s i ≡ Some true ↔ OccursIn (take k ps) i)
 
 pub set_first : (ps : List ℕ) (n : ℕ) → AreSet ps 0 (replicate n false)
 set_first ps n i = (λ e. absurd (none_set n i e), λ s. absurd (let e = s.1 in cc))
@@ -186,8 +186,8 @@ pub set_more : (ps : List ℕ) (k p : ℕ) (s : List Bool)
     → AreSet ps (k + 1) (set s p true)
 set_more ps k p s e l h i = (
   λ f. elim (set_by s p i f) [
-    | inl g ↦ subst (λ (z : ℕ). StandsIn (take (k + 1) ps) z) (sym g) (stands_last ps k p e)
-    | inr g ↦ stands_taken ps k i ((h i).0 g)
+    | inl g ↦ subst (λ (z : ℕ). OccursIn (take (k + 1) ps) z) (sym g) (occurs_last ps k p e)
+    | inr g ↦ occurs_taken ps k i ((h i).0 g)
   ],
   λ t. elim (taken_by ps k p i e t) [
     | inl g ↦ subst (λ (z : ℕ). slice_get (set s p true) z ≡ Some true) (sym g) (set_here s p l)
@@ -198,10 +198,10 @@ set_more ps k p s e l h i = (
 pub set_all : (ps : List ℕ) (k : ℕ) (s : List Bool)
     → length ps ≤ k
     → AreSet ps k s
-    → ((n : ℕ) → length s ≡ suc n → StandsIn ps n)
+    → ((n : ℕ) → length s ≡ suc n → OccursIn ps n)
     → AreSetBits ps s
 set_all ps k s l h g = record {
-  set = λ i. subst (λ (z : List ℕ). slice_get s i ≡ Some true ↔ StandsIn z i) (all_taken ps k l) (h i);
+  set = λ i. subst (λ (z : List ℕ). slice_get s i ≡ Some true ↔ OccursIn z i) (all_taken ps k l) (h i);
   greatest = g;
 }
   where
@@ -254,10 +254,10 @@ count_all ps i old new l le h a =
 pub count_greatest : (ps : List ℕ) (i old new : ℕ)
     → i < length ps
     → (new ≡ suc (slice_index_or ps i 0)) ⊎ (new ≡ old)
-    → ((n : ℕ) → old ≡ suc n → StandsIn ps n)
+    → ((n : ℕ) → old ≡ suc n → OccursIn ps n)
     → (n : ℕ)
     → new ≡ suc n
-    → StandsIn ps n
+    → OccursIn ps n
 count_greatest ps i old new l w g n e =
     elim w [
       | inl h ↦ (i, slice_get-get_or ps i 0 l ∙ ap Some (omega (arith, h, e)))

@@ -7,7 +7,7 @@ use Rattle.std.proofs.lemmas.List.{reverse-append, reverse-reverse, length-rever
 use Rattle.std.proofs.lemmas.List.Sorted.{IsPermutation-reverse, list_any-IsPermutation}
 use Rattle.std.proofs.lemmas.Map.Steps.{length-le_from_distinct_below}
 use Rattle.std.proofs.lemmas.Option.{same_Some}
-use Rattle.names.specs.Modules.{StandsIn}
+use Rattle.names.specs.Modules.{OccursIn}
 use Rattle.value_notations.specs.proving.Opened.{IsGrown}
 
 pub counted : (ns : List ℕ) → length ns ≡ length (reverse ns)
@@ -22,7 +22,7 @@ closed ns xs os c e l =
 pub opened_more : (ns : List ℕ) (x : ℕ) → reverse (ns ++ x ∷ []) ≡ x ∷ reverse ns
 opened_more ns x = reverse-append ns (x ∷ [])
 
-any_stands : (xs : List ℕ) (x : ℕ) → list_any (λ y. eqb y x) xs ≡ true → StandsIn xs x
+any_stands : (xs : List ℕ) (x : ℕ) → list_any (λ y. eqb y x) xs ≡ true → OccursIn xs x
 any_stands [] x e = absurd cc
 any_stands (y ∷ xs) x e =
     elim (or_cases (eqb y x) (list_any (λ y. eqb y x) xs) e) [
@@ -33,10 +33,10 @@ any_stands (y ∷ xs) x e =
 same_any : (x : ℕ) (b : Bool) → (eqb x x || b) ≡ true
 same_any x b = rw (eq-eqb x x refl) refl
 
-stands_any : (xs : List ℕ) (x i : ℕ) → slice_get xs i ≡ Some x → list_any (λ y. eqb y x) xs ≡ true
-stands_any [] x i e = absurd cc
-stands_any (y ∷ xs) x zero e = let q : y ≡ x = same_Some y x e in rw q (same_any x (list_any (λ y. eqb y x) xs))
-stands_any (y ∷ xs) x (suc i) e = rw (stands_any xs x i e) (or_true (eqb y x))
+occurs_any : (xs : List ℕ) (x i : ℕ) → slice_get xs i ≡ Some x → list_any (λ y. eqb y x) xs ≡ true
+occurs_any [] x i e = absurd cc
+occurs_any (y ∷ xs) x zero e = let q : y ≡ x = same_Some y x e in rw q (same_any x (list_any (λ y. eqb y x) xs))
+occurs_any (y ∷ xs) x (suc i) e = rw (occurs_any xs x i e) (or_true (eqb y x))
   where
     or_true : (b : Bool) → (b || true) ≡ true
     or_true true = refl
@@ -45,17 +45,17 @@ stands_any (y ∷ xs) x (suc i) e = rw (stands_any xs x i e) (or_true (eqb y x))
 any_reversed : (xs : List ℕ) (x : ℕ) → list_any (λ y. eqb y x) xs ≡ list_any (λ y. eqb y x) (reverse xs)
 any_reversed xs x = list_any-IsPermutation (λ y. eqb y x) xs (reverse xs) (IsPermutation-reverse xs)
 
-pub held : (xs : List ℕ) (x : ℕ) → list_any (λ y. eqb y x) xs ≡ true → StandsIn (reverse xs) x
+pub held : (xs : List ℕ) (x : ℕ) → list_any (λ y. eqb y x) xs ≡ true → OccursIn (reverse xs) x
 held xs x e = any_stands (reverse xs) x (sym (any_reversed xs x) ∙ e)
 
-pub not_held : (xs : List ℕ) (x : ℕ) → list_any (λ y. eqb y x) xs ≡ false → StandsIn (reverse xs) x → ⊥
+pub not_held : (xs : List ℕ) (x : ℕ) → list_any (λ y. eqb y x) xs ≡ false → OccursIn (reverse xs) x → ⊥
 not_held xs x e s =
-    let t : true ≡ false = sym (stands_any (reverse xs) x s.0 s.1) ∙ sym (any_reversed xs x) ∙ e in
+    let t : true ≡ false = sym (occurs_any (reverse xs) x s.0 s.1) ∙ sym (any_reversed xs x) ∙ e in
     absurd cc
 
 -- ---- those that one call opens
 
-apart : (i : ℕ) (xs os : List ℕ) → (StandsIn (xs ++ os) i → ⊥) → AllByRecursion (λ y. eqb i y ≡ false) xs
+apart : (i : ℕ) (xs os : List ℕ) → (OccursIn (xs ++ os) i → ⊥) → AllByRecursion (λ y. eqb i y ≡ false) xs
 apart i [] os f = tt
 apart i (x ∷ xs) os f =
     elim (cases_Bool (eqb i x)) [
@@ -67,10 +67,10 @@ pub none_more : (os : List ℕ) (n : ℕ) → IsGrown os os n 0
 unfolding IsDistinct
 none_more os n = record { added = []; joined = refl; long = refl; distinct = tt; below = λ q h. absurd cc }
 
-pub one_more : (os ps : List ℕ) (n s i : ℕ) → IsGrown os ps n s → i < n → (StandsIn ps i → ⊥) → IsGrown os (i ∷ ps) n (s + 1)
+pub one_more : (os ps : List ℕ) (n s i : ℕ) → IsGrown os ps n s → i < n → (OccursIn ps i → ⊥) → IsGrown os (i ∷ ps) n (s + 1)
 unfolding IsDistinct
 one_more os ps n s i g l f =
-    let fresh : StandsIn (g.added ++ os) i → ⊥ = λ h. f (subst (λ (z : List ℕ). StandsIn z i) (sym g.joined) h) in
+    let fresh : OccursIn (g.added ++ os) i → ⊥ = λ h. f (subst (λ (z : List ℕ). OccursIn z i) (sym g.joined) h) in
     let long = g.long in
     record {
       added = i ∷ g.added;

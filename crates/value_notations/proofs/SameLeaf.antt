@@ -12,7 +12,7 @@ use Rattle.type_table.specs.Items.{Item, additions_of, numbers_of}
 use Rattle.type_table.specs.Lists.{IsSoundPlain}
 use Rattle.value_notations.specs.Leaves as leaves
 use Rattle.value_notations.specs.Leaves.{IsItem, AreOctets, AreBitNames, AreSetBits, IsLeaf}
-use Rattle.value_notations.proofs.Places.{one_some, one_place, mapped_at}
+use Rattle.value_notations.specs.proving.Places.{one_some, one_place, mapped_at}
 
 -- two lists with the same members at the same places are one
 pub same_list : {A : Type 0} (xs ys : List A) → ((i : ℕ) → slice_get xs i ≡ slice_get ys i) → xs ≡ ys

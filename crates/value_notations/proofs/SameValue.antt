@@ -5,7 +5,7 @@ use Rattle.asn_base.specs.Abstract.{AbstractValue, fields, list, alternative, Ro
 use Rattle.trees.specs.declared.types.ListKind.{ListKind}
 use Rattle.trees.specs.declared.types.ListKind.TheVariants.{Sequence, Set, Choice}
 use Rattle.trees.specs.Values.{Name, Tree}
-use Rattle.names.specs.Modules.{StandsIn, AreDistinct}
+use Rattle.names.specs.Modules.{OccursIn, AreDistinct}
 use Rattle.names.specs.Names.{IsApart}
 use Rattle.type_table.specs.Table.{Kind, Part}
 use Rattle.type_table.specs.Lists.{AreSound, IsSoundKind}
@@ -13,8 +13,8 @@ use Rattle.resolve.specs.Program.{Program}
 use Rattle.value_notations.specs.References.{IsLast}
 use Rattle.value_notations.specs.Notations.{Notation, NotationOf, Fields, Elements, AreArranged, field_names, part_names, fields_in, values_in}
 use Rattle.value_notations.specs.Notations as family
-use Rattle.value_notations.proofs.Places.{one_some, one_place, mapped_at, stands_mapped}
-use Rattle.value_notations.proofs.Following.{one_kind, sound_kind, one_last}
+use Rattle.value_notations.specs.proving.Places.{one_some, one_place, mapped_at, occurs_mapped}
+use Rattle.value_notations.specs.proving.Following.{one_kind, sound_kind, one_last}
 use Rattle.value_notations.proofs.SameLeaf.{one_leaf}
 
 -- what programs keep
@@ -35,8 +35,8 @@ no_choice cs fs a = a
 -- a name has one field
 pub one_field : (fs : List (Name × Tree)) (x : Name) (n m : Tree)
     → AreDistinct (field_names fs)
-    → StandsIn fs (x, n)
-    → StandsIn fs (x, m)
+    → OccursIn fs (x, n)
+    → OccursIn fs (x, m)
     → n ≡ m
 one_field fs x n m d a b =
     let first = mapped_at (λ (f : Name × Tree). f.0) fs a.0 (x, n) a.1 in
@@ -106,9 +106,9 @@ mutual
   same_rows s d family.no_part family.no_part = refl
   same_rows s d (family.part_absent a b h) (family.part_absent x y g) = ap absent (same_rows s d h g)
   same_rows {fs = fs} s d (family.part_absent a b h) (family.part_present {c = c} {n = n} e m g) =
-      absurd (a (stands_mapped (λ (f : Name × Tree). f.0) fs (c.name, n) e))
+      absurd (a (occurs_mapped (λ (f : Name × Tree). f.0) fs (c.name, n) e))
   same_rows {fs = fs} s d (family.part_present {c = c} {n = n} e m g) (family.part_absent a b h) =
-      absurd (a (stands_mapped (λ (f : Name × Tree). f.0) fs (c.name, n) e))
+      absurd (a (occurs_mapped (λ (f : Name × Tree). f.0) fs (c.name, n) e))
   same_rows {p} {os} {M} {fs} s d (family.part_present {c = c} {n = n} {v = v} {r = r} a h k) (family.part_present {n = m} {v = w} {r = q} b g l) =
       let same = one_field fs c.name m n d b a in
       ap (λ z. present z r) (one_notation s h (subst (λ (x : Tree). Notation p os M c.ty x w) same g))

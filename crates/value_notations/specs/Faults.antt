@@ -13,29 +13,29 @@ use Rattle.value_notations.specs.declared.leaves.LeafFault.TheVariants as leaf
 use Rattle.value_notations.specs.Leaves.{IsLeaf}
 use Rattle.value_notations.specs.Values.{IsPlainValue}
 use Rattle.value_notations.specs.Outside.{HasPast}
-use Rattle.value_notations.specs.Wrong.{IsLost, ComesRound, IsMisfit, HasUnknownBit}
+use Rattle.value_notations.specs.Wrong.{HasNoMeaning, IsCircularName, IsMisfit, HasUnknownBit}
 
 -- the references of notation n lead to notation l, a name that is read in module K and means neither something of the
 -- type nor a value
-pub record IsLostAt (p : Program) (k : Kind) (os : List ℕ) (M : Name) (n : Tree) (K : Name) (l : Tree) : Type 0 where
+pub record HasNoMeaningAt (p : Program) (k : Kind) (os : List ℕ) (M : Name) (n : Tree) (K : Name) (l : Tree) : Type 0 where
   pub prefix : Option Name
   pub name : Name
-  pub lost : IsLost p k os M n prefix name
+  pub lost : HasNoMeaning p k os M n prefix name
   pub within : lost.within ≡ K
   pub notation : reference prefix name ≡ l
 
 -- the references of notation n lead to notation l, a name that is read in module K and means value i, whose notation is
 -- being read already
-pub record ComesRoundAt (p : Program) (k : Kind) (os : List ℕ) (M : Name) (n : Tree) (i : ℕ) (K : Name) (l : Tree)
+pub record IsCircularNameAt (p : Program) (k : Kind) (os : List ℕ) (M : Name) (n : Tree) (i : ℕ) (K : Name) (l : Tree)
     : Type 0 where
-  pub round : ComesRound p k os M n i
+  pub round : IsCircularName p k os M n i
   pub within : round.within ≡ K
   pub notation : reference round.prefix round.name ≡ l
 
 abbrev pub IsFollowFault : Program → Kind → List ℕ → Name → Tree → FollowFault → Type 0
 IsFollowFault p k os M n follow.Memory = Unit {0}
-IsFollowFault p k os M n (follow.Lost K l) = IsLostAt p k os M n K.now (tree_of l.now)
-IsFollowFault p k os M n (follow.Circular i K l) = ComesRoundAt p k os M n i K.now (tree_of l.now)
+IsFollowFault p k os M n (follow.NoMeaning K l) = HasNoMeaningAt p k os M n K.now (tree_of l.now)
+IsFollowFault p k os M n (follow.Circular i K l) = IsCircularNameAt p k os M n i K.now (tree_of l.now)
 
 -- notation b in braces is a name, and no bit of the type
 pub record IsUnknownBitAt (k : Plain) (n b : Tree) : Type 0 where
@@ -44,7 +44,7 @@ pub record IsUnknownBitAt (k : Plain) (n b : Tree) : Type 0 where
   pub notation : b ≡ reference None name
 
 -- the notation stands for an object identifier, relative or not, that passes the limit
-pub record StandsForPast (k : Plain) (n : Tree) : Type 0 where
+pub record IsPastOidLimit (k : Plain) (n : Tree) : Type 0 where
   pub value : AbstractValue
   pub stands : IsLeaf k n value
   pub past : HasPast value
@@ -53,7 +53,7 @@ abbrev pub IsLeafFault : Plain → Tree → LeafFault → Type 0
 IsLeafFault k n leaf.Memory = Unit {0}
 IsLeafFault k n leaf.NotOfType = IsMisfit (simple k) n
 IsLeafFault k n (leaf.UnknownBit b) = IsUnknownBitAt k n (tree_of b.now)
-IsLeafFault k n leaf.Oid = StandsForPast k n
+IsLeafFault k n leaf.Oid = IsPastOidLimit k n
 
 -- a value of the type, apart from its constraints
 abbrev pub IsUnconstrained : Plain → AbstractValue → Type 0

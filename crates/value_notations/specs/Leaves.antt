@@ -9,7 +9,7 @@ use Rattle.asn_base.specs.Schemas.{is_character}
 use Rattle.trees.specs.Values.{Name, Tree, yes, no, number, binary, hex, chars, reference, nothing, numbers, items, Trees, no_tree, tree_and}
 use Rattle.trees.specs.Values as trees
 use Rattle.trees.specs.Types.{Plain, a_boolean, an_integer, a_bit_string, an_octet_string, a_null, an_object_identifier, a_relative_oid, an_enumerated, a_utf8_string, a_restricted_string}
-use Rattle.names.specs.Modules.{StandsIn}
+use Rattle.names.specs.Modules.{OccursIn}
 use Rattle.names.specs.Names.{under}
 use Rattle.type_table.specs.Items.{Item, additions_of, numbers_of}
 
@@ -49,8 +49,8 @@ pub data AreBitNames (bs : List (Name × ℕ)) : Trees → List ℕ → Type 0 w
 
 -- in the bits s exactly those at these places are set, and s ends with the greatest of them
 pub record AreSetBits (places : List ℕ) (s : List Bool) : Type 0 where
-  pub set : (i : ℕ) → (slice_get s i ≡ Some true ↔ StandsIn places i)
-  pub greatest : (n : ℕ) → length s ≡ suc n → StandsIn places n
+  pub set : (i : ℕ) → (slice_get s i ≡ Some true ↔ OccursIn places i)
+  pub greatest : (n : ℕ) → length s ≡ suc n → OccursIn places n
 
 -- The numbers begin as an object identifier does, with 0 or 1 and at most 39, or with 2 and any (X.680, clause 32;
 -- X.660).

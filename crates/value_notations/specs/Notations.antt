@@ -12,7 +12,7 @@ use Rattle.trees.specs.declared.types.Standing.TheVariants.{Root, Addition}
 use Rattle.trees.specs.Values.{Name, Tree, chosen, nothing, items, Trees, no_tree, tree_and, Members, no_member, member_and}
 use Rattle.trees.specs.Values as trees
 use Rattle.trees.specs.Types.{Plain, PresenceTree, mandatory, optional, default}
-use Rattle.names.specs.Modules.{StandsIn, AreDistinct}
+use Rattle.names.specs.Modules.{OccursIn, AreDistinct}
 use Rattle.type_table.specs.Table.{Kind, simple, members, elements, Part}
 use Rattle.resolve.specs.Program.{Program}
 use Rattle.range_ends.specs.Ends.{IsOfKind}
@@ -87,7 +87,7 @@ pub data IsPartOf {A : Type 0} : List A → List A → Type 0 where
 -- clauses 25 and 27). Those of a SET are in any order.
 abbrev pub AreArranged : ListKind → (parts fields : List Name) → Type 0
 AreArranged Sequence cs fs = AreDistinct fs × IsPartOf fs cs
-AreArranged Set cs fs = AreDistinct fs × ((x : Name) → StandsIn fs x → StandsIn cs x)
+AreArranged Set cs fs = AreDistinct fs × ((x : Name) → OccursIn fs x → OccursIn cs x)
 AreArranged Choice cs fs = ⊥
 
 -- ---- notations
@@ -133,13 +133,13 @@ mutual
   pub data Fields (p : Program) : (os : List ℕ) (M : Name) (fs : List (Name × Tree)) → List Part → Row → Type 0 where
     no_part : {os : List ℕ} {M : Name} {fs : List (Name × Tree)} → Fields p os M fs [] end
     part_absent : {os : List ℕ} {M : Name} {fs : List (Name × Tree)} {c : Part} {cs : List Part} {r : Row} →
-        (StandsIn (field_names fs) c.name → ⊥) →
+        (OccursIn (field_names fs) c.name → ⊥) →
         IsTrue (may_be_absent c) →
         Fields p os M fs cs r →
         Fields p os M fs (c ∷ cs) (absent r)
     part_present : {os : List ℕ} {M : Name} {fs : List (Name × Tree)} {c : Part} {cs : List Part} {n : Tree}
         {v : AbstractValue} {r : Row} →
-        StandsIn fs (c.name, n) →
+        OccursIn fs (c.name, n) →
         Notation p os M c.ty n v →
         Fields p os M fs cs r →
         Fields p os M fs (c ∷ cs) (present v r)

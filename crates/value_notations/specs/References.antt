@@ -5,7 +5,7 @@ use Rattle.std.specs.Prelude.{ℕ, List, [], ◌∷◌, ◌++◌, Option, Some, 
 use Rattle.trees.specs.Values.{Name, Tree, reference}
 use Rattle.trees.specs.Types.{an_integer, an_enumerated}
 use Rattle.names.specs.declared.scope.Assigned.TheVariants as assigned
-use Rattle.names.specs.Modules.{StandsIn}
+use Rattle.names.specs.Modules.{OccursIn}
 use Rattle.names.specs.Names.{Refers, names_of}
 use Rattle.type_table.specs.Items.{additions_of}
 use Rattle.type_table.specs.Table.{Kind, simple}
@@ -20,7 +20,7 @@ own_names k = []
 
 -- name x, with no module's name before it, is that of a number or an item of kind k
 abbrev pub IsNamed : Kind → Option Name → Name → Type 0
-IsNamed k None x = StandsIn (own_names k) x
+IsNamed k None x = OccursIn (own_names k) x
 IsNamed k (Some q) x = ⊥
 
 -- notation n is no name, or it is the name of a number or an item of kind k (X.680, clauses 19.10 and 20.8): no
@@ -42,7 +42,7 @@ pub data IsLast (p : Program) (k : Kind)
   referred : {os ps : List ℕ} {M N K : Name} {q : Option Name} {x : Name} {m l : Tree} (i : ℕ) →
       (IsNamed k q x → ⊥) →
       Refers p.modules M q x (assigned.Value i) →
-      (StandsIn os i → ⊥) →
+      (OccursIn os i → ⊥) →
       IsValueAt p i N m →
       IsLast p k (i ∷ os) N m ps K l →
       IsLast p k os M (reference q x) ps K l

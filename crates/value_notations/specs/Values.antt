@@ -12,7 +12,7 @@ use Rattle.trees.specs.declared.types.ElementsKind.{ElementsKind}
 use Rattle.trees.specs.declared.types.Standing.TheVariants.{Root, Addition}
 use Rattle.trees.specs.Values.{Name, Tree}
 use Rattle.trees.specs.Types.{Plain, a_boolean, an_integer, a_bit_string, an_octet_string, a_null, an_object_identifier, a_relative_oid, an_enumerated, a_utf8_string, a_restricted_string, optional, default}
-use Rattle.names.specs.Modules.{StandsIn}
+use Rattle.names.specs.Modules.{OccursIn}
 use Rattle.type_table.specs.Items.{additions_of, numbers_of}
 use Rattle.type_table.specs.Table.{Kind, simple, elements, Part, Type'}
 use Rattle.type_table.specs.Table as table
@@ -23,7 +23,7 @@ use Rattle.value_notations.specs.Notations.{Notation, component_of}
 abbrev pub IsPlainValue : (ℕ → ℤ → Type 0) → (ℕ → ℕ → Type 0) → ℕ → Plain → AbstractValue → Type 0
 IsPlainValue Allows AllowsCode i a_boolean (boolean b) = Unit {0}
 IsPlainValue Allows AllowsCode i (an_integer ns) (integer z) = IsWithinLimit z × Allows i z
-IsPlainValue Allows AllowsCode i (an_enumerated root more) (enumerated z) = StandsIn (numbers_of root (additions_of more)) z
+IsPlainValue Allows AllowsCode i (an_enumerated root more) (enumerated z) = OccursIn (numbers_of root (additions_of more)) z
 -- a BIT STRING with named bits takes no size
 IsPlainValue Allows AllowsCode i (a_bit_string []) (bits s) = Allows i (pos (length s))
 IsPlainValue Allows AllowsCode i (a_bit_string (b ∷ bs)) (bits s) = Unit {0}
@@ -42,7 +42,7 @@ mutual
   pub data ValueIn (p : Program) (Allows : ℕ → ℤ → Type 0) (AllowsCode : ℕ → ℕ → Type 0)
       : (n i : ℕ) → AbstractValue → Type 0 where
     value_in : {n i core : ℕ} {t : Type'} {M x : Name} {v : AbstractValue} →
-        table.IsCore p.types i core →
+        table.IsUnderlying p.types i core →
         slice_get p.types core ≡ Some t →
         IsAssignment p t.assignment M x →
         ValueOf p Allows AllowsCode n i M t.kind v →

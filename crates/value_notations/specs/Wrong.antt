@@ -9,7 +9,7 @@ use Rattle.trees.specs.declared.types.Standing.TheVariants.{Addition}
 use Rattle.trees.specs.Values.{Name, Tree, reference, chosen, items, Trees, tree_and}
 use Rattle.trees.specs.Types.{Plain, a_bit_string, mandatory}
 use Rattle.names.specs.declared.scope.Assigned.TheVariants as assigned
-use Rattle.names.specs.Modules.{StandsIn, StandsTwice, AreDistinct}
+use Rattle.names.specs.Modules.{OccursIn, OccursTwice, AreDistinct}
 use Rattle.names.specs.Names.{Refers, under}
 use Rattle.type_table.specs.Table.{Kind, simple, members, elements, Part}
 use Rattle.resolve.specs.Program.{Program}
@@ -19,54 +19,54 @@ use Rattle.value_notations.specs.Leaves.{IsLeaf}
 use Rattle.value_notations.specs.Notations.{values_in, fields_in, field_names, part_names, may_be_absent, IsPartOf}
 
 -- what is wrong with a notation
-pub data Trouble : Type 0 where
+pub data NotationTrouble : Type 0 where
   -- a name after a module's name, which means no value
-  unknown_name : Name → Trouble
+  unknown_name : Name → NotationTrouble
   -- references lead to this value, which leads back to itself
-  circular : ℕ → Trouble
+  circular : ℕ → NotationTrouble
   -- the notation is of another form than the type's
-  not_of_type : Trouble
+  not_of_type : NotationTrouble
   -- a name that is neither a component, alternative, item or bit of the type nor a value
-  unknown_item : Name → Trouble
+  unknown_item : Name → NotationTrouble
   -- a component that must be present
-  missing : Name → Trouble
+  missing : Name → NotationTrouble
   -- a component that is given twice
-  repeated : Name → Trouble
+  repeated : Name → NotationTrouble
   -- components in another order: the first one must come before the second
-  out_of_order : (first second : Name) → Trouble
+  out_of_order : (first second : Name) → NotationTrouble
 
 -- ---- references
 
 -- notation n, read in module M under a type of kind k, is notation l, read in module K, or refers to it
-pub data LeadsTo (p : Program) (k : Kind)
+pub data OpenedPath (p : Program) (k : Kind)
     : (os : List ℕ) (M : Name) (n : Tree) (ps : List ℕ) (K : Name) (l : Tree) → Type 0 where
-  there : {os : List ℕ} {M : Name} {n : Tree} → LeadsTo p k os M n os M n
+  there : {os : List ℕ} {M : Name} {n : Tree} → OpenedPath p k os M n os M n
   onward : {os ps : List ℕ} {M N K : Name} {q : Option Name} {x : Name} {m l : Tree} (i : ℕ) →
       (IsNamed k q x → ⊥) →
       Refers p.modules M q x (assigned.Value i) →
-      (StandsIn os i → ⊥) →
+      (OccursIn os i → ⊥) →
       IsValueAt p i N m →
-      LeadsTo p k (i ∷ os) N m ps K l →
-      LeadsTo p k os M (reference q x) ps K l
+      OpenedPath p k (i ∷ os) N m ps K l →
+      OpenedPath p k os M (reference q x) ps K l
 
 -- the references lead to name x, which means neither something of the type nor a value
-pub record IsLost (p : Program) (k : Kind) (os : List ℕ) (M : Name) (n : Tree) (q : Option Name) (x : Name) : Type 0 where
+pub record HasNoMeaning (p : Program) (k : Kind) (os : List ℕ) (M : Name) (n : Tree) (q : Option Name) (x : Name) : Type 0 where
   pub opened : List ℕ
   pub within : Name
-  pub leads : LeadsTo p k os M n opened within (reference q x)
+  pub chain : OpenedPath p k os M n opened within (reference q x)
   pub none : IsNamed k q x → ⊥
   pub no_value : (i : ℕ) → Refers p.modules within q x (assigned.Value i) → ⊥
 
 -- the references lead to a name that means value i, whose notation is being read already
-pub record ComesRound (p : Program) (k : Kind) (os : List ℕ) (M : Name) (n : Tree) (i : ℕ) : Type 0 where
+pub record IsCircularName (p : Program) (k : Kind) (os : List ℕ) (M : Name) (n : Tree) (i : ℕ) : Type 0 where
   pub opened : List ℕ
   pub within : Name
   pub prefix : Option Name
   pub name : Name
-  pub leads : LeadsTo p k os M n opened within (reference prefix name)
+  pub chain : OpenedPath p k os M n opened within (reference prefix name)
   pub none : IsNamed k prefix name → ⊥
   pub refers : Refers p.modules within prefix name (assigned.Value i)
-  pub again : StandsIn opened i
+  pub again : OccursIn opened i
 
 -- ---- forms
 
@@ -101,29 +101,29 @@ IsMisfit k l = ⊥
 
 -- each name of the first list is in the second
 abbrev pub AreIn : List Name → List Name → Type 0
-AreIn xs ys = (x : Name) → StandsIn xs x → StandsIn ys x
+AreIn xs ys = (x : Name) → OccursIn xs x → OccursIn ys x
 
 -- a component of this name has no field, though it is one of the root that must be present
 pub record IsMissing (cs : List Part) (fs : List Name) (x : Name) : Type 0 where
   pub part : Part
-  pub there : StandsIn cs part
+  pub there : OccursIn cs part
   pub named : part.name ≡ x
   pub needed : may_be_absent part ≡ false
-  pub none : StandsIn fs x → ⊥
+  pub none : OccursIn fs x → ⊥
 
 -- an addition of this name has no field, though it must be present if another one of its group is, and one is
 pub record IsMissingInGroup (cs : List Part) (fs : List Name) (x : Name) : Type 0 where
   pub group : ℕ
   pub part : Part
-  pub there : StandsIn cs part
+  pub there : OccursIn cs part
   pub named : part.name ≡ x
   pub standing : part.standing ≡ Addition (Some group)
   pub needed : part.presence ≡ mandatory
-  pub none : StandsIn fs x → ⊥
+  pub none : OccursIn fs x → ⊥
   pub other : Part
-  pub other_there : StandsIn cs other
+  pub other_there : OccursIn cs other
   pub other_standing : other.standing ≡ Addition (Some group)
-  pub other_present : StandsIn fs other.name
+  pub other_present : OccursIn fs other.name
 
 -- name x comes before name y
 pub record IsBefore (xs : List Name) (x y : Name) : Type 0 where
@@ -135,14 +135,14 @@ pub record IsBefore (xs : List Name) (x y : Name) : Type 0 where
 
 -- What is wrong with the names of fields. The checks come in this order: a name that no component has, one that is
 -- given twice, one that is missing, and in a SEQUENCE the order of names.
-pub data IsDisarranged : ListKind → List Part → List Name → Trouble → Type 0 where
+pub data IsDisarranged : ListKind → List Part → List Name → NotationTrouble → Type 0 where
   strange : {k : ListKind} {cs : List Part} {fs : List Name} {x : Name} →
-      StandsIn fs x →
-      (StandsIn (part_names cs) x → ⊥) →
+      OccursIn fs x →
+      (OccursIn (part_names cs) x → ⊥) →
       IsDisarranged k cs fs (unknown_item x)
   twice : {k : ListKind} {cs : List Part} {fs : List Name} {x : Name} →
       AreIn fs (part_names cs) →
-      StandsTwice fs x →
+      OccursTwice fs x →
       IsDisarranged k cs fs (repeated x)
   lacking : {k : ListKind} {cs : List Part} {fs : List Name} {x : Name} →
       AreIn fs (part_names cs) →
@@ -167,18 +167,18 @@ pub data IsDisarranged : ListKind → List Part → List Name → Trouble → Ty
 -- ---- what is wrong, and where
 
 -- what is wrong with notation n itself, read in module M under type i
-pub data IsWrongHere (p : Program) (os : List ℕ) (M : Name) (i : ℕ) (n : Tree) : Trouble → Type 0 where
+pub data IsWrongHere (p : Program) (os : List ℕ) (M : Name) (i : ℕ) (n : Tree) : NotationTrouble → Type 0 where
   lost_name : {k : Kind} {q x : Name} →
       IsOfKind p.types i k →
-      IsLost p k os M n (Some q) x →
+      HasNoMeaning p k os M n (Some q) x →
       IsWrongHere p os M i n (unknown_name x)
   lost_item : {k : Kind} {x : Name} →
       IsOfKind p.types i k →
-      IsLost p k os M n None x →
+      HasNoMeaning p k os M n None x →
       IsWrongHere p os M i n (unknown_item x)
   round : {k : Kind} {j : ℕ} →
       IsOfKind p.types i k →
-      ComesRound p k os M n j →
+      IsCircularName p k os M n j →
       IsWrongHere p os M i n (circular j)
   misfit : {ps : List ℕ} {k : Kind} {K : Name} {l : Tree} →
       IsOfKind p.types i k →
@@ -193,10 +193,10 @@ pub data IsWrongHere (p : Program) (os : List ℕ) (M : Name) (i : ℕ) (n : Tre
   other_alternative : {ps : List ℕ} {e : Bool} {cs : List Part} {K : Name} {x : Name} {m : Tree} →
       IsOfKind p.types i (members Choice e cs) →
       IsLast p (members Choice e cs) os M n ps K (chosen x m) →
-      (StandsIn (part_names cs) x → ⊥) →
+      (OccursIn (part_names cs) x → ⊥) →
       IsWrongHere p os M i n (unknown_item x)
   names : {ps : List ℕ} {k : ListKind} {e : Bool} {cs : List Part} {K : Name} {l : Tree}
-      {fs : List (Name × Tree)} {t : Trouble} →
+      {fs : List (Name × Tree)} {t : NotationTrouble} →
       IsOfKind p.types i (members k e cs) →
       (k ≡ Choice → ⊥) →
       IsLast p (members k e cs) os M n ps K l →
@@ -214,22 +214,22 @@ pub data IsRead (p : Program)
       (k ≡ Choice → ⊥) →
       IsLast p (members k e cs) os M n ps K l →
       fields_in l ≡ Some fs →
-      StandsIn cs c →
-      StandsIn fs (c.name, m) →
+      OccursIn cs c →
+      OccursIn fs (c.name, m) →
       IsRead p ps K c.ty m qs N j u →
       IsRead p os M i n qs N j u
   in_element : {os ps qs : List ℕ} {M K N : Name} {i j a : ℕ} {n l m u : Tree} {k : ElementsKind} {ts : List Tree} →
       IsOfKind p.types i (elements k a) →
       IsLast p (elements k a) os M n ps K l →
       values_in l ≡ Some ts →
-      StandsIn ts m →
+      OccursIn ts m →
       IsRead p ps K a m qs N j u →
       IsRead p os M i n qs N j u
   in_alternative : {os ps qs : List ℕ} {M K N : Name} {i j : ℕ} {n m u : Tree} {e : Bool} {cs : List Part} {x : Name}
       {c : Part} →
       IsOfKind p.types i (members Choice e cs) →
       IsLast p (members Choice e cs) os M n ps K (chosen x m) →
-      StandsIn cs c →
+      OccursIn cs c →
       c.name ≡ x →
       IsRead p ps K c.ty m qs N j u →
       IsRead p os M i n qs N j u

@@ -1,6 +1,8 @@
--- What the form of a notation says.
+-- What the form of a notation says; and laws that upper crates use too (`Places`, `Following`).
 pub mod Forms
 pub mod Opened
 pub mod Next
 pub mod Bits
 pub mod Items
+pub mod Places
+pub mod Following

@@ -4,7 +4,7 @@ ghost use Rattle.std.specs.Prelude.{◌≡◌, ◌≤◌, ◌<◌, ◌==◌, ℕ
 ghost use Rattle.std.specs.List.{AllByRecursion};
 ghost use Rattle.std.specs.Int.Digits.{AllBelowBase};
 ghost use Rattle.asn_base.specs.Abstract.{bits_of, bits as bits'};
-ghost use Rattle.names.specs.Modules.{StandsIn};
+ghost use Rattle.names.specs.Modules.{OccursIn};
 ghost use Rattle.trees.specs.Values.{tree_of, trees};
 ghost use Rattle.trees.specs.Types.{bit_of, a_bit_string};
 ghost use Rattle.names.specs.Names.{under};
@@ -120,7 +120,7 @@ fn places_of<'a>(
 fn bit_count(places: &[u128]) -> usize
     requires within { AreWithin places.now }
     ensures all { AllByRecursion (λ p. p < result) places.now }
-    ensures greatest { (n : ℕ) → result ≡ suc n → StandsIn places.now n }
+    ensures greatest { (n : ℕ) → result ≡ suc n → OccursIn places.now n }
     ensures few { result ≤ 65536 }
 {
     let mut count = 0;

@@ -7,7 +7,7 @@ ghost use Rattle.names.specs.Names.{IsApart};
 ghost use Rattle.type_table.specs.Lists.{AreSound};
 ghost use Rattle.resolve.specs.Program.{Program};
 ghost use Rattle.value_notations.specs.Notations.{Notation};
-ghost use Rattle.value_notations.specs.Wrong.{Trouble, IsRead, IsWrongHere};
+ghost use Rattle.value_notations.specs.Wrong.{NotationTrouble, IsRead, IsWrongHere};
 
 /// A notation in linked modules stands for at most one value under a type.
 pub fn one_value()
@@ -20,8 +20,8 @@ pub fn one_value()
 {}
 
 /// A notation in linked modules stands for no value if something is wrong with it, or with one that is nested in it.
-pub fn wrong_stand_for_none()
-    ensures { (p : Program) (os qs : List ℕ) (M K : Name) (i j : ℕ) (n m : Tree) (t : Trouble) (v : AbstractValue)
+pub fn lemma_wrong_have_no_value()
+    ensures { (p : Program) (os qs : List ℕ) (M K : Name) (i j : ℕ) (n m : Tree) (t : NotationTrouble) (v : AbstractValue)
         → IsApart p.modules
         → AreSound p.types
         → IsRead p os M i n qs K j m

@@ -8,7 +8,7 @@ ghost use Rattle.trees.specs.Values.{tree_of};
 ghost use Rattle.trees.specs.Types.{number_of, a_boolean, an_integer, an_octet_string, a_null, an_object_identifier, a_relative_oid, a_utf8_string, a_restricted_string};
 ghost use Rattle.names.specs.Names.{under};
 ghost use Rattle.value_notations.specs.Leaves.{IsLeaf, IsRooted};
-ghost use Rattle.value_notations.specs.proving.Forms.{IsNone, Tells, ArePastLimit, StandsPastLimit, IsLimitFault};
+ghost use Rattle.value_notations.specs.proving.Forms.{IsNone, Reports, ArePastLimit, IsPastLimit, IsLimitFault};
 ghost use Rattle.value_notations.specs.declared.leaf.NumbersFault.TheVariants.{Memory as no_memory};
 
 use crate::digits::{are_below, bit_octets, hex_octets};
@@ -16,7 +16,7 @@ use crate::forms::{
     alone_in, binary_in, hex_in, is_null, items_in, name_in, number_in, numbers_in, text_in,
     truth_in,
 };
-use asn_base::law::abstract_values;
+use asn_base::law::lemma_abstract_values;
 use asn_base::strings::StringKind;
 use asn_base::value::Value;
 use limits::MAX_ARCS;
@@ -52,9 +52,9 @@ impl<T: Drop> From<AllocFailed<T>> for NumbersFault {
 
 /// The truth value that a notation stands for (X.680, 18.3).
 pub(crate) fn truth(notation: &ValueSyntax) -> Option<Value>
-    ensures { Tells a_boolean (tree_of notation.now) result }
+    ensures { Reports a_boolean (tree_of notation.now) result }
 {
-    abstract_values();
+    lemma_abstract_values();
     match truth_in(notation) {
         None => None,
         Some(value) => Some(Value::Bool(value)),
@@ -92,9 +92,9 @@ pub(crate) fn integer(numbers: &[NamedNumber], notation: &ValueSyntax) -> Option
 
 /// The null value (X.680, 24.3).
 pub(crate) fn nothing(notation: &ValueSyntax) -> Option<Value>
-    ensures { Tells a_null (tree_of notation.now) result }
+    ensures { Reports a_null (tree_of notation.now) result }
 {
-    abstract_values();
+    lemma_abstract_values();
     if is_null(notation) {
         Some(Value::Null)
     } else {
@@ -107,9 +107,9 @@ pub(crate) fn octet_string(
     alloc: Global,
     notation: &ValueSyntax,
 ) -> Result<Option<Value>, AllocError>
-    ensures { IfOk result (Tells an_octet_string (tree_of notation.now)) }
+    ensures { IfOk result (Reports an_octet_string (tree_of notation.now)) }
 {
-    abstract_values();
+    lemma_abstract_values();
     if let Some(digits) = binary_in(notation) {
         if !are_below(digits, 2) {
             return Ok(None);
@@ -163,11 +163,11 @@ pub(crate) fn identifier(
     alloc: Global,
     notation: &ValueSyntax,
 ) -> Result<Option<Value>, NumbersFault>
-    ensures ok { IfOk result (Tells an_object_identifier (tree_of notation.now)) }
-    ensures within { OnOk result (StandsPastLimit an_object_identifier (tree_of notation.now) → ⊥) }
-    ensures fault { IfErr result (IsLimitFault (StandsPastLimit an_object_identifier (tree_of notation.now))) }
+    ensures ok { IfOk result (Reports an_object_identifier (tree_of notation.now)) }
+    ensures within { OnOk result (IsPastLimit an_object_identifier (tree_of notation.now) → ⊥) }
+    ensures fault { IfErr result (IsLimitFault (IsPastLimit an_object_identifier (tree_of notation.now))) }
 {
-    abstract_values();
+    lemma_abstract_values();
     match numbers_in(notation) {
         None => Ok(None),
         Some(numbers) => {
@@ -187,11 +187,11 @@ pub(crate) fn relative_identifier(
     alloc: Global,
     notation: &ValueSyntax,
 ) -> Result<Option<Value>, NumbersFault>
-    ensures ok { IfOk result (Tells a_relative_oid (tree_of notation.now)) }
-    ensures within { OnOk result (StandsPastLimit a_relative_oid (tree_of notation.now) → ⊥) }
-    ensures fault { IfErr result (IsLimitFault (StandsPastLimit a_relative_oid (tree_of notation.now))) }
+    ensures ok { IfOk result (Reports a_relative_oid (tree_of notation.now)) }
+    ensures within { OnOk result (IsPastLimit a_relative_oid (tree_of notation.now) → ⊥) }
+    ensures fault { IfErr result (IsLimitFault (IsPastLimit a_relative_oid (tree_of notation.now))) }
 {
-    abstract_values();
+    lemma_abstract_values();
     if let Some(numbers) = numbers_in(notation) {
         if numbers.len() == 0 {
             return Ok(None);
@@ -212,9 +212,9 @@ pub(crate) fn relative_identifier(
 
 /// The text of octets, if they are UTF-8 (X.680, 41.3).
 pub(crate) fn utf8_text(alloc: Global, notation: &ValueSyntax) -> Result<Option<Value>, AllocError>
-    ensures { IfOk result (Tells a_utf8_string (tree_of notation.now)) }
+    ensures { IfOk result (Reports a_utf8_string (tree_of notation.now)) }
 {
-    abstract_values();
+    lemma_abstract_values();
     match text_in(notation) {
         None => Ok(None),
         Some(octets) => match std::str::from_utf8(octets) {
@@ -244,9 +244,9 @@ pub(crate) fn restricted_text(
     kind: StringKind,
     notation: &ValueSyntax,
 ) -> Result<Option<Value>, AllocError>
-    ensures { IfOk result (Tells (a_restricted_string kind) (tree_of notation.now)) }
+    ensures { IfOk result (Reports (a_restricted_string kind) (tree_of notation.now)) }
 {
-    abstract_values();
+    lemma_abstract_values();
     characters_below_128();
     match text_in(notation) {
         None => Ok(None),

@@ -7,7 +7,7 @@ ghost use Rattle.trees.specs.Values.{tree_of};
 ghost use Rattle.trees.specs.Types.{plain_of, number_of, bit_of, a_boolean, an_integer, a_bit_string, an_octet_string, a_null, an_object_identifier, a_relative_oid, an_enumerated, a_utf8_string, a_restricted_string};
 ghost use Rattle.type_table.specs.Items.{numbers_of};
 ghost use Rattle.type_table.specs.Lists.{IsSoundPlain, IsSoundEnumeration};
-ghost use Rattle.type_table.specs.Seen.{root_of, behind_marker, more_of};
+ghost use Rattle.type_table.specs.Seen.{root_of, after_marker, more_of};
 ghost use Rattle.value_notations.specs.declared.leaves.LeafFault.TheVariants.{Memory as no_memory};
 ghost use Rattle.value_notations.specs.Faults.{IsLeafFault, IsLeafValue};
 ghost use Rattle.value_notations.specs.proving.Items.{IsNumberless};
@@ -19,7 +19,7 @@ use crate::leaf::{
     truth, utf8_text,
 };
 use crate::references::item_place;
-use asn_base::law::{abstract_values, integer_within_limit};
+use asn_base::law::{lemma_abstract_values, lemma_integer_within_limit};
 use asn_base::strings::StringKind;
 use asn_base::value::Value;
 use std::alloc::Global;
@@ -45,8 +45,8 @@ fn number_value(number: i128) -> Value
     ensures value { abstract result ≡ integer' number }
     ensures within { IsWithinLimit number }
 {
-    abstract_values();
-    integer_within_limit(number);
+    lemma_abstract_values();
+    lemma_integer_within_limit(number);
     Value::Int(number)
 }
 
@@ -165,7 +165,7 @@ fn restricted_value<'a>(
 fn item_value(number: i128) -> Value
     ensures { abstract result ≡ enumerated number }
 {
-    abstract_values();
+    lemma_abstract_values();
     Value::Enum(number)
 }
 
@@ -211,9 +211,9 @@ fn enumerated_value<'a>(
 ) -> Result<Value, LeafFault<'a>>
     requires sound { IsSoundEnumeration (root_of given.now) (more_of given.now) }
     ensures value { IfOk result (λ v.
-        IsLeafValue (an_enumerated (root_of given.now) (behind_marker given.now)) (tree_of notation.now) (abstract v)) }
+        IsLeafValue (an_enumerated (root_of given.now) (after_marker given.now)) (tree_of notation.now) (abstract v)) }
     ensures fault { IfErr result
-        (IsLeafFault (an_enumerated (root_of given.now) (behind_marker given.now)) (tree_of notation.now)) }
+        (IsLeafFault (an_enumerated (root_of given.now) (after_marker given.now)) (tree_of notation.now)) }
 {
     match name_in(notation) {
         None => Err(LeafFault::NotOfType),
@@ -239,7 +239,7 @@ fn bits_value<'a>(
         (λ v. IsLeafValue (a_bit_string (map bit_of bits.now)) (tree_of notation.now) (abstract v)) }
     ensures fault { IfErr result (IsLeafFault (a_bit_string (map bit_of bits.now)) (tree_of notation.now)) }
 {
-    abstract_values();
+    lemma_abstract_values();
     let all = match bits_in(alloc, bits, notation) {
         Ok(all) => all,
         Err(fault) => return Err(fault),

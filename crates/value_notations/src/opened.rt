@@ -1,7 +1,7 @@
 //! The values whose notations are being read.
 
 ghost use Rattle.std.specs.Prelude.{◌≡◌, ℕ, List, [], ◌∷◌, ◌++◌, length, true, false, OnErr, OnOk};
-ghost use Rattle.names.specs.Modules.{StandsIn};
+ghost use Rattle.names.specs.Modules.{OccursIn};
 
 use std::alloc::{AllocError, Global};
 use std::marker::Model;
@@ -50,8 +50,8 @@ impl Opened {
     /// Whether a value is among them.
     #[tactic(auto, using(crate::proofs::Opening::held, crate::proofs::Opening::not_held))]
     pub(crate) fn holds(&self, number: usize) -> bool
-        ensures yes { result ≡ true → StandsIn self.now number }
-        ensures no { result ≡ false → StandsIn self.now number → ⊥ }
+        ensures yes { result ≡ true → OccursIn self.now number }
+        ensures no { result ≡ false → OccursIn self.now number → ⊥ }
     {
         self.numbers.as_slice().contains(&number)
     }

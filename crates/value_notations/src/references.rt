@@ -4,14 +4,14 @@ ghost use Rattle.std.specs.Prelude.{IsUtf8, ◌≡◌, ◌<◌, ◌++◌, ℕ, L
 ghost use Rattle.trees.specs.Values.{tree_of};
 ghost use Rattle.trees.specs.Types.{item_of, number_of};
 ghost use Rattle.names.specs.declared.scope.Assigned.TheVariants.{Value as AValue};
-ghost use Rattle.names.specs.Modules.{StandsIn};
+ghost use Rattle.names.specs.Modules.{OccursIn};
 ghost use Rattle.names.specs.Names.{Refers, names_of};
 ghost use Rattle.names.specs.Sources.{value_of};
 ghost use Rattle.type_table.specs.Seen.{kind_of, root_of, more_of};
 ghost use Rattle.range_ends.specs.Ends.{IsValueAt};
 ghost use Rattle.value_notations.specs.References.{IsNamed, IsLast};
 ghost use Rattle.value_notations.specs.Faults.{IsFollowFault};
-ghost use Rattle.value_notations.specs.proving.Next.{TellsNext};
+ghost use Rattle.value_notations.specs.proving.Next.{ReportsNext};
 
 use crate::leaf::number_under;
 use crate::opened::Opened;
@@ -29,7 +29,7 @@ pub enum FollowFault<'a> {
     Memory,
     /// The notation is, or leads to, this name, which is read in this module and means neither something of the type
     /// nor a value (X.680, clause 13).
-    Lost(&'a str, &'a ValueSyntax),
+    NoMeaning(&'a str, &'a ValueSyntax),
     /// The notation is, or leads to, this name, which is read in this module and means the value of this number, whose
     /// notation is being read already.
     Circular(usize, &'a str, &'a ValueSyntax),
@@ -41,7 +41,7 @@ pub(crate) enum Next {
     /// The notation itself: it is no name, or one of the type's names.
     Itself,
     /// The value of this number.
-    Behind(usize),
+    Referred(usize),
     /// Nothing, though the notation is a name.
     Nothing,
     /// The value of this number, which is being read already.
@@ -50,7 +50,7 @@ pub(crate) enum Next {
 
 /// The place of an item in a list, or None if no item has this name.
 fn place_in(items: &[EnumeratedItem], name: &str) -> Option<usize>
-    ensures { MatchOption result (StandsIn (names_of (map item_of items.now)) name.now → ⊥)
+    ensures { MatchOption result (OccursIn (names_of (map item_of items.now)) name.now → ⊥)
         (λ i. slice_get (names_of (map item_of items.now)) i ≡ Some name.now) }
 {
     for place in 0..items.len() {
@@ -63,7 +63,7 @@ fn place_in(items: &[EnumeratedItem], name: &str) -> Option<usize>
 
 /// The place of an item among those of the root and then the additions, or None if no item has this name.
 pub(crate) fn item_place(given: &EnumeratedSyntax, name: &str) -> Option<usize>
-    ensures { MatchOption result (StandsIn (names_of (root_of given.now ++ more_of given.now)) name.now → ⊥)
+    ensures { MatchOption result (OccursIn (names_of (root_of given.now ++ more_of given.now)) name.now → ⊥)
         (λ i. slice_get (names_of (root_of given.now ++ more_of given.now)) i ≡ Some name.now) }
 {
     let root = given.root.as_slice();
@@ -81,8 +81,8 @@ pub(crate) fn item_place(given: &EnumeratedSyntax, name: &str) -> Option<usize>
 
 /// Whether a name is that of one of some numbers.
 fn has_number(numbers: &[NamedNumber], name: &str) -> bool
-    ensures yes { result ≡ true → StandsIn (names_of (map number_of numbers.now)) name.now }
-    ensures no { result ≡ false → StandsIn (names_of (map number_of numbers.now)) name.now → ⊥ }
+    ensures yes { result ≡ true → OccursIn (names_of (map number_of numbers.now)) name.now }
+    ensures no { result ≡ false → OccursIn (names_of (map number_of numbers.now)) name.now → ⊥ }
 {
     match number_under(numbers, name) {
         Some(_) => true,
@@ -135,7 +135,7 @@ fn next_of(
     within: &str,
     notation: &ValueSyntax,
 ) -> Next
-    ensures { TellsNext linked.now (kind_of shape.now) opened.now within.now (tree_of notation.now) result }
+    ensures { ReportsNext linked.now (kind_of shape.now) opened.now within.now (tree_of notation.now) result }
 {
     match &notation.form {
         ValueForm::Reference(reference) => {
@@ -148,7 +148,7 @@ fn next_of(
                     if opened.holds(number) {
                         Next::Again(number)
                     } else {
-                        Next::Behind(number)
+                        Next::Referred(number)
                     }
                 }
             }
@@ -183,7 +183,7 @@ fn notation_at(linked: &Linked, number: usize) -> (&str, &ValueSyntax)
 /// the values that are being read; those whose notations are passed are added to it. Each step looks through all of
 /// them.
 ///
-/// `Lost`: a name means neither something of the type nor a value. `Circular`: a name means a value that is being read
+/// `NoMeaning`: a name means neither something of the type nor a value. `Circular`: a name means a value that is being read
 /// already. `Memory`: there is not enough memory.
 pub fn follow<'a>(
     linked: &'a Linked,
@@ -203,18 +203,18 @@ pub fn follow<'a>(
     for step in 0..count + 1 {
         match next_of(linked, opened, shape, module, at) {
             Next::Itself => return Ok((module, at)),
-            Next::Nothing => return Err(FollowFault::Lost(module, at)),
+            Next::Nothing => return Err(FollowFault::NoMeaning(module, at)),
             Next::Again(number) => return Err(FollowFault::Circular(number, module, at)),
-            Next::Behind(number) => {
+            Next::Referred(number) => {
                 match opened.open(number) {
                     Ok(()) => {}
                     Err(_) => return Err(FollowFault::Memory),
                 }
-                let (home, behind) = notation_at(linked, number);
+                let (home, target) = notation_at(linked, number);
                 module = home;
-                at = behind;
+                at = target;
             }
         }
     }
-    Err(FollowFault::Lost(module, at))
+    Err(FollowFault::NoMeaning(module, at))
 }

@@ -11,7 +11,7 @@ use Rattle.asn_base.specs.Seen.{item_of}
 use Rattle.asn_base.specs.Typed.{HasNumber}
 use Rattle.asn_base.specs.Types.{Item}
 use Rattle.value_text.specs.Print.{name_with}
-use Rattle.value_text.proofs.Members.{at_place, name_first, name_behind}
+use Rattle.value_text.proofs.Members.{at_place, name_first, name_after}
 use Rattle.value_text.proofs.Steps.{drop_at}
 
 -- what `if` answers by a test that is known
@@ -66,6 +66,6 @@ pub in_root : {b : Bool} (is js : List Item) (z : ℤ) (x : List ℕ) → AreIte
     → name_with (is ++ js) z ≡ Some x
 in_root is js z x a e = name_first is js z x e
 
-pub behind_root : {b : Bool} (is js : List Item) (z : ℤ) (x : List ℕ) → AreItems b is js → name_with js z ≡ Some x
+pub after_root : {b : Bool} (is js : List Item) (z : ℤ) (x : List ℕ) → AreItems b is js → name_with js z ≡ Some x
     → name_with (is ++ js) z ≡ Some x
-behind_root is js z x a e = name_behind is js z (no_name is z (apart is js z x a.apart e)) ∙ e
+after_root is js z x a e = name_after is js z (no_name is z (apart is js z x a.apart e)) ∙ e

@@ -74,8 +74,8 @@ spaced before [] = []
 spaced before (n ∷ ns) = before ++ (decimal n ++ spaced (codes " ") ns)
 
 -- the text before a member: nothing if it is the first one, else a comma and a space
-abbrev pub comma_behind : (first : Bool) → List ℕ
-comma_behind first = if first then [] else codes ", "
+abbrev pub comma_after : (first : Bool) → List ℕ
+comma_after first = if first then [] else codes ", "
 
 -- ---- what the type says
 

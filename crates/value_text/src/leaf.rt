@@ -4,7 +4,7 @@
 ghost use Rattle.asn_base.specs.Abstract.{bits_of_octet};
 ghost use Rattle.std.specs.Fmt.{signed_decimal};
 ghost use Rattle.std.specs.Prelude.{◌≡◌, ◌≤◌, ◌<◌, ◌++◌, [], IfOk, codes, take};
-ghost use Rattle.value_text.specs.Print.{Adds, bit_digits, bit_text, bits_in, braced, comma_behind, hex_digit};
+ghost use Rattle.value_text.specs.Print.{Adds, bit_digits, bit_text, bits_in, braced, comma_after, hex_digit};
 ghost use Rattle.value_text.specs.Print.{hex_digits, hex_text, spaced, truth_text};
 
 use std::alloc::AllocError;
@@ -19,7 +19,7 @@ pub fn append(out: &mut String, text: &str) -> Result<(), AllocError>
 
 /// Adds a comma and a space, unless the member after them is the first one.
 pub fn append_comma(out: &mut String, first: bool) -> Result<(), AllocError>
-    ensures { IfOk result (λ _. Adds out.old out.new (comma_behind first)) }
+    ensures { IfOk result (λ _. Adds out.old out.new (comma_after first)) }
 {
     append(out, if first { "" } else { ", " })?;
     Ok(())

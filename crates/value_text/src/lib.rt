@@ -1,11 +1,11 @@
 //! Values in value notation (X.680), as they are printed.
 #![tactic(auto)]
 
-mod fault;
 pub mod leaf;
 pub mod names;
+mod print_fault;
 pub mod string;
 mod value;
 
-pub use fault::Fault;
+pub use print_fault::Fault;
 pub use value::print;

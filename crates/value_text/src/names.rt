@@ -97,12 +97,12 @@ pub fn alternative_at(core: &Core, number: usize) -> Option<&Alternative>
 {
     match core {
         Core::Choice(alternatives) => {
-            let behind = alternatives.root.len();
-            if number < behind {
+            let root_count = alternatives.root.len();
+            if number < root_count {
                 return Some(&alternatives.root[number]);
             }
-            if number - behind < alternatives.additions.len() {
-                return Some(&alternatives.additions[number - behind]);
+            if number - root_count < alternatives.additions.len() {
+                return Some(&alternatives.additions[number - root_count]);
             }
             None
         }

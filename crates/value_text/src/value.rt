@@ -7,15 +7,15 @@ ghost use Rattle.std.specs.List.{AllByRecursion};
 ghost use Rattle.std.specs.Prelude.{◌≡◌, ◌<◌, [], IfOk, IsErrOf, length, map, option_map, string_bytes};
 ghost use Rattle.value_text.specs.Print.{Adds, braced, print, print_elements, print_fields};
 
-use crate::fault::Fault;
 use crate::leaf::{
     append, append_arcs, append_bit_string, append_comma, append_number, append_octets,
     append_truth,
 };
 use crate::names::{alternative_at, components, item_name};
+use crate::print_fault::Fault;
 use crate::string::append_string;
 use asn_base::decide::is_value;
-use asn_base::law::abstract_values;
+use asn_base::law::lemma_abstract_values;
 use asn_base::schema::{Component, Core, Schema, TypeId};
 use asn_base::value::Value;
 use std::alloc::{AllocError, Global};
@@ -31,7 +31,7 @@ fn print_value(
     requires there { id.index < length schema.now }
     ensures { IfOk result (λ _. Adds out.old out.new (print schema.now id.index (abstract value.now))) }
 {
-    abstract_values();
+    lemma_abstract_values();
     let core = schema.core(id);
     match value {
         Value::Bool(truth) => append_truth(out, *truth),

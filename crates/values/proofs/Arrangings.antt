@@ -4,11 +4,11 @@ use Rattle.std.specs.Prelude.{slice_get}
 use Rattle.trees.specs.declared.types.ListKind.{ListKind}
 use Rattle.trees.specs.declared.types.ListKind.TheVariants.{Sequence, Set, Choice}
 use Rattle.trees.specs.Values.{Name}
-use Rattle.names.specs.Modules.{StandsIn, AreDistinct}
+use Rattle.names.specs.Modules.{OccursIn, AreDistinct}
 use Rattle.type_table.specs.Table.{Part}
 use Rattle.value_notations.specs.Notations.{part_names, IsPartOf, may_be_absent}
 use Rattle.value_notations.specs.Wrong.{AreIn, IsMissing, IsMissingInGroup, strange, twice, lacking, lacking_in_group, jumbled}
-use Rattle.values.specs.Arranged.{IsArranged, IsWrongField, IsRepeatedField, IsMissingPart, IsBehind, of_root, of_group}
+use Rattle.values.specs.Arranged.{IsArranged, IsWrongField, IsRepeatedField, IsMissingPart, IsOutOfOrder, of_root, of_group}
 use Rattle.values.specs.proving.Arranging.{IsAbsent, IsDue, IsJumbled, NoneDue, NoneMissing}
 use Rattle.values.proofs.Lookups.{twice_of}
 use Rattle.values.proofs.Missings.{places_of, none_missing, none_missing_before, one_missing, none_lacking, none_lacking_before, one_lacking}
@@ -24,12 +24,12 @@ AllWhole cs ps = (i : ℕ) (c : Part) → IsAbsent cs ps i c → IsDue c cs ps �
 
 module _ (k : ListKind) (cs : List Part) (fs : List Name) where
   pub strange_at : (i : ℕ) →
-      (x : Name) × (slice_get fs i ≡ Some x) × (StandsIn (part_names cs) x → ⊥) × AreIn (take i fs) (part_names cs) →
+      (x : Name) × (slice_get fs i ≡ Some x) × (OccursIn (part_names cs) x → ⊥) × AreIn (take i fs) (part_names cs) →
       IsWrongField k cs fs i
   strange_at i h = record { name = h.0; there = h.1; wrong = strange (i, h.1) h.2; known_before = h.3 }
 
   pub twice_at : (i : ℕ) → AreIn fs (part_names cs) →
-      (x : Name) × (slice_get fs i ≡ Some x) × StandsIn (take i fs) x × AreDistinct (take i fs) → IsRepeatedField k cs fs i
+      (x : Name) × (slice_get fs i ≡ Some x) × OccursIn (take i fs) x × AreDistinct (take i fs) → IsRepeatedField k cs fs i
   twice_at i a h =
       record {
         name = h.0;
@@ -88,12 +88,12 @@ module _ (k : ListKind) (cs : List Part) (fs : List Name) where
             subst (λ (l : ListKind). IsArranged l cs fs ps) q
             (record { arranged = (d, a); complete = complete; whole = whole; placed = e })
 
-    pub behind_at : (i : ℕ) → k ≡ Sequence → AreDistinct (part_names cs) → AreDistinct fs → AreIn fs (part_names cs) →
-        IsJumbled (part_names cs) fs i × IsPartOf (take i fs) (part_names cs) → IsBehind k cs fs i
-    behind_at i q s d a h =
+    pub disordered_at : (i : ℕ) → k ≡ Sequence → AreDistinct (part_names cs) → AreDistinct fs → AreIn fs (part_names cs) →
+        IsJumbled (part_names cs) fs i × IsPartOf (take i fs) (part_names cs) → IsOutOfOrder k cs fs i
+    disordered_at i q s d a h =
         let j = h.0 in
         let n = j.next in
-        subst (λ (l : ListKind). IsBehind l cs fs i) (sym q)
+        subst (λ (l : ListKind). IsOutOfOrder l cs fs i) (sym q)
         (record {
           before = j.before;
           next = j.next;

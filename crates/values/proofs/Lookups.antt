@@ -6,8 +6,8 @@ use Rattle.std.proofs.lemmas.Option.{same_Some, none-some, slice_get_within, sli
 use Rattle.trees.specs.declared.value.Named.{Named}
 use Rattle.trees.specs.declared.value.ValueSyntax.{ValueSyntax}
 use Rattle.trees.specs.Values.{Name, name_at, member_of}
-use Rattle.names.specs.Modules.{StandsIn, StandsTwice, AreDistinct}
-use Rattle.names.specs.proving.Distinct.{same_bytes, equal_bytes, item_at, stands_map}
+use Rattle.names.specs.Modules.{OccursIn, OccursTwice, AreDistinct}
+use Rattle.names.specs.proving.Distinct.{same_bytes, equal_bytes, item_at, occurs_map}
 use Rattle.type_table.specs.declared.table.ListMember.{ListMember}
 use Rattle.type_table.specs.Seen.{part_of}
 use Rattle.type_table.specs.Table.{Part}
@@ -33,7 +33,7 @@ to_front (y ∷ xs) (suc i) zero x l e = e
 to_front (y ∷ xs) (suc i) (suc k) x l e = to_front xs i k x (omega (arith, l)) e
 
 -- a name in a front and after it is there twice
-pub twice_of : (xs : List Name) (i : ℕ) (x : Name) → slice_get xs i ≡ Some x → StandsIn (take i xs) x → StandsTwice xs x
+pub twice_of : (xs : List Name) (i : ℕ) (x : Name) → slice_get xs i ≡ Some x → OccursIn (take i xs) x → OccursTwice xs x
 twice_of xs i x e s =
     let h = in_front xs i s.0 x s.1 in
     record { first = s.0; second = i; apart = h.0; here = h.1; there = e }
@@ -132,17 +132,17 @@ pub place_there : (x : Name) (xs : List Name) (i : ℕ) → place_of x xs ≡ So
 place_there x [] i e = absurd cc
 place_there x (y ∷ ys) i e = there_on x y ys i (bytes_eq x y) refl e (place_there x ys)
 
-pub place_none : (x : Name) (xs : List Name) → place_of x xs ≡ None → StandsIn xs x → ⊥
+pub place_none : (x : Name) (xs : List Name) → place_of x xs ≡ None → OccursIn xs x → ⊥
 place_none x xs e s =
     let f = first_of x xs s.0 s.1 in
     let g = f.is in
     absurd cc
 
-none_on : (x : Name) (xs : List Name) (o : Option ℕ) → place_of x xs ≡ o → (StandsIn xs x → ⊥) → place_of x xs ≡ None
+none_on : (x : Name) (xs : List Name) (o : Option ℕ) → place_of x xs ≡ o → (OccursIn xs x → ⊥) → place_of x xs ≡ None
 none_on x xs None e n = e
 none_on x xs (Some i) e n = absurd (n (i, place_there x xs i e))
 
-pub no_place : (x : Name) (xs : List Name) → (StandsIn xs x → ⊥) → place_of x xs ≡ None
+pub no_place : (x : Name) (xs : List Name) → (OccursIn xs x → ⊥) → place_of x xs ≡ None
 no_place x xs n = none_on x xs (place_of x xs) refl n
 
 -- if the first place of each name is its own, no name is there twice
@@ -156,7 +156,7 @@ distinct_firsts xs f x t =
     absurd (omega (arith, same, l))
 
 -- a name whose first place is before a place is in the front up to there
-pub before_place : (xs : List Name) (i j : ℕ) (x : Name) → place_of x xs ≡ Some j → j < i → StandsIn (take i xs) x
+pub before_place : (xs : List Name) (i j : ℕ) (x : Name) → place_of x xs ≡ Some j → j < i → OccursIn (take i xs) x
 before_place xs i j x f l = (j, to_front xs i j x l (place_there x xs j f))
 
 -- a name whose first place isn't before its own has its own as the first
@@ -173,11 +173,11 @@ first_itself xs i j x e f l =
 
 pub field_at : (fs : List (Named ValueSyntax)) (i : ℕ) (f : Named ValueSyntax) → i < length fs → f ≡ get_or fs i f →
     slice_get (field_names (map member_of fs)) i ≡ Some (name_at f.name)
-field_at fs i f l e = stands_map (λ (g : _ × _). g.0) (map member_of fs) i (member_of f) (item_at member_of fs i f l e)
+field_at fs i f l e = occurs_map (λ (g : _ × _). g.0) (map member_of fs) i (member_of f) (item_at member_of fs i f l e)
 
 pub part_at : (cs : List ListMember) (i : ℕ) (c : ListMember) → i < length cs → c ≡ get_or cs i c →
     slice_get (part_names (map part_of cs)) i ≡ Some (name_at c.name)
-part_at cs i c l e = stands_map (λ (p : Part). p.name) (map part_of cs) i (part_of c) (item_at part_of cs i c l e)
+part_at cs i c l e = occurs_map (λ (p : Part). p.name) (map part_of cs) i (part_of c) (item_at part_of cs i c l e)
 
 pub fields_long : (fs : List (Named ValueSyntax)) → length (field_names (map member_of fs)) ≡ length fs
 fields_long fs = length-map (map member_of fs) (λ f. f.0) ∙ length-map fs member_of
@@ -187,20 +187,20 @@ parts_long cs = length-map (map part_of cs) (λ (c : Part). c.name) ∙ length-m
 
 -- ---- walks over names
 
-pub stands_some : (x : Name) (xs : List Name) {i : ℕ} → Some i ≡ place_of x xs → StandsIn xs x
-stands_some x xs {i} e = (i, place_there x xs i (sym e))
+pub occurs_some : (x : Name) (xs : List Name) {i : ℕ} → Some i ≡ place_of x xs → OccursIn xs x
+occurs_some x xs {i} e = (i, place_there x xs i (sym e))
 
 -- the first i fields have names of components
 abbrev pub AreKnown : (parts fields : List Name) → ℕ → Type 0
-AreKnown cs fs i = (k : ℕ) → k < i → (x : Name) → slice_get fs k ≡ Some x → StandsIn cs x
+AreKnown cs fs i = (k : ℕ) → k < i → (x : Name) → slice_get fs k ≡ Some x → OccursIn cs x
 
-pub known_next : (cs fs : List Name) (i : ℕ) (x n : Name) → slice_get fs i ≡ Some x → n ≡ x → StandsIn cs n →
+pub known_next : (cs fs : List Name) (i : ℕ) (x n : Name) → slice_get fs i ≡ Some x → n ≡ x → OccursIn cs n →
     AreKnown cs fs i → AreKnown cs fs (i + 1)
 known_next cs fs i x n e q s a =
-    below_more (λ k. (y : Name) → slice_get fs k ≡ Some y → StandsIn cs y) i a
-    (λ y f. subst (StandsIn cs) (q ∙ same_Some x y (sym e ∙ f)) s)
+    below_more (λ k. (y : Name) → slice_get fs k ≡ Some y → OccursIn cs y) i a
+    (λ y f. subst (OccursIn cs) (q ∙ same_Some x y (sym e ∙ f)) s)
 
-pub known_all : (cs fs : List Name) (i : ℕ) → length fs ≤ i → AreKnown cs fs i → (x : Name) → StandsIn fs x → StandsIn cs x
+pub known_all : (cs fs : List Name) (i : ℕ) → length fs ≤ i → AreKnown cs fs i → (x : Name) → OccursIn fs x → OccursIn cs x
 known_all cs fs i l a x s = let w = slice_get_within fs s.0 x s.1 in a s.0 (omega (arith, w, l)) x s.1
 
 pub known_before : (cs fs : List Name) (i : ℕ) → AreKnown cs fs i → AreIn (take i fs) cs
@@ -252,7 +252,7 @@ places_more ps f cs i c l e h =
         ap (λ qs. f d ∷ qs) (mapped_more f cs i c e) ∙ ap (λ k. map f (take k (d ∷ cs))) (sym q)
 
 -- what the first place means
-pub place_told : (x : Name) (xs : List Name) (o : Option ℕ) → o ≡ place_of x xs →
-    MatchOption o (StandsIn xs x → ⊥) (λ i. slice_get xs i ≡ Some x)
-place_told x xs None e = place_none x xs (sym e)
-place_told x xs (Some i) e = place_there x xs i (sym e)
+pub place_found : (x : Name) (xs : List Name) (o : Option ℕ) → o ≡ place_of x xs →
+    MatchOption o (OccursIn xs x → ⊥) (λ i. slice_get xs i ≡ Some x)
+place_found x xs None e = place_none x xs (sym e)
+place_found x xs (Some i) e = place_there x xs i (sym e)

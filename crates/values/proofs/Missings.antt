@@ -6,8 +6,8 @@ use Rattle.trees.specs.declared.types.Standing.{Standing}
 use Rattle.trees.specs.declared.types.Standing.TheVariants.{Root, Addition}
 use Rattle.trees.specs.Types.{PresenceTree, mandatory, optional, default}
 use Rattle.trees.specs.Values.{Name}
-use Rattle.names.specs.Modules.{StandsIn, AreDistinct}
-use Rattle.names.specs.proving.Distinct.{stands_map}
+use Rattle.names.specs.Modules.{OccursIn, AreDistinct}
+use Rattle.names.specs.proving.Distinct.{occurs_map}
 use Rattle.type_table.specs.Table.{Part}
 use Rattle.value_notations.specs.Notations.{part_names, may_be_absent}
 use Rattle.value_notations.specs.Wrong.{IsMissing, IsMissingInGroup}
@@ -23,21 +23,21 @@ places_of cs fs = map (λ x. place_of x fs) (part_names cs)
 placed : (cs : List Part) (fs : List Name) (i : ℕ) (c : Part) → slice_get cs i ≡ Some c →
     slice_get (places_of cs fs) i ≡ Some (place_of c.name fs)
 placed cs fs i c e =
-    stands_map (λ (x : Name). place_of x fs) (part_names cs) i c.name (stands_map (λ (p : Part). p.name) cs i c e)
+    occurs_map (λ (x : Name). place_of x fs) (part_names cs) i c.name (occurs_map (λ (p : Part). p.name) cs i c e)
 
 absent_of : (cs : List Part) (fs : List Name) (i : ℕ) (c : Part) → slice_get cs i ≡ Some c →
-    (StandsIn fs c.name → ⊥) → IsAbsent cs (places_of cs fs) i c
+    (OccursIn fs c.name → ⊥) → IsAbsent cs (places_of cs fs) i c
 absent_of cs fs i c e n = record { there = e; none = placed cs fs i c e ∙ ap Some (no_place c.name fs n) }
 
 absent_none : (cs : List Part) (fs : List Name) (i : ℕ) (c : Part) → IsAbsent cs (places_of cs fs) i c →
-    StandsIn fs c.name → ⊥
+    OccursIn fs c.name → ⊥
 absent_none cs fs i c a s =
     place_none c.name fs (same_Some (place_of c.name fs) None (sym (placed cs fs i c a.there) ∙ a.none)) s
 
 pub none_missing : (cs : List Part) (fs : List Name) →
     ((i : ℕ) (c : Part) → IsAbsent cs (places_of cs fs) i c → may_be_absent c ≡ true) → (x : Name) → IsMissing cs fs x → ⊥
 none_missing cs fs f x m =
-    let a = absent_of cs fs m.there.0 m.part m.there.1 (λ s. m.none (subst (StandsIn fs) m.named s)) in
+    let a = absent_of cs fs m.there.0 m.part m.there.1 (λ s. m.none (subst (OccursIn fs) m.named s)) in
     let t = f m.there.0 m.part a in
     let n = m.needed in
     absurd cc
@@ -82,21 +82,21 @@ pub none_lacking : (cs : List Part) (fs : List Name) →
     ((i : ℕ) (c : Part) → IsAbsent cs (places_of cs fs) i c → IsDue c cs (places_of cs fs) → ⊥) → (x : Name) →
     IsMissingInGroup cs fs x → ⊥
 none_lacking cs fs f x m =
-    let a = absent_of cs fs m.there.0 m.part m.there.1 (λ s. m.none (subst (StandsIn fs) m.named s)) in
+    let a = absent_of cs fs m.there.0 m.part m.there.1 (λ s. m.none (subst (OccursIn fs) m.named s)) in
     f m.there.0 m.part a (due_of cs fs x m)
 
 -- a name is that of one component
 one_part : (cs : List Part) → AreDistinct (part_names cs) → (i j : ℕ) (c d : Part) → slice_get cs i ≡ Some c →
     slice_get cs j ≡ Some d → c.name ≡ d.name → i ≡ j
 one_part cs s i j c d e f q =
-    one_place (part_names cs) d.name i j s (stands_map (λ (p : Part). p.name) cs i c e ∙ ap Some q)
-    (stands_map (λ (p : Part). p.name) cs j d f)
+    one_place (part_names cs) d.name i j s (occurs_map (λ (p : Part). p.name) cs i c e ∙ ap Some q)
+    (occurs_map (λ (p : Part). p.name) cs j d f)
 
 pub none_missing_before : (cs : List Part) (fs : List Name) (i : ℕ) → AreDistinct (part_names cs) →
     NoneMissing cs (places_of cs fs) i → NoneBefore (IsMissing cs fs) cs i
 none_missing_before cs fs i s f j d l e m =
     let same = one_part cs s m.there.0 j m.part d m.there.1 e m.named in
-    let a = absent_of cs fs m.there.0 m.part m.there.1 (λ t. m.none (subst (StandsIn fs) m.named t)) in
+    let a = absent_of cs fs m.there.0 m.part m.there.1 (λ t. m.none (subst (OccursIn fs) m.named t)) in
     let t = f m.there.0 (subst (λ k. k < i) (sym same) l) m.part a in
     let n = m.needed in
     absurd cc
@@ -105,7 +105,7 @@ pub none_lacking_before : (cs : List Part) (fs : List Name) (i : ℕ) → AreDis
     NoneDue cs (places_of cs fs) i → NoneBefore (IsMissingInGroup cs fs) cs i
 none_lacking_before cs fs i s f j d l e m =
     let same = one_part cs s m.there.0 j m.part d m.there.1 e m.named in
-    let a = absent_of cs fs m.there.0 m.part m.there.1 (λ t. m.none (subst (StandsIn fs) m.named t)) in
+    let a = absent_of cs fs m.there.0 m.part m.there.1 (λ t. m.none (subst (OccursIn fs) m.named t)) in
     f m.there.0 (subst (λ k. k < i) (sym same) l) m.part a (due_of cs fs d.name m)
 
 pub one_lacking : (cs : List Part) (fs : List Name) (i : ℕ) (c : Part) → IsAbsent cs (places_of cs fs) i c →

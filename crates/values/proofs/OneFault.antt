@@ -4,13 +4,13 @@ use Rattle.std.specs.Prelude.{slice_get}
 use Rattle.trees.specs.declared.types.ListKind.{ListKind}
 use Rattle.trees.specs.declared.types.ListKind.TheVariants.{Sequence}
 use Rattle.trees.specs.Values.{Name}
-use Rattle.names.specs.Modules.{StandsIn, StandsTwice, AreDistinct}
+use Rattle.names.specs.Modules.{OccursIn, OccursTwice, AreDistinct}
 use Rattle.type_table.specs.Table.{Part}
 use Rattle.value_notations.specs.Notations.{part_names}
 use Rattle.value_notations.specs.Wrong.{AreIn, IsBefore, IsDisarranged, IsMissing, IsMissingInGroup, unknown_item, repeated, missing, out_of_order, strange, twice, lacking, lacking_in_group, jumbled}
-use Rattle.values.specs.Arranged.{IsNamesFault, IsWrongField, IsRepeatedField, IsFirstMissing, IsMissingPart, IsBehind, of_root, of_group}
+use Rattle.values.specs.Arranged.{IsNamesFault, IsWrongField, IsRepeatedField, IsFirstMissing, IsMissingPart, IsOutOfOrder, of_root, of_group}
 use Rattle.values.specs.declared.arranging.NamesFault.{NamesFault}
-use Rattle.values.specs.declared.arranging.NamesFault.TheVariants.{Memory, Unknown, Repeated, Missing, Behind}
+use Rattle.values.specs.declared.arranging.NamesFault.TheVariants.{Memory, Unknown, Repeated, Missing, OutOfOrder}
 use Rattle.values.proofs.Lookups.{in_front, to_front}
 use Rattle.values.proofs.Orders.{less_or_more, not_both, part_before}
 
@@ -31,16 +31,16 @@ strange_known : {k : ListKind} {cs : List Part} {fs : List Name} {x : Name} →
 strange_known {x = x} (strange s n) a = n (a x s)
 
 strange_name : {k : ListKind} {cs : List Part} {fs : List Name} {x : Name} →
-    IsDisarranged k cs fs (unknown_item x) → StandsIn (part_names cs) x → ⊥
+    IsDisarranged k cs fs (unknown_item x) → OccursIn (part_names cs) x → ⊥
 strange_name (strange s n) = n
 
 twice_known : {k : ListKind} {cs : List Part} {fs : List Name} {x : Name} →
     IsDisarranged k cs fs (repeated x) → AreIn fs (part_names cs)
 twice_known (twice a s) = a
 
-twice_stands : {k : ListKind} {cs : List Part} {fs : List Name} {x : Name} →
+twice_occurs : {k : ListKind} {cs : List Part} {fs : List Name} {x : Name} →
     IsDisarranged k cs fs (repeated x) → AreDistinct fs → ⊥
-twice_stands {x = x} (twice a s) d = d x s
+twice_occurs {x = x} (twice a s) d = d x s
 
 missing_known : {k : ListKind} {cs : List Part} {fs : List Name} {x : Name} →
     IsDisarranged k cs fs (missing x) → AreIn fs (part_names cs)
@@ -52,22 +52,22 @@ missing_distinct : {k : ListKind} {cs : List Part} {fs : List Name} {x : Name} �
 missing_distinct (lacking a d m) = d
 missing_distinct (lacking_in_group a d m) = d
 
-behind_known : {k : ListKind} {cs : List Part} {fs : List Name} {x y : Name} →
+disordered_known : {k : ListKind} {cs : List Part} {fs : List Name} {x y : Name} →
     IsDisarranged k cs fs (out_of_order x y) → AreIn fs (part_names cs)
-behind_known (jumbled a d m n h b o) = a
+disordered_known (jumbled a d m n h b o) = a
 
-behind_distinct : {k : ListKind} {cs : List Part} {fs : List Name} {x y : Name} →
+disordered_distinct : {k : ListKind} {cs : List Part} {fs : List Name} {x y : Name} →
     IsDisarranged k cs fs (out_of_order x y) → AreDistinct fs
-behind_distinct (jumbled a d m n h b o) = d
+disordered_distinct (jumbled a d m n h b o) = d
 
-behind_turned : {k : ListKind} {cs : List Part} {fs : List Name} {x y : Name} →
+disordered_turned : {k : ListKind} {cs : List Part} {fs : List Name} {x y : Name} →
     IsDisarranged k cs fs (out_of_order x y) → IsBefore (part_names cs) x y
-behind_turned (jumbled a d m n h b o) = b
+disordered_turned (jumbled a d m n h b o) = b
 
-behind_there : {k : ListKind} {cs : List Part} {fs : List Name} {x y z : Name} →
+disordered_there : {k : ListKind} {cs : List Part} {fs : List Name} {x y z : Name} →
     IsDisarranged k cs fs (out_of_order x y) → IsDisarranged k cs fs (missing z) → ⊥
-behind_there {z = z} (jumbled a d m n h b o) (lacking e f g) = m z g
-behind_there {z = z} (jumbled a d m n h b o) (lacking_in_group e f g) = n z g
+disordered_there {z = z} (jumbled a d m n h b o) (lacking e f g) = m z g
+disordered_there {z = z} (jumbled a d m n h b o) (lacking_in_group e f g) = n z g
 
 module _ (k : ListKind) (cs : List Part) (fs : List Name) where
   -- ---- of two faults of a kind neither is before the other
@@ -97,10 +97,10 @@ module _ (k : ListKind) (cs : List Part) (fs : List Name) where
       by (of_group none m n) (of_root o q) = none b.part.name o
       by (of_group none m n) (of_group never o q) = q i a.part l a.there m
 
-  behind_later : AreDistinct (part_names cs) → (i j : ℕ) → IsBehind k cs fs i → IsBehind k cs fs j → i < j → ⊥
-  behind_later d i j a b l =
+  disordered_later : AreDistinct (part_names cs) → (i j : ℕ) → IsOutOfOrder k cs fs i → IsOutOfOrder k cs fs j → i < j → ⊥
+  disordered_later d i j a b l =
       let n = a.next in
-      not_both a.name a.other d (behind_turned a.wrong)
+      not_both a.name a.other d (disordered_turned a.wrong)
       (part_before a.before i a.other a.name b.ordered_before (omega (arith, n))
       (to_front fs j a.before a.other (omega (arith, n, l)) a.other_there) (to_front fs j i a.name l a.there))
 
@@ -113,16 +113,16 @@ module _ (k : ListKind) (cs : List Part) (fs : List Name) where
   one d (Unknown i) (Unknown j) m n a b = ap Unknown (neither i j (wrong_later i j a b) (wrong_later j i b a))
   one d (Unknown i) (Repeated j) m n a b = absurd (strange_known a.wrong (twice_known b.wrong))
   one d (Unknown i) (Missing j) m n a b = absurd (strange_known a.wrong (missing_known b.wrong))
-  one d (Unknown i) (Behind j) m n a b = absurd (strange_known a.wrong (behind_known b.wrong))
+  one d (Unknown i) (OutOfOrder j) m n a b = absurd (strange_known a.wrong (disordered_known b.wrong))
   one d (Repeated i) (Unknown j) m n a b = absurd (strange_known b.wrong (twice_known a.wrong))
   one d (Repeated i) (Repeated j) m n a b = ap Repeated (neither i j (repeated_later i j a b) (repeated_later j i b a))
-  one d (Repeated i) (Missing j) m n a b = absurd (twice_stands a.wrong (missing_distinct b.wrong))
-  one d (Repeated i) (Behind j) m n a b = absurd (twice_stands a.wrong (behind_distinct b.wrong))
+  one d (Repeated i) (Missing j) m n a b = absurd (twice_occurs a.wrong (missing_distinct b.wrong))
+  one d (Repeated i) (OutOfOrder j) m n a b = absurd (twice_occurs a.wrong (disordered_distinct b.wrong))
   one d (Missing i) (Unknown j) m n a b = absurd (strange_known b.wrong (missing_known a.wrong))
-  one d (Missing i) (Repeated j) m n a b = absurd (twice_stands b.wrong (missing_distinct a.wrong))
+  one d (Missing i) (Repeated j) m n a b = absurd (twice_occurs b.wrong (missing_distinct a.wrong))
   one d (Missing i) (Missing j) m n a b = ap Missing (neither i j (missing_later i j a b) (missing_later j i b a))
-  one d (Missing i) (Behind j) m n a b = absurd (behind_there b.wrong a.wrong)
-  one d (Behind i) (Unknown j) m n a b = absurd (strange_known b.wrong (behind_known a.wrong))
-  one d (Behind i) (Repeated j) m n a b = absurd (twice_stands b.wrong (behind_distinct a.wrong))
-  one d (Behind i) (Missing j) m n a b = absurd (behind_there a.wrong b.wrong)
-  one d (Behind i) (Behind j) m n a b = ap Behind (neither i j (behind_later d i j a b) (behind_later d j i b a))
+  one d (Missing i) (OutOfOrder j) m n a b = absurd (disordered_there b.wrong a.wrong)
+  one d (OutOfOrder i) (Unknown j) m n a b = absurd (strange_known b.wrong (disordered_known a.wrong))
+  one d (OutOfOrder i) (Repeated j) m n a b = absurd (twice_occurs b.wrong (disordered_distinct a.wrong))
+  one d (OutOfOrder i) (Missing j) m n a b = absurd (disordered_there a.wrong b.wrong)
+  one d (OutOfOrder i) (OutOfOrder j) m n a b = ap OutOfOrder (neither i j (disordered_later d i j a b) (disordered_later d j i b a))

@@ -3,7 +3,7 @@ use Rattle.std.proofs.Common.{◌≡◌, ◌⊎◌, inl, inr, ℕ, zero, suc, �
 use Rattle.std.specs.Prelude.{slice_get}
 use Rattle.std.proofs.lemmas.Option.{same_Some, none-some}
 use Rattle.trees.specs.Values.{Name}
-use Rattle.names.specs.Modules.{StandsIn, AreDistinct}
+use Rattle.names.specs.Modules.{OccursIn, AreDistinct}
 use Rattle.value_notations.specs.Notations.{IsPartOf, none_left, left_out, taken}
 use Rattle.value_notations.specs.Wrong.{IsBefore}
 use Rattle.values.specs.proving.Arranging.{IsJumbled}
@@ -30,7 +30,7 @@ part_extend (c ∷ cs) zero none_left = part_none (c ∷ cs)
 part_extend (c ∷ cs) (suc m) (left_out h) = left_out (part_extend cs m h)
 part_extend (c ∷ cs) (suc m) (taken h) = taken (part_extend cs m h)
 
-pub part_in : {A : Type 0} {us cs : List A} (x : A) (i : ℕ) → IsPartOf us cs → slice_get us i ≡ Some x → StandsIn cs x
+pub part_in : {A : Type 0} {us cs : List A} (x : A) (i : ℕ) → IsPartOf us cs → slice_get us i ≡ Some x → OccursIn cs x
 part_in x i none_left e = absurd (none-some x e)
 part_in x i (left_out h) e = let s = part_in x i h e in (suc s.0, s.1)
 part_in x zero (taken h) e = (0, e)

@@ -9,18 +9,18 @@ use Rattle.trees.specs.declared.types.Standing.{Standing}
 use Rattle.trees.specs.declared.types.Standing.TheVariants.{Root, Addition}
 use Rattle.trees.specs.Types.{PresenceTree, mandatory, optional, default}
 use Rattle.trees.specs.Values.{Name, Tree}
-use Rattle.names.specs.Modules.{StandsIn, AreDistinct}
-use Rattle.names.specs.proving.Distinct.{stands_map}
+use Rattle.names.specs.Modules.{OccursIn, AreDistinct}
+use Rattle.names.specs.proving.Distinct.{occurs_map}
 use Rattle.type_table.specs.Table.{Part}
 use Rattle.resolve.specs.Program.{Program}
 use Rattle.value_notations.specs.Notations.{AreArranged, Fields, component_of, presence_of, field_names, part_names, no_part, part_absent, part_present}
-use Rattle.value_notations.specs.Wrong.{IsDisarranged, Trouble, strange, twice, lacking, lacking_in_group, jumbled}
+use Rattle.value_notations.specs.Wrong.{IsDisarranged, NotationTrouble, strange, twice, lacking, lacking_in_group, jumbled}
 use Rattle.values.specs.Arranged.{IsArranged}
 use Rattle.values.proofs.Orders.{part_in}
 
 -- ---- arranged, or not
 
-known_in : (k : ListKind) (cs fs : List Name) (x : Name) → AreArranged k cs fs → StandsIn fs x → StandsIn cs x
+known_in : (k : ListKind) (cs fs : List Name) (x : Name) → AreArranged k cs fs → OccursIn fs x → OccursIn cs x
 known_in Sequence cs fs x a s = part_in x s.0 a.1 s.1
 known_in Set cs fs x a s = a.1 x s
 known_in Choice cs fs x a s = absurd a
@@ -30,7 +30,7 @@ distinct_in Sequence cs fs a = a.0
 distinct_in Set cs fs a = a.0
 distinct_in Choice cs fs a = absurd a
 
-pub excluded : {k : ListKind} {cs : List Part} {fs : List Name} {ps : List (Option ℕ)} {t : Trouble} →
+pub excluded : {k : ListKind} {cs : List Part} {fs : List Name} {ps : List (Option ℕ)} {t : NotationTrouble} →
     IsArranged k cs fs ps → IsDisarranged k cs fs t → ⊥
 excluded {k} {cs} {fs} a (strange {x = x} s none) = none (known_in k (part_names cs) fs x a.arranged s)
 excluded {k} {cs} {fs} a (twice {x = x} i s) = distinct_in k (part_names cs) fs a.arranged x s
@@ -60,17 +60,17 @@ needed_is (default d) (Addition o) g e = absurd cc
 -- a component of the group that has a field
 record HasField (fs : List Name) (cs : List Part) (g : ℕ) : Type 0 where
   part : Part
-  there : StandsIn cs part
+  there : OccursIn cs part
   standing : part.standing ≡ Addition (Some g)
-  present : StandsIn fs part.name
+  present : OccursIn fs part.name
 
 -- one that isn't OPTIONAL and has none
 record LacksField (fs : List Name) (cs : List Part) (g : ℕ) : Type 0 where
   part : Part
-  there : StandsIn cs part
+  there : OccursIn cs part
   standing : part.standing ≡ Addition (Some g)
   needed : part.presence ≡ mandatory
-  none : StandsIn fs part.name → ⊥
+  none : OccursIn fs part.name → ⊥
 
 has_later : {fs : List Name} {cs : List Part} {g : ℕ} (c : Part) → HasField fs cs g → HasField fs (c ∷ cs) g
 has_later c h = record { part = h.part; there = (suc h.there.0, h.there.1); standing = h.standing; present = h.present }
@@ -89,7 +89,7 @@ module _ {p : Program} {os : List ℕ} {M : Name} {fs : List (Name × Tree)} (g 
         part = c;
         there = (0, refl);
         standing = group_is c.presence c.standing g e;
-        present = (s.0, stands_map (λ (z : Name × Tree). z.0) fs s.0 (c.name, m) s.1);
+        present = (s.0, occurs_map (λ (z : Name × Tree). z.0) fs s.0 (c.name, m) s.1);
       }
   has_field (part_present {c = c} s v f) (inr h) = has_later c (has_field f h)
 

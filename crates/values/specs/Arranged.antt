@@ -3,12 +3,12 @@
 use Rattle.std.specs.Prelude.{◌≡◌, ◌<◌, ℕ, suc, List, [], ◌∷◌, Option, Some, None, cond, map, option_map, bytes_eq, slice_get, take}
 use Rattle.trees.specs.declared.types.ListKind.{ListKind}
 use Rattle.trees.specs.Values.{Name}
-use Rattle.names.specs.Modules.{StandsIn, AreDistinct}
+use Rattle.names.specs.Modules.{OccursIn, AreDistinct}
 use Rattle.type_table.specs.Table.{Part}
 use Rattle.value_notations.specs.Notations.{AreArranged, IsPartOf, part_names}
 use Rattle.value_notations.specs.Wrong.{AreIn, IsDisarranged, IsMissing, IsMissingInGroup, unknown_item, repeated, missing, out_of_order}
 use Rattle.values.specs.declared.arranging.NamesFault.{NamesFault}
-use Rattle.values.specs.declared.arranging.NamesFault.TheVariants.{Memory, Unknown, Repeated, Missing, Behind}
+use Rattle.values.specs.declared.arranging.NamesFault.TheVariants.{Memory, Unknown, Repeated, Missing, OutOfOrder}
 
 -- the first place of a name
 abbrev pub place_of : Name → List Name → Option ℕ
@@ -35,7 +35,7 @@ pub record IsRepeatedField (k : ListKind) (cs : List Part) (fs : List Name) (i :
   pub name : Name
   pub there : slice_get fs i ≡ Some name
   pub wrong : IsDisarranged k cs fs (repeated name)
-  pub again : StandsIn (take i fs) name
+  pub again : OccursIn (take i fs) name
   pub distinct_before : AreDistinct (take i fs)
 
 -- P is true of the name of none of the first i components
@@ -67,7 +67,7 @@ pub record IsMissingPart (k : ListKind) (cs : List Part) (fs : List Name) (i : �
   pub first : IsFirstMissing cs fs i part.name
 
 -- the name at this place is the first one that must come before the name directly before it
-pub record IsBehind (k : ListKind) (cs : List Part) (fs : List Name) (i : ℕ) : Type 0 where
+pub record IsOutOfOrder (k : ListKind) (cs : List Part) (fs : List Name) (i : ℕ) : Type 0 where
   pub before : ℕ
   pub next : i ≡ suc before
   pub name : Name
@@ -82,4 +82,4 @@ IsNamesFault k cs fs Memory = Unit {0}
 IsNamesFault k cs fs (Unknown i) = IsWrongField k cs fs i
 IsNamesFault k cs fs (Repeated i) = IsRepeatedField k cs fs i
 IsNamesFault k cs fs (Missing i) = IsMissingPart k cs fs i
-IsNamesFault k cs fs (Behind i) = IsBehind k cs fs i
+IsNamesFault k cs fs (OutOfOrder i) = IsOutOfOrder k cs fs i

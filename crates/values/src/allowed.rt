@@ -13,7 +13,7 @@ ghost use Rattle.value_notations.specs.Faults.{IsUnconstrained};
 ghost use Rattle.values.specs.Allowing.{AllowsCode};
 ghost use Rattle.values.specs.proving.Judging.{IsJudged, Judges, bits_in as bits_in', integer_in as integer_in', octets_in as octets_in', text_in as text_in'};
 
-use asn_base::law::abstract_values;
+use asn_base::law::lemma_abstract_values;
 use asn_base::schema::TypeId;
 use asn_base::value::{BitString, Value};
 use constraints::{Bounded, allows_character, allows_number, allows_size};
@@ -23,7 +23,7 @@ use trees::Simple;
 fn integer_in(value: &Value) -> Option<i128>
     ensures { result ≡ integer_in' (abstract value.now) }
 {
-    abstract_values();
+    lemma_abstract_values();
     match value {
         Value::Int(number) => Some(*number),
         _ => None,
@@ -34,7 +34,7 @@ fn integer_in(value: &Value) -> Option<i128>
 fn bits_in(value: &Value) -> Option<&BitString>
     ensures { option_map (λ b. bits_of b.now) result ≡ bits_in' (abstract value.now) }
 {
-    abstract_values();
+    lemma_abstract_values();
     match value {
         Value::Bits(bits) => Some(bits),
         _ => None,
@@ -45,7 +45,7 @@ fn bits_in(value: &Value) -> Option<&BitString>
 fn octets_in(value: &Value) -> Option<&[u8]>
     ensures { option_map (λ o. o.now) result ≡ octets_in' (abstract value.now) }
 {
-    abstract_values();
+    lemma_abstract_values();
     match value {
         Value::Octets(octets) => Some(octets.as_slice()),
         _ => None,
@@ -56,7 +56,7 @@ fn octets_in(value: &Value) -> Option<&[u8]>
 fn text_in(value: &Value) -> Option<&str>
     ensures { option_map (λ o. o.now) result ≡ text_in' (abstract value.now) }
 {
-    abstract_values();
+    lemma_abstract_values();
     match value {
         Value::Text(text) => Some(text.as_str()),
         _ => None,

@@ -26,7 +26,7 @@ pub enum NamesFault {
     /// This component has no field, though it must be present, by itself or since another one of its group is.
     Missing(usize),
     /// This field of a SEQUENCE must come before the field directly before it.
-    Behind(usize),
+    OutOfOrder(usize),
 }
 
 /// For each component the place of its field, if the names of fields in braces are arranged like those of components.
@@ -65,7 +65,7 @@ pub fn arranged(
     }
     match kind {
         ListKind::Sequence => match jumbled(components, fields) {
-            Some(i) => Err(NamesFault::Behind(i)),
+            Some(i) => Err(NamesFault::OutOfOrder(i)),
             None => Ok(places),
         },
         _ => Ok(places),

@@ -9,14 +9,14 @@ ghost use Rattle.names.specs.Modules.{AreDistinct};
 ghost use Rattle.type_table.specs.Table.{Part, members};
 ghost use Rattle.resolve.specs.Program.{Program};
 ghost use Rattle.value_notations.specs.Notations.{Fields, NotationOf, component_of, field_names, fields_in, part_names};
-ghost use Rattle.value_notations.specs.Wrong.{IsDisarranged, Trouble};
+ghost use Rattle.value_notations.specs.Wrong.{IsDisarranged, NotationTrouble};
 ghost use Rattle.values.specs.Arranged.{IsArranged, IsNamesFault};
 ghost use Rattle.values.specs.declared.arranging.NamesFault.{NamesFault};
 ghost use Rattle.values.specs.declared.arranging.NamesFault.TheVariants.{Memory};
 
 /// Names of fields are not both arranged and disarranged.
-pub fn arranged_alone()
-    ensures { (k : ListKind) (cs : List Part) (fs : List Name) (ps : List (Option ℕ)) (t : Trouble)
+pub fn lemma_arranged_alone()
+    ensures { (k : ListKind) (cs : List Part) (fs : List Name) (ps : List (Option ℕ)) (t : NotationTrouble)
         → IsArranged k cs fs ps
         → IsDisarranged k cs fs t
         → ⊥ }
@@ -24,7 +24,7 @@ pub fn arranged_alone()
 
 /// At most one fault of names is right, apart from `Memory`. So there is no choice which fault is reported, and at
 /// which field or component.
-pub fn one_names_fault()
+pub fn lemma_one_names_fault()
     ensures { (k : ListKind) (cs : List Part) (fs : List Name) (f g : NamesFault)
         → AreDistinct (part_names cs)
         → (f ≡ Memory → ⊥)
@@ -36,7 +36,7 @@ pub fn one_names_fault()
 
 /// If the names of fields are arranged, the groups of additions among the values of the fields are whole (X.680, clause
 /// 25.18).
-pub fn groups_whole()
+pub fn lemma_groups_are_whole()
     ensures { (p : Program) (os : List ℕ) (M : Name) (k : ListKind) (cs : List Part) (fs : List (Name × Tree))
         (ps : List (Option ℕ)) (r : Row)
         → IsArranged k cs (field_names fs) ps
@@ -45,7 +45,7 @@ pub fn groups_whole()
 {}
 
 /// A notation whose fields are arranged stands for the values of its fields.
-pub fn stands_for_fields()
+pub fn lemma_value_of_fields()
     ensures { (p : Program) (os : List ℕ) (M : Name) (k : ListKind) (e : Bool) (cs : List Part) (n : Tree)
         (fs : List (Name × Tree)) (ps : List (Option ℕ)) (r : Row)
         → fields_in n ≡ Some fs

@@ -1,7 +1,7 @@
 //! Names of components and of fields, and their places.
 
 ghost use Rattle.std.specs.Prelude.{◌≡◌, IfOk, MatchOption, Some, map, slice_get};
-ghost use Rattle.names.specs.Modules.{StandsIn};
+ghost use Rattle.names.specs.Modules.{OccursIn};
 ghost use Rattle.trees.specs.Values.{member_of};
 ghost use Rattle.type_table.specs.Seen.{part_of};
 ghost use Rattle.value_notations.specs.Notations.{field_names, part_names};
@@ -86,7 +86,7 @@ pub(crate) fn places(
 /// compared at most with each alternative's name.
 pub fn alternative(alternatives: &[ListMember], name: &str) -> Option<usize>
     ensures { MatchOption result
-        (StandsIn (part_names (map part_of alternatives.now)) name.now → ⊥)
+        (OccursIn (part_names (map part_of alternatives.now)) name.now → ⊥)
         (λ i. slice_get (part_names (map part_of alternatives.now)) i ≡ Some name.now) }
 {
     component_of(alternatives, name)

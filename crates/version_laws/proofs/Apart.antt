@@ -10,7 +10,7 @@ use Rattle.asn_base.specs.Types.{Alternative, Kind, a_choice, Component, Resolve
 use Rattle.asn_base.specs.Schemas.{HasTag, IsSchema}
 use Rattle.encodings.specs.Encoding.{any_mandatory, last_run}
 use Rattle.later_versions.specs.Later.{IsLaterKind, later_choice, Later}
-use Rattle.version_laws.proofs.Beside.{members_are, later_within, types, AreAdditions, Beside, appended, beside, behind, behind_member, all_member, mandatory_same, not_needed}
+use Rattle.version_laws.proofs.Beside.{members_are, later_within, types, AreAdditions, Beside, appended, beside, components_after, after_member, all_member, mandatory_same, not_needed}
 
 pub nothing : {A : Type 0} {x : A} → None ≡ Some x → ⊥
 nothing e = cc
@@ -129,7 +129,7 @@ pub type_there : (s : List Resolved) (u : ℕ) → u < length s → HasType s u
 type_there s u l = there s u l
 
 -- none of the last components of a SEQUENCE can begin so
-pub apart_in_run : {s s' : List Resolved} {cs ds : List Component} {d : Component} {g : Tag} → IsSchema s' → Beside s s' cs ds → RunsApart s' ds → AllByRecursion (λ c. c.type < length s') ds → IsMember d (behind cs ds) → First s' d.type g → NoneFirst s g (last_run cs)
+pub apart_in_run : {s s' : List Resolved} {cs ds : List Component} {d : Component} {g : Tag} → IsSchema s' → Beside s s' cs ds → RunsApart s' ds → AllByRecursion (λ c. c.type < length s') ds → IsMember d (components_after cs ds) → First s' d.type g → NoneFirst s g (last_run cs)
 apart_in_run schema (appended a) ra th m f = tt
 apart_in_run {s} {s'} {d = x} {g = g} schema (beside {c = c} {d = d} {cs = cs} {ds = ds} l mk b) ra th m f = by (any_mandatory cs) refl (apart_in_run schema b ra.1 th.1 m f)
   where
@@ -145,7 +145,7 @@ apart_in_run {s} {s'} {d = x} {g = g} schema (beside {c = c} {d = d} {cs = cs} {
         under false h =
             let away = ra.0 (sym (mandatory_same c d mk) ∙ h) in
             let whole = first_whole ds (sym (any_same b) ∙ e) in
-            let apart = all_member (λ z. AreApart s' d.type z.type) ds (subst (AllByRecursion (λ z. AreApart s' d.type z.type)) whole away) (behind_member cs ds m) in
+            let apart = all_member (λ z. AreApart s' d.type z.type) ds (subst (AllByRecursion (λ z. AreApart s' d.type z.type)) whole away) (after_member cs ds m) in
             let none : First s c.type g → ⊥ = (λ q. apart g (later_first schema l (type_there s' d.type th.0) q) f) in
             subst (NoneFirst s g) (sym (ap (λ q. cond q (last_run cs) (cond (is_mandatory c) cs (c ∷ cs))) e ∙ ap (λ q. cond q cs (c ∷ cs)) h)) (none, all)
 
@@ -157,9 +157,9 @@ apart_mapped s t ds a m = all_member (λ z. AreApart s t z.type) ds (unmapped ds
     unmapped (e ∷ es) h = (h.0, unmapped es h.1)
 
 -- none of a SET can
-pub apart_in_set : {s s' : List Resolved} {cs ds : List Component} {d : Component} {g : Tag} → IsSchema s' → Beside s s' cs ds → AllApart s' (types ds) → AllByRecursion (λ c. c.type < length s') ds → IsMember d (behind cs ds) → First s' d.type g → NoneFirst s g cs
+pub apart_in_set : {s s' : List Resolved} {cs ds : List Component} {d : Component} {g : Tag} → IsSchema s' → Beside s s' cs ds → AllApart s' (types ds) → AllByRecursion (λ c. c.type < length s') ds → IsMember d (components_after cs ds) → First s' d.type g → NoneFirst s g cs
 apart_in_set schema (appended a) ra th m f = tt
 apart_in_set {s' = s'} {g = g} schema (beside {d = d} {cs = cs} {ds = ds} l mk b) ra th m f = (
-  λ q. apart_mapped s' d.type ds ra.0 (behind_member cs ds m) g (later_first schema l (type_there s' d.type th.0) q) f,
+  λ q. apart_mapped s' d.type ds ra.0 (after_member cs ds m) g (later_first schema l (type_there s' d.type th.0) q) f,
   apart_in_set schema b ra.1 th.1 m f,
 )

@@ -4,12 +4,12 @@ use Rattle.asn_base.specs.Abstract.{AbstractValue, Row}
 use Rattle.asn_base.specs.Types.{Kind, Component, Resolved}
 use Rattle.encodings.specs.Rules.{Rules, Basic}
 use Rattle.encodings.specs.Contents.{Contents, of_false, of_true, of_integer, of_enumerated, of_bits, of_named_bits, of_octets, of_null, of_oid, of_relative_oid, of_utf8, of_restricted}
-use Rattle.encodings.specs.Encoding.{Says, says, Holds, leaf, sequence, set, sequence_of, set_of, choice, Members, no_member, left_out, member, Elements, no_element, element}
+use Rattle.encodings.specs.Encoding.{EncodesTo, says, ContentsEncode, leaf, sequence, set, sequence_of, set_of, choice, Members, no_member, left_out, member, Elements, no_element, element}
 use Rattle.encodings.specs.Levels.{levels, inner_levels, leaf_levels, member_levels, element_levels}
 use Rattle.version_laws.proofs.Older.{basic_frame, SaysWithin, ElementsWithin}
 
 record HoldsBasic (s : List Resolved) (k : Kind) (w : AbstractValue) (n : ℕ) (c : Bool) (x : List ℕ) (m : ℕ) : Type 0 where
-  holds : Holds s Basic k w n c x
+  holds : ContentsEncode s Basic k w n c x
   few : inner_levels holds ≤ m
 
 record MembersBasic (s : List Resolved) (cs : List Component) (ws : Row) (n : ℕ) (xs : List (List ℕ)) (m : ℕ) : Type 0 where
@@ -31,10 +31,10 @@ leaf_basic (of_utf8 a e) = record { holds = leaf (of_utf8 a tt); few = omega ari
 leaf_basic (of_restricted a e) = record { holds = leaf (of_restricted a tt); few = omega arith }
 
 mutual
-  pub basic : {s : List Resolved} {r : Rules} {t n : ℕ} {w : AbstractValue} {o : List ℕ} → (d : Says s r t w n o) → SaysWithin s t w n o (levels d)
+  pub basic : {s : List Resolved} {r : Rules} {t n : ℕ} {w : AbstractValue} {o : List ℕ} → (d : EncodesTo s r t w n o) → SaysWithin s t w n o (levels d)
   basic (says i h f) = let one = holds_basic h in let few = one.few in record { says_it = says i one.holds (basic_frame f); few = omega (arith, few) }
 
-  holds_basic : {s : List Resolved} {r : Rules} {k : Kind} {n : ℕ} {w : AbstractValue} {c : Bool} {x : List ℕ} → (h : Holds s r k w n c x) → HoldsBasic s k w n c x (inner_levels h)
+  holds_basic : {s : List Resolved} {r : Rules} {k : Kind} {n : ℕ} {w : AbstractValue} {c : Bool} {x : List ℕ} → (h : ContentsEncode s r k w n c x) → HoldsBasic s k w n c x (inner_levels h)
   holds_basic (leaf con) = leaf_basic con
   holds_basic (sequence p u) = let r = members_basic p in let few = r.few in record { holds = sequence r.members u; few = omega (arith, few) }
   holds_basic (set p pe st u mg) = let r = members_basic p in let few = r.few in record { holds = set r.members pe tt u mg; few = omega (arith, few) }

@@ -7,7 +7,7 @@ use Rattle.asn_base.specs.Tags.{First, first_tag, first_of_choice, IsChoice, All
 use Rattle.encodings.specs.Rules.{Rules}
 use Rattle.encodings.specs.Header.{Header}
 use Rattle.encodings.specs.Contents.{Contents, of_false, of_true, of_integer, of_enumerated, of_bits, of_named_bits, of_octets, of_null, of_oid, of_relative_oid, of_utf8, of_restricted}
-use Rattle.encodings.specs.Encoding.{Framed, bare, innermost, outer, Says, says, Holds, leaf, sequence, set, sequence_of, set_of, choice}
+use Rattle.encodings.specs.Encoding.{Framed, bare, innermost, outer, EncodesTo, says, ContentsEncode, leaf, sequence, set, sequence_of, set_of, choice}
 use Rattle.encodings.specs.Levels.{levels, inner_levels}
 
 pub record Begun (s : List Resolved) (t : ℕ) (o : List ℕ) : Type 0 where
@@ -44,11 +44,11 @@ begun_at : {s : List Resolved} {t : ℕ} {x o : List ℕ} → o ≡ x → Begun 
 begun_at {s} {t} e b = subst (λ q. Begun s t q) (sym e) b
 
 mutual
-  pub begun : {s : List Resolved} {r : Rules} {t n : ℕ} {v : AbstractValue} {o : List ℕ} → AllTagged s → Says s r t v n o → Begun s t o
+  pub begun : {s : List Resolved} {r : Rules} {t n : ℕ} {v : AbstractValue} {o : List ℕ} → AllTagged s → EncodesTo s r t v n o → Begun s t o
   begun all (says {tags = []} i h fr) = begun_at (bare_is fr) (holds_begun all (all _ _ i) i h)
   begun all (says {tags = g ∷ ts} i h fr) = framed_begun (first_tag i) fr
 
-  holds_begun : {s : List Resolved} {r : Rules} {t : ℕ} {k : Kind} {n : ℕ} {v : AbstractValue} {c : Bool} {x : List ℕ} → AllTagged s → IsChoice k → Is s t [] k → Holds s r k v n c x → Begun s t x
+  holds_begun : {s : List Resolved} {r : Rules} {t : ℕ} {k : Kind} {n : ℕ} {v : AbstractValue} {c : Bool} {x : List ℕ} → AllTagged s → IsChoice k → Is s t [] k → ContentsEncode s r k v n c x → Begun s t x
   holds_begun all h j (leaf con) = absurd (no_leaf h con)
   holds_begun all h j (sequence ms u) = absurd h
   holds_begun all h j (set ms p st u m) = absurd h
@@ -60,11 +60,11 @@ mutual
 
 mutual
   -- it has a header at least
-  pub levels_some : {s : List Resolved} {r : Rules} {t n : ℕ} {v : AbstractValue} {o : List ℕ} → AllTagged s → (d : Says s r t v n o) → 1 ≤ levels d
+  pub levels_some : {s : List Resolved} {r : Rules} {t n : ℕ} {v : AbstractValue} {o : List ℕ} → AllTagged s → (d : EncodesTo s r t v n o) → 1 ≤ levels d
   levels_some all (says {tags = []} i h fr) = let l = inner_some all (all _ _ i) h in omega (arith, l)
   levels_some all (says {tags = g ∷ ts} i h fr) = omega arith
 
-  inner_some : {s : List Resolved} {r : Rules} {k : Kind} {n : ℕ} {v : AbstractValue} {c : Bool} {x : List ℕ} → AllTagged s → IsChoice k → (h : Holds s r k v n c x) → 1 ≤ inner_levels h
+  inner_some : {s : List Resolved} {r : Rules} {k : Kind} {n : ℕ} {v : AbstractValue} {c : Bool} {x : List ℕ} → AllTagged s → IsChoice k → (h : ContentsEncode s r k v n c x) → 1 ≤ inner_levels h
   inner_some all h (leaf con) = absurd (no_leaf h con)
   inner_some all h (sequence ms u) = absurd h
   inner_some all h (set ms p st u m) = absurd h

@@ -7,7 +7,7 @@ use Rattle.asn_base.specs.Names.{IsMember, is_first, is_later}
 use Rattle.asn_base.specs.Tags.{is_mandatory}
 use Rattle.asn_base.specs.Types.{Kind, Presence, mandatory, optional, default, addition, Component, Resolved, Is}
 use Rattle.asn_base.specs.Schemas.{is_addition, types_in}
-use Rattle.later_versions.specs.Kept.{members_of}
+use Rattle.later_versions.specs.Projected.{members_of}
 use Rattle.later_versions.specs.Later.{IsMarkedAlike, both_mandatory, both_optional, both_default, both_additions, IsSameComponent, IsLaterType, Later, leads}
 
 pub later_here : {s s' : List Resolved} {t t' : ℕ} {tags tags' : List Tag} {k k' : Kind} → Later s t s' t' → Is s t tags k → Is s' t' tags' k'
@@ -62,19 +62,19 @@ beside_of (c ∷ cs) (d ∷ ds) l k a m =
     (beside_of cs ds (omega arith) (λ i x y e f. k (suc i) x y e f) (λ i x q e. a (suc i) x (omega arith) e) (λ i u w e f. m (suc i) u w e f))
 
 -- the additions that were appended
-abbrev pub behind : List Component → List Component → List Component
-behind [] ds = ds
-behind (c ∷ cs) [] = []
-behind (c ∷ cs) (d ∷ ds) = behind cs ds
+abbrev pub components_after : List Component → List Component → List Component
+components_after [] ds = ds
+components_after (c ∷ cs) [] = []
+components_after (c ∷ cs) (d ∷ ds) = components_after cs ds
 
-pub behind_member : {d : Component} (cs ds : List Component) → IsMember d (behind cs ds) → IsMember d ds
-behind_member [] ds m = m
-behind_member (c ∷ cs) [] m = m
-behind_member (c ∷ cs) (d ∷ ds) m = is_later (behind_member cs ds m)
+pub after_member : {d : Component} (cs ds : List Component) → IsMember d (components_after cs ds) → IsMember d ds
+after_member [] ds m = m
+after_member (c ∷ cs) [] m = m
+after_member (c ∷ cs) (d ∷ ds) m = is_later (after_member cs ds m)
 
-pub behind_additions : {s s' : List Resolved} {cs ds : List Component} → Beside s s' cs ds → AreAdditions (behind cs ds)
-behind_additions (appended a) = a
-behind_additions (beside l m b) = behind_additions b
+pub after_additions : {s s' : List Resolved} {cs ds : List Component} → Beside s s' cs ds → AreAdditions (components_after cs ds)
+after_additions (appended a) = a
+after_additions (beside l m b) = after_additions b
 
 pub all_member : {A : Type 0} (P : A → Type 0) {x : A} (xs : List A) → AllByRecursion P xs → IsMember x xs → P x
 all_member P [] a m = elim m [ ]

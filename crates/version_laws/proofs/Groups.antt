@@ -5,7 +5,7 @@ use Rattle.asn_base.specs.Abstract.{Row, end, absent, present}
 use Rattle.asn_base.specs.Types.{Presence, addition, Component, Resolved}
 use Rattle.asn_base.specs.Typed.{group_of, IsOfGroup, HasOfGroup, LacksOfGroup, GroupsAreWhole, AreComponents, no_component, component_absent, component_present}
 use Rattle.later_versions.specs.Later.{IsMarkedAlike, both_mandatory, both_optional, both_default, both_additions, AreInOneGroup, AreLater}
-use Rattle.version_laws.specs.Widened.{all_absent, widened_row}
+use Rattle.version_laws.specs.Lifted.{all_absent, lifted_row}
 use Rattle.version_laws.proofs.Beside.{types, Beside, appended, beside}
 use Rattle.version_laws.proofs.Apart.{nothing}
 
@@ -87,14 +87,14 @@ none_present (u ∷ us) zero h = h
 none_present (u ∷ us) (suc i) h = none_present us i h
 
 -- what is present was, of a component of before
-present_before : {s s' : List Resolved} {n : ℕ} {cs ds : List Component} {vs : Row} (i : ℕ) → Beside s s' cs ds → AreComponents s n cs vs → IsPresentAt (widened_row s' (types ds) vs) i → IsPresentAt vs i × (i < length cs)
+present_before : {s s' : List Resolved} {n : ℕ} {cs ds : List Component} {vs : Row} (i : ℕ) → Beside s s' cs ds → AreComponents s n cs vs → IsPresentAt (lifted_row s' (types ds) vs) i → IsPresentAt vs i × (i < length cs)
 present_before i (appended {ds = ds} a) no_component h = absurd (none_present (types ds) i h)
 present_before zero (beside l mk b) (component_absent mb v) h = absurd h
 present_before zero (beside l mk b) (component_present x v) h = (tt, omega arith)
 present_before (suc i) (beside l mk b) (component_absent mb v) h = let r = present_before i b v h in (r.0, (let q = r.1 in omega (arith, q)))
 present_before (suc i) (beside l mk b) (component_present x v) h = let r = present_before i b v h in (r.0, (let q = r.1 in omega (arith, q)))
 
-absent_before : {s s' : List Resolved} {n : ℕ} {cs ds : List Component} {vs : Row} (i : ℕ) → Beside s s' cs ds → AreComponents s n cs vs → i < length cs → IsAbsentAt (widened_row s' (types ds) vs) i → IsAbsentAt vs i
+absent_before : {s s' : List Resolved} {n : ℕ} {cs ds : List Component} {vs : Row} (i : ℕ) → Beside s s' cs ds → AreComponents s n cs vs → i < length cs → IsAbsentAt (lifted_row s' (types ds) vs) i → IsAbsentAt vs i
 absent_before i (appended a) no_component l h = absurd (omega (arith, l))
 absent_before zero (beside l mk b) (component_absent mb v) m h = tt
 absent_before zero (beside l mk b) (component_present x v) m h = h
@@ -103,17 +103,17 @@ absent_before (suc i) (beside l mk b) (component_present x v) m h = absent_befor
 
 -- ---- groups
 
-before_or_behind : (i n : ℕ) → (i < n) ⊎ (n ≤ i)
-before_or_behind i zero = inr (omega arith)
-before_or_behind zero (suc n) = inl (omega arith)
-before_or_behind (suc i) (suc n) = elim (before_or_behind i n) [ inl l ↦ inl (omega (arith, l)) | inr l ↦ inr (omega (arith, l)) ]
+before_or_after : (i n : ℕ) → (i < n) ⊎ (n ≤ i)
+before_or_after i zero = inr (omega arith)
+before_or_after zero (suc n) = inl (omega arith)
+before_or_after (suc i) (suc n) = elim (before_or_after i n) [ inl l ↦ inl (omega (arith, l)) | inr l ↦ inr (omega (arith, l)) ]
 
 -- an addition that must be present if its group is has the same in the earlier version, in some group
-must_stand : {s : List Resolved} {t : ℕ} {p q : Presence} (g h : ℕ) → IsMarkedAlike s t p q → q ≡ addition false (Some g) → group_of p ≡ Some h → p ≡ addition false (Some h)
-must_stand g h both_mandatory e f = absurd (cc)
-must_stand g h both_optional e f = absurd (cc)
-must_stand g h (both_default z m) e f = absurd (cc)
-must_stand g h (both_additions {o = o} {g = x} {h = y}) e f = ap (λ w. addition o w) f ∙ ap (λ w. addition w (Some h)) (same_mark e)
+must_be_present : {s : List Resolved} {t : ℕ} {p q : Presence} (g h : ℕ) → IsMarkedAlike s t p q → q ≡ addition false (Some g) → group_of p ≡ Some h → p ≡ addition false (Some h)
+must_be_present g h both_mandatory e f = absurd (cc)
+must_be_present g h both_optional e f = absurd (cc)
+must_be_present g h (both_default z m) e f = absurd (cc)
+must_be_present g h (both_additions {o = o} {g = x} {h = y}) e f = ap (λ w. addition o w) f ∙ ap (λ w. addition w (Some h)) (same_mark e)
   where
     same_mark : {o : Bool} {y : Option ℕ} → addition o y ≡ addition false (Some g) → o ≡ false
     same_mark e = cc
@@ -121,10 +121,10 @@ must_stand g h (both_additions {o = o} {g = x} {h = y}) e f = ap (λ w. addition
 of_its_group : {p : Presence} {g : ℕ} → p ≡ addition false (Some g) → group_of p ≡ Some g
 of_its_group e = ap group_of e
 
-pub groups_widened : {s s' : List Resolved} {n : ℕ} {cs ds : List Component} {vs : Row} → AreLater s cs ds → Beside s s' cs ds → AreComponents s n cs vs → GroupsAreWhole cs vs → GroupsAreWhole ds (widened_row s' (types ds) vs)
+pub groups_widened : {s s' : List Resolved} {n : ℕ} {cs ds : List Component} {vs : Row} → AreLater s cs ds → Beside s s' cs ds → AreComponents s n cs vs → GroupsAreWhole cs vs → GroupsAreWhole ds (lifted_row s' (types ds) vs)
 groups_widened {s} {s'} {n} {cs} {ds} {vs} a b v whole g has lacks =
-    let p = having g ds (widened_row s' (types ds) vs) has in
-    let q = lacking g ds (widened_row s' (types ds) vs) lacks in
+    let p = having g ds (lifted_row s' (types ds) vs) has in
+    let q = lacking g ds (lifted_row s' (types ds) vs) lacks in
     let here = present_before p.place b v p.here in
     let one : AreInOneGroup ds p.place q.place = record {
       group = g;
@@ -135,10 +135,10 @@ groups_widened {s} {s'} {n} {cs} {ds} {vs} a b v whole g has lacks =
       of_first = p.of_group;
       of_second = of_its_group q.marked;
     } in
-    elim (before_or_behind q.place (length cs)) [
+    elim (before_or_after q.place (length cs)) [
       | inl l ↦ (let before = (a.groups p.place q.place here.1 l).1 one in
-          let mark = (a.front.kept q.place before.second q.component before.at_second q.at).mark in
+          let mark = (a.front.projected q.place before.second q.component before.at_second q.at).mark in
           whole before.group (has_at before.group cs vs p.place before.at_first before.of_first here.0)
-          (lacks_at before.group cs vs q.place before.at_second (must_stand g before.group mark q.marked before.of_second) (absent_before q.place b v l q.here)))
+          (lacks_at before.group cs vs q.place before.at_second (must_be_present g before.group mark q.marked before.of_second) (absent_before q.place b v l q.here)))
       | inr l ↦ a.whole p.place q.place here.1 l one
     ]

@@ -5,12 +5,12 @@ use Rattle.std.specs.Prelude.{slice_get, Some}
 use Rattle.std.specs.List.{AllByRecursion}
 use Rattle.asn_base.specs.Abstract.{AbstractValue, fields, list, alternative, Row}
 use Rattle.asn_base.specs.Types.{Constraint, Item, Kind, Presence, mandatory, optional, default, addition, Component, Resolved}
-use Rattle.asn_base.specs.Typed.{HasNumber, IsAllowedSize, members, Fits, fits_boolean, fits_integer, fits_enumerated, fits_bits, fits_named_bits, fits_octets, fits_null, fits_oid, fits_relative_oid, fits_utf8, fits_restricted, ValueIn, value_in, ValueOf, of_leaf, of_sequence, of_set, of_sequence_of, of_set_of, of_choice, MayBeAbsent, where_optional, where_default, where_addition, AreComponents, no_component, component_absent, component_present, AreElements, no_element, one_element, IsValue}
+use Rattle.asn_base.specs.Typed.{HasNumber, IsAllowedSize, members, IsPrimitive, fits_boolean, fits_integer, fits_enumerated, fits_bits, fits_named_bits, fits_octets, fits_null, fits_oid, fits_relative_oid, fits_utf8, fits_restricted, ValueIn, value_in, ValueOf, of_leaf, of_sequence, of_set, of_sequence_of, of_set_of, of_choice, MayBeAbsent, where_optional, where_default, where_addition, AreComponents, no_component, component_absent, component_present, AreElements, no_element, one_element, IsValue}
 use Rattle.asn_base.specs.Same.{AlikeComponents, no_components, both_absent, Same}
 use Rattle.asn_base.specs.Schemas.{HasValue, IsSize, IsSchema, IsSound, types_in}
-use Rattle.later_versions.specs.Kept.{members_of, kept, left_out}
+use Rattle.later_versions.specs.Projected.{members_of, projected, left_out}
 use Rattle.later_versions.specs.Later.{LeaveSame, IsFront, IsMarkedAlike, both_mandatory, both_optional, both_default, both_additions, IsLaterKind, later_boolean, later_integer, later_enumerated, later_bit_string, later_named_bits, later_octet_string, later_null, later_object_identifier, later_relative_oid, later_utf8_string, later_restricted_string, later_sequence, later_set, later_sequence_of, later_set_of, later_choice, Later}
-use Rattle.version_laws.specs.Widened.{all_absent, widened, widened_row, widened_elements}
+use Rattle.version_laws.specs.Lifted.{all_absent, lifted, lifted_row, lifted_elements}
 use Rattle.version_laws.proofs.Beside.{later_here, members_are, later_members, LaterMembers, types, AreAdditions, Beside, appended, beside, beside_of}
 use Rattle.version_laws.proofs.Apart.{nothing, mapped, HasType, type_there}
 use Rattle.version_laws.proofs.Places.{element_at, member_at}
@@ -34,7 +34,7 @@ among_more : (more all : List Item) (z : ℤ) → IsFront (λ i j. i ≡ j) more
 among_more more all z front h =
     let r = numbered more h in
     let b = there_at all r.0 (omega_front more all r.0 front.none_dropped r.2) in
-    has_number all r.0 b.1 (ap (λ q. q.number) (sym (front.kept r.0 r.1 b.0 r.2 b.1)) ∙ r.3)
+    has_number all r.0 b.1 (ap (λ q. q.number) (sym (front.projected r.0 r.1 b.0 r.2 b.1)) ∙ r.3)
   where
     there_at : (xs : List Item) (i : ℕ) → i < length xs → (x : Item) × (slice_get xs i ≡ Some x)
     there_at [] i l = absurd (omega (arith, l))
@@ -57,7 +57,7 @@ among (x ∷ root) more all z front (inr h) = inr (among root more all z front h
 size_same : {c d : Constraint} (n : ℕ) → LeaveSame IsSize c d → IsAllowedSize c n → IsAllowedSize d n
 size_same n q a = (q.allowed (pos n) tt).0 a
 
-leaf_newer : {s : List Resolved} {k k' : Kind} {v : AbstractValue} {n : ℕ} (s' : List Resolved) (t' : ℕ) → IsLaterKind s k k' → Fits k v → ValueOf s' n k' (widened s' t' v)
+leaf_newer : {s : List Resolved} {k k' : Kind} {v : AbstractValue} {n : ℕ} (s' : List Resolved) (t' : ℕ) → IsLaterKind s k k' → IsPrimitive k v → ValueOf s' n k' (lifted s' t' v)
 leaf_newer s' t' later_boolean fits_boolean = of_leaf fits_boolean
 leaf_newer s' t' (later_integer q) (fits_integer {z = z} a b) = of_leaf (fits_integer a ((q.allowed z tt).0 b))
 leaf_newer s' t' (later_enumerated {root = root} {more = more} {all = all} q) (fits_enumerated {z = z} a b) = of_leaf (fits_enumerated a (among root more all z q b))
@@ -75,7 +75,7 @@ leaf_newer s' t' (later_sequence_of q) f = elim f [ ]
 leaf_newer s' t' (later_set_of q) f = elim f [ ]
 leaf_newer s' t' (later_choice q f) g = elim g [ ]
 
-members_widened : {s : List Resolved} {n u : ℕ} {vs : Row} (s' : List Resolved) (u' : ℕ) → AreElements s n u vs → members (widened_elements s' u' vs) ≡ members vs
+members_widened : {s : List Resolved} {n u : ℕ} {vs : Row} (s' : List Resolved) (u' : ℕ) → AreElements s n u vs → members (lifted_elements s' u' vs) ≡ members vs
 members_widened s' u' no_element = refl
 members_widened s' u' (one_element x v) = ap suc (members_widened s' u' v)
 
@@ -100,13 +100,13 @@ pub record LaterDefault (s : List Resolved) (t : ℕ) (q : Presence) (d : Abstra
   pub value : AbstractValue
   pub is : q ≡ default value
   pub none_out : left_out s t value ≡ 0
-  pub same : Same s t d (kept s t value)
+  pub same : Same s t d (projected s t value)
 
 pub later_default : {s : List Resolved} {t : ℕ} {p q : Presence} {d : AbstractValue} → IsMarkedAlike s t p q → p ≡ default d → LaterDefault s t q d
 later_default both_mandatory f = absurd (cc)
 later_default both_optional f = absurd (cc)
 later_default {s} {t} {p} {q} {d} (both_default {d = x} {e = e} z sm) f =
-    let g : x ≡ d = cc in record { value = e; is = refl; none_out = z; same = subst (λ w. Same s t w (kept s t e)) g sm }
+    let g : x ≡ d = cc in record { value = e; is = refl; none_out = z; same = subst (λ w. Same s t w (projected s t e)) g sm }
 later_default both_additions f = absurd (cc)
 
 pub levels_of : {s : List Resolved} {n t : ℕ} {p : Presence} {d : AbstractValue} → MayBeAbsent s n t p → p ≡ default d → ValueIn s n t d
@@ -115,22 +115,22 @@ levels_of a e = absurd (cc)
 
 -- ---- values
 
-fields_at : {s' : List Resolved} {n : ℕ} {k : Kind} {us us' : List ℕ} (vs : Row) → us' ≡ us → ValueOf s' n k (fields (widened_row s' us vs)) → ValueOf s' n k (fields (widened_row s' us' vs))
-fields_at {s'} {n} {k} {us} {us'} vs e v = subst (λ y. ValueOf s' n k (fields (widened_row s' y vs))) (sym e) v
+fields_at : {s' : List Resolved} {n : ℕ} {k : Kind} {us us' : List ℕ} (vs : Row) → us' ≡ us → ValueOf s' n k (fields (lifted_row s' us vs)) → ValueOf s' n k (fields (lifted_row s' us' vs))
+fields_at {s'} {n} {k} {us} {us'} vs e v = subst (λ y. ValueOf s' n k (fields (lifted_row s' y vs))) (sym e) v
 
-list_at : {s' : List Resolved} {n : ℕ} {k : Kind} {u u' : ℕ} (vs : Row) → u' ≡ u → ValueOf s' n k (list (widened_elements s' u vs)) → ValueOf s' n k (list (widened_elements s' u' vs))
-list_at {s'} {n} {k} {u} {u'} vs e v = subst (λ y. ValueOf s' n k (list (widened_elements s' y vs))) (sym e) v
+list_at : {s' : List Resolved} {n : ℕ} {k : Kind} {u u' : ℕ} (vs : Row) → u' ≡ u → ValueOf s' n k (list (lifted_elements s' u vs)) → ValueOf s' n k (list (lifted_elements s' u' vs))
+list_at {s'} {n} {k} {u} {u'} vs e v = subst (λ y. ValueOf s' n k (list (lifted_elements s' y vs))) (sym e) v
 
-alternative_at : {s' : List Resolved} {n : ℕ} {k : Kind} {u u' i : ℕ} (v : AbstractValue) → u' ≡ u → ValueOf s' n k (alternative i (widened s' u v)) → ValueOf s' n k (alternative i (widened s' u' v))
-alternative_at {s'} {n} {k} {u} {u'} {i} v e x = subst (λ y. ValueOf s' n k (alternative i (widened s' y v))) (sym e) x
+alternative_at : {s' : List Resolved} {n : ℕ} {k : Kind} {u u' i : ℕ} (v : AbstractValue) → u' ≡ u → ValueOf s' n k (alternative i (lifted s' u v)) → ValueOf s' n k (alternative i (lifted s' u' v))
+alternative_at {s'} {n} {k} {u} {u'} {i} v e x = subst (λ y. ValueOf s' n k (alternative i (lifted s' y v))) (sym e) x
 
 -- members of a type of at most n levels are, widened, of the later one
 abbrev pub Widens : List Resolved → List Resolved → ℕ → Type 0
-Widens s s' n = (t t' : ℕ) (v : AbstractValue) → Later s t s' t' → HasType s' t' → ValueIn s n t v → ValueIn s' n t' (widened s' t' v)
+Widens s s' n = (t t' : ℕ) (v : AbstractValue) → Later s t s' t' → HasType s' t' → ValueIn s n t v → ValueIn s' n t' (lifted s' t' v)
 
 module _ (laws : Laws) (s s' : List Resolved) (schema : IsSchema s') where
-  pub kept_levels : {t n : ℕ} {d : AbstractValue} (e : AbstractValue) → Same s t d (kept s t e) → ValueIn s n t d → ValueIn s n t (kept s t e)
-  kept_levels {t} {n} {d} e m v = laws.levels s 64 n t d (kept s t e) m.are_alike v m.second
+  pub kept_levels : {t n : ℕ} {d : AbstractValue} (e : AbstractValue) → Same s t d (projected s t e) → ValueIn s n t d → ValueIn s n t (projected s t e)
+  kept_levels {t} {n} {d} e m v = laws.levels s 64 n t d (projected s t e) m.are_alike v m.second
 
   absent_widened : {n t t' : ℕ} {p q : Presence} → Widens s s' n → Later s t s' t' → HasType s' t' → IsMarkedAlike s t p q → ((e : AbstractValue) → q ≡ default e → IsValue s' t' e) → MayBeAbsent s n t p → MayBeAbsent s' n t' q
   absent_widened go l h both_mandatory has mb = elim mb [ ]
@@ -140,25 +140,25 @@ module _ (laws : Laws) (s s' : List Resolved) (schema : IsSchema s') where
       where_default (subst (ValueIn s' n t') (again s s' l (has e refl).shaped k z) (go _ t' _ l h k))
   absent_widened go l h both_additions has mb = where_addition
 
-  row_widened : {n : ℕ} {cs ds : List Component} {vs : Row} → Widens s s' n → Beside s s' cs ds → AllByRecursion (λ c. c.type < length s') ds → AllByRecursion (HasValue s') ds → AreComponents s n cs vs → AreComponents s' n ds (widened_row s' (types ds) vs)
+  row_widened : {n : ℕ} {cs ds : List Component} {vs : Row} → Widens s s' n → Beside s s' cs ds → AllByRecursion (λ c. c.type < length s') ds → AllByRecursion (HasValue s') ds → AreComponents s n cs vs → AreComponents s' n ds (lifted_row s' (types ds) vs)
   row_widened go (appended {ds = ds} a) th has no_component = none_present ds a
   row_widened go (beside {d = d} l mk b) th has (component_absent mb v) =
       component_absent (absent_widened go l (type_there s' d.type th.0) mk has.0 mb) (row_widened go b th.1 has.1 v)
   row_widened go (beside {d = d} l mk b) th has (component_present x v) =
       component_present (go _ _ _ l (type_there s' d.type th.0) x) (row_widened go b th.1 has.1 v)
 
-  elements_widened : {n u u' : ℕ} {vs : Row} → Widens s s' n → Later s u s' u' → HasType s' u' → AreElements s n u vs → AreElements s' n u' (widened_elements s' u' vs)
+  elements_widened : {n u u' : ℕ} {vs : Row} → Widens s s' n → Later s u s' u' → HasType s' u' → AreElements s n u vs → AreElements s' n u' (lifted_elements s' u' vs)
   elements_widened go l h no_element = no_element
   elements_widened go l h (one_element x v) = one_element (go _ _ _ l h x) (elements_widened go l h v)
 
-  kind_widened : {n : ℕ} {k k' : Kind} {v : AbstractValue} (t' : ℕ) → Widens s s' n → members_of s' t' ≡ types_in k' → LaterMembers s s' (types_in k) (types_in k') → IsLaterKind s k k' → IsSound s' k' → ValueOf s n k v → ValueOf s' n k' (widened s' t' v)
+  kind_widened : {n : ℕ} {k k' : Kind} {v : AbstractValue} (t' : ℕ) → Widens s s' n → members_of s' t' ≡ types_in k' → LaterMembers s s' (types_in k) (types_in k') → IsLaterKind s k k' → IsSound s' k' → ValueOf s n k v → ValueOf s' n k' (lifted s' t' v)
   kind_widened t' go q ms kind sound (of_leaf f) = leaf_newer s' t' kind f
   kind_widened {n = n} t' go q ms (later_sequence {e = e} {cs = cs} {ds = ds} a) sound (of_sequence {vs = vs} v g) =
-      let side : Beside s s' cs ds = beside_of cs ds a.front.none_dropped a.front.kept a.appended ms in
+      let side : Beside s s' cs ds = beside_of cs ds a.front.none_dropped a.front.projected a.appended ms in
       fields_at vs q
       (of_sequence (row_widened go side sound.types sound.defaults v) (groups_widened a side v g))
   kind_widened {n = n} t' go q ms (later_set {cs = cs} {ds = ds} a) sound (of_set {vs = vs} v g) =
-      let side : Beside s s' cs ds = beside_of cs ds a.front.none_dropped a.front.kept a.appended ms in
+      let side : Beside s s' cs ds = beside_of cs ds a.front.none_dropped a.front.projected a.appended ms in
       fields_at vs q
       (of_set (row_widened go side sound.0.types sound.0.defaults v) (groups_widened a side v g))
   kind_widened {n = n} t' go q ms (later_sequence_of {d = d} {u = u} {v = u'} ls) sound (of_sequence_of {vs = vs} v g) =

@@ -10,11 +10,11 @@ use Rattle.asn_base.specs.Schemas.{IsSchema, IsSound, types_in}
 use Rattle.encodings.specs.Rules.{Rules, Basic, Unsorted, Distinguished, Strictly}
 use Rattle.encodings.specs.Contents.{Contents, of_false, of_true, of_integer, of_enumerated, of_bits, of_named_bits, of_octets, of_null, of_oid, of_relative_oid, of_utf8, of_restricted}
 use Rattle.encodings.specs.Orders.{Merges}
-use Rattle.encodings.specs.Encoding.{Framed, no_unknown, UnknownIf, closed, extensible, last_run, IsDefault, Says, says, Holds, leaf, sequence, set, sequence_of, set_of, choice, Members, no_member, left_out as is_absent, member, Elements, no_element, element}
+use Rattle.encodings.specs.Encoding.{Framed, no_unknown, UnknownIf, closed, extensible, last_run, IsDefault, EncodesTo, says, ContentsEncode, leaf, sequence, set, sequence_of, set_of, choice, Members, no_member, left_out as is_absent, member, Elements, no_element, element}
 use Rattle.encodings.specs.Levels.{levels, inner_levels, leaf_levels, member_levels, element_levels, unknown_levels}
-use Rattle.later_versions.specs.Kept.{members_of, kept}
+use Rattle.later_versions.specs.Projected.{members_of, projected}
 use Rattle.later_versions.specs.Later.{IsMarkedAlike, IsLaterKind, later_boolean, later_integer, later_enumerated, later_bit_string, later_named_bits, later_octet_string, later_null, later_object_identifier, later_relative_oid, later_utf8_string, later_restricted_string, later_sequence, later_set, later_sequence_of, later_set_of, later_choice, Later}
-use Rattle.version_laws.specs.Widened.{all_absent, widened, widened_row, widened_elements}
+use Rattle.version_laws.specs.Lifted.{all_absent, lifted, lifted_row, lifted_elements}
 use Rattle.version_laws.proofs.Beside.{later_here, members_are, later_members, LaterMembers, types, AreAdditions, Beside, appended, beside, beside_of, mandatory_same, not_needed}
 use Rattle.version_laws.proofs.Apart.{mapped, HasType, type_there}
 use Rattle.version_laws.proofs.Places.{element_at, member_at}
@@ -25,11 +25,11 @@ use Rattle.version_laws.proofs.NewerAlike.{same_choice}
 
 -- contents of a kind that hold a value, with no unknown additions, and with no more levels than m
 pub record HoldsNewer (s' : List Resolved) (r : Rules) (k : Kind) (w : AbstractValue) (c : Bool) (x : List ℕ) (m : ℕ) : Type 0 where
-  pub holds : Holds s' r k w 0 c x
+  pub holds : ContentsEncode s' r k w 0 c x
   pub few : inner_levels holds ≤ m
 
 pub record SaysNewer (s' : List Resolved) (r : Rules) (t' : ℕ) (w : AbstractValue) (o : List ℕ) (m : ℕ) : Type 0 where
-  pub says_it : Says s' r t' w 0 o
+  pub says_it : EncodesTo s' r t' w 0 o
   pub few : levels says_it ≤ m
 
 record MembersNewer (s' : List Resolved) (r : Rules) (ds : List Component) (ws : Row) (xs : List (List ℕ)) (m : ℕ) : Type 0 where
@@ -44,7 +44,7 @@ newer_at : {s' : List Resolved} {r : Rules} {k : Kind} {v w : AbstractValue} {c 
 newer_at {s'} {r} {k} {v} {w} {c} {x} {y} {m} e f h =
     subst (λ q. HoldsNewer s' r k w c q m) f (subst (λ q. HoldsNewer s' r k q c x m) e h)
 
-leaf_newer : {s : List Resolved} {r : Rules} {k k' : Kind} {w : AbstractValue} {c : Bool} {x : List ℕ} (s' : List Resolved) (t' : ℕ) → IsLaterKind s k k' → (con : Contents r k w c x) → HoldsNewer s' r k' (widened s' t' w) c x (leaf_levels con)
+leaf_newer : {s : List Resolved} {r : Rules} {k k' : Kind} {w : AbstractValue} {c : Bool} {x : List ℕ} (s' : List Resolved) (t' : ℕ) → IsLaterKind s k k' → (con : Contents r k w c x) → HoldsNewer s' r k' (lifted s' t' w) c x (leaf_levels con)
 leaf_newer s' t' later_boolean of_false = record { holds = leaf of_false; few = omega arith }
 leaf_newer s' t' later_boolean (of_true a l e) = record { holds = leaf (of_true a l e); few = omega arith }
 leaf_newer s' t' (later_integer q) (of_integer a) = record { holds = leaf (of_integer a); few = omega arith }
@@ -85,16 +85,16 @@ fewer m r l = let few = r.few in record { members = r.members; few = omega (arit
 
 module _ (laws : Laws) (s s' : List Resolved) (schema : IsSchema s') where
   -- what is its DEFAULT under the later type was the default of before
-  pub default_before : (c d : Component) {n : ℕ} {w : AbstractValue} → Later s c.type s' d.type → HasType s' d.type → IsMarkedAlike s c.type c.presence d.presence → ValueIn s n c.type w → IsDefault s' d (widened s' d.type w) → IsDefault s c w
+  pub default_before : (c d : Component) {n : ℕ} {w : AbstractValue} → Later s c.type s' d.type → HasType s' d.type → IsMarkedAlike s c.type c.presence d.presence → ValueIn s n c.type w → IsDefault s' d (lifted s' d.type w) → IsDefault s c w
   default_before c d {n} {w} l h mk v q =
       let m = earlier mk q.1 in
       let b = back s s' schema l h v in
       let k = alike_kept laws s s' {n = n} l q.2 (subst (ValueIn s n c.type) (sym b.same) v) in
-      let a = subst (λ x. Alike s c.type x (kept s c.type q.0)) b.same k.are_alike in
-      (m.value, m.is, laws.joined s c.type w (kept s c.type q.0) m.value a (laws.turned s c.type m.value (kept s c.type q.0) m.same.are_alike))
+      let a = subst (λ x. Alike s c.type x (projected s c.type q.0)) b.same k.are_alike in
+      (m.value, m.is, laws.joined s c.type w (projected s c.type q.0) m.value a (laws.turned s c.type m.value (projected s c.type q.0) m.same.are_alike))
 
   mutual
-    pub newer : {r : Rules} {t t' n m : ℕ} {w : AbstractValue} {o : List ℕ} → Later s t s' t' → HasType s' t' → (d : Says s r t w n o) → ValueIn s m t w → n ≡ 0 → SaysNewer s' r t' (widened s' t' w) o (levels d)
+    pub newer : {r : Rules} {t t' n m : ℕ} {w : AbstractValue} {o : List ℕ} → Later s t s' t' → HasType s' t' → (d : EncodesTo s r t w n o) → ValueIn s m t w → n ≡ 0 → SaysNewer s' r t' (lifted s' t' w) o (levels d)
     newer {r = r} {t' = t'} {w = w} {o = o} l h (says {tags = ts} {k = k} {c = c} {x = x} i con f) (value_in {n = m} i' v) z =
         let j = is_there h in
         let e = later_here l i j in
@@ -104,31 +104,31 @@ module _ (laws : Laws) (s s' : List Resolved) (schema : IsSchema s') where
         let few = one.few in
         record { says_it = says j one.holds frame; few = omega (arith, q, few) }
 
-    holds_newer : {r : Rules} {k k' : Kind} {n m : ℕ} {w : AbstractValue} {c : Bool} {x : List ℕ} (t' : ℕ) → members_of s' t' ≡ types_in k' → LaterMembers s s' (types_in k) (types_in k') → IsLaterKind s k k' → (h : Holds s r k w n c x) → ValueOf s m k w → IsSound s' k' → n ≡ 0 → HoldsNewer s' r k' (widened s' t' w) c x (inner_levels h)
+    holds_newer : {r : Rules} {k k' : Kind} {n m : ℕ} {w : AbstractValue} {c : Bool} {x : List ℕ} (t' : ℕ) → members_of s' t' ≡ types_in k' → LaterMembers s s' (types_in k) (types_in k') → IsLaterKind s k k' → (h : ContentsEncode s r k w n c x) → ValueOf s m k w → IsSound s' k' → n ≡ 0 → HoldsNewer s' r k' (lifted s' t' w) c x (inner_levels h)
     holds_newer t' q ms kind (leaf con) v sound z = leaf_newer s' t' kind con
     holds_newer t' q ms (later_sequence {e = e} {cs = cs} {ds = ds} a) (sequence {ws = ws} {xs = xs} {us = us} p u) (of_sequence v g) sound z =
-        let side : Beside s s' cs ds = beside_of cs ds a.front.none_dropped a.front.kept a.appended ms in
+        let side : Beside s s' cs ds = beside_of cs ds a.front.none_dropped a.front.projected a.appended ms in
         let none = none_unknown_if s' (last_run ds) e in
         let r = members_newer side p v (omega (arith, z)) sound.types in
         let few = r.few in
         let no = none.none in
-        newer_at (ap (λ y. fields (widened_row s' y ws)) (sym q)) (ap (λ y. concat (xs ++ y)) (sym (none_unknown u (omega (arith, z)))))
+        newer_at (ap (λ y. fields (lifted_row s' y ws)) (sym q)) (ap (λ y. concat (xs ++ y)) (sym (none_unknown u (omega (arith, z)))))
         (record { holds = sequence r.members none.unknown; few = omega (arith, few, no) })
     holds_newer t' q ms (later_set {e = e} {cs = cs} {ds = ds} a) (set {ws = ws} {zs = zs} {us = us} {ys = ys} p pe st u mg) (of_set v g) sound z =
-        let side : Beside s s' cs ds = beside_of cs ds a.front.none_dropped a.front.kept a.appended ms in
+        let side : Beside s s' cs ds = beside_of cs ds a.front.none_dropped a.front.projected a.appended ms in
         let none = none_unknown_if s' ds e in
         let r = members_newer side p v (omega (arith, z)) sound.0.types in
         let few = r.few in
         let no = none.none in
-        newer_at (ap (λ y. fields (widened_row s' y ws)) (sym q)) refl
+        newer_at (ap (λ y. fields (lifted_row s' y ws)) (sym q)) refl
         (record { holds = set r.members pe st none.unknown (subst (λ y. Merges zs y ys) (none_unknown u (omega (arith, z))) mg); few = omega (arith, few, no) })
     holds_newer t' q ms (later_sequence_of {u = u} {v = u'} ls) (sequence_of {ws = ws} es) (of_sequence_of v g) sound z =
         let r = elements_newer (ms 0 u u' refl refl) (type_there s' u' sound.type) es v z in
-        newer_at (ap (λ y. list (widened_elements s' y ws)) (sym (element_at s' t' u' q))) refl
+        newer_at (ap (λ y. list (lifted_elements s' y ws)) (sym (element_at s' t' u' q))) refl
         (record { holds = sequence_of r.elements; few = r.few })
     holds_newer t' q ms (later_set_of {u = u} {v = u'} ls) (set_of {ws = ws} es st) (of_set_of v g) sound z =
         let r = elements_newer (ms 0 u u' refl refl) (type_there s' u' sound.type) es v z in
-        newer_at (ap (λ y. list (widened_elements s' y ws)) (sym (element_at s' t' u' q))) refl
+        newer_at (ap (λ y. list (lifted_elements s' y ws)) (sym (element_at s' t' u' q))) refl
         (record { holds = set_of r.elements st; few = r.few })
     holds_newer {m = m} t' q ms (later_choice {root = root} {others = others} {more = more} {all = all} names front) (choice {i = i} {a = a} {w = w} g d) (of_choice h v) sound z =
         let b = other_choice {s' = s'} root more others all i names front.none_dropped sound.types g in
@@ -136,7 +136,7 @@ module _ (laws : Laws) (s s' : List Resolved) (schema : IsSchema s') where
         let other = mapped (λ y. y.type) (others ++ all) i b.at in
         let at = member_at s' t' i b.alternative.type (ap (λ y. slice_get y i) q ∙ other) in
         let r = newer (ms i a.type b.alternative.type one other) b.type d (subst (λ y. ValueIn s m y w) (same_choice (root ++ more) i h g) v) z in
-        newer_at (ap (λ y. alternative i (widened s' y w)) (sym at)) refl
+        newer_at (ap (λ y. alternative i (lifted s' y w)) (sym at)) refl
         (record { holds = choice b.at r.says_it; few = r.few })
     holds_newer t' q ms kind (sequence p u) (of_leaf f) sound z = elim f [ ]
     holds_newer t' q ms kind (set p pe st u mg) (of_leaf f) sound z = elim f [ ]
@@ -144,7 +144,7 @@ module _ (laws : Laws) (s s' : List Resolved) (schema : IsSchema s') where
     holds_newer t' q ms kind (set_of es st) (of_leaf f) sound z = elim f [ ]
     holds_newer t' q ms kind (choice g d) (of_leaf f) sound z = elim f [ ]
 
-    members_newer : {r : Rules} {cs ds : List Component} {ws : Row} {j m : ℕ} {xs : List (List ℕ)} → Beside s s' cs ds → (ms : Members s r cs ws j xs) → AreComponents s m cs ws → j ≡ 0 → AllByRecursion (λ c. c.type < length s') ds → MembersNewer s' r ds (widened_row s' (types ds) ws) xs (member_levels ms)
+    members_newer : {r : Rules} {cs ds : List Component} {ws : Row} {j m : ℕ} {xs : List (List ℕ)} → Beside s s' cs ds → (ms : Members s r cs ws j xs) → AreComponents s m cs ws → j ≡ 0 → AllByRecursion (λ c. c.type < length s') ds → MembersNewer s' r ds (lifted_row s' (types ds) ws) xs (member_levels ms)
     members_newer (appended {ds = ds} a) no_member v z th = no_members ds a
     members_newer (beside {c = c} {d = d} l mk b) (is_absent f ms) (component_absent mb v) z th =
         let r = members_newer b ms v z th.1 in
@@ -160,7 +160,7 @@ module _ (laws : Laws) (s s' : List Resolved) (schema : IsSchema s') where
           few = omega (arith, few, rest);
         }
 
-    elements_newer : {r : Rules} {u u' n m : ℕ} {ws : Row} {xs : List (List ℕ)} → Later s u s' u' → HasType s' u' → (es : Elements s r u ws n xs) → AreElements s m u ws → n ≡ 0 → ElementsNewer s' r u' (widened_elements s' u' ws) xs (element_levels es)
+    elements_newer : {r : Rules} {u u' n m : ℕ} {ws : Row} {xs : List (List ℕ)} → Later s u s' u' → HasType s' u' → (es : Elements s r u ws n xs) → AreElements s m u ws → n ≡ 0 → ElementsNewer s' r u' (lifted_elements s' u' ws) xs (element_levels es)
     elements_newer l h no_element v z = record { elements = no_element; few = omega arith }
     elements_newer l h (element x es) (one_element y v) z =
         let one = newer l h x y (omega (arith, z)) in

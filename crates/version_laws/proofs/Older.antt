@@ -6,7 +6,7 @@ use Rattle.std.specs.List.{concat, AllByRecursion}
 use Rattle.asn_base.specs.declared.tag.Tag.{Tag}
 use Rattle.asn_base.specs.Abstract.{AbstractValue, fields, list, alternative, Row, end}
 use Rattle.asn_base.specs.Names.{IsMember, is_first, is_later}
-use Rattle.asn_base.specs.Tags.{First, IsTellable}
+use Rattle.asn_base.specs.Tags.{First, HasDistinctTags}
 use Rattle.asn_base.specs.Types.{Kind, Component, Resolved}
 use Rattle.asn_base.specs.Typed.{ValueIn, value_in, ValueOf, of_leaf, of_sequence, of_set, of_sequence_of, of_set_of, of_choice, AreComponents, component_absent, component_present, AreElements, one_element}
 use Rattle.asn_base.specs.Schemas.{AreListed, IsSchema, IsSound, is_addition, types_in}
@@ -14,11 +14,11 @@ use Rattle.encodings.specs.Rules.{Rules, Basic}
 use Rattle.encodings.specs.Header.{HeaderBy}
 use Rattle.encodings.specs.Contents.{Contents, of_false, of_true, of_integer, of_enumerated, of_bits, of_named_bits, of_octets, of_null, of_oid, of_relative_oid, of_utf8, of_restricted}
 use Rattle.encodings.specs.Orders.{Permutes}
-use Rattle.encodings.specs.Encoding.{Framed, bare, innermost, outer, Unknown, no_unknown, unknown, UnknownIf, closed, extensible, last_run, Says, says, Holds, leaf, sequence, set, sequence_of, set_of, choice, Members, no_member, left_out as is_absent, member, Elements, no_element, element}
+use Rattle.encodings.specs.Encoding.{Framed, bare, innermost, outer, Unknown, no_unknown, unknown, UnknownIf, closed, extensible, last_run, EncodesTo, says, ContentsEncode, leaf, sequence, set, sequence_of, set_of, choice, Members, no_member, left_out as is_absent, member, Elements, no_element, element}
 use Rattle.encodings.specs.Levels.{levels, inner_levels, leaf_levels, member_levels, element_levels, unknown_levels}
-use Rattle.later_versions.specs.Kept.{members_of, kept, kept_row, kept_elements, left_out, left_out_of_row, left_out_of_elements}
+use Rattle.later_versions.specs.Projected.{members_of, projected, projected_row, projected_elements, left_out, left_out_of_row, left_out_of_elements}
 use Rattle.later_versions.specs.Later.{IsLaterKind, later_boolean, later_integer, later_enumerated, later_bit_string, later_named_bits, later_octet_string, later_null, later_object_identifier, later_relative_oid, later_utf8_string, later_restricted_string, later_sequence, later_set, later_sequence_of, later_set_of, later_choice, Later}
-use Rattle.version_laws.proofs.Beside.{later_here, members_are, later_members, LaterMembers, types, Beside, appended, beside, beside_of, behind, behind_member, behind_additions, all_member, mandatory_same}
+use Rattle.version_laws.proofs.Beside.{later_here, members_are, later_members, LaterMembers, types, Beside, appended, beside, beside_of, components_after, after_member, after_additions, all_member, mandatory_same}
 use Rattle.version_laws.proofs.Begun.{Begun, begun, levels_some}
 use Rattle.version_laws.proofs.Places.{element_at, member_at, kept_none}
 use Rattle.version_laws.proofs.Apart.{mapped, NoneFirst, apart_in_run, apart_in_set}
@@ -36,10 +36,10 @@ basic_frame (outer f h) = outer (basic_frame f) (basic_header h)
 
 -- contents of a kind that hold a value, with as many unknown additions, and with no more levels than m
 pub record Within (s : List Resolved) (k : Kind) (w : AbstractValue) (n : ℕ) (c : Bool) (x : List ℕ) (m : ℕ) : Type 0 where
-  pub holds : Holds s Basic k w n c x
+  pub holds : ContentsEncode s Basic k w n c x
   pub few : inner_levels holds ≤ m
 
-leaf_within : {s : List Resolved} {r : Rules} {k k' : Kind} {w : AbstractValue} {c : Bool} {x : List ℕ} (t : ℕ) → IsLaterKind s k k' → (con : Contents r k' w c x) → Within s k (kept s t w) (left_out s t w) c x (leaf_levels con)
+leaf_within : {s : List Resolved} {r : Rules} {k k' : Kind} {w : AbstractValue} {c : Bool} {x : List ℕ} (t : ℕ) → IsLaterKind s k k' → (con : Contents r k' w c x) → Within s k (projected s t w) (left_out s t w) c x (leaf_levels con)
 leaf_within t later_boolean of_false = record { holds = leaf of_false; few = omega arith }
 leaf_within t later_boolean (of_true a l e) = record { holds = leaf (of_true a l tt); few = omega arith }
 leaf_within t (later_integer q) (of_integer a) = record { holds = leaf (of_integer a); few = omega arith }
@@ -93,12 +93,12 @@ none_unknown (extensible no_unknown) e = refl
 none_unknown (extensible (unknown x h b f u)) e = absurd (omega (arith, e))
 
 -- without a marker nothing was appended
-not_closed : {s s' : List Resolved} {e : Bool} {cs ds : List Component} → Beside s s' cs ds → AreListed s' e ds → e ≡ false → (x : List ℕ) → IsRest s' (behind cs ds) x → ⊥
+not_closed : {s s' : List Resolved} {e : Bool} {cs ds : List Component} → Beside s s' cs ds → AreListed s' e ds → e ≡ false → (x : List ℕ) → IsRest s' (components_after cs ds) x → ⊥
 not_closed {cs = cs} {ds = ds} b l f x r =
     let whole = l.parts ∙ ap (λ q. l.root ++ q) (l.marked f) ∙ append-nil l.root in
     let none = subst (AllByRecursion (λ c. is_addition c ≡ false)) (sym whole) l.in_root in
-    let no = all_member (λ c. is_addition c ≡ false) ds none (behind_member cs ds r.stands) in
-    let yes = all_member (λ c. is_addition c ≡ true) (behind cs ds) (behind_additions b) r.stands in
+    let no = all_member (λ c. is_addition c ≡ false) ds none (after_member cs ds r.stands) in
+    let yes = all_member (λ c. is_addition c ≡ true) (components_after cs ds) (after_additions b) r.stands in
     let z : false ≡ true = sym no ∙ yes in cc
 
 -- the components of the earlier version, and the encodings of those that were appended
@@ -107,18 +107,18 @@ pub record MembersWithin (s s' : List Resolved) (cs ds : List Component) (ws : R
   pub more : List (List ℕ)
   pub parts : xs ≡ known ++ more
   pub count : ℕ
-  pub members : Members s Basic cs (kept_row s (types cs) ws) count known
+  pub members : Members s Basic cs (projected_row s (types cs) ws) count known
   pub counted : count + length more ≡ left_out_of_row s (types cs) ws
   pub few : member_levels members ≤ m
   pub some : 1 ≤ length more → 1 ≤ m
-  pub rests : AllByRecursion (IsRest s' (behind cs ds)) more
+  pub rests : AllByRecursion (IsRest s' (components_after cs ds)) more
 
 pub record ElementsWithin (s : List Resolved) (u : ℕ) (ws : Row) (n : ℕ) (xs : List (List ℕ)) (m : ℕ) : Type 0 where
   pub elements : Elements s Basic u ws n xs
   pub few : element_levels elements ≤ m
 
 pub record SaysWithin (s : List Resolved) (t : ℕ) (w : AbstractValue) (n : ℕ) (o : List ℕ) (m : ℕ) : Type 0 where
-  pub says_it : Says s Basic t w n o
+  pub says_it : EncodesTo s Basic t w n o
   pub few : levels says_it ≤ m
 
 -- all encodings after the components of the earlier version are rests
@@ -156,61 +156,61 @@ module _ (s s' : List Resolved) (schema : IsSchema s') where
       by no_member = omega arith
 
   mutual
-    pub older : {r : Rules} {t t' n m : ℕ} {w : AbstractValue} {o : List ℕ} → Later s t s' t' → (d : Says s' r t' w n o) → ValueIn s m t (kept s t w) → n ≡ 0 → Below o → SaysWithin s t (kept s t w) (left_out s t w) o (levels d)
+    pub older : {r : Rules} {t t' n m : ℕ} {w : AbstractValue} {o : List ℕ} → Later s t s' t' → (d : EncodesTo s' r t' w n o) → ValueIn s m t (projected s t w) → n ≡ 0 → Below o → SaysWithin s t (projected s t w) (left_out s t w) o (levels d)
     older {t = t} {w = w} {o = o} l (says {tags = ts'} {k = k'} {c = c} {x = x} j h f) (value_in {tags = ts} {k = k} i v) z b =
         let e = later_here l i j in
-        let within = holds_older t (members_are i) (later_members l i j) e.kind h v (schema.sound _ _ _ j) (schema.tellable _ _ _ j) z (below_framed f b) in
+        let within = holds_older t (members_are i) (later_members l i j) e.kind h v (schema.sound _ _ _ j) (schema.distinct_tags _ _ _ j) z (below_framed f b) in
         let frame = subst (λ q. Framed Basic q c x o) (sym e.tags) (basic_frame f) in
         let q = ap length e.tags in
         let few = within.few in
         record { says_it = says i within.holds frame; few = omega (arith, q, few) }
 
-    holds_older : {r : Rules} {k k' : Kind} {n m : ℕ} {w : AbstractValue} {c : Bool} {x : List ℕ} (t : ℕ) → members_of s t ≡ types_in k → LaterMembers s s' (types_in k) (types_in k') → IsLaterKind s k k' → (h : Holds s' r k' w n c x) → ValueOf s m k (kept s t w) → IsSound s' k' → IsTellable s' k' → n ≡ 0 → Below x → Within s k (kept s t w) (left_out s t w) c x (inner_levels h)
+    holds_older : {r : Rules} {k k' : Kind} {n m : ℕ} {w : AbstractValue} {c : Bool} {x : List ℕ} (t : ℕ) → members_of s t ≡ types_in k → LaterMembers s s' (types_in k) (types_in k') → IsLaterKind s k k' → (h : ContentsEncode s' r k' w n c x) → ValueOf s m k (projected s t w) → IsSound s' k' → HasDistinctTags s' k' → n ≡ 0 → Below x → Within s k (projected s t w) (left_out s t w) c x (inner_levels h)
     holds_older t q ms kind (leaf con) v sound apart z b = leaf_within t kind con
     holds_older {m = m} t q ms (later_sequence {e = e} {cs = cs} {ds = ds} a) (sequence {ws = ws} {xs = xs} {us = us} p u) (of_sequence v g) sound apart z b =
-        let side : Beside s s' cs ds = beside_of cs ds a.front.none_dropped a.front.kept a.appended ms in
+        let side : Beside s s' cs ds = beside_of cs ds a.front.none_dropped a.front.projected a.appended ms in
         let no_us = none_unknown u (omega arith) in
         let each = all_front Below xs us (below_each (xs ++ us) b) in
-        let r = members_older side p (subst (λ y. AreComponents s m cs (kept_row s y ws)) q v) (omega arith) each in
-        let un = unknown_rests s s' (behind cs ds) (last_run cs) (λ d y m f. apart_in_run schema side apart sound.types m f) r.more r.rests in
-        let lacks = unknown_if s' (behind cs ds) e r.more (λ f. not_closed side sound f) r.rests un in
+        let r = members_older side p (subst (λ y. AreComponents s m cs (projected_row s y ws)) q v) (omega arith) each in
+        let un = unknown_rests s s' (components_after cs ds) (last_run cs) (λ d y m f. apart_in_run schema side apart sound.types m f) r.more r.rests in
+        let lacks = unknown_if s' (components_after cs ds) e r.more (λ f. not_closed side sound f) r.rests un in
         let more = unknown_few (member_levels p) lacks r.some in
         let few = r.few in
-        within_at (ap (λ y. fields (kept_row s y ws)) (sym q)) (r.counted ∙ ap (λ y. left_out_of_row s y ws) (sym q))
+        within_at (ap (λ y. fields (projected_row s y ws)) (sym q)) (r.counted ∙ ap (λ y. left_out_of_row s y ws) (sym q))
         (ap concat (sym r.parts ∙ sym (append-nil xs) ∙ ap (λ y. xs ++ y) (sym no_us)))
         (record { holds = sequence r.members lacks; few = omega (arith, few, more) })
     holds_older {m = m} t q ms (later_set {e = e} {cs = cs} {ds = ds} a) (set {ws = ws} {xs = xs} {zs = zs} {us = us} {ys = ys} p pe st u mg) (of_set v g) sound apart z b =
-        let side : Beside s s' cs ds = beside_of cs ds a.front.none_dropped a.front.kept a.appended ms in
+        let side : Beside s s' cs ds = beside_of cs ds a.front.none_dropped a.front.projected a.appended ms in
         let no_us = none_unknown u (omega arith) in
         let alone = merged_alone mg no_us in
         let each = permuted_back Below pe (subst (AllByRecursion Below) alone (below_each ys b)) in
-        let r = members_older side p (subst (λ y. AreComponents s m cs (kept_row s y ws)) q v) (omega arith) each in
+        let r = members_older side p (subst (λ y. AreComponents s m cs (projected_row s y ws)) q v) (omega arith) each in
         let two = parted r.known r.more (subst (λ y. Permutes y zs) r.parts pe) in
-        let rests = permuted (IsRest s' (behind cs ds)) two.second r.rests in
-        let un = unknown_rests s s' (behind cs ds) cs (λ d y m f. apart_in_set schema side apart sound.0.types m f) two.more rests in
-        let lacks = unknown_if s' (behind cs ds) e two.more (λ f. not_closed side sound.0 f) rests un in
+        let rests = permuted (IsRest s' (components_after cs ds)) two.second r.rests in
+        let un = unknown_rests s s' (components_after cs ds) cs (λ d y m f. apart_in_set schema side apart sound.0.types m f) two.more rests in
+        let lacks = unknown_if s' (components_after cs ds) e two.more (λ f. not_closed side sound.0 f) rests un in
         let long = permuted_long two.second in
         let more = unknown_few (member_levels p) lacks (λ l. r.some (omega (arith, long, l))) in
         let few = r.few in
-        within_at (ap (λ y. fields (kept_row s y ws)) (sym q)) (ap (λ y. r.count + y) long ∙ r.counted ∙ ap (λ y. left_out_of_row s y ws) (sym q))
+        within_at (ap (λ y. fields (projected_row s y ws)) (sym q)) (ap (λ y. r.count + y) long ∙ r.counted ∙ ap (λ y. left_out_of_row s y ws) (sym q))
         (ap concat (sym alone))
         (record { holds = set r.members two.first tt lacks two.merged; few = omega (arith, few, more) })
     holds_older {m = m} t q ms (later_sequence_of {u = u} {v = u'} ls) (sequence_of {ws = ws} {xs = xs} es) (of_sequence_of v g) sound apart z b =
         let at = element_at s t u q in
-        let r = elements_older (ms 0 u u' refl refl) es (subst (λ y. AreElements s m u (kept_elements s y ws)) at v) z (below_each xs b) in
-        within_at (ap (λ y. list (kept_elements s y ws)) (sym at)) (ap (λ y. left_out_of_elements s y ws) (sym at)) refl
+        let r = elements_older (ms 0 u u' refl refl) es (subst (λ y. AreElements s m u (projected_elements s y ws)) at v) z (below_each xs b) in
+        within_at (ap (λ y. list (projected_elements s y ws)) (sym at)) (ap (λ y. left_out_of_elements s y ws) (sym at)) refl
         (record { holds = sequence_of r.elements; few = r.few })
     holds_older {m = m} t q ms (later_set_of {u = u} {v = u'} ls) (set_of {ws = ws} {xs = xs} es st) (of_set_of v g) sound apart z b =
         let at = element_at s t u q in
-        let r = elements_older (ms 0 u u' refl refl) es (subst (λ y. AreElements s m u (kept_elements s y ws)) at v) z (below_each xs b) in
-        within_at (ap (λ y. list (kept_elements s y ws)) (sym at)) (ap (λ y. left_out_of_elements s y ws) (sym at)) refl
+        let r = elements_older (ms 0 u u' refl refl) es (subst (λ y. AreElements s m u (projected_elements s y ws)) at v) z (below_each xs b) in
+        within_at (ap (λ y. list (projected_elements s y ws)) (sym at)) (ap (λ y. left_out_of_elements s y ws) (sym at)) refl
         (record { holds = set_of r.elements tt; few = r.few })
     holds_older {m = m} t q ms (later_choice {e = e} {root = root} {others = others} {more = more} {all = all} names front) (choice {i = i} {a = a'} {w = w} g' d) (of_choice {a = a} g v) sound apart z b =
         let here = mapped (λ y. y.type) (root ++ more) i g in
         let there = mapped (λ y. y.type) (others ++ all) i g' in
         let at = member_at s t i a.type (ap (λ y. slice_get y i) q ∙ here) in
-        let r = older (ms i a.type a'.type here there) d (subst (λ y. ValueIn s m a.type (kept s y w)) at v) z b in
-        within_at (ap (λ y. alternative i (kept s y w)) (sym at)) (ap (λ y. left_out s y w) (sym at)) refl
+        let r = older (ms i a.type a'.type here there) d (subst (λ y. ValueIn s m a.type (projected s y w)) at v) z b in
+        within_at (ap (λ y. alternative i (projected s y w)) (sym at)) (ap (λ y. left_out s y w) (sym at)) refl
         (record { holds = choice g r.says_it; few = r.few })
     holds_older t q ms (later_sequence a) (sequence p u) (of_leaf f) sound apart z b = elim f [ ]
     holds_older t q ms (later_set a) (set p pe st u mg) (of_leaf f) sound apart z b = elim f [ ]
@@ -218,7 +218,7 @@ module _ (s s' : List Resolved) (schema : IsSchema s') where
     holds_older t q ms (later_set_of ls) (set_of es st) (of_leaf f) sound apart z b = elim f [ ]
     holds_older t q ms (later_choice names front) (choice g d) (of_leaf f) sound apart z b = elim f [ ]
 
-    members_older : {r : Rules} {cs ds : List Component} {ws : Row} {j m : ℕ} {xs : List (List ℕ)} → Beside s s' cs ds → (ms : Members s' r ds ws j xs) → AreComponents s m cs (kept_row s (types cs) ws) → j ≡ 0 → AllByRecursion Below xs → MembersWithin s s' cs ds ws xs (member_levels ms)
+    members_older : {r : Rules} {cs ds : List Component} {ws : Row} {j m : ℕ} {xs : List (List ℕ)} → Beside s s' cs ds → (ms : Members s' r ds ws j xs) → AreComponents s m cs (projected_row s (types cs) ws) → j ≡ 0 → AllByRecursion Below xs → MembersWithin s s' cs ds ws xs (member_levels ms)
     members_older {ws = ws} {xs = xs} (appended a) ms v z b =
         let r = all_rests ms b in
         record {
@@ -263,7 +263,7 @@ module _ (s s' : List Resolved) (schema : IsSchema s') where
           rests = r.rests;
         }
 
-    elements_older : {r : Rules} {u u' n m : ℕ} {ws : Row} {xs : List (List ℕ)} → Later s u s' u' → (es : Elements s' r u' ws n xs) → AreElements s m u (kept_elements s u ws) → n ≡ 0 → AllByRecursion Below xs → ElementsWithin s u (kept_elements s u ws) (left_out_of_elements s u ws) xs (element_levels es)
+    elements_older : {r : Rules} {u u' n m : ℕ} {ws : Row} {xs : List (List ℕ)} → Later s u s' u' → (es : Elements s' r u' ws n xs) → AreElements s m u (projected_elements s u ws) → n ≡ 0 → AllByRecursion Below xs → ElementsWithin s u (projected_elements s u ws) (left_out_of_elements s u ws) xs (element_levels es)
     elements_older l no_element v z b = record { elements = no_element; few = omega arith }
     elements_older l (element a es) (one_element v vs) z b =
         let one = older l a v (omega arith) b.0 in

@@ -5,12 +5,12 @@ use Rattle.std.specs.Prelude.{slice_get, Option, Some, None}
 use Rattle.asn_base.specs.declared.tag.Tag.{Tag}
 use Rattle.asn_base.specs.Abstract.{AbstractValue, Row}
 use Rattle.asn_base.specs.Types.{Kind, Presence, mandatory, optional, default, addition, Component, Resolved, Is}
-use Rattle.asn_base.specs.Typed.{group_of, Fits, fits_boolean, fits_integer, fits_enumerated, fits_bits, fits_named_bits, fits_octets, fits_null, fits_oid, fits_relative_oid, fits_utf8, fits_restricted, ValueIn, value_in, ValueOf, of_leaf, of_sequence, of_set, of_sequence_of, of_set_of, of_choice, MayBeAbsent, where_default, AreComponents, no_component, component_absent, component_present, AreElements, no_element, one_element}
+use Rattle.asn_base.specs.Typed.{group_of, IsPrimitive, fits_boolean, fits_integer, fits_enumerated, fits_bits, fits_named_bits, fits_octets, fits_null, fits_oid, fits_relative_oid, fits_utf8, fits_restricted, ValueIn, value_in, ValueOf, of_leaf, of_sequence, of_set, of_sequence_of, of_set_of, of_choice, MayBeAbsent, where_default, AreComponents, no_component, component_absent, component_present, AreElements, no_element, one_element}
 use Rattle.asn_base.specs.Same.{Inserted, here, there, Alike, alike, AlikeBy, equal, zeros, alike_sequence, alike_set, alike_sequence_of, alike_set_of, alike_choice, AlikeComponents, no_components, both_absent, both_present, first_default, second_default, AlikeElements, no_elements, alike_element, AlikeInAnyOrder, none_left, pair}
 use Rattle.asn_base.specs.Schemas.{components, types_in}
-use Rattle.later_versions.specs.Kept.{members_of, member_of, kept, kept_row, kept_elements, left_out, left_out_of_row, left_out_of_elements}
+use Rattle.later_versions.specs.Projected.{members_of, member_of, projected, projected_row, projected_elements, left_out, left_out_of_row, left_out_of_elements}
 use Rattle.later_versions.specs.Later.{IsMarkedAlike, IsLaterKind, later_named_bits, later_sequence, later_set, later_sequence_of, later_set_of, later_choice, Later}
-use Rattle.packed_encodings.specs.Orders.{Member, missing, standing, any_stands, Beside as MembersBeside, beside_none, beside_absent, beside_present, Addition, alone, bracketed, is_of_group, in_front, additions}
+use Rattle.packed_encodings.specs.Orders.{Member, missing, standing, any_present, Beside as MembersBeside, beside_none, beside_absent, beside_present, Addition, alone, bracketed, is_of_group, in_front, additions}
 use Rattle.version_laws.specs.LeftOut.{components_of, members_in, present_additions, left_out_packed, left_out_of_components, left_out_of_items}
 use Rattle.version_laws.proofs.Beside.{later_here, members_are, later_members, LaterMembers, types, AreAdditions, Beside, appended, beside, beside_of}
 use Rattle.version_laws.proofs.Apart.{mapped}
@@ -18,7 +18,7 @@ use Rattle.version_laws.proofs.Places.{element_at, member_at}
 use Rattle.version_laws.proofs.Alikes.{Laws, alike_kept, earlier}
 use Rattle.version_laws.proofs.Back.{same_kind}
 use Rattle.version_laws.proofs.NewerAlike.{same_choice}
-use Rattle.version_laws.proofs.PackedPairs.{OfComponents, OfValues, both_missing, both_standing, AdditionsMatched, only_more, present_matched, one_more_addition}
+use Rattle.version_laws.proofs.PackedPairs.{OfComponents, OfValues, both_missing, both_sides_present, AdditionsMatched, only_more, present_matched, one_more_addition}
 
 pub components_are : {s : List Resolved} {t : ℕ} {tags : List Tag} {k : Kind} → Is s t tags k → components_of s t ≡ components k
 components_are i = ap (λ o. elim o [ None ↦ [] | Some r ↦ components r.kind ]) i.found
@@ -47,11 +47,11 @@ abbrev one_if : Member AbstractValue → ℕ
 one_if (missing c) = 0
 one_if (standing c v) = 1
 
-own_brackets : (m : Member AbstractValue) (n : ℕ) → BothZero (one_if m + n) (cond (any_stands (m ∷ [])) (suc n) n)
+own_brackets : (m : Member AbstractValue) (n : ℕ) → BothZero (one_if m + n) (cond (any_present (m ∷ [])) (suc n) n)
 own_brackets (missing c) n = record { forth = λ e. omega (arith, e); back = λ e. omega (arith, e) }
 own_brackets (standing c v) n = record { forth = λ e. omega (arith, e); back = λ e. omega (arith, e) }
 
-same_brackets : (m : Member AbstractValue) (ms : List (Member AbstractValue)) (n : ℕ) → BothZero (one_if m + cond (any_stands ms) (suc n) n) (cond (any_stands (m ∷ ms)) (suc n) n)
+same_brackets : (m : Member AbstractValue) (ms : List (Member AbstractValue)) (n : ℕ) → BothZero (one_if m + cond (any_present ms) (suc n) n) (cond (any_present (m ∷ ms)) (suc n) n)
 same_brackets (missing c) ms n = record { forth = λ e. omega (arith, e); back = λ e. omega (arith, e) }
 same_brackets (standing c v) ms n = record { forth = λ e. omega (arith, e); back = λ e. omega (arith, e) }
 
@@ -80,7 +80,7 @@ rest_zero s (component_absent {c = c} {cs = cs} {vs = vs} mb v) =
 rest_zero s (component_present {c = c} {cs = cs} {v = x} {vs = vs} y v) =
     zero_then 1 (rest_zero s v) (front_zero (group_of c.presence) (standing c x) (additions (members_in cs vs))) (omega arith)
 
-leaf_zero : {k : Kind} {v : AbstractValue} (s s' : List Resolved) (t t' : ℕ) → Fits k v → BothZero (left_out s t v) (left_out_packed s t s' t' v)
+leaf_zero : {k : Kind} {v : AbstractValue} (s s' : List Resolved) (t t' : ℕ) → IsPrimitive k v → BothZero (left_out s t v) (left_out_packed s t s' t' v)
 leaf_zero s s' t t' fits_boolean = both_zero
 leaf_zero s s' t t' (fits_integer a b) = both_zero
 leaf_zero s s' t t' (fits_enumerated a b) = both_zero
@@ -148,7 +148,7 @@ rests_matched a (both_absent {c = c} {cs = cs} r) =
     record { number = p.number; first = beside_absent p.first; second = beside_absent p.second; matched = one_more_addition {cs = cs} {ds = cs} (both_missing {c = c} {d = c} refl) refl refl p.first p.second p.matched (omega arith) }
 rests_matched a (both_present {c = c} {cs = cs} {v = v} {w = w} x r) =
     let p = rests_matched a.1 r in
-    record { number = p.number; first = beside_present p.first; second = beside_present p.second; matched = one_more_addition {cs = cs} {ds = cs} (both_standing {c = c} {d = c} {v = v} {w = w} {k = 0} refl refl) refl refl p.first p.second p.matched (omega arith) }
+    record { number = p.number; first = beside_present p.first; second = beside_present p.second; matched = one_more_addition {cs = cs} {ds = cs} (both_sides_present {c = c} {d = c} {v = v} {w = w} {k = 0} refl refl) refl refl p.first p.second p.matched (omega arith) }
 rests_matched a (first_default {c = c} {d = d} e x r) = absurd (no_default c.presence d a.0 e)
 rests_matched a (second_default {c = c} {d = d} e x r) = absurd (no_default c.presence d a.0 e)
 
@@ -172,38 +172,38 @@ inserted_values (there i) (one_element x v) = let r = inserted_values i v in (r.
 
 module _ (laws : Laws) (s s' : List Resolved) where
   -- nothing is left out of what is the same as its default
-  default_zero : {t t' m n : ℕ} {p q : Presence} {e w : AbstractValue} → Later s t s' t' → IsMarkedAlike s t p q → q ≡ default e → Alike s' t' e w → ValueIn s n t (kept s t e) → ValueIn s' m t' w → left_out_packed s t s' t' w ≡ 0
+  default_zero : {t t' m n : ℕ} {p q : Presence} {e w : AbstractValue} → Later s t s' t' → IsMarkedAlike s t p q → q ≡ default e → Alike s' t' e w → ValueIn s n t (projected s t e) → ValueIn s' m t' w → left_out_packed s t s' t' w ≡ 0
   default_zero {t = t} l mk f a x y =
       let d = earlier mk f in
       (zero_both s s' t y).forth (sym (alike_kept laws s s' l a x).out ∙ d.none_out)
 
   mutual
-    pub same_count : {t t' m m' n : ℕ} {v w : AbstractValue} → Later s t s' t' → Alike s' t' v w → ValueIn s n t (kept s t v) → ValueIn s' m t' v → ValueIn s' m' t' w → left_out_packed s t s' t' v ≡ left_out_packed s t s' t' w
+    pub same_count : {t t' m m' n : ℕ} {v w : AbstractValue} → Later s t s' t' → Alike s' t' v w → ValueIn s n t (projected s t v) → ValueIn s' m t' v → ValueIn s' m' t' w → left_out_packed s t s' t' v ≡ left_out_packed s t s' t' w
     same_count {t} {t'} {m} {m'} {v = v} {w = w} l (alike j a) (value_in i x) (value_in {n = mv} jv y) (value_in {n = mw} jw z) =
         by_count t t' (members_are i) (members_are j) (components_are j) (later_members l i j) (later_here l i j).kind a x
         (subst (λ q. ValueOf s' mv q v) (same_kind jv j) y) (subst (λ q. ValueOf s' mw q w) (same_kind jw j) z)
 
-    by_count : {k k' : Kind} {m m' n : ℕ} {v w : AbstractValue} (t t' : ℕ) → members_of s t ≡ types_in k → members_of s' t' ≡ types_in k' → components_of s' t' ≡ components k' → LaterMembers s s' (types_in k) (types_in k') → IsLaterKind s k k' → AlikeBy s' k' v w → ValueOf s n k (kept s t v) → ValueOf s' m k' v → ValueOf s' m' k' w → left_out_packed s t s' t' v ≡ left_out_packed s t s' t' w
+    by_count : {k k' : Kind} {m m' n : ℕ} {v w : AbstractValue} (t t' : ℕ) → members_of s t ≡ types_in k → members_of s' t' ≡ types_in k' → components_of s' t' ≡ components k' → LaterMembers s s' (types_in k) (types_in k') → IsLaterKind s k k' → AlikeBy s' k' v w → ValueOf s n k (projected s t v) → ValueOf s' m k' v → ValueOf s' m' k' w → left_out_packed s t s' t' v ≡ left_out_packed s t s' t' w
     by_count t t' p q c ms kind (equal leaf) x y z = refl
     by_count t t' p q c ms (later_named_bits b) (zeros m n e) x y z = refl
     by_count {n = n} t t' p q c ms (later_sequence {cs = cs} {ds = ds} a) (alike_sequence {vs = vs} {ws = ws} r) (of_sequence x g) (of_sequence y g') (of_sequence z g'') =
-        let side = beside_of cs ds a.front.none_dropped a.front.kept a.appended ms in
-        let k = rows_count side r (subst (λ u. AreComponents s n cs (kept_row s u vs)) p x) y z in
+        let side = beside_of cs ds a.front.none_dropped a.front.projected a.appended ms in
+        let k = rows_count side r (subst (λ u. AreComponents s n cs (projected_row s u vs)) p x) y z in
         ap (λ u. left_out_of_components s u s' (components_of s' t') vs) p ∙ ap (λ u. left_out_of_components s (types cs) s' u vs) c ∙ k
         ∙ sym (ap (λ u. left_out_of_components s u s' (components_of s' t') ws) p ∙ ap (λ u. left_out_of_components s (types cs) s' u ws) c)
     by_count {n = n} t t' p q c ms (later_set {cs = cs} {ds = ds} a) (alike_set {vs = vs} {ws = ws} r) (of_set x g) (of_set y g') (of_set z g'') =
-        let side = beside_of cs ds a.front.none_dropped a.front.kept a.appended ms in
-        let k = rows_count side r (subst (λ u. AreComponents s n cs (kept_row s u vs)) p x) y z in
+        let side = beside_of cs ds a.front.none_dropped a.front.projected a.appended ms in
+        let k = rows_count side r (subst (λ u. AreComponents s n cs (projected_row s u vs)) p x) y z in
         ap (λ u. left_out_of_components s u s' (components_of s' t') vs) p ∙ ap (λ u. left_out_of_components s (types cs) s' u vs) c ∙ k
         ∙ sym (ap (λ u. left_out_of_components s u s' (components_of s' t') ws) p ∙ ap (λ u. left_out_of_components s (types cs) s' u ws) c)
     by_count {n = n} t t' p q c ms (later_sequence_of {u = u} {v = u'} ls) (alike_sequence_of {vs = vs} {ws = ws} r) (of_sequence_of x g) (of_sequence_of y g') (of_sequence_of z g'') =
         let at = element_at s t u p in
-        let k = elements_count (ms 0 u u' refl refl) r (subst (λ o. AreElements s n u (kept_elements s o vs)) at x) y z in
+        let k = elements_count (ms 0 u u' refl refl) r (subst (λ o. AreElements s n u (projected_elements s o vs)) at x) y z in
         ap (λ o. left_out_of_items s o s' (member_of s' t' 0) vs) at ∙ ap (λ o. left_out_of_items s u s' o vs) (element_at s' t' u' q) ∙ k
         ∙ sym (ap (λ o. left_out_of_items s o s' (member_of s' t' 0) ws) at ∙ ap (λ o. left_out_of_items s u s' o ws) (element_at s' t' u' q))
     by_count {n = n} t t' p q c ms (later_set_of {u = u} {v = u'} ls) (alike_set_of {vs = vs} {ws = ws} r) (of_set_of x g) (of_set_of y g') (of_set_of z g'') =
         let at = element_at s t u p in
-        let k = any_order_count (ms 0 u u' refl refl) r (subst (λ o. AreElements s n u (kept_elements s o vs)) at x) y z in
+        let k = any_order_count (ms 0 u u' refl refl) r (subst (λ o. AreElements s n u (projected_elements s o vs)) at x) y z in
         ap (λ o. left_out_of_items s o s' (member_of s' t' 0) vs) at ∙ ap (λ o. left_out_of_items s u s' o vs) (element_at s' t' u' q) ∙ k
         ∙ sym (ap (λ o. left_out_of_items s o s' (member_of s' t' 0) ws) at ∙ ap (λ o. left_out_of_items s u s' o ws) (element_at s' t' u' q))
     by_count {m = m} {m' = m'} {n = n} t t' p q c ms (later_choice {root = root} {others = others} {more = more} {all = all} names front) (alike_choice {i = i} {a = a'} {v = v} {w = w} g' r) (of_choice {a = a} g x) (of_choice hy y) (of_choice hz z) =
@@ -213,7 +213,7 @@ module _ (laws : Laws) (s s' : List Resolved) where
         let at' = member_at s' t' i a'.type (ap (λ o. slice_get o i) q ∙ other) in
         let y' = subst (λ o. ValueIn s' m o v) (same_choice (others ++ all) i hy g') y in
         let z' = subst (λ o. ValueIn s' m' o w) (same_choice (others ++ all) i hz g') z in
-        let k = same_count (ms i a.type a'.type one other) r (subst (λ o. ValueIn s n a.type (kept s o v)) at x) y' z' in
+        let k = same_count (ms i a.type a'.type one other) r (subst (λ o. ValueIn s n a.type (projected s o v)) at x) y' z' in
         ap (λ o. left_out_packed s o s' (member_of s' t' i) v) at ∙ ap (λ o. left_out_packed s a.type s' o v) at' ∙ k
         ∙ sym (ap (λ o. left_out_packed s o s' (member_of s' t' i) w) at ∙ ap (λ o. left_out_packed s a.type s' o w) at')
     by_count t t' p q c ms (later_sequence a) (alike_sequence r) (of_leaf f) y z = elim f [ ]
@@ -232,14 +232,14 @@ module _ (laws : Laws) (s s' : List Resolved) where
     by_count t t' p q c ms kind (alike_set_of r) x y (of_leaf f) = elim f [ ]
     by_count t t' p q c ms kind (alike_choice g r) x y (of_leaf f) = elim f [ ]
 
-    rows_count : {cs ds : List Component} {m m' n : ℕ} {vs ws : Row} → Beside s s' cs ds → AlikeComponents s' ds vs ws → AreComponents s n cs (kept_row s (types cs) vs) → AreComponents s' m ds vs → AreComponents s' m' ds ws → left_out_of_components s (types cs) s' ds vs ≡ left_out_of_components s (types cs) s' ds ws
+    rows_count : {cs ds : List Component} {m m' n : ℕ} {vs ws : Row} → Beside s s' cs ds → AlikeComponents s' ds vs ws → AreComponents s n cs (projected_row s (types cs) vs) → AreComponents s' m ds vs → AreComponents s' m' ds ws → left_out_of_components s (types cs) s' ds vs ≡ left_out_of_components s (types cs) s' ds ws
     rows_count (appended a) r x y z = rests_same a r
     rows_count (beside l mk b) (both_absent r) (component_absent mb x) (component_absent my y) (component_absent mz z) = rows_count b r x y z
     rows_count (beside l mk b) (both_present a r) (component_present x xs) (component_present y ys) (component_present z zs) =
         sums_same (same_count l a x y z) (rows_count b r xs ys zs)
     rows_count {n = n} (beside {c = c} l mk b) (first_default {d = e} f a r) (component_absent mb xs) (component_absent my ys) (component_present z zs) =
         let d = earlier mk f in
-        let here = laws.levels s 64 n c.type d.value (kept s c.type e) d.same.are_alike (levels_of mb d.is) d.same.second in
+        let here = laws.levels s 64 n c.type d.value (projected s c.type e) d.same.are_alike (levels_of mb d.is) d.same.second in
         let none = default_zero l mk f a here z in
         let k = rows_count b r xs ys zs in
         omega (arith, none, k)
@@ -250,11 +250,11 @@ module _ (laws : Laws) (s s' : List Resolved) where
         let rest = rows_count b r xs ys zs in
         omega (arith, none, rest)
 
-    elements_count : {u u' m m' n : ℕ} {vs ws : Row} → Later s u s' u' → AlikeElements s' u' vs ws → AreElements s n u (kept_elements s u vs) → AreElements s' m u' vs → AreElements s' m' u' ws → left_out_of_items s u s' u' vs ≡ left_out_of_items s u s' u' ws
+    elements_count : {u u' m m' n : ℕ} {vs ws : Row} → Later s u s' u' → AlikeElements s' u' vs ws → AreElements s n u (projected_elements s u vs) → AreElements s' m u' vs → AreElements s' m' u' ws → left_out_of_items s u s' u' vs ≡ left_out_of_items s u s' u' ws
     elements_count l no_elements x y z = refl
     elements_count l (alike_element a r) (one_element x xs) (one_element y ys) (one_element z zs) = sums_same (same_count l a x y z) (elements_count l r xs ys zs)
 
-    any_order_count : {u u' m m' n : ℕ} {vs ws : Row} → Later s u s' u' → AlikeInAnyOrder s' u' vs ws → AreElements s n u (kept_elements s u vs) → AreElements s' m u' vs → AreElements s' m' u' ws → left_out_of_items s u s' u' vs ≡ left_out_of_items s u s' u' ws
+    any_order_count : {u u' m m' n : ℕ} {vs ws : Row} → Later s u s' u' → AlikeInAnyOrder s' u' vs ws → AreElements s n u (projected_elements s u vs) → AreElements s' m u' vs → AreElements s' m' u' ws → left_out_of_items s u s' u' vs ≡ left_out_of_items s u s' u' ws
     any_order_count l none_left x y z = refl
     any_order_count {u} {u'} l (pair a r i) (one_element x xs) (one_element y ys) z =
         let zs = inserted_values i z in

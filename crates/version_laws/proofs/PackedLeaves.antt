@@ -8,16 +8,16 @@ use Rattle.asn_base.specs.Abstract.{AbstractValue, enumerated}
 use Rattle.asn_base.specs.Types.{Item, Alternative, Kind, an_enumerated, Resolved}
 use Rattle.asn_base.specs.Typed.{HasNumber, fits_enumerated, ValueOf, of_leaf}
 use Rattle.asn_base.specs.Schemas.{HasTag, IsSound, AreItems, NumbersAscend}
-use Rattle.later_versions.specs.Kept.{kept}
+use Rattle.later_versions.specs.Projected.{projected}
 use Rattle.later_versions.specs.Later.{IsFront, IsLaterKind, later_boolean, later_integer, later_enumerated, later_bit_string, later_named_bits, later_octet_string, later_null, later_object_identifier, later_relative_oid, later_utf8_string, later_restricted_string, later_sequence, later_set, later_sequence_of, later_set_of, later_choice}
 use Rattle.bits.specs.Words.{word}
 use Rattle.packed_encodings.specs.Lengths.{Bits, Sized}
 use Rattle.packed_encodings.specs.Numbers.{Integer}
-use Rattle.packed_encodings.specs.Leaves.{singly, ItemBits, root_item, added_item, Leaf, of_boolean, of_integer, of_enumerated, of_bits, of_named_bits, of_octets, of_null, of_oid, of_relative_oid, of_utf8, of_restricted}
-use Rattle.packed_encodings.specs.Orders.{tag_at, both_before, rank}
-use Rattle.packed_encodings.specs.Packing.{lenient, Holds, leaf}
+use Rattle.packed_encodings.specs.Leaves.{singly, ItemBits, root_item, added_item, LeafPer, of_boolean, of_integer, of_enumerated, of_bits, of_named_bits, of_octets, of_null, of_oid, of_relative_oid, of_utf8, of_restricted}
+use Rattle.packed_encodings.specs.Orders.{tag_at, both_before, canonical_place}
+use Rattle.packed_encodings.specs.Packing.{lenient, EncodesKindPer, leaf}
 use Rattle.version_laws.specs.LeftOut.{left_out_packed}
-use Rattle.version_laws.specs.Widened.{widened}
+use Rattle.version_laws.specs.Lifted.{lifted}
 use Rattle.version_laws.proofs.Beside.{LaterMembers}
 use Rattle.version_laws.proofs.Apart.{nothing, there, within, mapped, all_at, has_type}
 use Rattle.version_laws.proofs.PackedSides.{tag_same}
@@ -53,7 +53,7 @@ later_item {more} {all} {x} i front e =
     let l = within more i e in
     let m = front.none_dropped in
     let b = there all i (omega (arith, l, m)) in
-    b.1 ∙ ap (λ o. Some o) (sym (front.kept i x b.0 e b.1))
+    b.1 ∙ ap (λ o. Some o) (sym (front.projected i x b.0 e b.1))
 
 item_older : {root more all : List Item} {e : Bool} {z : ℤ} {b : Bits} → IsFront (λ a c. a ≡ c) more all → AreItems e root all → HasNumber (root ++ more) z → ItemBits root e all z b → ItemBits root e more z b
 item_older front sound h (root_item i x g f) = root_item i x g f
@@ -76,7 +76,7 @@ items_fit {root = root} {more = more} (of_leaf (fits_enumerated {z = y} a b)) e 
     number_of : {a b : ℤ} → enumerated a ≡ enumerated b → a ≡ b
     number_of e = cc
 
-pub leaf_older : {s : List Resolved} {k k' : Kind} {v : AbstractValue} {b : Bits} {n : ℕ} (s' : List Resolved) (t t' : ℕ) → IsLaterKind s k k' → Leaf k' v b → ValueOf s n k (kept s t v) → IsSound s' k' → Holds s lenient k (kept s t v) (left_out_packed s t s' t' v) b
+pub leaf_older : {s : List Resolved} {k k' : Kind} {v : AbstractValue} {b : Bits} {n : ℕ} (s' : List Resolved) (t t' : ℕ) → IsLaterKind s k k' → LeafPer k' v b → ValueOf s n k (projected s t v) → IsSound s' k' → EncodesKindPer s lenient k (projected s t v) (left_out_packed s t s' t' v) b
 leaf_older s' t t' later_boolean of_boolean x sound = leaf of_boolean
 leaf_older s' t t' (later_integer q) (of_integer {z = z} {b = b} a) x sound = leaf (of_integer (subst (λ o. Integer o z b) (sym q.visible) a))
 leaf_older s' t t' (later_enumerated q) (of_enumerated a) x sound = leaf (of_enumerated (item_older q sound (items_fit x refl) a))
@@ -94,7 +94,7 @@ leaf_older s' t t' (later_sequence_of q) a x sound = elim a [ ]
 leaf_older s' t t' (later_set_of q) a x sound = elim a [ ]
 leaf_older s' t t' (later_choice q f) a x sound = elim a [ ]
 
-pub leaf_newer : {s : List Resolved} {k k' : Kind} {v : AbstractValue} {b : Bits} (s' : List Resolved) (t' : ℕ) → IsLaterKind s k k' → Leaf k v b → Holds s' lenient k' (widened s' t' v) 0 b
+pub leaf_newer : {s : List Resolved} {k k' : Kind} {v : AbstractValue} {b : Bits} (s' : List Resolved) (t' : ℕ) → IsLaterKind s k k' → LeafPer k v b → EncodesKindPer s' lenient k' (lifted s' t' v) 0 b
 leaf_newer s' t' later_boolean of_boolean = leaf of_boolean
 leaf_newer s' t' (later_integer q) (of_integer {z = z} {b = b} a) = leaf (of_integer (subst (λ o. Integer o z b) q.visible a))
 leaf_newer s' t' (later_enumerated q) (of_enumerated a) = leaf (of_enumerated (item_newer q a))
@@ -120,13 +120,13 @@ one_if b = cond b 1 0
 pub rank_same : (s s' : List Resolved) (root others : List Alternative) (t t' : ℕ) → length root ≡ length others
     → ((i : ℕ) (a b : Alternative) → slice_get root i ≡ Some a → slice_get others i ≡ Some b → tag_at s a.type ≡ tag_at s' b.type)
     → tag_at s t ≡ tag_at s' t'
-    → rank s root t ≡ rank s' others t'
+    → canonical_place s root t ≡ canonical_place s' others t'
 rank_same s s' [] [] t t' l h e = refl
 rank_same s s' [] (b ∷ others) t t' l h e = absurd (omega (arith, l))
 rank_same s s' (a ∷ root) [] t t' l h e = absurd (omega (arith, l))
 rank_same s s' (a ∷ root) (b ∷ others) t t' l h e =
-    ap (λ o. one_if (both_before o (tag_at s t)) + rank s root t) (h 0 a b refl refl)
-    ∙ ap (λ o. one_if (both_before (tag_at s' b.type) o) + rank s root t) e
+    ap (λ o. one_if (both_before o (tag_at s t)) + canonical_place s root t) (h 0 a b refl refl)
+    ∙ ap (λ o. one_if (both_before (tag_at s' b.type) o) + canonical_place s root t) e
     ∙ ap (λ n. one_if (both_before (tag_at s' b.type) (tag_at s' t')) + n) (rank_same s s' root others t t' (omega (arith, l)) (λ i x y f g. h (suc i) x y f g) e)
 
 pub at_front : {A : Type 0} {x : A} (xs ys : List A) (i : ℕ) → slice_get xs i ≡ Some x → slice_get (xs ++ ys) i ≡ Some x
@@ -160,5 +160,5 @@ module _ (s s' : List Resolved) (root more others all : List Alternative) (ms : 
       tag_same s s' a.type b.type (ms i a.type b.type (mapped (λ o. o.type) (root ++ more) i x) (mapped (λ o. o.type) (others ++ all) i y))
       (has_type s a.type (all_at (λ o. HasTag s o.type) (root ++ more) i th x)) (has_type s' b.type (all_at (λ o. HasTag s' o.type) (others ++ all) i th' y))
 
-  pub ranks_same : (i : ℕ) {a b : Alternative} → length root ≡ length others → slice_get root i ≡ Some a → slice_get others i ≡ Some b → rank s root a.type ≡ rank s' others b.type
+  pub ranks_same : (i : ℕ) {a b : Alternative} → length root ≡ length others → slice_get root i ≡ Some a → slice_get others i ≡ Some b → canonical_place s root a.type ≡ canonical_place s' others b.type
   ranks_same i {a} {b} l f g = rank_same s s' root others a.type b.type l tags_at (tags_at i a b f g)

@@ -5,7 +5,7 @@ use Rattle.asn_base.specs.Abstract.{AbstractValue, Row}
 use Rattle.asn_base.specs.Types.{Component, Resolved}
 use Rattle.asn_base.specs.Typed.{group_of}
 use Rattle.asn_base.specs.Schemas.{is_addition}
-use Rattle.packed_encodings.specs.Orders.{tag_at, both_before, stands_before, Member, missing, standing, component, any_stands, Beside, beside_none, beside_absent, beside_present, root_of, behind_marker, placed, canonical, Addition, alone, bracketed, is_of_group, in_front, additions}
+use Rattle.packed_encodings.specs.Orders.{tag_at, both_before, precedes, Member, missing, standing, component, any_present, Beside, beside_none, beside_absent, beside_present, root_members, past_marker, placed_by_tag, canonical, Addition, alone, bracketed, is_of_group, in_front, additions}
 use Rattle.version_laws.specs.LeftOut.{present_additions}
 
 abbrev pub OfComponents : Type 1
@@ -17,7 +17,7 @@ OfValues = Component → Component → AbstractValue → AbstractValue → ℕ �
 -- both members are absent, or both are present, with values of which V holds for the number k
 pub data Matched (C : OfComponents) (V : OfValues) : Member AbstractValue → Member AbstractValue → ℕ → Type 0 where
   both_missing : {c d : Component} → C c d → Matched C V (missing c) (missing d) 0
-  both_standing : {c d : Component} {v w : AbstractValue} {k : ℕ} → C c d → V c d v w k → Matched C V (standing c v) (standing d w) k
+  both_sides_present : {c d : Component} {v w : AbstractValue} {k : ℕ} → C c d → V c d v w k → Matched C V (standing c v) (standing d w) k
 
 -- the members are matched one by one, and k is the sum of their numbers
 pub data AllMatched (C : OfComponents) (V : OfValues) : List (Member AbstractValue) → List (Member AbstractValue) → ℕ → Type 0 where
@@ -47,19 +47,19 @@ pub data AdditionsMatched (C : OfComponents) (V : OfValues) : List (Addition Abs
 one_tag : {C : OfComponents} {V : OfValues} (s s' : List Resolved) → ((c d : Component) → C c d → tag_at s c.type ≡ tag_at s' d.type)
     → {m n : Member AbstractValue} {k : ℕ} → Matched C V m n k → tag_at s (component m).type ≡ tag_at s' (component n).type
 one_tag s s' tags (both_missing {c = c} {d = d} a) = tags c d a
-one_tag s s' tags (both_standing {c = c} {d = d} a v) = tags c d a
+one_tag s s' tags (both_sides_present {c = c} {d = d} a v) = tags c d a
 
 module _ {C : OfComponents} {V : OfValues} (s s' : List Resolved) (tags : (c d : Component) → C c d → tag_at s c.type ≡ tag_at s' d.type) where
-  before_same : {m n x y : Member AbstractValue} {j k : ℕ} → Matched C V m n j → Matched C V x y k → stands_before s (component x).type (component m).type ≡ stands_before s' (component y).type (component n).type
+  before_same : {m n x y : Member AbstractValue} {j k : ℕ} → Matched C V m n j → Matched C V x y k → precedes s (component x).type (component m).type ≡ precedes s' (component y).type (component n).type
   before_same {m} {n} {x} {y} a b =
       ap (λ q. both_before q (tag_at s (component m).type)) (one_tag s s' tags b) ∙ ap (λ q. both_before (tag_at s' (component y).type) q) (one_tag s s' tags a)
 
-  placed_matched : {m n : Member AbstractValue} {ms ns : List (Member AbstractValue)} {i j k : ℕ} → Matched C V m n i → AllMatched C V ms ns j → k ≡ i + j → AllMatched C V (placed s m ms) (placed s' n ns) k
+  placed_matched : {m n : Member AbstractValue} {ms ns : List (Member AbstractValue)} {i j k : ℕ} → Matched C V m n i → AllMatched C V ms ns j → k ≡ i + j → AllMatched C V (placed_by_tag s m ms) (placed_by_tag s' n ns) k
   placed_matched a (none_matched z) e = more_matched a (none_matched z) e
   placed_matched {m} {n} {i = i} {j = j} {k = k} a (more_matched {m = x} {n = y} {ms = ms} {ns = ns} {i = i'} {j = j'} b p f) e =
-      by (stands_before s (component x).type (component m).type) (stands_before s' (component y).type (component n).type) (before_same a b) (placed_matched {k = i + j'} a p refl)
+      by (precedes s (component x).type (component m).type) (precedes s' (component y).type (component n).type) (before_same a b) (placed_matched {k = i + j'} a p refl)
     where
-      by : (t u : Bool) → t ≡ u → AllMatched C V (placed s m ms) (placed s' n ns) (i + j') → AllMatched C V (cond t (x ∷ placed s m ms) (m ∷ (x ∷ ms))) (cond u (y ∷ placed s' n ns) (n ∷ (y ∷ ns))) k
+      by : (t u : Bool) → t ≡ u → AllMatched C V (placed_by_tag s m ms) (placed_by_tag s' n ns) (i + j') → AllMatched C V (cond t (x ∷ placed_by_tag s m ms) (m ∷ (x ∷ ms))) (cond u (y ∷ placed_by_tag s' n ns) (n ∷ (y ∷ ns))) k
       by true true g r = more_matched b r (omega (arith, e, f))
       by true false g r = absurd (cc)
       by false true g r = absurd (cc)
@@ -71,15 +71,15 @@ module _ {C : OfComponents} {V : OfValues} (s s' : List Resolved) (tags : (c d :
 
 -- ---- what is present
 
-pub any_same : {C : OfComponents} {V : OfValues} {ms ns : List (Member AbstractValue)} {k : ℕ} → AllMatched C V ms ns k → any_stands ms ≡ any_stands ns
+pub any_same : {C : OfComponents} {V : OfValues} {ms ns : List (Member AbstractValue)} {k : ℕ} → AllMatched C V ms ns k → any_present ms ≡ any_present ns
 any_same (none_matched z) = refl
 any_same (more_matched (both_missing a) p e) = any_same p
-any_same (more_matched (both_standing a v) p e) = refl
+any_same (more_matched (both_sides_present a v) p e) = refl
 
-pub none_there : {C : OfComponents} {V : OfValues} {ms ns : List (Member AbstractValue)} {k : ℕ} → AllMatched C V ms ns k → any_stands ns ≡ false → k ≡ 0
+pub none_there : {C : OfComponents} {V : OfValues} {ms ns : List (Member AbstractValue)} {k : ℕ} → AllMatched C V ms ns k → any_present ns ≡ false → k ≡ 0
 none_there (none_matched z) f = z
 none_there (more_matched (both_missing a) p e) f = let r = none_there p f in omega (arith, e, r)
-none_there (more_matched (both_standing a v) p e) f = absurd (let g : true ≡ false = f in cc)
+none_there (more_matched (both_sides_present a v) p e) f = absurd (let g : true ≡ false = f in cc)
 
 abbrev counted : Bool → ℕ → ℕ
 counted b n = cond b (suc n) n
@@ -91,10 +91,10 @@ one_more false i j k e = e
 pub present_matched : {C : OfComponents} {V : OfValues} {ds es bs : List (Addition AbstractValue)} {k : ℕ} → AdditionsMatched C V ds es bs k → present_additions es ≡ present_additions ds + present_additions bs
 present_matched (only_more {bs = bs} z) = omega arith
 present_matched (both_alone (both_missing a) p e) = present_matched p
-present_matched (both_alone (both_standing a v) p e) = let r = present_matched p in omega (arith, r)
+present_matched (both_alone (both_sides_present a v) p e) = let r = present_matched p in omega (arith, r)
 present_matched (both_bracketed {ms = ms} {ns = ns} {ds = ds} {es = es} {bs = bs} m p e) =
     let r = present_matched p in
-    ap (λ q. counted q (present_additions es)) (sym (any_same m)) ∙ one_more (any_stands ms) (present_additions es) (present_additions ds) (present_additions bs) r
+    ap (λ q. counted q (present_additions es)) (sym (any_same m)) ∙ one_more (any_present ms) (present_additions es) (present_additions ds) (present_additions bs) r
 
 -- ---- version brackets
 
@@ -195,8 +195,8 @@ module _ {C : OfComponents} {V : OfValues} where
 
 -- ---- root and additions
 
-pub root_step : (m : Member AbstractValue) (ms : List (Member AbstractValue)) → is_addition (component m) ≡ false → (root_of (m ∷ ms) ≡ m ∷ root_of ms) × (behind_marker (m ∷ ms) ≡ behind_marker ms)
-root_step m ms e = (ap (λ q. cond q (root_of ms) (m ∷ root_of ms)) e, ap (λ q. cond q (m ∷ behind_marker ms) (behind_marker ms)) e)
+pub root_step : (m : Member AbstractValue) (ms : List (Member AbstractValue)) → is_addition (component m) ≡ false → (root_members (m ∷ ms) ≡ m ∷ root_members ms) × (past_marker (m ∷ ms) ≡ past_marker ms)
+root_step m ms e = (ap (λ q. cond q (root_members ms) (m ∷ root_members ms)) e, ap (λ q. cond q (m ∷ past_marker ms) (past_marker ms)) e)
 
-pub behind_step : (m : Member AbstractValue) (ms : List (Member AbstractValue)) → is_addition (component m) ≡ true → (root_of (m ∷ ms) ≡ root_of ms) × (behind_marker (m ∷ ms) ≡ m ∷ behind_marker ms)
-behind_step m ms e = (ap (λ q. cond q (root_of ms) (m ∷ root_of ms)) e, ap (λ q. cond q (m ∷ behind_marker ms) (behind_marker ms)) e)
+pub after_step : (m : Member AbstractValue) (ms : List (Member AbstractValue)) → is_addition (component m) ≡ true → (root_members (m ∷ ms) ≡ root_members ms) × (past_marker (m ∷ ms) ≡ m ∷ past_marker ms)
+after_step m ms e = (ap (λ q. cond q (root_members ms) (m ∷ root_members ms)) e, ap (λ q. cond q (m ∷ past_marker ms) (past_marker ms)) e)

@@ -3,7 +3,7 @@ use Rattle.std.proofs.Common.{arith, ◌≡◌, ℕ, true, false, List, [], ◌�
 use Rattle.std.specs.Prelude.{None, Some}
 use Rattle.asn_base.specs.Abstract.{AbstractValue, boolean, fields, list, alternative, end, absent, present}
 use Rattle.asn_base.specs.Types.{any_size, Kind, a_boolean, a_sequence, a_sequence_of, a_choice, Presence, mandatory, addition, Component, Resolved}
-use Rattle.later_versions.specs.Kept.{left_out}
+use Rattle.later_versions.specs.Projected.{left_out}
 use Rattle.version_laws.specs.LeftOut.{left_out_packed}
 
 abbrev of_kind : Kind → Resolved

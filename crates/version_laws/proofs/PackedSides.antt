@@ -8,12 +8,12 @@ use Rattle.asn_base.specs.Types.{Presence, mandatory, optional, default, additio
 use Rattle.asn_base.specs.Typed.{group_of, AreComponents, no_component, component_absent, component_present}
 use Rattle.asn_base.specs.Schemas.{HasValue, AreListed, is_addition}
 use Rattle.later_versions.specs.Later.{IsMarkedAlike, both_mandatory, both_optional, both_default, both_additions, IsSameComponent, AreInOneGroup, Later}
-use Rattle.packed_encodings.specs.Orders.{outermost, tag_at, has_bit, Member, missing, standing, component, Beside, beside_none, beside_absent, beside_present, root_of, behind_marker, Addition, additions}
+use Rattle.packed_encodings.specs.Orders.{outermost, tag_at, has_bit, Member, missing, standing, component, Beside, beside_none, beside_absent, beside_present, root_members, past_marker, Addition, additions}
 use Rattle.version_laws.specs.LeftOut.{members_in, present_additions}
 use Rattle.version_laws.proofs.Beside.{later_here, LaterMembers, types, AreAdditions}
 use Rattle.version_laws.proofs.Apart.{HasType, type_there}
 use Rattle.version_laws.proofs.Back.{is_there}
-use Rattle.version_laws.proofs.PackedPairs.{OfValues, Matched, both_missing, both_standing, AllMatched, none_matched, more_matched, AdditionsMatched, only_more, grouped, joins, some_group, joined_by, one_more_addition, root_step, behind_step}
+use Rattle.version_laws.proofs.PackedPairs.{OfValues, Matched, both_missing, both_sides_present, AllMatched, none_matched, more_matched, AdditionsMatched, only_more, grouped, joins, some_group, joined_by, one_more_addition, root_step, after_step}
 
 -- ---- tags and marks
 
@@ -194,8 +194,8 @@ pub record Parts (s s' : List Resolved) (V : OfValues) (ms ns : Members) (k : �
   pub more : List (Addition AbstractValue)
   pub in_root : ℕ
   pub in_additions : ℕ
-  pub root : AllMatched (IsAligned s s') V (root_of ms) (root_of ns) in_root
-  pub added : AdditionsMatched (IsAligned s s') V (additions (behind_marker ms)) (additions (behind_marker ns)) more in_additions
+  pub root : AllMatched (IsAligned s s') V (root_members ms) (root_members ns) in_root
+  pub added : AdditionsMatched (IsAligned s s') V (additions (past_marker ms)) (additions (past_marker ns)) more in_additions
   pub count : in_root + (in_additions + present_additions more) ≡ k
 
 record AdditionParts (s s' : List Resolved) (V : OfValues) (ms ns : Members) (k : ℕ) : Type 0 where
@@ -204,15 +204,15 @@ record AdditionParts (s s' : List Resolved) (V : OfValues) (ms ns : Members) (k 
   added : AdditionsMatched (IsAligned s s') V (additions ms) (additions ns) more in_additions
   count : in_additions + present_additions more ≡ k
 
-only_additions : {ds : List Component} {ws : Row} {ns : Members} → AreAdditions ds → Beside ds ws ns → (root_of ns ≡ []) × (behind_marker ns ≡ ns)
+only_additions : {ds : List Component} {ws : Row} {ns : Members} → AreAdditions ds → Beside ds ws ns → (root_members ns ≡ []) × (past_marker ns ≡ ns)
 only_additions a beside_none = (refl, refl)
 only_additions a (beside_absent {c = c} {ms = ms} b) =
     let r = only_additions a.1 b in
-    let p = behind_step (missing c) ms a.0 in
+    let p = after_step (missing c) ms a.0 in
     (p.0 ∙ r.0, p.1 ∙ ap (λ q. missing c ∷ q) r.1)
 only_additions a (beside_present {c = c} {w = w} {ms = ms} b) =
     let r = only_additions a.1 b in
-    let p = behind_step (standing c w) ms a.0 in
+    let p = after_step (standing c w) ms a.0 in
     (p.0 ∙ r.0, p.1 ∙ ap (λ q. standing c w ∷ q) r.1)
 
 additions_before : {s s' : List Resolved} {cs ds : List Component} → Lined s s' cs ds → AreAdditions ds → AreAdditions cs
@@ -233,7 +233,7 @@ module _ {s s' : List Resolved} {V : OfValues} where
   addition_parts (lined al g j l) (side_present {i = i} v p e) (beside_present b) (beside_present b') =
       let r = addition_parts l p b b' in
       let f = r.count in
-      record { more = r.more; in_additions = i + r.in_additions; added = one_more_addition (both_standing al v) g j b b' r.added refl; count = omega (arith, e, f) }
+      record { more = r.more; in_additions = i + r.in_additions; added = one_more_addition (both_sides_present al v) g j b b' r.added refl; count = omega (arith, e, f) }
 
   -- one more member of the root on both sides
   one_more_part : {m n : Member AbstractValue} {ms ns : Members} {i j k : ℕ} → Matched (IsAligned s s') V m n i → is_addition (component m) ≡ false → is_addition (component n) ≡ false → k ≡ i + j → Parts s s' V ms ns j → Parts s s' V (m ∷ ms) (n ∷ ns) k
@@ -245,8 +245,8 @@ module _ {s s' : List Resolved} {V : OfValues} where
         more = r.more;
         in_root = i + r.in_root;
         in_additions = r.in_additions;
-        root = subst (λ x. AllMatched (IsAligned s s') V x (root_of (n ∷ ns)) (i + r.in_root)) (sym p.0) (subst (λ x. AllMatched (IsAligned s s') V (m ∷ root_of ms) x (i + r.in_root)) (sym q.0) (more_matched a r.root refl));
-        added = subst (λ x. AdditionsMatched (IsAligned s s') V (additions x) (additions (behind_marker (n ∷ ns))) r.more r.in_additions) (sym p.1) (subst (λ x. AdditionsMatched (IsAligned s s') V (additions (behind_marker ms)) (additions x) r.more r.in_additions) (sym q.1) r.added);
+        root = subst (λ x. AllMatched (IsAligned s s') V x (root_members (n ∷ ns)) (i + r.in_root)) (sym p.0) (subst (λ x. AllMatched (IsAligned s s') V (m ∷ root_members ms) x (i + r.in_root)) (sym q.0) (more_matched a r.root refl));
+        added = subst (λ x. AdditionsMatched (IsAligned s s') V (additions x) (additions (past_marker (n ∷ ns))) r.more r.in_additions) (sym p.1) (subst (λ x. AdditionsMatched (IsAligned s s') V (additions (past_marker ms)) (additions x) r.more r.in_additions) (sym q.1) r.added);
         count = omega (arith, g, h);
       }
 
@@ -260,12 +260,12 @@ module _ {s s' : List Resolved} {V : OfValues} where
         more = r.more;
         in_root = 0;
         in_additions = r.in_additions;
-        root = subst (λ q. AllMatched (IsAligned s s') V q (root_of ns) 0) (sym x.0) (subst (λ q. AllMatched (IsAligned s s') V [] q 0) (sym y.0) (none_matched refl));
-        added = subst (λ q. AdditionsMatched (IsAligned s s') V (additions q) (additions (behind_marker ns)) r.more r.in_additions) (sym x.1) (subst (λ q. AdditionsMatched (IsAligned s s') V (additions ms) (additions q) r.more r.in_additions) (sym y.1) r.added);
+        root = subst (λ q. AllMatched (IsAligned s s') V q (root_members ns) 0) (sym x.0) (subst (λ q. AllMatched (IsAligned s s') V [] q 0) (sym y.0) (none_matched refl));
+        added = subst (λ q. AdditionsMatched (IsAligned s s') V (additions q) (additions (past_marker ns)) r.more r.in_additions) (sym x.1) (subst (λ q. AdditionsMatched (IsAligned s s') V (additions ms) (additions q) r.more r.in_additions) (sym y.1) r.added);
         count = omega (arith, f);
       }
   parts (one_of_root f o) (lined_end a) p b b' = absurd (let g = a.0 in let z : false ≡ true = sym f ∙ g in cc)
   parts (one_of_root f o) (lined al g j l) (side_absent p) (beside_absent b) (beside_absent b') =
       one_more_part (both_missing al) (addition_same al ∙ f) f (omega arith) (parts o l p b b')
   parts (one_of_root f o) (lined al g j l) (side_present v p e) (beside_present b) (beside_present b') =
-      one_more_part (both_standing al v) (addition_same al ∙ f) f e (parts o l p b b')
+      one_more_part (both_sides_present al v) (addition_same al ∙ f) f e (parts o l p b b')

@@ -3,7 +3,7 @@ use Rattle.std.proofs.Common.{◌≡◌, ℕ, zero, suc, List, [], ◌∷◌, re
 use Rattle.std.specs.Prelude.{slice_get, get_or, Some, length}
 use Rattle.asn_base.specs.Abstract.{Row, end, absent, present}
 use Rattle.asn_base.specs.Types.{Resolved}
-use Rattle.later_versions.specs.Kept.{members_of, member_of, kept_row}
+use Rattle.later_versions.specs.Projected.{members_of, member_of, projected_row}
 use Rattle.version_laws.proofs.Apart.{nothing}
 
 pub element_at : (s : List Resolved) (t u : ℕ) → members_of s t ≡ u ∷ [] → member_of s t 0 ≡ u
@@ -17,7 +17,7 @@ got d (x ∷ xs) (suc i) e = got d xs i e
 pub member_at : (s : List Resolved) (t i u : ℕ) → slice_get (members_of s t) i ≡ Some u → member_of s t i ≡ u
 member_at s t i u e = got (length s) (members_of s t) i e
 
-pub kept_none : (s : List Resolved) (ws : Row) → kept_row s [] ws ≡ end
+pub kept_none : (s : List Resolved) (ws : Row) → projected_row s [] ws ≡ end
 kept_none s end = refl
 kept_none s (absent ws) = refl
 kept_none s (present w ws) = refl

@@ -10,7 +10,7 @@ encoding {k = k} r short = record {
   value = r.value;
   count = k;
   is_value = r.encodes.value;
-  is_said = r.encodes.says_it;
+  is_encoded = r.encodes.says_it;
   few = r.few;
   short = short;
 }

@@ -7,8 +7,8 @@ use Rattle.asn_base.specs.declared.tag.Tag.{Tag}
 use Rattle.asn_base.specs.Abstract.{AbstractValue, boolean, integer, fields, list, alternative, Row, end, absent, present}
 use Rattle.asn_base.specs.Types.{any_number, any_size, a_boolean, an_integer, a_sequence, a_set, a_sequence_of, a_choice, Presence, mandatory, optional, addition, Component, Resolved}
 use Rattle.asn_base.specs.Typed.{members}
-use Rattle.later_versions.specs.Kept.{kept, left_out}
-use Rattle.version_laws.specs.Widened.{all_absent, widened}
+use Rattle.later_versions.specs.Projected.{projected, left_out}
+use Rattle.version_laws.specs.Lifted.{all_absent, lifted}
 
 abbrev universal : (n : ℕ) → n < 2147483648 → 0 < n → Tag
 universal n h k = record { class = Universal; number = n; in_range = h; not_reserved = λ e. k }
@@ -44,8 +44,8 @@ yes = boolean true
 abbrev before : AbstractValue
 before = fields (present yes end)
 
-abbrev behind : AbstractValue
-behind = fields (present yes (absent end))
+abbrev components_after : AbstractValue
+components_after = fields (present yes (absent end))
 
 -- how many members a value has, absent ones too, and how many its first one has
 abbrev many : AbstractValue → ℕ
@@ -66,74 +66,74 @@ first v = yes
 
 -- ---- what holds no others
 
-number_stays : widened later 1 (integer (pos 5)) ≡ integer (pos 5)
+number_stays : lifted later 1 (integer (pos 5)) ≡ integer (pos 5)
 number_stays = refl
 
 -- ---- components
 
-addition_is_absent : widened later 2 before ≡ behind
+addition_is_absent : lifted later 2 before ≡ components_after
 addition_is_absent = refl
 
-not_as_it_was : widened later 2 before ≡ before → ⊥
+not_as_it_was : lifted later 2 before ≡ before → ⊥
 not_as_it_was e = let h : 2 ≡ 1 = ap many e in omega (arith, h)
 
-not_present : widened later 2 before ≡ fields (present yes (present (integer (pos 0)) end)) → ⊥
+not_present : lifted later 2 before ≡ fields (present yes (present (integer (pos 0)) end)) → ⊥
 not_present e = let h : 1 ≡ 2 = ap (λ v. count v) e in omega (arith, h)
   where
     count : AbstractValue → ℕ
     count (fields (present v (absent vs))) = 1
     count v = 2
 
-addition_that_is_known_stays : widened later 2 (fields (present yes (present (integer (pos 7)) end))) ≡ fields (present yes (present (integer (pos 7)) end))
+addition_that_is_known_stays : lifted later 2 (fields (present yes (present (integer (pos 7)) end))) ≡ fields (present yes (present (integer (pos 7)) end))
 addition_that_is_known_stays = refl
 
-absent_ones_stay : widened later 5 (fields (absent end)) ≡ fields (absent (absent (absent end)))
+absent_ones_stay : lifted later 5 (fields (absent end)) ≡ fields (absent (absent (absent end)))
 absent_ones_stay = refl
 
 -- one for each that was appended
-not_one_of_two : widened later 5 (fields (absent end)) ≡ fields (absent (absent end)) → ⊥
+not_one_of_two : lifted later 5 (fields (absent end)) ≡ fields (absent (absent end)) → ⊥
 not_one_of_two e = let h : 3 ≡ 2 = ap many e in omega (arith, h)
 
 none_of_no_types : all_absent [] ≡ end
 none_of_no_types = refl
 
 -- a row that is too long isn't one of an earlier version: what has no type goes
-too_long : widened later 2 (fields (present yes (absent (present yes end)))) ≡ behind
+too_long : lifted later 2 (fields (present yes (absent (present yes end)))) ≡ components_after
 too_long = refl
 
-too_long_and_absent : widened later 2 (fields (present yes (absent (absent end)))) ≡ behind
+too_long_and_absent : lifted later 2 (fields (present yes (absent (absent end)))) ≡ components_after
 too_long_and_absent = refl
 
 -- ---- at any depth
 
-within_a_component : widened later 5 (fields (present before end)) ≡ fields (present behind (absent (absent end)))
+within_a_component : lifted later 5 (fields (present before end)) ≡ fields (present components_after (absent (absent end)))
 within_a_component = refl
 
-not_at_the_top_alone : widened later 5 (fields (present before end)) ≡ fields (present before (absent (absent end))) → ⊥
+not_at_the_top_alone : lifted later 5 (fields (present before end)) ≡ fields (present before (absent (absent end))) → ⊥
 not_at_the_top_alone e = let h : 2 ≡ 1 = ap (λ v. many (first v)) e in omega (arith, h)
 
-within_elements : widened later 3 (list (present before (present before end))) ≡ list (present behind (present behind end))
+within_elements : lifted later 3 (list (present before (present before end))) ≡ list (present components_after (present components_after end))
 within_elements = refl
 
-not_the_list : widened later 3 (list (present before end)) ≡ list (present behind (absent end)) → ⊥
+not_the_list : lifted later 3 (list (present before end)) ≡ list (present components_after (absent end)) → ⊥
 not_the_list e = let h : 1 ≡ 2 = ap many e in omega (arith, h)
 
-not_elements_as_they_were : widened later 3 (list (present before end)) ≡ list (present before end) → ⊥
+not_elements_as_they_were : lifted later 3 (list (present before end)) ≡ list (present before end) → ⊥
 not_elements_as_they_were e = let h : 2 ≡ 1 = ap (λ v. many (first v)) e in omega (arith, h)
 
-no_elements : widened later 3 (list end) ≡ list end
+no_elements : lifted later 3 (list end) ≡ list end
 no_elements = refl
 
-absent_elements_stay : widened later 3 (list (absent end)) ≡ list (absent end)
+absent_elements_stay : lifted later 3 (list (absent end)) ≡ list (absent end)
 absent_elements_stay = refl
 
-within_an_alternative : widened later 4 (alternative 1 before) ≡ alternative 1 behind
+within_an_alternative : lifted later 4 (alternative 1 before) ≡ alternative 1 components_after
 within_an_alternative = refl
 
-not_of_the_first_alternative : widened later 4 (alternative 1 before) ≡ alternative 1 before → ⊥
+not_of_the_first_alternative : lifted later 4 (alternative 1 before) ≡ alternative 1 before → ⊥
 not_of_the_first_alternative e = let h : 2 ≡ 1 = ap many e in omega (arith, h)
 
-another_alternative_stays : widened later 4 (alternative 0 yes) ≡ alternative 0 yes
+another_alternative_stays : lifted later 4 (alternative 0 yes) ≡ alternative 0 yes
 another_alternative_stays = refl
 
 -- ---- back
@@ -145,12 +145,12 @@ earlier =
     ∷ record { tags = universal 16 (lit< tt) (lit< tt) ∷ []; kind = a_sequence true (component 0 mandatory ∷ []) }
     ∷ []
 
-kept_of_it : kept earlier 1 (widened later 2 before) ≡ before
+kept_of_it : projected earlier 1 (lifted later 2 before) ≡ before
 kept_of_it = refl
 
-none_left_out : left_out earlier 1 (widened later 2 before) ≡ 0
+none_left_out : left_out earlier 1 (lifted later 2 before) ≡ 0
 none_left_out = refl
 
 -- so the type has to be one of the schema: nothing is known of one that isn't
-no_such_type : widened later 6 before ≡ fields end
+no_such_type : lifted later 6 before ≡ fields end
 no_such_type = refl

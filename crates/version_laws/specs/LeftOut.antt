@@ -4,8 +4,8 @@ use Rattle.std.specs.Prelude.{ℕ, suc, ◌+◌, if◌then◌else◌, List, [], 
 use Rattle.asn_base.specs.Abstract.{AbstractValue, fields, list, alternative, Row, end, absent, present}
 use Rattle.asn_base.specs.Types.{TypeNumber, Component, Resolved}
 use Rattle.asn_base.specs.Schemas.{components}
-use Rattle.later_versions.specs.Kept.{members_of, member_of}
-use Rattle.packed_encodings.specs.Orders.{Member, missing, standing, any_stands, Addition, alone, bracketed, additions}
+use Rattle.later_versions.specs.Projected.{members_of, member_of}
+use Rattle.packed_encodings.specs.Orders.{Member, missing, standing, any_present, Addition, alone, bracketed, additions}
 
 -- the components of type t, none if it is no SEQUENCE or SET
 abbrev pub components_of : List Resolved → TypeNumber → List Component
@@ -23,7 +23,7 @@ abbrev pub present_additions : List (Addition AbstractValue) → ℕ
 present_additions [] = 0
 present_additions (alone (missing c) ∷ ds) = present_additions ds
 present_additions (alone (standing c v) ∷ ds) = suc (present_additions ds)
-present_additions (bracketed ms ∷ ds) = if any_stands ms then suc (present_additions ds) else present_additions ds
+present_additions (bracketed ms ∷ ds) = if any_present ms then suc (present_additions ds) else present_additions ds
 
 abbrev mutual
   -- The number of present additions that type t of schema s leaves out of a value of type t' of schema s', its later

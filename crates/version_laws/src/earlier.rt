@@ -6,7 +6,7 @@ ghost use Rattle.asn_base.specs.Schemas.{IsSchema};
 ghost use Rattle.asn_base.specs.Types.{Resolved};
 ghost use Rattle.decode_faults.specs.declared.read_fault.ReadFault.TheVariants.{Memory};
 ghost use Rattle.encodings.specs.Encoding.{Der};
-ghost use Rattle.later_versions.specs.Kept.{kept, left_out};
+ghost use Rattle.later_versions.specs.Projected.{projected, left_out};
 ghost use Rattle.later_versions.specs.Later.{Later};
 ghost use Rattle.std.specs.Int.Digits.{AllBelowBase};
 ghost use Rattle.std.specs.Prelude.{◌≡◌, ◌≤◌, IfErr, IfOk, List, length, ℕ};
@@ -14,7 +14,7 @@ ghost use Rattle.version_laws.specs.Versions.{IsKnown};
 ghost use Rattle.views.specs.Seen.{IsView};
 ghost use Rattle.views.specs.Tree.{Tree, value_of};
 
-use crate::law::earlier_reads;
+use crate::law::lemma_earlier_reads;
 use asn_base::schema::TypeId;
 use ber_reader::{Read, read_ber};
 use codec_code::Code;
@@ -22,7 +22,7 @@ use decode_faults::ReadFault;
 use std::alloc::Global;
 
 /// Each item of a slice of octets is below 256.
-fn are_octets(octets: &[u8])
+fn lemma_are_octets(octets: &[u8])
     ensures { AllBelowBase 256 octets.now }
 {}
 
@@ -48,11 +48,11 @@ pub fn read_of_later<'a>(
         → IsKnown code.now id.index v
         → Der s' t' v 0 octets.now
         → IsView r.view t
-        → Same code.now id.index (kept code.now id.index v) (value_of t)
+        → Same code.now id.index (projected code.now id.index v) (value_of t)
         × (r.skipped ≡ left_out code.now id.index v)) }
 {
-    earlier_reads();
-    are_octets(octets);
+    lemma_earlier_reads();
+    lemma_are_octets(octets);
     match read_ber(alloc, code, id, octets) {
         Ok(read) => Ok(read),
         Err(fault) => Err(fault),

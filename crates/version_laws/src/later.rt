@@ -11,11 +11,11 @@ ghost use Rattle.encodings.specs.Rules.{Basic};
 ghost use Rattle.later_versions.specs.Later.{Later};
 ghost use Rattle.std.specs.Prelude.{◌≡◌, ◌<◌, ◌≤◌, IfErr, IfOk, List, length, ℕ};
 ghost use Rattle.version_laws.specs.Versions.{IsReadAs};
-ghost use Rattle.version_laws.specs.Widened.{widened};
+ghost use Rattle.version_laws.specs.Lifted.{lifted};
 ghost use Rattle.views.specs.Seen.{IsView};
 ghost use Rattle.views.specs.Tree.{Tree, value_of};
 
-use crate::law::later_reads;
+use crate::law::lemma_later_reads;
 use asn_base::schema::TypeId;
 use ber_reader::{Read, read_ber, read_der};
 use codec_code::Code;
@@ -42,7 +42,7 @@ pub fn read_of_earlier<'a>(
         → id.index < length code.now
         → Der s t v 0 octets.now
         → IsView r.view tree
-        → Same code.now id.index (widened code.now id.index v) (value_of tree) × (r.skipped ≡ 0)) }
+        → Same code.now id.index (lifted code.now id.index v) (value_of tree) × (r.skipped ≡ 0)) }
     // The same is true of each encoding by the basic rules without unknown additions, within 400 levels of headers.
     ensures basic { (s : List Resolved) (t : ℕ) (v : AbstractValue)
         → Later s t code.now id.index
@@ -56,10 +56,10 @@ pub fn read_of_earlier<'a>(
         → id.index < length code.now
         → Encodes s Basic t w 0 octets.now
         → IsView r.view tree
-        → (value_of tree ≡ widened code.now id.index w) × (r.skipped ≡ 0)) }
+        → (value_of tree ≡ lifted code.now id.index w) × (r.skipped ≡ 0)) }
 {
-    code.accepted();
-    later_reads();
+    code.lemma_invariant();
+    lemma_later_reads();
     match read_ber(alloc, code, id, octets) {
         Ok(read) => Ok(read),
         Err(fault) => Err(fault),
@@ -86,12 +86,12 @@ pub fn read_der_of_earlier<'a>(
         → id.index < length code.now
         → Der s t v 0 octets.now
         → IsView r.view tree
-        → Same code.now id.index (widened code.now id.index v) (value_of tree) × (r.skipped ≡ 0)) }
+        → Same code.now id.index (lifted code.now id.index v) (value_of tree) × (r.skipped ≡ 0)) }
     // Whatever else the octets are, the value that is read is the one that they encode by the distinguished rules.
     ensures strict { IfOk result (λ r. IsStrictReading code.now id.index octets.now r) }
 {
-    code.accepted();
-    later_reads();
+    code.lemma_invariant();
+    lemma_later_reads();
     match read_der(alloc, code, id, octets) {
         Ok(read) => Ok(read),
         Err(fault) => Err(fault),

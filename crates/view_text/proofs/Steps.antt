@@ -9,7 +9,9 @@ use Rattle.asn_base.specs.Schemas.{IsSound, AreListed, HasTag, components}
 use Rattle.asn_base.specs.Seen.{component_of}
 use Rattle.asn_base.specs.Types.{Alternative, Component, Kind, a_choice, a_sequence, a_set, Resolved}
 use Rattle.std.specs.Prelude.{slice_get}
-use Rattle.value_text.specs.Print.{alternatives_in, comma_behind, kind_at, kind_in, print, print_fields}
+use Rattle.views.specs.Tree.{Tree, fields, list, Members, nodes_in, nodes_left}
+use Rattle.views.specs.Tree as tree
+use Rattle.value_text.specs.Print.{alternatives_in, comma_after, kind_at, kind_in, print, print_fields}
 
 pub drop_at : {X : Type 0} (xs : List X) (i : ℕ) (x d : X) → i < length xs → x ≡ get_or xs i d → drop i xs ≡ x ∷ drop (i + 1) xs
 drop_at xs i x d l e =
@@ -106,15 +108,19 @@ added_three out a b new x y z e f g =
 
 -- ---- nodes
 
--- a member has fewer nodes than all, and these have fewer than the whole
-pub below_members : (n r t : ℕ) → 2 * r + 1 ≡ t → n ≤ r → 2 * n < t
-below_members n r t e l = omega (arith, e, l)
+-- members have fewer nodes than their value, and so has the value of an alternative
+pub below_fields : (t : Tree) (n : ℕ) (ms : Members) (d : ℕ) → 2 * nodes_in t ≡ d → t ≡ fields n ms → 2 * nodes_left ms + 1 < d
+below_fields t n ms d e f = let g = ap nodes_in f in omega (arith, e, g)
 
-pub below_whole : (n r t : ℕ) → 2 * r ≡ t → n < r → 2 * n + 1 < t
-below_whole n r t e l = omega (arith, e, l)
+pub below_list : (t : Tree) (ms : Members) (d : ℕ) → 2 * nodes_in t ≡ d → t ≡ list ms → 2 * nodes_left ms + 1 < d
+below_list t ms d e f = let g = ap nodes_in f in omega (arith, e, g)
 
-pub below_part : (n r t : ℕ) → 2 * r ≡ t → n < r → 2 * n < t
-below_part n r t e l = omega (arith, e, l)
+pub below_alternative : (t u : Tree) (i d : ℕ) → 2 * nodes_in t ≡ d → t ≡ tree.alternative i u → 2 * nodes_in u < d
+below_alternative t u i d e f = let g = ap nodes_in f in omega (arith, e, g)
+
+-- a member has no more nodes than all members
+pub below_members : (n r d : ℕ) → 2 * r + 1 ≡ d → n ≤ r → 2 * n < d
+below_members n r d e l = omega (arith, e, l)
 
 -- ---- components
 
@@ -122,7 +128,7 @@ nothing : (s : List Resolved) (cs : List Component) (before : List ℕ) → prin
 nothing s [] before = refl
 nothing s (c ∷ cs) before = refl
 
-module _ (s : List Resolved) (cs : List Component') (vs : List (Option AbstractValue)) (i : ℕ) (first : Bool) (out total : List ℕ) (so_far : out ++ print_fields s (map component_of (drop i cs)) (comma_behind first) (row_of_options (drop i vs)) ≡ total) where
+module _ (s : List Resolved) (cs : List Component') (vs : List (Option AbstractValue)) (i : ℕ) (first : Bool) (out total : List ℕ) (so_far : out ++ print_fields s (map component_of (drop i cs)) (comma_after first) (row_of_options (drop i vs)) ≡ total) where
   module _ (c : Component') (o : Option AbstractValue) (in_components : i < length cs) (is_c : c ≡ get_or cs i c) (member : drop i vs ≡ o ∷ drop (i + 1) vs) where
     component : drop i cs ≡ c ∷ drop (i + 1) cs
     component = drop_at cs i c c in_components is_c
@@ -130,34 +136,34 @@ module _ (s : List Resolved) (cs : List Component') (vs : List (Option AbstractV
     abbrev pub rest : List ℕ → List ℕ
     rest before = print_fields s (map component_of (drop (i + 1) cs)) before (row_of_options (drop (i + 1) vs))
 
-    pub present_step : (v : AbstractValue) (a b m new : List ℕ) → o ≡ Some v → a ≡ out ++ comma_behind first → b ≡ a ++ string_bytes c.name → m ≡ b ++ codes " "
+    pub present_step : (v : AbstractValue) (a b m new : List ℕ) → o ≡ Some v → a ≡ out ++ comma_after first → b ≡ a ++ string_bytes c.name → m ≡ b ++ codes " "
         → new ≡ m ++ print s c.ty.index v → new ++ rest (codes ", ") ≡ total
     present_step v a b m new is f g h k =
         let text = print s c.ty.index v in
-        let d : print_fields s (map component_of (drop i cs)) (comma_behind first) (row_of_options (drop i vs)) ≡ comma_behind first ++ (string_bytes c.name ++ (codes " " ++ (text ++ rest (codes ", ")))) =
-        ap (λ l. print_fields s (map component_of l) (comma_behind first) (row_of_options (drop i vs))) component
-        ∙ ap (λ l. print_fields s (map component_of (c ∷ drop (i + 1) cs)) (comma_behind first) (row_of_options l)) (member ∙ ap (λ o. o ∷ drop (i + 1) vs) is) in
-        let w = glued out (comma_behind first) (string_bytes c.name ++ (codes " " ++ (text ++ rest (codes ", ")))) _ a total d so_far f in
+        let d : print_fields s (map component_of (drop i cs)) (comma_after first) (row_of_options (drop i vs)) ≡ comma_after first ++ (string_bytes c.name ++ (codes " " ++ (text ++ rest (codes ", ")))) =
+        ap (λ l. print_fields s (map component_of l) (comma_after first) (row_of_options (drop i vs))) component
+        ∙ ap (λ l. print_fields s (map component_of (c ∷ drop (i + 1) cs)) (comma_after first) (row_of_options l)) (member ∙ ap (λ o. o ∷ drop (i + 1) vs) is) in
+        let w = glued out (comma_after first) (string_bytes c.name ++ (codes " " ++ (text ++ rest (codes ", ")))) _ a total d so_far f in
         let x = glued a (string_bytes c.name) (codes " " ++ (text ++ rest (codes ", "))) _ b total refl w g in
         let y = glued b (codes " ") (text ++ rest (codes ", ")) _ m total refl x h in
         glued m text (rest (codes ", ")) _ new total refl y k
 
-    pub absent_step : o ≡ None → out ++ rest (comma_behind first) ≡ total
+    pub absent_step : o ≡ None → out ++ rest (comma_after first) ≡ total
     absent_step is =
-        let d : print_fields s (map component_of (drop i cs)) (comma_behind first) (row_of_options (drop i vs)) ≡ rest (comma_behind first) =
-        ap (λ l. print_fields s (map component_of l) (comma_behind first) (row_of_options (drop i vs))) component
-        ∙ ap (λ l. print_fields s (map component_of (c ∷ drop (i + 1) cs)) (comma_behind first) (row_of_options l)) (member ∙ ap (λ o. o ∷ drop (i + 1) vs) is) in
+        let d : print_fields s (map component_of (drop i cs)) (comma_after first) (row_of_options (drop i vs)) ≡ rest (comma_after first) =
+        ap (λ l. print_fields s (map component_of l) (comma_after first) (row_of_options (drop i vs))) component
+        ∙ ap (λ l. print_fields s (map component_of (c ∷ drop (i + 1) cs)) (comma_after first) (row_of_options l)) (member ∙ ap (λ o. o ∷ drop (i + 1) vs) is) in
         ap (λ l. out ++ l) (sym d) ∙ so_far
 
   -- components after those of the value are left out
-  pub behind_step : length vs ≤ i → out ++ print_fields s (map component_of (drop (i + 1) cs)) (comma_behind first) (row_of_options (drop (i + 1) vs)) ≡ total
-  behind_step le =
+  pub after_step : length vs ≤ i → out ++ print_fields s (map component_of (drop (i + 1) cs)) (comma_after first) (row_of_options (drop (i + 1) vs)) ≡ total
+  after_step le =
       let e : drop i vs ≡ [] = none_left vs i le in
       let f : drop (i + 1) vs ≡ [] = none_left vs (i + 1) (omega (arith, le)) in
-      ap (λ l. out ++ print_fields s (map component_of (drop (i + 1) cs)) (comma_behind first) (row_of_options l)) f
-      ∙ ap (λ l. out ++ l) (nothing s (map component_of (drop (i + 1) cs)) (comma_behind first) ∙ sym (nothing s (map component_of (drop i cs)) (comma_behind first)))
-      ∙ ap (λ l. out ++ print_fields s (map component_of (drop i cs)) (comma_behind first) (row_of_options l)) (sym e) ∙ so_far
+      ap (λ l. out ++ print_fields s (map component_of (drop (i + 1) cs)) (comma_after first) (row_of_options l)) f
+      ∙ ap (λ l. out ++ l) (nothing s (map component_of (drop (i + 1) cs)) (comma_after first) ∙ sym (nothing s (map component_of (drop i cs)) (comma_after first)))
+      ∙ ap (λ l. out ++ print_fields s (map component_of (drop i cs)) (comma_after first) (row_of_options l)) (sym e) ∙ so_far
 
   pub no_component_left : length cs ≤ i → out ≡ total
   no_component_left le =
-      over out _ total (ap (λ l. print_fields s (map component_of l) (comma_behind first) (row_of_options (drop i vs))) (none_left cs i le)) so_far
+      over out _ total (ap (λ l. print_fields s (map component_of l) (comma_after first) (row_of_options (drop i vs))) (none_left cs i le)) so_far

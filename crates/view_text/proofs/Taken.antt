@@ -5,12 +5,9 @@ use Rattle.asn_base.specs.declared.schema.Component.{Component as Component'}
 use Rattle.asn_base.specs.Abstract.{AbstractValue, row_of_options}
 use Rattle.asn_base.specs.Seen.{component_of}
 use Rattle.asn_base.specs.Types.{Resolved}
-use Rattle.value_text.specs.Print.{comma_behind, print, print_elements, print_fields}
-use Rattle.views.specs.declared.part.Parts.{Parts}
-use Rattle.views.specs.Seen.{AreParts}
+use Rattle.value_text.specs.Print.{comma_after, print, print_elements, print_fields}
 use Rattle.views.specs.Tree.{Members, Tree, no_member, member, component, component_value, element_values, placed, value_of}
-use Rattle.view_text.specs.Members.{IsBehind}
-use Rattle.view_text.proofs.Steps.{absent_step, behind_step, glued, no_component_left, present_step}
+use Rattle.view_text.proofs.Steps.{absent_step, after_step, glued, no_component_left, present_step}
 
 -- the value of a component is that of its tree
 value_at : (ms : Members) (i : ℕ) → component_value ms i ≡ option_map value_of (component ms i)
@@ -44,28 +41,24 @@ places zero f = refl
 places (suc n) f = ap suc (places n (λ j. f (j + 1)))
 
 -- the components before place i are printed: the others are found among those left, and their text is what is left
-pub record Printed (s : List Resolved) (cs : List Component') (size : ℕ) (ms : Members) (i : ℕ) (first : Bool) (left : Parts) (out total : List ℕ) : Type 0 where
-  pub rest : Members
-  pub are : AreParts left rest
-  pub same : (j : ℕ) → i ≤ j → component ms j ≡ component rest j
-  pub text : out ++ print_fields s (map component_of (drop i cs)) (comma_behind first) (row_of_options (drop i (placed size (λ j. component_value ms j)))) ≡ total
+pub record Printed (s : List Resolved) (cs : List Component') (size : ℕ) (ms : Members) (i : ℕ) (first : Bool) (left : Members) (out total : List ℕ) : Type 0 where
+  pub same : (j : ℕ) → i ≤ j → component ms j ≡ component left j
+  pub text : out ++ print_fields s (map component_of (drop i cs)) (comma_after first) (row_of_options (drop i (placed size (λ j. component_value ms j)))) ≡ total
 
 -- the elements before those left are printed
-pub record Listed (s : List Resolved) (u : ℕ) (first : Bool) (left : Parts) (out total : List ℕ) : Type 0 where
-  pub rest : Members
-  pub are : AreParts left rest
-  pub text : out ++ print_elements s u (comma_behind first) (element_values rest) ≡ total
+abbrev pub Listed : List Resolved → ℕ → Bool → Members → List ℕ → List ℕ → Type 0
+Listed s u first left out total = out ++ print_elements s u (comma_after first) (element_values left) ≡ total
 
-pub element_step : (s : List Resolved) (u : ℕ) (first : Bool) (out a new total : List ℕ) (rest : Members) (k : ℕ) (t : Tree) (behind : Members) → rest ≡ member k t behind
-    → out ++ print_elements s u (comma_behind first) (element_values rest) ≡ total
-    → a ≡ out ++ comma_behind first
+pub element_step : (s : List Resolved) (u : ℕ) (first : Bool) (out a new total : List ℕ) (rest : Members) (k : ℕ) (t : Tree) (after : Members) → rest ≡ member k t after
+    → out ++ print_elements s u (comma_after first) (element_values rest) ≡ total
+    → a ≡ out ++ comma_after first
     → new ≡ a ++ print s u (value_of t)
-    → new ++ print_elements s u (codes ", ") (element_values behind) ≡ total
-element_step s u first out a new total rest k t behind is e f g =
-    let d : print_elements s u (comma_behind first) (element_values rest) ≡ comma_behind first ++ (print s u (value_of t) ++ print_elements s u (codes ", ") (element_values behind)) =
-    ap (λ q. print_elements s u (comma_behind first) (element_values q)) is in
-    let w = glued out (comma_behind first) (print s u (value_of t) ++ print_elements s u (codes ", ") (element_values behind)) _ a total d e f in
-    glued a (print s u (value_of t)) (print_elements s u (codes ", ") (element_values behind)) _ new total refl w g
+    → new ++ print_elements s u (codes ", ") (element_values after) ≡ total
+element_step s u first out a new total rest k t after is e f g =
+    let d : print_elements s u (comma_after first) (element_values rest) ≡ comma_after first ++ (print s u (value_of t) ++ print_elements s u (codes ", ") (element_values after)) =
+    ap (λ q. print_elements s u (comma_after first) (element_values q)) is in
+    let w = glued out (comma_after first) (print s u (value_of t) ++ print_elements s u (codes ", ") (element_values after)) _ a total d e f in
+    glued a (print s u (value_of t)) (print_elements s u (codes ", ") (element_values after)) _ new total refl w g
 
 -- nothing is printed yet
 pub opened : (out new rest : List ℕ) → new ≡ out ++ codes "{" → new ++ rest ≡ out ++ (codes "{" ++ rest)
@@ -73,39 +66,33 @@ opened out new rest e = ap (λ l. l ++ rest) e ∙ append_assoc out (codes "{") 
 
 -- ---- one more component
 
-module _ (s : List Resolved) (cs : List Component') (size : ℕ) (ms : Members) (i : ℕ) (first : Bool) (left : Parts) (out total : List ℕ) (so_far : Printed s cs size ms i first left out total) where
+module _ (s : List Resolved) (cs : List Component') (size : ℕ) (ms : Members) (i : ℕ) (first : Bool) (left : Members) (out total : List ℕ) (so_far : Printed s cs size ms i first left out total) where
   abbrev row : List (Option AbstractValue)
   row = placed size (λ j. component_value ms j)
 
-  later : (behind : Parts) (b : IsBehind so_far.rest i behind) (j : ℕ) → i + 1 ≤ j → component ms j ≡ component b.rest j
-  later behind b j l = so_far.same j (omega (arith, l)) ∙ b.same j (omega (arith, l))
+  later : (after : Members) (b : (j : ℕ) → i < j → component after j ≡ component left j) (j : ℕ) → i + 1 ≤ j → component ms j ≡ component after j
+  later after b j l = so_far.same j (omega (arith, l)) ∙ sym (b j (omega (arith, l)))
 
-  module _ (inside : i < size) (c : Component') (in_components : i < length cs) (is_c : c ≡ get_or cs i c) (behind : Parts) (b : IsBehind so_far.rest i behind) where
-    pub with_present : (t : Tree) (a n m new : List ℕ) → component so_far.rest i ≡ Some t → a ≡ out ++ comma_behind first → n ≡ a ++ string_bytes c.name → m ≡ n ++ codes " "
-        → new ≡ m ++ print s c.ty.index (value_of t) → Printed s cs size ms (i + 1) false behind new total
+  module _ (inside : i < size) (c : Component') (in_components : i < length cs) (is_c : c ≡ get_or cs i c) (after : Members) (b : (j : ℕ) → i < j → component after j ≡ component left j) where
+    pub with_present : (t : Tree) (a n m new : List ℕ) → component left i ≡ Some t → a ≡ out ++ comma_after first → n ≡ a ++ string_bytes c.name → m ≡ n ++ codes " "
+        → new ≡ m ++ print s c.ty.index (value_of t) → Printed s cs size ms (i + 1) false after new total
     with_present t a n m new is f g h k = record {
-      rest = b.rest;
-      are = b.are;
-      same = later behind b;
+      same = later after b;
       text = present_step s cs row i first out total so_far.text c (component_value ms i) in_components is_c (place_is size (λ j. component_value ms j) i inside)
           (value_of t) a n m new (present_at ms i t (so_far.same i (omega arith) ∙ is)) f g h k;
     }
 
-    pub with_absent : component so_far.rest i ≡ None → Printed s cs size ms (i + 1) first behind out total
+    pub with_absent : component left i ≡ None → Printed s cs size ms (i + 1) first after out total
     with_absent is = record {
-      rest = b.rest;
-      are = b.are;
-      same = later behind b;
+      same = later after b;
       text = absent_step s cs row i first out total so_far.text c (component_value ms i) in_components is_c (place_is size (λ j. component_value ms j) i inside)
           (absent_at ms i (so_far.same i (omega arith) ∙ is));
     }
 
   pub with_none : size ≤ i → Printed s cs size ms (i + 1) first left out total
   with_none l = record {
-    rest = so_far.rest;
-    are = so_far.are;
     same = λ j m. so_far.same j (omega (arith, m));
-    text = behind_step s cs row i first out total so_far.text (let e = places size (λ j. component_value ms j) in omega (arith, e, l));
+    text = after_step s cs row i first out total so_far.text (let e = places size (λ j. component_value ms j) in omega (arith, e, l));
   }
 
   pub all_printed : length cs ≤ i → out ≡ total

@@ -1,2 +1,2 @@
--- Members among which later components are found (`Members`).
+-- Members as the components of a value (`Members`).
 pub mod Members

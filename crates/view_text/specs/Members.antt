@@ -1,16 +1,8 @@
--- Members as components, and members of which the first ones are left out.
-use Rattle.std.specs.Prelude.{◌≡◌, ℕ, ◌<◌}
+-- Members as the components of a value.
+use Rattle.std.specs.Prelude.{ℕ}
 use Rattle.asn_base.specs.Abstract.{Row, row_of_options}
-use Rattle.views.specs.declared.part.Parts.{Parts}
-use Rattle.views.specs.Seen.{AreParts}
-use Rattle.views.specs.Tree.{Members, component, component_value, placed}
+use Rattle.views.specs.Tree.{Members, component_value, placed}
 
 -- the row of so many components
 abbrev pub row_of : ℕ → Members → Row
 row_of size ms = row_of_options (placed size (λ i. component_value ms i))
-
--- among these parts the components of the members with greater numbers are found
-pub record IsBehind (ms : Members) (number : ℕ) (ps : Parts) : Type 0 where
-  pub rest : Members
-  pub are : AreParts ps rest
-  pub same : (j : ℕ) → number < j → component ms j ≡ component rest j

@@ -1,7 +1,6 @@
 //! The text of a view, straight from its nodes. It is the text that is printed for the value of the view.
 #![tactic(auto)]
 
-mod members;
 mod part;
 mod view;
 

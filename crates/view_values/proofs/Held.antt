@@ -1,17 +1,14 @@
 -- Values of a kind, as values of a type.
 use Rattle.std.proofs.Common.{arith, ◌≡◌, ℕ, suc, ◌-◌, ◌<◌, List, refl, sym, subst}
-use Rattle.std.specs.Prelude.{Option, Some, None, MatchOption, IfSome, slice_get}
+use Rattle.std.specs.Prelude.{Some, slice_get}
 use Rattle.asn_base.specs.declared.schema.Core.{Core}
 use Rattle.asn_base.specs.declared.tag.Tag.{Tag}
 use Rattle.asn_base.specs.Abstract.{AbstractValue, alternative}
 use Rattle.asn_base.specs.Decided.{IsFlat}
 use Rattle.asn_base.specs.Seen.{kind_of}
 use Rattle.asn_base.specs.Types.{Alternative, Kind, a_choice, Resolved}
-use Rattle.asn_base.specs.Typed.{Fits, ValueIn, value_in, ValueOf, of_leaf, of_sequence, of_set, of_sequence_of, of_set_of, of_choice}
+use Rattle.asn_base.specs.Typed.{IsPrimitive, ValueIn, value_in, ValueOf, of_leaf, of_sequence, of_set, of_sequence_of, of_set_of, of_choice}
 use Rattle.value_text.specs.Print.{alternatives_in}
-use Rattle.views.specs.declared.part.Part.{Part}
-use Rattle.views.specs.Seen.{IsPart}
-use Rattle.views.specs.Tree.{Tree}
 
 one_more : (n : ℕ) → 0 < n → suc (n - 1) ≡ n
 one_more n l = omega arith
@@ -28,7 +25,7 @@ pub held_as : (s : List Resolved) (n t : ℕ) (r : Core) (k : Kind) (v w : Abstr
 held_as s n t r k v w l e f g h =
     subst (λ q. ValueIn s q t v) (one_more n l) (of_kind e.1 (subst (λ q. ValueOf s (n - 1) q v) (sym f) (subst (λ q. ValueOf s (n - 1) k q) (sym g) h)))
 
-pub leaf_as : (s : List Resolved) (n t : ℕ) (r : Core) (v w : AbstractValue) → 0 < n → HasCore s t r → v ≡ w → Fits (kind_of r) w → ValueIn s n t v
+pub leaf_as : (s : List Resolved) (n t : ℕ) (r : Core) (v w : AbstractValue) → 0 < n → HasCore s t r → v ≡ w → IsPrimitive (kind_of r) w → ValueIn s n t v
 leaf_as s n t r v w l e g h = held_as s n t r (kind_of r) v w l e refl g (of_leaf h)
 
 flat_of : {s : List Resolved} {m : ℕ} (n : ℕ) {k : Kind} {v : AbstractValue} → IsFlat v → ValueOf s m k v → ValueOf s n k v
@@ -49,7 +46,3 @@ small_in s m n t v w l e f h = subst (λ q. ValueIn s n t q) e (subst (λ q. Val
 pub choice_of : (s : List Resolved) (n i : ℕ) (k : Kind) (a : Alternative) (v : AbstractValue) → slice_get (alternatives_in k) i ≡ Some a → ValueIn s n a.type v → ValueOf s n k (alternative i v)
 choice_of s n i (a_choice root e more) a v g h = of_choice g h
 choice_of s n i _ a v g h = absurd cc
-
-pub some_part : (found : Option Part) (o : Option Tree) → MatchOption found (o ≡ None) (λ p. (u : Tree) × (o ≡ Some u) × IsPart p u) → IfSome found (λ p. (u : Tree) × IsPart p u)
-some_part None o h = tt
-some_part (Some p) o h = (h.0, h.2)

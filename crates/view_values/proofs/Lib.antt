@@ -2,4 +2,4 @@ pub mod Finding
 pub mod Strings
 pub mod Held
 pub mod Rows
-pub mod Shown
+pub mod ValueKind

@@ -7,10 +7,7 @@ use Rattle.asn_base.specs.Decided.{IsComponent}
 use Rattle.asn_base.specs.Seen.{component_of}
 use Rattle.asn_base.specs.Types.{Component, Resolved}
 use Rattle.asn_base.specs.Typed.{AreComponents, no_component, component_absent, component_present, AreElements, no_element, one_element, ValueIn, members as members'}
-use Rattle.views.specs.declared.part.Parts.{Parts}
-use Rattle.views.specs.Seen.{AreParts}
 use Rattle.views.specs.Tree.{Members, Tree, no_member, member, component, component_value, count, element_values, placed, value_of}
-use Rattle.view_values.specs.Members.{IsBehind}
 use Rattle.view_values.proofs.Strings.{drop_end, drop_is}
 
 -- the value of a component is that of its tree
@@ -51,34 +48,30 @@ one_component (Some v) os h a = component_present h a
 
 -- The components before place i are those of a value: if those from there on are, all are. The members with their
 -- numbers are left.
-pub record Judged (s : List Resolved) (n : ℕ) (cs : List Component') (size : ℕ) (ms : Members) (i : ℕ) (left : Parts) : Type 0 where
-  pub rest : Members
-  pub are : AreParts left rest
-  pub same : (j : ℕ) → i ≤ j → component ms j ≡ component rest j
+pub record Judged (s : List Resolved) (n : ℕ) (cs : List Component') (size : ℕ) (ms : Members) (i : ℕ) (left : Members) : Type 0 where
+  pub same : (j : ℕ) → i ≤ j → component ms j ≡ component left j
   pub whole : AreComponents s n (drop i (map component_of cs)) (row_of_options (drop i (placed size (λ j. component_value ms j))))
       → AreComponents s n (map component_of cs) (row_of_options (placed size (λ j. component_value ms j)))
 
-pub judged_more : (s : List Resolved) (n : ℕ) (cs : List Component') (size : ℕ) (ms : Members) (i : ℕ) (left behind : Parts) (c : Component')
+pub judged_more : (s : List Resolved) (n : ℕ) (cs : List Component') (size : ℕ) (ms : Members) (i : ℕ) (left after : Members) (c : Component')
     (so_far : Judged s n cs size ms i left)
     → length cs ≡ size
     → i < length cs
     → c ≡ get_or cs i c
-    → IsBehind so_far.rest i behind
-    → IsComponent s n (component_of c) (option_map value_of (component so_far.rest i))
-    → Judged s n cs size ms (i + 1) behind
-judged_more s n cs size ms i left behind c so_far long l is b h = record {
-  rest = b.rest;
-  are = b.are;
-  same = λ j m. so_far.same j (omega (arith, m)) ∙ b.same j (omega (arith, m));
+    → ((j : ℕ) → i < j → component after j ≡ component left j)
+    → IsComponent s n (component_of c) (option_map value_of (component left i))
+    → Judged s n cs size ms (i + 1) after
+judged_more s n cs size ms i left after c so_far long l is b h = record {
+  same = λ j m. so_far.same j (omega (arith, m)) ∙ sym (b j (omega (arith, m)));
   whole = λ a.
-      (let o : option_map value_of (component so_far.rest i) ≡ component_value ms i = sym (value_at ms i ∙ ap (option_map value_of) (so_far.same i (omega arith))) in
+      (let o : option_map value_of (component left i) ≡ component_value ms i = sym (value_at ms i ∙ ap (option_map value_of) (so_far.same i (omega arith))) in
       let f : ℕ → Option AbstractValue = λ j. component_value ms j in
       let row = one_component (component_value ms i) (drop (i + 1) (placed size f)) (subst (IsComponent s n (component_of c)) o h) a in
       so_far.whole (subst (λ q. AreComponents s n q (row_of_options (drop i (placed size f)))) (sym (drop_is component_of cs i c l is))
       (subst (λ q. AreComponents s n (component_of c ∷ drop (i + 1) (map component_of cs)) (row_of_options q)) (sym (place_is size f i (omega (arith, l, long)))) row)));
 }
 
-pub judged_all : (s : List Resolved) (n : ℕ) (cs : List Component') (size : ℕ) (ms : Members) (i : ℕ) (left : Parts)
+pub judged_all : (s : List Resolved) (n : ℕ) (cs : List Component') (size : ℕ) (ms : Members) (i : ℕ) (left : Members)
     → Judged s n cs size ms i left
     → length cs ≡ size
     → length cs ≤ i
@@ -90,13 +83,11 @@ judged_all s n cs size ms i left so_far long l =
     (subst (λ q. AreComponents s n [] (row_of_options q)) (sym none) no_component))
 
 -- the elements before those left are of the type
-pub record Listed (s : List Resolved) (n u : ℕ) (ms : Members) (left : Parts) : Type 0 where
-  pub rest : Members
-  pub are : AreParts left rest
-  pub whole : AreElements s n u (element_values rest) → AreElements s n u (element_values ms)
+abbrev pub Listed : List Resolved → ℕ → ℕ → Members → Members → Type 0
+Listed s n u ms left = AreElements s n u (element_values left) → AreElements s n u (element_values ms)
 
-pub element_more : (s : List Resolved) (n u k : ℕ) (t : Tree) (rest behind : Members) → rest ≡ member k t behind → ValueIn s n u (value_of t) → AreElements s n u (element_values behind) → AreElements s n u (element_values rest)
-element_more s n u k t rest behind e h a = subst (λ q. AreElements s n u (element_values q)) (sym e) (one_element h a)
+pub element_more : (s : List Resolved) (n u k : ℕ) (t : Tree) (rest after : Members) → rest ≡ member k t after → ValueIn s n u (value_of t) → AreElements s n u (element_values after) → AreElements s n u (element_values rest)
+element_more s n u k t rest after e h a = subst (λ q. AreElements s n u (element_values q)) (sym e) (one_element h a)
 
 pub elements_over : (s : List Resolved) (n u : ℕ) (rest : Members) → rest ≡ no_member → AreElements s n u (element_values rest)
 elements_over s n u rest e = subst (λ q. AreElements s n u (element_values q)) (sym e) no_element

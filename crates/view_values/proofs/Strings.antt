@@ -7,10 +7,10 @@ use Rattle.std.proofs.lemmas.Bool.{ltb-true, lt-ltb, eqb-true, eq-eqb}
 use Rattle.std.proofs.Math.Dec.{ltb, eqb}
 use Rattle.asn_base.specs.Abstract.{AbstractValue, bits_of_octet}
 use Rattle.asn_base.specs.Types.{Kind}
-use Rattle.asn_base.specs.Typed.{Fits, IsObjectIdentifier, arcs}
+use Rattle.asn_base.specs.Typed.{IsPrimitive, IsObjectIdentifier, arcs}
 
-pub fits_as : {k m : Kind} {v : AbstractValue} → k ≡ m → Fits m v → Fits k v
-fits_as {v = v} e h = subst (λ q. Fits q v) (sym e) h
+pub fits_as : {k m : Kind} {v : AbstractValue} → k ≡ m → IsPrimitive m v → IsPrimitive k v
+fits_as {v = v} e h = subst (λ q. IsPrimitive q v) (sym e) h
 
 pub drop_is : {A B : Type 0} (f : A → B) (xs : List A) (i : ℕ) (d : A) → i < length xs → d ≡ get_or xs i d → drop i (map f xs) ≡ f d ∷ drop (i + 1) (map f xs)
 drop_is f xs i d h e = drop_at f xs i d h ∙ ap (λ x. f x ∷ drop (i + 1) (map f xs)) (sym e)

@@ -4,19 +4,18 @@
 ghost use Rattle.asn_base.specs.Abstract.{boolean, integer, null, bits as bits', octets as octets', oid as oid', relative_oid as relative_oid', text as text'};
 ghost use Rattle.asn_base.specs.Names.{IsMember};
 ghost use Rattle.asn_base.specs.Seen.{constraint_of, kind_of, range_of};
-ghost use Rattle.asn_base.specs.Typed.{Fits, IsAllowed, IsAllowedSize, IsInRange, IsInSome, IsObjectIdentifier, IsRelativeOid};
+ghost use Rattle.asn_base.specs.Typed.{IsPrimitive, IsAllowed, IsAllowedSize, IsInRange, IsInSome, IsObjectIdentifier, IsRelativeOid};
 ghost use Rattle.std.specs.Int.Digits.{AllBelowBase};
 ghost use Rattle.std.specs.List.{AllByRecursion};
 ghost use Rattle.std.specs.Prelude.{◌≡◌, ◌-◌, ◌*◌, ◌<◌, ◌^◌, ◌↔◌, IsTrue, IsUtf8, chars, length, map};
 ghost use Rattle.asn_base.specs.Types.{a_boolean, an_integer};
-ghost use Rattle.views.specs.Seen.{IsPart};
-ghost use Rattle.views.specs.Tree.{Tree, bits_in, value_of};
+ghost use Rattle.views.specs.Tree.{bits_in, value_of};
 
 use asn_base::constraint::{Constraint, Range};
-use asn_base::law::integer_within_limit;
+use asn_base::law::lemma_integer_within_limit;
 use asn_base::schema::Core;
 use limits::MAX_ARCS;
-use views::Part;
+use views::ValueRef;
 
 /// Whether the range has the number.
 #[inline(always)]
@@ -152,7 +151,7 @@ fn is_relative_oid(numbers: &[u64]) -> bool
 
 /// Whether a truth is a value of the kind.
 pub(crate) fn fits_boolean(core: &Core, truth: bool) -> bool
-    ensures { IsTrue result → Fits (kind_of core.now) (boolean truth) }
+    ensures { IsTrue result → IsPrimitive (kind_of core.now) (boolean truth) }
 {
     match core {
         Core::Boolean => true,
@@ -162,9 +161,9 @@ pub(crate) fn fits_boolean(core: &Core, truth: bool) -> bool
 
 /// Whether a number is a value of the kind.
 pub(crate) fn fits_integer(core: &Core, number: i128) -> bool
-    ensures { IsTrue result → Fits (kind_of core.now) (integer number) }
+    ensures { IsTrue result → IsPrimitive (kind_of core.now) (integer number) }
 {
-    integer_within_limit(number);
+    lemma_integer_within_limit(number);
     match core {
         Core::Integer(constraint) => allows(constraint, number),
         _ => false,
@@ -173,7 +172,7 @@ pub(crate) fn fits_integer(core: &Core, number: i128) -> bool
 
 /// Whether NULL is a value of the kind.
 pub(crate) fn fits_null(core: &Core) -> bool
-    ensures { IsTrue result → Fits (kind_of core.now) null }
+    ensures { IsTrue result → IsPrimitive (kind_of core.now) null }
 {
     match core {
         Core::Null => true,
@@ -197,9 +196,8 @@ fn is_in_first(constraint: &Constraint, number: i128) -> bool
 
 /// Whether the part shows a truth.
 #[inline(always)]
-fn shows_truth(part: &Part<'_, '_>) -> bool
-    requires { (t : Tree) × IsPart part.now t }
-    ensures { (t : Tree) → IsPart part.now t → IsTrue result → Fits a_boolean (value_of t) }
+fn shows_truth(part: &ValueRef<'_, '_>) -> bool
+    ensures { IsTrue result → IsPrimitive a_boolean (value_of part.now) }
 {
     match part.as_bool() {
         Some(_) => true,
@@ -209,16 +207,12 @@ fn shows_truth(part: &Part<'_, '_>) -> bool
 
 /// Whether the part shows a number that the constraint's first range has.
 #[inline(always)]
-fn shows_number(constraint: &Constraint, part: &Part<'_, '_>) -> bool
-    requires { (t : Tree) × IsPart part.now t }
-    ensures { (t : Tree)
-        → IsPart part.now t
-        → IsTrue result
-        → Fits (an_integer (constraint_of constraint.now)) (value_of t) }
+fn shows_number(constraint: &Constraint, part: &ValueRef<'_, '_>) -> bool
+    ensures { IsTrue result → IsPrimitive (an_integer (constraint_of constraint.now)) (value_of part.now) }
 {
     match part.as_int() {
         Some(number) => {
-            integer_within_limit(number);
+            lemma_integer_within_limit(number);
             is_in_first(constraint, number)
         }
         None => false,
@@ -228,9 +222,8 @@ fn shows_number(constraint: &Constraint, part: &Part<'_, '_>) -> bool
 /// Whether the part surely shows a truth, or a number that the constraint's first range has, and the kind is such a
 /// one. For most values that hold no others, this test is enough.
 #[inline(always)]
-pub(crate) fn fits_at_once(core: &Core, part: &Part<'_, '_>) -> bool
-    requires { (t : Tree) × IsPart part.now t }
-    ensures { (t : Tree) → IsPart part.now t → IsTrue result → Fits (kind_of core.now) (value_of t) }
+pub(crate) fn fits_at_once(core: &Core, part: &ValueRef<'_, '_>) -> bool
+    ensures { IsTrue result → IsPrimitive (kind_of core.now) (value_of part.now) }
 {
     match core {
         Core::Boolean => shows_truth(part),
@@ -241,7 +234,7 @@ pub(crate) fn fits_at_once(core: &Core, part: &Part<'_, '_>) -> bool
 
 /// Whether octets are a value of the kind.
 pub(crate) fn fits_octets(core: &Core, octets: &[u8]) -> bool
-    ensures { IsTrue result → Fits (kind_of core.now) (octets' octets.now) }
+    ensures { IsTrue result → IsPrimitive (kind_of core.now) (octets' octets.now) }
 {
     match core {
         Core::OctetString(size) => has_allowed_octets(size, octets),
@@ -251,7 +244,7 @@ pub(crate) fn fits_octets(core: &Core, octets: &[u8]) -> bool
 
 /// Whether the bits of octets, without the `unused` ones of the last octet, are a value of the kind.
 pub(crate) fn fits_bits(core: &Core, unused: u8, octets: &[u8]) -> bool
-    ensures { IsTrue result → Fits (kind_of core.now) (bits' (bits_in unused octets.now)) }
+    ensures { IsTrue result → IsPrimitive (kind_of core.now) (bits' (bits_in unused octets.now)) }
 {
     match core {
         Core::BitString(size) => allows_size(size, bit_count(octets, unused)),
@@ -262,7 +255,7 @@ pub(crate) fn fits_bits(core: &Core, unused: u8, octets: &[u8]) -> bool
 
 /// Whether a text is a value of the kind.
 pub(crate) fn fits_text(core: &Core, text: &str) -> bool
-    ensures { IsTrue result → Fits (kind_of core.now) (text' text.now) }
+    ensures { IsTrue result → IsPrimitive (kind_of core.now) (text' text.now) }
 {
     match core {
         Core::Utf8String(size) => has_allowed_characters(size, text),
@@ -273,7 +266,7 @@ pub(crate) fn fits_text(core: &Core, text: &str) -> bool
 
 /// Whether the numbers are an OBJECT IDENTIFIER, and the kind is.
 pub(crate) fn fits_oid(core: &Core, numbers: &[u64]) -> bool
-    ensures { IsTrue result → Fits (kind_of core.now) (oid' numbers.now) }
+    ensures { IsTrue result → IsPrimitive (kind_of core.now) (oid' numbers.now) }
 {
     match core {
         Core::ObjectIdentifier => is_object_identifier(numbers),
@@ -283,7 +276,7 @@ pub(crate) fn fits_oid(core: &Core, numbers: &[u64]) -> bool
 
 /// Whether the numbers are a RELATIVE-OID, and the kind is.
 pub(crate) fn fits_relative_oid(core: &Core, numbers: &[u64]) -> bool
-    ensures { IsTrue result → Fits (kind_of core.now) (relative_oid' numbers.now) }
+    ensures { IsTrue result → IsPrimitive (kind_of core.now) (relative_oid' numbers.now) }
 {
     match core {
         Core::RelativeOid => is_relative_oid(numbers),

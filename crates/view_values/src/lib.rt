@@ -3,7 +3,6 @@
 
 mod groups;
 mod leaf;
-mod members;
 mod value;
 
 pub use value::is_surely_value;

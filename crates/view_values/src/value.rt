@@ -4,32 +4,30 @@ ghost use Rattle.asn_base.specs.Abstract.{abstract, row_of_options};
 ghost use Rattle.asn_base.specs.Decided.{IsComponent, IsFlat};
 ghost use Rattle.asn_base.specs.Seen.{component_of, constraint_of, presence_of};
 ghost use Rattle.asn_base.specs.Typed.{AreComponents, AreElements, GroupsAreWhole, IsAllowedSize, IsValueWithoutNodes, MayBeAbsent, ValueIn, members as members'};
-ghost use Rattle.std.specs.Prelude.{◌≡◌, ◌<◌, ◌≤◌, IfSome, IsTrue, MatchOption, None, Option as Option', Some, length, map, option_map};
-ghost use Rattle.views.specs.Seen.{AreParts, IsPart};
-ghost use Rattle.views.specs.Tree.{Members, Tree, component_value, element_values, placed, value_of};
+ghost use Rattle.std.specs.Prelude.{◌≡◌, ◌<◌, ◌≤◌, IsTrue, length, map, option_map};
+ghost use Rattle.views.specs.Tree.{component_value, element_values, placed, value_of};
 
 use crate::groups::have_no_groups;
 use crate::leaf::{
     allows_size, fits_at_once, fits_bits, fits_boolean, fits_integer, fits_null, fits_octets,
     fits_oid, fits_relative_oid, fits_text,
 };
-use crate::members::taken;
 use asn_base::constraint::Constraint;
 use asn_base::decide::is_value_without_nodes;
-use asn_base::law::{abstract_values, without_groups};
+use asn_base::law::{lemma_abstract_values, lemma_without_groups};
 use asn_base::schema::{Component, Core, Presence, Schema, TypeId};
 use asn_base::value::Value;
 use limits::MAX_LEVELS;
 use value_text::names::alternative_at;
-use views::{Part, Parts, Shown};
+use views::law::lemma_taken_members;
+use views::{MemberRefs, ValueKind, ValueRef};
 
 /// Whether the value that a part shows is surely one of the type, apart from the limit on nodes. If the result is true,
 /// the value is one. If the result is false, a copy of the value must be checked. The value may be one with a component
 /// in version brackets, or with an absent one whose DEFAULT holds others. The call takes no memory, and its time grows
 /// with the nodes.
-pub fn is_surely_value(part: &Part<'_, '_>, schema: &Schema, id: TypeId) -> bool
-    requires { (t : Tree) × IsPart part.now t }
-    ensures { (t : Tree) → IsPart part.now t → IsTrue result → IsValueWithoutNodes schema.now id.index (value_of t) }
+pub fn is_surely_value(part: &ValueRef<'_, '_>, schema: &Schema, id: TypeId) -> bool
+    ensures { IsTrue result → IsValueWithoutNodes schema.now id.index (value_of part.now) }
 {
     is_within(part, schema, MAX_LEVELS, id)
 }
@@ -44,9 +42,8 @@ fn is_small_value(value: &Value, schema: &Schema, id: TypeId) -> bool
 /// Whether the part is surely a value of the type with at most `levels` levels.
 #[cycle(within)]
 #[inline(always)]
-fn is_within(part: &Part<'_, '_>, schema: &Schema, levels: u8, id: TypeId) -> bool
-    requires { (t : Tree) × IsPart part.now t }
-    ensures { (t : Tree) → IsPart part.now t → IsTrue result → ValueIn schema.now levels id.index (value_of t) }
+fn is_within(part: &ValueRef<'_, '_>, schema: &Schema, levels: u8, id: TypeId) -> bool
+    ensures { IsTrue result → ValueIn schema.now levels id.index (value_of part.now) }
 {
     if levels == 0 || !schema.has(id) {
         return false;
@@ -56,43 +53,42 @@ fn is_within(part: &Part<'_, '_>, schema: &Schema, levels: u8, id: TypeId) -> bo
 
 /// The same as `is_within`, for a type that the schema has, whatever its kind.
 #[cycle(within)]
-fn is_any(part: &Part<'_, '_>, schema: &Schema, levels: u8, id: TypeId) -> bool
+fn is_any(part: &ValueRef<'_, '_>, schema: &Schema, levels: u8, id: TypeId) -> bool
     requires some { 0 < levels }
     requires has { id.index < length schema.now }
-    requires part { (t : Tree) × IsPart part.now t }
-    ensures { (t : Tree) → IsPart part.now t → IsTrue result → ValueIn schema.now levels id.index (value_of t) }
+    ensures { IsTrue result → ValueIn schema.now levels id.index (value_of part.now) }
 {
-    abstract_values();
+    lemma_abstract_values();
     let core = schema.core(id);
-    match part.shown() {
-        Shown::Bool(truth) => fits_boolean(core, truth),
-        Shown::Int(number) => fits_integer(core, number),
-        Shown::Enum(number) => is_small_value(&Value::Enum(number), schema, id),
-        Shown::Null => fits_null(core),
-        Shown::Bits(unused, octets) => fits_bits(core, unused, octets),
-        Shown::Octets(octets) => fits_octets(core, octets),
-        Shown::Text(text) => fits_text(core, text),
-        Shown::Oid(numbers) => fits_oid(core, numbers),
-        Shown::RelativeOid(numbers) => fits_relative_oid(core, numbers),
-        Shown::Fields(size, members) => match core {
+    match part.value_kind() {
+        ValueKind::Bool(truth) => fits_boolean(core, truth),
+        ValueKind::Int(number) => fits_integer(core, number),
+        ValueKind::Enum(number) => is_small_value(&Value::Enum(number), schema, id),
+        ValueKind::Null => fits_null(core),
+        ValueKind::Bits(unused, octets) => fits_bits(core, unused, octets),
+        ValueKind::Octets(octets) => fits_octets(core, octets),
+        ValueKind::Text(text) => fits_text(core, text),
+        ValueKind::Oid(numbers) => fits_oid(core, numbers),
+        ValueKind::RelativeOid(numbers) => fits_relative_oid(core, numbers),
+        ValueKind::Fields(size, members) => match core {
             Core::Sequence(_, components) => {
-                are_fields(components.as_slice(), size, &members, schema, levels - 1)
+                are_fields(components.as_slice(), size, members, schema, levels - 1)
             }
             Core::Set(_, components) => {
-                are_fields(components.as_slice(), size, &members, schema, levels - 1)
+                are_fields(components.as_slice(), size, members, schema, levels - 1)
             }
             _ => false,
         },
-        Shown::List(members) => match core {
+        ValueKind::List(members) => match core {
             Core::SequenceOf(size, element) => {
-                are_elements(size, *element, &members, schema, levels - 1)
+                are_elements(size, *element, members, schema, levels - 1)
             }
             Core::SetOf(size, element) => {
-                are_elements(size, *element, &members, schema, levels - 1)
+                are_elements(size, *element, members, schema, levels - 1)
             }
             _ => false,
         },
-        Shown::Alternative(number, inner) => match alternative_at(core, number) {
+        ValueKind::Alternative(number, inner) => match alternative_at(core, number) {
             Some(alternative) => is_within(&inner, schema, levels - 1, alternative.ty),
             None => false,
         },
@@ -104,19 +100,17 @@ fn is_any(part: &Part<'_, '_>, schema: &Schema, levels: u8, id: TypeId) -> bool
 fn are_fields(
     components: &[Component],
     size: usize,
-    members: &Parts<'_, '_>,
+    members: MemberRefs<'_, '_>,
     schema: &Schema,
     levels: u8,
 ) -> bool
-    requires { (ms : Members) × AreParts members.now ms }
-    ensures { (ms : Members)
-        → AreParts members.now ms
-        → IsTrue result
+    ensures { IsTrue result
         → AreComponents schema.now levels (map component_of components.now)
-        (row_of_options (placed size (λ i. component_value ms i)))
-        × GroupsAreWhole (map component_of components.now) (row_of_options (placed size (λ i. component_value ms i))) }
+        (row_of_options (placed size (λ i. component_value members.entry i)))
+        × GroupsAreWhole (map component_of components.now)
+        (row_of_options (placed size (λ i. component_value members.entry i))) }
 {
-    without_groups();
+    lemma_without_groups();
     let count = components.len();
     if count != size || count > 65_535 || !have_no_groups(components) {
         return false;
@@ -129,26 +123,23 @@ fn are_fields(
 fn are_components(
     components: &[Component],
     size: usize,
-    members: &Parts<'_, '_>,
+    members: MemberRefs<'_, '_>,
     schema: &Schema,
     levels: u8,
 ) -> bool
     requires long { length components.now ≡ size }
     requires few { size ≤ 65535 }
-    requires tree { (ms : Members) × AreParts members.now ms }
-    ensures { (ms : Members)
-        → AreParts members.now ms
-        → IsTrue result
+    ensures { IsTrue result
         → AreComponents schema.now levels (map component_of components.now)
-        (row_of_options (placed size (λ i. component_value ms i))) }
+        (row_of_options (placed size (λ i. component_value members.entry i))) }
 {
-    let mut left = *members;
+    lemma_taken_members();
+    let mut left = members;
     for i in 0..components.len() {
-        let (found, behind) = taken(&left, i as u32);
+        let found = left.take_component(i as u32);
         if !is_component(&components[i], &found, schema, levels) {
             return false;
         }
-        left = behind;
     }
     true
 }
@@ -159,15 +150,12 @@ fn are_components(
 #[inline(always)]
 fn is_component(
     component: &Component,
-    found: &Option<Part<'_, '_>>,
+    found: &Option<ValueRef<'_, '_>>,
     schema: &Schema,
     levels: u8,
 ) -> bool
-    requires { IfSome found.now (λ p. (t : Tree) × IsPart p t) }
-    ensures { (o : Option' Tree)
-        → MatchOption found.now (o ≡ None) (λ p. (t : Tree) × (o ≡ Some t) × IsPart p t)
-        → IsTrue result
-        → IsComponent schema.now levels (component_of component.now) (option_map value_of o) }
+    ensures { IsTrue result
+        → IsComponent schema.now levels (component_of component.now) (option_map value_of found.now) }
 {
     match found {
         Some(part) => is_within(part, schema, levels, component.ty),
@@ -204,7 +192,7 @@ fn is_small_default(default: &Value, schema: &Schema, levels: u8, id: TypeId) ->
 fn is_flat(value: &Value) -> bool
     ensures { IsTrue result → IsFlat (abstract value.now) }
 {
-    abstract_values();
+    lemma_abstract_values();
     match value {
         Value::Fields(_) => false,
         Value::List(_) => false,
@@ -226,26 +214,22 @@ fn is_flat(value: &Value) -> bool
 fn are_elements(
     size: &Constraint,
     element: TypeId,
-    members: &Parts<'_, '_>,
+    members: MemberRefs<'_, '_>,
     schema: &Schema,
     levels: u8,
 ) -> bool
-    requires { (ms : Members) × AreParts members.now ms }
-    ensures { (ms : Members)
-        → AreParts members.now ms
-        → IsTrue result
-        → AreElements schema.now levels element.index (element_values ms)
-        × IsAllowedSize (constraint_of size.now) (members' (element_values ms)) }
+    ensures { IsTrue result
+        → AreElements schema.now levels element.index (element_values members.entry)
+        × IsAllowedSize (constraint_of size.now) (members' (element_values members.entry)) }
 {
-    if !allows_size(size, members.count() as u128) {
+    if !allows_size(size, members.member_count() as u128) {
         return false;
     }
-    let mut left = *members;
-    while let Some((_, part, behind)) = left.split() {
+    let mut left = members;
+    while let Some((_, part)) = left.next() {
         if !is_within(&part, schema, levels, element) {
             return false;
         }
-        left = behind;
     }
     true
 }

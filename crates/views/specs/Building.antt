@@ -1,7 +1,7 @@
 -- A tree while it is built: nodes are added in the order of the message.
 use Rattle.std.specs.Prelude.{◌≡◌, ℕ, List, [], ◌∷◌, ◌++◌, length}
 use Rattle.views.specs.Tree.{AreBorrowed, Leaf, Tree, leaf, fields, list, alternative, Members, no_member, member, joined}
-use Rattle.views.specs.Nodes.{Told, some_fields, some_elements, an_alternative, Node, node, member_nodes}
+use Rattle.views.specs.Nodes.{NodeContent, some_fields, some_elements, an_alternative, Node, node, member_nodes}
 
 -- an open node: a row of size components, a list, or the alternative with an index
 pub data Header : Type 0 where
@@ -49,15 +49,15 @@ pub record IsClosed (a : Building) (w : Waiting) (ws : List Waiting) (t : Tree) 
   pub closed : b ≡ record { here = joined w.before (member w.number t no_member); waits = ws }
 
 -- the header of an open node, with extent 0 as long as it is open
-abbrev pub told_open : Header → Told
-told_open (open_fields n) = some_fields n 0
-told_open open_list = some_elements 0
-told_open (open_alternative i) = an_alternative i 0
+abbrev pub open_content : Header → NodeContent
+open_content (open_fields n) = some_fields n 0
+open_content open_list = some_elements 0
+open_content (open_alternative i) = an_alternative i 0
 
 -- the nodes of the open nodes and of the members before each of them, in order
 abbrev pub waiting_nodes : List Waiting → List Node
 waiting_nodes [] = []
-waiting_nodes (w ∷ ws) = (waiting_nodes ws ++ member_nodes w.before) ++ node w.number (told_open w.header) ∷ []
+waiting_nodes (w ∷ ws) = (waiting_nodes ws ++ member_nodes w.before) ++ node w.number (open_content w.header) ∷ []
 
 abbrev pub built_nodes : Building → List Node
 built_nodes b = waiting_nodes b.waits ++ member_nodes b.here

@@ -4,20 +4,20 @@ use Rattle.std.specs.Prelude.{ℕ, ◌+◌, List, [], ◌∷◌, ◌++◌, lengt
 use Rattle.views.specs.Tree.{Leaf, Tree, leaf, fields, list, alternative, Members, no_member, member}
 
 -- what a node says; a node that holds others also says its extent: how many nodes it is with all below it
-pub data Told : Type 0 where
-  a_leaf : Leaf → Told
-  some_fields : (size extent : ℕ) → Told
-  some_elements : (extent : ℕ) → Told
-  an_alternative : (index extent : ℕ) → Told
+pub data NodeContent : Type 0 where
+  a_leaf : Leaf → NodeContent
+  some_fields : (size extent : ℕ) → NodeContent
+  some_elements : (extent : ℕ) → NodeContent
+  an_alternative : (index extent : ℕ) → NodeContent
 
 -- a node, with the number of the component that it is
 pub record Node : Type 0 where
   pub number : ℕ
-  pub told : Told
+  pub content : NodeContent
 
 -- the node with this number of a component that says this
-abbrev pub node : ℕ → Told → Node
-node k w = record { number = k; told = w }
+abbrev pub node : ℕ → NodeContent → Node
+node k w = record { number = k; content = w }
 
 abbrev mutual
   -- the nodes of a tree that is the component with this number
@@ -33,14 +33,14 @@ abbrev mutual
   member_nodes (member k t ms) = nodes k t ++ member_nodes ms
 
 -- how many nodes it is with all below it
-abbrev pub extent : Told → ℕ
+abbrev pub extent : NodeContent → ℕ
 extent (a_leaf l) = 1
 extent (some_fields size e) = e
 extent (some_elements e) = e
 extent (an_alternative index e) = e
 
 -- the same with this extent; a leaf stays as it is
-abbrev pub with_extent : Told → ℕ → Told
+abbrev pub with_extent : NodeContent → ℕ → NodeContent
 with_extent (a_leaf l) e = a_leaf l
 with_extent (some_fields size d) e = some_fields size e
 with_extent (some_elements d) e = some_elements e

@@ -80,23 +80,41 @@ abbrev pub count : Members → ℕ
 count no_member = 0
 count (member k t ms) = count ms + 1
 
+-- the members that are left when the component with a number was asked for: without the first one if it is that one
+abbrev pub left_after : ℕ → Members → Members
+left_after i no_member = no_member
+left_after i (member k t ms) = cond (k == i) ms (member k t ms)
+
+abbrev mutual
+  -- how many nodes a value is, with all below it
+  pub nodes_in : Tree → ℕ
+  nodes_in (leaf l) = 1
+  nodes_in (fields n ms) = nodes_left ms + 1
+  nodes_in (list ms) = nodes_left ms + 1
+  nodes_in (alternative i t) = nodes_in t + 1
+
+  -- how many nodes members are, with all below them
+  pub nodes_left : Members → ℕ
+  nodes_left no_member = 0
+  nodes_left (member k t ms) = nodes_in t + nodes_left ms
+
 -- the first members, and then the second ones
 abbrev pub joined : Members → Members → Members
 joined no_member ns = ns
 joined (member k t ms) ns = member k t (joined ms ns)
 
 -- octets with a place are the message's octets at that place; octets without one may be any
-abbrev pub StandsAt : List ℕ → List ℕ → Option ℕ → Type 0
-StandsAt message os None = Unit {0}
-StandsAt message os (Some p) = slice_range message p (p + length os) ≡ os
+abbrev pub IsBorrowedAt : List ℕ → List ℕ → Option ℕ → Type 0
+IsBorrowedAt message os None = Unit {0}
+IsBorrowedAt message os (Some p) = slice_range message p (p + length os) ≡ os
 
 abbrev pub IsBorrowedLeaf : List ℕ → Leaf → Type 0
 IsBorrowedLeaf message (boolean b) = Unit {0}
 IsBorrowedLeaf message (integer z) = Unit {0}
 IsBorrowedLeaf message (enumerated z) = Unit {0}
-IsBorrowedLeaf message (bits unused os at) = StandsAt message os at
-IsBorrowedLeaf message (octets os at) = StandsAt message os at
-IsBorrowedLeaf message (text os at) = StandsAt message os at
+IsBorrowedLeaf message (bits unused os at) = IsBorrowedAt message os at
+IsBorrowedLeaf message (octets os at) = IsBorrowedAt message os at
+IsBorrowedLeaf message (text os at) = IsBorrowedAt message os at
 IsBorrowedLeaf message null = Unit {0}
 IsBorrowedLeaf message (oid ns) = Unit {0}
 IsBorrowedLeaf message (relative_oid ns) = Unit {0}

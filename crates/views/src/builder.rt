@@ -1,13 +1,13 @@
 //! Views are built in the order of the message.
 
 ghost use Rattle.std.specs.Prelude.{◌≡◌, ◌<◌, ◌^◌, ◌∷◌, [], List, None, OnOk, Some, length, ℕ, string_bytes};
-ghost use Rattle.views.specs.Building.{Building, Header, IsClosed, Waiting, begun, opened, open_alternative, open_fields, open_list, told_open, with_leaf, with_tree};
+ghost use Rattle.views.specs.Building.{Building, Header, IsClosed, Waiting, begun, opened, open_alternative, open_fields, open_list, open_content, with_leaf, with_tree};
 ghost use Rattle.views.specs.Nodes.{node, nodes};
-ghost use Rattle.views.specs.Seen.{Holds, IsToldWithin, IsView, beside_of, told_of};
+ghost use Rattle.views.specs.Seen.{HasBuilt, IsContentWithin, IsView, side_lists, content_of};
 ghost use Rattle.views.specs.Tree.{Tree, bits, boolean, enumerated, integer, member, no_member, null, octets, oid, relative_oid, text};
 
-use crate::halves::Halves;
-use crate::node::{Lists, Node, Told};
+use crate::node::{Lists, Node, NodeContent};
+use crate::packed_i128::PackedI128;
 use crate::view::View;
 use std::alloc::{AllocError, Global};
 
@@ -38,7 +38,7 @@ fn with_room<'a>(alloc: Global) -> Vec<Node<'a>>
 impl<'a> Builder<'a> {
     /// A builder with nothing in it.
     pub fn new(alloc: Global) -> Self
-        ensures { Holds result begun }
+        ensures { HasBuilt result begun }
     {
         Builder {
             nodes: with_room(alloc),
@@ -53,54 +53,54 @@ impl<'a> Builder<'a> {
 
     /// Adds a value of one node.
     #[inline(always)]
-    fn add(&mut self, number: u32, told: Told<'a>) -> Result<(), AllocError>
-        requires { IsToldWithin (beside_of self.old.lists) told }
+    fn add(&mut self, number: u32, content: NodeContent<'a>) -> Result<(), AllocError>
+        requires { IsContentWithin (side_lists self.old.lists) content }
         ensures { (b : Building) (t : Tree)
-            → Holds self.old b
-            → nodes number t ≡ node number (told_of (beside_of self.old.lists) told.entry) ∷ []
-            → OnOk result (Holds self.new (with_tree number t b)) }
+            → HasBuilt self.old b
+            → nodes number t ≡ node number (content_of (side_lists self.old.lists) content.entry) ∷ []
+            → OnOk result (HasBuilt self.new (with_tree number t b)) }
     {
-        self.nodes.push(Node { number, told })?;
+        self.nodes.push(Node { number, content })?;
         Ok(())
     }
 
     /// Adds a BOOLEAN.
     pub fn push_bool(&mut self, number: u32, truth: bool) -> Result<(), AllocError>
         ensures { (b : Building)
-            → Holds self.old b
-            → OnOk result (Holds self.new (with_leaf number (boolean truth) b)) }
+            → HasBuilt self.old b
+            → OnOk result (HasBuilt self.new (with_leaf number (boolean truth) b)) }
     {
-        self.add(number, Told::Bool(truth))?;
+        self.add(number, NodeContent::Bool(truth))?;
         Ok(())
     }
 
     /// Adds an INTEGER.
     pub fn push_int(&mut self, number: u32, value: i128) -> Result<(), AllocError>
         ensures { (b : Building)
-            → Holds self.old b
-            → OnOk result (Holds self.new (with_leaf number (integer value) b)) }
+            → HasBuilt self.old b
+            → OnOk result (HasBuilt self.new (with_leaf number (integer value) b)) }
     {
-        self.add(number, Told::Int(Halves::of(value)))?;
+        self.add(number, NodeContent::Int(PackedI128::of(value)))?;
         Ok(())
     }
 
     /// Adds an ENUMERATED, by the number of its item.
     pub fn push_enum(&mut self, number: u32, item: i128) -> Result<(), AllocError>
         ensures { (b : Building)
-            → Holds self.old b
-            → OnOk result (Holds self.new (with_leaf number (enumerated item) b)) }
+            → HasBuilt self.old b
+            → OnOk result (HasBuilt self.new (with_leaf number (enumerated item) b)) }
     {
-        self.add(number, Told::Enum(Halves::of(item)))?;
+        self.add(number, NodeContent::Enum(PackedI128::of(item)))?;
         Ok(())
     }
 
     /// Adds a NULL.
     pub fn push_null(&mut self, number: u32) -> Result<(), AllocError>
         ensures { (b : Building)
-            → Holds self.old b
-            → OnOk result (Holds self.new (with_leaf number null b)) }
+            → HasBuilt self.old b
+            → OnOk result (HasBuilt self.new (with_leaf number null b)) }
     {
-        self.add(number, Told::Null)?;
+        self.add(number, NodeContent::Null)?;
         Ok(())
     }
 
@@ -108,11 +108,11 @@ impl<'a> Builder<'a> {
     pub fn push_octets(&mut self, number: u32, value: &'a [u8], at: usize) -> Result<(), AllocError>
         requires { at < 2 ^ 32 }
         ensures { (b : Building)
-            → Holds self.old b
-            → OnOk result (Holds self.new (with_leaf number (octets value.now (Some at)) b)) }
+            → HasBuilt self.old b
+            → OnOk result (HasBuilt self.new (with_leaf number (octets value.now (Some at)) b)) }
     {
         let at = at as u32;
-        self.add(number, Told::Octets { at, octets: value })?;
+        self.add(number, NodeContent::Octets { at, octets: value })?;
         Ok(())
     }
 
@@ -130,13 +130,13 @@ impl<'a> Builder<'a> {
         requires few_unused { unused < 8 }
         requires unused_in_octets { length value.now ≡ 0 → unused ≡ 0 }
         ensures { (b : Building)
-            → Holds self.old b
-            → OnOk result (Holds self.new (with_leaf number (bits unused value.now (Some at)) b)) }
+            → HasBuilt self.old b
+            → OnOk result (HasBuilt self.new (with_leaf number (bits unused value.now (Some at)) b)) }
     {
         let at = at as u32;
         self.add(
             number,
-            Told::Bits {
+            NodeContent::Bits {
                 unused,
                 at,
                 octets: value,
@@ -149,23 +149,23 @@ impl<'a> Builder<'a> {
     pub fn push_text(&mut self, number: u32, value: &'a str, at: usize) -> Result<(), AllocError>
         requires { at < 2 ^ 32 }
         ensures { (b : Building)
-            → Holds self.old b
-            → OnOk result (Holds self.new (with_leaf number (text value.now (Some at)) b)) }
+            → HasBuilt self.old b
+            → OnOk result (HasBuilt self.new (with_leaf number (text value.now (Some at)) b)) }
     {
         let at = at as u32;
-        self.add(number, Told::Text { at, text: value })?;
+        self.add(number, NodeContent::Text { at, text: value })?;
         Ok(())
     }
 
     /// Adds an OCTET STRING whose octets were joined from segments. They are copied.
     pub fn push_joined_octets(&mut self, number: u32, value: &[u8]) -> Result<(), AllocError>
         ensures { (b : Building)
-            → Holds self.old b
-            → OnOk result (Holds self.new (with_leaf number (octets value.now None) b)) }
+            → HasBuilt self.old b
+            → OnOk result (HasBuilt self.new (with_leaf number (octets value.now None) b)) }
     {
         let from = self.lists.add_octets(value)?;
         let to = self.lists.octets.len();
-        self.add(number, Told::JoinedOctets { from, to })?;
+        self.add(number, NodeContent::JoinedOctets { from, to })?;
         Ok(())
     }
 
@@ -179,89 +179,89 @@ impl<'a> Builder<'a> {
         requires few_unused { unused < 8 }
         requires unused_in_octets { length value.now ≡ 0 → unused ≡ 0 }
         ensures { (b : Building)
-            → Holds self.old b
-            → OnOk result (Holds self.new (with_leaf number (bits unused value.now None) b)) }
+            → HasBuilt self.old b
+            → OnOk result (HasBuilt self.new (with_leaf number (bits unused value.now None) b)) }
     {
         let from = self.lists.add_octets(value)?;
         let to = self.lists.octets.len();
-        self.add(number, Told::JoinedBits { unused, from, to })?;
+        self.add(number, NodeContent::JoinedBits { unused, from, to })?;
         Ok(())
     }
 
     /// Adds a character string that was joined from segments.
     pub fn push_joined_text(&mut self, number: u32, value: String) -> Result<(), AllocError>
         ensures { (b : Building)
-            → Holds self.old b
-            → OnOk result (Holds self.new (with_leaf number (text (string_bytes value) None) b)) }
+            → HasBuilt self.old b
+            → OnOk result (HasBuilt self.new (with_leaf number (text (string_bytes value) None) b)) }
     {
         let place = self.lists.add_text(value)?;
-        self.add(number, Told::JoinedText(place))?;
+        self.add(number, NodeContent::JoinedText(place))?;
         Ok(())
     }
 
     /// Adds an OBJECT IDENTIFIER by its numbers, which are copied.
     pub fn push_oid(&mut self, number: u32, arcs: &[u64]) -> Result<(), AllocError>
         ensures { (b : Building)
-            → Holds self.old b
-            → OnOk result (Holds self.new (with_leaf number (oid arcs.now) b)) }
+            → HasBuilt self.old b
+            → OnOk result (HasBuilt self.new (with_leaf number (oid arcs.now) b)) }
     {
         let from = self.lists.add_arcs(arcs)?;
         let to = self.lists.arcs.len();
-        self.add(number, Told::Oid { from, to })?;
+        self.add(number, NodeContent::Oid { from, to })?;
         Ok(())
     }
 
     /// Adds a RELATIVE-OID by its numbers, which are copied.
     pub fn push_relative_oid(&mut self, number: u32, arcs: &[u64]) -> Result<(), AllocError>
         ensures { (b : Building)
-            → Holds self.old b
-            → OnOk result (Holds self.new (with_leaf number (relative_oid arcs.now) b)) }
+            → HasBuilt self.old b
+            → OnOk result (HasBuilt self.new (with_leaf number (relative_oid arcs.now) b)) }
     {
         let from = self.lists.add_arcs(arcs)?;
         let to = self.lists.arcs.len();
-        self.add(number, Told::RelativeOid { from, to })?;
+        self.add(number, NodeContent::RelativeOid { from, to })?;
         Ok(())
     }
 
     /// Opens a node.
     #[inline(always)]
-    fn open(&mut self, number: u32, told: Told<'a>) -> Result<(), AllocError>
-        requires { IsToldWithin (beside_of self.old.lists) told }
+    fn open(&mut self, number: u32, content: NodeContent<'a>) -> Result<(), AllocError>
+        requires { IsContentWithin (side_lists self.old.lists) content }
         ensures { (b : Building) (h : Header)
-            → Holds self.old b
-            → told_of (beside_of self.old.lists) told.entry ≡ told_open h
-            → OnOk result (Holds self.new (opened number h b)) }
+            → HasBuilt self.old b
+            → content_of (side_lists self.old.lists) content.entry ≡ open_content h
+            → OnOk result (HasBuilt self.new (opened number h b)) }
     {
         let place = self.nodes.len();
         self.headers.push(place)?;
-        self.nodes.push(Node { number, told })?;
+        self.nodes.push(Node { number, content })?;
         Ok(())
     }
 
     /// Opens a SEQUENCE or SET of `size` components: those that are there follow, then `close`.
     pub fn open_fields(&mut self, number: u32, size: usize) -> Result<(), AllocError>
-        ensures { (b : Building) → Holds self.old b
-            → OnOk result (Holds self.new (opened number (open_fields size) b)) }
+        ensures { (b : Building) → HasBuilt self.old b
+            → OnOk result (HasBuilt self.new (opened number (open_fields size) b)) }
     {
-        self.open(number, Told::Fields { size, extent: 0 })?;
+        self.open(number, NodeContent::Fields { size, extent: 0 })?;
         Ok(())
     }
 
     /// Opens a SEQUENCE OF or SET OF: the elements follow, then `close`.
     pub fn open_list(&mut self, number: u32) -> Result<(), AllocError>
-        ensures { (b : Building) → Holds self.old b → OnOk result (Holds self.new (opened number open_list b)) }
+        ensures { (b : Building) → HasBuilt self.old b → OnOk result (HasBuilt self.new (opened number open_list b)) }
     {
-        self.open(number, Told::List { extent: 0 })?;
+        self.open(number, NodeContent::List { extent: 0 })?;
         Ok(())
     }
 
     /// Opens a CHOICE by the number of the alternative: its value follows, then `close`.
     pub fn open_alternative(&mut self, number: u32, index: usize) -> Result<(), AllocError>
         ensures { (b : Building)
-            → Holds self.old b
-            → OnOk result (Holds self.new (opened number (open_alternative index) b)) }
+            → HasBuilt self.old b
+            → OnOk result (HasBuilt self.new (opened number (open_alternative index) b)) }
     {
-        self.open(number, Told::Alternative { index, extent: 0 })?;
+        self.open(number, NodeContent::Alternative { index, extent: 0 })?;
         Ok(())
     }
 
@@ -269,19 +269,19 @@ impl<'a> Builder<'a> {
     /// takes no memory. If nothing is open, nothing is done.
     pub fn close(&mut self)
         ensures { (b c : Building) (w : Waiting) (ws : List Waiting) (t : Tree)
-            → Holds self.old b
+            → HasBuilt self.old b
             → IsClosed b w ws t c
-            → Holds self.new c }
+            → HasBuilt self.new c }
     {
         match self.headers.pop() {
             Some(place) => {
                 let length = self.nodes.len();
                 if place < length {
                     let node = self.nodes[place];
-                    let told = node.told.with_extent(length - place);
+                    let content = node.content.with_extent(length - place);
                     self.nodes[place] = Node {
                         number: node.number,
-                        told,
+                        content,
                     };
                 }
             }
@@ -291,7 +291,7 @@ impl<'a> Builder<'a> {
 
     /// The view of the one value that was added, as number 0. No node may be open.
     pub fn finish(self) -> View<'a>
-        ensures { (t : Tree) → Holds self.entry (record { here = member 0 t no_member; waits = [] }) → IsView result t }
+        ensures { (t : Tree) → HasBuilt self.entry (record { here = member 0 t no_member; waits = [] }) → IsView result t }
     {
         View {
             nodes: self.nodes,

@@ -1,13 +1,13 @@
 //! Laws of views, for the crates above.
 
 ghost use Rattle.std.specs.List.{slice_range};
-ghost use Rattle.std.specs.Prelude.{◌≡◌, ◌+◌, ℕ, List, [], Option, Some, length};
+ghost use Rattle.std.specs.Prelude.{◌≡◌, ◌+◌, ◌<◌, ◌≤◌, ℕ, List, [], Option, Some, length};
 ghost use Rattle.views.specs.Building.{Building, Header, IsBorrowedSoFar, IsClosed, Waiting, begun, opened, with_leaf};
-ghost use Rattle.views.specs.Tree.{AreBorrowed, IsBorrowed, IsBorrowedLeaf, Leaf, Members, Tree, alternative_in, bit_string_in, component, member, members_in, no_member, octets_in, text_in};
+ghost use Rattle.views.specs.Tree.{AreBorrowed, IsBorrowed, IsBorrowedLeaf, Leaf, Members, Tree, alternative_in, bit_string_in, component, left_after, member, members_in, no_member, nodes_in, nodes_left, octets_in, text_in};
 
 /// A view borrows the message: each string that was added with a place is the message's octets at that place. Nothing
 /// is borrowed at the beginning, and each call of a builder keeps this, so it is true of the finished tree.
-pub fn borrowed_while_built()
+pub fn lemma_borrowed_while_built()
     ensures begun { (message : List ℕ) → IsBorrowedSoFar message begun }
     ensures with_leaf { (message : List ℕ) (number : ℕ) (l : Leaf) (b : Building)
         → IsBorrowedSoFar message b
@@ -27,7 +27,7 @@ pub fn borrowed_while_built()
 
 /// What a view that borrows the message shows with a place is the message's octets from that place on. The same is true
 /// of its parts.
-pub fn borrowed_parts()
+pub fn lemma_borrowed_parts()
     ensures octets { (message os : List ℕ) (at : ℕ) (t : Tree)
         → IsBorrowed message t
         → octets_in t ≡ Some (os, Some at)
@@ -49,4 +49,14 @@ pub fn borrowed_parts()
         → IsBorrowed message t
         → alternative_in t ≡ Some (number, u)
         → IsBorrowed message u }
+{}
+
+/// Members that are taken in the order of their numbers: each later one is found among those that are left, and no
+/// more nodes are left than before. A component has no more nodes than the members among which it is, and each value
+/// has some.
+pub fn lemma_taken_members()
+    ensures later { (i j : ℕ) (ms : Members) → i < j → component (left_after i ms) j ≡ component ms j }
+    ensures fewer { (i : ℕ) (ms : Members) → nodes_left (left_after i ms) ≤ nodes_left ms }
+    ensures within { (i : ℕ) (ms : Members) (t : Tree) → component ms i ≡ Some t → nodes_in t ≤ nodes_left ms }
+    ensures some { (t : Tree) → 1 ≤ nodes_in t }
 {}

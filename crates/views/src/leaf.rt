@@ -3,44 +3,54 @@
 ghost use Rattle.asn_base.specs.Abstract.{AbstractValue, abstract};
 ghost use Rattle.std.specs.Prelude.{◌≡◌, IfOk};
 ghost use Rattle.views.specs.Nodes.{a_leaf};
-ghost use Rattle.views.specs.Seen.{IsToldWithin, beside_of, told_of};
+ghost use Rattle.views.specs.Seen.{IsContentWithin, side_lists, content_of};
 ghost use Rattle.views.specs.Tree.{Leaf, leaf_value as leaf_value'};
 
-use crate::node::{Lists, Told};
-use asn_base::law::abstract_values;
+use crate::node::{Lists, NodeContent};
+use asn_base::law::lemma_abstract_values;
 use asn_base::value::{BitString, Value};
 use std::alloc::{AllocError, Global};
 
 /// The value of a leaf. The value of any other node is a NULL.
-pub(crate) fn leaf_value(alloc: Global, lists: &Lists, told: Told<'_>) -> Result<Value, AllocError>
-    requires { IsToldWithin (beside_of lists.now) told }
+pub(crate) fn leaf_value(
+    alloc: Global,
+    lists: &Lists,
+    content: NodeContent<'_>,
+) -> Result<Value, AllocError>
+    requires { IsContentWithin (side_lists lists.now) content }
     ensures { (l : Leaf)
-        → told_of (beside_of lists.now) told.entry ≡ a_leaf l
+        → content_of (side_lists lists.now) content.entry ≡ a_leaf l
         → IfOk result (λ v. abstract v ≡ leaf_value' l) }
 {
-    abstract_values();
-    match told {
-        Told::Bool(truth) => Ok(Value::Bool(truth)),
-        Told::Int(number) => Ok(Value::Int(number.number())),
-        Told::Enum(number) => Ok(Value::Enum(number.number())),
-        Told::Bits {
+    lemma_abstract_values();
+    match content {
+        NodeContent::Bool(truth) => Ok(Value::Bool(truth)),
+        NodeContent::Int(number) => Ok(Value::Int(number.number())),
+        NodeContent::Enum(number) => Ok(Value::Enum(number.number())),
+        NodeContent::Bits {
             unused,
             at: _,
             octets,
         } => Ok(Value::Bits(BitString::of(copied(alloc, octets)?, unused))),
-        Told::JoinedBits { unused, from, to } => {
+        NodeContent::JoinedBits { unused, from, to } => {
             Ok(Value::Bits(BitString::of(copied(alloc, lists.octets_in(from, to))?, unused)))
         }
-        Told::Octets { at: _, octets } => Ok(Value::Octets(copied(alloc, octets)?)),
-        Told::JoinedOctets { from, to } => Ok(Value::Octets(copied(
+        NodeContent::Octets { at: _, octets } => Ok(Value::Octets(copied(alloc, octets)?)),
+        NodeContent::JoinedOctets { from, to } => Ok(Value::Octets(copied(
             alloc,
             lists.octets_in(from, to),
         )?)),
-        Told::Text { at: _, text } => Ok(Value::Text(String::from_str(alloc, text)?)),
-        Told::JoinedText(place) => Ok(Value::Text(String::from_str(alloc, lists.text_at(place))?)),
-        Told::Null => Ok(Value::Null),
-        Told::Oid { from, to } => Ok(Value::Oid(copied_arcs(alloc, lists.arcs_in(from, to))?)),
-        Told::RelativeOid { from, to } => {
+        NodeContent::Text { at: _, text } => Ok(Value::Text(String::from_str(alloc, text)?)),
+        NodeContent::JoinedText(place) => Ok(Value::Text(String::from_str(
+            alloc,
+            lists.text_at(place),
+        )?)),
+        NodeContent::Null => Ok(Value::Null),
+        NodeContent::Oid { from, to } => Ok(Value::Oid(copied_arcs(
+            alloc,
+            lists.arcs_in(from, to),
+        )?)),
+        NodeContent::RelativeOid { from, to } => {
             Ok(Value::RelativeOid(copied_arcs(alloc, lists.arcs_in(from, to))?))
         }
         _ => Ok(Value::Null),

@@ -2,16 +2,16 @@
 #![tactic(auto)]
 
 mod builder;
-mod front;
-mod halves;
 pub mod law;
 mod leaf;
 mod node;
+mod node_slices;
+mod packed_i128;
 mod part;
-mod shown;
+mod value_kind;
 mod view;
 
 pub use builder::Builder;
-pub use part::{Part, Parts};
-pub use shown::Shown;
+pub use part::{MemberRefs, ValueRef};
+pub use value_kind::ValueKind;
 pub use view::View;

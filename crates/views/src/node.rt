@@ -2,19 +2,19 @@
 
 ghost use Rattle.std.specs.Prelude.{◌≡◌, ◌<◌, ◌++◌, ◌∷◌, [], length, get_or, map, IfOk, string_bytes};
 ghost use Rattle.views.specs.Nodes.{extent as extent', with_extent};
-ghost use Rattle.views.specs.Seen.{Beside, IsToldWithin, IsWithin, told_of};
+ghost use Rattle.views.specs.Seen.{SideLists, IsContentWithin, IsWithin, content_of};
 ghost use Rattle.std.specs.List.{slice_range};
 
-use crate::halves::Halves;
+use crate::packed_i128::PackedI128;
 use std::alloc::AllocError;
 
 /// What a node says. A string is a slice of the message with its place, or an entry of the lists beside the nodes if it
 /// was joined from segments. `extent` is how many nodes it is with all below it, which come right after it.
 #[derive(Clone, Copy)]
-pub(crate) enum Told<'a> {
+pub(crate) enum NodeContent<'a> {
     Bool(bool),
-    Int(Halves),
-    Enum(Halves),
+    Int(PackedI128),
+    Enum(PackedI128),
     Bits {
         unused: u8,
         at: u32,
@@ -64,7 +64,7 @@ pub(crate) enum Told<'a> {
 #[derive(Clone, Copy)]
 pub(crate) struct Node<'a> {
     pub number: u32,
-    pub told: Told<'a>,
+    pub content: NodeContent<'a>,
 }
 
 /// A node takes 32 octets.
@@ -77,28 +77,31 @@ pub(crate) struct Lists {
     pub arcs: Vec<u64>,
 }
 
-impl<'a> Told<'a> {
+impl<'a> NodeContent<'a> {
     /// How many nodes it is with all below it.
     pub(crate) fn extent(self) -> usize
-        ensures { (b : Beside) → result ≡ extent' (told_of b self.entry) }
+        ensures { (b : SideLists) → result ≡ extent' (content_of b self.entry) }
     {
         match self {
-            Told::Fields { size: _, extent } => extent,
-            Told::List { extent } => extent,
-            Told::Alternative { index: _, extent } => extent,
+            NodeContent::Fields { size: _, extent } => extent,
+            NodeContent::List { extent } => extent,
+            NodeContent::Alternative { index: _, extent } => extent,
             _ => 1,
         }
     }
 
     /// The same with this extent. A leaf stays as it is.
-    pub(crate) fn with_extent(self, extent: usize) -> Told<'a>
-        ensures told { (b : Beside) → told_of b result ≡ with_extent (told_of b self.entry) extent }
-        ensures within { (b : Beside) → IsToldWithin b self.entry → IsToldWithin b result }
+    pub(crate) fn with_extent(self, extent: usize) -> NodeContent<'a>
+        ensures content { (b : SideLists) → content_of b result ≡ with_extent (content_of b self.entry) extent }
+        ensures within { (b : SideLists) → IsContentWithin b self.entry → IsContentWithin b result }
     {
         match self {
-            Told::Fields { size, extent: _ } => Told::Fields { size, extent },
-            Told::List { extent: _ } => Told::List { extent },
-            Told::Alternative { index, extent: _ } => Told::Alternative { index, extent },
+            NodeContent::Fields { size, extent: _ } => NodeContent::Fields { size, extent },
+            NodeContent::List { extent: _ } => NodeContent::List { extent },
+            NodeContent::Alternative { index, extent: _ } => NodeContent::Alternative {
+                index,
+                extent,
+            },
             other => other,
         }
     }

@@ -2,15 +2,15 @@
 
 ghost use Rattle.asn_base.specs.Abstract.{abstract, row_of_list, row_of_options};
 ghost use Rattle.std.specs.Prelude.{◌≡◌, ◌++◌, ◌∷◌, [], ℕ, IfOk, OnOk, map, option_map};
-ghost use Rattle.views.specs.Seen.{IsPart, IsView, Spell, SpellMembers, beside_of};
+ghost use Rattle.views.specs.Seen.{IsView, Spell, SpellMembers, side_lists};
 ghost use Rattle.views.specs.Rows.{AreAbsent, IsPut};
 ghost use Rattle.views.specs.Tree.{Members, Tree, component_value, element_values, placed, value_of};
 
-use crate::front::{below, between, first_of, next_of};
 use crate::leaf::leaf_value;
-use crate::node::{Lists, Node, Told};
-use crate::part::Part;
-use asn_base::law::abstract_values;
+use crate::node::{Lists, Node, NodeContent};
+use crate::node_slices::{below, between, first_of, next_of};
+use crate::part::{ValueRef, value_ref};
+use asn_base::law::lemma_abstract_values;
 use asn_base::value::Value;
 use std::alloc::{AllocError, Global};
 
@@ -21,14 +21,12 @@ pub struct View<'a> {
 }
 
 impl<'a> View<'a> {
-    /// The part that is the whole view.
-    pub fn top(&self) -> Part<'_, 'a>
-        ensures { (t : Tree) → IsView self.now t → IsPart result t }
+    /// A reference to the whole value.
+    pub fn top(&self) -> ValueRef<'_, 'a>
+        requires { (t : Tree) × IsView self.now t }
+        ensures { (t : Tree) → IsView self.now t → result ≡ t }
     {
-        Part {
-            nodes: self.nodes.as_slice(),
-            lists: &self.lists,
-        }
+        value_ref(&self.lists, self.nodes.as_slice())
     }
 
     /// The value that the view shows, in memory of its own, or `AllocError` if there is not enough memory. The call
@@ -45,18 +43,20 @@ impl<'a> View<'a> {
 /// The value of these nodes.
 #[cycle(values)]
 pub(crate) fn value(alloc: Global, lists: &Lists, nodes: &[Node<'_>]) -> Result<Value, AllocError>
-    requires { (k : ℕ) × (t : Tree) × Spell (beside_of lists.now) nodes.now k t }
+    requires { (k : ℕ) × (t : Tree) × Spell (side_lists lists.now) nodes.now k t }
     ensures { (k : ℕ) (t : Tree)
-        → Spell (beside_of lists.now) nodes.now k t
+        → Spell (side_lists lists.now) nodes.now k t
         → IfOk result (λ v. abstract v ≡ value_of t) }
 {
-    abstract_values();
-    let told = first_of(lists, nodes);
+    lemma_abstract_values();
+    let content = first_of(lists, nodes);
     let rest = below(nodes);
-    match told {
-        Told::Fields { size, extent: _ } => Ok(Value::Fields(fields(alloc, lists, size, rest)?)),
-        Told::List { extent: _ } => Ok(Value::List(elements(alloc, lists, rest)?)),
-        Told::Alternative { index, extent: _ } => {
+    match content {
+        NodeContent::Fields { size, extent: _ } => Ok(Value::Fields(fields(
+            alloc, lists, size, rest,
+        )?)),
+        NodeContent::List { extent: _ } => Ok(Value::List(elements(alloc, lists, rest)?)),
+        NodeContent::Alternative { index, extent: _ } => {
             let inner = value(alloc, lists, rest)?;
             Ok(Value::Alt(index, Box::new(alloc, inner)?))
         }
@@ -72,9 +72,9 @@ fn fields(
     size: usize,
     nodes: &[Node<'_>],
 ) -> Result<Vec<Option<Value>>, AllocError>
-    requires { (ms : Members) × SpellMembers (beside_of lists.now) nodes.now ms }
+    requires { (ms : Members) × SpellMembers (side_lists lists.now) nodes.now ms }
     ensures { (ms : Members)
-        → SpellMembers (beside_of lists.now) nodes.now ms
+        → SpellMembers (side_lists lists.now) nodes.now ms
         → IfOk result (λ vs. map (option_map abstract) vs.items ≡ placed size (λ i. component_value ms i)) }
 {
     let mut values = absent(alloc, size)?;
@@ -91,9 +91,9 @@ fn fields(
 /// The elements of these nodes.
 #[cycle(values)]
 fn elements(alloc: Global, lists: &Lists, nodes: &[Node<'_>]) -> Result<Vec<Value>, AllocError>
-    requires { (ms : Members) × SpellMembers (beside_of lists.now) nodes.now ms }
+    requires { (ms : Members) × SpellMembers (side_lists lists.now) nodes.now ms }
     ensures { (ms : Members)
-        → SpellMembers (beside_of lists.now) nodes.now ms
+        → SpellMembers (side_lists lists.now) nodes.now ms
         → IfOk result (λ vs. row_of_list (map abstract vs.items) ≡ element_values ms) }
 {
     let mut values = Vec::with_capacity(alloc, member_count(lists, nodes))?;
@@ -109,7 +109,7 @@ fn elements(alloc: Global, lists: &Lists, nodes: &[Node<'_>]) -> Result<Vec<Valu
 
 /// How many members these nodes are, so that a list of their values takes no more memory than it needs.
 fn member_count(lists: &Lists, nodes: &[Node<'_>]) -> usize
-    requires { (ms : Members) × SpellMembers (beside_of lists.now) nodes.now ms }
+    requires { (ms : Members) × SpellMembers (side_lists lists.now) nodes.now ms }
 {
     let mut count = 0;
     let mut at = 0;

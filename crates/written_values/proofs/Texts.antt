@@ -2,24 +2,24 @@
 use Rattle.std.proofs.Common.{◌≡◌, ℕ, ◌-◌, ◌≤◌, ◌<◌, inl, inr, List, [], length, Ok, take, drop, refl, sym, ap, subst, ◌∙◌ as ◌⋆◌, arith}
 use Rattle.std.proofs.Math.Nat.{eq-or-lt_of_le}
 use Rattle.std.proofs.lemmas.List.{take_all}
-use Rattle.text.specs.declared.fault.LexFault.{LexFault}
-use Rattle.text.specs.declared.fault.LexFault.TheVariants as lexing
+use Rattle.text.specs.declared.lex_fault.LexFault.{LexFault}
+use Rattle.text.specs.declared.lex_fault.LexFault.TheVariants as lexing
 use Rattle.text.specs.declared.token.Token.{Token}
 use Rattle.text.specs.Text as texts
 use Rattle.grammar.specs.Lexeme.{Lexeme, lexemes}
 use Rattle.grammar.specs.Places.{bounded, between, free, small, Ends, PassesLimit, Stops}
-use Rattle.kernel.specs.declared.fault.Limit.{Limit}
-use Rattle.kernel.specs.Given.{IsLexed, limit_of}
-use Rattle.notation.specs.Answer.{Stands}
+use Rattle.parser_combinators.specs.declared.read_error.Limit.{Limit}
+use Rattle.parser_combinators.specs.Given.{IsLexed, limit_of}
+use Rattle.notation.specs.Answer.{IsRightFault}
 use Rattle.notation.specs.Laws.{ValueLaws}
 use Rattle.notation.specs.Reading.{value_at}
 use Rattle.notation.specs.Value.{values}
-use Rattle.notation.specs.declared.fault.SyntaxFault.{SyntaxFault}
-use Rattle.notation.specs.declared.fault.SyntaxFault.TheVariants as parsing
+use Rattle.notation.specs.declared.syntax_fault.SyntaxFault.{SyntaxFault}
+use Rattle.notation.specs.declared.syntax_fault.SyntaxFault.TheVariants as parsing
 use Rattle.trees.specs.Values.{Tree}
 use Rattle.written_values.specs.Written.{IsNotation, IsNoNotation, IsNoValue, HasNoTokens}
-use Rattle.written_values.specs.declared.written.WrittenFault.{WrittenFault}
-use Rattle.written_values.specs.declared.written.WrittenFault.TheVariants as faults
+use Rattle.written_values.specs.declared.written.ValueTextFault.{ValueTextFault}
+use Rattle.written_values.specs.declared.written.ValueTextFault.TheVariants as faults
 use Rattle.written_values.proofs.Whole.{whole_is}
 
 -- ---- what is known of texts and of values
@@ -29,12 +29,12 @@ OneList = (x : List ℕ) (ts us : List Token) → texts.IsText x ts → texts.Is
 
 abbrev pub NoFault : Type 0
 NoFault = (x : List ℕ) (ts : List Token) (f : LexFault) → texts.IsText x ts → texts.IsWithinLimits x ts
-    → texts.Stands x f
+    → texts.IsRightFault x f
     → f ≡ lexing.Memory
 
 abbrev pub OneLexFault : Type 0
-OneLexFault = (x : List ℕ) (e f : LexFault) → (e ≡ lexing.Memory → ⊥) → (f ≡ lexing.Memory → ⊥) → texts.Stands x e
-    → texts.Stands x f
+OneLexFault = (x : List ℕ) (e f : LexFault) → (e ≡ lexing.Memory → ⊥) → (f ≡ lexing.Memory → ⊥) → texts.IsRightFault x e
+    → texts.IsRightFault x f
     → e ≡ f
 
 abbrev pub OneTree : Type 0
@@ -44,14 +44,14 @@ abbrev pub OneValueFault : Type 0
 OneValueFault = (ts : List Lexeme) (start n : ℕ) → start ≤ length ts → (f g : SyntaxFault)
     → (f ≡ parsing.Memory → ⊥)
     → (g ≡ parsing.Memory → ⊥)
-    → Stands values ts start (bounded n) f
-    → Stands values ts start (bounded n) g
+    → IsRightFault values ts start (bounded n) f
+    → IsRightFault values ts start (bounded n) g
     → f ≡ g
 
 -- ---- one notation
 
-pub one_notation : OneList → OneTree → (x : List ℕ) (n m : Tree) → IsNotation x n → IsNotation x m → n ≡ m
-one_notation list tree x n m a b =
+pub lemma_one_notation : OneList → OneTree → (x : List ℕ) (n m : Tree) → IsNotation x n → IsNotation x m → n ≡ m
+lemma_one_notation list tree x n m a b =
     let e = list x b.tokens a.tokens b.lexed.text a.lexed.text in
     tree (lexemes x a.tokens) n m (bounded 128, a.is) (bounded 128, subst (λ ts. (values (bounded 128)).Is m (lexemes x ts)) e b.is)
 
@@ -68,8 +68,8 @@ to_end ts = take_all (length ts - 0) ts (omega arith)
 
 -- a whole goes on to the end of the lexemes
 goes_on : ValueLaws → (ts : List Lexeme) (n : Tree) → (values (bounded 128)).Is n ts
-    → (values (bounded 128)).CanGoOn (between ts 0 (length ts))
-goes_on laws ts n h = subst (values (bounded 128)).CanGoOn (sym (to_end ts)) ((laws.finds (bounded 128) (bounded 128)).part n ts h)
+    → (values (bounded 128)).IsPrefix (between ts 0 (length ts))
+goes_on laws ts n h = subst (values (bounded 128)).IsPrefix (sym (to_end ts)) ((laws.finds (bounded 128) (bounded 128)).part n ts h)
 
 -- so the longest front is all of them
 stops_last : ValueLaws → (ts : List Lexeme) (n : Tree) (i : ℕ) → (values (bounded 128)).Is n ts
@@ -101,7 +101,7 @@ passes_no_whole laws ts n i l h p =
 
 no_whole : ValueLaws → (ts : List Lexeme) (n : Tree) (f : SyntaxFault) → (f ≡ parsing.Memory → ⊥)
     → (values (bounded 128)).Is n ts
-    → Stands values ts 0 (bounded 128) f
+    → IsRightFault values ts 0 (bounded 128) f
     → ⊥
 no_whole laws ts n parsing.Memory m h s = m refl
 no_whole laws ts n (parsing.Unexpected i) m h s = ends_no_whole laws ts n i h s.0
@@ -110,11 +110,11 @@ no_whole laws ts n (parsing.Limit l i) m h s = passes_no_whole laws ts n i l h s
 
 -- a fault of tokens is one of any tokens of the text
 same_tokens : OneList → (x : List ℕ) (f : SyntaxFault) (ts : List Token) → IsLexed x ts → (w : IsNoValue x f)
-    → Stands values (lexemes x ts) 0 (bounded 128) f
+    → IsRightFault values (lexemes x ts) 0 (bounded 128) f
 same_tokens list x f ts l w =
-    subst (λ us. Stands values (lexemes x us) 0 (bounded 128) f) (list x w.tokens ts w.lexed.text l.text) w.fault
+    subst (λ us. IsRightFault values (lexemes x us) 0 (bounded 128) f) (list x w.tokens ts w.lexed.text l.text) w.fault
 
-pub wrong_is_none : OneList → NoFault → ValueLaws → (x : List ℕ) (n : Tree) (f : WrittenFault)
+pub wrong_is_none : OneList → NoFault → ValueLaws → (x : List ℕ) (n : Tree) (f : ValueTextFault)
     → (f ≡ faults.Memory → ⊥)
     → IsNoNotation x f
     → IsNotation x n
@@ -126,7 +126,7 @@ wrong_is_none list none laws x n (faults.Tokens f) m h i =
 
 -- ---- one fault
 
-pub one_wrong : OneList → NoFault → OneLexFault → OneValueFault → (x : List ℕ) (f g : WrittenFault)
+pub one_wrong : OneList → NoFault → OneLexFault → OneValueFault → (x : List ℕ) (f g : ValueTextFault)
     → (f ≡ faults.Memory → ⊥)
     → (g ≡ faults.Memory → ⊥)
     → IsNoNotation x f
@@ -145,9 +145,9 @@ one_wrong list none lex value x (faults.Tokens f) (faults.Tokens g) m k a b =
     (value (lexemes x a.tokens) 0 128 (omega arith) f g a.no_memory b.no_memory a.fault (same_tokens list x g a.tokens a.lexed b))
 
 -- a text that is a notation has no fault but `Memory`
-pub of_memory : ((x : List ℕ) (n : Tree) (f : WrittenFault) → (f ≡ faults.Memory → ⊥) → IsNoNotation x f → IsNotation x n
+pub of_memory : ((x : List ℕ) (n : Tree) (f : ValueTextFault) → (f ≡ faults.Memory → ⊥) → IsNoNotation x f → IsNotation x n
     → ⊥)
-    → (x : List ℕ) (n : Tree) (f : WrittenFault)
+    → (x : List ℕ) (n : Tree) (f : ValueTextFault)
     → IsNoNotation x f
     → IsNotation x n
     → f ≡ faults.Memory

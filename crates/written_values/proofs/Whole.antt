@@ -8,13 +8,13 @@ use Rattle.grammar.specs.Lexeme.{Lexeme, lexeme_of, lexemes}
 use Rattle.grammar.specs.Laws.{nowhere, past, more_than, left_of, Sound, Passes, ReadsAs}
 use Rattle.grammar.specs.Places.{Limits, any, bounded, small, Within, raised, free, between, Stops, Ends, PassesLimit}
 use Rattle.grammar.specs.Reading.{Fault, Unexpected, Beyond, Limit, Nesting, Integer, TagNumber, Read}
-use Rattle.kernel.specs.declared.fault.Limit.{Limit as Limit'}
-use Rattle.kernel.specs.Given.{limit_of}
-use Rattle.notation.specs.Answer.{Stands}
+use Rattle.parser_combinators.specs.declared.read_error.Limit.{Limit as Limit'}
+use Rattle.parser_combinators.specs.Given.{limit_of}
+use Rattle.notation.specs.Answer.{IsRightFault}
 use Rattle.notation.specs.Laws.{ValueLaws}
 use Rattle.notation.specs.Reading.{value_at}
 use Rattle.notation.specs.Value.{value, values}
-use Rattle.notation.specs.declared.fault.SyntaxFault.TheVariants as faults
+use Rattle.notation.specs.declared.syntax_fault.SyntaxFault.TheVariants as faults
 use Rattle.trees.specs.Values.{Tree}
 
 plain : (f : Fault) (n : ℕ) → more_than f nowhere n ≡ n
@@ -53,7 +53,7 @@ module _ (laws : ValueLaws) (n : ℕ) (ts : List Lexeme) where
   beyond_long j to = omega (arith, length-drop (j - 0) ts)
 
   -- the reader comes as far as the lexemes can go on
-  come : (b : Limits) (j : ℕ) → (values b).CanGoOn (between ts 0 j) → Passes (λ l. Within l b a) (beyond j) read
+  come : (b : Limits) (j : ℕ) → (values b).IsPrefix (between ts 0 j) → Passes (λ l. Within l b a) (beyond j) read
   come b j h =
       subst (λ (l : List Lexeme). Passes (λ l. Within l b a) (beyond j) (value_at small n l)) (take-append-drop (j - 0) ts) ((laws.finds a b).front (between ts 0 j) (beyond j) h)
 
@@ -67,12 +67,12 @@ module _ (laws : ValueLaws) (n : ℕ) (ts : List Lexeme) where
       let s : Sound nowhere (values a) ts (Ok (v, rest)) = subst (Sound nowhere (values a) ts) e (laws.sound n ts) in
       let f = front_at s.0 rest s.1 in
       let fits = rest_fits s.0 rest s.1 in
-      let never : (b : Limits) (j : ℕ) → length ts - length rest < j → j ≤ length ts → (values b).CanGoOn (between ts 0 j) → ⊥ =
+      let never : (b : Limits) (j : ℕ) → length ts - length rest < j → j ≤ length ts → (values b).IsPrefix (between ts 0 j) → ⊥ =
       λ b j lt to c.
       let p : length rest ≤ length (beyond j) = subst (Passes (λ l. Within l b a) (beyond j)) e (come b j c) in
       omega (arith, p, lt, to, fits, beyond_long j to) in
       record {
-        stops = record { from = omega arith; to = f.0; before = subst (values a).CanGoOn f.1 ((laws.finds a a).part v s.0 s.2); longest = never a };
+        stops = record { from = omega arith; to = f.0; before = subst (values a).IsPrefix f.1 ((laws.finds a a).part v s.0 s.2); longest = never a };
         always = never;
         none = λ k. absurd (omega (arith, k, some, fits));
       }
@@ -93,7 +93,7 @@ module _ (laws : ValueLaws) (n : ℕ) (ts : List Lexeme) where
       subst (λ (k : ℕ). Stops values a ts 0 (length ts - k)) (sym d) (record {
         from = omega arith;
         to = p.0;
-        before = subst (values a).CanGoOn p.1 s.4;
+        before = subst (values a).IsPrefix p.1 s.4;
         longest = λ j lt to c.
             let m = far f (beyond j) (subst (Passes (λ l. Within l a a) (beyond j)) q (come a j c)) in
             absurd (omega (arith, m, d, lt, to, fits, beyond_long j to));
@@ -172,7 +172,7 @@ module _ (laws : ValueLaws) (n : ℕ) (ts : List Lexeme) where
         further = length ts - length s.1;
         longer = omega (arith, d, m);
         to = f.0;
-        goes_on = subst (values (raised l a b)).CanGoOn f.1 s.4;
+        goes_on = subst (values (raised l a b)).IsPrefix f.1 s.4;
       }
 
 -- ---- the same for the tokens of a text
@@ -211,7 +211,7 @@ module _ (laws : ValueLaws) (x : List ℕ) (ts : List Token) where
 
   pub limit_passed : (l : Limit') (k : ℕ)
       → value_at small 128 (lexemes x ts) ≡ Err (Beyond (limit_of l) k)
-      → Stands values (lexemes x ts) 0 (bounded 128) (faults.Limit l (length ts - k))
+      → IsRightFault values (lexemes x ts) 0 (bounded 128) (faults.Limit l (length ts - k))
   limit_passed l k e = subst (λ (m : ℕ). PassesLimit values (bounded 128) (lexemes x ts) 0 (m - k) (limit_of l)) (long ts) (limit_at laws 128 (lexemes x ts) (limit_of l) k e)
 
 not_zero : (n : ℕ) → (suc n == 0) ≡ true → ⊥

@@ -4,4 +4,4 @@
 pub mod law;
 mod written;
 
-pub use written::{WrittenFault, notation_of};
+pub use written::{ValueTextFault, parse_value};

@@ -4,16 +4,16 @@ ghost use Rattle.std.specs.Prelude.{◌≡◌, ℕ, List, IfOk, IfErr, MatchResu
 ghost use Rattle.text.specs.declared.token.Token.{Token as Token'};
 ghost use Rattle.grammar.specs.Lexeme.{lexemes};
 ghost use Rattle.grammar.specs.Places.{bounded};
-ghost use Rattle.kernel.specs.Given.{IsLexed};
-ghost use Rattle.notation.specs.Answer.{Stands};
+ghost use Rattle.parser_combinators.specs.Given.{IsLexed};
+ghost use Rattle.notation.specs.Answer.{IsRightFault};
 ghost use Rattle.notation.specs.Value.{values};
 ghost use Rattle.trees.specs.Values.{Tree, tree_of};
 ghost use Rattle.written_values.specs.Written.{IsNoNotation, IsNotation};
-ghost use Rattle.written_values.specs.declared.written.WrittenFault.TheVariants.{Memory};
+ghost use Rattle.written_values.specs.declared.written.ValueTextFault.TheVariants.{Memory};
 
-use crate::law::{one_notation, wrong_texts_are_none};
+use crate::law::{lemma_one_notation, lemma_wrong_texts_are_none};
 use limits::MAX_NESTING;
-use notation::law::{lexed_tokens, values_are_read};
+use notation::law::{lemma_lexed_tokens, lemma_values_are_read};
 use notation::reading::value;
 use notation::refused::unexpected;
 use notation::{ReadError, SyntaxFault, ValueSyntax};
@@ -23,7 +23,7 @@ use thiserror::Error;
 
 /// Why a text is no notation of a value, and where in the text.
 #[derive(Debug, Drop, Error)]
-pub enum WrittenFault {
+pub enum ValueTextFault {
     /// An allocation failed.
     #[error("1 Memory: out of memory")]
     Memory,
@@ -37,14 +37,14 @@ pub enum WrittenFault {
 }
 
 /// The tokens of a text.
-fn tokens_of(alloc: Global, text: &[u8]) -> Result<Vec<Token>, WrittenFault>
+fn tokens_of(alloc: Global, text: &[u8]) -> Result<Vec<Token>, ValueTextFault>
     ensures tokens { IfOk result (λ ts. IsLexed text.now ts.items) }
     ensures fault { IfErr result (IsNoNotation text.now) }
 {
     match text::lex(alloc, text) {
         Ok(tokens) => Ok(tokens),
-        Err(LexFault::Memory) => Err(WrittenFault::Memory),
-        Err(fault) => Err(WrittenFault::Octets(fault)),
+        Err(LexFault::Memory) => Err(ValueTextFault::Memory),
+        Err(fault) => Err(ValueTextFault::Octets(fault)),
     }
 }
 
@@ -52,10 +52,10 @@ fn tokens_of(alloc: Global, text: &[u8]) -> Result<Vec<Token>, WrittenFault>
 fn whole(alloc: Global, text: &[u8], tokens: &[Token]) -> Result<ValueSyntax, SyntaxFault>
     requires { IsLexed text.now tokens.now }
     ensures found { IfOk result (λ v. (values (bounded 128)).Is (tree_of v) (lexemes text.now tokens.now)) }
-    ensures fault { IfErr result (Stands values (lexemes text.now tokens.now) 0 (bounded 128)) }
+    ensures fault { IfErr result (IsRightFault values (lexemes text.now tokens.now) 0 (bounded 128)) }
 {
-    lexed_tokens();
-    values_are_read();
+    lemma_lexed_tokens();
+    lemma_values_are_read();
     match value(alloc, text, tokens, MAX_NESTING) {
         Ok((value, rest)) => {
             if rest.is_empty() {
@@ -71,15 +71,15 @@ fn whole(alloc: Global, text: &[u8], tokens: &[Token]) -> Result<ValueSyntax, Sy
 }
 
 /// A fault of the tokens of a text, as one of the text.
-fn unread(fault: SyntaxFault) -> WrittenFault
+fn wrong_tokens(fault: SyntaxFault) -> ValueTextFault
     ensures { (x : List ℕ) (ts : List Token') →
         IsLexed x ts →
-        Stands values (lexemes x ts) 0 (bounded 128) fault →
+        IsRightFault values (lexemes x ts) 0 (bounded 128) fault →
         IsNoNotation x result }
 {
     match fault {
-        SyntaxFault::Memory => WrittenFault::Memory,
-        fault => WrittenFault::Tokens(fault),
+        SyntaxFault::Memory => ValueTextFault::Memory,
+        fault => ValueTextFault::Tokens(fault),
     }
 }
 
@@ -87,13 +87,13 @@ fn unread(fault: SyntaxFault) -> WrittenFault
 ///
 /// # Errors
 /// The error is the first fault, with its place in the text.
-/// - [`WrittenFault::Octets`] if the octets are not those of tokens. These are the faults of [`text::lex`].
-/// - [`WrittenFault::Tokens`] if the tokens are not those of one value. The place is the first token with which no
+/// - [`ValueTextFault::Octets`] if the octets are not those of tokens. These are the faults of [`text::lex`].
+/// - [`ValueTextFault::Tokens`] if the tokens are not those of one value. The place is the first token with which no
 ///   value within the limits can go on, or the end of the tokens. [`SyntaxFault::Limit`]: a value could go on were this
 ///   one limit higher. [`SyntaxFault::OutOfProfile`]: that token is a word or mark of a construct that this compiler
 ///   leaves out. [`SyntaxFault::Unexpected`]: none of these.
-/// - [`WrittenFault::Memory`] if an allocation failed.
-pub fn notation_of(alloc: Global, text: &[u8]) -> Result<ValueSyntax, WrittenFault>
+/// - [`ValueTextFault::Memory`] if an allocation failed.
+pub fn parse_value(alloc: Global, text: &[u8]) -> Result<ValueSyntax, ValueTextFault>
     // The result is the notation that the text is.
     ensures found { IfOk result (λ v. IsNotation text.now (tree_of v)) }
     // The notation that a text is is returned, unless an allocation fails.
@@ -103,14 +103,14 @@ pub fn notation_of(alloc: Global, text: &[u8]) -> Result<ValueSyntax, WrittenFau
     // A fault is true, with its place.
     ensures fault { IfErr result (IsNoNotation text.now) }
 {
-    one_notation();
-    wrong_texts_are_none();
+    lemma_one_notation();
+    lemma_wrong_texts_are_none();
     let tokens = match tokens_of(alloc, text) {
         Ok(tokens) => tokens,
         Err(fault) => return Err(fault),
     };
     match whole(alloc, text, tokens.as_slice()) {
         Ok(value) => Ok(value),
-        Err(fault) => Err(unread(fault)),
+        Err(fault) => Err(wrong_tokens(fault)),
     }
 }

@@ -18,7 +18,7 @@ pub record LeftOf (n : ℕ) (f : Open) (others : List FlatRow → Type 0) (rs : 
   pub within : AreRowsWithin n members
   pub as_asked : AsAsked f.all_written members
   pub are : rs ≡ member_rows members ++ rest
-  pub behind : others rest
+  pub after : others rest
 
 -- the rows are the members that are left of the headers, of which the innermost is first
 abbrev pub Left : ℕ → List Open → List FlatRow → Type 0
@@ -30,7 +30,7 @@ root = record { left = 1; all_written = true }
 
 -- All rows are those of an account if and only if the rows that are left are those of the open headers. Of these the
 -- outermost is first.
-pub record Stands (all : List FlatRow) (fs : List Open) (rs : List FlatRow) : Type 0 where
+pub record AgreesWithStack (all : List FlatRow) (fs : List Open) (rs : List FlatRow) : Type 0 where
   pub level : ℕ
   pub deep : level + length fs ≡ 401
   pub to : Left 400 (root ∷ []) all → Left level (reverse fs) rs

@@ -47,18 +47,18 @@ abbrev pub list_first : List ℕ → List Token → List Token
 list_first ns ts = begin_array ∷ each_first ns (end_array ∷ ts)
 
 -- the tokens of a row after its name, without the bracket at the end
-abbrev pub told_first : FlatRow → List Token → List Token
-told_first (a_leaf z) ts = numbers_first z ts
-told_first (a_wrap z) ts = numbers_first z ts
-told_first (a_seq z n) ts = numbers_first z (number_first n ts)
-told_first (a_seqof z n) ts = numbers_first z (number_first n ts)
-told_first (a_set z n p q) ts = numbers_first z (number_first n (list_first p (list_first q ts)))
-told_first (a_setof z n p q) ts = numbers_first z (number_first n (list_first p (list_first q ts)))
-told_first an_absent ts = ts
-told_first a_default ts = ts
+abbrev pub listed_first : FlatRow → List Token → List Token
+listed_first (a_leaf z) ts = numbers_first z ts
+listed_first (a_wrap z) ts = numbers_first z ts
+listed_first (a_seq z n) ts = numbers_first z (number_first n ts)
+listed_first (a_seqof z n) ts = numbers_first z (number_first n ts)
+listed_first (a_set z n p q) ts = numbers_first z (number_first n (list_first p (list_first q ts)))
+listed_first (a_setof z n p q) ts = numbers_first z (number_first n (list_first p (list_first q ts)))
+listed_first an_absent ts = ts
+listed_first a_default ts = ts
 
 abbrev pub row_first : FlatRow → List Token → List Token
-row_first r ts = begin_array ∷ string (kind_name (kind_of r)) ∷ told_first r (end_array ∷ ts)
+row_first r ts = begin_array ∷ string (kind_name (kind_of r)) ∷ listed_first r (end_array ∷ ts)
 
 -- the tokens of rows, without brackets
 abbrev pub rows_first : List FlatRow → List Token → List Token

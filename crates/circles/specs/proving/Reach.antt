@@ -1,7 +1,7 @@
 -- Which types the components with a DEFAULT lead to, and the marks that a search leaves.
 use Rattle.std.specs.Prelude.{◌≡◌, ◌<◌, ◌≤◌, ◌⊎◌, ◌+◌, ◌==◌, ℕ, cond, List, [], Some, ◌∷◌, length, slice_get}
 use Rattle.type_table.specs.trees.Types.{PresenceTree, mandatory, optional, default}
-use Rattle.type_table.specs.names.Modules.{StandsIn}
+use Rattle.type_table.specs.names.Modules.{OccursIn}
 use Rattle.type_table.specs.Table.{Part, Type'}
 use Rattle.circles.specs.Circles.{IsPart, Reaches}
 
@@ -27,7 +27,7 @@ pub record IsDefaulted (components : List Part) (j : ℕ) : Type 0 where
   pub ty : component.ty ≡ j
 
 -- a component with a DEFAULT leads to type j
-pub record LeadsTo (ts : List Type') (components : List Part) (j : ℕ) : Type 0 where
+pub record DefaultPath (ts : List Type') (components : List Part) (j : ℕ) : Type 0 where
   pub from : ℕ
   pub defaulted : IsDefaulted components from
   pub reaches : Reaches ts from j
@@ -52,10 +52,10 @@ pub record Marks (s : ℕ) (Q : ℕ → Type 0) (marks marks' waiting waiting' :
   pub long : length marks' ≡ length marks
   pub all : (j : ℕ) → Q j → IsMarked s marks' j
   pub kept : (j : ℕ) → IsMarked s marks j → IsMarked s marks' j
-  pub only : (j : ℕ) → IsMarked s marks' j → IsMarked s marks j ⊎ (Q j × StandsIn waiting' j)
+  pub only : (j : ℕ) → IsMarked s marks' j → IsMarked s marks j ⊎ (Q j × OccursIn waiting' j)
   pub others : (j n : ℕ) → slice_get marks' j ≡ Some n → slice_get marks j ≡ Some n ⊎ (n ≡ s)
-  pub wait : (j : ℕ) → StandsIn waiting j → StandsIn waiting' j
-  pub marked : ((j : ℕ) → StandsIn waiting j → IsMarked s marks j) → (j : ℕ) → StandsIn waiting' j → IsMarked s marks' j
+  pub wait : (j : ℕ) → OccursIn waiting j → OccursIn waiting' j
+  pub marked : ((j : ℕ) → OccursIn waiting j → IsMarked s marks j) → (j : ℕ) → OccursIn waiting' j → IsMarked s marks' j
   -- a type is marked exactly when it is added to the list
   pub count : unmarked s marks' + length waiting' ≡ unmarked s marks + length waiting
 

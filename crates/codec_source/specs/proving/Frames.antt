@@ -3,7 +3,7 @@ use Rattle.std.specs.Prelude.{◌≡◌, ℕ, suc, ◌+◌, ◌*◌, ◌⊎◌, 
 use Rattle.std.specs.Prelude.{None, Result, IfErr}
 use Rattle.asn_base.specs.declared.schema.TypeId.{TypeId}
 use Rattle.codec_code.specs.declared.step.Step.{Step}
-use Rattle.codec_code.specs.declared.step.Step.TheVariants.{Ranked}
+use Rattle.codec_code.specs.declared.step.Step.TheVariants.{SetComponent}
 use Rattle.decode_faults.specs.declared.read_fault.ReadFault.{ReadFault}
 use Rattle.decode_faults.specs.declared.read_fault.ReadFault.TheVariants.{Memory}
 use Rattle.codec_source.specs.declared.frame.Frame.{Frame}
@@ -52,12 +52,12 @@ module _ {S : Type 0} (r : ℕ → List Step) (takes : S → Event → S → Typ
   abbrev pub ThenBefore : Option TypeId → List Step → List Frame → S → S → Type 0
   ThenBefore t ss fs x z = (y : S) × ((w : S) × Then t ss x w × takes w ends y) × Goes fs y z
 
-module _ {S : Type 0} (r : ℕ → List Step) (takes : S → Event → S → Type 0) (leaves : S → Question → S → Type 0) where
+module _ {S : Type 0} (r : ℕ → List Step) (takes : S → Event → S → Type 0) (refuses : S → Question → S → Type 0) where
   -- the steps come to a question without an answer, or they lead to the end of their value, which doesn't end
   abbrev pub RestsStop : List Step → S → S → Type 0
   RestsStop ss x z =
-      Stops r takes leaves ss x z
-      ⊎ ((y : S) × Does r takes ss x y × ((c : S) → takes y ends c → ⊥) × leaves y to_end z)
+      Stops r takes refuses ss x z
+      ⊎ ((y : S) × Does r takes ss x y × ((c : S) → takes y ends c → ⊥) × refuses y to_end z)
 
   -- one of the frames stops, the last one first
   abbrev pub GoesStop : List Frame → S → S → Type 0
@@ -71,8 +71,8 @@ module _ {S : Type 0} (r : ℕ → List Step) (takes : S → Event → S → Typ
   -- a value of the type, if there is one, or then these steps to the end of a value stop
   abbrev pub ThenStops : Option TypeId → List Step → S → S → Type 0
   ThenStops t ss x z =
-      StopsThen r takes leaves t ss x z
-      ⊎ ((w : S) × Then r takes t ss x w × ((c : S) → takes w ends c → ⊥) × leaves w to_end z)
+      StopsThen r takes refuses t ss x z
+      ⊎ ((w : S) × Then r takes t ss x w × ((c : S) → takes w ends c → ⊥) × refuses w to_end z)
 
   -- they stop, or then one of the frames stops
   abbrev pub ThenBeforeStops : Option TypeId → List Step → List Frame → S → S → Type 0
@@ -82,11 +82,11 @@ module _ {S : Type 0} (r : ℕ → List Step) (takes : S → Event → S → Typ
 
 -- the frames lead to the states to which those at the start lead, and stop only where those stop
 pub record IsUnderWay {S : Type 0} (r : ℕ → List Step) (takes : S → Event → S → Type 0)
-    (leaves : S → Question → S → ReadFault → Type 0) (start : List Frame) (x : S) (frames : List Frame) (y : S) : Type 0 where
+    (refuses : S → Question → S → ReadFault → Type 0) (start : List Frame) (x : S) (frames : List Frame) (y : S) : Type 0 where
   pub same : Same (Goes r takes start x) (Goes r takes frames y)
   pub stops : (e : ReadFault) (z : S)
-      → GoesStop r takes (λ a q b. leaves a q b e) frames y z
-      → GoesStop r takes (λ a q b. leaves a q b e) start x z
+      → GoesStop r takes (λ a q b. refuses a q b e) frames y z
+      → GoesStop r takes (λ a q b. refuses a q b e) start x z
 
 -- the number of steps of the frames, and one for each frame
 abbrev pub frame_steps : List Frame → ℕ
@@ -94,9 +94,9 @@ frame_steps [] = 0
 frame_steps (f ∷ fs) = suc (length f.steps.now) + frame_steps fs
 
 abbrev pub weighs : ℕ → ℕ → List Frame → ℕ
-weighs l room fs = room * (2 + l) + frame_steps fs
+weighs l budget fs = budget * (2 + l) + frame_steps fs
 
 -- whether the step is a component of a SET
 abbrev pub is_ranked : Step → Bool
-is_ranked (Ranked f r) = true
+is_ranked (SetComponent f r) = true
 is_ranked s = false

@@ -18,10 +18,10 @@ module _ {S : Type 0} (r : ℕ → List Step) (takes : S → Event → S → Typ
     pub taken : TakesValue takes t head kind x z
 
   -- the first step is a component of such a type, which was read; the other steps are behind it
-  pub record ReadsComponent (ss behind : List Step) (x z : S) : Type 0 where
+  pub record ReadsComponent (ss following : List Step) (x z : S) : Type 0 where
     pub field : Field'
     pub head : Head'
     pub kind : LeafKind
-    pub steps : ss ≡ Field field ∷ behind
+    pub steps : ss ≡ Field field ∷ following
     pub routine : r field.ty.index ≡ Head head ∷ Leaf kind ∷ End ∷ []
     pub taken : TakesComponent takes field head kind x z

@@ -1,7 +1,7 @@
 -- The results for texts and ranges of characters.
 use Rattle.std.specs.Prelude.{◌↔◌, ◌⊎◌, ◌<◌, ◌≤◌, ℕ, List}
 use Rattle.asn_base.specs.Names.{IsMember}
-use Rattle.names.specs.Modules.{StandsIn}
+use Rattle.names.specs.Modules.{OccursIn}
 use Rattle.range_ends.specs.Characters.{IsCharacter, CharsTree, IsAmong, IsFit, HasNoCharacter, IsTurned}
 use Rattle.constraints.specs.declared.characters.CharsFault.{CharsFault}
 use Rattle.constraints.specs.declared.characters.CharsFault.TheVariants as faults
@@ -17,7 +17,7 @@ IsCharsFault x (faults.NoCharacter at) = HasNoCharacter x
 IsCharsFault x (faults.Reversed at) = IsTurned x
 
 abbrev pub AreCharsWrong : List CharsTree → CharsFault → Type 0
-AreCharsWrong xs f = (x : CharsTree) × StandsIn xs x × IsCharsFault x f
+AreCharsWrong xs f = (x : CharsTree) × OccursIn xs x × IsCharsFault x f
 
 -- the text or range is right, and its characters are added
 pub record Adds (x : CharsTree) (old new : List ℕ) : Type 0 where

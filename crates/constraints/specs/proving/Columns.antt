@@ -19,11 +19,11 @@ use Rattle.constraints.specs.Bounded.{IsWritten, IsReconstrained, IsEmpty, HasCo
 use Rattle.constraints.specs.declared.column.Fault.{Fault}
 use Rattle.constraints.specs.declared.column.Fault.TheVariants as faults
 use Rattle.constraints.specs.declared.column.BoundTable.{BoundTable}
-use Rattle.constraints.specs.declared.column.Held.{Held}
-use Rattle.constraints.specs.declared.column.Held.TheVariants.{Owned, Lent}
+use Rattle.constraints.specs.declared.column.TableRef.{TableRef}
+use Rattle.constraints.specs.declared.column.TableRef.TheVariants.{Owned, Lent}
 use Rattle.constraints.specs.declared.limit.Limit.{Limit}
-use Rattle.constraints.specs.declared.meaning.Wrong.{Wrong}
-use Rattle.constraints.specs.declared.meaning.Wrong.TheVariants as wrongs
+use Rattle.constraints.specs.declared.meaning.ConstraintFault.{ConstraintFault}
+use Rattle.constraints.specs.declared.meaning.ConstraintFault.TheVariants as wrongs
 use Rattle.constraints.specs.declared.meaning.Rule.{Rule}
 use Rattle.constraints.specs.declared.meaning.Rule.TheVariants as rules
 use Rattle.constraints.specs.proving.Limits.{LeavesSome}
@@ -87,7 +87,7 @@ IsFault p (faults.Circular v) = IsRoundAt p v × (v < length p.values)
 IsFault p (faults.At rule ty at) = (ty < length p.types) × Breaks p rule ty
 
 -- the fault of a program that is this fault of the constraints of type ty
-abbrev pub fault_of : Wrong → ℕ → Fault
+abbrev pub fault_of : ConstraintFault → ℕ → Fault
 fault_of wrongs.Memory ty = faults.Memory
 fault_of (wrongs.Circular v) ty = faults.Circular v
 fault_of (wrongs.At rule at) ty = faults.At rule ty at
@@ -115,7 +115,7 @@ pub record AreAllNoted (p : Program) (at : List (Option ℕ)) (limits : List Lim
   pub all : (i : ℕ) → i < length p.types → IsNoted at i
 
 -- the table that is owned or lent
-abbrev pub held : Held → BoundTable
+abbrev pub held : TableRef → BoundTable
 held (Owned t) = t
 held (Lent t) = t.now
 
@@ -124,25 +124,25 @@ abbrev pub HoldsOf : Program → BoundTable → Type 0
 HoldsOf p t = AreAllNoted p t.at.items t.limits.items
 
 -- a type that type i is a reference or tag of has the constraint
-pub record BearsBehind (p : Program) (i : ℕ) (M : Name) (c : ConstraintTree) : Type 0 where
-  pub behind : ℕ
-  pub leads : next p.types i ≡ Some behind
-  pub bears : Bears p behind M c
+pub record BearsTarget (p : Program) (i : ℕ) (M : Name) (c : ConstraintTree) : Type 0 where
+  pub target : ℕ
+  pub chain : next p.types i ≡ Some target
+  pub bears : Bears p target M c
 
 -- The codes are those of the characters that the constraints of the types which type i leads to allow. This is asked of
 -- the four restricted strings; for other types the list may have any codes.
-abbrev pub HasCodesBehind : Program → Kind → ℕ → List ℕ → Type 0
-HasCodesBehind p (simple (a_restricted_string s)) i cs = (x : ℕ) →
-    (IsMember x cs ↔ (IsTrue (is_character s x) × ((M : Name) (c : ConstraintTree) → BearsBehind p i M c → AllowsCharacter c x)))
-HasCodesBehind p k i cs = Unit {0}
+abbrev pub HasTargetCodes : Program → Kind → ℕ → List ℕ → Type 0
+HasTargetCodes p (simple (a_restricted_string s)) i cs = (x : ℕ) →
+    (IsMember x cs ↔ (IsTrue (is_character s x) × ((M : Name) (c : ConstraintTree) → BearsTarget p i M c → AllowsCharacter c x)))
+HasTargetCodes p k i cs = Unit {0}
 
 -- l is what the constraints of the types that type i, of kind k, leads to allow
 pub record Inherits (p : Program) (i : ℕ) (l : Limit) (k : Kind) : Type 0 where
   pub numbers : (z : ℤ) →
       (IsInSome z l.numbers
-      ↔ (IsCounted k z × ((M : Name) (c : ConstraintTree) → BearsBehind p i M c → AllowsNumber p k M c z)))
-  pub codes : HasCodesBehind p k i l.codes
-  pub extensible : l.extensible ≡ true ↔ ((M : Name) × (c : ConstraintTree) × BearsBehind p i M c × (has_marker c ≡ true))
+      ↔ (IsCounted k z × ((M : Name) (c : ConstraintTree) → BearsTarget p i M c → AllowsNumber p k M c z)))
+  pub codes : HasTargetCodes p k i l.codes
+  pub extensible : l.extensible ≡ true ↔ ((M : Name) × (c : ConstraintTree) × BearsTarget p i M c × (has_marker c ≡ true))
 
 -- l is what the constraints of the types that type i leads to allow, and these constraints are as required
 pub record IsStartOf (p : Program) (i : ℕ) (l : Limit) : Type 0 where
@@ -154,7 +154,7 @@ pub record IsShared (ts : List Type') (i j : ℕ) : Type 0 where
   pub type : Type'
   pub there : slice_get ts i ≡ Some type
   pub none : type.constraints ≡ []
-  pub leads : next ts i ≡ Some j
+  pub chain : next ts i ≡ Some j
 
 -- the ranges of the allowed numbers, or None if an extension marker allows every number
 abbrev pub AreAllowed : Limit → Option (Vec Range' Global) → Type 0

@@ -13,10 +13,10 @@ use Rattle.constraints.specs.Constraints.{IsFitting, AllowsNumber, AllowsCharact
 use Rattle.constraints.specs.Allowed.{IsCounted}
 use Rattle.constraints.specs.Bounded.{IsRound}
 use Rattle.constraints.specs.declared.limit.Limit.{Limit}
-use Rattle.constraints.specs.declared.meaning.Meaning.{Meaning}
+use Rattle.constraints.specs.declared.meaning.ConstraintMeaning.{ConstraintMeaning}
 use Rattle.constraints.specs.declared.meaning.Rule.TheVariants as rules
-use Rattle.constraints.specs.declared.meaning.Wrong.{Wrong}
-use Rattle.constraints.specs.declared.meaning.Wrong.TheVariants as wrongs
+use Rattle.constraints.specs.declared.meaning.ConstraintFault.{ConstraintFault}
+use Rattle.constraints.specs.declared.meaning.ConstraintFault.TheVariants as wrongs
 use Rattle.constraints.specs.proving.Meanings.{BreaksAlone}
 
 -- the codes of the characters of one of the four restricted strings; for other types any codes
@@ -47,7 +47,7 @@ AmongAny None c = Unit {0}
 AmongAny (Some cs) c = IsMember c cs
 
 -- what is allowed after one more constraint
-pub record IsNarrowed (l : Limit) (m : Meaning) (n : Limit) : Type 0 where
+pub record IsNarrowed (l : Limit) (m : ConstraintMeaning) (n : Limit) : Type 0 where
   pub numbers : (z : ℤ) → (IsInSome z n.numbers ↔ (IsInSome z l.numbers × InAny m.numbers z))
   pub codes : (c : ℕ) → (IsMember c n.codes ↔ (IsMember c l.codes × AmongAny m.codes c))
   pub extensible : n.extensible ≡ (l.extensible || m.marker)
@@ -80,7 +80,7 @@ abbrev pub HasAt : List ConstraintTree → (ℕ → ConstraintTree → Type 0) �
 HasAt cs P = (i : ℕ) × (c : ConstraintTree) × (slice_get cs i ≡ Some c) × P i c
 
 -- the fault is true of one of constraints cs, read in module M; l is what earlier constraints allow
-abbrev pub AreWrong : Program → Kind → Name → List ConstraintTree → Limit → Wrong → Type 0
+abbrev pub AreWrong : Program → Kind → Name → List ConstraintTree → Limit → ConstraintFault → Type 0
 AreWrong p k M cs l wrongs.Memory = Unit {0}
 AreWrong p k M cs l (wrongs.Circular v) = HasAt cs (λ i c. IsRound p v k M c)
 AreWrong p k M cs l (wrongs.At rules.Reconstrained at) = HasAt cs (λ i c. (l.extensible ≡ true) ⊎ IsMarkedIn cs i)
@@ -104,6 +104,6 @@ pub record LeavesNone (p : Program) (k : Kind) (M : Name) (cs : List ConstraintT
   pub nothing : LeavesNothing k limit
 
 -- the fault is true of all of these constraints
-abbrev pub IsLimitFault : Program → Kind → Name → List ConstraintTree → Limit → Wrong → Type 0
+abbrev pub IsLimitFault : Program → Kind → Name → List ConstraintTree → Limit → ConstraintFault → Type 0
 IsLimitFault p k M cs l (wrongs.At rules.Empty at) = LeavesNone p k M cs l
 IsLimitFault p k M cs l w = AreWrong p k M cs l w

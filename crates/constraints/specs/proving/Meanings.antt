@@ -16,9 +16,9 @@ use Rattle.constraints.specs.Allowed.{IsCounted}
 use Rattle.constraints.specs.Bounded.{IsMisfit, IsRound, IsTurnedRound, IsMisplaced}
 use Rattle.constraints.specs.declared.meaning.Rule.{Rule}
 use Rattle.constraints.specs.declared.meaning.Rule.TheVariants as rules
-use Rattle.constraints.specs.declared.meaning.Wrong.{Wrong}
-use Rattle.constraints.specs.declared.meaning.Wrong.TheVariants as wrongs
-use Rattle.constraints.specs.declared.meaning.Meaning.{Meaning}
+use Rattle.constraints.specs.declared.meaning.ConstraintFault.{ConstraintFault}
+use Rattle.constraints.specs.declared.meaning.ConstraintFault.TheVariants as wrongs
+use Rattle.constraints.specs.declared.meaning.ConstraintMeaning.{ConstraintMeaning}
 
 -- ranges as a constraint on numbers or sizes
 abbrev pub ranged : Counted → RangesTree → ConstraintTree
@@ -32,7 +32,7 @@ pub record AreNumbersOf (p : Program) (k : Kind) (M : Name) (of : Counted) (r : 
   pub same : (z : ℤ) → (IsInSome z ns ↔ (IsOf of z × IsWithinOne p k M r.ranges z))
 
 -- m is what a constraint allows
-pub record IsMeaningOf (p : Program) (k : Kind) (M : Name) (c : ConstraintTree) (m : Meaning) : Type 0 where
+pub record IsMeaningOf (p : Program) (k : Kind) (M : Name) (c : ConstraintTree) (m : ConstraintMeaning) : Type 0 where
   pub fitting : IsFitting p k M c
   pub numbers : MatchOption m.numbers
       ((z : ℤ) → AllowsNumber p k M c z)
@@ -50,7 +50,7 @@ BreaksAlone p k M c rules.MarkerPlace = IsMisplaced k M c
 BreaksAlone p k M c rules.Empty = ⊥
 BreaksAlone p k M c rules.Reconstrained = ⊥
 
-abbrev pub IsWrong : Program → Kind → Name → ConstraintTree → Wrong → Type 0
+abbrev pub IsWrong : Program → Kind → Name → ConstraintTree → ConstraintFault → Type 0
 IsWrong p k M c wrongs.Memory = Unit {0}
 IsWrong p k M c (wrongs.Circular v) = IsRound p v k M c
 IsWrong p k M c (wrongs.At rule at) = BreaksAlone p k M c rule

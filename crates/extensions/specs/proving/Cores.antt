@@ -4,7 +4,7 @@ use Rattle.asn_base.specs.Abstract.{AbstractValue}
 use Rattle.asn_base.specs.Types as types
 use Rattle.trees.specs.Values.{Name, Tree}
 use Rattle.trees.specs.Types.{PresenceTree, mandatory, optional, default}
-use Rattle.type_table.specs.Table.{Kind, Part, Type', IsCore}
+use Rattle.type_table.specs.Table.{Kind, Part, Type', IsUnderlying}
 use Rattle.resolve.specs.Program.{Program, IsAssignment}
 use Rattle.tagging.specs.declared.path.TagForm.{TagForm}
 use Rattle.tagging.specs.declared.path.TagForm.TheVariants.{Implicit, Explicit}
@@ -23,9 +23,9 @@ is_implicit Implicit = true
 is_implicit Explicit = false
 
 -- the tags of p that no tag replaces, if the tag before p replaces its first tag or doesn't
-abbrev pub standing_behind : Bool → Path → List Label
-standing_behind true p = without_first (standing p)
-standing_behind false p = standing p
+abbrev pub tags_after : Bool → Path → List Label
+tags_after true p = without_first (standing p)
+tags_after false p = standing p
 
 -- the tag, unless the tag before it replaces it
 abbrev pub unless : Bool → Label → List Label
@@ -44,12 +44,12 @@ pub record IsCoreOf (p : Program) (i : ℕ) (M : Name) (k : Kind) (r : types.Kin
 -- ---- members
 
 -- an addition has no DEFAULT
-abbrev pub HaveNoDefaultBehind : List Part → Type 0
-HaveNoDefaultBehind cs = (n : ℕ) (c : Part) → slice_get cs n ≡ Some c → IsAdded c → has_default c.presence ≡ false
+abbrev pub HaveNoDefaultAfter : List Part → Type 0
+HaveNoDefaultAfter cs = (n : ℕ) (c : Part) → slice_get cs n ≡ Some c → IsAdded c → has_default c.presence ≡ false
 
 -- after an addition there are only additions
-abbrev pub AreBehind : List Part → Type 0
-AreBehind cs = (m n : ℕ) (d c : Part) →
+abbrev pub AdditionsLast : List Part → Type 0
+AdditionsLast cs = (m n : ℕ) (d c : Part) →
     m < n →
     slice_get cs m ≡ Some d →
     slice_get cs n ≡ Some c →
@@ -71,7 +71,7 @@ IsGiven c v = (n : Tree) → c.presence ≡ default n → v ≡ None → ⊥
 pub record IsCoreType (p : Program) (i : ℕ) (k : Kind) : Type 0 where
   pub core : ℕ
   pub type : Type'
-  pub leads : IsCore p.types i core
+  pub chain : IsUnderlying p.types i core
   pub there : slice_get p.types core ≡ Some type
   pub kind : type.kind ≡ k
   pub within : Name
@@ -87,6 +87,6 @@ pub record IsCoreIn (p : Program) (i : ℕ) (r : types.Kind) : Type 0 where
 -- types i and j are the same after references and tags, and their constraints leave the same values
 pub record AreAlike (p : Program) (i j : ℕ) : Type 0 where
   pub core : ℕ
-  pub one : IsCore p.types i core
-  pub other : IsCore p.types j core
+  pub one : IsUnderlying p.types i core
+  pub other : IsUnderlying p.types j core
   pub same : (k : Kind) → IsOfKind p.types i k → IsOfKind p.types j k → LeaveTheSame p k i j

@@ -4,7 +4,7 @@ use Rattle.asn_base.specs.Abstract.{AbstractValue}
 use Rattle.trees.specs.declared.types.ListKind.{ListKind}
 use Rattle.trees.specs.Values.{Name, Tree}
 use Rattle.trees.specs.Types.{default}
-use Rattle.type_table.specs.Table.{Part, Type', members, IsCore}
+use Rattle.type_table.specs.Table.{Part, Type', members, IsUnderlying}
 use Rattle.resolve.specs.Program.{Program, IsAssignment}
 use Rattle.value_notations.specs.Values.{IsTyped}
 use Rattle.settled.specs.values.Allowing.{Allows, AllowsCode}
@@ -25,7 +25,7 @@ pub record AreDefaultsOf (p : Program) (M : Name) (cs : List Part) (vs : List (O
 -- after its references and tags type i isn't a list of components, or these are the values of its DEFAULTs
 abbrev pub HasDefaults : Program → ℕ → List (Option AbstractValue) → Type 0
 HasDefaults p i vs = (core : ℕ) (t : Type') (M x : Name) (l : ListKind) (m : Bool) (cs : List Part) →
-    IsCore p.types i core →
+    IsUnderlying p.types i core →
     slice_get p.types core ≡ Some t →
     IsAssignment p t.assignment M x →
     t.kind ≡ members l m cs →

@@ -12,16 +12,16 @@ use Rattle.resolve.specs.Program.{Program, IsAssignment}
 use Rattle.typed_values.specs.declared.fault.ValueFault.{ValueFault}
 use Rattle.settled.specs.values.Allowing.{Allows, AllowsCode}
 use Rattle.settled.specs.schema_of.SchemaOf.{IsTypeOf}
-use Rattle.settled.specs.Settled.{IsSettledType}
+use Rattle.settled.specs.Settled.{IsProgramType}
 use Rattle.extensions.specs.proving.Defaults.{AreDefaultsOf}
 use Rattle.extensions.specs.Faults.{IsList, IsFirstIn, IsWrong}
 use Rattle.extensions.specs.declared.wrong.Wrong.{Wrong}
 use Rattle.extensions.specs.declared.wrong.Wrong.TheVariants.{Memory, At}
 
 -- `Memory`, or a fault for which P holds
-abbrev pub Tells : (ValueFault → Type 0) → Wrong → Type 0
-Tells P Memory = Unit {0}
-Tells P (At f) = P f
+abbrev pub Reports : (ValueFault → Type 0) → Wrong → Type 0
+Reports P Memory = Unit {0}
+Reports P (At f) = P f
 
 -- there are n members, and R holds for each member with its number
 pub record AreEach {B : Type 0} (R : ℕ → B → Type 0) (n : ℕ) (bs : List B) : Type 0 where
@@ -72,4 +72,4 @@ pub record IsWrongValue (p : Program) (i : ℕ) (f : ValueFault) : Type 0 where
 -- resolved type r is that of type i in a schema
 pub record IsResolved (p : Program) (i : ℕ) (r : Resolved) : Type 0 where
   pub is : IsTypeOf p (Allows p) (AllowsCode p) i r.kind
-  pub settled : IsSettledType p i r
+  pub settled : IsProgramType p i r

@@ -3,7 +3,7 @@ use Rattle.std.specs.Prelude.{◌≡◌, ℕ, suc, ◌+◌, ◌*◌, ◌<◌, Li
 use Rattle.std.specs.List.{AllByRecursion}
 use Rattle.encodings.specs.Header.{Octets}
 use Rattle.header_listing.specs.Lines.{AreLines}
-use Rattle.header_listing.specs.Shown.{Line, offset_of, Shows}
+use Rattle.header_listing.specs.Shown.{Line, offset_of, ShowsLines}
 use Rattle.header_listing.specs.declared.walk.Listing.{Listing}
 use Rattle.header_listing.specs.declared.walk.Outer.{Outer}
 
@@ -11,10 +11,10 @@ use Rattle.header_listing.specs.declared.walk.Outer.{Outer}
 -- comes after each open encoding, the innermost first.
 pub data Goes : List Octets → ℕ → Octets → ℕ → List Line → Type 0 where
   inside : {outs : List Octets} {n m : ℕ} {o : Octets} {ls : List Line}
-      → Shows (length outs) n o m ls
+      → ShowsLines (length outs) n o m ls
       → Goes outs n o m ls
   out : {outs : List Octets} {n p k m q : ℕ} {o u : Octets} {ks ls js : List Line}
-      → Shows (suc (length outs)) n o k ks
+      → ShowsLines (suc (length outs)) n o k ks
       → k ≡ length o
       → p ≡ n + k
       → Goes outs p u m ls
@@ -41,7 +41,7 @@ pub record Going
   pub lines : List Line
   pub are_lines : AreLines lines text
   pub before : AllByRecursion (λ l. offset_of l < limit) lines
-  pub goes : (m : ℕ) (ls : List Line) → Goes outs offset left m ls → Shows 0 0 o (offset + m) (lines ++ ls)
+  pub goes : (m : ℕ) (ls : List Line) → Goes outs offset left m ls → ShowsLines 0 0 o (offset + m) (lines ++ ls)
   pub sum : offset + (length left + total outs) ≡ length o
 
 -- the listing shows the first octets of o by lines with offsets below the limit, and can go on with the others

@@ -3,12 +3,12 @@ use Rattle.std.specs.Prelude.{◌≡◌, ◌⊎◌, ℤ, pos, ◌+ℤ◌, List, 
 use Rattle.asn_base.specs.Types.{Range}
 
 -- z is the number after g
-abbrev pub IsBehind : ℤ → ℤ → Type 0
-IsBehind g z = z ≡ (g +ℤ pos 1)
+abbrev pub IsAfter : ℤ → ℤ → Type 0
+IsAfter g z = z ≡ (g +ℤ pos 1)
 
 -- the range begins at the number, or ends just before it
 abbrev pub IsEdge : Range → ℤ → Type 0
-IsEdge r z = (r.least ≡ Some z) ⊎ ((g : ℤ) × (r.greatest ≡ Some g) × IsBehind g z)
+IsEdge r z = (r.least ≡ Some z) ⊎ ((g : ℤ) × (r.greatest ≡ Some g) × IsAfter g z)
 
 abbrev pub IsEdgeOfSome : List Range → ℤ → Type 0
 IsEdgeOfSome [] z = ⊥

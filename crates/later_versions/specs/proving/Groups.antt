@@ -18,7 +18,7 @@ pub record AreJoined (cs : List Component) (i : ℕ) : Type 0 where
 pub record HaveSameGroups (cs ds : List Component) : Type 0 where
   pub grouped : (i : ℕ) → i < length cs → (AreInOneGroup cs i i ↔ AreInOneGroup ds i i)
   pub joined : (i : ℕ) → i < length cs → (AreJoined cs i ↔ AreJoined ds i)
-  pub behind : AreJoined ds (length cs) → ⊥
+  pub after : AreJoined ds (length cs) → ⊥
 
 -- Component i isn't in one group with the same components of the first list in both. It is one of the first list, or
 -- the first one after them.

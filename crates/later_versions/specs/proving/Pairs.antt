@@ -1,11 +1,12 @@
 -- The pairs of types that were met.
-use Rattle.std.specs.Prelude.{◌≡◌, ◌⊎◌, ℕ, ◌<◌, ◌≤◌, true, List, [], ◌∷◌, ◌++◌, map, Some, slice_get}
-use Rattle.std.specs.List.{list_any, AllByRecursion}
-use Rattle.std.specs.Ordering.{is_eq, nat_cmp, ordering_then}
+use Rattle.std.specs.Prelude.{◌≡◌, ◌⊎◌, ℕ, ◌<◌, ◌≤◌, ◌/◌, ◌%◌, List, [], ◌∷◌, ◌++◌, map, Option, Some, None, slice_get}
+use Rattle.std.specs.BTreeMap.{BTreeMap, get}
+use Rattle.std.specs.List.{AllByRecursion}
+use Rattle.std.specs.Ordering.{nat_cmp, ordering_then}
 use Rattle.std.specs.declared.cmp.Ordering.{Ordering}
 use Rattle.asn_base.specs.Names.{IsMember}
 use Rattle.asn_base.specs.Types.{Resolved}
-use Rattle.later_versions.specs.Kept.{members_of}
+use Rattle.later_versions.specs.Projected.{members_of}
 use Rattle.later_versions.specs.Differences.{TypeDiffers}
 use Rattle.later_versions.specs.Later.{IsLaterType, leads}
 use Rattle.later_versions.specs.declared.reason.Reason.{Reason}
@@ -27,15 +28,29 @@ met ps = map met_pair ps.list.items
 abbrev pub pair_cmp : ℕ × ℕ → ℕ × ℕ → Ordering
 pair_cmp p q = ordering_then (nat_cmp p.0 q.0) (nat_cmp p.1 q.1)
 
-abbrev pub IsIn : List (ℕ × ℕ) → ℕ × ℕ → Type 0
-IsIn keys p = list_any (λ q. is_eq (pair_cmp p q)) keys ≡ true
+-- the numbers of an entry, of which an absent one has none
+abbrev pub entry_codes : Option (List ℕ) → List ℕ
+entry_codes None = []
+entry_codes (Some cs) = cs
+
+-- the numbers of the entry of a set at a key
+abbrev pub codes_in : BTreeMap (ℕ × ℕ) (List ℕ) → ℕ × ℕ → List ℕ
+codes_in known key = entry_codes (get pair_cmp known key)
+
+-- the key of the entry of a pair: its first number, and the second one divided by 128
+abbrev pub key_of : ℕ × ℕ → ℕ × ℕ
+key_of p = (p.0, p.1 / 128)
+
+-- the pair is in the set: its entry has the remainder of the second number
+abbrev pub IsIn : BTreeMap (ℕ × ℕ) (List ℕ) → ℕ × ℕ → Type 0
+IsIn known p = IsMember (p.1 % 128) (codes_in known (key_of p))
 
 abbrev pub HasMet : Pairs → ℕ × ℕ → Type 0
 HasMet ps p = IsMember p (met ps)
 
 -- each pair of the set was met
 abbrev pub AreKnown : Pairs → Type 0
-AreKnown ps = (p : ℕ × ℕ) → IsIn ps.known.keys p → HasMet ps p
+AreKnown ps = (p : ℕ × ℕ) → IsIn ps.known p → HasMet ps p
 
 -- the later pairs are the earlier ones, or x is the only one after them
 abbrev pub IsNotedOnce : Pairs → Pairs → Met → Type 0

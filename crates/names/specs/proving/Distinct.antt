@@ -9,7 +9,7 @@ use Rattle.std.proofs.lemmas.Slice.Eq.{bytes_eq-Decides}
 use Rattle.trees.specs.Values.{Name}
 use Rattle.names.specs.Faults.{IsFirstAgain}
 use Rattle.names.specs.Names.{names_of, under}
-use Rattle.names.specs.Modules.{StandsIn, StandsTwice, AreDistinct}
+use Rattle.names.specs.Modules.{OccursIn, OccursTwice, AreDistinct}
 
 pub left : {X : Type 0} (xs ys : List X) (k : ℕ) (x : X) → slice_get xs k ≡ Some x → slice_get (xs ++ ys) k ≡ Some x
 left [] ys k x e = absurd cc
@@ -31,24 +31,24 @@ either (y ∷ xs) ys (suc m) x e =
       | inr r ↦ (let z : suc m ≡ suc (length xs) + r.0 = omega (arith, r.1) in inr (r.0, z, r.2))
     ]
 
-pub stands_left : {X : Type 0} (xs ys : List X) (x : X) → StandsIn xs x → StandsIn (xs ++ ys) x
-stands_left xs ys x s = (s.0, left xs ys s.0 x s.1)
+pub occurs_left : {X : Type 0} (xs ys : List X) (x : X) → OccursIn xs x → OccursIn (xs ++ ys) x
+occurs_left xs ys x s = (s.0, left xs ys s.0 x s.1)
 
-pub stands_right : {X : Type 0} (xs ys : List X) (x : X) → StandsIn ys x → StandsIn (xs ++ ys) x
-stands_right xs ys x s = (length xs + s.0, right xs ys s.0 ∙ s.1)
+pub occurs_right : {X : Type 0} (xs ys : List X) (x : X) → OccursIn ys x → OccursIn (xs ++ ys) x
+occurs_right xs ys x s = (length xs + s.0, right xs ys s.0 ∙ s.1)
 
-pub stands_either : {X : Type 0} (xs ys : List X) (x : X) → StandsIn (xs ++ ys) x → StandsIn xs x ⊎ StandsIn ys x
-stands_either xs ys x s =
+pub occurs_either : {X : Type 0} (xs ys : List X) (x : X) → OccursIn (xs ++ ys) x → OccursIn xs x ⊎ OccursIn ys x
+occurs_either xs ys x s =
     elim (either xs ys s.0 x s.1) [
       | inl f ↦ inl (s.0, f)
       | inr r ↦ inr (r.0, r.2)
     ]
 
-pub stands_map : {X Y : Type 0} (f : X → Y) (xs : List X) (k : ℕ) (x : X) → slice_get xs k ≡ Some x →
+pub occurs_map : {X Y : Type 0} (f : X → Y) (xs : List X) (k : ℕ) (x : X) → slice_get xs k ≡ Some x →
     slice_get (map f xs) k ≡ Some (f x)
-stands_map f [] k x e = absurd cc
-stands_map f (z ∷ xs) zero x e = let q : z ≡ x = cc in ap (λ y. Some (f y)) q
-stands_map f (z ∷ xs) (suc k) x e = stands_map f xs k x e
+occurs_map f [] k x e = absurd cc
+occurs_map f (z ∷ xs) zero x e = let q : z ≡ x = cc in ap (λ y. Some (f y)) q
+occurs_map f (z ∷ xs) (suc k) x e = occurs_map f xs k x e
 
 pub mapped : {X Y : Type 0} (f : X → Y) (xs : List X) (k : ℕ) (y : Y) → slice_get (map f xs) k ≡ Some y →
     (x : X) × (slice_get xs k ≡ Some x) × (f x ≡ y)
@@ -56,10 +56,10 @@ mapped f [] k y e = absurd cc
 mapped f (x ∷ xs) zero y e = (x, refl, (let q : f x ≡ y = cc in q))
 mapped f (x ∷ xs) (suc k) y e = mapped f xs k y e
 
-pub twice_left : {X : Type 0} (xs ys : List X) (x : X) → StandsTwice xs x → StandsTwice (xs ++ ys) x
+pub twice_left : {X : Type 0} (xs ys : List X) (x : X) → OccursTwice xs x → OccursTwice (xs ++ ys) x
 twice_left xs ys x t = record { first = t.first; second = t.second; apart = t.apart; here = left xs ys t.first x t.here; there = left xs ys t.second x t.there }
 
-pub twice_across : {X : Type 0} (xs ys : List X) (x : X) → StandsIn xs x → StandsIn ys x → StandsTwice (xs ++ ys) x
+pub twice_across : {X : Type 0} (xs ys : List X) (x : X) → OccursIn xs x → OccursIn ys x → OccursTwice (xs ++ ys) x
 twice_across xs ys x s t =
     let w = slice_get_within xs s.0 x s.1 in
     record { first = s.0; second = length xs + t.0; apart = omega (arith, w); here = left xs ys s.0 x s.1; there = right xs ys t.0 ∙ t.1 }
@@ -68,14 +68,14 @@ one_at : {X : Type 0} (x y : X) (k : ℕ) → slice_get (x ∷ []) k ≡ Some y 
 one_at x y zero e = (refl, (let q : x ≡ y = cc in q))
 one_at x y (suc k) e = absurd cc
 
-pub stands_one : {X : Type 0} (x y : X) → StandsIn (x ∷ []) y → x ≡ y
-stands_one x y s = (one_at x y s.0 s.1).1
+pub occurs_once : {X : Type 0} (x y : X) → OccursIn (x ∷ []) y → x ≡ y
+occurs_once x y s = (one_at x y s.0 s.1).1
 
 pub distinct_none : {X : Type 0} → AreDistinct {A = X} []
 distinct_none {X} x t = let e : slice_get {X = X} [] t.first ≡ Some x = t.here in absurd cc
 
 -- a name that isn't in the list yet may be added at its end
-pub distinct_more : {X : Type 0} (xs : List X) (x : X) → AreDistinct xs → (StandsIn xs x → ⊥) →
+pub distinct_more : {X : Type 0} (xs : List X) (x : X) → AreDistinct xs → (OccursIn xs x → ⊥) →
     AreDistinct (xs ++ x ∷ [])
 distinct_more xs x d fresh y t =
     elim (either xs (x ∷ []) t.second y t.there) [
@@ -100,7 +100,7 @@ drop_at xs i x l e =
 -- the element at index i, in the list as f sees it
 pub item_at : {X Y : Type 0} (f : X → Y) (xs : List X) (i : ℕ) (x : X) → i < length xs → x ≡ get_or xs i x →
     slice_get (map f xs) i ≡ Some (f x)
-item_at f xs i x l e = stands_map f xs i x (slice_get_read xs (length xs) i x refl l e)
+item_at f xs i x l e = occurs_map f xs i x (slice_get_read xs (length xs) i x refl l e)
 
 pub none_left : {X : Type 0} (xs : List X) (i : ℕ) → length xs ≤ i → drop i xs ≡ []
 none_left xs i l = drop_all i xs l
@@ -128,7 +128,7 @@ pub equal_bytes : (x y : Name) → bytes_eq x y ≡ true → x ≡ y
 equal_bytes x y = (bytes_eq-Decides x y).0
 
 none_on : {X : Type 0} (x : Name) (e : Name × X) (es : List (Name × X)) (b : Bool) → bytes_eq x e.0 ≡ b →
-    cond b (Some e.1) (under x es) ≡ None → (under x es ≡ None → StandsIn (names_of es) x → ⊥) → (i : ℕ) →
+    cond b (Some e.1) (under x es) ≡ None → (under x es ≡ None → OccursIn (names_of es) x → ⊥) → (i : ℕ) →
     slice_get (names_of (e ∷ es)) i ≡ Some x → ⊥
 none_on x e es true q u go i s = absurd cc
 none_on x e es false q u go zero s =
@@ -138,12 +138,12 @@ none_on x e es false q u go zero s =
 none_on x e es false q u go (suc i) s = go u (i, s)
 
 -- a name without an entry is none of the names
-pub under_none : {X : Type 0} (x : Name) (es : List (Name × X)) → under x es ≡ None → StandsIn (names_of es) x → ⊥
+pub under_none : {X : Type 0} (x : Name) (es : List (Name × X)) → under x es ≡ None → OccursIn (names_of es) x → ⊥
 under_none {X} x [] u s = let e : slice_get {X = Name} [] s.0 ≡ Some x = s.1 in absurd cc
 under_none x (e ∷ es) u s = none_on x e es (bytes_eq x e.0) refl u (under_none x es) s.0 s.1
 
 some_on : {X : Type 0} (x : Name) (e : Name × X) (es : List (Name × X)) (a : X) (b : Bool) → bytes_eq x e.0 ≡ b →
-    cond b (Some e.1) (under x es) ≡ Some a → (under x es ≡ Some a → StandsIn es (x, a)) → StandsIn (e ∷ es) (x, a)
+    cond b (Some e.1) (under x es) ≡ Some a → (under x es ≡ Some a → OccursIn es (x, a)) → OccursIn (e ∷ es) (x, a)
 some_on x e es a true q u go =
     let n : x ≡ e.0 = equal_bytes x e.0 q in
     let v : e.1 ≡ a = cc in
@@ -151,15 +151,15 @@ some_on x e es a true q u go =
 some_on x e es a false q u go = let s = go u in (suc s.0, s.1)
 
 -- the entry of a name is in the table
-pub under_some : {X : Type 0} (x : Name) (es : List (Name × X)) (a : X) → under x es ≡ Some a → StandsIn es (x, a)
+pub under_some : {X : Type 0} (x : Name) (es : List (Name × X)) (a : X) → under x es ≡ Some a → OccursIn es (x, a)
 under_some x [] a u = absurd cc
 under_some x (e ∷ es) a u = some_on x e es a (bytes_eq x e.0) refl u (under_some x es a)
 
-pub name_under : {X : Type 0} (x : Name) (es : List (Name × X)) (a : X) → under x es ≡ Some a → StandsIn (names_of es) x
-name_under x es a u = let s = under_some x es a u in (s.0, stands_map (λ (e : Name × _). e.0) es s.0 (x, a) s.1)
+pub name_under : {X : Type 0} (x : Name) (es : List (Name × X)) (a : X) → under x es ≡ Some a → OccursIn (names_of es) x
+name_under x es a u = let s = under_some x es a u in (s.0, occurs_map (λ (e : Name × _). e.0) es s.0 (x, a) s.1)
 
 -- a name that is also before its place is there twice
-pub again_twice : (xs : List Name) (x : Name) → IsFirstAgain xs x → StandsTwice xs x
+pub again_twice : (xs : List Name) (x : Name) → IsFirstAgain xs x → OccursTwice xs x
 again_twice xs x a =
     let w = slice_get_within (take a.number xs) a.again.0 x a.again.1 in
     let v = slice_get_within xs a.number x a.there in

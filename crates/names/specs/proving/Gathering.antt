@@ -1,7 +1,7 @@
 -- Modules whose names, types and values are gathered, and what can be wrong with names in them.
 use Rattle.std.specs.Prelude.{◌≡◌, ℕ, List, ◌++◌, Some, String, map, length}
 use Rattle.std.specs.Global.{Global}
-use Rattle.trees.specs.declared.place.At.{At}
+use Rattle.trees.specs.declared.location.At.{At}
 use Rattle.trees.specs.Values.{Name}
 use Rattle.trees.specs.declared.module.TagDefault.{TagDefault}
 use Rattle.trees.specs.Modules.{AssignmentTree, ModuleTree}
@@ -11,8 +11,8 @@ use Rattle.names.specs.declared.gather.Tables.{Tables}
 use Rattle.names.specs.declared.gather.ModuleTables.{ModuleTables}
 use Rattle.names.specs.declared.scope.Assigned.{Assigned}
 use Rattle.names.specs.ByNumber.{named_from, roots_from, values_from, owned_by, scopes_from, headers_of, owned_from, roots_of, values_of}
-use Rattle.names.specs.Faults.{IsFirstAgain, IsFirstTwice, IsNamesFault, module_told, name_told}
-use Rattle.names.specs.Modules.{StandsIn, AreDistinct, names_in}
+use Rattle.names.specs.Faults.{IsFirstAgain, IsFirstTwice, IsNamesFault, fault_module, fault_name}
+use Rattle.names.specs.Modules.{OccursIn, AreDistinct, names_in}
 use Rattle.names.specs.Names.{Module, under, names_of}
 use Rattle.names.specs.Scopes.{meanings, scopes}
 use Rattle.names.specs.Sources.{Source, Value, assignment_of, header_of, sources_of, value_of}
@@ -46,7 +46,7 @@ pub record AreGathered
   pub roots : rs ≡ roots_of ms
   pub values : vs ≡ values_of ms
   pub distinct : AreDistinct (map (λ m. m.name) ms)
-  pub apart : (m : ModuleTree) → StandsIn ms m → AreDistinct (names_in m)
+  pub apart : (m : ModuleTree) → OccursIn ms m → AreDistinct (names_in m)
 
 abbrev pub HasGathered : List ModuleTree → ModuleTables → Type 0
 HasGathered ms g =
@@ -60,26 +60,26 @@ HasGathered ms g =
 -- ---- faults
 
 -- memory ran out, or the fault is Twice with a module and a name for which Q holds
-abbrev pub TellsTwice : (Name → Name → Type 0) → NameFault → Type 0
-TellsTwice Q faults.Memory = Unit {0}
-TellsTwice Q (faults.Twice s) = Q (module_told s) (name_told s)
-TellsTwice Q e = ⊥
+abbrev pub ReportsTwice : (Name → Name → Type 0) → NameFault → Type 0
+ReportsTwice Q faults.Memory = Unit {0}
+ReportsTwice Q (faults.Twice s) = Q (fault_module s) (fault_name s)
+ReportsTwice Q e = ⊥
 
 -- name x of module M already has an entry in a table of names
 abbrev pub IsTwice : {X : Type 0} → Name → Name → List (Name × X) → NameFault → Type 0
-IsTwice {X} M x es = TellsTwice (λ m y. (m ≡ M) × (y ≡ x) × (a : X) × (under x es ≡ Some a))
+IsTwice {X} M x es = ReportsTwice (λ m y. (m ≡ M) × (y ≡ x) × (a : X) × (under x es ≡ Some a))
 
 -- name x of module M is one of these names already
 abbrev pub IsTaken : Name → Name → List Name → NameFault → Type 0
-IsTaken M x xs = TellsTwice (λ m y. (m ≡ M) × (y ≡ x) × StandsIn xs x)
+IsTaken M x xs = ReportsTwice (λ m y. (m ≡ M) × (y ≡ x) × OccursIn xs x)
 
 -- a name of module M is the first of these that is also before its place
 abbrev pub IsRepeated : Name → List Name → NameFault → Type 0
-IsRepeated M xs = TellsTwice (λ m y. (m ≡ M) × IsFirstAgain xs y)
+IsRepeated M xs = ReportsTwice (λ m y. (m ≡ M) × IsFirstAgain xs y)
 
 -- memory ran out, or a name is the first that is given twice in these modules
 abbrev pub IsTwiceFirst : List ModuleTree → NameFault → Type 0
-IsTwiceFirst ms = TellsTwice (IsFirstTwice ms)
+IsTwiceFirst ms = ReportsTwice (IsFirstTwice ms)
 
 -- memory ran out, or a limit is passed
 abbrev pub IsSomeLimit : NameFault → Type 0

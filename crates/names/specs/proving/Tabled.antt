@@ -4,7 +4,7 @@ use Rattle.std.specs.Global.{Global}
 use Rattle.std.specs.List.{list_any}
 use Rattle.std.specs.Str.{bytes_eq}
 use Rattle.indexmap.specs.IndexSet.{IndexSet, contains_text}
-use Rattle.trees.specs.declared.place.At.{At}
+use Rattle.trees.specs.declared.location.At.{At}
 use Rattle.trees.specs.Values.{Name, name_at}
 
 -- the table has exactly these names

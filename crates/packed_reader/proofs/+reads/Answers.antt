@@ -24,7 +24,7 @@ use Rattle.packed_reader.specs.Readings.{read, taken}
 use Rattle.packed_reader.specs.Steps.{value_by}
 use Rattle.packed_reader.specs.proving.Code.{IsFewParts}
 use Rattle.packed_reader.proofs.Flow.{went_same}
-use Rattle.packed_reader.proofs.Listing.{memory_stops, nothing_returned, returned_as, refused_as, fewer_left, went_on, went_before, all_before, room_before, room_after, size_is, each_read, each_stops, list_at_once, list_counted, list_stops, element_stops, element_refused, element_read, elements_none, elements_more, elements_stop, elements_all, told_at, stop_told, less_last, less_more, not_in_order, in_order_by, in_any_order, own_are}
+use Rattle.packed_reader.proofs.Listing.{memory_stops, nothing_returned, returned_as, refused_as, fewer_left, went_on, went_before, all_before, room_before, room_after, size_is, each_read, each_stops, list_at_once, list_counted, list_stops, element_stops, element_refused, element_read, elements_none, elements_more, elements_stop, elements_all, stated_at, stop_stated, less_last, less_more, not_in_order, in_order_by, in_any_order, own_are}
 use Rattle.packed_reader.proofs.Parts.{IsSoFar, part_last, part_more, stop_last, stop_more, so_far_first, so_far_last, so_far_more, so_far_stops, so_far_all}
 use Rattle.packed_reader.proofs.Plans.{reading_shorter}
 use Rattle.packed_reader.proofs.+reads.Goals.{elements::read_element-else-sorted-via-then-sorted+else-not-at_most, elements::read_element-else-sorted-via-else-sorted}
@@ -98,8 +98,8 @@ additions::read_added-returns-clause-ok t c =
     let b = bits_left c.args.bits.now in
     added_good (run_value s l) c.args.field (row_of_values c.args.row.now.items) k n b (bits_left c.read_opened.new.bits) (row_of_values c.put.new.row.items) (abstract c.in-Ok.value) c.read_opened.new.progress.skipped c.read_opened.new.progress.left c.in-Ok.ensures.ok c.put.ensures.row
 
-pub additions::read_added-returns-clause-went : goal.additions::read_added-returns-clause-went
-additions::read_added-returns-clause-went t c = c.in-Ok.ensures.went
+pub additions::read_added-returns-clause-advanced : goal.additions::read_added-returns-clause-advanced
+additions::read_added-returns-clause-advanced t c = c.in-Ok.ensures.advanced
 
 pub additions::read_added-returns-clause-places : goal.additions::read_added-returns-clause-places
 additions::read_added-returns-clause-places t c = c.put.ensures.length
@@ -115,9 +115,9 @@ additions::read_addition-returns-in_default-clause-ok t c =
     let ws = row_of_values c.args.row.now.items in
     ap (λ q. run_first s l (run_value s l) cs q ws k n b) c.in_default.ensures
 
-pub additions::read_addition-returns-in_default-clause-went :
-    goal.additions::read_addition-returns-in_default-clause-went
-additions::read_addition-returns-in_default-clause-went t c = went_same c.args.progress.now (bits_left c.args.bits.now)
+pub additions::read_addition-returns-in_default-clause-advanced :
+    goal.additions::read_addition-returns-in_default-clause-advanced
+additions::read_addition-returns-in_default-clause-advanced t c = went_same c.args.progress.now (bits_left c.args.bits.now)
 
 pub additions::read_addition-returns-in_default-clause-places :
     goal.additions::read_addition-returns-in_default-clause-places
@@ -165,8 +165,8 @@ additions::read_addition-returns-in-Added-clause-err t c =
     = ap (λ q. run_first s l (run_value s l) cs q ws k n b) (c.in-Some.ensures ∙ ap (λ q. q ∷ c.in-Some.rest.now) c.in-Added.is) in
     open_err_as c.read_added.result (run_first s l (run_value s l) cs c.args.steps.now ws k n b) (run_added (run_value s l) c.in-Added.field ws k n b) (bits_left c.read_added.new.bits) e c.read_added.ensures.err
 
-pub additions::read_addition-returns-in-Added-clause-went : goal.additions::read_addition-returns-in-Added-clause-went
-additions::read_addition-returns-in-Added-clause-went t c = c.read_added.ensures.went
+pub additions::read_addition-returns-in-Added-clause-advanced : goal.additions::read_addition-returns-in-Added-clause-advanced
+additions::read_addition-returns-in-Added-clause-advanced t c = c.read_added.ensures.advanced
 
 pub additions::read_addition-returns-in-Added-clause-places :
     goal.additions::read_addition-returns-in-Added-clause-places
@@ -202,8 +202,8 @@ additions::read_addition-returns-in-Group-clause-err t c =
     ∙ ap (λ q. run_group s l (run_value s l) cs q ws k n b) (sym (fields_taken c.in-Group.count c.in-Some.rest.now) ∙ ap fields_in (sym c.next.ensures)) in
     open_err_as c.read_group.result (run_first s l (run_value s l) cs c.args.steps.now ws k n b) (run_group s l (run_value s l) cs fs ws k n b) (bits_left c.read_group.new.bits) e c.read_group.ensures.err
 
-pub additions::read_addition-returns-in-Group-clause-went : goal.additions::read_addition-returns-in-Group-clause-went
-additions::read_addition-returns-in-Group-clause-went t c = c.read_group.ensures.went
+pub additions::read_addition-returns-in-Group-clause-advanced : goal.additions::read_addition-returns-in-Group-clause-advanced
+additions::read_addition-returns-in-Group-clause-advanced t c = c.read_group.ensures.advanced
 
 pub additions::read_addition-returns-in-Group-clause-places :
     goal.additions::read_addition-returns-in-Group-clause-places
@@ -221,8 +221,8 @@ additions::read_addition-returns-in-Bit-clause-ok t c =
     let none : is_addition c.in-Some.step ≡ false = (one_of (λ e. ap is_addition e) (one_of (λ e. ap is_addition e.2) (one_of (λ e. ap is_addition e) (λ e. ap is_addition e.1)))) c.in-Bit.is in
     ap (λ q. run_first s l (run_value s l) cs q ws k n b) c.in-Some.ensures ∙ first_none s l (run_value s l) cs c.in-Some.step c.in-Some.rest.now ws k n b none
 
-pub additions::read_addition-returns-in-Bit-clause-went : goal.additions::read_addition-returns-in-Bit-clause-went
-additions::read_addition-returns-in-Bit-clause-went t c = went_same c.args.progress.now (bits_left c.args.bits.now)
+pub additions::read_addition-returns-in-Bit-clause-advanced : goal.additions::read_addition-returns-in-Bit-clause-advanced
+additions::read_addition-returns-in-Bit-clause-advanced t c = went_same c.args.progress.now (bits_left c.args.bits.now)
 
 pub additions::read_addition-returns-in-Bit-clause-places : goal.additions::read_addition-returns-in-Bit-clause-places
 additions::read_addition-returns-in-Bit-clause-places t c = refl
@@ -239,8 +239,8 @@ additions::read_addition-returns-in-Map-clause-ok t c =
     let none : is_addition c.in-Some.step ≡ false = (one_of (λ e. ap is_addition e.1) (one_of (λ e. ap is_addition e.1) (λ e. ap is_addition e.1))) c.in-Map.is in
     ap (λ q. run_first s l (run_value s l) cs q ws k n b) c.in-Some.ensures ∙ first_none s l (run_value s l) cs c.in-Some.step c.in-Some.rest.now ws k n b none
 
-pub additions::read_addition-returns-in-Map-clause-went : goal.additions::read_addition-returns-in-Map-clause-went
-additions::read_addition-returns-in-Map-clause-went t c = went_same c.args.progress.now (bits_left c.args.bits.now)
+pub additions::read_addition-returns-in-Map-clause-advanced : goal.additions::read_addition-returns-in-Map-clause-advanced
+additions::read_addition-returns-in-Map-clause-advanced t c = went_same c.args.progress.now (bits_left c.args.bits.now)
 
 pub additions::read_addition-returns-in-Map-clause-places : goal.additions::read_addition-returns-in-Map-clause-places
 additions::read_addition-returns-in-Map-clause-places t c = refl
@@ -257,8 +257,8 @@ additions::read_addition-returns-in-Member-clause-ok t c =
     let none : is_addition c.in-Some.step ≡ false = (one_of (λ e. ap is_addition e.1) (one_of (λ e. ap is_addition e) (λ e. ap is_addition e.1))) c.in-Member.is in
     ap (λ q. run_first s l (run_value s l) cs q ws k n b) c.in-Some.ensures ∙ first_none s l (run_value s l) cs c.in-Some.step c.in-Some.rest.now ws k n b none
 
-pub additions::read_addition-returns-in-Member-clause-went : goal.additions::read_addition-returns-in-Member-clause-went
-additions::read_addition-returns-in-Member-clause-went t c = went_same c.args.progress.now (bits_left c.args.bits.now)
+pub additions::read_addition-returns-in-Member-clause-advanced : goal.additions::read_addition-returns-in-Member-clause-advanced
+additions::read_addition-returns-in-Member-clause-advanced t c = went_same c.args.progress.now (bits_left c.args.bits.now)
 
 pub additions::read_addition-returns-in-Member-clause-places :
     goal.additions::read_addition-returns-in-Member-clause-places
@@ -277,9 +277,9 @@ additions::read_addition-returns-in-EachSorted-clause-ok t c =
     let none : is_addition c.in-Some.step ≡ false = (one_of (λ e. ap is_addition e.1) (λ e. ap is_addition e.1)) c.in-EachSorted.is in
     ap (λ q. run_first s l (run_value s l) cs q ws k n b) c.in-Some.ensures ∙ first_none s l (run_value s l) cs c.in-Some.step c.in-Some.rest.now ws k n b none
 
-pub additions::read_addition-returns-in-EachSorted-clause-went :
-    goal.additions::read_addition-returns-in-EachSorted-clause-went
-additions::read_addition-returns-in-EachSorted-clause-went t c = went_same c.args.progress.now (bits_left c.args.bits.now)
+pub additions::read_addition-returns-in-EachSorted-clause-advanced :
+    goal.additions::read_addition-returns-in-EachSorted-clause-advanced
+additions::read_addition-returns-in-EachSorted-clause-advanced t c = went_same c.args.progress.now (bits_left c.args.bits.now)
 
 pub additions::read_addition-returns-in-EachSorted-clause-places :
     goal.additions::read_addition-returns-in-EachSorted-clause-places
@@ -297,8 +297,8 @@ additions::read_addition-returns-in-Root-clause-ok t c =
     let none : is_addition c.in-Some.step ≡ false = (one_of (λ e. ap is_addition e.1) (λ e. ap is_addition e.2)) c.in-Root.is in
     ap (λ q. run_first s l (run_value s l) cs q ws k n b) c.in-Some.ensures ∙ first_none s l (run_value s l) cs c.in-Some.step c.in-Some.rest.now ws k n b none
 
-pub additions::read_addition-returns-in-Root-clause-went : goal.additions::read_addition-returns-in-Root-clause-went
-additions::read_addition-returns-in-Root-clause-went t c = went_same c.args.progress.now (bits_left c.args.bits.now)
+pub additions::read_addition-returns-in-Root-clause-advanced : goal.additions::read_addition-returns-in-Root-clause-advanced
+additions::read_addition-returns-in-Root-clause-advanced t c = went_same c.args.progress.now (bits_left c.args.bits.now)
 
 pub additions::read_addition-returns-in-Root-clause-places : goal.additions::read_addition-returns-in-Root-clause-places
 additions::read_addition-returns-in-Root-clause-places t c = refl
@@ -364,7 +364,7 @@ additions::read_additions-loop-i-preserved t c =
       | goal.additions::read_additions-then-is_addition w ↦ elim w.if-first_bit.branch [
         | goal.additions::read_additions-then-first_bit+in-Ok w' ↦ before_as s l (run_value s l) cs all c.args.progress.now b (length c.args.row.now.items) (drop (c.loop-i.i + 1) steps) c.if-is_addition.map.now (other_bits q) c.if-is_addition.row.items w'.read_addition.new.row.items c.if-is_addition.progress w'.read_addition.new.progress (bits_left c.if-is_addition.bits) (bits_left w'.read_addition.new.bits)
             (ap (λ m. m.now) w.map-is ∙ w.other_bits-map.ensures) (ap (λ v. v.items) (w.row-is ∙ w'.row-is)) (w.progress-is ∙ w'.progress-is) (ap bits_left (w.bits-is ∙ w'.bits-is))
-            (before_read s l (run_value s l) cs all c.args.progress.now b (length c.args.row.now.items) (drop c.loop-i.i steps) (drop (c.loop-i.i + 1) steps) st d q c.loop-i.row.items c.loop-i.progress (bits_left c.loop-i.bits) c.loop-i.invariant w'.after.result.now w'.read_addition.new.row.items w'.read_addition.new.progress (bits_left w'.read_addition.new.bits) w'.after.ensures (sym c.is_addition.ensures ∙ w.if-is_addition.true) (sym w.first_bit.ensures ∙ w'.if-first_bit.true) w'.in-Ok.ensures.ok w'.in-Ok.ensures.went w'.in-Ok.ensures.places)
+            (before_read s l (run_value s l) cs all c.args.progress.now b (length c.args.row.now.items) (drop c.loop-i.i steps) (drop (c.loop-i.i + 1) steps) st d q c.loop-i.row.items c.loop-i.progress (bits_left c.loop-i.bits) c.loop-i.invariant w'.after.result.now w'.read_addition.new.row.items w'.read_addition.new.progress (bits_left w'.read_addition.new.bits) w'.after.ensures (sym c.is_addition.ensures ∙ w.if-is_addition.true) (sym w.first_bit.ensures ∙ w'.if-first_bit.true) w'.in-Ok.ensures.ok w'.in-Ok.ensures.advanced w'.in-Ok.ensures.places)
         | goal.additions::read_additions-else-first_bit w' ↦ before_as s l (run_value s l) cs all c.args.progress.now b (length c.args.row.now.items) (drop (c.loop-i.i + 1) steps) c.if-is_addition.map.now (other_bits q) c.if-is_addition.row.items c.loop-i.row.items c.if-is_addition.progress c.loop-i.progress (bits_left c.if-is_addition.bits) (bits_left c.loop-i.bits)
             (ap (λ m. m.now) w.map-is ∙ w.other_bits-map.ensures) (ap (λ v. v.items) (w.row-is ∙ w'.row-is)) (w.progress-is ∙ w'.progress-is) (ap bits_left (w.bits-is ∙ w'.bits-is))
             (before_left s l (run_value s l) cs all c.args.progress.now b (length c.args.row.now.items) (drop c.loop-i.i steps) (drop (c.loop-i.i + 1) steps) st d q c.loop-i.row.items c.loop-i.progress (bits_left c.loop-i.bits) c.loop-i.invariant (sym c.is_addition.ensures ∙ w.if-is_addition.true) (sym w.first_bit.ensures ∙ w'.if-first_bit.false))
@@ -407,8 +407,8 @@ additions::read_additions-returns-clause-err t c =
     let none : ss ≡ [] = drop_all c.loop-i.i c.args.additions.steps.now (let h = c.loop-i-test.false in omega (arith, h)) in
     before_fault s l (run_value s l) cs all c.args.progress.now b (length c.args.row.now.items) ss q c.loop-i.row.items c.loop-i.progress (bits_left c.loop-i.bits) c.loop-i.invariant none c.skip_unknown.result (bits_left c.skip_unknown.new.bits) c.skip_unknown.ensures.err
 
-pub additions::read_additions-returns-clause-went : goal.additions::read_additions-returns-clause-went
-additions::read_additions-returns-clause-went t c =
+pub additions::read_additions-returns-clause-advanced : goal.additions::read_additions-returns-clause-advanced
+additions::read_additions-returns-clause-advanced t c =
     let s = c.args.reader.code.now in
     let l = c.args.reader.levels in
     let k = c.args.progress.now.skipped in
@@ -438,10 +438,10 @@ elements::read_each-returns-in-Ok-clause-ok t c =
     let e = size_is s c.schema.result.now c.args.reader.id.index k c.schema.ensures c.size_of-constraint.ensures in
     each_read s value c.args.reader.id.index c.args.sorted c.args.element.index k c.args.progress.now.skipped c.args.progress.now.left (bits_left c.args.bits.now)
     (gathered c.read_list.new.list) _ c.read_list.new.progress.skipped c.read_list.new.progress.left (bits_left c.read_list.new.bits)
-    e c.in-Ok.ensures.ok (c.abstract_values.ensures.list_ c.read_list.new.list.values)
+    e c.in-Ok.ensures.ok (c.lemma_abstract_values.ensures.list_ c.read_list.new.list.values)
 
-pub elements::read_each-returns-in-Ok-clause-went : goal.elements::read_each-returns-in-Ok-clause-went
-elements::read_each-returns-in-Ok-clause-went t c = c.in-Ok.ensures.went
+pub elements::read_each-returns-in-Ok-clause-advanced : goal.elements::read_each-returns-in-Ok-clause-advanced
+elements::read_each-returns-in-Ok-clause-advanced t c = c.in-Ok.ensures.advanced
 
 pub elements::read_each-returns-in-Err-clause-err : goal.elements::read_each-returns-in-Err-clause-err
 elements::read_each-returns-in-Err-clause-err t c =
@@ -471,7 +471,7 @@ elements::read_element-returns-in-Err-clause-err t c =
 
 pub elements::read_element-overflow_sub-len : goal.elements::read_element-overflow_sub-len
 elements::read_element-overflow_sub-len t c =
-    let l = fewer_left c.args.progress.now c.read_value.new.progress (bits_left c.args.bits.now) (bits_left c.read_value.new.bits) (value_by c.args.reader.code.now c.args.reader.levels c.args.reader.id.index c.args.progress.now.left (bits_left c.args.bits.now)) (abstract c.in-Ok.value) c.in-Ok.ensures.ok c.in-Ok.ensures.went in
+    let l = fewer_left c.args.progress.now c.read_value.new.progress (bits_left c.args.bits.now) (bits_left c.read_value.new.bits) (value_by c.args.reader.code.now c.args.reader.levels c.args.reader.id.index c.args.progress.now.left (bits_left c.args.bits.now)) (abstract c.in-Ok.value) c.in-Ok.ensures.ok c.in-Ok.ensures.advanced in
     let e = c.len.ensures in
     let f = c.len-2.ensures in
     omega (arith, l, e, f)
@@ -500,9 +500,9 @@ elements::read_element-returns-in_err-push-clause-ok t c = nothing_returned _ c.
 pub elements::read_element-returns-in_err-push-clause-err : goal.elements::read_element-returns-in_err-push-clause-err
 elements::read_element-returns-in_err-push-clause-err t c = memory_stops _ _ c.from_residual.result c.from_residual.ensures.1
 
-pub elements::read_element-returns-in_err-push-clause-went :
-    goal.elements::read_element-returns-in_err-push-clause-went
-elements::read_element-returns-in_err-push-clause-went t c = nothing_returned _ c.from_residual.result c.from_residual.ensures.1
+pub elements::read_element-returns-in_err-push-clause-advanced :
+    goal.elements::read_element-returns-in_err-push-clause-advanced
+elements::read_element-returns-in_err-push-clause-advanced t c = nothing_returned _ c.from_residual.result c.from_residual.ensures.1
 
 pub elements::read_element-returns-in_err-push-clause-fewer :
     goal.elements::read_element-returns-in_err-push-clause-fewer
@@ -525,8 +525,8 @@ elements::read_element-returns-clause-ok t c =
     element_read value c.args.sorted es p.skipped p.left b (abstract c.in-Ok.value) q.skipped q.left r (bits_left c.front-own.result) (map abstract c.push.new.self.items)
     c.in-Ok.ensures.ok own o (ap (map abstract) c.in_ok-push.ensures.items ∙ map_push abstract c.args.list.now.values.items c.in-Ok.value)
 
-pub elements::read_element-returns-clause-went : goal.elements::read_element-returns-clause-went
-elements::read_element-returns-clause-went t c = c.in-Ok.ensures.went
+pub elements::read_element-returns-clause-advanced : goal.elements::read_element-returns-clause-advanced
+elements::read_element-returns-clause-advanced t c = c.in-Ok.ensures.advanced
 
 pub elements::read_element-returns-clause-fewer : goal.elements::read_element-returns-clause-fewer
 elements::read_element-returns-clause-fewer t c = c.in-Ok.ensures.fewer
@@ -565,7 +565,7 @@ elements::read_elements-loop-i-preserved t c =
     let q = c.loop-i.progress in
     let fs = gathered c.loop-i.list in
     elements_more value c.args.batch.sorted m c.loop-i._i es fs p q b z (gathered c.read_element.new.list) c.read_element.new.progress (bits_left c.read_element.new.bits)
-    c.loop-i-test.true c.loop-i.invariant c.in-Ok.ensures.ok c.in-Ok.ensures.went c.in-Ok.ensures.fewer
+    c.loop-i-test.true c.loop-i.invariant c.in-Ok.ensures.ok c.in-Ok.ensures.advanced c.in-Ok.ensures.fewer
 
 pub elements::read_elements-returns-clause-ok : goal.elements::read_elements-returns-clause-ok
 elements::read_elements-returns-clause-ok t c =
@@ -580,8 +580,8 @@ elements::read_elements-returns-clause-ok t c =
     let l : m ≤ c.loop-i._i = let h = c.loop-i-test.false in omega (arith, h) in
     elements_all value c.args.batch.sorted m c.loop-i._i es fs p q b z l c.loop-i.invariant
 
-pub elements::read_elements-returns-clause-went : goal.elements::read_elements-returns-clause-went
-elements::read_elements-returns-clause-went t c = c.loop-i.invariant.1
+pub elements::read_elements-returns-clause-advanced : goal.elements::read_elements-returns-clause-advanced
+elements::read_elements-returns-clause-advanced t c = c.loop-i.invariant.1
 
 pub elements::read_elements-returns-clause-fewer : goal.elements::read_elements-returns-clause-fewer
 elements::read_elements-returns-clause-fewer t c =
@@ -636,8 +636,8 @@ additions::read_extension-returns-clause-err t c =
     let e : onward (bitmap_from b) go ≡ go c.as_slice.result.now r = ap (λ o. onward o go) c.in-Ok.ensures.ok ∙ ap (λ q. go q r) (sym c.as_slice.ensures.value) in
     open_err_as c.read_additions.result (onward (bitmap_from b) go) (go c.as_slice.result.now r) (bits_left c.read_additions.new.bits) e c.read_additions.ensures.err
 
-pub additions::read_extension-returns-clause-went : goal.additions::read_extension-returns-clause-went
-additions::read_extension-returns-clause-went t c = open_went_on c.read_additions.result c.args.progress.now c.read_additions.new.progress (bits_left c.args.bits.now) (bits_left c.read_bitmap.new.bits) (bits_left c.read_additions.new.bits) c.in-Ok.ensures.shorter c.read_additions.ensures.went
+pub additions::read_extension-returns-clause-advanced : goal.additions::read_extension-returns-clause-advanced
+additions::read_extension-returns-clause-advanced t c = open_went_on c.read_additions.result c.args.progress.now c.read_additions.new.progress (bits_left c.args.bits.now) (bits_left c.read_bitmap.new.bits) (bits_left c.read_additions.new.bits) c.in-Ok.ensures.shorter c.read_additions.ensures.advanced
 
 pub components::read_fields-core-requires : goal.components::read_fields-core-requires
 components::read_fields-core-requires t c = subst (λ q. c.args.reader.id.index < length q) (sym c.schema.ensures) c.requires.there
@@ -652,10 +652,10 @@ components::read_fields-read_row-requires t c =
 pub components::read_fields-returns-clause-ok : goal.components::read_fields-returns-clause-ok
 components::read_fields-returns-clause-ok t c =
     ap (λ o. onward o (λ w r. read (as_fields w) r)) c.in-Ok-read_row.ensures.ok
-    ∙ ap (λ q. read (taken q c.read_row.new.progress.skipped c.read_row.new.progress.left) (bits_left c.read_row.new.bits)) (sym (c.abstract_values.ensures.fields_ c.read_row.new.row))
+    ∙ ap (λ q. read (taken q c.read_row.new.progress.skipped c.read_row.new.progress.left) (bits_left c.read_row.new.bits)) (sym (c.lemma_abstract_values.ensures.fields_ c.read_row.new.row))
 
-pub components::read_fields-returns-clause-went : goal.components::read_fields-returns-clause-went
-components::read_fields-returns-clause-went t c = c.in-Ok-read_row.ensures.went
+pub components::read_fields-returns-clause-advanced : goal.components::read_fields-returns-clause-advanced
+components::read_fields-returns-clause-advanced t c = c.in-Ok-read_row.ensures.advanced
 
 pub additions::read_group-returns-in-Err-clause-err : goal.additions::read_group-returns-in-Err-clause-err
 additions::read_group-returns-in-Err-clause-err t c =
@@ -705,7 +705,7 @@ additions::read_group-overflow_sub-all t c =
     let o = c.in-Ok.octets.items in
     let sl = c.as_slice.result.now in
     let h : Octets b r i o sl = record { is = c.of-inner.ensures; same = c.as_slice.ensures.value; shorter = c.in-Ok.ensures.shorter } in
-    let x = (c.inside_laws.ensures.group_read s l k n cs fs ws i (bits_left c.read_group_members.new.bits) (taken (row_of_values c.read_group_members.new.row.items) c.read_group_members.new.progress.skipped c.read_group_members.new.progress.left) c.accepted.ensures c.in-Ok-read_group_members.ensures.ok) in
+    let x = (c.inside_laws.ensures.group_read s l k n cs fs ws i (bits_left c.read_group_members.new.bits) (taken (row_of_values c.read_group_members.new.row.items) c.read_group_members.new.progress.skipped c.read_group_members.new.progress.left) c.lemma_invariant.ensures c.in-Ok-read_group_members.ensures.ok) in
     let y = left_in x.0 i (bits_left c.read_group_members.new.bits) x.1 in
     let z = c.len.ensures in
     let u = c.len-all.ensures in
@@ -729,8 +729,8 @@ additions::read_group-returns-then-fills-clause-ok t c =
     let h : Octets b r i o sl = record { is = c.of-inner.ensures; same = c.as_slice.ensures.value; shorter = c.in-Ok.ensures.shorter } in
     inner_good f b r i o sl h c.in-Ok.ensures.ok (bits_left c.read_group_members.new.bits) (taken (row_of_values c.read_group_members.new.row.items) c.read_group_members.new.progress.skipped c.read_group_members.new.progress.left) c.len-all.result c.len.result c.fills.result c.in-Ok-read_group_members.ensures.ok c.len-all.ensures c.len.ensures c.fills.ensures c.if-fills.true
 
-pub additions::read_group-returns-then-fills-clause-went : goal.additions::read_group-returns-then-fills-clause-went
-additions::read_group-returns-then-fills-clause-went t c =
+pub additions::read_group-returns-then-fills-clause-advanced : goal.additions::read_group-returns-then-fills-clause-advanced
+additions::read_group-returns-then-fills-clause-advanced t c =
     let s = c.args.reader.code.now in
     let l = c.args.reader.levels in
     let k = c.args.progress.now.skipped in
@@ -741,7 +741,7 @@ additions::read_group-returns-then-fills-clause-went t c =
     let o = c.in-Ok.octets.items in
     let sl = c.as_slice.result.now in
     let h : Octets b r i o sl = record { is = c.of-inner.ensures; same = c.as_slice.ensures.value; shorter = c.in-Ok.ensures.shorter } in
-    inner_went c.args.progress.now c.read_group_members.new.progress b r i (bits_left c.read_group_members.new.bits) o sl h c.in-Ok-read_group_members.ensures.went
+    inner_went c.args.progress.now c.read_group_members.new.progress b r i (bits_left c.read_group_members.new.bits) o sl h c.in-Ok-read_group_members.ensures.advanced
 
 pub additions::read_group-returns-then-fills-clause-places : goal.additions::read_group-returns-then-fills-clause-places
 additions::read_group-returns-then-fills-clause-places t c = c.read_group_members.ensures.places
@@ -781,9 +781,9 @@ additions::read_group-returns-clause-err t c =
     let y = c.match-read_group_members.stop in
     elim c.match-read_group_members.branch [
       | goal.additions::read_group-in-Ok-read_group_members+else-fills w ↦ inner_bad f b r i o sl h c.in-Ok.ensures.ok z p (taken (row_of_values c.read_group_members.new.row.items) c.read_group_members.new.progress.skipped c.read_group_members.new.progress.left) c.len-all.result w.len.result c.len-2.result c.len-3.result c.min-left.result w.fills.result w.at-stop.result y
-          (λ v. c.inside_laws.ensures.group_read s l k n cs fs ws i z v c.accepted.ensures) w.in-Ok-read_group_members.ensures.ok c.len-all.ensures w.len.ensures w.fills.ensures w.if-fills.false w.at-stop.ensures w.stop-is (c.len-3.ensures ∙ c.in-Ok.octets.ok.0) c.len-2.ensures c.min-left.ensures c.fault_place.ensures
+          (λ v. c.inside_laws.ensures.group_read s l k n cs fs ws i z v c.lemma_invariant.ensures) w.in-Ok-read_group_members.ensures.ok c.len-all.ensures w.len.ensures w.fills.ensures w.if-fills.false w.at-stop.ensures w.stop-is (c.len-3.ensures ∙ c.in-Ok.octets.ok.0) c.len-2.ensures c.min-left.ensures c.fault_place.ensures
       | goal.additions::read_group-in-Err-read_group_members w ↦ inner_stop f b r i o sl h c.in-Ok.ensures.ok z p c.len-all.result c.len-2.result c.len-3.result c.min-left.result w.in-Err-read_group_members.stop y
-          (λ d. c.inside_laws.ensures.group_refused s l k n cs fs ws i z d c.accepted.ensures) w.in-Err-read_group_members.ensures.err c.len-all.ensures w.stop-is (c.len-3.ensures ∙ c.in-Ok.octets.ok.0) c.len-2.ensures c.min-left.ensures c.fault_place.ensures
+          (λ d. c.inside_laws.ensures.group_refused s l k n cs fs ws i z d c.lemma_invariant.ensures) w.in-Err-read_group_members.ensures.err c.len-all.ensures w.stop-is (c.len-3.ensures ∙ c.in-Ok.octets.ok.0) c.len-2.ensures c.min-left.ensures c.fault_place.ensures
     ]
 
 pub additions::read_group-returns-clause-places : goal.additions::read_group-returns-clause-places
@@ -878,8 +878,8 @@ additions::read_group_members-returns-clause-err t c =
     = some_sent fs b r c.in-Ok.sent.items go c.in-Ok.ensures.ok (ap any_sent (sym c.as_slice.ensures.value) ∙ sym c.any_sent.ensures ∙ c.if-not-any_sent.false) ∙ ap (λ xs. go xs r) (sym c.as_slice-2.ensures.value) in
     open_err_as c.read_members.result (run_group_inside s l (run_value s l) cs fs ws k n b) (go c.as_slice-2.result.now r) (bits_left c.read_members.new.bits) e c.read_members.ensures.err
 
-pub additions::read_group_members-returns-clause-went : goal.additions::read_group_members-returns-clause-went
-additions::read_group_members-returns-clause-went t c = open_went_on c.read_members.result c.args.progress.now c.read_members.new.progress (bits_left c.args.bits.now) (bits_left c.read_presences.new.bits) (bits_left c.read_members.new.bits) c.in-Ok.ensures.shorter c.read_members.ensures.went
+pub additions::read_group_members-returns-clause-advanced : goal.additions::read_group_members-returns-clause-advanced
+additions::read_group_members-returns-clause-advanced t c = open_went_on c.read_members.result c.args.progress.now c.read_members.new.progress (bits_left c.args.bits.now) (bits_left c.read_presences.new.bits) (bits_left c.read_members.new.bits) c.in-Ok.ensures.shorter c.read_members.ensures.advanced
 
 pub additions::read_group_members-returns-clause-places : goal.additions::read_group_members-returns-clause-places
 additions::read_group_members-returns-clause-places t c = c.read_members.ensures.places
@@ -924,10 +924,10 @@ elements::read_list-returns-in-Ok-AtOnce-clause-err t c =
     let w = list_at_once value c.args.listed.sorted k es c.requires.none p.skipped p.left b r c.in-Ok-AtOnce.count e in
     refused_as (run_list value c.args.listed.sorted k p.skipped p.left b) (run_elements value c.args.listed.sorted c.in-Ok-AtOnce.count es p.skipped p.left r) w (bits_left c.read_elements.new.bits) c.read_elements.result c.read_elements.ensures.err
 
-pub elements::read_list-returns-in-Ok-AtOnce-clause-went : goal.elements::read_list-returns-in-Ok-AtOnce-clause-went
-elements::read_list-returns-in-Ok-AtOnce-clause-went t c =
+pub elements::read_list-returns-in-Ok-AtOnce-clause-advanced : goal.elements::read_list-returns-in-Ok-AtOnce-clause-advanced
+elements::read_list-returns-in-Ok-AtOnce-clause-advanced t c =
     let s = reading_shorter (c.count_laws.ensures.size (constraint_of c.args.listed.constraint.now) c.requires.bounds) (bits_left c.args.bits.now) (bits_left c.read_size.new.bits) c.in-Ok-AtOnce.field-0 c.in-Ok-AtOnce.ensures in
-    all_before c.args.progress.now c.read_elements.new.progress (bits_left c.args.bits.now) (bits_left c.read_size.new.bits) (bits_left c.read_elements.new.bits) c.read_elements.result s c.read_elements.ensures.went
+    all_before c.args.progress.now c.read_elements.new.progress (bits_left c.args.bits.now) (bits_left c.read_size.new.bits) (bits_left c.read_elements.new.bits) c.read_elements.result s c.read_elements.ensures.advanced
 
 pub elements::read_list-returns-in-Ok-Counted-clause-ok : goal.elements::read_list-returns-in-Ok-Counted-clause-ok
 elements::read_list-returns-in-Ok-Counted-clause-ok t c =
@@ -954,10 +954,10 @@ elements::read_list-returns-in-Ok-Counted-clause-err t c =
     let w = list_counted value c.args.listed.sorted k es c.requires.none p.skipped p.left b r c.in-Ok-Counted.outside e in
     refused_as (run_list value c.args.listed.sorted k p.skipped p.left b) (run_parts value c.args.listed.sorted (size_fault k c.in-Ok-Counted.outside) (suc p.left) true es p.skipped p.left r) w (bits_left c.read_parts.new.bits) c.read_parts.result c.read_parts.ensures.err
 
-pub elements::read_list-returns-in-Ok-Counted-clause-went : goal.elements::read_list-returns-in-Ok-Counted-clause-went
-elements::read_list-returns-in-Ok-Counted-clause-went t c =
+pub elements::read_list-returns-in-Ok-Counted-clause-advanced : goal.elements::read_list-returns-in-Ok-Counted-clause-advanced
+elements::read_list-returns-in-Ok-Counted-clause-advanced t c =
     let s = reading_shorter (c.count_laws.ensures.size (constraint_of c.args.listed.constraint.now) c.requires.bounds) (bits_left c.args.bits.now) (bits_left c.read_size.new.bits) c.in-Ok-Counted.field-0 c.in-Ok-Counted.ensures in
-    all_before c.args.progress.now c.read_parts.new.progress (bits_left c.args.bits.now) (bits_left c.read_size.new.bits) (bits_left c.read_parts.new.bits) c.read_parts.result s c.read_parts.ensures.went
+    all_before c.args.progress.now c.read_parts.new.progress (bits_left c.args.bits.now) (bits_left c.read_size.new.bits) (bits_left c.read_parts.new.bits) c.read_parts.result s c.read_parts.ensures.advanced
 
 pub elements::read_list-returns-in-Err-clause-err : goal.elements::read_list-returns-in-Err-clause-err
 elements::read_list-returns-in-Err-clause-err t c =
@@ -976,8 +976,8 @@ components::read_member-returns-then-sent-clause-ok t c = row_as c.read_present.
 pub components::read_member-returns-then-sent-clause-err : goal.components::read_member-returns-then-sent-clause-err
 components::read_member-returns-then-sent-clause-err t c = stops_as c.read_present.result (run_member c.args.reader.code.now c.args.reader.levels (run_value c.args.reader.code.now c.args.reader.levels) (components (kind_at c.args.reader.code.now c.args.reader.id.index)) c.args.sent (row_of_values c.args.row.now.items) c.args.progress.now.skipped c.args.progress.now.left (bits_left c.args.bits.now)) (run_present c.args.reader.code.now (run_value c.args.reader.code.now c.args.reader.levels) (components (kind_at c.args.reader.code.now c.args.reader.id.index)) c.args.sent.field (row_of_values c.args.row.now.items) c.args.progress.now.skipped c.args.progress.now.left (bits_left c.args.bits.now)) (bits_left c.read_present.new.bits) (member_present c.args.reader.code.now c.args.reader.levels (components (kind_at c.args.reader.code.now c.args.reader.id.index)) c.args.sent (row_of_values c.args.row.now.items) c.args.progress.now.skipped c.args.progress.now.left (bits_left c.args.bits.now) c.if-sent.true) c.read_present.ensures.err
 
-pub components::read_member-returns-then-sent-clause-went : goal.components::read_member-returns-then-sent-clause-went
-components::read_member-returns-then-sent-clause-went t c = c.read_present.ensures.went
+pub components::read_member-returns-then-sent-clause-advanced : goal.components::read_member-returns-then-sent-clause-advanced
+components::read_member-returns-then-sent-clause-advanced t c = c.read_present.ensures.advanced
 
 pub components::read_member-returns-then-sent-clause-places : goal.components::read_member-returns-then-sent-clause-places
 components::read_member-returns-then-sent-clause-places t c = c.read_present.ensures.places
@@ -991,8 +991,8 @@ components::read_member-may_lack-requires-clause-few t c = c.requires.few
 pub components::read_member-returns-then-may_lack-clause-ok : goal.components::read_member-returns-then-may_lack-clause-ok
 components::read_member-returns-then-may_lack-clause-ok t c = member_absent c.args.reader.code.now c.args.reader.levels (components (kind_at c.args.reader.code.now c.args.reader.id.index)) c.args.sent (row_of_values c.args.row.now.items) c.args.progress.now.skipped c.args.progress.now.left (bits_left c.args.bits.now) c.if-sent.false ∙ absent_ok c.args.reader.code.now c.args.reader.levels (components (kind_at c.args.reader.code.now c.args.reader.id.index)) c.args.sent.field (row_of_values c.args.row.now.items) c.args.progress.now.skipped c.args.progress.now.left (bits_left c.args.bits.now) c.requires.fits.component c.may_lack.result c.requires.fits.there (c.may_lack.ensures c.requires.fits.component c.requires.fits.there) c.if-may_lack.true
 
-pub components::read_member-returns-then-may_lack-clause-went : goal.components::read_member-returns-then-may_lack-clause-went
-components::read_member-returns-then-may_lack-clause-went t c = went_same c.args.progress.now (bits_left c.args.bits.now)
+pub components::read_member-returns-then-may_lack-clause-advanced : goal.components::read_member-returns-then-may_lack-clause-advanced
+components::read_member-returns-then-may_lack-clause-advanced t c = went_same c.args.progress.now (bits_left c.args.bits.now)
 
 pub components::read_member-returns-then-may_lack-clause-places : goal.components::read_member-returns-then-may_lack-clause-places
 components::read_member-returns-then-may_lack-clause-places t c = refl
@@ -1026,15 +1026,15 @@ components::read_members-returns-in-Err-clause-places t c = c.in-Err.ensures.pla
 pub components::read_members-loop-i-preserved : goal.components::read_members-loop-i-preserved
 components::read_members-loop-i-preserved t c = (
   members_next c.args.reader.code.now c.args.reader.levels (components (kind_at c.args.reader.code.now c.args.reader.id.index)) c.args.sent.now c.loop-i.i _ (row_of_values c.loop-i.row.items) c.loop-i.progress.skipped c.loop-i.progress.left (bits_left c.loop-i.bits) (drop_more c.args.sent.now c.loop-i.i _ c.loop-i-test.true) (run_members c.args.reader.code.now c.args.reader.levels (run_value c.args.reader.code.now c.args.reader.levels) (components (kind_at c.args.reader.code.now c.args.reader.id.index)) c.args.sent.now (row_of_values c.args.row.now.items) c.args.progress.now.skipped c.args.progress.now.left (bits_left c.args.bits.now)) (row_of_values c.read_member.new.row.items) c.read_member.new.progress.skipped c.read_member.new.progress.left (bits_left c.read_member.new.bits) c.loop-i.invariant.0 c.in-Ok.ensures.ok,
-  both_went c.args.progress.now c.loop-i.progress c.read_member.new.progress (bits_left c.args.bits.now) (bits_left c.loop-i.bits) (bits_left c.read_member.new.bits) c.loop-i.invariant.1 c.in-Ok.ensures.went,
+  both_went c.args.progress.now c.loop-i.progress c.read_member.new.progress (bits_left c.args.bits.now) (bits_left c.loop-i.bits) (bits_left c.read_member.new.bits) c.loop-i.invariant.1 c.in-Ok.ensures.advanced,
   c.in-Ok.ensures.places ∙ c.loop-i.invariant.2,
 )
 
 pub components::read_members-returns-clause-ok : goal.components::read_members-returns-clause-ok
 components::read_members-returns-clause-ok t c = members_end c.args.reader.code.now c.args.reader.levels (components (kind_at c.args.reader.code.now c.args.reader.id.index)) c.args.sent.now c.loop-i.i (row_of_values c.loop-i.row.items) c.loop-i.progress.skipped c.loop-i.progress.left (bits_left c.loop-i.bits) (run_members c.args.reader.code.now c.args.reader.levels (run_value c.args.reader.code.now c.args.reader.levels) (components (kind_at c.args.reader.code.now c.args.reader.id.index)) c.args.sent.now (row_of_values c.args.row.now.items) c.args.progress.now.skipped c.args.progress.now.left (bits_left c.args.bits.now)) (let h = c.loop-i-test.false in omega (arith, h)) c.loop-i.invariant.0
 
-pub components::read_members-returns-clause-went : goal.components::read_members-returns-clause-went
-components::read_members-returns-clause-went t c = c.loop-i.invariant.1
+pub components::read_members-returns-clause-advanced : goal.components::read_members-returns-clause-advanced
+components::read_members-returns-clause-advanced t c = c.loop-i.invariant.1
 
 pub components::read_members-returns-clause-places : goal.components::read_members-returns-clause-places
 components::read_members-returns-clause-places t c = c.loop-i.invariant.2
@@ -1080,7 +1080,7 @@ value::read_opened-overflow_sub-all t c =
     let o = c.in-Ok.octets.items in
     let sl = c.as_slice.result.now in
     let h : Octets b r i o sl = record { is = c.of-inner.ensures; same = c.as_slice.ensures.value; shorter = c.in-Ok.ensures.shorter } in
-    let x = (c.inside_laws.ensures.value_read s l c.args.reader.id.index k n i (bits_left c.read_value.new.bits) (taken (abstract c.in-Ok-read_value.value) c.read_value.new.progress.skipped c.read_value.new.progress.left) c.accepted.ensures c.in-Ok-read_value.ensures.ok) in
+    let x = (c.inside_laws.ensures.value_read s l c.args.reader.id.index k n i (bits_left c.read_value.new.bits) (taken (abstract c.in-Ok-read_value.value) c.read_value.new.progress.skipped c.read_value.new.progress.left) c.lemma_invariant.ensures c.in-Ok-read_value.ensures.ok) in
     let y = left_in x.0 i (bits_left c.read_value.new.bits) x.1 in
     let z = c.len.ensures in
     let u = c.len-all.ensures in
@@ -1101,8 +1101,8 @@ value::read_opened-returns-then-fills-clause-ok t c =
     let h : Octets b r i o sl = record { is = c.of-inner.ensures; same = c.as_slice.ensures.value; shorter = c.in-Ok.ensures.shorter } in
     inner_good f b r i o sl h c.in-Ok.ensures.ok (bits_left c.read_value.new.bits) (taken (abstract c.in-Ok-read_value.value) c.read_value.new.progress.skipped c.read_value.new.progress.left) c.len-all.result c.len.result c.fills.result c.in-Ok-read_value.ensures.ok c.len-all.ensures c.len.ensures c.fills.ensures c.if-fills.true
 
-pub value::read_opened-returns-then-fills-clause-went : goal.value::read_opened-returns-then-fills-clause-went
-value::read_opened-returns-then-fills-clause-went t c =
+pub value::read_opened-returns-then-fills-clause-advanced : goal.value::read_opened-returns-then-fills-clause-advanced
+value::read_opened-returns-then-fills-clause-advanced t c =
     let s = c.args.reader.code.now in
     let l = c.args.reader.levels in
     let k = c.args.progress.now.skipped in
@@ -1113,7 +1113,7 @@ value::read_opened-returns-then-fills-clause-went t c =
     let o = c.in-Ok.octets.items in
     let sl = c.as_slice.result.now in
     let h : Octets b r i o sl = record { is = c.of-inner.ensures; same = c.as_slice.ensures.value; shorter = c.in-Ok.ensures.shorter } in
-    inner_went c.args.progress.now c.read_value.new.progress b r i (bits_left c.read_value.new.bits) o sl h c.in-Ok-read_value.ensures.went
+    inner_went c.args.progress.now c.read_value.new.progress b r i (bits_left c.read_value.new.bits) o sl h c.in-Ok-read_value.ensures.advanced
 
 pub value::read_opened-fault_place-requires : goal.value::read_opened-fault_place-requires
 value::read_opened-fault_place-requires t c =
@@ -1147,11 +1147,11 @@ value::read_opened-returns-clause-err t c =
     let y = c.match-read_value.stop in
     let bad : (v : Taken AbstractValue) (a : ℕ) (t : Bool) (x : Stop) → f i ≡ read v z → a ≡ length z → t ≡ is_filling (c.len-all.result - a) z → t ≡ false → IsStopAt Padding x → y ≡ x → IsStop (open_from f b) y p
     = λ v a t x g e u w q j. inner_bad f b r i o sl h c.in-Ok.ensures.ok z p v c.len-all.result a c.len-2.result c.len-3.result c.min-left.result t x y
-    (λ v. c.inside_laws.ensures.value_read s l c.args.reader.id.index k n i z v c.accepted.ensures) g c.len-all.ensures e u w q j (c.len-3.ensures ∙ c.in-Ok.octets.ok.0) c.len-2.ensures c.min-left.ensures c.fault_place.ensures in
+    (λ v. c.inside_laws.ensures.value_read s l c.args.reader.id.index k n i z v c.lemma_invariant.ensures) g c.len-all.ensures e u w q j (c.len-3.ensures ∙ c.in-Ok.octets.ok.0) c.len-2.ensures c.min-left.ensures c.fault_place.ensures in
     elim c.match-read_value.branch [
       | goal.value::read_opened-in-Ok-read_value+else-fills w ↦ bad (taken (abstract w.in-Ok-read_value.value) c.read_value.new.progress.skipped c.read_value.new.progress.left) w.len.result w.fills.result w.at-stop.result w.in-Ok-read_value.ensures.ok w.len.ensures w.fills.ensures w.if-fills.false w.at-stop.ensures w.stop-is
       | goal.value::read_opened-in-Err-read_value w ↦ inner_stop f b r i o sl h c.in-Ok.ensures.ok z p c.len-all.result c.len-2.result c.len-3.result c.min-left.result w.in-Err-read_value.stop y
-          (λ d. c.inside_laws.ensures.value_refused s l c.args.reader.id.index k n i z d c.accepted.ensures) w.in-Err-read_value.ensures.err c.len-all.ensures w.stop-is (c.len-3.ensures ∙ c.in-Ok.octets.ok.0) c.len-2.ensures c.min-left.ensures c.fault_place.ensures
+          (λ d. c.inside_laws.ensures.value_refused s l c.args.reader.id.index k n i z d c.lemma_invariant.ensures) w.in-Err-read_value.ensures.err c.len-all.ensures w.stop-is (c.len-3.ensures ∙ c.in-Ok.octets.ok.0) c.len-2.ensures c.min-left.ensures c.fault_place.ensures
     ]
 
 pub elements::read_part-overflow_cast-before : goal.elements::read_part-overflow_cast-before
@@ -1186,7 +1186,7 @@ elements::read_part-returns-in-Err-read_elements-clause-err t c =
     let b = bits_left c.args.bits.now in
     let r = bits_left c.read_total.new.bits in
     let i : c.len-before.result ≡ length es.values = c.len-before.ensures ∙ c.args.list.now.values.ok.0 ∙ sym (length-map c.args.list.now.values.items abstract) in
-    let e = told_at test full c.len-before.result (length es.values) b r c.in-Ok-Last.field-0 (last c.in-Ok-Last.count) i c.in-Ok-Last.field-0-is c.in-Ok-Last.ensures.is in
+    let e = stated_at test full c.len-before.result (length es.values) b r c.in-Ok-Last.field-0 (last c.in-Ok-Last.count) i c.in-Ok-Last.field-0-is c.in-Ok-Last.ensures.is in
     stop_last value sorted test f full es p.skipped p.left c.in-Ok-Last.count b r (bits_left c.read_elements.new.bits) c.in-Err-read_elements.stop e c.in-Err-read_elements.ensures.err
 
 pub elements::read_part-overflow_mul-count : goal.elements::read_part-overflow_mul-count
@@ -1213,7 +1213,7 @@ elements::read_part-returns-in-Err-read_elements-2-clause-err t c =
     let b = bits_left c.args.bits.now in
     let r = bits_left c.read_total.new.bits in
     let i : c.len-before.result ≡ length es.values = c.len-before.ensures ∙ c.args.list.now.values.ok.0 ∙ sym (length-map c.args.list.now.values.items abstract) in
-    let e = told_at test full c.len-before.result (length es.values) b r c.in-Ok-Part.field-0 (part c.in-Ok-Part.times) i c.in-Ok-Part.field-0-is c.in-Ok-Part.ensures.is in
+    let e = stated_at test full c.len-before.result (length es.values) b r c.in-Ok-Part.field-0 (part c.in-Ok-Part.times) i c.in-Ok-Part.field-0-is c.in-Ok-Part.ensures.is in
     stop_more value sorted test f full es p.skipped p.left c.in-Ok-Part.times b r (bits_left c.read_elements-in-Ok-Part.new.bits) c.in-Err-read_elements-2.stop e c.in-Err-read_elements-2.ensures.err
 
 pub elements::read_part-returns-in-Ok-clause-ok : goal.elements::read_part-returns-in-Ok-clause-ok
@@ -1228,11 +1228,11 @@ elements::read_part-returns-in-Ok-clause-ok t c =
     let b = bits_left c.args.bits.now in
     let r = bits_left c.read_total.new.bits in
     let i : c.len-before.result ≡ length es.values = c.len-before.ensures ∙ c.args.list.now.values.ok.0 ∙ sym (length-map c.args.list.now.values.items abstract) in
-    let e = told_at test full c.len-before.result (length es.values) b r c.in-Ok-Last.field-0 (last c.in-Ok-Last.count) i c.in-Ok-Last.field-0-is c.in-Ok-Last.ensures.is in
+    let e = stated_at test full c.len-before.result (length es.values) b r c.in-Ok-Last.field-0 (last c.in-Ok-Last.count) i c.in-Ok-Last.field-0-is c.in-Ok-Last.ensures.is in
     part_last value sorted test f full es (gathered c.read_elements.new.list) p.skipped p.left c.read_elements.new.progress.skipped c.read_elements.new.progress.left c.in-Ok-Last.count b r (bits_left c.read_elements.new.bits) e c.in-Ok.ensures.ok
 
-pub elements::read_part-returns-in-Ok-clause-went : goal.elements::read_part-returns-in-Ok-clause-went
-elements::read_part-returns-in-Ok-clause-went t c = went_before c.args.progress.now c.read_elements.new.progress (bits_left c.args.bits.now) (bits_left c.read_total.new.bits) (bits_left c.read_elements.new.bits) c.in-Ok-Last.ensures.shorter c.in-Ok.ensures.went
+pub elements::read_part-returns-in-Ok-clause-advanced : goal.elements::read_part-returns-in-Ok-clause-advanced
+elements::read_part-returns-in-Ok-clause-advanced t c = went_before c.args.progress.now c.read_elements.new.progress (bits_left c.args.bits.now) (bits_left c.read_total.new.bits) (bits_left c.read_elements.new.bits) c.in-Ok-Last.ensures.shorter c.in-Ok.ensures.advanced
 
 pub elements::read_part-returns-in-Ok-read_elements-clause-ok :
     goal.elements::read_part-returns-in-Ok-read_elements-clause-ok
@@ -1247,12 +1247,12 @@ elements::read_part-returns-in-Ok-read_elements-clause-ok t c =
     let b = bits_left c.args.bits.now in
     let r = bits_left c.read_total.new.bits in
     let i : c.len-before.result ≡ length es.values = c.len-before.ensures ∙ c.args.list.now.values.ok.0 ∙ sym (length-map c.args.list.now.values.items abstract) in
-    let e = told_at test full c.len-before.result (length es.values) b r c.in-Ok-Part.field-0 (part c.in-Ok-Part.times) i c.in-Ok-Part.field-0-is c.in-Ok-Part.ensures.is in
+    let e = stated_at test full c.len-before.result (length es.values) b r c.in-Ok-Part.field-0 (part c.in-Ok-Part.times) i c.in-Ok-Part.field-0-is c.in-Ok-Part.ensures.is in
     part_more value sorted test f full es (gathered c.read_elements-in-Ok-Part.new.list) p.skipped p.left c.read_elements-in-Ok-Part.new.progress.skipped c.read_elements-in-Ok-Part.new.progress.left c.in-Ok-Part.times b r (bits_left c.read_elements-in-Ok-Part.new.bits) e c.in-Ok-read_elements.ensures.ok
 
-pub elements::read_part-returns-in-Ok-read_elements-clause-went :
-    goal.elements::read_part-returns-in-Ok-read_elements-clause-went
-elements::read_part-returns-in-Ok-read_elements-clause-went t c = went_before c.args.progress.now c.read_elements-in-Ok-Part.new.progress (bits_left c.args.bits.now) (bits_left c.read_total.new.bits) (bits_left c.read_elements-in-Ok-Part.new.bits) c.in-Ok-Part.ensures.shorter c.in-Ok-read_elements.ensures.went
+pub elements::read_part-returns-in-Ok-read_elements-clause-advanced :
+    goal.elements::read_part-returns-in-Ok-read_elements-clause-advanced
+elements::read_part-returns-in-Ok-read_elements-clause-advanced t c = went_before c.args.progress.now c.read_elements-in-Ok-Part.new.progress (bits_left c.args.bits.now) (bits_left c.read_total.new.bits) (bits_left c.read_elements-in-Ok-Part.new.bits) c.in-Ok-Part.ensures.shorter c.in-Ok-read_elements.ensures.advanced
 
 pub elements::read_part-returns-in-Ok-read_elements-clause-fewer :
     goal.elements::read_part-returns-in-Ok-read_elements-clause-fewer
@@ -1274,7 +1274,7 @@ elements::read_part-returns-in-Err-clause-err t c =
     let b = bits_left c.args.bits.now in
     let r = bits_left c.read_total.new.bits in
     let i : c.len-before.result ≡ length es.values = c.len-before.ensures ∙ c.args.list.now.values.ok.0 ∙ sym (length-map c.args.list.now.values.items abstract) in
-    stop_told value sorted test f full es c.len-before.result p.skipped p.left b r c.in-Err.refusal c.at.result i c.in-Err.ensures.is c.at.ensures
+    stop_stated value sorted test f full es c.len-before.result p.skipped p.left b r c.in-Err.refusal c.at.result i c.in-Err.ensures.is c.at.ensures
 
 pub elements::read_parts-loop-more-init : goal.elements::read_parts-loop-more-init
 elements::read_parts-loop-more-init t c =
@@ -1292,7 +1292,7 @@ elements::read_parts-read_part-requires t c =
     (lt, (c.requires.few, room_after c.args.progress.now c.loop-more.progress (bits_left c.args.bits.now) (bits_left c.loop-more.bits) c.loop-more.invariant.1 c.requires.room))
 
 pub elements::read_parts-loop-more-smaller-in-Ok-Nothing : goal.elements::read_parts-loop-more-smaller-in-Ok-Nothing
-elements::read_parts-loop-more-smaller-in-Ok-Nothing t c = less_last c.loop-more.more c.read_part.new.progress.left c.loop-more.progress.left c.loop-more-test.true c.in-Ok-Nothing.ensures.went.left
+elements::read_parts-loop-more-smaller-in-Ok-Nothing t c = less_last c.loop-more.more c.read_part.new.progress.left c.loop-more.progress.left c.loop-more-test.true c.in-Ok-Nothing.ensures.advanced.left
 
 pub elements::read_parts-loop-more-preserved-in-Ok-Nothing :
     goal.elements::read_parts-loop-more-preserved-in-Ok-Nothing
@@ -1310,7 +1310,7 @@ elements::read_parts-loop-more-preserved-in-Ok-Nothing t c =
     let u = c.read_part.new.progress in
     let r = bits_left c.read_part.new.bits in
     let g = subst (λ y. IsPart value (record { size = c.args.size; full = c.loop-more.full }) es q z y fs u r) c.in-Ok-Nothing.field-0-is c.in-Ok-Nothing.ensures.ok in
-    (so_far_last value sorted test all c.loop-more.more c.loop-more.full c.loop-more.full es fs q u z r c.loop-more-test.true c.loop-more.invariant.0 g, went_on p q u b z r c.loop-more.invariant.1 c.in-Ok-Nothing.ensures.went)
+    (so_far_last value sorted test all c.loop-more.more c.loop-more.full c.loop-more.full es fs q u z r c.loop-more-test.true c.loop-more.invariant.0 g, went_on p q u b z r c.loop-more.invariant.1 c.in-Ok-Nothing.ensures.advanced)
 
 pub elements::read_parts-loop-more-smaller : goal.elements::read_parts-loop-more-smaller
 elements::read_parts-loop-more-smaller t c =
@@ -1335,7 +1335,7 @@ elements::read_parts-loop-more-preserved t c =
     let g = subst (λ y. IsPart value (record { size = c.args.size; full = c.loop-more.full }) es q z y fs u r) c.in-Ok-More.field-0-is c.in-Ok-More.ensures.ok in
     let l = subst (λ y. IsLess y u.left q.left) c.in-Ok-More.field-0-is c.in-Ok-More.ensures.fewer in
     let h = so_far_more value sorted test all c.loop-more.more c.loop-more.full c.in-Ok-More.next es fs q u z r c.loop-more-test.true l c.loop-more.invariant.0 g in
-    (subst (λ y. IsSoFar value sorted test all y c.in-Ok-More.next fs u r) (sym c.loop-more-test.true) h, went_on p q u b z r c.loop-more.invariant.1 c.in-Ok-More.ensures.went)
+    (subst (λ y. IsSoFar value sorted test all y c.in-Ok-More.next fs u r) (sym c.loop-more-test.true) h, went_on p q u b z r c.loop-more.invariant.1 c.in-Ok-More.ensures.advanced)
 
 pub elements::read_parts-returns-in-Err-clause-err : goal.elements::read_parts-returns-in-Err-clause-err
 elements::read_parts-returns-in-Err-clause-err t c =
@@ -1363,8 +1363,8 @@ elements::read_parts-returns-clause-ok t c =
     let z = bits_left c.loop-more.bits in
     so_far_all value sorted test all c.loop-more.more c.loop-more.full es q z c.loop-more-test.false c.loop-more.invariant.0
 
-pub elements::read_parts-returns-clause-went : goal.elements::read_parts-returns-clause-went
-elements::read_parts-returns-clause-went t c = c.loop-more.invariant.1
+pub elements::read_parts-returns-clause-advanced : goal.elements::read_parts-returns-clause-advanced
+elements::read_parts-returns-clause-advanced t c = c.loop-more.invariant.1
 
 pub alternatives::read_pick-core-requires : goal.alternatives::read_pick-core-requires
 alternatives::read_pick-core-requires t c = subst (λ q. c.args.reader.id.index < length q) (sym c.schema.ensures) c.requires.there
@@ -1393,8 +1393,8 @@ alternatives::read_pick-returns-clause-err t c =
     stops_as c.read_chosen.result (onward (plain (call_from c.args.calls.now (bits_left c.args.bits.now))) (λ q r. run_chosen (run_value c.args.reader.code.now c.args.reader.levels) q c.args.progress.now.skipped c.args.progress.now.left r)) (run_chosen (run_value c.args.reader.code.now c.args.reader.levels) (chosen_of c.in-Ok.call) c.args.progress.now.skipped c.args.progress.now.left (bits_left c.read_call.new.bits)) (bits_left c.read_chosen.new.bits)
     (ap (λ o. onward (plain o) (λ q r. run_chosen (run_value c.args.reader.code.now c.args.reader.levels) q c.args.progress.now.skipped c.args.progress.now.left r)) c.in-Ok.ensures) c.read_chosen.ensures.err
 
-pub alternatives::read_pick-returns-clause-went : goal.alternatives::read_pick-returns-clause-went
-alternatives::read_pick-returns-clause-went t c = went_ok c.read_chosen.result c.args.progress.now c.args.progress.now c.read_chosen.new.progress (bits_left c.args.bits.now) (bits_left c.read_call.new.bits) (bits_left c.read_chosen.new.bits) (went_shorter c.args.progress.now (bits_left c.args.bits.now) (bits_left c.read_call.new.bits) (call_shorter c.args.calls.now (bits_left c.args.bits.now) (bits_left c.read_call.new.bits) (chosen_of c.in-Ok.call) c.in-Ok.ensures)) c.read_chosen.ensures.went
+pub alternatives::read_pick-returns-clause-advanced : goal.alternatives::read_pick-returns-clause-advanced
+alternatives::read_pick-returns-clause-advanced t c = went_ok c.read_chosen.result c.args.progress.now c.args.progress.now c.read_chosen.new.progress (bits_left c.args.bits.now) (bits_left c.read_call.new.bits) (bits_left c.read_chosen.new.bits) (went_shorter c.args.progress.now (bits_left c.args.bits.now) (bits_left c.read_call.new.bits) (call_shorter c.args.calls.now (bits_left c.args.bits.now) (bits_left c.read_call.new.bits) (chosen_of c.in-Ok.call) c.in-Ok.ensures)) c.read_chosen.ensures.advanced
 
 pub components::read_present-read_value-requires : goal.components::read_present-read_value-requires
 components::read_present-read_value-requires t c =
@@ -1412,7 +1412,7 @@ components::read_present-returns-in-Err-clause-places t c = refl
 
 pub components::read_present-is_default-requires : goal.components::read_present-is_default-requires
 components::read_present-is_default-requires t c =
-    let r = is_component c.args.reader.code.now c.schema.result.now c.args.reader.id.index c.args.field c.args.reader.levels (abstract c.in-Ok.value) c.requires.fits c.schema.ensures c.requires.few (λ s' u m n' w h g. c.levels_grow.ensures s' u m n' w h g) c.in-Ok.ensures.value in
+    let r = is_component c.args.reader.code.now c.schema.result.now c.args.reader.id.index c.args.field c.args.reader.levels (abstract c.in-Ok.value) c.requires.fits c.schema.ensures c.requires.few (λ s' u m n' w h g. c.lemma_levels_grow.ensures s' u m n' w h g) c.in-Ok.ensures.value in
     (r.0, r.1.0, r.1.1)
 
 pub components::read_present-returns-then-is_default-clause-err : goal.components::read_present-returns-then-is_default-clause-err
@@ -1435,8 +1435,8 @@ components::read_present-returns-clause-ok t c =
       | components::read_present-else-progress-skipped-via-else-progress-skipped w ↦ some_skipped c.args.reader.code.now c.args.reader.levels (components (kind_at c.args.reader.code.now c.args.reader.id.index)) c.args.field (row_of_values c.args.row.now.items) c.args.progress.now.skipped c.args.progress.now.left (bits_left c.args.bits.now) (abstract c.in-Ok.value) c.read_value.new.progress.skipped c.read_value.new.progress.left w.if-progress-skipped.false
     ]) c.put.ensures.row
 
-pub components::read_present-returns-clause-went : goal.components::read_present-returns-clause-went
-components::read_present-returns-clause-went t c = c.in-Ok.ensures.went
+pub components::read_present-returns-clause-advanced : goal.components::read_present-returns-clause-advanced
+components::read_present-returns-clause-advanced t c = c.in-Ok.ensures.advanced
 
 pub components::read_present-returns-clause-places : goal.components::read_present-returns-clause-places
 components::read_present-returns-clause-places t c = c.put.ensures.length
@@ -1465,7 +1465,7 @@ pub components::read_row-read_extension-requires : goal.components::read_row-rea
 components::read_row-read_extension-requires t c =
     let d = c.decreases in
     let lt : 30 * c.args.reader.levels + 26 < t = omega (arith, d) in
-    (lt, (c.requires.few, (room_left c.args.progress.now c.read_members.new.progress (bits_left c.args.bits.now) (bits_left c.read_members.new.bits) c.requires.room (both_went c.args.progress.now c.args.progress.now c.read_members.new.progress (bits_left c.args.bits.now) (bits_left c.read_presences.new.bits) (bits_left c.read_members.new.bits) (both_went c.args.progress.now c.args.progress.now c.args.progress.now (bits_left c.args.bits.now) (bits_left c.read_mark.new.bits) (bits_left c.read_presences.new.bits) (went_shorter c.args.progress.now (bits_left c.args.bits.now) (bits_left c.read_mark.new.bits) c.in-Ok.ensures.shorter) (went_shorter c.args.progress.now (bits_left c.read_mark.new.bits) (bits_left c.read_presences.new.bits) c.in-Ok-read_presences.ensures.shorter)) c.in-Ok-read_members.ensures.went), (subst (FieldsFit c.args.reader.code.now c.args.reader.id.index) (sym c.past.ensures) (all_dropped (FieldOf c.args.reader.code.now c.args.reader.id.index) c.args.shape.count c.args.shape.steps.now c.requires.fit), c.in-Ok-read_members.ensures.places ∙ c.requires.places))))
+    (lt, (c.requires.few, (room_left c.args.progress.now c.read_members.new.progress (bits_left c.args.bits.now) (bits_left c.read_members.new.bits) c.requires.room (both_went c.args.progress.now c.args.progress.now c.read_members.new.progress (bits_left c.args.bits.now) (bits_left c.read_presences.new.bits) (bits_left c.read_members.new.bits) (both_went c.args.progress.now c.args.progress.now c.args.progress.now (bits_left c.args.bits.now) (bits_left c.read_mark.new.bits) (bits_left c.read_presences.new.bits) (went_shorter c.args.progress.now (bits_left c.args.bits.now) (bits_left c.read_mark.new.bits) c.in-Ok.ensures.shorter) (went_shorter c.args.progress.now (bits_left c.read_mark.new.bits) (bits_left c.read_presences.new.bits) c.in-Ok-read_presences.ensures.shorter)) c.in-Ok-read_members.ensures.advanced), (subst (FieldsFit c.args.reader.code.now c.args.reader.id.index) (sym c.past.ensures) (all_dropped (FieldOf c.args.reader.code.now c.args.reader.id.index) c.args.shape.count c.args.shape.steps.now c.requires.fit), c.in-Ok-read_members.ensures.places ∙ c.requires.places))))
 
 pub components::read_row-returns-then-more-clause-ok : goal.components::read_row-returns-then-more-clause-ok
 components::read_row-returns-then-more-clause-ok t c =
@@ -1477,34 +1477,34 @@ components::read_row-returns-then-more-clause-err t c =
     stops_as c.read_extension.result (run_structure c.args.reader.code.now c.args.reader.levels (run_value c.args.reader.code.now c.args.reader.levels) (components (kind_at c.args.reader.code.now c.args.reader.id.index)) c.args.shape.extensible c.args.shape.count c.args.shape.steps.now c.args.progress.now.skipped c.args.progress.now.left (bits_left c.args.bits.now)) (run_rest c.args.reader.code.now c.args.reader.levels (run_value c.args.reader.code.now c.args.reader.levels) (components (kind_at c.args.reader.code.now c.args.reader.id.index)) true c.past.result.now (row_of_values c.read_members.new.row.items) c.read_members.new.progress.skipped c.read_members.new.progress.left (bits_left c.read_members.new.bits)) (bits_left c.read_extension.new.bits)
     ((rest_is c.args.reader.code.now c.args.reader.levels (components (kind_at c.args.reader.code.now c.args.reader.id.index)) c.args.shape.extensible c.args.shape.count c.args.shape.steps.now c.args.progress.now.skipped c.args.progress.now.left (bits_left c.args.bits.now) c.in-Ok.more (bits_left c.read_mark.new.bits) (bits_left c.read_presences.new.bits) (bits_left c.read_members.new.bits) (fields_in c.next.result.now) c.in-Ok-read_presences.sent.items (row_of_values c.args.row.now.items) (row_of_values c.read_members.new.row.items) c.read_members.new.progress.skipped c.read_members.new.progress.left c.in-Ok.ensures.is (ap fields_in c.next.ensures ∙ fields_taken c.args.shape.count c.args.shape.steps.now) c.in-Ok-read_presences.ensures.ok c.requires.empty (subst (λ xs. run_members c.args.reader.code.now c.args.reader.levels (run_value c.args.reader.code.now c.args.reader.levels) (components (kind_at c.args.reader.code.now c.args.reader.id.index)) xs (row_of_values c.args.row.now.items) c.args.progress.now.skipped c.args.progress.now.left (bits_left c.read_presences.new.bits) ≡ read (taken (row_of_values c.read_members.new.row.items) c.read_members.new.progress.skipped c.read_members.new.progress.left) (bits_left c.read_members.new.bits)) c.as_slice.ensures.value c.in-Ok-read_members.ensures.ok)) ∙ ap (λ q. run_rest c.args.reader.code.now c.args.reader.levels (run_value c.args.reader.code.now c.args.reader.levels) (components (kind_at c.args.reader.code.now c.args.reader.id.index)) q (drop c.args.shape.count c.args.shape.steps.now) (row_of_values c.read_members.new.row.items) c.read_members.new.progress.skipped c.read_members.new.progress.left (bits_left c.read_members.new.bits)) c.if-more.true ∙ ap (λ q. run_rest c.args.reader.code.now c.args.reader.levels (run_value c.args.reader.code.now c.args.reader.levels) (components (kind_at c.args.reader.code.now c.args.reader.id.index)) true q (row_of_values c.read_members.new.row.items) c.read_members.new.progress.skipped c.read_members.new.progress.left (bits_left c.read_members.new.bits)) (sym c.past.ensures)) c.read_extension.ensures.err
 
-pub components::read_row-returns-then-more-clause-went : goal.components::read_row-returns-then-more-clause-went
-components::read_row-returns-then-more-clause-went t c = went_done c.read_extension.result c.args.progress.now c.read_members.new.progress c.read_extension.new.progress (bits_left c.args.bits.now) (bits_left c.read_members.new.bits) (bits_left c.read_extension.new.bits) (both_went c.args.progress.now c.args.progress.now c.read_members.new.progress (bits_left c.args.bits.now) (bits_left c.read_presences.new.bits) (bits_left c.read_members.new.bits) (both_went c.args.progress.now c.args.progress.now c.args.progress.now (bits_left c.args.bits.now) (bits_left c.read_mark.new.bits) (bits_left c.read_presences.new.bits) (went_shorter c.args.progress.now (bits_left c.args.bits.now) (bits_left c.read_mark.new.bits) c.in-Ok.ensures.shorter) (went_shorter c.args.progress.now (bits_left c.read_mark.new.bits) (bits_left c.read_presences.new.bits) c.in-Ok-read_presences.ensures.shorter)) c.in-Ok-read_members.ensures.went) c.read_extension.ensures.went
+pub components::read_row-returns-then-more-clause-advanced : goal.components::read_row-returns-then-more-clause-advanced
+components::read_row-returns-then-more-clause-advanced t c = went_done c.read_extension.result c.args.progress.now c.read_members.new.progress c.read_extension.new.progress (bits_left c.args.bits.now) (bits_left c.read_members.new.bits) (bits_left c.read_extension.new.bits) (both_went c.args.progress.now c.args.progress.now c.read_members.new.progress (bits_left c.args.bits.now) (bits_left c.read_presences.new.bits) (bits_left c.read_members.new.bits) (both_went c.args.progress.now c.args.progress.now c.args.progress.now (bits_left c.args.bits.now) (bits_left c.read_mark.new.bits) (bits_left c.read_presences.new.bits) (went_shorter c.args.progress.now (bits_left c.args.bits.now) (bits_left c.read_mark.new.bits) c.in-Ok.ensures.shorter) (went_shorter c.args.progress.now (bits_left c.read_mark.new.bits) (bits_left c.read_presences.new.bits) c.in-Ok-read_presences.ensures.shorter)) c.in-Ok-read_members.ensures.advanced) c.read_extension.ensures.advanced
 
 pub components::read_row-returns-clause-ok : goal.components::read_row-returns-clause-ok
 components::read_row-returns-clause-ok t c = (rest_is c.args.reader.code.now c.args.reader.levels (components (kind_at c.args.reader.code.now c.args.reader.id.index)) c.args.shape.extensible c.args.shape.count c.args.shape.steps.now c.args.progress.now.skipped c.args.progress.now.left (bits_left c.args.bits.now) c.in-Ok.more (bits_left c.read_mark.new.bits) (bits_left c.read_presences.new.bits) (bits_left c.read_members.new.bits) (fields_in c.next.result.now) c.in-Ok-read_presences.sent.items (row_of_values c.args.row.now.items) (row_of_values c.read_members.new.row.items) c.read_members.new.progress.skipped c.read_members.new.progress.left c.in-Ok.ensures.is (ap fields_in c.next.ensures ∙ fields_taken c.args.shape.count c.args.shape.steps.now) c.in-Ok-read_presences.ensures.ok c.requires.empty (subst (λ xs. run_members c.args.reader.code.now c.args.reader.levels (run_value c.args.reader.code.now c.args.reader.levels) (components (kind_at c.args.reader.code.now c.args.reader.id.index)) xs (row_of_values c.args.row.now.items) c.args.progress.now.skipped c.args.progress.now.left (bits_left c.read_presences.new.bits) ≡ read (taken (row_of_values c.read_members.new.row.items) c.read_members.new.progress.skipped c.read_members.new.progress.left) (bits_left c.read_members.new.bits)) c.as_slice.ensures.value c.in-Ok-read_members.ensures.ok)) ∙ ap (λ q. run_rest c.args.reader.code.now c.args.reader.levels (run_value c.args.reader.code.now c.args.reader.levels) (components (kind_at c.args.reader.code.now c.args.reader.id.index)) q (drop c.args.shape.count c.args.shape.steps.now) (row_of_values c.read_members.new.row.items) c.read_members.new.progress.skipped c.read_members.new.progress.left (bits_left c.read_members.new.bits)) c.if-more.false
 
-pub components::read_row-returns-clause-went : goal.components::read_row-returns-clause-went
-components::read_row-returns-clause-went t c = (both_went c.args.progress.now c.args.progress.now c.read_members.new.progress (bits_left c.args.bits.now) (bits_left c.read_presences.new.bits) (bits_left c.read_members.new.bits) (both_went c.args.progress.now c.args.progress.now c.args.progress.now (bits_left c.args.bits.now) (bits_left c.read_mark.new.bits) (bits_left c.read_presences.new.bits) (went_shorter c.args.progress.now (bits_left c.args.bits.now) (bits_left c.read_mark.new.bits) c.in-Ok.ensures.shorter) (went_shorter c.args.progress.now (bits_left c.read_mark.new.bits) (bits_left c.read_presences.new.bits) c.in-Ok-read_presences.ensures.shorter)) c.in-Ok-read_members.ensures.went)
+pub components::read_row-returns-clause-advanced : goal.components::read_row-returns-clause-advanced
+components::read_row-returns-clause-advanced t c = (both_went c.args.progress.now c.args.progress.now c.read_members.new.progress (bits_left c.args.bits.now) (bits_left c.read_presences.new.bits) (bits_left c.read_members.new.bits) (both_went c.args.progress.now c.args.progress.now c.args.progress.now (bits_left c.args.bits.now) (bits_left c.read_mark.new.bits) (bits_left c.read_presences.new.bits) (went_shorter c.args.progress.now (bits_left c.args.bits.now) (bits_left c.read_mark.new.bits) c.in-Ok.ensures.shorter) (went_shorter c.args.progress.now (bits_left c.read_mark.new.bits) (bits_left c.read_presences.new.bits) c.in-Ok-read_presences.ensures.shorter)) c.in-Ok-read_members.ensures.advanced)
 
 pub value::read_steps-read_fields-requires : goal.value::read_steps-read_fields-requires
 value::read_steps-read_fields-requires t c =
     let d = c.decreases in
     let lt : 30 * c.args.reader.levels + 28 < t = omega (arith, d) in
     let there = type_there c.args.reader.code.now c.args.reader.id.index c.steps.result.now c.plan_of.result (plans.Fields c.in-Fields.shape) c.steps.ensures c.in-Fields.is c.plan_of.ensures.some (λ h. h) in
-    (lt, (c.requires.few, (c.requires.room, (there, fits_as c.args.reader.code.now c.args.reader.id.index c.steps.result.now c.plan_of.result (plans.Fields c.in-Fields.shape) c.steps.ensures c.in-Fields.is (c.plan_of.ensures.fits c.args.reader.code.now c.args.reader.id.index) (c.routines_fit.ensures c.args.reader.code.now c.args.reader.id.index)))))
+    (lt, (c.requires.few, (c.requires.room, (there, fits_as c.args.reader.code.now c.args.reader.id.index c.steps.result.now c.plan_of.result (plans.Fields c.in-Fields.shape) c.steps.ensures c.in-Fields.is (c.plan_of.ensures.fits c.args.reader.code.now c.args.reader.id.index) (c.lemma_routines_fit.ensures c.args.reader.code.now c.args.reader.id.index)))))
 
 pub value::read_steps-read_each-requires : goal.value::read_steps-read_each-requires
 value::read_steps-read_each-requires t c =
     let d = c.decreases in
     let lt : 30 * c.args.reader.levels + 28 < t = omega (arith, d) in
-    (lt, (c.requires.few, (c.requires.room, fits_as c.args.reader.code.now c.args.reader.id.index c.steps.result.now c.plan_of.result (plans.List c.in-List.element c.in-List.sorted) c.steps.ensures c.in-List.is (c.plan_of.ensures.fits c.args.reader.code.now c.args.reader.id.index) (c.routines_fit.ensures c.args.reader.code.now c.args.reader.id.index))))
+    (lt, (c.requires.few, (c.requires.room, fits_as c.args.reader.code.now c.args.reader.id.index c.steps.result.now c.plan_of.result (plans.List c.in-List.element c.in-List.sorted) c.steps.ensures c.in-List.is (c.plan_of.ensures.fits c.args.reader.code.now c.args.reader.id.index) (c.lemma_routines_fit.ensures c.args.reader.code.now c.args.reader.id.index))))
 
 pub value::read_steps-read_pick-requires : goal.value::read_steps-read_pick-requires
 value::read_steps-read_pick-requires t c =
     let d = c.decreases in
     let lt : 30 * c.args.reader.levels + 28 < t = omega (arith, d) in
     let there = type_there c.args.reader.code.now c.args.reader.id.index c.steps.result.now c.plan_of.result (plans.Choice c.in-Choice.calls) c.steps.ensures c.in-Choice.is c.plan_of.ensures.some (λ h. h) in
-    (lt, (c.requires.few, (c.requires.room, (fits_as c.args.reader.code.now c.args.reader.id.index c.steps.result.now c.plan_of.result (plans.Choice c.in-Choice.calls) c.steps.ensures c.in-Choice.is (c.plan_of.ensures.fits c.args.reader.code.now c.args.reader.id.index) (c.routines_fit.ensures c.args.reader.code.now c.args.reader.id.index), there))))
+    (lt, (c.requires.few, (c.requires.room, (fits_as c.args.reader.code.now c.args.reader.id.index c.steps.result.now c.plan_of.result (plans.Choice c.in-Choice.calls) c.steps.ensures c.in-Choice.is (c.plan_of.ensures.fits c.args.reader.code.now c.args.reader.id.index) (c.lemma_routines_fit.ensures c.args.reader.code.now c.args.reader.id.index), there))))
 
 pub value::read_steps-read_contents-requires : goal.value::read_steps-read_contents-requires
 value::read_steps-read_contents-requires t c =
@@ -1520,8 +1520,8 @@ value::read_steps-returns-in-Fields-clause-err t c =
     stops_as c.read_fields.result (run_steps c.args.reader.code.now c.args.reader.levels (run_value c.args.reader.code.now c.args.reader.levels) c.args.reader.id.index (routine_at c.args.reader.code.now c.args.reader.id.index) c.args.progress.now.skipped c.args.progress.now.left (bits_left c.args.bits.now)) (run_plan c.args.reader.code.now c.args.reader.levels (run_value c.args.reader.code.now c.args.reader.levels) c.args.reader.id.index (plans.Fields c.in-Fields.shape) c.args.progress.now.skipped c.args.progress.now.left (bits_left c.args.bits.now)) (bits_left c.read_fields.new.bits)
     (as_plan c.args.reader.code.now c.args.reader.levels c.args.reader.id.index c.args.progress.now.skipped c.args.progress.now.left (bits_left c.args.bits.now) c.steps.result.now c.plan_of.result (plans.Fields c.in-Fields.shape) c.steps.ensures c.plan_of.ensures.is c.in-Fields.is) c.read_fields.ensures.err
 
-pub value::read_steps-returns-in-Fields-clause-went : goal.value::read_steps-returns-in-Fields-clause-went
-value::read_steps-returns-in-Fields-clause-went t c = c.read_fields.ensures.went
+pub value::read_steps-returns-in-Fields-clause-advanced : goal.value::read_steps-returns-in-Fields-clause-advanced
+value::read_steps-returns-in-Fields-clause-advanced t c = c.read_fields.ensures.advanced
 
 pub value::read_steps-returns-in-List-clause-ok : goal.value::read_steps-returns-in-List-clause-ok
 value::read_steps-returns-in-List-clause-ok t c =
@@ -1533,8 +1533,8 @@ value::read_steps-returns-in-List-clause-err t c =
     stops_as c.read_each.result (run_steps c.args.reader.code.now c.args.reader.levels (run_value c.args.reader.code.now c.args.reader.levels) c.args.reader.id.index (routine_at c.args.reader.code.now c.args.reader.id.index) c.args.progress.now.skipped c.args.progress.now.left (bits_left c.args.bits.now)) (run_plan c.args.reader.code.now c.args.reader.levels (run_value c.args.reader.code.now c.args.reader.levels) c.args.reader.id.index (plans.List c.in-List.element c.in-List.sorted) c.args.progress.now.skipped c.args.progress.now.left (bits_left c.args.bits.now)) (bits_left c.read_each.new.bits)
     (as_plan c.args.reader.code.now c.args.reader.levels c.args.reader.id.index c.args.progress.now.skipped c.args.progress.now.left (bits_left c.args.bits.now) c.steps.result.now c.plan_of.result (plans.List c.in-List.element c.in-List.sorted) c.steps.ensures c.plan_of.ensures.is c.in-List.is) c.read_each.ensures.err
 
-pub value::read_steps-returns-in-List-clause-went : goal.value::read_steps-returns-in-List-clause-went
-value::read_steps-returns-in-List-clause-went t c = c.read_each.ensures.went
+pub value::read_steps-returns-in-List-clause-advanced : goal.value::read_steps-returns-in-List-clause-advanced
+value::read_steps-returns-in-List-clause-advanced t c = c.read_each.ensures.advanced
 
 pub value::read_steps-returns-in-Choice-clause-ok : goal.value::read_steps-returns-in-Choice-clause-ok
 value::read_steps-returns-in-Choice-clause-ok t c =
@@ -1546,8 +1546,8 @@ value::read_steps-returns-in-Choice-clause-err t c =
     stops_as c.read_pick.result (run_steps c.args.reader.code.now c.args.reader.levels (run_value c.args.reader.code.now c.args.reader.levels) c.args.reader.id.index (routine_at c.args.reader.code.now c.args.reader.id.index) c.args.progress.now.skipped c.args.progress.now.left (bits_left c.args.bits.now)) (run_plan c.args.reader.code.now c.args.reader.levels (run_value c.args.reader.code.now c.args.reader.levels) c.args.reader.id.index (plans.Choice c.in-Choice.calls) c.args.progress.now.skipped c.args.progress.now.left (bits_left c.args.bits.now)) (bits_left c.read_pick.new.bits)
     (as_plan c.args.reader.code.now c.args.reader.levels c.args.reader.id.index c.args.progress.now.skipped c.args.progress.now.left (bits_left c.args.bits.now) c.steps.result.now c.plan_of.result (plans.Choice c.in-Choice.calls) c.steps.ensures c.plan_of.ensures.is c.in-Choice.is) c.read_pick.ensures.err
 
-pub value::read_steps-returns-in-Choice-clause-went : goal.value::read_steps-returns-in-Choice-clause-went
-value::read_steps-returns-in-Choice-clause-went t c = c.read_pick.ensures.went
+pub value::read_steps-returns-in-Choice-clause-advanced : goal.value::read_steps-returns-in-Choice-clause-advanced
+value::read_steps-returns-in-Choice-clause-advanced t c = c.read_pick.ensures.advanced
 
 pub value::read_steps-returns-in-Leaf-clause-ok : goal.value::read_steps-returns-in-Leaf-clause-ok
 value::read_steps-returns-in-Leaf-clause-ok t c =
@@ -1559,8 +1559,8 @@ value::read_steps-returns-in-Leaf-clause-err t c =
     stops_as c.read_contents.result (run_steps c.args.reader.code.now c.args.reader.levels (run_value c.args.reader.code.now c.args.reader.levels) c.args.reader.id.index (routine_at c.args.reader.code.now c.args.reader.id.index) c.args.progress.now.skipped c.args.progress.now.left (bits_left c.args.bits.now)) (run_plan c.args.reader.code.now c.args.reader.levels (run_value c.args.reader.code.now c.args.reader.levels) c.args.reader.id.index (plans.Leaf) c.args.progress.now.skipped c.args.progress.now.left (bits_left c.args.bits.now)) (bits_left c.read_contents.new.bits)
     (as_plan c.args.reader.code.now c.args.reader.levels c.args.reader.id.index c.args.progress.now.skipped c.args.progress.now.left (bits_left c.args.bits.now) c.steps.result.now c.plan_of.result (plans.Leaf) c.steps.ensures c.plan_of.ensures.is c.in-Leaf.is) c.read_contents.ensures.err
 
-pub value::read_steps-returns-in-Leaf-clause-went : goal.value::read_steps-returns-in-Leaf-clause-went
-value::read_steps-returns-in-Leaf-clause-went t c = c.read_contents.ensures.went
+pub value::read_steps-returns-in-Leaf-clause-advanced : goal.value::read_steps-returns-in-Leaf-clause-advanced
+value::read_steps-returns-in-Leaf-clause-advanced t c = c.read_contents.ensures.advanced
 
 pub value::read_steps-returns-in-Nothing-clause-err : goal.value::read_steps-returns-in-Nothing-clause-err
 value::read_steps-returns-in-Nothing-clause-err t c =
@@ -1600,11 +1600,11 @@ value::read_value-returns-clause-ok t c = got_as c.read_steps.result (run_value 
 pub value::read_value-returns-clause-err : goal.value::read_value-returns-clause-err
 value::read_value-returns-clause-err t c = stops_as c.read_steps.result (run_value c.args.reader.code.now c.args.reader.levels c.args.reader.id.index c.args.progress.now.skipped c.args.progress.now.left (bits_left c.args.bits.now)) (run_steps c.args.reader.code.now (c.args.reader.levels - 1) (run_value c.args.reader.code.now (c.args.reader.levels - 1)) c.args.reader.id.index (routine_at c.args.reader.code.now c.args.reader.id.index) c.args.progress.now.skipped (c.args.progress.now.left - 1) (bits_left c.args.bits.now)) (bits_left c.read_steps.new.bits) (as_steps c) c.read_steps.ensures.err
 
-pub value::read_value-returns-clause-went : goal.value::read_value-returns-clause-went
-value::read_value-returns-clause-went t c = went_value c.read_steps.result c.args.progress.now c.read_steps.new.progress (bits_left c.args.bits.now) (bits_left c.read_steps.new.bits) (let h = c.if-progress-eq0.false in omega (arith, h)) c.read_steps.ensures.went
+pub value::read_value-returns-clause-advanced : goal.value::read_value-returns-clause-advanced
+value::read_value-returns-clause-advanced t c = went_value c.read_steps.result c.args.progress.now c.read_steps.new.progress (bits_left c.args.bits.now) (bits_left c.read_steps.new.bits) (let h = c.if-progress-eq0.false in omega (arith, h)) c.read_steps.ensures.advanced
 
 pub value::read_value-returns-clause-fewer : goal.value::read_value-returns-clause-fewer
-value::read_value-returns-clause-fewer t c = fewer_value c.read_steps.result c.args.progress.now c.read_steps.new.progress (bits_left c.args.bits.now) (bits_left c.read_steps.new.bits) (let h = c.if-progress-eq0.false in omega (arith, h)) c.read_steps.ensures.went
+value::read_value-returns-clause-fewer t c = fewer_value c.read_steps.result c.args.progress.now c.read_steps.new.progress (bits_left c.args.bits.now) (bits_left c.read_steps.new.bits) (let h = c.if-progress-eq0.false in omega (arith, h)) c.read_steps.ensures.advanced
 
 pub value::read_value-returns-clause-value : goal.value::read_value-returns-clause-value
 value::read_value-returns-clause-value t c =
@@ -1614,7 +1614,7 @@ value::read_value-returns-clause-value t c =
     let n = c.args.progress.now.left in
     let b = bits_left c.args.bits.now in
     value_of c.read_steps.result s l u c.args.progress.now.skipped n b (bits_left c.read_steps.new.bits) c.read_steps.new.progress
-    (c.value_laws.ensures s l u n c.accepted.ensures) (c.step_laws.ensures s l u n b c.accepted.ensures) (run_steps c.args.reader.code.now (c.args.reader.levels - 1) (run_value c.args.reader.code.now (c.args.reader.levels - 1)) c.args.reader.id.index (routine_at c.args.reader.code.now c.args.reader.id.index) c.args.progress.now.skipped (c.args.progress.now.left - 1) (bits_left c.args.bits.now)) (as_steps c) c.read_steps.ensures.ok
+    (c.value_laws.ensures s l u n c.lemma_invariant.ensures) (c.step_laws.ensures s l u n b c.lemma_invariant.ensures) (run_steps c.args.reader.code.now (c.args.reader.levels - 1) (run_value c.args.reader.code.now (c.args.reader.levels - 1)) c.args.reader.id.index (routine_at c.args.reader.code.now c.args.reader.id.index) c.args.progress.now.skipped (c.args.progress.now.left - 1) (bits_left c.args.bits.now)) (as_steps c) c.read_steps.ensures.ok
 
 pub components::read_fields-returns-in-Err-read_row-clause-err : goal.components::read_fields-returns-in-Err-read_row-clause-err
 components::read_fields-returns-in-Err-read_row-clause-err t c = stop_next (run_structure c.args.reader.code.now c.args.reader.levels (run_value c.args.reader.code.now c.args.reader.levels) (components (kind_at c.args.reader.code.now c.args.reader.id.index)) c.args.shape.extensible c.args.shape.count c.args.shape.steps.now c.args.progress.now.skipped c.args.progress.now.left (bits_left c.args.bits.now)) (λ w r. read (as_fields w) r) c.in-Err-read_row.stop (bits_left c.read_row.new.bits) c.in-Err-read_row.ensures.err
@@ -1639,8 +1639,8 @@ alternatives::read_chosen-returns-in-Ok-clause-ok t c = chosen_as c.args.reader.
 pub alternatives::read_chosen-returns-in-Ok-clause-err : goal.alternatives::read_chosen-returns-in-Ok-clause-err
 alternatives::read_chosen-returns-in-Ok-clause-err t c = only_memory c.alternative.result (run_chosen (run_value c.args.reader.code.now c.args.reader.levels) (chosen_of c.args.call) c.args.progress.now.skipped c.args.progress.now.left (bits_left c.args.bits.now)) (bits_left c.read_opened.new.bits) c.alternative.ensures.err
 
-pub alternatives::read_chosen-returns-in-Ok-clause-went : goal.alternatives::read_chosen-returns-in-Ok-clause-went
-alternatives::read_chosen-returns-in-Ok-clause-went t c = whatever c.alternative.result c.in-Ok.ensures.went
+pub alternatives::read_chosen-returns-in-Ok-clause-advanced : goal.alternatives::read_chosen-returns-in-Ok-clause-advanced
+alternatives::read_chosen-returns-in-Ok-clause-advanced t c = whatever c.alternative.result c.in-Ok.ensures.advanced
 
 pub alternatives::read_chosen-returns-in-Err-clause-err : goal.alternatives::read_chosen-returns-in-Err-clause-err
 alternatives::read_chosen-returns-in-Err-clause-err t c = stop_as (run_chosen (run_value c.args.reader.code.now c.args.reader.levels) (chosen_of c.args.call) c.args.progress.now.skipped c.args.progress.now.left (bits_left c.args.bits.now)) (next' c.args.call.number (open_from (run_value c.args.reader.code.now c.args.reader.levels c.args.call.ty.index c.args.progress.now.skipped c.args.progress.now.left) (bits_left c.args.bits.now))) c.within.result (bits_left c.read_opened.new.bits) (chosen_open c.args.reader.code.now c.args.reader.levels c.args.call.number c.args.call.ty.index c.args.progress.now.skipped c.args.progress.now.left (bits_left c.args.bits.now) c.args.call.open c.if-call.true) (chosen_stop c.args.reader.code.now c.args.reader.levels c.args.call.number c.args.call.ty.index c.args.progress.now.skipped c.args.progress.now.left (bits_left c.args.bits.now) (open_from (run_value c.args.reader.code.now c.args.reader.levels c.args.call.ty.index c.args.progress.now.skipped c.args.progress.now.left) (bits_left c.args.bits.now)) c.in-Err.stop c.within.result (bits_left c.read_opened.new.bits) c.in-Err.ensures.err c.within.ensures)
@@ -1651,8 +1651,8 @@ alternatives::read_chosen-returns-in-Ok-read_value-clause-ok t c = chosen_as c.a
 pub alternatives::read_chosen-returns-in-Ok-read_value-clause-err : goal.alternatives::read_chosen-returns-in-Ok-read_value-clause-err
 alternatives::read_chosen-returns-in-Ok-read_value-clause-err t c = only_memory c.alternative-in-Ok-read_value.result (run_chosen (run_value c.args.reader.code.now c.args.reader.levels) (chosen_of c.args.call) c.args.progress.now.skipped c.args.progress.now.left (bits_left c.args.bits.now)) (bits_left c.read_value.new.bits) c.alternative-in-Ok-read_value.ensures.err
 
-pub alternatives::read_chosen-returns-in-Ok-read_value-clause-went : goal.alternatives::read_chosen-returns-in-Ok-read_value-clause-went
-alternatives::read_chosen-returns-in-Ok-read_value-clause-went t c = whatever c.alternative-in-Ok-read_value.result c.in-Ok-read_value.ensures.went
+pub alternatives::read_chosen-returns-in-Ok-read_value-clause-advanced : goal.alternatives::read_chosen-returns-in-Ok-read_value-clause-advanced
+alternatives::read_chosen-returns-in-Ok-read_value-clause-advanced t c = whatever c.alternative-in-Ok-read_value.result c.in-Ok-read_value.ensures.advanced
 
 pub alternatives::read_chosen-returns-in-Err-read_value-clause-err : goal.alternatives::read_chosen-returns-in-Err-read_value-clause-err
 alternatives::read_chosen-returns-in-Err-read_value-clause-err t c = stop_as (run_chosen (run_value c.args.reader.code.now c.args.reader.levels) (chosen_of c.args.call) c.args.progress.now.skipped c.args.progress.now.left (bits_left c.args.bits.now)) (next' c.args.call.number (run_value c.args.reader.code.now c.args.reader.levels c.args.call.ty.index c.args.progress.now.skipped c.args.progress.now.left (bits_left c.args.bits.now))) c.within-in-Err-read_value.result (bits_left c.read_value.new.bits) (chosen_root c.args.reader.code.now c.args.reader.levels c.args.call.number c.args.call.ty.index c.args.progress.now.skipped c.args.progress.now.left (bits_left c.args.bits.now) c.args.call.open c.if-call.false) (chosen_stop c.args.reader.code.now c.args.reader.levels c.args.call.number c.args.call.ty.index c.args.progress.now.skipped c.args.progress.now.left (bits_left c.args.bits.now) (run_value c.args.reader.code.now c.args.reader.levels c.args.call.ty.index c.args.progress.now.skipped c.args.progress.now.left (bits_left c.args.bits.now)) c.in-Err-read_value.stop c.within-in-Err-read_value.result (bits_left c.read_value.new.bits) c.in-Err-read_value.ensures.err c.within-in-Err-read_value.ensures)

@@ -4,7 +4,7 @@ use Rattle.asn_base.specs.Seen.{constraint_of}
 use Rattle.bits.specs.Left.{bits_left}
 use Rattle.packed_encodings.specs.Computed.{kind_at}
 use Rattle.packed_readings.specs.Counts.{size_fault}
-use Rattle.packed_reader.specs.proving.Code.{Went, gathered, row_of_values}
+use Rattle.packed_reader.specs.proving.Code.{Advanced, gathered, row_of_values}
 use Rattle.packed_reader.specs.proving.Running.{run_additions, run_elements, run_members, run_parts, run_value}
 use Rattle.packed_reader.proofs.Parts.{IsSoFar}
 use Rattle.packed_reader.proofs.+reads.Given as goal
@@ -79,14 +79,14 @@ abbrev pub invariant-components::read_members-loop-i : goal.invariant-components
 invariant-components::read_members-loop-i l =
     (run_members l.reader.code.now l.reader.levels (run_value l.reader.code.now l.reader.levels) (components (kind_at l.reader.code.now l.reader.id.index)) (drop l.i l.sent) (row_of_values l.row.items) l.progress.skipped l.progress.left (bits_left l.bits)
     ≡ run_members l.reader.code.now l.reader.levels (run_value l.reader.code.now l.reader.levels) (components (kind_at l.reader.code.now l.reader.id.index)) l.sent (row_of_values l.fn.row.items) l.fn.progress.skipped l.fn.progress.left (bits_left l.fn.bits))
-    × Went l.fn.progress (bits_left l.fn.bits) l.progress (bits_left l.bits)
+    × Advanced l.fn.progress (bits_left l.fn.bits) l.progress (bits_left l.bits)
     × (length l.row.items ≡ length l.fn.row.items)
 
 abbrev pub invariant-additions::read_additions-loop-i : goal.invariant-additions::read_additions-loop-i
 invariant-additions::read_additions-loop-i l =
     (run_additions l.reader.code.now l.reader.levels (run_value l.reader.code.now l.reader.levels) (components (kind_at l.reader.code.now l.reader.id.index)) (drop l.i l.additions.steps.now) l.map (row_of_values l.row.items) l.progress.skipped l.progress.left (bits_left l.bits)
     ≡ run_additions l.reader.code.now l.reader.levels (run_value l.reader.code.now l.reader.levels) (components (kind_at l.reader.code.now l.reader.id.index)) l.additions.steps.now l.additions.map.now (row_of_values l.fn.row.items) l.fn.progress.skipped l.fn.progress.left (bits_left l.fn.bits))
-    × Went l.fn.progress (bits_left l.fn.bits) l.progress (bits_left l.bits)
+    × Advanced l.fn.progress (bits_left l.fn.bits) l.progress (bits_left l.bits)
     × (length l.row.items ≡ length l.fn.row.items)
 
 abbrev pub invariant-elements::read_parts-loop-more : goal.invariant-elements::read_parts-loop-more
@@ -94,7 +94,7 @@ invariant-elements::read_parts-loop-more l =
     IsSoFar (run_value l.reader.code.now l.reader.levels l.reader.id.index) l.size.sorted (size_fault (constraint_of l.size.constraint.now) l.size.outside)
     (run_parts (run_value l.reader.code.now l.reader.levels l.reader.id.index) l.size.sorted (size_fault (constraint_of l.size.constraint.now) l.size.outside) (suc l.fn.progress.left) true (gathered l.fn.list) l.fn.progress.skipped l.fn.progress.left (bits_left l.fn.bits))
     l.more l.full (gathered l.list) l.progress (bits_left l.bits)
-    × Went l.fn.progress (bits_left l.fn.bits) l.progress (bits_left l.bits)
+    × Advanced l.fn.progress (bits_left l.fn.bits) l.progress (bits_left l.bits)
 
 abbrev pub decreases-elements::read_parts-loop-more : goal.decreases-elements::read_parts-loop-more
 decreases-elements::read_parts-loop-more l = l.progress.left + cond l.more 1 0
@@ -103,5 +103,5 @@ abbrev pub invariant-elements::read_elements-loop-i : goal.invariant-elements::r
 invariant-elements::read_elements-loop-i l =
     (run_elements (run_value l.reader.code.now l.reader.levels l.reader.id.index) l.batch.sorted (l.batch.count - l._i) (gathered l.list) l.progress.skipped l.progress.left (bits_left l.bits)
     ≡ run_elements (run_value l.reader.code.now l.reader.levels l.reader.id.index) l.batch.sorted l.batch.count (gathered l.fn.list) l.fn.progress.skipped l.fn.progress.left (bits_left l.fn.bits))
-    × Went l.fn.progress (bits_left l.fn.bits) l.progress (bits_left l.bits)
+    × Advanced l.fn.progress (bits_left l.fn.bits) l.progress (bits_left l.bits)
     × (l.progress.left + l._i ≤ l.fn.progress.left)

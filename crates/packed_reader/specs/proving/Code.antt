@@ -66,7 +66,7 @@ IsStop o Memory r = Unit {0}
 IsStop o (Refused e ps) r = o ≡ refused (record { why = e; path = ps.items }) r
 
 -- Fewer values may begin, or as many; and each addition that was skipped took a bit at least.
-pub record Went (p : Progress) (b : Bits) (q : Progress) (r : Bits) : Type 0 where
+pub record Advanced (p : Progress) (b : Bits) (q : Progress) (r : Bits) : Type 0 where
   pub left : q.left ≤ p.left
   pub room : q.skipped + length r ≤ p.skipped + length b
 

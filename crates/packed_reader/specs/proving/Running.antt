@@ -255,7 +255,7 @@ abbrev pub run_leaf : Kind → Runs AbstractValue
 run_leaf c k n b = next (plain (leaf_within n c b)) (λ v r. read (taken v k (n - characters v)) r)
 
 abbrev pub run_steps : List Resolved → ℕ → RunsValue → TypeNumber → List PackedStep → Runs AbstractValue
-run_steps s l value t (steps.Mark m ∷ (steps.Map i ∷ ss)) k n b = run_fields s l value t true i ss k n b
+run_steps s l value t (steps.ExtensionBit m ∷ (steps.Map i ∷ ss)) k n b = run_fields s l value t true i ss k n b
 run_steps s l value t (steps.Map i ∷ ss) k n b = run_fields s l value t false i ss k n b
 run_steps s l value t (steps.Each u ∷ ss) k n b = run_each s value t false u.index k n b
 run_steps s l value t (steps.EachSorted u ∷ ss) k n b = run_each s value t true u.index k n b

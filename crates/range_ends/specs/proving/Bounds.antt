@@ -4,7 +4,7 @@ use Rattle.trees.specs.Values.{Name}
 use Rattle.trees.specs.Constraints.{EndTree}
 use Rattle.type_table.specs.Table.{Kind}
 use Rattle.resolve.specs.Program.{Program}
-use Rattle.range_ends.specs.Ends.{EndIs, IsLost, ComesRound, notation_of}
+use Rattle.range_ends.specs.Ends.{EndIs, HasNoNumber, IsCircularEnd, notation_of}
 use Rattle.range_ends.specs.Answers.{IsOf}
 use Rattle.range_ends.specs.declared.ranges.Counted.{Counted}
 use Rattle.range_ends.specs.declared.ranges.Counted.TheVariants.{Numbers, Sizes}
@@ -19,8 +19,8 @@ pub record IsBoundOf (p : Program) (k : Kind) (M : Name) (of : Counted) (e : End
 
 abbrev pub IsBoundFault : Program → Kind → Name → Counted → EndTree → RangeFault → Type 0
 IsBoundFault p k M of e (faults.NoEnd at) =
-    IsLost p k M (notation_of e) ⊎ ((z : ℤ) × EndIs p k M e z × (IsOf of z → ⊥))
-IsBoundFault p k M of e (faults.Circular v) = ComesRound p k M (notation_of e) v
+    HasNoNumber p k M (notation_of e) ⊎ ((z : ℤ) × EndIs p k M e z × (IsOf of z → ⊥))
+IsBoundFault p k M of e (faults.Circular v) = IsCircularEnd p k M (notation_of e) v
 IsBoundFault p k M of e (faults.Reversed at) = ⊥
 
 -- the least number that MIN means: none among numbers, 0 among sizes

@@ -9,7 +9,7 @@ use Rattle.range_ends.specs.proving.Steps.{listed}
 -- value i leads to value c in n steps or more, or in fewer if c refers to no value
 pub record IsFar (os : List (Option ℕ)) (n i c : ℕ) : Type 0 where
   pub steps : ℕ
-  pub leads : follow (listed os) steps i ≡ Some c
+  pub chain : follow (listed os) steps i ≡ Some c
   pub far : (listed os c ≡ None) ⊎ (n ≤ steps)
 
 -- the list has such a value c for each value i

@@ -6,7 +6,7 @@ use Rattle.names.specs.Names.{Refers}
 use Rattle.names.specs.Sources.{Value}
 use Rattle.type_table.specs.Table.{Kind}
 use Rattle.resolve.specs.Program.{Program}
-use Rattle.range_ends.specs.Ends.{IsValueAt, StandsFor, told}
+use Rattle.range_ends.specs.Ends.{IsValueAt, DenotesNumber, direct_number}
 
 -- the notation is a name that means value j in module M
 abbrev pub MeansValue : Program → Name → Tree → ℕ → Type 0
@@ -32,12 +32,12 @@ pub record AreReferred (p : Program) (os : List (Option ℕ)) : Type 0 where
   pub each : (i j : ℕ) → (listed os i ≡ Some j ↔ RefersTo p i j)
 
 -- the number that value i is by itself, in a constraint on a type of kind k
-abbrev pub told_by : Kind → Option Value → Option ℤ
-told_by k None = None
-told_by k (Some v) = told k v.notation
+abbrev pub number_by : Kind → Option Value → Option ℤ
+number_by k None = None
+number_by k (Some v) = direct_number k v.notation
 
-abbrev pub told_at : Program → Kind → ℕ → Option ℤ
-told_at p k i = told_by k (slice_get p.values i)
+abbrev pub number_at : Program → Kind → ℕ → Option ℤ
+number_at p k i = number_by k (slice_get p.values i)
 
 abbrev pub unless : Option ℤ → Option ℕ → Option ℕ
 unless None o = o
@@ -45,11 +45,11 @@ unless (Some z) o = None
 
 -- the value that value i leads to, in a constraint on a type of kind k
 abbrev pub next : Program → Kind → List (Option ℕ) → ℕ → Option ℕ
-next p k os i = unless (told_at p k i) (listed os i)
+next p k os i = unless (number_at p k i) (listed os i)
 
 -- value i stands for number z, in a constraint on a type of kind k
 pub record ValueIs (p : Program) (k : Kind) (i : ℕ) (z : ℤ) : Type 0 where
   pub within : Name
   pub notation : Tree
   pub at : IsValueAt p i within notation
-  pub stands : StandsFor p k within notation z
+  pub stands : DenotesNumber p k within notation z

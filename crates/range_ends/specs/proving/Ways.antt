@@ -4,20 +4,20 @@ use Rattle.type_table.specs.Table.{Kind}
 use Rattle.resolve.specs.Program.{Program}
 use Rattle.range_ends.specs.declared.ends.EndFault.{EndFault}
 use Rattle.range_ends.specs.declared.ends.EndFault.TheVariants as ends
-use Rattle.range_ends.specs.proving.Steps.{next, told_at, listed}
+use Rattle.range_ends.specs.proving.Steps.{next, number_at, listed}
 use Rattle.type_table.specs.Walks.{EndsAt, ArrivesAt, ComesBack}
 
 -- the references of value i end at number z
 pub record Ends (p : Program) (k : Kind) (os : List (Option ℕ)) (i : ℕ) (z : ℤ) : Type 0 where
   pub last : ℕ
   pub way : EndsAt (next p k os) i last
-  pub tells : told_at p k last ≡ Some z
+  pub number_is : number_at p k last ≡ Some z
 
 -- the references of value i end at a value that is no number and refers to no value
 pub record EndsWithout (p : Program) (k : Kind) (os : List (Option ℕ)) (i : ℕ) : Type 0 where
   pub last : ℕ
   pub way : EndsAt (next p k os) i last
-  pub tells : told_at p k last ≡ None
+  pub number_is : number_at p k last ≡ None
   pub alone : listed os last ≡ None
 
 -- the references of value i come to value v, which comes back to itself
@@ -26,5 +26,5 @@ pub record Turns (p : Program) (k : Kind) (os : List (Option ℕ)) (i v : ℕ) :
   pub back : ComesBack (next p k os) v
 
 abbrev pub IsWayFault : Program → Kind → List (Option ℕ) → ℕ → EndFault → Type 0
-IsWayFault p k os i ends.Lost = EndsWithout p k os i
+IsWayFault p k os i ends.NoMeaning = EndsWithout p k os i
 IsWayFault p k os i (ends.Circular v) = Turns p k os i v

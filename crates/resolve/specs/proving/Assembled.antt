@@ -9,11 +9,11 @@ use Rattle.names.specs.declared.gather.ModuleTables.{ModuleTables}
 use Rattle.names.specs.declared.sources.AssignedAt.{AssignedAt}
 use Rattle.names.specs.declared.sources.Header.{Header}
 use Rattle.names.specs.declared.sources.ValueAt.{ValueAt}
-use Rattle.names.specs.Faults.{module_told, name_told}
+use Rattle.names.specs.Faults.{fault_module, fault_name}
 use Rattle.names.specs.Names.{Module}
 use Rattle.names.specs.Scopes.{seen, module_of}
 use Rattle.names.specs.Sources.{assignment_of, header_of, sources_of, value_of}
-use Rattle.type_table.specs.declared.table.Written.{Written}
+use Rattle.type_table.specs.declared.table.TypeNode.{TypeNode}
 use Rattle.type_table.specs.Faults.{IsTableFault}
 use Rattle.type_table.specs.Numbering.{AreNumbered}
 use Rattle.type_table.specs.Seen.{types_of}
@@ -60,14 +60,14 @@ abbrev pub ArePlaced : List AssignedAt → List Header → Type 0
 ArePlaced gs hs = (k : ℕ) (a : AssignedAt) → slice_get gs k ≡ Some a → a.module < length hs
 
 -- `Memory`; or `Circular`, with the module and the assignment of the type
-abbrev pub TellsType : List (Name × TagDefault) → List (ℕ × Name) → Type' → NameFault → Type 0
-TellsType hs gs t faults.Memory = Unit {0}
-TellsType hs gs t (faults.Circular s) =
+abbrev pub ReportsType : List (Name × TagDefault) → List (ℕ × Name) → Type' → NameFault → Type 0
+ReportsType hs gs t faults.Memory = Unit {0}
+ReportsType hs gs t (faults.Circular s) =
     (owner : ℕ)
     × (default : TagDefault)
-    × (slice_get gs t.assignment ≡ Some (owner, name_told s))
-    × (slice_get hs owner ≡ Some (module_told s, default))
-TellsType hs gs t e = ⊥
+    × (slice_get gs t.assignment ≡ Some (owner, fault_name s))
+    × (slice_get hs owner ≡ Some (fault_module s, default))
+ReportsType hs gs t e = ⊥
 
 -- `Memory`; or `Circular` with this offset
 abbrev pub IsCircularAt : ℕ → NameFault → Type 0
@@ -77,7 +77,7 @@ IsCircularAt n e = ⊥
 
 -- the invariant of Linked: a whole program, and the cores of its types
 abbrev pub IsKept :
-    List (Name × Module) → List Header → List AssignedAt → List Written → List ValueAt → Vec ℕ Global → Type 0
+    List (Name × Module) → List Header → List AssignedAt → List TypeNode → List ValueAt → Vec ℕ Global → Type 0
 IsKept ms hs gs ts vs cores = IsWhole (program_seen ms hs gs ts vs) × AreCores (types_of ts) cores.items
 
 -- a reason why the program can't be put together

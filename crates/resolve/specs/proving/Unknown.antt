@@ -1,19 +1,19 @@
 -- The results of the checks of the names in one notation.
 use Rattle.std.specs.Prelude.{◌≡◌, ℕ, List, Some, Result, MatchResult, option_map, string_bytes}
-use Rattle.trees.specs.declared.place.Reference.{Reference}
+use Rattle.trees.specs.declared.location.Reference.{Reference}
 use Rattle.trees.specs.Values.{Name}
 use Rattle.names.specs.declared.fault.NameFault.{NameFault}
 use Rattle.names.specs.declared.fault.NameFault.TheVariants as faults
 use Rattle.names.specs.declared.scope.Assigned.TheVariants as assigned
-use Rattle.names.specs.Faults.{module_told, name_told}
+use Rattle.names.specs.Faults.{fault_module, fault_name}
 use Rattle.names.specs.Names.{Module, Refers}
 use Rattle.resolve.specs.Program.{Program}
 use Rattle.resolve.specs.First.{IsFirstUnknown}
-use Rattle.resolve.specs.Qualified.{behind_module, MeanValues}
+use Rattle.resolve.specs.Qualified.{after_module, MeanValues}
 
 -- the written name, if it is after a module's name
 abbrev pub named : Reference → List (Name × Name)
-named r = behind_module (option_map string_bytes r.module) (string_bytes r.name)
+named r = after_module (option_map string_bytes r.module) (string_bytes r.name)
 
 -- the written name is that of a value in module M
 abbrev pub MeansValue : Program → Name → Reference → Type 0
@@ -23,7 +23,7 @@ MeansValue p M r =
 -- `Memory`; or `UnknownName` for the first of these names after modules' names that isn't that of a value in module M
 abbrev pub IsUnknownIn : List (Name × Module) → Name → List (Name × Name) → NameFault → Type 0
 IsUnknownIn ms M rs faults.Memory = Unit {0}
-IsUnknownIn ms M rs (faults.UnknownName s) = (module_told s ≡ M) × IsFirstUnknown ms M rs (name_told s)
+IsUnknownIn ms M rs (faults.UnknownName s) = (fault_module s ≡ M) × IsFirstUnknown ms M rs (fault_name s)
 IsUnknownIn ms M rs e = ⊥
 
 -- the results of a check of these names

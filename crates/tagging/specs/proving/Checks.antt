@@ -8,7 +8,7 @@ use Rattle.trees.specs.declared.types.ListKind.{ListKind}
 use Rattle.type_table.specs.Table.{Part, Type', Kind, tagged, members, Is}
 use Rattle.tagging.specs.declared.check.Fault.{Fault}
 use Rattle.tagging.specs.declared.check.Fault.TheVariants.{Memory, At}
-use Rattle.tagging.specs.Tags.{Written, TagCount, bears_tag, automatic}
+use Rattle.tagging.specs.Tags.{WrittenTags, TagCount, bears_tag, automatic}
 use Rattle.tagging.specs.First.{is_addition, Distinct}
 use Rattle.tagging.specs.Tagged.{Bears, BearTags, Breaks}
 
@@ -24,7 +24,7 @@ AreThere ts cs = All (λ c. c.ty < length ts) cs
 
 -- what the rules on tags require of a tag with this keyword before type j
 abbrev pub SuitsTag : List Type' → Keyword → ℕ → Type 0
-SuitsTag ts Implicit j = Written ts j [] → ⊥
+SuitsTag ts Implicit j = WrittenTags ts j [] → ⊥
 SuitsTag ts k j = Unit {0}
 
 -- what the rules on tags require of a list in a module with this tag default: its additions bear no written tags if its
@@ -60,13 +60,13 @@ pub record IsGood (ts : List Type') (i : ℕ) : Type 0 where
   pub suits : (k : Kind) (d : TagDefault) (p : Option (ℕ × ℕ)) → Is ts i k d p → Suits ts k d
 
 -- the fault is one of this table
-abbrev pub StandsAt : List Type' → Fault → Type 0
-StandsAt ts Memory = Unit {0}
-StandsAt ts (At r i at) = Breaks ts r i
+abbrev pub OccursAt : List Type' → Fault → Type 0
+OccursAt ts Memory = Unit {0}
+OccursAt ts (At r i at) = Breaks ts r i
 
 -- what a check returns: success if P holds, or a fault of this table
 abbrev pub Checked : List Type' → Result (Unit {0}) Fault → Type 0 → Type 0
-Checked ts r P = MatchResult r (λ _. P) (StandsAt ts)
+Checked ts r P = MatchResult r (λ _. P) (OccursAt ts)
 
 -- the member is an addition, or one of the root, as asked, and bears a tag that is written in the list
 pub record BearsHere (ts : List Type') (c : Part) (of_additions : Bool) : Type 0 where

@@ -5,8 +5,8 @@ use Rattle.trees.specs.declared.module.TagDefault.{TagDefault}
 use Rattle.type_table.specs.Table.{Type', Kind, reference, Is}
 use Rattle.type_table.specs.proving.Notes.{AreRight, AreNoted}
 use Rattle.tagging.specs.Tags.{automatic_kind}
-use Rattle.tagging.specs.declared.table.Held.{Held}
-use Rattle.tagging.specs.declared.table.Held.TheVariants.{Owned, Lent}
+use Rattle.tagging.specs.declared.table.TableRef.{TableRef}
+use Rattle.tagging.specs.declared.table.TableRef.TheVariants.{Owned, Lent}
 use Rattle.tagging.specs.declared.table.TagTable.{TagTable}
 
 abbrev pub is_reference : Kind → Bool
@@ -37,7 +37,7 @@ abbrev pub all_automatic : List Type' → List Bool
 all_automatic ts = map (λ t. automatic_kind ts t.kind t.default) ts
 
 -- the table that is owned or lent
-abbrev pub held : Held → TagTable
+abbrev pub held : TableRef → TagTable
 held (Owned t) = t
 held (Lent t) = t.now
 

@@ -1,8 +1,8 @@
 -- The outermost tag of a type, and those of a list's members.
 use Rattle.std.specs.Prelude.{◌≡◌, ℕ, List, [], ◌∷◌, Option, Some, None, slice_get, Contains}
 use Rattle.type_table.specs.Table.{Part, Type', Kind, members}
-use Rattle.tagging.specs.declared.first.FrontFault.{FrontFault}
-use Rattle.tagging.specs.declared.first.FrontFault.TheVariants.{Memory, Untagged}
+use Rattle.tagging.specs.declared.first.FirstTagFault.{FirstTagFault}
+use Rattle.tagging.specs.declared.first.FirstTagFault.TheVariants.{Memory, Untagged}
 use Rattle.tagging.specs.Tags.{Label, Path, outermost, Tags}
 use Rattle.tagging.specs.First.{First}
 use Rattle.tagging.specs.Tagged.{IsUntagged}
@@ -27,7 +27,7 @@ pub record AreFirst (ts : List Type') (i : ℕ) (us : List Label) : Type 0 where
   pub all : (t : Label) → First ts i t → Contains us t
 
 -- a member that is an untagged CHOICE, or memory that ran out
-abbrev pub IsFrontFault : List Type' → List Part → FrontFault → Type 0
+abbrev pub IsFrontFault : List Type' → List Part → FirstTagFault → Type 0
 IsFrontFault ts cs Memory = Unit {0}
 IsFrontFault ts cs (Untagged i at) =
     (n : ℕ) × (c : Part) × (slice_get cs n ≡ Some c) × (c.ty ≡ i) × Head ts i None
@@ -37,6 +37,6 @@ members_of (members k m cs) = cs
 members_of k = []
 
 -- memory ran out, or the type is an untagged CHOICE in a place where it must not be one
-abbrev pub IsFirstFault : List Type' → FrontFault → Type 0
+abbrev pub IsFirstFault : List Type' → FirstTagFault → Type 0
 IsFirstFault ts Memory = Unit {0}
 IsFirstFault ts (Untagged i at) = IsUntagged ts i

@@ -81,5 +81,5 @@ pub record ClashesFirst (ts : List Type') (k : ListKind) (cs : List Part) (q : �
   pub before : (m n : ℕ) → n < q → Clash ts k cs m n → ⊥
 
 -- the answer to whether members clash: none do, or the first one that does
-abbrev pub TellsClash : List Type' → ListKind → List Part → Option ℕ → Type 0
-TellsClash ts k cs o = MatchOption o (Distinct ts k cs) (ClashesFirst ts k cs)
+abbrev pub ReportsClash : List Type' → ListKind → List Part → Option ℕ → Type 0
+ReportsClash ts k cs o = MatchOption o (Distinct ts k cs) (ClashesFirst ts k cs)

@@ -9,11 +9,11 @@ use Rattle.names.specs.declared.fault.NameFault.TheVariants as faults
 use Rattle.names.specs.declared.fault.Limit.{Limit}
 use Rattle.names.specs.declared.fault.Limit.TheVariants as limits
 use Rattle.names.specs.declared.scope.Assigned.TheVariants as assigned
-use Rattle.names.specs.Faults.{module_told, name_told}
-use Rattle.names.specs.Modules.{AreDistinct, StandsIn}
+use Rattle.names.specs.Faults.{fault_module, fault_name}
+use Rattle.names.specs.Modules.{AreDistinct, OccursIn}
 use Rattle.names.specs.Names.{Module, Refers}
 use Rattle.names.specs.Sources.{Source}
-use Rattle.names.specs.proving.Gathering.{TellsTwice}
+use Rattle.names.specs.proving.Gathering.{ReportsTwice}
 use Rattle.type_table.specs.declared.items.NumberFault.{NumberFault}
 use Rattle.type_table.specs.declared.items.NumberFault.TheVariants as numbers
 use Rattle.type_table.specs.Items.{Item, additions_from}
@@ -32,19 +32,19 @@ texts = map string_bytes
 abbrev pub IsNothing : List (Name × Module) → Name → Option Name → Name → NameFault → Type 0
 IsNothing ms M N x faults.Memory = Unit {0}
 IsNothing ms M N x (faults.UnknownName s) =
-    (module_told s ≡ M) × (name_told s ≡ x) × ((j : ℕ) → Refers ms M N x (assigned.Type j) → ⊥)
+    (fault_module s ≡ M) × (fault_name s ≡ x) × ((j : ℕ) → Refers ms M N x (assigned.Type j) → ⊥)
 IsNothing ms M N x e = ⊥
 
 -- `Memory`; or `UnknownName`, and the type is a reference to a name that is not the name of a type in module M
 abbrev pub IsUnknown : List (Name × Module) → Name → FormTree → NameFault → Type 0
 IsUnknown ms M f faults.Memory = Unit {0}
-IsUnknown ms M f (faults.UnknownName s) = (module_told s ≡ M) × RefersToNothing ms M f (name_told s)
+IsUnknown ms M f (faults.UnknownName s) = (fault_module s ≡ M) × RefersToNothing ms M f (fault_name s)
 IsUnknown ms M f e = ⊥
 
 -- `Memory`; or the limit of types is passed at name x of module M
 abbrev pub IsTypesLimit : Name → Name → NameFault → Type 0
 IsTypesLimit M x faults.Memory = Unit {0}
-IsTypesLimit M x (faults.Limit limits.Types s) = (module_told s ≡ M) × (name_told s ≡ x)
+IsTypesLimit M x (faults.Limit limits.Types s) = (fault_module s ≡ M) × (fault_name s ≡ x)
 IsTypesLimit M x e = ⊥
 
 -- a reason why type i, whose parts would get the numbers from n on, can't be numbered
@@ -56,37 +56,37 @@ IsSourceFault ms hs gs i n s (faults.UnknownName z) =
     × (assigns : Name)
     × (d : TagDefault)
     × (slice_get gs s.assignment ≡ Some (owner, assigns))
-    × (slice_get hs owner ≡ Some (module_told z, d))
-    × RefersToNothing ms (module_told z) (form_of s.tree) (name_told z)
+    × (slice_get hs owner ≡ Some (fault_module z, d))
+    × RefersToNothing ms (fault_module z) (form_of s.tree) (fault_name z)
 IsSourceFault ms hs gs i n s (faults.Limit limits.Types z) =
     (owner : ℕ)
     × (d : TagDefault)
-    × (slice_get gs s.assignment ≡ Some (owner, name_told z))
-    × (slice_get hs owner ≡ Some (module_told z, d))
+    × (slice_get gs s.assignment ≡ Some (owner, fault_name z))
+    × (slice_get hs owner ≡ Some (fault_module z, d))
     × (65536 < n + length (parts_of s.assignment i s.tree))
 IsSourceFault ms hs gs i n s e = ⊥
 
 -- ---- lists
 
 -- `Memory`; or `Twice` with module M and name x
-abbrev pub TellsName : Name → Name → NameFault → Type 0
-TellsName M x = TellsTwice (λ m y. (m ≡ M) × (y ≡ x))
+abbrev pub ReportsName : Name → Name → NameFault → Type 0
+ReportsName M x = ReportsTwice (λ m y. (m ≡ M) × (y ≡ x))
 
 -- `Memory`; or `Limit` with this limit, module M and name a
-abbrev pub TellsLimit : Limit → Name → Name → NameFault → Type 0
-TellsLimit l M a faults.Memory = Unit {0}
-TellsLimit l M a (faults.Limit k s) = (k ≡ l) × (module_told s ≡ M) × (name_told s ≡ a)
-TellsLimit l M a e = ⊥
+abbrev pub ReportsLimit : Limit → Name → Name → NameFault → Type 0
+ReportsLimit l M a faults.Memory = Unit {0}
+ReportsLimit l M a (faults.Limit k s) = (k ≡ l) × (fault_module s ≡ M) × (fault_name s ≡ a)
+ReportsLimit l M a e = ⊥
 
 -- `Memory`; or `Twice` for number z of name x, which is already among these numbers in module M
 abbrev pub IsNumberFault : {Z : Type 0} → Name → Name → Z → List Z → NameFault → Type 0
-IsNumberFault M x z zs = TellsTwice (λ m y. (m ≡ M) × (y ≡ x) × StandsIn zs z)
+IsNumberFault M x z zs = ReportsTwice (λ m y. (m ≡ M) × (y ≡ x) × OccursIn zs z)
 
 -- a reason why the list of a type in assignment a of module M breaks a rule
 abbrev pub IsKindFault : Name → Name → Kind → NameFault → Type 0
 IsKindFault M a k faults.Memory = Unit {0}
-IsKindFault M a k (faults.Twice s) = (module_told s ≡ M) × IsTwiceIn k (name_told s)
-IsKindFault M a k (faults.Limit l s) = (module_told s ≡ M) × (name_told s ≡ a) × HasPassed l k
+IsKindFault M a k (faults.Twice s) = (fault_module s ≡ M) × IsTwiceIn k (fault_name s)
+IsKindFault M a k (faults.Limit l s) = (fault_module s ≡ M) × (fault_name s ≡ a) × HasPassed l k
 IsKindFault M a k e = ⊥
 
 -- `Memory`; or the number of this addition after root items with these numbers is 2^127
@@ -101,4 +101,4 @@ IsGreatFirst root more (numbers.TooGreat i) = AreWithinLimit (take i (additions_
 
 -- number i is among those before it, which are distinct
 abbrev pub IsAgain : List ℤ → ℕ → Type 0
-IsAgain zs i = (z : ℤ) × (slice_get zs i ≡ Some z) × StandsIn (take i zs) z × AreDistinct (take i zs)
+IsAgain zs i = (z : ℤ) × (slice_get zs i ≡ Some z) × OccursIn (take i zs) z × AreDistinct (take i zs)

@@ -7,23 +7,23 @@ use Rattle.std.proofs.lemmas.List.{length-map, length-replicate, get_or-replicat
 use Rattle.names.specs.proving.Distinct.{item_at}
 use Rattle.type_table.specs.proving.Cores.{AreCores}
 use Rattle.type_table.specs.proving.Notes.{AreUnknown}
-use Rattle.type_table.specs.declared.table.Written.{Written}
+use Rattle.type_table.specs.declared.table.TypeNode.{TypeNode}
 use Rattle.type_table.specs.Seen.{type_of, types_of}
-use Rattle.type_table.specs.Table.{Type', AllUnfold, behind, behind_of, next}
+use Rattle.type_table.specs.Table.{Type', AllUnfold, target, target_of, next}
 
-pub type_at : (ws : List Written) (i : ℕ) (w : Written) →
+pub type_at : (ws : List TypeNode) (i : ℕ) (w : TypeNode) →
     i < length ws →
     w ≡ get_or ws i w →
     slice_get (types_of ws) i ≡ Some (type_of w)
 type_at ws i w l e = item_at type_of ws i w l e
 
-pub next_at : (ws : List Written) (i : ℕ) (w : Written) →
+pub next_at : (ws : List TypeNode) (i : ℕ) (w : TypeNode) →
     i < length ws →
     w ≡ get_or ws i w →
-    next (types_of ws) i ≡ behind (type_of w).kind
-next_at ws i w l e = ap behind_of (type_at ws i w l e)
+    next (types_of ws) i ≡ target (type_of w).kind
+next_at ws i w l e = ap target_of (type_at ws i w l e)
 
-pub as_long : (ws : List Written) → length (types_of ws) ≡ length ws
+pub as_long : (ws : List TypeNode) → length (types_of ws) ≡ length ws
 as_long ws = length-map ws type_of
 
 -- ---- cores

@@ -45,7 +45,7 @@ length_visited next (suc k) i p e = ap suc (length_on next k p (next i) (λ j. l
 record Meets (next : ℕ → Option ℕ) (k i q : ℕ) : Type 0 where
   steps : ℕ
   few : steps ≤ k
-  leads : follow next steps i ≡ Some q
+  chain : follow next steps i ≡ Some q
 
 meets_on : (next : ℕ → Option ℕ) (k i q : ℕ) (o : Option ℕ) → next i ≡ o →
     ((j : ℕ) → list_any (eqb q) (visited next k j) ≡ true → Meets next k j q) →
@@ -53,17 +53,17 @@ meets_on : (next : ℕ → Option ℕ) (k i q : ℕ) (o : Option ℕ) → next i
 meets_on next k i q None e go h = absurd cc
 meets_on next k i q (Some j) e go h =
     let m = go j h in
-    record { steps = suc m.steps; few = omega (arith, m.few); leads = rw e m.leads }
+    record { steps = suc m.steps; few = omega (arith, m.few); chain = rw e m.chain }
 
 meets : (next : ℕ → Option ℕ) (k i q : ℕ) → list_any (eqb q) (visited next k i) ≡ true → Meets next k i q
 meets next zero i q h =
     elim (or_cases (eqb q i) false h) [
-      | inl e ↦ (let s : q ≡ i = eqb-true q i e in record { steps = zero; few = omega arith; leads = ap Some (sym s) })
+      | inl e ↦ (let s : q ≡ i = eqb-true q i e in record { steps = zero; few = omega arith; chain = ap Some (sym s) })
       | inr f ↦ absurd cc
     ]
 meets next (suc k) i q h =
     elim (or_cases (eqb q i) (list_any (eqb q) (visited_on (next i) (λ j. visited next k j))) h) [
-      | inl e ↦ (let s : q ≡ i = eqb-true q i e in record { steps = zero; few = omega arith; leads = ap Some (sym s) })
+      | inl e ↦ (let s : q ≡ i = eqb-true q i e in record { steps = zero; few = omega arith; chain = ap Some (sym s) })
       | inr f ↦ meets_on next k i q (next i) refl (λ j. meets next k j q) f
     ]
 
@@ -83,7 +83,7 @@ record Repeats (next : ℕ → Option ℕ) (k i : ℕ) : Type 0 where
   after : ℕ
   at : ℕ
   few : before + suc after ≤ k
-  leads : follow next before i ≡ Some at
+  chain : follow next before i ≡ Some at
   back : follow next (suc after) at ≡ Some at
 
 apart : (x : ℕ) (ys : List ℕ) → AllByRecursion (λ y. eqb x y ≡ false) ys ⊎ (list_any (eqb x) ys ≡ true)
@@ -103,9 +103,9 @@ repeats_on next k i (Some j) e go =
     elim (go j) [
       | inl d ↦ elim (apart i (visited next k j)) [
         | inl a ↦ inl (a, d)
-        | inr h ↦ (let m = meets next k j i h in inr (record { before = zero; after = m.steps; at = i; few = omega (arith, m.few); leads = refl; back = rw e m.leads }))
+        | inr h ↦ (let m = meets next k j i h in inr (record { before = zero; after = m.steps; at = i; few = omega (arith, m.few); chain = refl; back = rw e m.chain }))
       ]
-      | inr r ↦ inr (record { before = suc r.before; after = r.after; at = r.at; few = omega (arith, r.few); leads = rw e r.leads; back = r.back })
+      | inr r ↦ inr (record { before = suc r.before; after = r.after; at = r.at; few = omega (arith, r.few); chain = rw e r.chain; back = r.back })
     ]
 
 repeats : (next : ℕ → Option ℕ) (k i : ℕ) → IsDistinct eqb (visited next k i) ⊎ Repeats next k i
@@ -117,7 +117,7 @@ circular : (next : ℕ → Option ℕ) (n i p : ℕ) → follow next n i ≡ Som
 circular next n i p e r =
     let m : ℕ = n - r.before in
     let s : r.before + m ≡ n = omega (arith, r.few) in
-    let to_p : follow next m r.at ≡ Some p = sym (walk_walk next r.before m i r.at r.leads) ∙ ap (λ k. follow next k i) s ∙ e in
+    let to_p : follow next m r.at ≡ Some p = sym (walk_walk next r.before m i r.at r.chain) ∙ ap (λ k. follow next k i) s ∙ e in
     let one = walk_walk next m (suc r.after) r.at p to_p in
     let two = walk_walk next (suc r.after) m r.at r.at r.back in
     let t : m + suc r.after ≡ suc r.after + m = omega arith in
@@ -128,7 +128,7 @@ pub comes_back : (next : ℕ → Option ℕ) (n i p : ℕ) → IsWithin next n �
     ComesBack next p
 comes_back next n i p c l e =
     elim (repeats next n i) [
-      | inl d ↦ absurd (omega (arith, length_visited next n i p e, length-le_from_distinct_below (visited next n i) n d (λ q h. below next n (meets next n i q h).steps i q c l (meets next n i q h).leads)))
+      | inl d ↦ absurd (omega (arith, length_visited next n i p e, length-le_from_distinct_below (visited next n i) n d (λ q h. below next n (meets next n i q h).steps i q c l (meets next n i q h).chain)))
       | inr r ↦ circular next n i p e r
     ]
 
@@ -144,7 +144,7 @@ pub ended_few : (next : ℕ → Option ℕ) (n k i c : ℕ) → IsWithin next n 
     next c ≡ None → k < n
 ended_few next n k i c closed l e f =
     elim (repeats next k i) [
-      | inl d ↦ omega (arith, length_visited next k i c e, length-le_from_distinct_below (visited next k i) n d (λ q h. below next n (meets next k i q h).steps i q closed l (meets next k i q h).leads))
+      | inl d ↦ omega (arith, length_visited next k i c e, length-le_from_distinct_below (visited next k i) n d (λ q h. below next n (meets next k i q h).steps i q closed l (meets next k i q h).chain))
       | inr r ↦ absurd (ends_once next c f (circular next k i c e r))
     ]
 
@@ -171,7 +171,7 @@ ends_not_back next i c u v =
     let more : k + 1 ≤ all = omega (arith, mul-le-mul_left (suc k) (one_le v.steps)) in
     let r : ℕ = all - (k + 1) in
     let s : k + suc r ≡ all = omega arith in
-    let e = stops next k r i c u.leads u.ends in
+    let e = stops next k r i c u.chain u.ends in
     let f = ap (λ q. follow next q i) s ∙ turns next (suc k) v.steps i v.back in
     let g = sym e ∙ f in
     absurd cc

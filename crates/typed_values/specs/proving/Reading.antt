@@ -7,7 +7,7 @@ use Rattle.asn_base.specs.Typed.{nodes, row_nodes}
 use Rattle.trees.specs.declared.types.Standing.TheVariants.{Root}
 use Rattle.trees.specs.Values.{Name, Tree}
 use Rattle.trees.specs.Types.{default as default'}
-use Rattle.names.specs.Modules.{StandsIn}
+use Rattle.names.specs.Modules.{OccursIn}
 use Rattle.type_table.specs.Table.{Part}
 use Rattle.resolve.specs.Program.{Program}
 use Rattle.value_notations.specs.Notations.{Notation, Fields, Elements, field_names, part_names, may_be_absent}
@@ -16,7 +16,7 @@ use Rattle.values.specs.Allowing.{Allows, AllowsCode}
 use Rattle.values.specs.Arranged.{place_of}
 use Rattle.typed_values.specs.declared.fault.ValueFault.{ValueFault}
 use Rattle.typed_values.specs.declared.fault.Cause.TheVariants as cause
-use Rattle.typed_values.specs.Faults.{Stands}
+use Rattle.typed_values.specs.Faults.{IsRightFault}
 use Rattle.typed_values.specs.proving.Outcomes.{ShowsOption}
 
 -- the notation stands for v, a value of the type with at most `levels` levels, whose nodes were counted
@@ -27,12 +27,12 @@ pub record Means (p : Program) (levels before after : ℕ) (os : List ℕ) (M : 
   pub counted : before ≡ after + nodes v
 
 -- the notation stands for the returned value, or has the returned fault
-abbrev pub Tells :
+abbrev pub Reports :
     Program → (levels before after : ℕ) → List ℕ → Name → ℕ → Tree → Result Value ValueFault → Type 0
-Tells p levels before after os M i n result =
+Reports p levels before after os M i n result =
     MatchResult result
     (λ v. Means p levels before after os M i n (abstract v))
-    (Stands p levels before os M i n)
+    (IsRightFault p levels before os M i n)
 
 -- the notation stands for a value for which this is an outcome
 pub record Makes {A : Type 0} (shows : A → AbstractValue → Type 0) (p : Program) (levels before after : ℕ) (os : List ℕ)
@@ -47,7 +47,7 @@ abbrev pub Answers : {A : Type 0} → (A → AbstractValue → Type 0) →
 Answers shows p levels before after os M i n result =
     MatchResult result
     (Makes shows p levels before after os M i n)
-    (Stands p levels before os M i n)
+    (IsRightFault p levels before os M i n)
 
 -- the notation stands for a value of the type, within the limits, for which this is an outcome
 pub record IsMade {A : Type 0} (shows : A → AbstractValue → Type 0) (p : Program) (M : Name) (i : ℕ) (n : Tree) (x : A)
@@ -71,7 +71,7 @@ pub record MakeRow {A : Type 0} (shows : A → AbstractValue → Type 0) (p : Pr
   pub mean : MeanRow p levels before after os M i ts (row_of_list values)
 
 -- one of the notations has this fault, and those before it stand for values of the type
-pub record StandsInOne (p : Program) (levels left : ℕ) (os : List ℕ) (M : Name) (i : ℕ) (ts : List Tree) (f : ValueFault)
+pub record FailsInOne (p : Program) (levels left : ℕ) (os : List ℕ) (M : Name) (i : ℕ) (ts : List Tree) (f : ValueFault)
     : Type 0 where
   pub before : List Tree
   pub one : Tree
@@ -82,7 +82,7 @@ pub record StandsInOne (p : Program) (levels left : ℕ) (os : List ℕ) (M : Na
   pub values : AreElements p (Allows p) (AllowsCode p) levels i row
   pub rest : ℕ
   pub counted : left ≡ row_nodes row + rest
-  pub fault : Stands p levels rest os M i one f
+  pub fault : IsRightFault p levels rest os M i one f
 
 -- the nodes of a component; 0 if it is absent
 abbrev pub option_nodes : Option AbstractValue → ℕ
@@ -93,11 +93,11 @@ option_nodes (Some v) = nodes v
 abbrev pub IsField :
     Program → ℕ → List ℕ → (K N : Name) → List (Name × Tree) → Part → Option AbstractValue → Type 0
 IsField p levels ps K N fs c None =
-    (StandsIn (field_names fs) c.name → ⊥)
+    (OccursIn (field_names fs) c.name → ⊥)
     × IsTrue (may_be_absent c)
     × MayBeAbsent p (Allows p) (AllowsCode p) levels N c
 IsField p levels ps K N fs c (Some v) =
-    (m : Tree) × StandsIn fs (c.name, m) × Notation p ps K c.ty m v × ValueIn p (Allows p) (AllowsCode p) levels c.ty v
+    (m : Tree) × OccursIn fs (c.name, m) × Notation p ps K c.ty m v × ValueIn p (Allows p) (AllowsCode p) levels c.ty v
 
 -- component c, of a list that is written in module N, has no field and may be absent, or its field stands for a value;
 -- this is an outcome for it, and its nodes were counted
@@ -113,7 +113,7 @@ pub record IsWrongDefault (p : Program) (levels : ℕ) (N : Name) (c : Part) (f 
   pub default : Tree
   pub standing : c.standing ≡ Root
   pub presence : c.presence ≡ default' default
-  pub fault : Stands p levels 16777216 [] N c.ty default f
+  pub fault : IsRightFault p levels 16777216 [] N c.ty default f
 
 -- the field of component c has this fault, or its DEFAULT has, if the component has no field
 pub data IsWrongField (p : Program) (levels left : ℕ) (ps : List ℕ) (K N : Name) (fs : List (Name × Tree)) (c : Part)
@@ -122,11 +122,11 @@ pub data IsWrongField (p : Program) (levels left : ℕ) (ps : List ℕ) (K N : N
       f.cause ≡ cause.Memory →
       IsWrongField p levels left ps K N fs c f
   in_field : {m : Tree} →
-      StandsIn fs (c.name, m) →
-      Stands p levels left ps K c.ty m f →
+      OccursIn fs (c.name, m) →
+      IsRightFault p levels left ps K c.ty m f →
       IsWrongField p levels left ps K N fs c f
   in_default :
-      (StandsIn (field_names fs) c.name → ⊥) →
+      (OccursIn (field_names fs) c.name → ⊥) →
       IsWrongDefault p levels N c f →
       IsWrongField p levels left ps K N fs c f
 
@@ -150,7 +150,7 @@ pub record MakeFields {A : Type 0} (shows : A → AbstractValue → Type 0) (p :
   pub mean : MeanFields p levels before after ps K N fs cs (row_of_options values)
 
 -- a component has this fault, and the fields of those before it stand for values of their types
-pub record StandsInField (p : Program) (levels left : ℕ) (ps : List ℕ) (K N : Name) (fs : List (Name × Tree))
+pub record FailsInField (p : Program) (levels left : ℕ) (ps : List ℕ) (K N : Name) (fs : List (Name × Tree))
     (cs : List Part) (f : ValueFault) : Type 0 where
   pub before : List Part
   pub one : Part

@@ -61,16 +61,16 @@ abbrev pub IsNone : Plain → Tree → Type 0
 IsNone k n = (v : AbstractValue) → IsLeaf k n v → ⊥
 
 -- the value that the notation stands for under the type, or there is none
-abbrev pub Tells : Plain → Tree → Option Value → Type 0
-Tells k n o = MatchOption o (IsNone k n) (λ v. IsLeaf k n (abstract v))
+abbrev pub Reports : Plain → Tree → Option Value → Type 0
+Reports k n o = MatchOption o (IsNone k n) (λ v. IsLeaf k n (abstract v))
 
 -- more than 64 numbers, or one of 2^64 or more
 abbrev pub ArePastLimit : List ℕ → Type 0
 ArePastLimit ns = (64 < length ns) ⊎ (AllByRecursion (λ n. n < 2 ^ 64) ns → ⊥)
 
 -- the notation stands for an object identifier, a relative one or not, that passes the limit on numbers
-abbrev pub StandsPastLimit : Plain → Tree → Type 0
-StandsPastLimit k n = (ns : List ℕ) × (IsLeaf k n (oid ns) ⊎ IsLeaf k n (relative_oid ns)) × ArePastLimit ns
+abbrev pub IsPastLimit : Plain → Tree → Type 0
+IsPastLimit k n = (ns : List ℕ) × (IsLeaf k n (oid ns) ⊎ IsLeaf k n (relative_oid ns)) × ArePastLimit ns
 
 -- memory ran out, or the limit is passed
 abbrev pub IsLimitFault : Type 0 → NumbersFault → Type 0

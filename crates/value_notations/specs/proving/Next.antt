@@ -2,7 +2,7 @@
 use Rattle.std.specs.Prelude.{◌≡◌, ◌<◌, ℕ, List, Option, length}
 use Rattle.trees.specs.Values.{Name, Tree, reference}
 use Rattle.names.specs.declared.scope.Assigned.TheVariants as assigned
-use Rattle.names.specs.Modules.{StandsIn}
+use Rattle.names.specs.Modules.{OccursIn}
 use Rattle.names.specs.Names.{Refers}
 use Rattle.type_table.specs.Table.{Kind}
 use Rattle.resolve.specs.Program.{Program}
@@ -26,8 +26,8 @@ pub record IsNoName (p : Program) (k : Kind) (M : Name) (n : Tree) : Type 0 wher
   pub none : IsNamed k prefix name → ⊥
   pub no_value : (i : ℕ) → Refers p.modules M prefix name (assigned.Value i) → ⊥
 
-abbrev pub TellsNext : Program → Kind → List ℕ → Name → Tree → Next → Type 0
-TellsNext p k os M n next.Itself = IsOwn k n
-TellsNext p k os M n (next.Behind i) = IsNameOf p k M n i × (StandsIn os i → ⊥) × (i < length p.values)
-TellsNext p k os M n next.Nothing = IsNoName p k M n
-TellsNext p k os M n (next.Again i) = IsNameOf p k M n i × StandsIn os i
+abbrev pub ReportsNext : Program → Kind → List ℕ → Name → Tree → Next → Type 0
+ReportsNext p k os M n next.Itself = IsOwn k n
+ReportsNext p k os M n (next.Referred i) = IsNameOf p k M n i × (OccursIn os i → ⊥) × (i < length p.values)
+ReportsNext p k os M n next.Nothing = IsNoName p k M n
+ReportsNext p k os M n (next.Again i) = IsNameOf p k M n i × OccursIn os i

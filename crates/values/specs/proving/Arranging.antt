@@ -4,7 +4,7 @@ use Rattle.trees.specs.declared.types.Standing.{Standing}
 use Rattle.trees.specs.declared.types.Standing.TheVariants.{Root, Addition}
 use Rattle.trees.specs.Types.{PresenceTree, mandatory, optional, default}
 use Rattle.trees.specs.Values.{Name}
-use Rattle.names.specs.Modules.{StandsIn, AreDistinct}
+use Rattle.names.specs.Modules.{OccursIn, AreDistinct}
 use Rattle.type_table.specs.Table.{Part}
 use Rattle.value_notations.specs.Notations.{IsPartOf, may_be_absent}
 use Rattle.value_notations.specs.Wrong.{AreIn, IsBefore}
@@ -13,13 +13,13 @@ abbrev pub IsUnknownAt : (parts fields : List Name) → Option ℕ → Type 0
 IsUnknownAt cs fs o =
     MatchOption o
     (AreIn fs cs)
-    (λ i. (x : Name) × (slice_get fs i ≡ Some x) × (StandsIn cs x → ⊥) × AreIn (take i fs) cs)
+    (λ i. (x : Name) × (slice_get fs i ≡ Some x) × (OccursIn cs x → ⊥) × AreIn (take i fs) cs)
 
 abbrev pub IsRepeatedAt : List Name → Option ℕ → Type 0
 IsRepeatedAt fs o =
     MatchOption o
     (AreDistinct fs)
-    (λ i. (x : Name) × (slice_get fs i ≡ Some x) × StandsIn (take i fs) x × AreDistinct (take i fs))
+    (λ i. (x : Name) × (slice_get fs i ≡ Some x) × OccursIn (take i fs) x × AreDistinct (take i fs))
 
 -- component i is c, and has no field
 pub record IsAbsent (cs : List Part) (places : List (Option ℕ)) (i : ℕ) (c : Part) : Type 0 where

@@ -58,8 +58,8 @@ invariant-members-loop-i l =
     × ((rs : Rows) (rest : List FlatRow)
     → flat l.fn.rows ≡ member_rows rs ++ rest
     → count rs ≡ length l.components
-    → LeftAt (MembersFollow l.schema l.asked (place_in l.order (sizes rs)) (map component_of l.components) (row_of_options (map (option_map abstract) l.values)) 0 l.octets rs)
-    (MembersLeft l.schema l.asked (place_in l.order (sizes rs)) (drop l.i (map component_of l.components)) (drop l.i (map (option_map abstract) l.values)) l.octets)
+    → LeftAt (MembersFollow l.schema l.checks (place_in l.order (sizes rs)) (map component_of l.components) (row_of_options (map (option_map abstract) l.values)) 0 l.octets rs)
+    (MembersLeft l.schema l.checks (place_in l.order (sizes rs)) (drop l.i (map component_of l.components)) (drop l.i (map (option_map abstract) l.values)) l.octets)
     (sizes rs) (flat l.left) rest (length l.components - l.i) l.place l.number)
 
 abbrev pub invariant-elements-loop-i : goal.invariant-elements-loop-i
@@ -68,6 +68,6 @@ invariant-elements-loop-i l =
     × ((rs : Rows) (rest : List FlatRow)
     → flat l.fn.rows ≡ member_rows rs ++ rest
     → count rs ≡ length l.values
-    → LeftAt (ElementsFollow l.schema l.asked (place_in l.order (sizes rs)) l.element.index (row_of_list (map abstract l.values)) 0 l.octets rs)
-    (ElementsLeft l.schema l.asked (place_in l.order (sizes rs)) l.element.index (drop l.i (map abstract l.values)) l.octets)
+    → LeftAt (ElementsFollow l.schema l.checks (place_in l.order (sizes rs)) l.element.index (row_of_list (map abstract l.values)) 0 l.octets rs)
+    (ElementsLeft l.schema l.checks (place_in l.order (sizes rs)) l.element.index (drop l.i (map abstract l.values)) l.octets)
     (sizes rs) (flat l.left) rest (length l.values - l.i) l.place l.number)

@@ -13,26 +13,26 @@ loop-i-init c = (
       (let g = f ∙ (let n : c.args.members ≡ c.args.members - 0 = omega arith in n) in (all_left rs e g, λ known. all_left rs e g)),
 )
 
-pub further-octets-requires : goal.further-octets-requires
-further-octets-requires c = c.loop-i.invariant.0
+pub offset_after-octets-requires : goal.offset_after-octets-requires
+offset_after-octets-requires c = c.loop-i.invariant.0
 
 pub loop-i-preserved : goal.loop-i-preserved
 loop-i-preserved c = (
-  (let b = c.loop-i.invariant.0 in omega (arith, b, c.further-octets.ensures.most)),
+  (let b = c.loop-i.invariant.0 in omega (arith, b, c.offset_after-octets.ensures.most)),
   (let b = c.loop-i.invariant.1 in omega (arith, b, c.written_to-written.ensures.most)),
   λ rs rest e f. (
       let some : 0 < c.args.members - c.loop-i.i = omega (arith, c.loop-i-test.true) in
       let v = c.loop-i.invariant.2 rs rest e f in (
         (let h = v.0 in
-            let behind = member_rows (first h some).behind ++ rest in
-            let z = c.first_size-size.ensures (first h some).member behind (asked_of h some) in
-            counts_next rs h some (c.after_member-left.ensures (first h some).member behind (asked_of h some)) (omega (arith, c.loop-i-test.true)) (c.further-octets.ensures.is ∙ ap (λ s. c.loop-i.octets + size_or s) z) (c.written_to-written.ensures.is ∙ ap (λ s. c.loop-i.written + count_or s) z)),
+            let following = member_rows (first h some).following ++ rest in
+            let z = c.first_size-size.ensures (first h some).member following (asked_of h some) in
+            counts_next rs h some (c.after_member-left.ensures (first h some).member following (asked_of h some)) (omega (arith, c.loop-i-test.true)) (c.offset_after-octets.ensures.is ∙ ap (λ s. c.loop-i.octets + size_or s) z) (c.written_to-written.ensures.is ∙ ap (λ s. c.loop-i.written + count_or s) z)),
         λ known. (
             let k = c.still_known-known.ensures.0 known in
             let h = v.1 k.0 in
-            let behind = member_rows (first h some).behind ++ rest in
-            let z = c.first_size-size.ensures (first h some).member behind (asked_of h some) in
-            ends_next rs c.args.set.now.places.items c.args.set.now.ends.items h some (subst (EndsAt c.args.set.now.places.items c.args.set.now.ends.items c.loop-i.written) z k.1) (c.after_member-left.ensures (first h some).member behind (asked_of h some)) (omega (arith, c.loop-i-test.true)) (c.further-octets.ensures.is ∙ ap (λ s. c.loop-i.octets + size_or s) z) (c.written_to-written.ensures.is ∙ ap (λ s. c.loop-i.written + count_or s) z)),
+            let following = member_rows (first h some).following ++ rest in
+            let z = c.first_size-size.ensures (first h some).member following (asked_of h some) in
+            ends_next rs c.args.set.now.places.items c.args.set.now.ends.items h some (subst (EndsAt c.args.set.now.places.items c.args.set.now.ends.items c.loop-i.written) z k.1) (c.after_member-left.ensures (first h some).member following (asked_of h some)) (omega (arith, c.loop-i-test.true)) (c.offset_after-octets.ensures.is ∙ ap (λ s. c.loop-i.octets + size_or s) z) (c.written_to-written.ensures.is ∙ ap (λ s. c.loop-i.written + count_or s) z)),
       )),
 )
 

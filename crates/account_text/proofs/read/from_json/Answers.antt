@@ -1,7 +1,7 @@
 use Rattle.std.proofs.Common.{◌≡◌, Ok, Err, sym, ap, ◌∙◌, subst}
 use Rattle.octet_account.specs.Flat.{AreRows}
 use Rattle.octet_account.specs.Seen.{flat}
-use Rattle.account_text.specs.declared.fault.AccountFault.TheVariants.{NotAccount}
+use Rattle.account_text.specs.declared.account_fault.AccountFault.TheVariants.{NotAccount}
 use Rattle.account_text.proofs.Small.{small}
 use Rattle.account_text.proofs.Texts.{same_rows}
 use Rattle.account_text.proofs.read.from_json.Goals as goal

@@ -3,7 +3,7 @@ use Rattle.std.specs.List.{AllByRecursion}
 use Rattle.json.specs.Token.{begin_array}
 use Rattle.octet_account.specs.Flat.{IsSmall}
 use Rattle.account_text.specs.proving.Tokens.{number_first, each_first}
-use Rattle.account_text.proofs.Reading.{behind, all_more, allowed_more, none_there, others_there, appended}
+use Rattle.account_text.proofs.Reading.{after, all_more, allowed_more, none_there, others_there, appended}
 use Rattle.account_text.proofs.read.places.Goals as goal
 
 pub returns-in_default-clause-refused : goal.returns-in_default-clause-refused
@@ -26,6 +26,6 @@ loop-reader-preserved c =
           ∙ ap (λ ns. begin_array ∷ each_first ns c.number.new.reader) (sym pushed);
       left = λ ns ts small e.
           others_there number_first IsSmall c.loop-reader.reader c.number.new.reader ts c.in-Some.place test.0
-          (λ n us s f. ap behind (sym f ∙ sym test.1 ∙ read.1))
+          (λ n us s f. ap after (sym f ∙ sym test.1 ∙ read.1))
           (c.loop-reader.invariant.left ns ts small e);
     }

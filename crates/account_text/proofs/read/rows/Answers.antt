@@ -1,7 +1,7 @@
 use Rattle.std.proofs.Common.{◌≡◌, ◌∷◌, ◌++◌, [], Err, sym, ap, ◌∙◌, subst}
 use Rattle.std.specs.List.{AllByRecursion}
-use Rattle.octet_account.specs.Seen.{told_of, flat}
-use Rattle.account_text.specs.declared.fault.AccountFault.TheVariants.{NotAccount}
+use Rattle.octet_account.specs.Seen.{flat_row, flat}
+use Rattle.account_text.specs.declared.account_fault.AccountFault.TheVariants.{NotAccount}
 use Rattle.account_text.specs.proving.Tokens.{IsSmallRow, row_first, rows_first}
 use Rattle.account_text.proofs.Injective.{one_row}
 use Rattle.account_text.proofs.Reading.{all_more, allowed_more, none_there, others_there, appended, row_longer, flat_more}
@@ -18,13 +18,13 @@ returns-in-Err-clause-refused c = λ e rs ts small f.
 pub loop-alloc-smaller : goal.loop-alloc-smaller
 loop-alloc-smaller c =
     let read = c.in-Ok.ensures.read in
-    row_longer (told_of c.in-Ok.row.told) c.loop-alloc.reader c.row.new.reader (sym c.loop-alloc-test.ensures.1 ∙ read.1)
+    row_longer (flat_row c.in-Ok.row.listed) c.loop-alloc.reader c.row.new.reader (sym c.loop-alloc-test.ensures.1 ∙ read.1)
 
 pub loop-alloc-preserved : goal.loop-alloc-preserved
 loop-alloc-preserved c =
     let test = c.loop-alloc-test.ensures in
     let read = c.in-Ok.ensures.read in
-    let r = told_of c.in-Ok.row.told in
+    let r = flat_row c.in-Ok.row.listed in
     let found = flat c.loop-alloc.found.items in
     let pushed : flat c.push.new.self.items ≡ found ++ r ∷ [] =
     ap flat (appended _ _ _ _ c.push.ensures.items c.if-is_err.ensures.negation) ∙ flat_more c.loop-alloc.found.items c.in-Ok.row in

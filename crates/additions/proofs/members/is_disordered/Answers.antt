@@ -20,4 +20,4 @@ pub returns-clause-ordered : goal.returns-clause-ordered
 returns-clause-ordered c = λ f x q.
     let s = c.follows_addition.ensures.0 c.if-not-follows_addition.false in
     let p = s.positive in
-    in_order_next c.args.tagged.now.types (map part_of c.args.components.now) c.args.at x s.member (label c.in_ok-earlier.earlier) (label c.in_ok-later.later) c.facts.ensures.one_first c.requires.is q (λ w. absurd (omega (arith, w, p))) s.there s.added (c.in_ok-earlier.ensures s.member s.there) (c.in_ok-later.ensures x q) (c.comes_before.ensures.0 (negated c.comes_before.result f))
+    in_order_next c.args.tagged.now.types (map part_of c.args.components.now) c.args.at x s.member (label c.in_ok-earlier.earlier) (label c.in_ok-later.later) c.lemma_tagged_facts.ensures.one_first c.requires.is q (λ w. absurd (omega (arith, w, p))) s.there s.added (c.in_ok-earlier.ensures s.member s.there) (c.in_ok-later.ensures x q) (c.comes_before.ensures.0 (negated c.comes_before.result f))

@@ -10,7 +10,7 @@ use Rattle.asn_base.specs.Seen.{presence_of, constraint_of}
 use Rattle.asn_base.specs.Depths.{IsDepth}
 use Rattle.asn_base.specs.Typed.{IsAllowedSize, ValueIn, nodes, row_nodes}
 use Rattle.asn_base.proofs.DepthLaws.{component_at, known_at, by_depth, at_most}
-use Rattle.asn_base.proofs.Parts.{opened, next_component, no_first, all_components, groups_at, groups_all, opened_elements, all_elements, as_many, length_mapped, member_count, absent_at, may_optional, may_addition, by_default, in_leaf, in_holder, in_leaf_yes, some_nodes, one_node, row_at, list_at, left_behind, with_core}
+use Rattle.asn_base.proofs.Parts.{opened, next_component, no_first, all_components, groups_at, groups_all, opened_elements, all_elements, as_many, length_mapped, member_count, absent_at, may_optional, may_addition, by_default, in_leaf, in_holder, in_leaf_yes, some_nodes, one_node, row_at, list_at, left_after, with_core}
 use Rattle.asn_base.proofs.decide.+within.Goals as goal
 
 pub are_fields-returns-then-not-is_component-clause-is : goal.are_fields-returns-then-not-is_component-clause-is
@@ -36,7 +36,7 @@ are_fields-loop-i-preserved t c =
     record {
       components = next_component a (c.is_component.ensures.is.0 c.if-not-is_component.false);
       groups = next_component g (c.is_kept.ensures.0 c.if-not-is_kept.false);
-      nodes = left_behind c.loop-i.left c.is_component.new.left (nodes_of (option_map abstract c.index-values-i.result)) _ _ (c.is_component.ensures.nodes c.if-not-is_component.false) (ap (λ q. c.loop-i.left - q) (sym (row_at os c.loop-i.i second)) ∙ c.loop-i.invariant.nodes);
+      nodes = left_after c.loop-i.left c.is_component.new.left (nodes_of (option_map abstract c.index-values-i.result)) _ _ (c.is_component.ensures.nodes c.if-not-is_component.false) (ap (λ q. c.loop-i.left - q) (sym (row_at os c.loop-i.i second)) ∙ c.loop-i.invariant.nodes);
     }
 
 pub are_fields-returns-clause-is : goal.are_fields-returns-clause-is
@@ -76,7 +76,7 @@ are_elements-loop-i-preserved t c =
     let a = opened_elements c.args.schema.now c.args.levels c.args.element.index _ c.loop-i.i at c.loop-i.invariant.elements in
     record {
       elements = next_component a (c.is_judged.ensures.is.0 c.if-not-is_judged.false);
-      nodes = left_behind c.loop-i.left c.is_judged.new.left (nodes (abstract c.index-values-i.result)) _ _ (c.is_judged.ensures.nodes c.if-not-is_judged.false) (ap (λ q. c.loop-i.left - q) (sym (list_at (map abstract c.args.values.now) c.loop-i.i at)) ∙ c.loop-i.invariant.nodes);
+      nodes = left_after c.loop-i.left c.is_judged.new.left (nodes (abstract c.index-values-i.result)) _ _ (c.is_judged.ensures.nodes c.if-not-is_judged.false) (ap (λ q. c.loop-i.left - q) (sym (list_at (map abstract c.args.values.now) c.loop-i.i at)) ∙ c.loop-i.invariant.nodes);
     }
 
 pub are_elements-returns-clause-is : goal.are_elements-returns-clause-is

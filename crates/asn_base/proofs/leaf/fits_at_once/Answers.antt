@@ -8,12 +8,12 @@ use Rattle.asn_base.proofs.Leaves.{boolean_fits, null_fits, integer_fits_if}
 use Rattle.asn_base.proofs.leaf.fits_at_once.Goals as goal
 
 pub returns-in-Bool : goal.returns-in-Bool
-returns-in-Bool c = λ y. (boolean_fits (ap kind_of c.in-Boolean.is) (ap abstract c.in-Bool.is ∙ c.abstract_values.ensures.bool _)).0 refl
+returns-in-Bool c = λ y. (boolean_fits (ap kind_of c.in-Boolean.is) (ap abstract c.in-Bool.is ∙ c.lemma_abstract_values.ensures.bool _)).0 refl
 
 pub returns-in-Int : goal.returns-in-Int
 returns-in-Int c = λ y.
     let f : SFits w128 c.in-Int.number = search rules in
-    integer_fits_if (ap kind_of c.in-Integer.is) (ap abstract c.in-Int.is ∙ c.abstract_values.ensures.int _ ∙ ap integer (sym (to_z-of_z w128 c.in-Int.number f))) c.integer_within_limit.ensures (c.is_in_first.ensures y)
+    integer_fits_if (ap kind_of c.in-Integer.is) (ap abstract c.in-Int.is ∙ c.lemma_abstract_values.ensures.int _ ∙ ap integer (sym (to_z-of_z w128 c.in-Int.number f))) c.lemma_integer_within_limit.ensures (c.is_in_first.ensures y)
 
 pub returns-in-Null-value : goal.returns-in-Null-value
-returns-in-Null-value c = λ y. (null_fits (ap kind_of c.in-Null.is) (ap abstract c.in-Null-value.is ∙ c.abstract_values.ensures.null_)).0 refl
+returns-in-Null-value c = λ y. (null_fits (ap kind_of c.in-Null.is) (ap abstract c.in-Null-value.is ∙ c.lemma_abstract_values.ensures.null_)).0 refl

@@ -10,7 +10,7 @@ returns-clause-read c = λ xs p s r name o t k a w h u l.
         typed = w.named.is;
         given = record {
           within = record { name = w.named.is.name; is = w.named.is.is };
-          is = c.read_is_notation.ensures t b.tokens b.tree b.lexed b.read;
+          is = c.lemma_read_is_notation.ensures t b.tokens b.tree b.lexed b.read;
         };
       };
       stands = b.typed;
@@ -26,7 +26,7 @@ returns-clause-unpacked c = λ xs p s name o t k a w h u l.
         typed = w.named.is;
         given = record {
           within = record { name = w.named.is.name; is = w.named.is.is };
-          is = c.read_is_notation.ensures t b.tokens b.tree b.lexed b.read;
+          is = c.lemma_read_is_notation.ensures t b.tokens b.tree b.lexed b.read;
         };
       };
       stands = b.typed;

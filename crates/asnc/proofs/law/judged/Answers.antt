@@ -9,9 +9,9 @@ returns-clause-account c = λ xs p s first second o text a ok w r. record {
     type = w.type;
     value = w.value;
     meant = w.meant;
-    told = a;
+    described = a;
     read = r;
-    verdict = record { value = w.encoding.value; tells = w.tells };
+    verdict = record { value = w.encoding.value; describes = w.describes };
   };
 }
 
@@ -24,8 +24,8 @@ returns-clause-text c = λ xs p s first second text ok u w. record {
     type = w.encoded.type;
     value = w.encoded.value;
     meant = w.encoded.meant;
-    told = w.account;
+    described = w.account;
     read = record { utf8 = u; is = w.text_of };
-    verdict = record { value = w.encoded.encoding.value; tells = w.encoded.tells };
+    verdict = record { value = w.encoded.encoding.value; describes = w.encoded.describes };
   };
 }

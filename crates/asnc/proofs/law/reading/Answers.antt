@@ -3,7 +3,7 @@ use Rattle.asn_base.specs.Same.{Same}
 use Rattle.encodings.specs.Rules.{Basic, Distinguished}
 use Rattle.asnc.specs.Reading.{IsRead}
 use Rattle.asnc.proofs.MessagesRead.{answer_of, never_refused, written_message, written_is_read}
-use Rattle.asnc.proofs.Weaker.{basic_of}
+use Rattle.encodings.specs.proving.Weaker.{basic_of}
 use Rattle.asnc.proofs.law.reading.Goals as goal
 
 pub returns-clause-right : goal.returns-clause-right
@@ -17,7 +17,7 @@ returns-clause-right c = λ xs p s l name o printed k a r. record {
   is = c.message_laws.ensures.value s Basic r.type k r.read.value o a.types.accepted r.read.encodes.value r.read.encodes.says_it r.read.short;
   text = r.read.text;
   ber = c.der_laws.ensures.as_it_stands s r.type k r.read.value o r.read.encodes;
-  by_rules = (r.read.value, c.sameness.ensures.itself s r.type r.read.value r.read.encodes.value, r.read.by_rules);
+  by_rules = (r.read.value, c.lemma_sameness.ensures.itself s r.type r.read.value r.read.encodes.value, r.read.by_rules);
   same = λ v j b. (let q = r.read.only b.0 j (record { value = b.1.second; says_it = b.2 }) in (subst (Same s r.type v) q.0 b.1, q.1));
 }
 
@@ -36,8 +36,8 @@ returns-clause-not_refused_strictly c = λ xs p s name o v e a m d n. never_refu
       is = m.is;
       ber = (d.0, d.1, basic_of d.2);
       few = subst (λ l. l ≤ 400)
-          (c.level_laws.ensures.one s Basic Distinguished m.type 0 0 m.ber.0 d.0 o m.ber.2 d.2 a.types.accepted.tagged a.types.accepted.tellable
-          ∙ sym (c.level_laws.ensures.one s Basic Distinguished m.type 0 0 d.0 d.0 o (basic_of d.2) d.2 a.types.accepted.tagged a.types.accepted.tellable))
+          (c.level_laws.ensures.one s Basic Distinguished m.type 0 0 m.ber.0 d.0 o m.ber.2 d.2 a.types.accepted.tagged a.types.accepted.distinct_tags
+          ∙ sym (c.level_laws.ensures.one s Basic Distinguished m.type 0 0 d.0 d.0 o (basic_of d.2) d.2 a.types.accepted.tagged a.types.accepted.distinct_tags))
           m.few;
       short = m.short;
     })
@@ -46,8 +46,8 @@ returns-clause-not_refused_strictly c = λ xs p s name o v e a m d n. never_refu
 
 pub returns-clause-written : goal.returns-clause-written
 returns-clause-written c = λ xs p s first second o a ok w.
-    written_message (λ t v d b. c.level_laws.ensures.one s Basic Distinguished t 0 0 v v o b d ok.types.accepted.tagged ok.types.accepted.tellable) w
+    written_message (λ t v d b. c.level_laws.ensures.one s Basic Distinguished t 0 0 v v o b d ok.types.accepted.tagged ok.types.accepted.distinct_tags) w
 
 pub returns-clause-read_back : goal.returns-clause-read_back
 returns-clause-read_back c = λ xs p s first second o a l e ok w.
-    written_is_read l e (λ t v d b. c.level_laws.ensures.one s Basic Distinguished t 0 0 v v o b d ok.types.accepted.tagged ok.types.accepted.tellable) w
+    written_is_read l e (λ t v d b. c.level_laws.ensures.one s Basic Distinguished t 0 0 v v o b d ok.types.accepted.tagged ok.types.accepted.distinct_tags) w

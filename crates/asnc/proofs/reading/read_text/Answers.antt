@@ -28,4 +28,4 @@ returns-clause-read c =
 
 pub returns-in-Err-clause-refused : goal.returns-in-Err-clause-refused
 returns-in-Err-clause-refused c =
-    c.refusal.ensures.stands (rules_of c.args.rules) c.in-Err.ensures.refused
+    c.refusal.ensures.valid (rules_of c.args.rules) c.in-Err.ensures.refused

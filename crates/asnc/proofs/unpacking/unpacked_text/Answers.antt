@@ -7,4 +7,4 @@ returns-in-Err-clause-refused c =
     subst
     (λ s. IsNotUnpackedBy s c.args.id.index c.args.octets.now c.in-Err.fault
     → IsNotUnpacked s c.args.id.index c.args.octets.now c.refusal.result)
-    c.requires.same (c.refusal.ensures.stands c.args.octets.now) c.in-Err.ensures.refused
+    c.requires.same (c.refusal.ensures.valid c.args.octets.now) c.in-Err.ensures.refused

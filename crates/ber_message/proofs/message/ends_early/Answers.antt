@@ -1,6 +1,6 @@
 use Rattle.std.proofs.Common.{◌≡◌, true, false, subst}
-use Rattle.octets.specs.Fronts.{Stands}
-use Rattle.octets.specs.declared.fault.HeaderFault.TheVariants as faults
+use Rattle.octets.specs.Fronts.{IsRightFault}
+use Rattle.octets.specs.declared.header_fault.HeaderFault.TheVariants as faults
 use Rattle.ber_message.proofs.message.ends_early.Goals as goal
 
 never : {P : Type 0} → false ≡ true → P
@@ -16,10 +16,10 @@ pub returns-in-Ok-clause-none : goal.returns-in-Ok-clause-none
 returns-in-Ok-clause-none c e = never e
 
 pub returns-in-Truncated-clause-early : goal.returns-in-Truncated-clause-early
-returns-in-Truncated-clause-early c e = subst (λ f. Stands f c.args.octets.now) c.in-Truncated.is c.in-Err.ensures.err
+returns-in-Truncated-clause-early c e = subst (λ f. IsRightFault f c.args.octets.now) c.in-Truncated.is c.in-Err.ensures.err
 
 pub returns-in-Truncated-clause-none : goal.returns-in-Truncated-clause-none
-returns-in-Truncated-clause-none c e g b n k h = c.one_front.ensures.either faults.Truncated g b n k c.args.octets.now (subst (λ f. Stands f c.args.octets.now) c.in-Truncated.is c.in-Err.ensures.err) h
+returns-in-Truncated-clause-none c e g b n k h = c.lemma_one_front.ensures.either faults.Truncated g b n k c.args.octets.now (subst (λ f. IsRightFault f c.args.octets.now) c.in-Truncated.is c.in-Err.ensures.err) h
 
 pub returns-in-Indefinite-clause-early : goal.returns-in-Indefinite-clause-early
 returns-in-Indefinite-clause-early c e = never e

@@ -3,10 +3,10 @@ use Rattle.std.specs.Prelude.{Err}
 use Rattle.codec_code.specs.Routines.{routine_at}
 use Rattle.codec_source.specs.Reading.{Reads}
 use Rattle.octet_answers.specs.Answers.{Takes}
-use Rattle.ber_message.specs.Messages.{room_of, too_long, more_behind, cut_off, stopped, no_type}
+use Rattle.ber_message.specs.Messages.{budget_of, too_long, trailing_octets, cut_off, stopped, no_type}
 use Rattle.ber_message.proofs.Reading.{whole_message, front_message, fails, holds, headed, ends_before, is_memory, read_of, true_false, none_there}
 use Rattle.codec_source.specs.Stopping.{StopsReading}
-use Rattle.octet_answers.specs.Left.{Leaves}
+use Rattle.octet_answers.specs.Unanswered.{Leaves}
 use Rattle.ber_message.proofs.Stopped.{ends_too_soon, fault_or, never_stops, not_memory}
 use Rattle.decode_faults.specs.declared.read_fault.ReadFault.TheVariants.{Missing, MessageLimit, NotDer, OutsideConstraint, Trailing}
 use Rattle.ber_message.proofs.message.read_message.Goals as goal
@@ -33,7 +33,7 @@ pub returns-then-not-is_at_end-clause-trailing : goal.returns-then-not-is_at_end
 returns-then-not-is_at_end-clause-trailing c e =
     let s = c.args.code.now in
     let r = subst (λ q. Reads (λ u. routine_at s u) Takes c.args.id q c.read.new.source) c.in-Ok.ensures.ok c.in-Ok-read.ensures.ok in
-    front_message (c.read_is_said.ensures s c.args.id c.args.octets.now (room_of (length c.args.octets.now)) c.read.new.source c.accepted.ensures (holds c.has.result c.if-not-has.false c.has.ensures) c.are_octets.ensures r)
+    front_message (c.lemma_read_is_encoded.ensures s c.args.id c.args.octets.now (budget_of (length c.args.octets.now)) c.read.new.source c.lemma_invariant.ensures (holds c.has.result c.if-not-has.false c.has.ensures) c.are_octets.ensures r)
     (fails c.is_at_end.result c.if-not-is_at_end.true c.is_at_end.ensures)
 
 pub returns-then-not-is_at_end-clause-err : goal.returns-then-not-is_at_end-clause-err
@@ -46,20 +46,20 @@ pub returns-clause-ok : goal.returns-clause-ok
 returns-clause-ok c =
     let s = c.args.code.now in
     let r = subst (λ q. Reads (λ u. routine_at s u) Takes c.args.id q c.read.new.source) c.in-Ok.ensures.ok c.in-Ok-read.ensures.ok in
-    whole_message _ (c.read_is_said.ensures s c.args.id c.args.octets.now (room_of (length c.args.octets.now)) c.read.new.source c.accepted.ensures (holds c.has.result c.if-not-has.false c.has.ensures) c.are_octets.ensures r)
+    whole_message _ (c.lemma_read_is_encoded.ensures s c.args.id c.args.octets.now (budget_of (length c.args.octets.now)) c.read.new.source c.lemma_invariant.ensures (holds c.has.result c.if-not-has.false c.has.ensures) c.are_octets.ensures r)
     (holds c.is_at_end.result c.if-not-is_at_end.false c.is_at_end.ensures) c.in-Ok.ensures.few c.into_tokens.ensures
 
-pub returns-clause-told : goal.returns-clause-told
-returns-clause-told c r =
+pub returns-clause-emitted : goal.returns-clause-emitted
+returns-clause-emitted c r =
     let s = c.args.code.now in
     let e = c.in-Ok-read.ensures.only r.last (subst (λ q. Reads (λ u. routine_at s u) Takes c.args.id q r.last) (sym c.in-Ok.ensures.ok) r.reads) in
-    ap (λ q. q.told) e ∙ sym c.into_tokens.ensures
+    ap (λ q. q.emitted) e ∙ sym c.into_tokens.ensures
 
 pub returns-then-ends_early-clause-read : goal.returns-then-ends_early-clause-read
 returns-then-ends_early-clause-read c i =
     let s = c.args.code.now in
     let o = c.args.octets.now in
-    let u = c.said_is_read.ensures.unit s c.args.id.index i.count i.value o c.accepted.ensures i.is_said in
+    let u = c.lemma_encoded_is_read.ensures.unit s c.args.id.index i.count i.value o c.lemma_invariant.ensures i.is_encoded in
     let h = headed [] o u (sym (append-nil o)) i.short in
     absurd (c.ends_early.ensures.none c.if-ends_early.true h.tag h.constructed h.count h.size h.header)
 
@@ -67,7 +67,7 @@ pub returns-then-ends_early-clause-more : goal.returns-then-ends_early-clause-mo
 returns-then-ends_early-clause-more c m =
     let s = c.args.code.now in
     let o = c.args.octets.now in
-    let u = c.said_is_read.ensures.unit s c.args.id.index m.is.count m.is.value m.octets c.accepted.ensures m.is.is_said in
+    let u = c.lemma_encoded_is_read.ensures.unit s c.args.id.index m.is.count m.is.value m.octets c.lemma_invariant.ensures m.is.is_encoded in
     let h = headed m.rest o u m.whole m.short in
     absurd (c.ends_early.ensures.none c.if-ends_early.true h.tag h.constructed h.count h.size h.header)
 
@@ -75,8 +75,8 @@ pub returns-then-ends_early-clause-err : goal.returns-then-ends_early-clause-err
 returns-then-ends_early-clause-err c memory limit has r =
     let s = c.args.code.now in
     let o = c.args.octets.now in
-    let i = c.read_is_said.ensures s c.args.id o (room_of (length o)) r.last c.accepted.ensures has c.are_octets.ensures r.reads in
-    let u = c.said_is_read.ensures.unit s c.args.id.index i.count i.value i.octets c.accepted.ensures i.is_said in
+    let i = c.lemma_read_is_encoded.ensures s c.args.id o (budget_of (length o)) r.last c.lemma_invariant.ensures has c.are_octets.ensures r.reads in
+    let u = c.lemma_encoded_is_read.ensures.unit s c.args.id.index i.count i.value i.octets c.lemma_invariant.ensures i.is_encoded in
     let short : length o ≤ 16777216 = search rules in
     let h = headed r.last.here.octets o u i.whole short in
     c.ends_early.ensures.none c.if-ends_early.true h.tag h.constructed h.count h.size h.header
@@ -85,7 +85,7 @@ pub returns-in-Err-read-clause-read : goal.returns-in-Err-read-clause-read
 returns-in-Err-read-clause-read c i =
     let s = c.args.code.now in
     let o = c.args.octets.now in
-    let r = c.said_is_read.ensures.read s c.args.id i.value i.count o [] (room_of (length o)) i.is_said c.accepted.ensures i.is_value i.few i.short (omega arith) in
+    let r = c.lemma_encoded_is_read.ensures.read s c.args.id i.value i.count o [] (budget_of (length o)) i.is_encoded c.lemma_invariant.ensures i.is_value i.few i.short (omega arith) in
     let q = read_of o r (sym (append-nil o)) in
     (is_memory c.in-Err-read.fault (subst (λ x. Reads (λ u. routine_at s u) Takes c.args.id x q.last) (sym c.in-Ok.ensures.ok) q.reads) (λ n x. c.in-Err-read.ensures.err n q.last x))
 
@@ -96,29 +96,29 @@ returns-in-Err-read-clause-more c m =
     let i = m.is in
     let a = ap length m.whole in
     let b = length-append m.octets m.rest in
-    let r = c.said_is_read.ensures.read s c.args.id i.value i.count m.octets m.rest (room_of (length o)) i.is_said c.accepted.ensures i.is_value i.few i.short (omega arith) in
+    let r = c.lemma_encoded_is_read.ensures.read s c.args.id i.value i.count m.octets m.rest (budget_of (length o)) i.is_encoded c.lemma_invariant.ensures i.is_value i.few i.short (omega arith) in
     let q = read_of o r m.whole in
     inr (ap Err (is_memory c.in-Err-read.fault (subst (λ x. Reads (λ u. routine_at s u) Takes c.args.id x q.last) (sym c.in-Ok.ensures.ok) q.reads) (λ n x. c.in-Err-read.ensures.err n q.last x)))
 
-pub returns-in-Err-read-clause-less : goal.returns-in-Err-read-clause-less
-returns-in-Err-read-clause-less c b =
+pub returns-in-Err-read-clause-truncated_value : goal.returns-in-Err-read-clause-truncated_value
+returns-in-Err-read-clause-truncated_value c b =
     let i = b.is in
-    let u = c.said_is_read.ensures.unit c.args.code.now c.args.id.index i.count i.value b.octets c.accepted.ensures i.is_said in
+    let u = c.lemma_encoded_is_read.ensures.unit c.args.code.now c.args.id.index i.count i.value b.octets c.lemma_invariant.ensures i.is_encoded in
     absurd (true_false (c.ends_early.ensures.late (ends_before b u)) c.if-ends_early.false)
 
 pub returns-then-not-is_at_end-clause-read : goal.returns-then-not-is_at_end-clause-read
 returns-then-not-is_at_end-clause-read c i =
     let s = c.args.code.now in
     let o = c.args.octets.now in
-    let r = c.said_is_read.ensures.read s c.args.id i.value i.count o [] (room_of (length o)) i.is_said c.accepted.ensures i.is_value i.few i.short (omega arith) in
+    let r = c.lemma_encoded_is_read.ensures.read s c.args.id i.value i.count o [] (budget_of (length o)) i.is_encoded c.lemma_invariant.ensures i.is_value i.few i.short (omega arith) in
     let q = read_of o r (sym (append-nil o)) in
     let e = c.in-Ok-read.ensures.only q.last (subst (λ x. Reads (λ u. routine_at s u) Takes c.args.id x q.last) (sym c.in-Ok.ensures.ok) q.reads) in
-    absurd (fails c.is_at_end.result c.if-not-is_at_end.true c.is_at_end.ensures (ap (λ x. x.here.octets) (sym e) ∙ q.behind))
+    absurd (fails c.is_at_end.result c.if-not-is_at_end.true c.is_at_end.ensures (ap (λ x. x.here.octets) (sym e) ∙ q.following))
 
-pub returns-then-not-is_at_end-clause-less : goal.returns-then-not-is_at_end-clause-less
-returns-then-not-is_at_end-clause-less c b =
+pub returns-then-not-is_at_end-clause-truncated_value : goal.returns-then-not-is_at_end-clause-truncated_value
+returns-then-not-is_at_end-clause-truncated_value c b =
     let i = b.is in
-    let u = c.said_is_read.ensures.unit c.args.code.now c.args.id.index i.count i.value b.octets c.accepted.ensures i.is_said in
+    let u = c.lemma_encoded_is_read.ensures.unit c.args.code.now c.args.id.index i.count i.value b.octets c.lemma_invariant.ensures i.is_encoded in
     absurd (true_false (c.ends_early.ensures.late (ends_before b u)) c.if-ends_early.false)
 
 pub returns-clause-more : goal.returns-clause-more
@@ -128,15 +128,15 @@ returns-clause-more c m =
     let i = m.is in
     let a = ap length m.whole in
     let b = length-append m.octets m.rest in
-    let r = c.said_is_read.ensures.read s c.args.id i.value i.count m.octets m.rest (room_of (length o)) i.is_said c.accepted.ensures i.is_value i.few i.short (omega arith) in
+    let r = c.lemma_encoded_is_read.ensures.read s c.args.id i.value i.count m.octets m.rest (budget_of (length o)) i.is_encoded c.lemma_invariant.ensures i.is_value i.few i.short (omega arith) in
     let q = read_of o r m.whole in
     let e = c.in-Ok-read.ensures.only q.last (subst (λ x. Reads (λ u. routine_at s u) Takes c.args.id x q.last) (sym c.in-Ok.ensures.ok) q.reads) in
-    absurd (none_there m.rest m.some (sym q.behind ∙ ap (λ x. x.here.octets) e ∙ holds c.is_at_end.result c.if-not-is_at_end.false c.is_at_end.ensures))
+    absurd (none_there m.rest m.some (sym q.following ∙ ap (λ x. x.here.octets) e ∙ holds c.is_at_end.result c.if-not-is_at_end.false c.is_at_end.ensures))
 
-pub returns-clause-less : goal.returns-clause-less
-returns-clause-less c b =
+pub returns-clause-truncated_value : goal.returns-clause-truncated_value
+returns-clause-truncated_value c b =
     let i = b.is in
-    let u = c.said_is_read.ensures.unit c.args.code.now c.args.id.index i.count i.value b.octets c.accepted.ensures i.is_said in
+    let u = c.lemma_encoded_is_read.ensures.unit c.args.code.now c.args.id.index i.count i.value b.octets c.lemma_invariant.ensures i.is_encoded in
     absurd (true_false (c.ends_early.ensures.late (ends_before b u)) c.if-ends_early.false)
 
 pub returns-in-Err-read-clause-long : goal.returns-in-Err-read-clause-long
@@ -169,5 +169,5 @@ pub returns-then-not-is_at_end-clause-refused : goal.returns-then-not-is_at_end-
 returns-then-not-is_at_end-clause-refused c = λ other.
     let s = c.args.code.now in
     let r = subst (λ q. Reads (λ u. routine_at s u) Takes c.args.id q c.read.new.source) c.in-Ok.ensures.ok c.in-Ok-read.ensures.ok in
-    more_behind (record { short = c.in-Ok.ensures.few; type = holds c.has.result c.if-not-has.false c.has.ensures; header = λ q. true_false (c.ends_early.ensures.late q) c.if-ends_early.false })
+    trailing_octets (record { short = c.in-Ok.ensures.few; type = holds c.has.result c.if-not-has.false c.has.ensures; header = λ q. true_false (c.ends_early.ensures.late q) c.if-ends_early.false })
     (record { last = c.read.new.source; reads = r; left = fails c.is_at_end.result c.if-not-is_at_end.true c.is_at_end.ensures })

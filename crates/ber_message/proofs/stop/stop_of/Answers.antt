@@ -3,9 +3,9 @@ use Rattle.codec_code.specs.Routines.{routine_at}
 use Rattle.codec_source.specs.Reading.{Reads}
 use Rattle.codec_source.specs.Stopping.{StopsReading}
 use Rattle.octet_answers.specs.Answers.{Takes}
-use Rattle.octet_answers.specs.Left.{Leaves}
+use Rattle.octet_answers.specs.Unanswered.{Leaves}
 use Rattle.ber_message.specs.Stops.{stops, reads}
-use Rattle.ber_message.proofs.Stopped.{stop_told, place_told, stopped_before}
+use Rattle.ber_message.proofs.Stopped.{stop_emitted, place_emitted, stopped_before}
 use Rattle.ber_message.proofs.stop.stop_of.Goals as goal
 
 pub returns-in-Ok-read-clause-is : goal.returns-in-Ok-read-clause-is
@@ -16,7 +16,7 @@ returns-in-Ok-read-clause-is c =
     let m = c.args.most in
     let z = c.read.new.source in
     let r = subst (λ q. Reads (λ u. routine_at s u) Takes t q z) c.in-Ok.ensures.ok c.in-Ok-read.ensures.ok in
-    stop_told s t o m z c.told.result (λ w a. reads z r a) (c.stops_in_place.ensures.read s t o m z r) c.told.ensures.place c.told.ensures.values
+    stop_emitted s t o m z c.emitted.result (λ w a. reads z r a) (c.lemma_stops_in_place.ensures.read s t o m z r) c.emitted.ensures.place c.emitted.ensures.values
 
 pub returns-in-Ok-read-clause-place : goal.returns-in-Ok-read-clause-place
 returns-in-Ok-read-clause-place c =
@@ -25,7 +25,7 @@ returns-in-Ok-read-clause-place c =
     let o = c.args.octets.now in
     let z = c.read.new.source in
     let r = subst (λ q. Reads (λ u. routine_at s u) Takes t q z) c.in-Ok.ensures.ok c.in-Ok-read.ensures.ok in
-    place_told o z c.told.result (c.stops_in_place.ensures.read s t o c.args.most z r) c.told.ensures.place
+    place_emitted o z c.emitted.result (c.lemma_stops_in_place.ensures.read s t o c.args.most z r) c.emitted.ensures.place
 
 pub returns-clause-is : goal.returns-clause-is
 returns-clause-is c =
@@ -36,7 +36,7 @@ returns-clause-is c =
     let e = c.in-Err-read.fault in
     let z = c.read.new.source in
     let r = subst (λ q. StopsReading (λ u. routine_at s u) Takes (λ a q b. Leaves a q b e) t q z) c.in-Ok.ensures.ok (c.in-Err-read.ensures.stopped (c.is_memory.ensures c.if-is_memory.false)) in
-    stop_told s t o m z c.told-in-Err-read.result (λ w a. stops z e r a) (c.stops_in_place.ensures.stopped s t o m z e r).0 c.told-in-Err-read.ensures.place c.told-in-Err-read.ensures.values
+    stop_emitted s t o m z c.emitted-in-Err-read.result (λ w a. stops z e r a) (c.lemma_stops_in_place.ensures.stopped s t o m z e r).0 c.emitted-in-Err-read.ensures.place c.emitted-in-Err-read.ensures.values
 
 pub returns-clause-place : goal.returns-clause-place
 returns-clause-place c =
@@ -46,10 +46,10 @@ returns-clause-place c =
     let e = c.in-Err-read.fault in
     let z = c.read.new.source in
     let r = subst (λ q. StopsReading (λ u. routine_at s u) Takes (λ a q b. Leaves a q b e) t q z) c.in-Ok.ensures.ok (c.in-Err-read.ensures.stopped (c.is_memory.ensures c.if-is_memory.false)) in
-    place_told o z c.told-in-Err-read.result (c.stops_in_place.ensures.stopped s t o c.args.most z e r).0 c.told-in-Err-read.ensures.place
+    place_emitted o z c.emitted-in-Err-read.result (c.lemma_stops_in_place.ensures.stopped s t o c.args.most z e r).0 c.emitted-in-Err-read.ensures.place
 
 pub returns-in-Ok-read-clause-before : goal.returns-in-Ok-read-clause-before
-returns-in-Ok-read-clause-before c r few l = stopped_before c.told.result c.one_answer.ensures.takes (returns-in-Ok-read-clause-is c) r few l
+returns-in-Ok-read-clause-before c r few l = stopped_before c.emitted.result c.lemma_one_answer.ensures.takes (returns-in-Ok-read-clause-is c) r few l
 
 pub returns-clause-before : goal.returns-clause-before
-returns-clause-before c r few l = stopped_before c.told-in-Err-read.result c.one_answer.ensures.takes (returns-clause-is c) r few l
+returns-clause-before c r few l = stopped_before c.emitted-in-Err-read.result c.lemma_one_answer.ensures.takes (returns-clause-is c) r few l

@@ -1,14 +1,13 @@
 use Rattle.std.proofs.Common.{sym, subst}
 use Rattle.asn_base.specs.Typed.{IsValue, IsValueWithoutNodes}
+use Rattle.views.specs.Tree.{value_of}
 use Rattle.ber_reader.specs.Judged.{IsJudged}
 use Rattle.ber_reader.proofs.Reading.{holds, never_holds}
 use Rattle.ber_reader.proofs.read.judge.Goals as goal
 
-pub is_surely_value-requires : goal.is_surely_value-requires
-is_surely_value-requires c = (c.requires.0, c.top.ensures c.requires.0 c.requires.1)
-
 pub returns-then-is_surely_value-clause-ok : goal.returns-then-is_surely_value-clause-ok
-returns-then-is_surely_value-clause-ok c t v = c.is_surely_value.ensures t (c.top.ensures t v) c.if-is_surely_value.true
+returns-then-is_surely_value-clause-ok c t v =
+    subst (λ q. IsValueWithoutNodes c.args.code.now c.args.id.index (value_of q)) (c.top.ensures t v) (c.is_surely_value.ensures c.if-is_surely_value.true)
 
 pub returns-then-not-is_value-clause-err : goal.returns-then-not-is_value-clause-err
 returns-then-not-is_value-clause-err c other t v w =

@@ -17,5 +17,5 @@ loop-i-preserved c =
 
 pub returns : goal.returns
 returns c =
-    c.abstract_values.ensures.fields_ c.loop-i.root
+    c.lemma_abstract_values.ensures.fields_ c.loop-i.root
     ∙ ap fields (copied_all (option_map abstract) (components (kind_at c.args.code.now c.args.id.index)) c.args.members.now c.loop-i.root.items c.loop-i.i c.loop-i-test.false c.loop-i.invariant)

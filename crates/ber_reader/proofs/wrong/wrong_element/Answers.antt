@@ -1,7 +1,7 @@
 use Rattle.std.proofs.Common.{◌+◌, drop, map}
 use Rattle.asn_base.specs.Abstract.{abstract, row_of_list}
 use Rattle.ber_reader.specs.Judged.{element_pieces}
-use Rattle.ber_reader.proofs.Judging.{before, behind, element_next, no_more_elements}
+use Rattle.ber_reader.proofs.Judging.{before, following, element_next, no_more_elements}
 use Rattle.ber_reader.proofs.wrong.wrong_element.Goals as goal
 
 pub loop-i-init : goal.loop-i-init
@@ -15,7 +15,7 @@ returns-in-Some c =
 pub loop-i-preserved : goal.loop-i-preserved
 loop-i-preserved c = λ r h.
     c.loop-i.invariant r (element_next c.args.ty.index abstract c.args.members.now c.loop-i.i c.index-members-i.result c.loop-i-test.true c.index-members-i.is
-    (behind c.in-None.ensures h))
+    (following c.in-None.ensures h))
 
 pub returns : goal.returns
 returns c = c.loop-i.invariant _ (no_more_elements c.args.ty.index abstract c.args.members.now c.loop-i.i c.loop-i-test.false)

@@ -3,7 +3,7 @@ use Rattle.std.specs.Prelude.{option_map}
 use Rattle.asn_base.specs.Abstract.{abstract, row_of_options}
 use Rattle.asn_base.specs.Schemas.{components}
 use Rattle.ber_reader.specs.Judged.{component_pieces, kind_at}
-use Rattle.ber_reader.proofs.Judging.{before, behind, component_next, no_more_components}
+use Rattle.ber_reader.proofs.Judging.{before, following, component_next, no_more_components}
 use Rattle.ber_reader.proofs.wrong.wrong_field.Goals as goal
 
 pub loop-i-init : goal.loop-i-init
@@ -19,7 +19,7 @@ pub loop-i-preserved : goal.loop-i-preserved
 loop-i-preserved c = λ r h.
     let cs = components (kind_at c.args.code.now c.args.id.index) in
     c.loop-i.invariant r (component_next cs (option_map abstract) c.args.members.now c.loop-i.i c.index-members-i.result c.loop-i-test.true c.index-members-i.is
-    (behind c.in-None.ensures h))
+    (following c.in-None.ensures h))
 
 pub returns : goal.returns
 returns c =

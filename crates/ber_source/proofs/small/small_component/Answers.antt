@@ -2,22 +2,22 @@ use Rattle.std.proofs.Common.{refl, sym, subst}
 use Rattle.codec_source.specs.Small.{TakesComponent}
 use Rattle.octet_answers.specs.Answers.{Takes}
 use Rattle.ber_source.specs.Seen.{state_of}
-use Rattle.ber_source.specs.Short.{IsShort}
+use Rattle.ber_source.specs.ShortValue.{IsShortValue}
 use Rattle.ber_source.proofs.Shorts.{component_taken, named_short}
 use Rattle.ber_source.proofs.small.small_component.Goals as goal
 
 pub pass_short-requires : goal.pass_short-requires
 pass_short-requires g c k =
-    let a = state_of g.T.Teller.tokens c.args.place.now in (
+    let a = state_of g.T.TokenSink.tokens c.args.place.now in (
       (refl, (refl, tt)),
       (
         c.in-Ok.ensures.within,
-        (c.args.head, subst (λ q. IsShort q c.args.head c.args.kind c.in-Some.short) (sym c.in-Ok.ensures.ok) (named_short a c.args.field c.args.head c.args.kind c.in-Some.short c.in-Some.ensures)),
+        (c.args.head, subst (λ q. IsShortValue q c.args.head c.args.kind c.in-Some.short) (sym c.in-Ok.ensures.ok) (named_short a c.args.field c.args.head c.args.kind c.in-Some.short c.in-Some.ensures)),
       ),
     )
 
 pub returns-in-Ok-pass_short-clause-taken : goal.returns-in-Ok-pass_short-clause-taken
 returns-in-Ok-pass_short-clause-taken g c =
-    let a = state_of g.T.Teller.tokens c.args.place.now in
-    let b = state_of g.T.Teller.tokens c.tell.new.place in
-    λ yes. subst (λ q. TakesComponent Takes c.args.field c.args.head c.args.kind a q) (sym c.in-Ok-pass_short.ensures.ok) (component_taken c.one_answer.ensures.takes a b c.args.field c.args.head c.args.kind c.in-Some.short (c.can_begin.ensures.0 c.if-not-can_begin.false) c.in-Some.ensures c.in-Ok.ensures.ok)
+    let a = state_of g.T.TokenSink.tokens c.args.place.now in
+    let b = state_of g.T.TokenSink.tokens c.emit.new.place in
+    λ yes. subst (λ q. TakesComponent Takes c.args.field c.args.head c.args.kind a q) (sym c.in-Ok-pass_short.ensures.ok) (component_taken c.lemma_one_answer.ensures.takes a b c.args.field c.args.head c.args.kind c.in-Some.short (c.can_begin.ensures.0 c.if-not-can_begin.false) c.in-Some.ensures c.in-Ok.ensures.ok)

@@ -4,9 +4,9 @@ use Rattle.asn_base.specs.Abstract.{octets}
 use Rattle.encodings.specs.Rules.{Basic}
 use Rattle.encodings.specs.Contents.{Contents}
 use Rattle.encodings.specs.Leaves.{plain}
-use Rattle.leaf_readings.specs.Leaves.{Tells, bits_but}
+use Rattle.primitive_reader.specs.Leaves.{Denotes, bits_but}
 use Rattle.views.specs.Tree as tree
-use Rattle.ber_views.proofs.Leaves.{told_of, bits_whole, octets_whole, text_whole, then_ok}
+use Rattle.ber_views.proofs.Leaves.{denotes_of, bits_whole, octets_whole, text_whole, then_ok}
 use Rattle.ber_views.proofs.leaf.push_whole.Goals as goal
 
 pub push_bits-requires-clause-whole : goal.push_bits-requires-clause-whole
@@ -14,29 +14,29 @@ push_bits-requires-clause-whole c =
     let r = c.requires.read in
     let k = c.args.held.kind in
     let x = c.args.held.octets.now in
-    let told = subst (λ q. Tells q r.value) c.in-Bits.is r.told in
-    (bits_but c.in-Bits.field-0 c.in-Bits.field-1.now, bits_whole (subst (λ q. Contents Basic (plain k) q false x) told r.is_read.contents))
+    let means = subst (λ q. Denotes q r.value) c.in-Bits.is r.means in
+    (bits_but c.in-Bits.field-0 c.in-Bits.field-1.now, bits_whole (subst (λ q. Contents Basic (plain k) q false x) means r.is_read.contents))
 
 pub returns-in-Bits : goal.returns-in-Bits
 returns-in-Bits c v b h e =
     let k = c.args.held.kind in
     let x = c.args.held.octets.now in
-    let told = subst (λ q. Tells q v) c.in-Bits.is (told_of (λ w u p q. c.one_reading.ensures.value k w u x p q) h c.requires.read) in
-    then_ok c.push_bits.result (λ q. (q.0, q.1 ∙ sym told, q.2, q.3))
-    (c.push_bits.ensures (bits_but c.in-Bits.field-0 c.in-Bits.field-1.now) b (bits_whole (subst (λ q. Contents Basic (plain k) q false x) told h.contents.contents)) e)
+    let means = subst (λ q. Denotes q v) c.in-Bits.is (denotes_of (λ w u p q. c.lemma_one_reading.ensures.value k w u x p q) h c.requires.read) in
+    then_ok c.push_bits.result (λ q. (q.0, q.1 ∙ sym means, q.2, q.3))
+    (c.push_bits.ensures (bits_but c.in-Bits.field-0 c.in-Bits.field-1.now) b (bits_whole (subst (λ q. Contents Basic (plain k) q false x) means h.contents.contents)) e)
 
 pub returns-in-Octets : goal.returns-in-Octets
 returns-in-Octets c v b h e =
     let k = c.args.held.kind in
     let x = c.args.held.octets.now in
-    let told = subst (λ q. Tells q v) c.in-Octets.is (told_of (λ w u p q. c.one_reading.ensures.value k w u x p q) h c.requires.read) in
-    let whole = octets_whole (subst (λ q. Contents Basic (plain k) q false x) told h.contents.contents) in
-    then_ok c.push_octets.result (λ q. (tree.octets x (Some c.args.held.at), sym (told ∙ ap octets whole), (refl, refl), q)) (c.push_octets.ensures b e)
+    let means = subst (λ q. Denotes q v) c.in-Octets.is (denotes_of (λ w u p q. c.lemma_one_reading.ensures.value k w u x p q) h c.requires.read) in
+    let whole = octets_whole (subst (λ q. Contents Basic (plain k) q false x) means h.contents.contents) in
+    then_ok c.push_octets.result (λ q. (tree.octets x (Some c.args.held.at), sym (means ∙ ap octets whole), (refl, refl), q)) (c.push_octets.ensures b e)
 
 pub returns-in-Text : goal.returns-in-Text
 returns-in-Text c v b h e =
     let k = c.args.held.kind in
     let x = c.args.held.octets.now in
-    let told = subst (λ q. Tells q v) c.in-Text.is (told_of (λ w u p q. c.one_reading.ensures.value k w u x p q) h c.requires.read) in
-    let whole = text_whole (subst (λ q. Contents Basic (plain k) q false x) told h.contents.contents) in
-    then_ok c.push_text.result (λ q. (tree.text c.in-Text.text.now (Some c.args.held.at), sym told, (whole, refl), q)) (c.push_text.ensures b e)
+    let means = subst (λ q. Denotes q v) c.in-Text.is (denotes_of (λ w u p q. c.lemma_one_reading.ensures.value k w u x p q) h c.requires.read) in
+    let whole = text_whole (subst (λ q. Contents Basic (plain k) q false x) means h.contents.contents) in
+    then_ok c.push_text.result (λ q. (tree.text c.in-Text.text.now (Some c.args.held.at), sym means, (whole, refl), q)) (c.push_text.ensures b e)

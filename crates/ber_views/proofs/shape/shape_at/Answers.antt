@@ -1,7 +1,7 @@
 use Rattle.std.proofs.Common.{ap, sym}
 use Rattle.codec_code.specs.Routines.{routine_at}
 use Rattle.ber_views.specs.Shapes.{shape_in}
-use Rattle.ber_views.proofs.Brief.{row_in}
+use Rattle.ber_views.proofs.Summary.{row_in}
 use Rattle.ber_views.proofs.shape.shape_at.Goals as goal
 
 pub returns-in-Leaf : goal.returns-in-Leaf

@@ -1,7 +1,7 @@
 use Rattle.std.proofs.Common.{◌≡◌, List, ℕ, map, subst, sym, ap, ◌∙◌}
 use Rattle.type_table.specs.trees.Types.{plain_of}
 use Rattle.type_table.specs.Seen.{part_of, kind_of}
-use Rattle.circles.specs.Circles.{IsPart, referred, behind_tag, element}
+use Rattle.circles.specs.Circles.{IsPart, referred, target_tag, element}
 use Rattle.type_table.specs.Table.{Kind, simple, reference, tagged, members, elements}
 use Rattle.circles.specs.proving.Reach.{Marks}
 use Rattle.circles.proofs.Marking.{marks_simple, marks_reference, marks_tagged, marks_elements, member_either}
@@ -25,7 +25,7 @@ returns-in_ok-mark-in-Reference c =
     (marks_reference c.args.search c.in-Reference.meant c.args.marks.now c.mark.new.marks c.args.waiting.now.items c.mark.new.waiting.items c.in_ok-mark-in-Reference.ensures)
 
 pub mark-requires-in-Tagged : goal.mark-requires-in-Tagged
-mark-requires-in-Tagged c = c.requires c.in-Tagged.inner (subst (λ z. IsPart c.in-Tagged.inner z) (sym (ap kind_of c.in-Tagged.is)) behind_tag)
+mark-requires-in-Tagged c = c.requires c.in-Tagged.inner (subst (λ z. IsPart c.in-Tagged.inner z) (sym (ap kind_of c.in-Tagged.is)) target_tag)
 
 pub returns-in_ok-mark-in-Tagged : goal.returns-in_ok-mark-in-Tagged
 returns-in_ok-mark-in-Tagged c =

@@ -1,5 +1,5 @@
 use Rattle.std.proofs.Common.{◌≡◌, ◌∙◌, map, refl, sym, subst, ap, arith}
-use Rattle.type_table.specs.declared.table.Written.{Written}
+use Rattle.type_table.specs.declared.table.TypeNode.{TypeNode}
 use Rattle.type_table.specs.Seen.{part_of, type_of, types_of, kind_of}
 use Rattle.circles.specs.Circles.{IsPart, member}
 use Rattle.type_table.specs.Table.{members}
@@ -11,7 +11,7 @@ use Rattle.circles.proofs.search.is_in_circle.Goals as goal
 pub lead_to-requires : goal.lead_to-requires
 lead_to-requires c =
     let there = type_at c.args.types.now c.args.list c.index-types-list.result c.requires.there c.index-types-list.is in
-    let kind : kind_of c.index-types-list.result.shape ≡ members c.in-Members.field-0 c.in-Members.field-1 (map part_of c.deref-in-Members.result.now) = ap kind_of (ap (λ (z : Written). z.shape) c.index-types-list.is ∙ c.in-Members.is) ∙ ap (λ x. members c.in-Members.field-0 c.in-Members.field-1 (map part_of x)) (sym c.deref-in-Members.ensures.value) in
+    let kind : kind_of c.index-types-list.result.shape ≡ members c.in-Members.field-0 c.in-Members.field-1 (map part_of c.deref-in-Members.result.now) = ap kind_of (ap (λ (z : TypeNode). z.shape) c.index-types-list.is ∙ c.in-Members.is) ∙ ap (λ x. members c.in-Members.field-0 c.in-Members.field-1 (map part_of x)) (sym c.deref-in-Members.ensures.value) in
     record {
       parts = c.requires.parts;
       long = c.requires.long;
@@ -25,7 +25,7 @@ lead_to-requires c =
 pub returns-in_ok-back-in-Members : goal.returns-in_ok-back-in-Members
 returns-in_ok-back-in-Members c =
     let there = type_at c.args.types.now c.args.list c.index-types-list.result c.requires.there c.index-types-list.is in
-    let kind : kind_of c.index-types-list.result.shape ≡ members c.in-Members.field-0 c.in-Members.field-1 (map part_of c.deref-in-Members.result.now) = ap kind_of (ap (λ (z : Written). z.shape) c.index-types-list.is ∙ c.in-Members.is) ∙ ap (λ x. members c.in-Members.field-0 c.in-Members.field-1 (map part_of x)) (sym c.deref-in-Members.ensures.value) in
+    let kind : kind_of c.index-types-list.result.shape ≡ members c.in-Members.field-0 c.in-Members.field-1 (map part_of c.deref-in-Members.result.now) = ap kind_of (ap (λ (z : TypeNode). z.shape) c.index-types-list.is ∙ c.in-Members.is) ∙ ap (λ x. members c.in-Members.field-0 c.in-Members.field-1 (map part_of x)) (sym c.deref-in-Members.ensures.value) in
     record {
       circle = (
         λ b. circle_of_leads (types_of c.args.types.now) c.args.list (type_of c.index-types-list.result) c.in-Members.field-0 c.in-Members.field-1 (map part_of c.deref-in-Members.result.now) there kind (c.in_ok-back-in-Members.ensures.found.0 b),
@@ -37,7 +37,7 @@ returns-in_ok-back-in-Members c =
 pub returns-then-is_above-clause-circle : goal.returns-then-is_above-clause-circle
 returns-then-is_above-clause-circle c =
     let there = type_at c.args.types.now c.args.list c.index-types-list.result c.requires.there c.index-types-list.is in
-    let kind : kind_of c.index-types-list.result.shape ≡ members c.in-Members.field-0 c.in-Members.field-1 (map part_of c.deref.result.now) = ap kind_of (ap (λ (z : Written). z.shape) c.index-types-list.is ∙ c.in-Members.is) ∙ ap (λ x. members c.in-Members.field-0 c.in-Members.field-1 (map part_of x)) (sym c.deref.ensures.value) in
+    let kind : kind_of c.index-types-list.result.shape ≡ members c.in-Members.field-0 c.in-Members.field-1 (map part_of c.deref.result.now) = ap kind_of (ap (λ (z : TypeNode). z.shape) c.index-types-list.is ∙ c.in-Members.is) ∙ ap (λ x. members c.in-Members.field-0 c.in-Members.field-1 (map part_of x)) (sym c.deref.ensures.value) in
     let above = c.if-is_above.ensures refl in (
       λ b. absurd cc,
       λ h. absurd (no_circle (types_of c.args.types.now) c.args.ranks.now c.args.list (type_of c.index-types-list.result) c.in-Members.field-0 c.in-Members.field-1 (map part_of c.deref.result.now) (c.requires.ranked above.0) there kind above.1 h),
@@ -49,7 +49,7 @@ returns-in_default c =
     record {
       circle = (
         λ b. absurd cc,
-        λ h. absurd (no_list (types_of c.args.types.now) c.args.list (type_of c.index-types-list.result) c.index-types-list.result.shape there refl (λ l m cs e. c.in_default.not-Members l m cs (sym (ap (λ (z : Written). z.shape) c.index-types-list.is) ∙ e)) h),
+        λ h. absurd (no_list (types_of c.args.types.now) c.args.list (type_of c.index-types-list.result) c.index-types-list.result.shape there refl (λ l m cs e. c.in_default.not-Members l m cs (sym (ap (λ (z : TypeNode). z.shape) c.index-types-list.is) ∙ e)) h),
       );
       marks = λ j n h. let l = c.requires.earlier j n h in omega (arith, l);
     }

@@ -10,4 +10,4 @@ returns-in-Some c =
 
 pub is_the_default-requires : goal.is_the_default-requires
 is_the_default-requires c =
-    default_known c.args.schema.now c.args.id.index c.args.place (component_of c.in-Some.component.now) c.accepted.ensures c.in-Some.ensures
+    default_known c.args.schema.now c.args.id.index c.args.place (component_of c.in-Some.component.now) c.lemma_invariant.ensures c.in-Some.ensures

@@ -9,9 +9,9 @@ loop-next-preserved g c =
     let s = c.args.code.now in
     let start = c.new-frames.result.items ++ Routine c.args.id c.steps-steps.result c.args.value ∷ [] in
     let more = r.reached_more s g.B.Backend.adds (search rules) start _ (and_next c.loop-next.frames.items c.loop-next.next)
-    (and_next c.turn.new.frames.items c.in-Ok.after) c.args.backend.now c.loop-next.backend c.turn.new.backend
+    (and_next c.run_frame.new.frames.items c.in-Ok.after) c.args.backend.now c.loop-next.backend c.run_frame.new.backend
     (ap (and_next c.loop-next.frames.items) c.in-Some.is) c.loop-next.invariant.0 c.in-Ok.ensures.ok in (
-      subst (λ q. Reached s g.B.Backend.adds start c.args.backend.now q c.turn.new.backend) (sym c.next_of-next.ensures.same) more,
+      subst (λ q. Reached s g.B.Backend.adds start c.args.backend.now q c.run_frame.new.backend) (sym c.next_of-next.ensures.same) more,
       c.next_of-next.ensures.last,
     )
 
@@ -24,7 +24,7 @@ returns-clause-ok g c =
 
 pub returns-in-Err-clause-refused : goal.returns-in-Err-clause-refused
 returns-in-Err-clause-refused g c =
-    r.reached_untold c.args.code.now g.B.Backend.adds c.args.id c.steps-steps.result c.args.value _
+    r.reached_emits_nothing c.args.code.now g.B.Backend.adds c.args.id c.steps-steps.result c.args.value _
     (and_next c.loop-next.frames.items c.loop-next.next) _ c.args.backend.now c.loop-next.backend c.in-Err.fault c.steps-steps.ensures
     (ap (λ q. q ++ Routine c.args.id c.steps-steps.result c.args.value ∷ []) c.new-frames.ensures.items)
     (ap (and_next c.loop-next.frames.items) c.in-Some.is) c.loop-next.invariant.0 c.in-Err.ensures.refused

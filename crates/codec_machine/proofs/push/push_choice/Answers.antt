@@ -17,7 +17,7 @@ returns-in-Err-called-clause-refused c =
 pub returns-clause-ok : goal.returns-clause-ok
 returns-clause-ok c =
     r.choice_in c.args.code.now c.args.id c.args.frames.now.items c.args.rest c.args.value c.args.alternatives c.in-Ok.found.0
-    c.in-Ok-called.of c.behind.result c.steps-steps.result c.in-Ok.found.1 c.add.new.frames.items
+    c.in-Ok-called.of c.steps_after.result c.steps-steps.result c.in-Ok.found.1 c.add.new.frames.items
     (c.add.new.frames.items ++ Routine c.in-Ok-called.of c.steps-steps.result c.in-Ok.found.1 ∷ []) c.in-Ok.ensures.ok.0
-    c.in-Ok.ensures.ok.1 c.in-Ok-called.ensures.ok c.behind.ensures.behind c.behind.ensures.few c.steps-steps.ensures c.in_ok-add.ensures
+    c.in-Ok.ensures.ok.1 c.in-Ok-called.ensures.ok c.steps_after.ensures.steps_after c.steps_after.ensures.few c.steps-steps.ensures c.in_ok-add.ensures
     refl

@@ -1,5 +1,5 @@
 use Rattle.std.proofs.Common.{refl, [], ◌∷◌, ◌++◌}
-use Rattle.codec_machine.specs.declared.frame.Frame.TheVariants.{Parts}
+use Rattle.codec_machine.specs.declared.frame.Frame.TheVariants.{SortedElements}
 use Rattle.codec_machine.proofs.Inversion.{of_sorted}
 use Rattle.codec_machine.proofs.Replacing as r
 use Rattle.codec_machine.proofs.push.push_sorted.Goals as goal
@@ -7,7 +7,7 @@ use Rattle.codec_machine.proofs.push.push_sorted.Goals as goal
 pub returns-in_ok-add-in-Some-clause-ok : goal.returns-in_ok-add-in-Some-clause-ok
 returns-in_ok-add-in-Some-clause-ok c =
     r.sorted_in c.args.code.now c.args.id c.args.frames.now.items c.args.rest c.args.value c.args.of c.add.new.frames.items
-    (c.add.new.frames.items ++ Parts c.args.of c.in-Some.values ∷ []) c.in-Some.values c.in-Some.ensures c.in_ok-add-in-Some.ensures refl
+    (c.add.new.frames.items ++ SortedElements c.args.of c.in-Some.values ∷ []) c.in-Some.values c.in-Some.ensures c.in_ok-add-in-Some.ensures refl
 
 pub returns-in-None-clause-refused : goal.returns-in-None-clause-refused
 returns-in-None-clause-refused c = λ e es d. (let p = of_sorted d in c.in-None.ensures p.row p.is)

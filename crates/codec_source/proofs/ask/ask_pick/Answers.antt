@@ -17,4 +17,4 @@ returns-in-Err-clause-err g c = λ other.
     (λ t y a. c.in-Err.ensures.err other t y (subst (λ q. g.S.Source.takes c.args.source.now (picks q t) y) (sym c.first_steps-calls.ensures) a))
 
 pub returns-in-Err-clause-left : goal.returns-in-Err-clause-left
-returns-in-Err-clause-left g c = λ other. subst (λ q. g.S.Source.leaves c.args.source.now (which_picked q) c.alternative.new.self c.in-Err.fault) c.first_steps-calls.ensures (c.in-Err.ensures.left other)
+returns-in-Err-clause-left g c = λ other. subst (λ q. g.S.Source.refuses c.args.source.now (which_picked q) c.alternative.new.self c.in-Err.fault) c.first_steps-calls.ensures (c.in-Err.ensures.left other)

@@ -1,5 +1,5 @@
 use Rattle.std.proofs.Common.{subst}
-use Rattle.codec_source.specs.Events.{which_stands}
+use Rattle.codec_source.specs.Events.{which_comes}
 use Rattle.codec_source.proofs.Asking.{ranked_some, ranked_none, ranked_never}
 use Rattle.codec_source.proofs.ask.ask_ranked.Goals as goal
 
@@ -13,4 +13,4 @@ pub returns-in-Err-clause-err : goal.returns-in-Err-clause-err
 returns-in-Err-clause-err g c = λ other. ranked_never g.S.Source.takes c.args.field c.args.rank c.args.rest.now c.args.all.now c.args.source.now c.requires (c.in-Err.ensures.err other)
 
 pub returns-in-Err-clause-left : goal.returns-in-Err-clause-left
-returns-in-Err-clause-left g c = λ other. subst (λ q. g.S.Source.leaves c.args.source.now (which_stands q) c.next_component.new.self c.in-Err.fault) c.requires (c.in-Err.ensures.left other)
+returns-in-Err-clause-left g c = λ other. subst (λ q. g.S.Source.refuses c.args.source.now (which_comes q) c.next_component.new.self c.in-Err.fault) c.requires (c.in-Err.ensures.left other)

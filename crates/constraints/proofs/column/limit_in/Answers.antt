@@ -59,5 +59,5 @@ returns-in-Err-limit_of-clause-first c =
       starts = c.in-Ok.ensures;
       wrong = c.in-Err-limit_of.wrong;
       fault = m;
-      told = c.fault_at.ensures;
+      reported = c.fault_at.ensures;
     })

@@ -8,14 +8,14 @@ use Rattle.constraints.proofs.column.note.Goals as goal
 pub returns-in-None-number-clause-it : goal.returns-in-None-number-clause-it
 returns-in-None-number-clause-it c =
     let s = subst (λ p. IsShared p.types c.args.ty c.in-Some.next) c.linked.ensures (c.shared.ensures c.in-Some.next c.in-Some.is) in
-    let n = c.requires.behind c.in-Some.next s.leads in
+    let n = c.requires.target c.in-Some.next s.chain in
     let q : None ≡ Some n.0 = sym c.in-None-number.is ∙ c.number.ensures ∙ number_is c.args.column.now.at.items c.in-Some.next n in
     absurd cc
 
 pub returns-in-Some-number-clause-noted : goal.returns-in-Some-number-clause-noted
 returns-in-Some-number-clause-noted c =
     let s = subst (λ p. IsShared p.types c.args.ty c.in-Some.next) c.linked.ensures (c.shared.ensures c.in-Some.next c.in-Some.is) in
-    let n = c.requires.behind c.in-Some.next s.leads in
+    let n = c.requires.target c.in-Some.next s.chain in
     let q = some_same c.in-Some-number.number n.0
     (sym c.in-Some-number.is ∙ c.number.ensures ∙ number_is c.args.column.now.at.items c.in-Some.next n) in
     let m = c.requires.noted.each c.in-Some.next c.in-Some-number.number (n.1 ∙ ap (λ a. Some (Some a)) (sym q)) in

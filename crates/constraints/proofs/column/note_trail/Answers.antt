@@ -3,8 +3,8 @@ use Rattle.std.proofs.lemmas.Option.{slice_get-get_or}
 use Rattle.constraints.proofs.Noting.{trail_noted, trail_done}
 use Rattle.constraints.proofs.column.note_trail.Goals as goal
 
-pub note-requires-clause-behind : goal.note-requires-clause-behind
-note-requires-clause-behind c = λ j e.
+pub note-requires-clause-target : goal.note-requires-clause-target
+note-requires-clause-target c = λ j e.
     let v = c.args.trail.now in
     let l = c.loop-step-test.true in
     let here = slice_get-get_or v (length v - 1 - c.loop-step.step) 0 (omega (arith, l)) in

@@ -1,7 +1,7 @@
 use Rattle.std.proofs.Common.{◌≡◌, length, ap, map, sym, ◌∙◌, rules}
 use Rattle.trees.specs.Constraints.{constraint_of}
 use Rattle.type_table.specs.Seen.{type_of}
-use Rattle.type_table.specs.Table.{behind_of}
+use Rattle.type_table.specs.Table.{target_of}
 use Rattle.constraints.proofs.Noting.{empty_list}
 use Rattle.constraints.proofs.column.shared.Goals as goal
 
@@ -13,5 +13,5 @@ returns-then-is_empty c = λ j e.
       type = type_of w;
       there = c.written_at-written.ensures;
       none = ap (map constraint_of) (empty_list w.constraints.items long);
-      leads = ap behind_of c.written_at-written.ensures ∙ sym c.behind.ensures ∙ e;
+      chain = ap target_of c.written_at-written.ensures ∙ sym c.target.ensures ∙ e;
     }

@@ -1,5 +1,5 @@
 use Rattle.std.proofs.Common.{sym, subst}
-use Rattle.names.specs.Faults.{module_told}
+use Rattle.names.specs.Faults.{fault_module}
 use Rattle.names.specs.Sources.{value_of}
 use Rattle.resolve.specs.Program.{IsAssignment}
 use Rattle.constraints.proofs.fault.circular.Goals as goal
@@ -13,7 +13,7 @@ returns-in-Ok-clause-stands c =
       number = c.args.value;
       value = v;
       there = c.value_at-written.ensures;
-      stands = subst (IsAssignment p v.assignment (module_told c.in-Ok.spot)) (sym c.in-Ok.ensures.name) b;
+      stands = subst (IsAssignment p v.assignment (fault_module c.in-Ok.source_location)) (sym c.in-Ok.ensures.name) b;
       ty = c.requires.round.0;
       round = c.requires.round.1;
     }
@@ -28,7 +28,7 @@ returns-in-Ok-clause-first c = λ f.
       first = f;
       value = v;
       there = c.value_at-written.ensures;
-      stands = subst (IsAssignment p v.assignment (module_told c.in-Ok.spot)) (sym c.in-Ok.ensures.name) b;
+      stands = subst (IsAssignment p v.assignment (fault_module c.in-Ok.source_location)) (sym c.in-Ok.ensures.name) b;
       assigned = c.assigned_at-assigned.result.now;
       written = c.assigned_at-assigned.ensures;
       at = c.in-Ok.ensures.at;

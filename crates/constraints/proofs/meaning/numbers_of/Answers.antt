@@ -7,8 +7,8 @@ use Rattle.range_ends.specs.declared.ranges.RangesFault.TheVariants as wrong
 use Rattle.range_ends.specs.declared.ranges.RangeFault.TheVariants as faults
 use Rattle.range_ends.specs.First.{IsFirst}
 use Rattle.constraints.specs.declared.meaning.Rule.TheVariants as broken
-use Rattle.constraints.specs.declared.meaning.Wrong.TheVariants as wrongs
-use Rattle.constraints.specs.proving.Told.{AreRangesWrong as AreWrong, range}
+use Rattle.constraints.specs.declared.meaning.ConstraintFault.TheVariants as wrongs
+use Rattle.constraints.specs.proving.Reported.{AreRangesWrong as AreWrong, range}
 use Rattle.constraints.proofs.Senses.{numbers_are, turned}
 use Rattle.constraints.proofs.meaning.numbers_of.Goals as goal
 

@@ -2,7 +2,7 @@ use Rattle.std.proofs.Common.{◌≡◌, rules, subst}
 use Rattle.type_table.specs.Seen.{kind_of}
 use Rattle.constraints.specs.First.{IsFirstChars, in_characters, wrong_chars}
 use Rattle.constraints.specs.declared.meaning.Rule.TheVariants as broken
-use Rattle.constraints.specs.declared.meaning.Wrong.TheVariants as wrongs
+use Rattle.constraints.specs.declared.meaning.ConstraintFault.TheVariants as wrongs
 use Rattle.constraints.proofs.Firsts.{of_values, of_sizes}
 use Rattle.constraints.proofs.meaning.taken.Goals as goal
 

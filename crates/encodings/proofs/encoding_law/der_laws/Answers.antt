@@ -1,10 +1,10 @@
 use Rattle.encodings.proofs.Theorems.{is_der, one_der}
-use Rattle.encodings.proofs.Weaker.{basic_of, unsorted_of}
+use Rattle.encodings.specs.proving.Weaker.{basic_of, unsorted_of}
 use Rattle.encodings.proofs.encoding_law.der_laws.Goals as goal
 
 pub returns : goal.returns
 returns c =
-    let q = c.sameness.ensures in
+    let q = c.lemma_sameness.ensures in
     let u = c.unsorted_laws.ensures in
     record {
       der = is_der q.itself;

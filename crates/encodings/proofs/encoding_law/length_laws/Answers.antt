@@ -10,8 +10,8 @@ use Rattle.encodings.proofs.encoding_law.length_laws.Goals as goal
 
 pub returns : goal.returns
 returns c =
-    let q = c.sameness.ensures in
-    let l = c.alike_values.ensures in
+    let q = c.lemma_sameness.ensures in
+    let l = c.lemma_alike_values.ensures in
     let d = c.der_laws.ensures in
     let e : (s : List Resolved) → IsSchema s → (t : ℕ) (v : AbstractValue) → IsValueWithoutNodes s t v → ((o : List ℕ) × Der s t v 0 o) ⊎ ((p : List ℕ) → Ber s t v 0 p → ⊥)
     = λ s i t v a. encodable_or_none s i (q.alike_turned s) (q.alike_joined s) (l.groups s) (l.levels s) (l.decided s) (256 ^ 126) few_digits t v a in

@@ -3,5 +3,5 @@ use Rattle.encodings.proofs.encoding_law.reading_laws.Goals as goal
 
 pub returns : goal.returns
 returns c =
-    let q = c.sameness.ensures in
+    let q = c.lemma_sameness.ensures in
     record { one_value = one_value; ber = one_ber q.turned q.joined; der = same_of_der q.turned q.joined; none_begins_another = none_begins_another }

@@ -10,10 +10,10 @@ of-requires c =
     let s = types_of c.args.types.items in
     let h = c.requires.settled.settled in
     let a = c.requires.settled.asked in
-    let tags = c.tags_are_kept.ensures in
+    let tags = c.lemma_tags_are_kept.ensures in
     let whole = subst IsWhole (c.linked-linked.ensures.value ∙ c.tagged-tagged.ensures) c.whole.ensures in
     let tagged = subst (λ (q : Program). IsTagged q.types) c.tagged-tagged.ensures c.linked-linked.ensures.tagged in
-    c.settled_is_schema.ensures p s
+    c.lemma_program_schema_is_schema.ensures p s
     (record {
       whole = whole;
       apart = c.requires.read.apart;
@@ -25,7 +25,7 @@ of-requires c =
     h
     (record {
       tagged = tags.tagged p s h;
-      tellable = tags.tellable p s tagged h;
+      distinct_tags = tags.distinct_tags p s tagged h;
       few = tags.few p s tagged h;
       components = λ i ts m cs is. tags.components p s i ts m cs whole tagged h is;
       alternatives = λ i ts m root more is. tags.alternatives p s i ts m root more whole tagged h is;

@@ -5,7 +5,7 @@ use Rattle.names.specs.proving.Distinct.{item_at}
 use Rattle.type_table.specs.Seen.{type_of}
 use Rattle.extensions.specs.Faults.{IsFirstDefault}
 use Rattle.extensions.specs.proving.Tables.{AreDefaultsAt, IsFirstAt, defaults_seen, table_seen}
-use Rattle.extensions.proofs.Each.{one_more, tabled_typed, tells_more}
+use Rattle.extensions.proofs.Each.{one_more, tabled_typed, reports_more}
 use Rattle.extensions.proofs.defaults.all_defaults.Goals as goal
 
 pub defaults_at-requires-clause-there : goal.defaults_at-requires-clause-there
@@ -22,7 +22,7 @@ defaults_at-requires-clause-is c =
 pub returns-in-Err-defaults_at-clause-fault : goal.returns-in-Err-defaults_at-clause-fault
 returns-in-Err-defaults_at-clause-fault c =
     let p = c.args.bounded.now in
-    tells_more (IsFirstAt p c.loop-ty.ty) (IsFirstDefault p) c.in-Err-defaults_at.wrong
+    reports_more (IsFirstAt p c.loop-ty.ty) (IsFirstDefault p) c.in-Err-defaults_at.wrong
     (λ f w. record {
       number = c.loop-ty.ty;
       within = w.within;

@@ -6,7 +6,7 @@ use Rattle.type_table.specs.Table.{Part}
 use Rattle.extensions.specs.proving.Defaults.{IsDefaultOf}
 use Rattle.extensions.specs.Faults.{IsFirstIn, IsWrongDefault}
 use Rattle.extensions.specs.proving.Tables.{defaults_seen, shared_seen}
-use Rattle.extensions.proofs.Each.{one_more, one_default, tells_more, typed_before}
+use Rattle.extensions.proofs.Each.{one_more, one_default, reports_more, typed_before}
 use Rattle.extensions.proofs.defaults.defaults_in.Goals as goal
 
 pub default_of-requires-clause-there : goal.default_of-requires-clause-there
@@ -21,7 +21,7 @@ returns-in-Err-clause-fault c =
     let cs = map part_of c.args.components.now in
     let part = part_of c.index-components-at.result in
     let there = item_at part_of c.args.components.now c.loop-at.at c.index-components-at.result c.loop-at-test.true c.index-components-at.is in
-    tells_more (IsWrongDefault p M part) (IsFirstIn p M cs) c.in-Err.wrong
+    reports_more (IsWrongDefault p M part) (IsFirstIn p M cs) c.in-Err.wrong
     (λ f w. record {
       number = c.loop-at.at;
       part = part;

@@ -17,8 +17,8 @@ numbered-requires c =
     let g = c.args.given.now in
     let a = numbers_long (root_of g) (more_of g) c.args.numbers.now c.requires.numbers in
     let m = length-map g.root.items trees.item_of in
-    let n = length-map c.behind.result.now trees.item_of in
-    let v = ap length c.behind.ensures in
+    let n = length-map c.items_after.result.now trees.item_of in
+    let v = ap length c.items_after.ensures in
     omega (arith, a, m, n, v, c.len.ensures)
 
 pub in_order-requires : goal.in_order-requires
@@ -26,7 +26,7 @@ in_order-requires c =
     let g = c.args.given.now in
     let k = c.len.result in
     let zs = c.args.numbers.now in
-    let same = c.in-Ok.ensures ∙ ap (λ is. with_numbers is (drop k zs)) c.behind.ensures in
+    let same = c.in-Ok.ensures ∙ ap (λ is. with_numbers is (drop k zs)) c.items_after.ensures in
     differ c.in-Ok.all.items (more_of g) (drop k zs) same
     (drop_distinct zs k (subst AreDistinct (sym c.requires.numbers) c.requires.sound.numbers))
 
@@ -35,7 +35,7 @@ returns-in-Ok-clause-members c =
     let g = c.args.given.now in
     let k = c.len.result in
     let all = map item_of c.in-Ok.all.items in
-    let same = c.in-Ok.ensures ∙ ap (λ is. with_numbers is (drop k c.args.numbers.now)) c.behind.ensures
+    let same = c.in-Ok.ensures ∙ ap (λ is. with_numbers is (drop k c.args.numbers.now)) c.items_after.ensures
     ∙ ap (λ zs. with_numbers (more_of g) (drop k zs)) c.requires.numbers in
     let m = length-map g.root.items trees.item_of in
     let long : k ≡ length (root_of g) = omega (arith, m, c.len.ensures) in

@@ -7,7 +7,7 @@ use Rattle.extensions.proofs.Parts.{put_root, put_addition}
 use Rattle.extensions.proofs.members.put.Goals as goal
 
 pub returns-in-Root : goal.returns-in-Root
-returns-in-Root c cs r behind =
+returns-in-Root c cs r following =
     let part = part_of c.args.part.now in
     let root = map alternative_of c.args.root.now.items in
     let more = map alternative_of c.args.additions.now.items in
@@ -15,11 +15,11 @@ returns-in-Root c cs r behind =
     on_ok_weaker c.add.result
     (λ (e : map alternative_of c.add.new.alternatives.items ≡ root ++ one ∷ []).
     subst (λ xs. AreAlternativesOf (cs ++ part ∷ []) xs more) (sym e)
-    (put_root cs root more part one r behind c.in-Root.is c.in-Ok.ensures))
+    (put_root cs root more part one r following c.in-Root.is c.in-Ok.ensures))
     c.add.ensures
 
 pub returns-in-Addition : goal.returns-in-Addition
-returns-in-Addition c cs r behind =
+returns-in-Addition c cs r following =
     let part = part_of c.args.part.now in
     let root = map alternative_of c.args.root.now.items in
     let more = map alternative_of c.args.additions.now.items in

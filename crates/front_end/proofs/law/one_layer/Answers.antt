@@ -5,27 +5,27 @@ pub returns-clause-layer : goal.returns-clause-layer
 returns-clause-layer c =
     one_layer
     (record {
-      tokens = c.one_list_of_tokens.ensures;
-      texts = c.tokens_or_fault.ensures;
+      tokens = c.lemma_one_list_of_tokens.ensures;
+      texts = c.lemma_tokens_or_fault.ensures;
       list = c.one_list.ensures;
       program = c.one_program.ensures;
-      read = c.modules_are_read.ensures;
-      links = c.link_faults_exclude.ensures;
-      tags = c.no_other.ensures;
-      bounds = c.no_other-2.ensures;
-      settles = c.no_other-3.ensures;
+      read = c.lemma_modules_linked.ensures;
+      links = c.lemma_link_faults_exclude.ensures;
+      tags = c.lemma_fault_excludes.ensures;
+      bounds = c.lemma_fault_excludes-2.ensures;
+      schema_of_modules = c.lemma_fault_excludes-3.ensures;
     })
     (record {
-      default_behind_markers = c.one_kind.ensures.default_behind_markers;
-      assigned_behind_markers = c.one_kind.ensures.assigned_behind_markers;
-      assigned_behind_defaults = c.one_kind.ensures.assigned_behind_defaults;
+      default_after_markers = c.one_kind.ensures.default_after_markers;
+      assigned_after_markers = c.one_kind.ensures.assigned_after_markers;
+      assigned_after_defaults = c.one_kind.ensures.assigned_after_defaults;
     })
 
 pub returns-clause-octets : goal.returns-clause-octets
-returns-clause-octets c = one_of_octets c.tokens_or_fault.ensures c.one_fault.ensures
+returns-clause-octets c = one_of_octets c.lemma_tokens_or_fault.ensures c.lemma_one_fault.ensures
 
 pub returns-clause-tokens : goal.returns-clause-tokens
-returns-clause-tokens c = one_of_tokens c.one_list_of_tokens.ensures c.one_fault-2.ensures
+returns-clause-tokens c = one_of_tokens c.lemma_one_list_of_tokens.ensures c.lemma_one_fault-2.ensures
 
 pub returns-clause-either : goal.returns-clause-either
-returns-clause-either c = not_of_both c.one_list_of_tokens.ensures c.tokens_or_fault.ensures
+returns-clause-either c = not_of_both c.lemma_one_list_of_tokens.ensures c.lemma_tokens_or_fault.ensures

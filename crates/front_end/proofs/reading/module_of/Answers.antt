@@ -1,5 +1,5 @@
 use Rattle.std.proofs.Common.{sym, subst}
-use Rattle.kernel.specs.Given.{IsLexed}
+use Rattle.parser_combinators.specs.Given.{IsLexed}
 use Rattle.front_end.proofs.reading.module_of.Goals as goal
 
 pub returns-in-Ok-parse-clause-module : goal.returns-in-Ok-parse-clause-module

@@ -1,5 +1,5 @@
 use Rattle.std.proofs.Common.{◌≡◌, sym, subst, codes, string_bytes}
-use Rattle.reports.specs.Heading.{Begins}
+use Rattle.diagnostics.specs.Heading.{Begins}
 use Rattle.jobs.specs.Answers.{line_heading}
 use Rattle.jobs.specs.declared.refusals.LineFault.{LineFault}
 use Rattle.jobs.proofs.Answering.{if_ok_then}

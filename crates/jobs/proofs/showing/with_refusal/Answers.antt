@@ -8,7 +8,7 @@ use Rattle.jobs.proofs.showing.with_refusal.Goals as goal
 pub returns-clause-printed : goal.returns-clause-printed
 returns-clause-printed c =
     if_ok_then (λ v. v.items ≡ line_of (string_bytes c.push_str.new.self))
-    (λ v. IsRefusalLine (string_bytes c.args.lines) c.args.unread v.items) c.ended.result
+    (λ v. IsRefusalLine (string_bytes c.args.lines) c.args.unread v.items) c.with_line_end.result
     (λ v e. record {
       report = string_bytes c.in_ok-line.line;
       begins = c.in_ok-line.ensures;
@@ -16,4 +16,4 @@ returns-clause-printed c =
           ∙ ap line_of (c.in_ok-push_str.ensures.bytes
           ∙ ap (λ q. string_bytes c.args.lines ++ q) c.as_str.ensures.value);
     })
-    c.ended.ensures.line
+    c.with_line_end.ensures.line

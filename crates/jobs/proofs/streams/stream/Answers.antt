@@ -1,10 +1,10 @@
 use Rattle.std.proofs.Common.{◌≡◌, ◌∙◌, sym, refl, subst, ℕ, List, Option, Bool}
 use Rattle.std.specs.Prelude.{MatchOption}
-use Rattle.input_lines.specs.Left.{left_of}
+use Rattle.input_lines.specs.Remaining.{remaining_of}
 use Rattle.input_lines.specs.Lines.{HasNoLine, TakesLine}
 use Rattle.check_jobs.specs.declared.inputs.Output.{Output}
 use Rattle.sinks.specs.Sent.{state}
-use Rattle.jobs.specs.Answers.{IsAnswer}
+use Rattle.jobs.specs.Answers.{IsLineAnswer}
 use Rattle.jobs.specs.Streams.{IsStopped, stream_of}
 use Rattle.jobs.proofs.Streaming.{IsSoFar, begun, further, in_part, stopped}
 use Rattle.jobs.proofs.streams.stream.Goals as goal
@@ -12,7 +12,7 @@ use Rattle.jobs.proofs.streams.stream.Goals as goal
 -- nothing went out so far
 pub loop-init : goal.loop-init
 loop-init g c = (
-  begun (stream_of c.args.lines.now) (left_of g.R.Read.remaining c.args.input.now)
+  begun (stream_of c.args.lines.now) (remaining_of g.R.Read.remaining c.args.input.now)
       (state (g.S.Sink.taken c.args.sink.now) (g.S.Sink.failed c.args.sink.now)),
   refl,
 )
@@ -21,8 +21,8 @@ loop-init g c = (
 pub returns-in-Err-clause-stopped : goal.returns-in-Err-clause-stopped
 returns-in-Err-clause-stopped g c = λ h.
     let m = stream_of c.args.lines.now in
-    let i = left_of g.R.Read.remaining c.args.input.now in
-    let j = left_of g.R.Read.remaining c.loop.input in
+    let i = remaining_of g.R.Read.remaining c.args.input.now in
+    let j = remaining_of g.R.Read.remaining c.loop.input in
     let a = state (g.S.Sink.taken c.args.sink.now) (g.S.Sink.failed c.args.sink.now) in
     let b = state (g.S.Sink.taken c.loop.sink) (g.S.Sink.failed c.loop.sink) in
     stopped m i j c.loop.progress.sent c.loop.progress.yes a b c.in-Err.fault c.loop.invariant.0 c.in-Err.ensures.ends
@@ -31,15 +31,15 @@ returns-in-Err-clause-stopped g c = λ h.
 pub returns-in-Err-send_answer-clause-device : goal.returns-in-Err-send_answer-clause-device
 returns-in-Err-send_answer-clause-device g c = λ n e.
     let m = stream_of c.args.lines.now in
-    let i = left_of g.R.Read.remaining c.args.input.now in
-    let j = left_of g.R.Read.remaining c.loop.input in
+    let i = remaining_of g.R.Read.remaining c.args.input.now in
+    let j = remaining_of g.R.Read.remaining c.loop.input in
     let a = state (g.S.Sink.taken c.args.sink.now) (g.S.Sink.failed c.args.sink.now) in
     let b = state (g.S.Sink.taken c.loop.sink) (g.S.Sink.failed c.loop.sink) in
-    let k = left_of g.R.Read.remaining c.next_answer.new.input in
+    let k = remaining_of g.R.Read.remaining c.next_answer.new.input in
     let d = state (g.S.Sink.taken c.send_answer.new.sink) (g.S.Sink.failed c.send_answer.new.sink) in
     let o = c.in-Ok-Some.answer in
     let next = subst (λ (x : Option Output). MatchOption x (HasNoLine j) (λ y. (l : List ℕ) × TakesLine j k l
-    × IsAnswer m.command m.program m.types m.ty l y.yes y.octets.items))
+    × IsLineAnswer m.command m.program m.types m.ty l y.yes y.octets.items))
     c.in-Ok-Some.field-0-is c.in-Ok-Some.ensures.answer in
     let part = c.in-Err-send_answer.ensures.device n e in
     in_part m i j k c.loop.progress.sent n part.0 c.loop.progress.yes o.yes a b d next.0 o.octets.items
@@ -49,8 +49,8 @@ returns-in-Err-send_answer-clause-device g c = λ n e.
 pub returns-in-Err-send_answer-clause-stopped : goal.returns-in-Err-send_answer-clause-stopped
 returns-in-Err-send_answer-clause-stopped g c = λ h.
     let m = stream_of c.args.lines.now in
-    let i = left_of g.R.Read.remaining c.args.input.now in
-    let j = left_of g.R.Read.remaining c.loop.input in
+    let i = remaining_of g.R.Read.remaining c.args.input.now in
+    let j = remaining_of g.R.Read.remaining c.loop.input in
     let a = state (g.S.Sink.taken c.args.sink.now) (g.S.Sink.failed c.args.sink.now) in
     let b = state (g.S.Sink.taken c.loop.sink) (g.S.Sink.failed c.loop.sink) in
     let ends = c.in-Err-send_answer.ensures.ends h in
@@ -61,15 +61,15 @@ returns-in-Err-send_answer-clause-stopped g c = λ h.
 pub loop-preserved : goal.loop-preserved
 loop-preserved g c =
     let m = stream_of c.args.lines.now in
-    let i = left_of g.R.Read.remaining c.args.input.now in
-    let j = left_of g.R.Read.remaining c.loop.input in
+    let i = remaining_of g.R.Read.remaining c.args.input.now in
+    let j = remaining_of g.R.Read.remaining c.loop.input in
     let a = state (g.S.Sink.taken c.args.sink.now) (g.S.Sink.failed c.args.sink.now) in
     let b = state (g.S.Sink.taken c.loop.sink) (g.S.Sink.failed c.loop.sink) in
-    let k = left_of g.R.Read.remaining c.next_answer.new.input in
+    let k = remaining_of g.R.Read.remaining c.next_answer.new.input in
     let d = state (g.S.Sink.taken c.send_answer.new.sink) (g.S.Sink.failed c.send_answer.new.sink) in
     let o = c.in-Ok-Some.answer in
     let next = subst (λ (x : Option Output). MatchOption x (HasNoLine j) (λ y. (l : List ℕ) × TakesLine j k l
-    × IsAnswer m.command m.program m.types m.ty l y.yes y.octets.items))
+    × IsLineAnswer m.command m.program m.types m.ty l y.yes y.octets.items))
     c.in-Ok-Some.field-0-is c.in-Ok-Some.ensures.answer in
     let sent = c.in-Ok.ensures.sent in (
       subst (λ (y : Bool). IsSoFar m i k c.in-Ok.progress.sent y a d) (sym c.in-Ok.ensures.yes)
@@ -82,8 +82,8 @@ loop-preserved g c =
 pub returns-clause-stopped : goal.returns-clause-stopped
 returns-clause-stopped g c = λ h.
     let m = stream_of c.args.lines.now in
-    let i = left_of g.R.Read.remaining c.args.input.now in
-    let j = left_of g.R.Read.remaining c.loop.input in
+    let i = remaining_of g.R.Read.remaining c.args.input.now in
+    let j = remaining_of g.R.Read.remaining c.loop.input in
     let a = state (g.S.Sink.taken c.args.sink.now) (g.S.Sink.failed c.args.sink.now) in
     let b = state (g.S.Sink.taken c.loop.sink) (g.S.Sink.failed c.loop.sink) in
     stopped m i j c.loop.progress.sent c.loop.progress.yes a b c.unread.result c.loop.invariant.0 c.unread.ensures

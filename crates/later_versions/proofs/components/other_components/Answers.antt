@@ -1,4 +1,4 @@
-use Rattle.std.proofs.Common.{arith, length, map, subst, sym}
+use Rattle.std.proofs.Common.{arith, map, subst, sym}
 use Rattle.std.proofs.lemmas.List.{length-map}
 use Rattle.std.proofs.lemmas.Option.{slice_get_within}
 use Rattle.asn_base.specs.Seen.{component_of}

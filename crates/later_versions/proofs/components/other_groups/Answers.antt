@@ -2,8 +2,7 @@ use Rattle.std.proofs.Common.{arith, map}
 use Rattle.std.proofs.lemmas.List.{length-map}
 use Rattle.asn_base.specs.Seen.{component_of}
 use Rattle.later_versions.proofs.Fronts.{beq_false, beq_true}
-use Rattle.later_versions.proofs.Joined.{other_grouped, other_joined, same_all, same_next}
-use Rattle.later_versions.proofs.Marks.{not_joined_past}
+use Rattle.later_versions.proofs.Joined.{other_grouped, other_joined, same_next}
 use Rattle.later_versions.proofs.components.other_groups.Goals as goal
 
 pub loop-i-preserved : goal.loop-i-preserved

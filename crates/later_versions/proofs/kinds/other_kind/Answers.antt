@@ -1,13 +1,12 @@
 use Rattle.std.proofs.Common.{ap, map, rules, subst, sym}
 use Rattle.asn_base.specs.Schemas.{GroupsTogether}
 use Rattle.asn_base.specs.Seen.{component_of, kind_of}
-use Rattle.asn_base.specs.Types.{Kind}
 use Rattle.later_versions.specs.Later.{IsLaterKind, later_boolean, later_named_bits, later_null, later_object_identifier, later_relative_oid}
 use Rattle.later_versions.specs.Differences.{KindDiffers, other_bits, other_sequence_marker, other_set_marker}
 use Rattle.later_versions.specs.declared.reason.Reason.TheVariants.{Marker, NamedBits}
 use Rattle.later_versions.proofs.Fronts.{other_beq, same_beq}
 use Rattle.later_versions.proofs.Kindred.{IsJudged, by_equal, by_kind, of_bit_string, of_choice, of_enumerated, of_integer, of_octet_string, of_sequence, of_sequence_of, of_set, of_set_of, of_utf8_string}
-use Rattle.later_versions.proofs.Marks.{bits_distinct, sequence_together, set_together}
+use Rattle.later_versions.proofs.Marks.{sequence_together, set_together}
 use Rattle.later_versions.proofs.kinds.other_kind.Goals as goal
 
 pub returns-in-Boolean-other : goal.returns-in-Boolean-other

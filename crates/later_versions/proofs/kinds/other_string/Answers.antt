@@ -1,7 +1,6 @@
 use Rattle.std.proofs.Common.{ap, refl, rules, ◌∙◌, sym}
 use Rattle.asn_base.specs.Seen.{kind_of}
-use Rattle.later_versions.specs.Differences.{IsOneKind, KindDiffers, other_alphabet, other_kind}
-use Rattle.later_versions.specs.declared.reason.Reason.TheVariants.{Alphabet, Kind}
+use Rattle.later_versions.specs.Differences.{other_kind}
 use Rattle.later_versions.proofs.Kindred.{IsJudged, by_equal, by_kind, of_restricted_string, one_string_kind, other_codes}
 use Rattle.later_versions.proofs.kinds.other_string.Goals as goal
 

@@ -1,4 +1,4 @@
-use Rattle.std.proofs.Common.{arith, inl, inr, map, length, ◌≡◌, ◌<◌, ◌≤◌}
+use Rattle.std.proofs.Common.{arith, inl, inr, map}
 use Rattle.std.proofs.lemmas.List.{length-map}
 use Rattle.asn_base.specs.Seen.{item_of}
 use Rattle.later_versions.specs.Differences.{other_addition, other_marker, other_root}

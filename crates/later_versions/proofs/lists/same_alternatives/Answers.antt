@@ -1,4 +1,4 @@
-use Rattle.std.proofs.Common.{arith, ◌≡◌, ◌<◌, ◌≤◌, inl, inr, length, map, subst}
+use Rattle.std.proofs.Common.{arith, ◌≡◌, ◌<◌, inl, inr, length, map, subst}
 use Rattle.asn_base.specs.Seen.{alternative_of}
 use Rattle.later_versions.specs.Differences.{AreSameTo}
 use Rattle.later_versions.proofs.Fronts.{front_next, same_to_end, same_to_other}

@@ -1,7 +1,7 @@
 use Rattle.std.proofs.Common.{length, sym, ap, ◌∙◌}
 use Rattle.std.proofs.lemmas.List.{length-map}
 use Rattle.asn_base.specs.Seen.{resolved_of}
-use Rattle.later_versions.specs.Kept.{members_of}
+use Rattle.later_versions.specs.Projected.{members_of}
 use Rattle.later_versions.proofs.Places.{none_got}
 use Rattle.later_versions.proofs.members.member_or_none.Goals as goal
 

@@ -1,7 +1,6 @@
-use Rattle.std.proofs.Common.{arith, ap, sym, ◌∙◌, ◌++◌, ◌∷◌, [], ◌<◌, ◌≡◌, List, ℕ, Some, reverse, append_assoc, subst}
+use Rattle.std.proofs.Common.{arith, ap, sym, ◌∙◌, ◌++◌, ◌∷◌, [], ◌≡◌, Some, reverse, append_assoc, subst}
 use Rattle.std.specs.Prelude.{slice_get}
 use Rattle.std.proofs.lemmas.List.{append-nil, reverse-append}
-use Rattle.std.proofs.lemmas.Option.{same_Some}
 use Rattle.later_versions.proofs.Fronts.{got}
 use Rattle.later_versions.proofs.pairs.places_to.Goals as goal
 

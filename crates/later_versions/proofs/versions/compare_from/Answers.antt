@@ -1,7 +1,7 @@
-use Rattle.std.proofs.Common.{arith, map, ap, refl, ◌∙◌, ◌++◌, ◌∷◌, [], ◌≡◌, ◌<◌, length, subst, sym}
+use Rattle.std.proofs.Common.{arith, map, ap, refl, ◌≡◌, ◌<◌, length, subst, sym}
 use Rattle.std.specs.Prelude.{slice_get, Some}
 use Rattle.std.proofs.lemmas.List.{length-map}
-use Rattle.later_versions.specs.proving.Pairs.{AreBack, AreLed, ArePaths, met, met_pair, pair_of}
+use Rattle.later_versions.specs.proving.Pairs.{AreBack, AreLed, ArePaths, met, met_pair}
 use Rattle.later_versions.proofs.Fronts.{mapped_at}
 use Rattle.later_versions.proofs.Pairing.{all_fine, first_noted, members_met, members_noted, met_more, reached_first, reached_next}
 use Rattle.later_versions.proofs.Tracking.{if_ok, later_before, tracked_first, tracked_next}
@@ -9,7 +9,7 @@ use Rattle.later_versions.proofs.versions.compare_from.Goals as goal
 
 pub loop-at-init : goal.loop-at-init
 loop-at-init c =
-    let only = first_noted c.new.result.items c.note.new.pairs (record { pair = c.args.start; from = 0; place = 0 }) c.new.ensures.items c.in_ok-note.ensures.noted c.in_ok-note.ensures.stands in (
+    let only = first_noted c.new.result.items c.note.new.pairs (record { pair = c.args.start; from = 0; place = 0 }) c.new.ensures.items c.in_ok-note.ensures.noted c.in_ok-note.ensures.is_met in (
       c.in_ok-note.ensures.known,
       reached_first c.args.first.now c.args.start.first.index c.args.second.now c.args.start.second.index (met c.note.new.pairs) (ap (map met_pair) only),
       tracked_first c.args.first.now c.args.start.first.index c.args.second.now c.args.start.second.index c.note.new.pairs.list.items (record { pair = c.args.start; from = 0; place = 0 }) only refl,

@@ -1,6 +1,6 @@
 use Rattle.std.proofs.Common.{arith, inl, inr, refl, sym, ap, ◌∙◌}
 use Rattle.std.specs.Prelude.{option_map}
-use Rattle.later_versions.specs.Kept.{members_of}
+use Rattle.later_versions.specs.Projected.{members_of}
 use Rattle.later_versions.specs.proving.Pairs.{pair_of}
 use Rattle.later_versions.proofs.Few.{few_members}
 use Rattle.later_versions.proofs.Places.{past_end}
@@ -25,11 +25,11 @@ loop-place-preserved c =
     (record { pair = record { first = c.in-Some-Some.one; second = c.in-Some-Some.other }; from = c.args.at; place = c.loop-place.place })
     c.args.pairs.now c.loop-place.pairs c.note.new.pairs c.loop-place.place
     (refl, (sym c.in-Some-Some.ensures, sym c.in-Some-Some.ensures')) refl
-    c.in_ok-note-in-Some-Some.ensures.known c.in_ok-note-in-Some-Some.ensures.stands c.in_ok-note-in-Some-Some.ensures.noted c.loop-place.invariant
+    c.in_ok-note-in-Some-Some.ensures.known c.in_ok-note-in-Some-Some.ensures.is_met c.in_ok-note-in-Some-Some.ensures.noted c.loop-place.invariant
 
 pub returns-clause-noted : goal.returns-clause-noted
 returns-clause-noted c =
-    let l = few_members c.args.first.now c.args.pair.first.index c.accepted.ensures in
+    let l = few_members c.args.first.now c.args.pair.first.index c.lemma_invariant.ensures in
     let m = c.loop-place-test.false in
     noted_all c.args.first.now c.args.second.now c.args.at (pair_of c.args.pair) c.args.pairs.now c.loop-place.pairs c.loop-place.place
     (inl (past_end (members_of c.args.first.now c.args.pair.first.index) c.loop-place.place (omega (arith, l, m)))) c.loop-place.invariant

@@ -7,7 +7,7 @@ use Rattle.grammar.specs.Places.{small}
 use Rattle.trees.specs.Modules.{import_of}
 use Rattle.module_head.specs.ImportReading.{begins_symbol, import_from_at}
 use Rattle.module_head.proofs.Imported.{import_consumes}
-use Rattle.kernel.specs.Failing.{many_gives_up}
+use Rattle.parser_combinators.specs.Failing.{many_gives_up}
 use Rattle.module_head.proofs.importing.many.Goals as goal
 
 pub returns-in_err-next-clause-read : goal.returns-in_err-next-clause-read

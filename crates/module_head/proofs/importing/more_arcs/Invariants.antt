@@ -2,7 +2,7 @@ use Rattle.std.proofs.Common.{◌≡◌, length, List}
 use Rattle.grammar.specs.Lexeme.{lexemes}
 use Rattle.grammar.specs.Reading.{many_at}
 use Rattle.grammar.specs.Places.{small}
-use Rattle.kernel.specs.Given.{AreTokens}
+use Rattle.parser_combinators.specs.Given.{AreTokens}
 use Rattle.grammar.specs.Rules.{made}
 use Rattle.module_head.specs.ImportReading.{begins_arc, arc_at, more_arcs_at}
 use Rattle.module_head.proofs.importing.more_arcs.Given as goal

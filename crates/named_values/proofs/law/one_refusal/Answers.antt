@@ -17,16 +17,16 @@ pub returns-clause-name_or_text : goal.returns-clause-name_or_text
 returns-clause-name_or_text c = λ p first second x f a b. name_or_text p first second x f a.1 b
 
 pub returns-clause-octets_before_notation : goal.returns-clause-octets_before_notation
-returns-clause-octets_before_notation c = λ p first second f t a b. octets_refused c.wrong_texts_are_none.ensures p first second b.within b.notation f b.named.given a
+returns-clause-octets_before_notation c = λ p first second f t a b. octets_refused c.lemma_wrong_texts_are_none.ensures p first second b.within b.notation f b.named.given a
 
 pub returns-clause-tokens_before_notation : goal.returns-clause-tokens_before_notation
-returns-clause-tokens_before_notation c = λ p first second f t a b. tokens_refused c.wrong_texts_are_none.ensures p first second b.within b.notation f b.named.given a
+returns-clause-tokens_before_notation c = λ p first second f t a b. tokens_refused c.lemma_wrong_texts_are_none.ensures p first second b.within b.notation f b.named.given a
 
 pub returns-clause-one_text : goal.returns-clause-one_text
-returns-clause-one_text c = one_text c.one_fault.ensures
+returns-clause-one_text c = one_text c.lemma_one_fault.ensures
 
 pub returns-clause-one_tree : goal.returns-clause-one_tree
-returns-clause-one_tree c = one_tree c.one_fault.ensures
+returns-clause-one_tree c = one_tree c.lemma_one_fault.ensures
 
 pub returns-clause-octets_before_tokens : goal.returns-clause-octets_before_tokens
-returns-clause-octets_before_tokens c = octets_or_tokens c.one_fault.ensures
+returns-clause-octets_before_tokens c = octets_or_tokens c.lemma_one_fault.ensures

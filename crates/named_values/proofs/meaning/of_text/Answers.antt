@@ -7,7 +7,7 @@ returns-in-Err-clause-refused c =
 
 pub returns-clause-refused : goal.returns-clause-refused
 returns-clause-refused c =
-    let same = rw c.in-Err-Told.field-0-is at c.in-Err-Told.ensures.fault in
+    let same = rw c.in-Err-Diagnosed.field-0-is at c.in-Err-Diagnosed.ensures.fault in
     c.placed.ensures c.args.ty.now c.module_in-within.ensures (record {
       type = c.args.id.index;
       within = c.module_in-within.result.now;

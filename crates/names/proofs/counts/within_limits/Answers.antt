@@ -1,7 +1,7 @@
 use Rattle.std.proofs.Common.{arith, ◌≡◌, ◌<◌, length, sym, ap, ◌∙◌}
 use Rattle.trees.specs.Values.{name_at}
 use Rattle.trees.specs.Modules.{module_tree_of}
-use Rattle.names.specs.Faults.{module_told, name_told}
+use Rattle.names.specs.Faults.{fault_module, fault_name}
 use Rattle.names.specs.proving.Distinct.{item_at}
 use Rattle.names.proofs.counts.within_limits.Goals as goal
 
@@ -11,9 +11,9 @@ returns-then-modules-gt-MAX_MODULES-clause-fault c =
     let m = c.index-modules-256.result in
     let there : 256 < length ms = omega arith in
     let back = ap (λ z. name_at z.name) (sym c.index-modules-256.is) in
-    let e = c.in_ok-spot.ensures in
-    let within : module_told c.in_ok-spot.field-0 ≡ name_at m.name = e.within ∙ c.as_str.ensures.value ∙ back in
-    let name : name_told c.in_ok-spot.field-0 ≡ name_at m.name = e.name ∙ c.as_str-then-modules-gt-MAX_MODULES.ensures.value ∙ back in
+    let e = c.in_ok-source_location.ensures in
+    let within : fault_module c.in_ok-source_location.field-0 ≡ name_at m.name = e.within ∙ c.as_str.ensures.value ∙ back in
+    let name : fault_name c.in_ok-source_location.field-0 ≡ name_at m.name = e.name ∙ c.as_str-then-modules-gt-MAX_MODULES.ensures.value ∙ back in
     record {
       tree = module_tree_of m;
       there = item_at module_tree_of ms 256 m there c.index-modules-256.is;

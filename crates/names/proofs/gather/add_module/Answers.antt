@@ -3,7 +3,7 @@ use Rattle.std.proofs.lemmas.List.{map-append}
 use Rattle.trees.specs.Values.{name_at}
 use Rattle.trees.specs.Modules.{module_tree_of}
 use Rattle.names.specs.declared.fault.NameFault.TheVariants as faults
-use Rattle.names.specs.Modules.{StandsTwice}
+use Rattle.names.specs.Modules.{OccursTwice}
 use Rattle.names.specs.proving.Gathering.{Adds}
 use Rattle.names.specs.Names.{under}
 use Rattle.names.specs.Scopes.{module_of, scopes}
@@ -18,8 +18,8 @@ returns-in-Some-clause-fault c = λ ms rest h.
     let t = module_tree_of c.args.given in
     let ss = scopes c.args.gathered.now.modules.entries in
     let u : under t.name ss ≡ Some (module_of c.in-Some.field-0.now) = ap (λ z. under z ss) (sym c.as_str.ensures.value) ∙ sym c.scope_of.ensures ∙ ap (option_map (λ s. module_of s.now)) c.in-Some.is in
-    let e = c.in_ok-told-in-Some.ensures in
-    inl (e.within ∙ c.as_str-in-Some.ensures.value ∙ sym (e.name ∙ c.as_str-in-Some-2.ensures.value), subst (λ z. StandsTwice (map (λ m. m.name) (ms ++ t ∷ rest)) z) (sym (e.name ∙ c.as_str-in-Some-2.ensures.value)) (module_twice ms rest t c.args.gathered.now (module_of c.in-Some.field-0.now) h u))
+    let e = c.in_ok-reported-in-Some.ensures in
+    inl (e.within ∙ c.as_str-in-Some.ensures.value ∙ sym (e.name ∙ c.as_str-in-Some-2.ensures.value), subst (λ z. OccursTwice (map (λ m. m.name) (ms ++ t ∷ rest)) z) (sym (e.name ∙ c.as_str-in-Some-2.ensures.value)) (module_twice ms rest t c.args.gathered.now (module_of c.in-Some.field-0.now) h u))
 
 pub returns-in_ok-insert-in-Ok-clause-ok : goal.returns-in_ok-insert-in-Ok-clause-ok
 returns-in_ok-insert-in-Ok-clause-ok c = λ ms h.
@@ -42,8 +42,8 @@ returns-in-Some-clause-first c = λ ms rest h.
     let t = module_tree_of c.args.given in
     let ss = scopes c.args.gathered.now.modules.entries in
     let u : under t.name ss ≡ Some (module_of c.in-Some.field-0.now) = ap (λ z. under z ss) (sym c.as_str.ensures.value) ∙ sym c.scope_of.ensures ∙ ap (option_map (λ s. module_of s.now)) c.in-Some.is in
-    let e = c.in_ok-told-in-Some.ensures in
-    module_first ms rest t c.args.gathered.now h (faults.Twice c.in_ok-told-in-Some.told) (module_of c.in-Some.field-0.now) u (e.within ∙ c.as_str-in-Some.ensures.value, e.name ∙ c.as_str-in-Some-2.ensures.value)
+    let e = c.in_ok-reported-in-Some.ensures in
+    module_first ms rest t c.args.gathered.now h (faults.Twice c.in_ok-reported-in-Some.reported) (module_of c.in-Some.field-0.now) u (e.within ∙ c.as_str-in-Some.ensures.value, e.name ∙ c.as_str-in-Some-2.ensures.value)
 
 pub returns-in-Err-clause-first : goal.returns-in-Err-clause-first
 returns-in-Err-clause-first c = λ ms rest h.

@@ -2,7 +2,7 @@ use Rattle.std.proofs.Common.{rules, ◌≡◌, ◌++◌, ◌∷◌, [], Some, N
 use Rattle.trees.specs.Values.{name_at}
 use Rattle.names.specs.Names.{names_of, under}
 use Rattle.names.specs.Scopes.{origin_of, meanings, origins}
-use Rattle.names.specs.proving.Distinct.{stands_left, stands_right, name_under}
+use Rattle.names.specs.proving.Distinct.{occurs_left, occurs_right, name_under}
 use Rattle.names.proofs.Entries.{inserted}
 use Rattle.names.proofs.gather.import_once.Goals as goal
 
@@ -12,16 +12,16 @@ returns-in-Some-clause-fault c =
     let as' = meanings c.args.assigned.now.entries in
     let is = origins c.args.imports.now.entries in
     let u : under x as' ≡ Some c.in-Some.given.now.it = ap (λ z. under z as') (sym c.as_str.ensures.value) ∙ sym c.given_in.ensures ∙ ap (option_map (λ a. a.now.it)) c.in-Some.is in
-    (c.in_ok-spot-in-Some.ensures.within, c.in_ok-spot-in-Some.ensures.name ∙ c.as_str-in-Some.ensures.value, stands_left (names_of as') (names_of is) x (name_under x as' c.in-Some.given.now.it u))
+    (c.in_ok-source_location-in-Some.ensures.within, c.in_ok-source_location-in-Some.ensures.name ∙ c.as_str-in-Some.ensures.value, occurs_left (names_of as') (names_of is) x (name_under x as' c.in-Some.given.now.it u))
 
-pub returns-in_ok-spot-in-Some-origin_in-clause-fault : goal.returns-in_ok-spot-in-Some-origin_in-clause-fault
-returns-in_ok-spot-in-Some-origin_in-clause-fault c =
+pub returns-in_ok-source_location-in-Some-origin_in-clause-fault : goal.returns-in_ok-source_location-in-Some-origin_in-clause-fault
+returns-in_ok-source_location-in-Some-origin_in-clause-fault c =
     let x = name_at c.args.name in
     let as' = meanings c.args.assigned.now.entries in
     let is = origins c.args.imports.now.entries in
     let o = origin_of c.in-Some-origin_in.field-0.now in
     let u : under x is ≡ Some o = ap (λ z. under z is) (sym c.as_str-2.ensures.value) ∙ sym c.origin_in.ensures ∙ ap (option_map (λ t. origin_of t.now)) c.in-Some-origin_in.is in
-    (c.in_ok-spot-in-Some-origin_in.ensures.within, c.in_ok-spot-in-Some-origin_in.ensures.name ∙ c.as_str-in-Some-origin_in.ensures.value, stands_right (names_of as') (names_of is) x (name_under x is o u))
+    (c.in_ok-source_location-in-Some-origin_in.ensures.within, c.in_ok-source_location-in-Some-origin_in.ensures.name ∙ c.as_str-in-Some-origin_in.ensures.value, occurs_right (names_of as') (names_of is) x (name_under x is o u))
 
 pub returns-in_ok-insert-in-None-origin_in-clause-ok : goal.returns-in_ok-insert-in-None-origin_in-clause-ok
 returns-in_ok-insert-in-None-origin_in-clause-ok c =

@@ -5,10 +5,10 @@ use Rattle.names.specs.Scopes.{meanings}
 use Rattle.names.proofs.Entries.{inserted}
 use Rattle.names.proofs.gather.name_once.Goals as goal
 
-pub returns-in_ok-spot-in-Some-clause-fault : goal.returns-in_ok-spot-in-Some-clause-fault
-returns-in_ok-spot-in-Some-clause-fault c =
+pub returns-in_ok-source_location-in-Some-clause-fault : goal.returns-in_ok-source_location-in-Some-clause-fault
+returns-in_ok-source_location-in-Some-clause-fault c =
     let as' = meanings c.args.assigned.now.entries in
-    let e = c.in_ok-spot-in-Some.ensures in
+    let e = c.in_ok-source_location-in-Some.ensures in
     let u : under (name_at c.args.name.now) as' ≡ Some c.in-Some.field-0.now.it = ap (λ z. under z as') (sym c.as_str-text.ensures.value) ∙ sym c.given_in.ensures ∙ ap (option_map (λ a. a.now.it)) c.in-Some.is in
     (e.within, e.name ∙ c.as_str-text.ensures.value, c.in-Some.field-0.now.it, u)
 

@@ -4,7 +4,7 @@ use Rattle.names.specs.proving.Gathering.{IsRepeated}
 use Rattle.names.specs.Names.{names_of}
 use Rattle.names.specs.Modules.{name_of, imports_of, AreDistinct}
 use Rattle.names.specs.Scopes.{meanings}
-use Rattle.names.proofs.Behind.{names_named}
+use Rattle.names.proofs.After.{names_named}
 use Rattle.names.proofs.Gatherings.{repeated_more}
 use Rattle.names.proofs.gather.scope_from.Goals as goal
 

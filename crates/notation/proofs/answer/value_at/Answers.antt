@@ -5,15 +5,15 @@ use Rattle.grammar.specs.Places.{small, bounded}
 use Rattle.grammar.specs.Texts.{found, rest_fits, left_fits, first, passes, same_found, never_found}
 use Rattle.trees.specs.Values.{tree_of}
 use Rattle.notation.specs.Value.{values}
-use Rattle.kernel.specs.Given.{limit_of}
+use Rattle.parser_combinators.specs.Given.{limit_of}
 use Rattle.notation.specs.Reading.{value_at}
 use Rattle.notation.proofs.Places.{value_reads}
 use Rattle.notation.proofs.Answered.{are_tokens, slice_tokens}
-use Rattle.notation.specs.Laws.{first_stands}
+use Rattle.notation.specs.Laws.{fault_at_first}
 use Rattle.notation.proofs.answer.value_at.Goals as goal
 
 pub value-requires : goal.value-requires
-value-requires c = record { tokens = slice_tokens c.args.text.now c.args.place c.args.tokens.now (are_tokens c.spans_within.ensures c.args.text.now c.args.tokens.now c.requires.text) }
+value-requires c = record { tokens = slice_tokens c.args.text.now c.args.place c.args.tokens.now (are_tokens c.lemma_spans_within.ensures c.args.text.now c.args.tokens.now c.requires.text) }
 
 pub overflow_sub-result : goal.overflow_sub-result
 overflow_sub-result c =
@@ -56,7 +56,7 @@ returns-in-Err-Unexpected-clause-fault c =
     let n = 128 - c.args.opened in
     let e = c.in-Err-Unexpected in
     let h = rw e.field-0-is at e.ensures.read in
-    first_stands values (lexemes c.args.text.now c.args.tokens.now) c.args.place (bounded n) (length c.args.tokens.now - e.left) c.unexpected.result (c.unexpected.ensures c.args.text.now)
+    fault_at_first values (lexemes c.args.text.now c.args.tokens.now) c.args.place (bounded n) (length c.args.tokens.now - e.left) c.unexpected.result (c.unexpected.ensures c.args.text.now)
     (first values (bounded n) (value_at small n) (value_reads n) c.args.text.now c.args.tokens.now c.args.place c.requires.place e.left h)
 
 pub returns-in-Err-Limit-clause-only : goal.returns-in-Err-Limit-clause-only

@@ -4,8 +4,8 @@ use Rattle.grammar.specs.Reading.{Unexpected, Beyond}
 use Rattle.grammar.specs.Places.{small, bounded}
 use Rattle.grammar.specs.Answers.{Reads}
 use Rattle.grammar.specs.Texts.{found, rest_fits, left_fits, first, passes, same_found, never_found}
-use Rattle.notation.specs.Laws.{first_stands}
-use Rattle.kernel.specs.Given.{limit_of}
+use Rattle.notation.specs.Laws.{fault_at_first}
+use Rattle.parser_combinators.specs.Given.{limit_of}
 use Rattle.trees.specs.Constraints.{constraint_of}
 use Rattle.notation.specs.ConstraintGrammar.{constraint, flat}
 use Rattle.notation.specs.ConstraintReading.{constraint_at}
@@ -18,7 +18,7 @@ constraint_reads : Reads (flat constraint) (bounded 0) (constraint_at small)
 constraint_reads = flat_reads constraint is_open constraint_at constraint_ruled constraint_grows
 
 pub constraint-requires : goal.constraint-requires
-constraint-requires c = record { tokens = slice_tokens c.args.text.now c.args.place c.args.tokens.now (are_tokens c.spans_within.ensures c.args.text.now c.args.tokens.now c.requires.text) }
+constraint-requires c = record { tokens = slice_tokens c.args.text.now c.args.place c.args.tokens.now (are_tokens c.lemma_spans_within.ensures c.args.text.now c.args.tokens.now c.requires.text) }
 
 pub overflow_sub-result : goal.overflow_sub-result
 overflow_sub-result c = rest_fits (flat constraint) (bounded 0) (constraint_at small) constraint_reads c.args.text.now c.args.tokens.now c.args.place c.requires.place (constraint_of c.in-Ok.constraint) c.in-Ok.rest.now c.in-Ok.ensures.read
@@ -51,7 +51,7 @@ pub returns-in-Err-Unexpected-clause-fault : goal.returns-in-Err-Unexpected-clau
 returns-in-Err-Unexpected-clause-fault c =
     let e = c.in-Err-Unexpected in
     let h = rw e.field-0-is at e.ensures.read in
-    first_stands (flat constraint) (lexemes c.args.text.now c.args.tokens.now) c.args.place (bounded 0) (length c.args.tokens.now - e.left) c.unexpected.result (c.unexpected.ensures c.args.text.now)
+    fault_at_first (flat constraint) (lexemes c.args.text.now c.args.tokens.now) c.args.place (bounded 0) (length c.args.tokens.now - e.left) c.unexpected.result (c.unexpected.ensures c.args.text.now)
     (first (flat constraint) (bounded 0) (constraint_at small) constraint_reads c.args.text.now c.args.tokens.now c.args.place c.requires.place e.left h)
 
 pub returns-in-Err-Limit-clause-only : goal.returns-in-Err-Limit-clause-only

@@ -4,8 +4,8 @@ use Rattle.grammar.specs.Reading.{Unexpected, Beyond}
 use Rattle.grammar.specs.Places.{small, bounded}
 use Rattle.grammar.specs.Answers.{Reads}
 use Rattle.grammar.specs.Texts.{found, rest_fits, left_fits, first, passes, same_found, never_found}
-use Rattle.notation.specs.Laws.{first_stands}
-use Rattle.kernel.specs.Given.{limit_of}
+use Rattle.notation.specs.Laws.{fault_at_first}
+use Rattle.parser_combinators.specs.Given.{limit_of}
 use Rattle.trees.specs.Constraints.{constraint_of}
 use Rattle.notation.specs.ConstraintGrammar.{size, flat}
 use Rattle.notation.specs.ConstraintReading.{is_size, size_at}
@@ -17,7 +17,7 @@ size_reads : Reads (flat size) (bounded 0) (size_at small)
 size_reads = flat_reads size is_size size_at size_ruled size_grows
 
 pub size-requires : goal.size-requires
-size-requires c = record { tokens = slice_tokens c.args.text.now c.args.place c.args.tokens.now (are_tokens c.spans_within.ensures c.args.text.now c.args.tokens.now c.requires.text) }
+size-requires c = record { tokens = slice_tokens c.args.text.now c.args.place c.args.tokens.now (are_tokens c.lemma_spans_within.ensures c.args.text.now c.args.tokens.now c.requires.text) }
 
 pub overflow_sub-result : goal.overflow_sub-result
 overflow_sub-result c = rest_fits (flat size) (bounded 0) (size_at small) size_reads c.args.text.now c.args.tokens.now c.args.place c.requires.place (constraint_of c.in-Ok.size) c.in-Ok.rest.now c.in-Ok.ensures.read
@@ -50,7 +50,7 @@ pub returns-in-Err-Unexpected-clause-fault : goal.returns-in-Err-Unexpected-clau
 returns-in-Err-Unexpected-clause-fault c =
     let e = c.in-Err-Unexpected in
     let h = rw e.field-0-is at e.ensures.read in
-    first_stands (flat size) (lexemes c.args.text.now c.args.tokens.now) c.args.place (bounded 0) (length c.args.tokens.now - e.left) c.unexpected.result (c.unexpected.ensures c.args.text.now)
+    fault_at_first (flat size) (lexemes c.args.text.now c.args.tokens.now) c.args.place (bounded 0) (length c.args.tokens.now - e.left) c.unexpected.result (c.unexpected.ensures c.args.text.now)
     (first (flat size) (bounded 0) (size_at small) size_reads c.args.text.now c.args.tokens.now c.args.place c.requires.place e.left h)
 
 pub returns-in-Err-Limit-clause-only : goal.returns-in-Err-Limit-clause-only

@@ -11,8 +11,8 @@ decreases-step l = 5 * l.depth + 1
 abbrev pub decreases-value : goal.decreases-value
 decreases-value l = 5 * l.depth + 2
 
-abbrev pub decreases-listed-reads_by : goal.decreases-listed-reads_by
-decreases-listed-reads_by l = 5 * l.depth + 3
+abbrev pub decreases-listed-fn_parser : goal.decreases-listed-fn_parser
+decreases-listed-fn_parser l = 5 * l.depth + 3
 
 abbrev pub decreases-listed : goal.decreases-listed
 decreases-listed l = 5 * l.depth + 4

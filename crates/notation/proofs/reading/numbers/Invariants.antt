@@ -2,7 +2,7 @@ use Rattle.std.proofs.Common.{◌≡◌, [], ◌∷◌, length}
 use Rattle.grammar.specs.Lexeme.{lexemes}
 use Rattle.grammar.specs.Reading.{with_front}
 use Rattle.grammar.specs.Places.{small}
-use Rattle.kernel.specs.Given.{AreTokens}
+use Rattle.parser_combinators.specs.Given.{AreTokens}
 use Rattle.notation.specs.Reading.{numbers_at}
 use Rattle.notation.proofs.reading.numbers.Given as goal
 

@@ -1,4 +1,5 @@
-use Rattle.packed_encodings.specs.Packing.{exact, IsEncoding}
+use Rattle.packed_encodings.specs.Packing.{exact}
+use Rattle.packed_encodings.specs.Computed.{IsEncoding}
 use Rattle.packed_encodings.proofs.Sorting.{filled}
 use Rattle.packed_encodings.proofs.Theorems.{none_begins_another}
 use Rattle.packed_encodings.proofs.Computing.{sized_is, counted_is, open_is, padded_computed}

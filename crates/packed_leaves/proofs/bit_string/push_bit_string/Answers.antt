@@ -4,7 +4,7 @@ use Rattle.asn_base.specs.Abstract.{bits_of}
 use Rattle.asn_base.specs.Schemas.{IsSize}
 use Rattle.asn_base.specs.Seen.{constraint_of}
 use Rattle.asn_base.specs.Types.{a_bit_string}
-use Rattle.asn_base.specs.Typed.{Fits, IsAllowedSize}
+use Rattle.asn_base.specs.Typed.{IsPrimitive, IsAllowedSize}
 use Rattle.std.specs.Int.Digits.{AllBelowBase}
 use Rattle.bits.specs.Words.{octet_bits}
 use Rattle.packed_counts.specs.Counts.{Adds}
@@ -23,7 +23,7 @@ push_size-requires-clause-least c = has_least (constraint_of c.args.size.now) c.
 pub push_size-requires-clause-allowed : goal.push_size-requires-clause-allowed
 push_size-requires-clause-allowed c =
     in_bounds IsSize (constraint_of c.args.size.now) (pos c.in_ok-count.count) c.requires.bounds tt
-    (subst (IsAllowedSize (constraint_of c.args.size.now)) (sym c.in_ok-count.ensures.count) (bits_allowed (subst (Fits (a_bit_string (constraint_of c.args.size.now))) c.bit_string-bits.ensures c.requires.fits)))
+    (subst (IsAllowedSize (constraint_of c.args.size.now)) (sym c.in_ok-count.ensures.count) (bits_allowed (subst (IsPrimitive (a_bit_string (constraint_of c.args.size.now))) c.bit_string-bits.ensures c.requires.fits)))
 
 pub returns-in_ok-push_first : goal.returns-in_ok-push_first
 returns-in_ok-push_first c =

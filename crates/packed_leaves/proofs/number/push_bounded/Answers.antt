@@ -3,7 +3,7 @@ use Rattle.std.proofs.Common.{◌≡◌, true, false, subst, sym}
 use Rattle.std.proofs.lemmas.Int.{to_z-of_z}
 use Rattle.asn_base.specs.Seen.{bounds_of}
 use Rattle.packed_counts.specs.Counts.{Adds}
-use Rattle.packed_encodings.specs.Lengths.{IsInRoot}
+use Rattle.packed_encodings.specs.Lengths.{IsInRootBounds}
 use Rattle.packed_encodings.specs.Numbers.{IntegerInRoot}
 use Rattle.packed_leaves.specs.proving.Contents.{AddsNumber}
 use Rattle.packed_leaves.proofs.Numbers.{plain, inside, outside}
@@ -22,6 +22,6 @@ returns-in_ok-push_in_root-2 c =
 pub returns-in_ok-push_signed : goal.returns-in_ok-push_signed
 returns-in_ok-push_signed c =
     outside (bounds_of c.args.bounds.now) c.args.number c.args.out.now c.push-else-is_in_root.new.self c.push_signed.new.out c.if-not-bounds.false
-    (λ h. (let e : false ≡ true = c.if-is_in_root.ensures.1 (subst (IsInRoot (bounds_of c.args.bounds.now)) (sym (to_z-of_z w128 c.args.number c.ranges.number)) h) in cc))
+    (λ h. (let e : false ≡ true = c.if-is_in_root.ensures.1 (subst (IsInRootBounds (bounds_of c.args.bounds.now)) (sym (to_z-of_z w128 c.args.number c.ranges.number)) h) in cc))
     c.in_ok-push-2.ensures.ok
     (subst (λ q. AddsNumber q c.push-else-is_in_root.new.self c.push_signed.new.out) (to_z-of_z w128 c.args.number c.ranges.number) c.in_ok-push_signed.ensures)

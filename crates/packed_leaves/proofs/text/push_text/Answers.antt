@@ -2,7 +2,7 @@ use Rattle.std.proofs.Common.{length, pos, subst}
 use Rattle.asn_base.specs.Schemas.{IsSize}
 use Rattle.asn_base.specs.Seen.{constraint_of}
 use Rattle.asn_base.specs.Types.{a_restricted_string}
-use Rattle.asn_base.specs.Typed.{Fits}
+use Rattle.asn_base.specs.Typed.{IsPrimitive}
 use Rattle.packed_leaves.proofs.Bounds.{has_least, in_bounds}
 use Rattle.packed_leaves.proofs.Values.{text_allowed}
 use Rattle.packed_leaves.proofs.Texts.{few_codes}
@@ -17,4 +17,4 @@ push_size-requires-clause-least c = has_least (constraint_of c.args.size.now) c.
 pub push_size-requires-clause-allowed : goal.push_size-requires-clause-allowed
 push_size-requires-clause-allowed c =
     in_bounds IsSize (constraint_of c.args.size.now) (pos (length c.text-text.result.now)) c.requires.bounds tt
-    (text_allowed (subst (Fits (a_restricted_string c.args.kind c.args.codes.now (constraint_of c.args.size.now))) c.text-text.ensures c.requires.fits))
+    (text_allowed (subst (IsPrimitive (a_restricted_string c.args.kind c.args.codes.now (constraint_of c.args.size.now))) c.text-text.ensures c.requires.fits))

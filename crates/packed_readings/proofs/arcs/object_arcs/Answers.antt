@@ -1,6 +1,6 @@
 use Rattle.std.proofs.Common.{◌∷◌, [], ◌++◌, ap, sym, subst, ◌∙◌}
-use Rattle.leaf_readings.specs.Arcs.{Front}
-use Rattle.packed_readings.proofs.Adding.{parts_of, never_great, never_none}
+use Rattle.primitive_reader.specs.Arcs.{Front}
+use Rattle.primitive_reader.specs.proving.Adding.{parts_of, never_great, never_none}
 use Rattle.packed_readings.proofs.arcs.object_arcs.Goals as goal
 
 pub returns-in-Some-None-default : goal.returns-in-Some-None-default
@@ -11,14 +11,14 @@ pub returns-in-None : goal.returns-in-None
 returns-in-None c ns i e = absurd (never_none i e c.in-None.ensures.none)
 
 pub parted-first-requires : goal.parted-first-requires
-parted-first-requires c = let r = c.requires in (parts_of c.in-Some-Some-default.number r.1 r.2 (subst (λ q. Front q c.in-Some-Some-default.behind.now c.args.octets.now) c.in-Some-Some-default.field-0-0-is c.in-Some-Some-default.ensures.some)).below
+parted-first-requires c = let r = c.requires in (parts_of c.in-Some-Some-default.number r.1 r.2 (subst (λ q. Front q c.in-Some-Some-default.following.now c.args.octets.now) c.in-Some-Some-default.field-0-0-is c.in-Some-Some-default.ensures.some)).below
 
 pub push_arcs-requires : goal.push_arcs-requires
-push_arcs-requires c = let r = c.requires in let p = parts_of c.in-Some-Some-default.number r.1 r.2 (subst (λ q. Front q c.in-Some-Some-default.behind.now c.args.octets.now) c.in-Some-Some-default.field-0-0-is c.in-Some-Some-default.ensures.some) in (p.others, p.small, p.spelled)
+push_arcs-requires c = let r = c.requires in let p = parts_of c.in-Some-Some-default.number r.1 r.2 (subst (λ q. Front q c.in-Some-Some-default.following.now c.args.octets.now) c.in-Some-Some-default.field-0-0-is c.in-Some-Some-default.ensures.some) in (p.others, p.small, p.spelled)
 
 pub returns-in_ok-push_arcs-in-Some-Some-default : goal.returns-in_ok-push_arcs-in-Some-Some-default
 returns-in_ok-push_arcs-in-Some-Some-default c ns i e =
-    let p = parts_of c.in-Some-Some-default.number i e (subst (λ q. Front q c.in-Some-Some-default.behind.now c.args.octets.now) c.in-Some-Some-default.field-0-0-is c.in-Some-Some-default.ensures.some) in
+    let p = parts_of c.in-Some-Some-default.number i e (subst (λ q. Front q c.in-Some-Some-default.following.now c.args.octets.now) c.in-Some-Some-default.field-0-0-is c.in-Some-Some-default.ensures.some) in
     let two = c.parted-first.ensures p.first p.second p.at_most p.below_40 p.small_second p.is in
     let one = c.in_ok-push-in-Some-Some-default.ensures.items ∙ ap (λ q. q ++ c.parted-first.result.0 ∷ []) c.new-arcs.ensures.items in
     let both = c.in_ok-push-in-Some-Some-default-2.ensures.items ∙ ap (λ q. q ++ c.parted-first.result.1 ∷ []) one in

@@ -1,18 +1,18 @@
 use Rattle.std.proofs.Common.{◌≡◌, ◌<◌, ◌^◌, length, sym, subst, rules}
-use Rattle.leaf_readings.specs.Arcs.{Front}
-use Rattle.packed_readings.proofs.Adding.{Adding, adding_more, small_more, none_great, no_number, all_added}
+use Rattle.primitive_reader.specs.Arcs.{Front}
+use Rattle.primitive_reader.specs.proving.Adding.{Adding, adding_more, small_more, none_great, no_number, all_added}
 use Rattle.packed_readings.proofs.arcs.push_arcs.Goals as goal
 
 pub overflow_cast-number : goal.overflow_cast-number
 overflow_cast-number c =
     let r = c.requires in
-    let s : c.in-Some-Some-default.number < 2 ^ 64 = small_more c.in-Some-Some-default.number (c.loop-rest.invariant r.0 r.1 r.2) (subst (λ q. Front q c.in-Some-Some-default.behind.now c.loop-rest.rest.now) c.in-Some-Some-default.field-0-0-is c.in-Some-Some-default.ensures.some) in
+    let s : c.in-Some-Some-default.number < 2 ^ 64 = small_more c.in-Some-Some-default.number (c.loop-rest.invariant r.0 r.1 r.2) (subst (λ q. Front q c.in-Some-Some-default.following.now c.loop-rest.rest.now) c.in-Some-Some-default.field-0-0-is c.in-Some-Some-default.ensures.some) in
     search rules
 
 pub loop-rest-preserved : goal.loop-rest-preserved
 loop-rest-preserved c ns s e =
-    subst (λ q. Adding ns c.args.arcs.now.items q c.in-Some-Some-default.behind.now) (sym c.in_ok-push-in-Some-Some-default.ensures.items)
-    (adding_more c.in-Some-Some-default.number (c.loop-rest.invariant ns s e) (subst (λ q. Front q c.in-Some-Some-default.behind.now c.loop-rest.rest.now) c.in-Some-Some-default.field-0-0-is c.in-Some-Some-default.ensures.some))
+    subst (λ q. Adding ns c.args.arcs.now.items q c.in-Some-Some-default.following.now) (sym c.in_ok-push-in-Some-Some-default.ensures.items)
+    (adding_more c.in-Some-Some-default.number (c.loop-rest.invariant ns s e) (subst (λ q. Front q c.in-Some-Some-default.following.now c.loop-rest.rest.now) c.in-Some-Some-default.field-0-0-is c.in-Some-Some-default.ensures.some))
 
 pub returns-in-Some-None-default : goal.returns-in-Some-None-default
 returns-in-Some-None-default c ns s e =

@@ -2,7 +2,7 @@ use Rattle.std.proofs.Common.{◌≡◌, ◌^◌, ◌<◌, List, ℕ, length}
 use Rattle.std.specs.Prelude.{flat_map}
 use Rattle.std.specs.List.{AllByRecursion}
 use Rattle.encodings.specs.Header.{septets}
-use Rattle.packed_readings.proofs.Adding.{Adding}
+use Rattle.primitive_reader.specs.proving.Adding.{Adding}
 use Rattle.packed_readings.proofs.arcs.push_arcs.Given as goal
 
 abbrev pub invariant-loop-rest : goal.invariant-loop-rest

@@ -2,7 +2,7 @@ use Rattle.std.proofs.Common.{arith, ◌+◌, ◌*◌, ◌<◌, ◌≤◌, lengt
 use Rattle.bits.specs.Left.{bits_left}
 use Rattle.packed_readings.specs.Code.{IsFew, test_of}
 use Rattle.packed_readings.proofs.Counted.{one_less}
-use Rattle.packed_readings.proofs.Light.{free_first, free_last, free_part, free_stop, free_done, told_less}
+use Rattle.packed_readings.proofs.Light.{free_first, free_last, free_part, free_stop, free_done, stated_less}
 use Rattle.packed_readings.proofs.free.count_parts.Goals as goal
 
 pub loop-more-init : goal.loop-more-init
@@ -19,7 +19,7 @@ overflow_add-count-in-Ok-Part c = let f = c.loop-more.invariant.few in let s = c
 
 pub loop-more-smaller-in-Ok-Last : goal.loop-more-smaller-in-Ok-Last
 loop-more-smaller-in-Ok-Last c =
-    let s = told_less (test_of c.args.total.now) (bits_left c.args.bits.now) c.loop-more.more c.loop-more.full c.loop-more.count (bits_left c.loop-more.bits) (bits_left c.read_total.new.bits) c.loop-more-test.true c.loop-more.invariant c.in-Ok-Last.field-0 c.in-Ok-Last.ensures.is in
+    let s = stated_less (test_of c.args.total.now) (bits_left c.args.bits.now) c.loop-more.more c.loop-more.full c.loop-more.count (bits_left c.loop-more.bits) (bits_left c.read_total.new.bits) c.loop-more-test.true c.loop-more.invariant c.in-Ok-Last.field-0 c.in-Ok-Last.ensures.is in
     one_less c.loop-more.more (length (bits_left c.read_total.new.bits)) (length (bits_left c.loop-more.bits)) c.loop-more-test.true s
 
 pub loop-more-preserved-in-Ok-Last : goal.loop-more-preserved-in-Ok-Last
@@ -29,7 +29,7 @@ loop-more-preserved-in-Ok-Last c =
 
 pub loop-more-smaller : goal.loop-more-smaller
 loop-more-smaller c =
-    let s = told_less (test_of c.args.total.now) (bits_left c.args.bits.now) c.loop-more.more c.loop-more.full c.loop-more.count (bits_left c.loop-more.bits) (bits_left c.read_total.new.bits) c.loop-more-test.true c.loop-more.invariant c.in-Ok-Part.field-0 c.in-Ok-Part.ensures.is in
+    let s = stated_less (test_of c.args.total.now) (bits_left c.args.bits.now) c.loop-more.more c.loop-more.full c.loop-more.count (bits_left c.loop-more.bits) (bits_left c.read_total.new.bits) c.loop-more-test.true c.loop-more.invariant c.in-Ok-Part.field-0 c.in-Ok-Part.ensures.is in
     omega (arith, s)
 
 pub loop-more-preserved : goal.loop-more-preserved

@@ -10,7 +10,7 @@ pub returns-in-Ok-clause-ok : goal.returns-in-Ok-clause-ok
 returns-in-Ok-clause-ok c =
     text_answer c.as_slice.result.now c.args.alphabet.now.items (constraint_of c.args.constraint.now) (bits_left c.args.bits.now)
     (bits_left c.read_restricted_string.new.bits) (string_bytes c.in-Ok.text) (abstract (Text c.in-Ok.text)) c.as_slice.ensures.value c.in-Ok.ensures.ok
-    (c.abstract_values.ensures.text_ c.in-Ok.text)
+    (c.lemma_abstract_values.ensures.text_ c.in-Ok.text)
 
 pub returns-in-Err-clause-err : goal.returns-in-Err-clause-err
 returns-in-Err-clause-err c =

@@ -1,7 +1,8 @@
 use Rattle.std.proofs.Common.{◌<◌, ◌^◌, pos, negsuc, sym, subst, ap, ◌∙◌, to_z, of_z}
 use mir.Syntax.{w128}
 use Rattle.packed_readings.specs.proving.Numbers.{IsNumber}
-use Rattle.packed_readings.proofs.Shortest.{low_number, high_number, low_within, high_within, worth_within, turned_within}
+use Rattle.encodings.specs.proving.TwosComplement.{worth_within}
+use Rattle.packed_readings.proofs.Shortest.{low_number, high_number, low_within, high_within, turned_within}
 use Rattle.packed_readings.proofs.Shortest.{same_number}
 use Rattle.packed_readings.proofs.number.number_of.Goals as goal
 

@@ -1,5 +1,6 @@
 use Rattle.std.proofs.Common.{arith}
-use Rattle.packed_readings.proofs.Shortest.{never, unsigned_past, worth_within}
+use Rattle.encodings.specs.proving.TwosComplement.{worth_within}
+use Rattle.packed_readings.proofs.Shortest.{never, unsigned_past}
 use Rattle.packed_readings.proofs.number.unsigned.Goals as goal
 
 pub returns-then-octets-gt16-clause-none : goal.returns-then-octets-gt16-clause-none

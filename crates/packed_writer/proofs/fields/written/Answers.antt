@@ -22,7 +22,7 @@ is_default-requires c =
     let v = component_in c.args.code.now c.args.typed.id.index n (abstract c.args.typed.value.now) (abstract c.in-Some.value.now) c.args.field.place f.component c.requires.value.is c.in-Some.ensures f.there in (
       f.component,
       subst (λ q. HasComponent q c.args.typed.id.index c.args.field.place f.component) (sym c.schema.ensures) f.there,
-      (let k : n - 1 ≤ 64 = (let h = c.requires.value.few in omega (arith, h)) in c.levels_grow.ensures c.schema.result.now f.component.type (n - 1) 64 (abstract c.in-Some.value.now) k (subst (λ q. ValueIn q (n - 1) f.component.type (abstract c.in-Some.value.now)) (sym c.schema.ensures) v)),
+      (let k : n - 1 ≤ 64 = (let h = c.requires.value.few in omega (arith, h)) in c.lemma_levels_grow.ensures c.schema.result.now f.component.type (n - 1) 64 (abstract c.in-Some.value.now) k (subst (λ q. ValueIn q (n - 1) f.component.type (abstract c.in-Some.value.now)) (sym c.schema.ensures) v)),
     )
 
 pub returns-then-is_default : goal.returns-then-is_default

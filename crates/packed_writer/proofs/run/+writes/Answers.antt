@@ -203,8 +203,8 @@ push_sorted-returns t c =
     let ys = c.sort.new.items.items in
     let ex : c.collect.new.items.items ≡ xs = c.in_ok-collect.ensures ∙ ap (λ q. q ++ all_items s c.elements_of-elements.result.id.index (map abstract vs)) c.new-items.ensures.items ∙ ap (λ q. all_items s q.index (map abstract vs)) c.elements_of-elements.ensures.id in
     let few : n - 1 ≤ 64 = let h = c.requires.value.few in omega (arith, h) in
-    let all = all_encodings s u (n - 1) (map abstract vs) (λ w a. encoding s u w (bits_of s w u) (c.computing_laws.ensures.packed s u w c.accepted.ensures (c.levels_grow.ensures s u (n - 1) 64 w few a))) m.all in
-    let order : sorted xs ≡ ys = c.function_laws.ensures.sorted s u xs ys c.accepted.ensures all (subst (λ q. IsPermutation q ys) ex c.in_ok-sort.ensures.same) c.in_ok-sort.ensures.order in
+    let all = all_encodings s u (n - 1) (map abstract vs) (λ w a. encoding s u w (bits_of s w u) (c.computing_laws.ensures.packed s u w c.lemma_invariant.ensures (c.lemma_levels_grow.ensures s u (n - 1) 64 w few a))) m.all in
+    let order : sorted xs ≡ ys = c.function_laws.ensures.sorted s u xs ys c.lemma_invariant.ensures all (subst (λ q. IsPermutation q ys) ex c.in_ok-sort.ensures.same) c.in_ok-sort.ensures.order in
     c.in_ok-push_items.ensures
     ∙ ap (λ q. c.args.out.now ++ sized_bits k.visible q) (c.as_slice.ensures.value ∙ sym order)
     ∙ ap (λ q. c.args.out.now ++ q) (sym (set_listed s c.schema.result.now c.args.typed.id.index u k c.requires.list.0 (abstract c.args.typed.value.now) vs c.schema.ensures c.size_of-size.ensures c.requires.list.1 c.elements_of-elements.ensures.values))
@@ -291,7 +291,7 @@ pub push_value-push_offset-requires : goal.push_value-push_offset-requires
 push_value-push_offset-requires t c =
     let s = c.args.code.now in
     let u = c.args.typed.id.index in
-    let f = subst (StepsFit s u) (sym c.steps-steps.ensures ∙ c.in-Some-Number.ensures) (c.routines_fit.ensures s u) in
+    let f = subst (StepsFit s u) (sym c.steps-steps.ensures ∙ c.in-Some-Number.ensures) (c.lemma_routines_fit.ensures s u) in
     let g = subst (λ q. CallFits s u q []) c.in-Some-Number.field-0-is f.1 in
     is_number s c.args.typed.levels u (abstract c.args.typed.value.now) g.0 c.requires.is g.1
 

@@ -2,9 +2,9 @@ use Rattle.std.proofs.Common.{ℕ, ◌↔◌, Some, None, ◌≡◌, sym, subst,
 use Rattle.type_table.specs.Seen.{kind_of}
 use Rattle.std.specs.Prelude.{MatchResult}
 use Rattle.trees.specs.Values.{reference}
-use Rattle.range_ends.specs.Ends.{IsLost}
+use Rattle.range_ends.specs.Ends.{HasNoNumber}
 use Rattle.range_ends.specs.proving.Steps.{MeansValue, AreReferred}
-use Rattle.range_ends.specs.Answers.{StandsForOnly, IsEndFault}
+use Rattle.range_ends.specs.Answers.{DenotesOnly, IsEndFault}
 use Rattle.range_ends.proofs.Following.{number_only, named_only, lost_here, end_answers}
 use Rattle.range_ends.proofs.ends.end_at.Goals as goal
 
@@ -29,7 +29,7 @@ returns-in-None-named_value c =
     absurd cc) in
     let e = lost_here c.linked-linked.result.now (kind_of c.args.shape.now) c.args.within.now q x
     (sym c.named.ensures ∙ c.in-None.is) none in
-    let f = subst (λ p. IsLost p (kind_of c.args.shape.now) c.args.within.now (reference q x)) c.linked-linked.ensures e in
+    let f = subst (λ p. HasNoNumber p (kind_of c.args.shape.now) c.args.within.now (reference q x)) c.linked-linked.ensures e in
     search rules
 
 pub returns-in-Some-named_value : goal.returns-in-Some-named_value
@@ -43,6 +43,6 @@ returns-in-Some-named_value c =
     let a = subst (λ p. AreReferred p c.ways.result.0.now) (sym c.linked-linked.ensures) c.ways.ensures.referred in
     let e = end_answers c.linked-linked.result.now k c.ways.result.0.now M q x c.in-Some-named_value.start a c.whole.ensures
     (sym c.named.ensures ∙ c.in-None.is) (search rules) refers c.followed.result c.followed.ensures in
-    let f = subst (λ p. MatchResult c.followed.result (StandsForOnly p k M (reference q x)) (IsEndFault p k M (reference q x)))
+    let f = subst (λ p. MatchResult c.followed.result (DenotesOnly p k M (reference q x)) (IsEndFault p k M (reference q x)))
     c.linked-linked.ensures e in
     search rules

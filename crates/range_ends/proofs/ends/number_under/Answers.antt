@@ -3,7 +3,7 @@ use Rattle.std.specs.Prelude.{bytes_eq}
 use Rattle.std.proofs.lemmas.List.{length-map}
 use Rattle.trees.specs.Types.{number_of}
 use Rattle.range_ends.proofs.Lists.{seen_here}
-use Rattle.range_ends.proofs.Under.{found_at, passed_at, passed_all}
+use Rattle.range_ends.specs.proving.Under.{found_at, passed_at, passed_all}
 use Rattle.range_ends.proofs.ends.number_under.Goals as goal
 
 pub returns-then-eq : goal.returns-then-eq

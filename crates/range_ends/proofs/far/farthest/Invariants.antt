@@ -5,5 +5,5 @@ use Rattle.range_ends.proofs.far.farthest.Given as goal
 abbrev pub invariant-loop-round : goal.invariant-loop-round
 invariant-loop-round l = record {
   many : l.round < l.steps;
-  far : AreFar l.behind l.steps l.far.items;
+  far : AreFar l.target l.steps l.far.items;
 }

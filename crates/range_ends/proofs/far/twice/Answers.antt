@@ -4,7 +4,7 @@ use Rattle.range_ends.proofs.far.twice.Goals as goal
 
 pub offset_bounds-far-middle : goal.offset_bounds-far-middle
 offset_bounds-far-middle c =
-    let os = c.args.behind.now in
+    let os = c.args.target.now in
     let cs = c.args.far.now in
     let i = c.loop-at.at in
     let l : i < length cs = omega (arith, c.loop-at-test.true, c.loop-at.auto.at-end) in
@@ -15,7 +15,7 @@ offset_bounds-far-middle c =
 
 pub bounds-far-middle : goal.bounds-far-middle
 bounds-far-middle c =
-    let os = c.args.behind.now in
+    let os = c.args.target.now in
     let cs = c.args.far.now in
     let i = c.loop-at.at in
     let l : i < length cs = omega (arith, c.loop-at-test.true, c.loop-at.auto.at-end) in
@@ -25,7 +25,7 @@ bounds-far-middle c =
 
 pub loop-at-preserved : goal.loop-at-preserved
 loop-at-preserved c =
-    let os = c.args.behind.now in
+    let os = c.args.target.now in
     let cs = c.args.far.now in
     let n = c.args.steps in
     let i = c.loop-at.at in

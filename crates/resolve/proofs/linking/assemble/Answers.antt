@@ -4,7 +4,7 @@ use Rattle.std.proofs.lemmas.Option.{slice_get_read}
 use Rattle.trees.specs.Values.{name_at}
 use Rattle.names.specs.Scopes.{module_of, seen}
 use Rattle.names.specs.Sources.{assignment_of, header_of, source_of, sources_of}
-use Rattle.names.specs.proving.Distinct.{stands_map, at_all}
+use Rattle.names.specs.proving.Distinct.{occurs_map, at_all}
 use Rattle.resolve.proofs.Ready.{more_roots}
 use Rattle.names.specs.proving.Rows.{assignment_at, header_at}
 use Rattle.resolve.proofs.Firsts.{many_first, sound_first}
@@ -15,7 +15,7 @@ index-assignment-requires c =
     let g = c.args.gathered in
     let s = c.index-source.result.now in
     let inside : 65536 < length g.tables.roots.items = omega arith in
-    let there = stands_map source_of g.tables.roots.items 65536 s (slice_get_read g.tables.roots.items (length g.tables.roots.items) 65536 s refl inside c.index-source.ensures) in
+    let there = occurs_map source_of g.tables.roots.items 65536 s (slice_get_read g.tables.roots.items (length g.tables.roots.items) 65536 s refl inside c.index-source.ensures) in
     let within = at_all (λ r. r.assignment < length g.tables.assignments.items) (sources_of g.tables.roots.items) 65536 (source_of s) c.requires.ready.assigned there in
     omega (arith, within)
 
@@ -25,7 +25,7 @@ index-header-requires c =
     let s = c.index-source.result.now in
     let a = c.index-assignment.result.now in
     let inside : 65536 < length g.tables.roots.items = omega arith in
-    let there = stands_map source_of g.tables.roots.items 65536 s (slice_get_read g.tables.roots.items (length g.tables.roots.items) 65536 s refl inside c.index-source.ensures) in
+    let there = occurs_map source_of g.tables.roots.items 65536 s (slice_get_read g.tables.roots.items (length g.tables.roots.items) 65536 s refl inside c.index-source.ensures) in
     let within : s.assignment < length g.tables.assignments.items = at_all (λ r. r.assignment < length g.tables.assignments.items) (sources_of g.tables.roots.items) 65536 (source_of s) c.requires.ready.assigned there in
     let placed = c.requires.ready.placed s.assignment a (slice_get_read g.tables.assignments.items (length g.tables.assignments.items) s.assignment a refl within c.index-assignment.ensures) in
     omega (arith, placed)
@@ -37,7 +37,7 @@ returns-then-len-gt-MAX_WRITTEN-clause-fault c =
     let a = c.index-assignment.result.now in
     let h = c.index-header.result.now in
     let inside : 65536 < length g.tables.roots.items = omega arith in
-    let there = stands_map source_of g.tables.roots.items 65536 s (slice_get_read g.tables.roots.items (length g.tables.roots.items) 65536 s refl inside c.index-source.ensures) in
+    let there = occurs_map source_of g.tables.roots.items 65536 s (slice_get_read g.tables.roots.items (length g.tables.roots.items) 65536 s refl inside c.index-source.ensures) in
     let within : s.assignment < length g.tables.assignments.items = at_all (λ r. r.assignment < length g.tables.assignments.items) (sources_of g.tables.roots.items) 65536 (source_of s) c.requires.ready.assigned there in
     let placed = c.requires.ready.placed s.assignment a (slice_get_read g.tables.assignments.items (length g.tables.assignments.items) s.assignment a refl within c.index-assignment.ensures) in
     inl (more_roots g (source_of s) a.module (name_at h.name) (name_at a.name) h.default c.too_many.result there
@@ -54,7 +54,7 @@ returns-then-len-gt-MAX_WRITTEN-clause-first c = λ ms made n f.
     let a = c.index-assignment.result.now in
     let h = c.index-header.result.now in
     let inside : 65536 < length g.tables.roots.items = omega arith in
-    let there = stands_map source_of g.tables.roots.items 65536 s (slice_get_read g.tables.roots.items (length g.tables.roots.items) 65536 s refl inside c.index-source.ensures) in
+    let there = occurs_map source_of g.tables.roots.items 65536 s (slice_get_read g.tables.roots.items (length g.tables.roots.items) 65536 s refl inside c.index-source.ensures) in
     let within : s.assignment < length g.tables.assignments.items = at_all (λ r. r.assignment < length g.tables.assignments.items) (sources_of g.tables.roots.items) 65536 (source_of s) c.requires.ready.assigned there in
     let placed = c.requires.ready.placed s.assignment a (slice_get_read g.tables.assignments.items (length g.tables.assignments.items) s.assignment a refl within c.index-assignment.ensures) in
     let limit = more_roots g (source_of s) a.module (name_at h.name) (name_at a.name) h.default c.too_many.result there

@@ -6,10 +6,10 @@ use Rattle.resolve.proofs.Ready.{are_linked, naming_link, assembly_link}
 use Rattle.resolve.proofs.Firsts.{counts_first, meanings_first, offers_first}
 use Rattle.resolve.proofs.linking.link.Goals as goal
 
-pub returns-in-Err-all_stand-clause-fault : goal.returns-in-Err-all_stand-clause-fault
-returns-in-Err-all_stand-clause-fault c =
+pub returns-in-Err-check_all-clause-fault : goal.returns-in-Err-check_all-clause-fault
+returns-in-Err-check_all-clause-fault c =
     let ms = map module_tree_of c.args.modules.items in
-    naming_link ms c.in-Err-all_stand.fault (c.stood.ensures.fault ms c.in-Ok-gather.gathered c.in-Err-all_stand.fault c.in-Ok-gather.ensures.ok c.in-Err-all_stand.ensures.fault)
+    naming_link ms c.in-Err-check_all.fault (c.lemma_all_named.ensures.fault ms c.in-Ok-gather.gathered c.in-Err-check_all.fault c.in-Ok-gather.ensures.ok c.in-Err-check_all.ensures.fault)
 
 pub assemble-requires : goal.assemble-requires
 assemble-requires c = record { ready = c.ready.ensures (map module_tree_of c.args.modules.items) c.in-Ok-gather.gathered c.in-Ok-gather.ensures.ok }
@@ -24,7 +24,7 @@ pub returns-in-Ok-assemble-clause-linked : goal.returns-in-Ok-assemble-clause-li
 returns-in-Ok-assemble-clause-linked c =
     let ms = map module_tree_of c.args.modules.items in
     let g = c.in-Ok-gather.gathered in
-    are_linked ms g c.in-Ok-assemble.linked (subst (λ l. AreFew (map module_tree_of l)) c.deref.ensures.value c.in-Ok.ensures.ok) (c.stood.ensures.named ms g c.in-Ok-gather.ensures.ok c.in-Ok-all_stand.ensures.ok) c.in-Ok-gather.ensures.ok c.in-Ok-assemble.ensures.assembled
+    are_linked ms g c.in-Ok-assemble.linked (subst (λ l. AreFew (map module_tree_of l)) c.deref.ensures.value c.in-Ok.ensures.ok) (c.lemma_all_named.ensures.named ms g c.in-Ok-gather.ensures.ok c.in-Ok-check_all.ensures.ok) c.in-Ok-gather.ensures.ok c.in-Ok-assemble.ensures.assembled
 
 pub returns-in-Err-assemble-clause-fault : goal.returns-in-Err-assemble-clause-fault
 returns-in-Err-assemble-clause-fault c =
@@ -38,15 +38,15 @@ pub returns-in-Err-gather-clause-first : goal.returns-in-Err-gather-clause-first
 returns-in-Err-gather-clause-first c =
     meanings_first (map module_tree_of c.args.modules.items) c.in-Err-gather.fault (subst (λ l. AreFew (map module_tree_of l)) c.deref.ensures.value c.in-Ok.ensures.ok) c.in-Err-gather.ensures.first
 
-pub returns-in-Err-all_stand-clause-first : goal.returns-in-Err-all_stand-clause-first
-returns-in-Err-all_stand-clause-first c =
+pub returns-in-Err-check_all-clause-first : goal.returns-in-Err-check_all-clause-first
+returns-in-Err-check_all-clause-first c =
     let ms = map module_tree_of c.args.modules.items in
     let g = c.in-Ok-gather.gathered in
-    offers_first ms g c.in-Err-all_stand.fault (subst (λ l. AreFew (map module_tree_of l)) c.deref.ensures.value c.in-Ok.ensures.ok) c.in-Ok-gather.ensures.ok
-    (c.stood.ensures.fault ms g c.in-Err-all_stand.fault c.in-Ok-gather.ensures.ok c.in-Err-all_stand.ensures.fault) c.in-Err-all_stand.ensures.first
+    offers_first ms g c.in-Err-check_all.fault (subst (λ l. AreFew (map module_tree_of l)) c.deref.ensures.value c.in-Ok.ensures.ok) c.in-Ok-gather.ensures.ok
+    (c.lemma_all_named.ensures.fault ms g c.in-Err-check_all.fault c.in-Ok-gather.ensures.ok c.in-Err-check_all.ensures.fault) c.in-Err-check_all.ensures.first
 
 pub returns-in-Err-assemble-clause-first : goal.returns-in-Err-assemble-clause-first
 returns-in-Err-assemble-clause-first c =
     let ms = map module_tree_of c.args.modules.items in
     let g = c.in-Ok-gather.gathered in
-    c.in-Err-assemble.ensures.first ms c.in-Ok-gather.ensures.ok (c.stood.ensures.named ms g c.in-Ok-gather.ensures.ok c.in-Ok-all_stand.ensures.ok) (subst (λ l. AreFew (map module_tree_of l)) c.deref.ensures.value c.in-Ok.ensures.ok)
+    c.in-Err-assemble.ensures.first ms c.in-Ok-gather.ensures.ok (c.lemma_all_named.ensures.named ms g c.in-Ok-gather.ensures.ok c.in-Ok-check_all.ensures.ok) (subst (λ l. AreFew (map module_tree_of l)) c.deref.ensures.value c.in-Ok.ensures.ok)

@@ -4,7 +4,7 @@ use Rattle.trees.specs.Constraints.{constraint_of}
 use Rattle.type_table.specs.Seen.{type_of}
 use Rattle.resolve.specs.Qualified.{each, qualified_constraint, qualified_kind, MeanValues}
 use Rattle.resolve.specs.proving.Unknown.{IsUnknownIn}
-use Rattle.resolve.proofs.Turns.{mean_both, unknown_front, unknown_behind}
+use Rattle.resolve.proofs.Turns.{mean_both, unknown_front, unknown_after}
 use Rattle.resolve.proofs.qualified.names_in_type.Goals as goal
 
 pub returns-in_err-names_in_shape : goal.returns-in_err-names_in_shape
@@ -18,7 +18,7 @@ returns-in_err-names_in_all c =
     let t = type_of c.args.written.now in
     let p = err_from_is_err_and c.from_residual-in_err-names_in_all.result c.from_residual-in_err-names_in_all.ensures.1 in
     let u = subst (λ l. IsUnknownIn c.args.linked.now.modules c.args.within.now (each qualified_constraint (map constraint_of l)) c.in_err-names_in_all.field-0.0) c.deref.ensures.value c.in_err-names_in_all.ensures in
-    rw (p.1, p.2) (unknown_behind c.args.linked.now.modules c.args.within.now (qualified_kind t.kind) (each qualified_constraint t.constraints) c.in_err-names_in_all.field-0.0 c.in_ok-names_in_shape.ensures u)
+    rw (p.1, p.2) (unknown_after c.args.linked.now.modules c.args.within.now (qualified_kind t.kind) (each qualified_constraint t.constraints) c.in_err-names_in_all.field-0.0 c.in_ok-names_in_shape.ensures u)
 
 pub returns : goal.returns
 returns c =

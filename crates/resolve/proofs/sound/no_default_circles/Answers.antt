@@ -1,7 +1,7 @@
 use Rattle.std.proofs.Common.{◌≡◌, ◌<◌, ℕ, List, Some, None, length, sym, subst, ap, ◌∙◌}
 use Rattle.std.specs.Prelude.{MatchOption, Option}
 use Rattle.circles.specs.Circles.{IsFirstDefaultCircle, NoDefaultCircles}
-use Rattle.type_table.specs.declared.table.Written.{Written}
+use Rattle.type_table.specs.declared.table.TypeNode.{TypeNode}
 use Rattle.type_table.specs.Seen.{types_of}
 use Rattle.type_table.specs.Table.{Type', HasMembers, HasElements}
 use Rattle.std.proofs.Common.{refl}
@@ -24,17 +24,17 @@ returns-in-None-clause-good c =
     none ts n None e m = m
     none ts n (Some i) e m = absurd cc
 
-pub returns-in_ok-spot-in-Some-clause-first : goal.returns-in_ok-spot-in-Some-clause-first
-returns-in_ok-spot-in-Some-clause-first c =
+pub returns-in_ok-source_location-in-Some-clause-first : goal.returns-in_ok-source_location-in-Some-clause-first
+returns-in_ok-source_location-in-Some-clause-first c =
     let p = c.args.linked.now in
     let ws = c.types-types.result.now in
     let i = c.in-Some.index in
     let w = c.index-types-index.result in
-    let e = c.in_ok-spot-in-Some.ensures in
+    let e = c.in_ok-source_location-in-Some.ensures in
     let found = some (types_of ws) (length ws) i c.in_ok-circle_of.field-0 c.in-Some.is c.in_ok-circle_of.ensures in
     let there = turn_there type_of ws p.types i w c.types-types.ensures.types found.0 c.index-types-index.is in
-    first_circle p ws i w c.home-home.result.module.now c.home-home.result.name.now c.in_ok-spot-in-Some.field-0 c.types-types.ensures.types c.requires.lists
-    (slice_get_read ws (length ws) i w refl found.0 c.index-types-index.is) (c.home-home.ensures (type_of w) there) e.within e.name (e.at ∙ sym (ap (λ (z : Written). z.at) c.index-types-index.is))
+    first_circle p ws i w c.home-home.result.module.now c.home-home.result.name.now c.in_ok-source_location-in-Some.field-0 c.types-types.ensures.types c.requires.lists
+    (slice_get_read ws (length ws) i w refl found.0 c.index-types-index.is) (c.home-home.ensures (type_of w) there) e.within e.name (e.at ∙ sym (ap (λ (z : TypeNode). z.at) c.index-types-index.is))
     (subst (λ ts. IsFirstDefaultCircle ts i) c.types-types.ensures.types found.1)
   where
     some : (ts : List Type') (n i : ℕ) (o : Option ℕ) → o ≡ Some i →

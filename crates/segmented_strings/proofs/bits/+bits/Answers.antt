@@ -41,7 +41,7 @@ pub add_bit_segment-returns-in-Ok-extend-clause-ok : goal.add_bit_segment-return
 add_bit_segment-returns-in-Ok-extend-clause-ok t c =
     let r = c.in-Ok.ensures.room in
     let w = c.in-Some.ensures.some in
-    primitive_bits c.args.room (c.args.room - 1) c.in-Some.unused w.bits c.in-Ok.segment.contents.now c.in-Some.bits.now c.in-Ok.segment.behind.now c.args.octets.now c.args.out.now.items c.extend.new.out.items
+    primitive_bits c.args.room (c.args.room - 1) c.in-Some.unused w.bits c.in-Ok.segment.contents.now c.in-Some.bits.now c.in-Ok.segment.following.now c.args.octets.now c.args.out.now.items c.extend.new.out.items
     (unit_as c.bit_string.result bit_string_tag _ _ c.in-Ok.ensures.ok c.bit_string.ensures (ap is_constructed c.in-Primitive.is))
     (omega arith) w.whole w.is c.in-Ok-extend.ensures.ok
 
@@ -51,14 +51,14 @@ add_bit_segment-returns-in-Err-extend-clause-err t c = for_want c.in-Err-extend.
 pub add_bit_segment-returns-in-None-clause-err : goal.add_bit_segment-returns-in-None-clause-err
 add_bit_segment-returns-in-None-clause-err t c =
     let r = c.in-Ok.ensures.room in
-    bad_primitive c.args.room (c.args.room - 1) c.in-Ok.segment.contents.now c.in-Ok.segment.behind.now c.args.octets.now
+    bad_primitive c.args.room (c.args.room - 1) c.in-Ok.segment.contents.now c.in-Ok.segment.following.now c.args.octets.now
     (unit_as c.bit_string.result bit_string_tag _ _ c.in-Ok.ensures.ok c.bit_string.ensures (ap is_constructed c.in-Primitive.is))
     (omega arith) c.in-None.ensures.none
 
 pub add_bit_segment-returns-in-Ok-add_bits-clause-ok : goal.add_bit_segment-returns-in-Ok-add_bits-clause-ok
 add_bit_segment-returns-in-Ok-add_bits-clause-ok t c =
     let r = c.in-Ok.ensures.room in
-    constructed_bits c.args.room (c.args.room - 1) c.in-Ok-add_bits.unused c.in-Ok.segment.contents.now c.in-Ok.segment.behind.now c.args.octets.now c.args.out.now.items c.add_bits.new.out.items
+    constructed_bits c.args.room (c.args.room - 1) c.in-Ok-add_bits.unused c.in-Ok.segment.contents.now c.in-Ok.segment.following.now c.args.octets.now c.args.out.now.items c.add_bits.new.out.items
     (unit_as c.bit_string.result bit_string_tag _ _ c.in-Ok.ensures.ok c.bit_string.ensures (ap is_constructed c.in-Constructed.is))
     (omega arith) c.in-Ok-add_bits.ensures.ok
 
@@ -68,5 +68,5 @@ add_bit_segment-returns-in-Err-add_bits-clause-err t c =
     let u = unit_as c.bit_string.result bit_string_tag _ _ c.in-Ok.ensures.ok c.bit_string.ensures (ap is_constructed c.in-Constructed.is) in
     let l = unit_length u in
     subst (λ q. IsRefused (BitsFail c.args.room) q c.args.octets.now) (sym c.moved.ensures)
-    (refused_in_bits c.args.room (c.args.room - 1) (length c.args.octets.now - length c.in-Ok.segment.behind.now - length c.in-Ok.segment.contents.now) c.in-Ok.segment.contents.now c.in-Ok.segment.behind.now c.args.octets.now c.in-Err-add_bits.fault u
+    (refused_in_bits c.args.room (c.args.room - 1) (length c.args.octets.now - length c.in-Ok.segment.following.now - length c.in-Ok.segment.contents.now) c.in-Ok.segment.contents.now c.in-Ok.segment.following.now c.args.octets.now c.in-Err-add_bits.fault u
     (omega arith) (omega arith) c.in-Err-add_bits.ensures.err)

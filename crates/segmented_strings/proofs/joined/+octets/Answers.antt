@@ -16,7 +16,7 @@ add_octets-returns-in-Err-clause-err t c =
     (octets_refused c.args.room c.args.contents.now c.loop-rest.rest.now c.args.out.now.items c.loop-rest.out.items (length c.args.contents.now - length c.loop-rest.rest.now) c.in-Err.fault s (omega arith) c.in-Err.ensures.err)
 
 pub add_octets-loop-rest-preserved : goal.add_octets-loop-rest-preserved
-add_octets-loop-rest-preserved t c = octets_next c.args.room c.args.contents.now c.loop-rest.rest.now c.in-Ok.behind.now c.args.out.now.items c.loop-rest.out.items c.add_segment.new.out.items c.loop-rest.invariant c.in-Ok.ensures.ok
+add_octets-loop-rest-preserved t c = octets_next c.args.room c.args.contents.now c.loop-rest.rest.now c.in-Ok.following.now c.args.out.now.items c.loop-rest.out.items c.add_segment.new.out.items c.loop-rest.invariant c.in-Ok.ensures.ok
 
 pub add_octets-returns-clause-ok : goal.add_octets-returns-clause-ok
 add_octets-returns-clause-ok t c = octets_end c.args.room c.args.contents.now c.loop-rest.rest.now c.args.out.now.items c.loop-rest.out.items c.loop-rest.invariant (let e = c.loop-rest-test.ensures in grind (arith, nat_tests))
@@ -27,7 +27,7 @@ add_segment-returns-in-Err-clause-err t c = front_octets c.octet_string.result c
 pub add_segment-returns-in-Ok-extend-clause-ok : goal.add_segment-returns-in-Ok-extend-clause-ok
 add_segment-returns-in-Ok-extend-clause-ok t c =
     let r = c.in-Ok.ensures.room in
-    primitive_octets c.args.room (c.args.room - 1) c.in-Ok.segment.contents.now c.in-Ok.segment.behind.now c.args.octets.now c.args.out.now.items c.extend.new.out.items
+    primitive_octets c.args.room (c.args.room - 1) c.in-Ok.segment.contents.now c.in-Ok.segment.following.now c.args.octets.now c.args.out.now.items c.extend.new.out.items
     (unit_as c.octet_string.result octet_string_tag _ _ c.in-Ok.ensures.ok c.octet_string.ensures (ap is_constructed c.in-Primitive.is))
     (omega arith) c.are_octets.ensures c.in-Ok-extend.ensures.ok
 
@@ -37,7 +37,7 @@ add_segment-returns-in-Err-extend-clause-err t c = for_want c.in-Err-extend.faul
 pub add_segment-returns-in-Ok-add_octets-clause-ok : goal.add_segment-returns-in-Ok-add_octets-clause-ok
 add_segment-returns-in-Ok-add_octets-clause-ok t c =
     let r = c.in-Ok.ensures.room in
-    constructed_octets c.args.room (c.args.room - 1) c.in-Ok.segment.contents.now c.in-Ok.segment.behind.now c.args.octets.now c.args.out.now.items c.add_octets.new.out.items
+    constructed_octets c.args.room (c.args.room - 1) c.in-Ok.segment.contents.now c.in-Ok.segment.following.now c.args.octets.now c.args.out.now.items c.add_octets.new.out.items
     (unit_as c.octet_string.result octet_string_tag _ _ c.in-Ok.ensures.ok c.octet_string.ensures (ap is_constructed c.in-Constructed.is))
     (omega arith) c.in-Ok-add_octets.ensures.ok
 
@@ -47,5 +47,5 @@ add_segment-returns-in-Err-add_octets-clause-err t c =
     let u = unit_as c.octet_string.result octet_string_tag _ _ c.in-Ok.ensures.ok c.octet_string.ensures (ap is_constructed c.in-Constructed.is) in
     let l = unit_length u in
     subst (λ q. IsRefused (OctetsFail c.args.room) q c.args.octets.now) (sym c.moved.ensures)
-    (refused_in_octets c.args.room (c.args.room - 1) (length c.args.octets.now - length c.in-Ok.segment.behind.now - length c.in-Ok.segment.contents.now) c.in-Ok.segment.contents.now c.in-Ok.segment.behind.now c.args.octets.now c.in-Err-add_octets.fault u
+    (refused_in_octets c.args.room (c.args.room - 1) (length c.args.octets.now - length c.in-Ok.segment.following.now - length c.in-Ok.segment.contents.now) c.in-Ok.segment.contents.now c.in-Ok.segment.following.now c.args.octets.now c.in-Err-add_octets.fault u
     (omega arith) (omega arith) c.in-Err-add_octets.ensures.err)

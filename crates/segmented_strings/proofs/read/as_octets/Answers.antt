@@ -7,7 +7,7 @@ use Rattle.segmented_strings.proofs.read.as_octets.Goals as goal
 pub returns-in-Ok-clause-ok : goal.returns-in-Ok-clause-ok
 returns-in-Ok-clause-ok c =
     let j = subst (λ q. Joins c.args.room c.args.contents.now q c.add_octets.new.out.items) c.new-octets.ensures.items c.in-Ok.ensures.ok in
-    record { value = octets c.add_octets.new.out.items; told = refl; is_joined = octets_read c.args.room c.args.contents.now c.add_octets.new.out.items j }
+    record { value = octets c.add_octets.new.out.items; means = refl; is_joined = octets_read c.args.room c.args.contents.now c.add_octets.new.out.items j }
 
 pub returns-in-Err-clause-err : goal.returns-in-Err-clause-err
 returns-in-Err-clause-err c = octets_refused c.args.room c.args.contents.now c.in-Err.fault c.in-Err.ensures.err

@@ -1,6 +1,6 @@
 use Rattle.std.proofs.Common.{◌≡◌, subst, ◌∙◌}
 use Rattle.asn_base.specs.Abstract.{text}
-use Rattle.leaf_readings.specs.Leaves.{Reads}
+use Rattle.primitive_reader.specs.Leaves.{ReadsContents}
 use Rattle.segmented_strings.specs.Texts.{text_unsuited}
 use Rattle.segmented_strings.proofs.ByKind.{is_read, is_the_text, on_ok, on_err, want_of_memory}
 use Rattle.segmented_strings.proofs.text.text_of.Goals as goal
@@ -10,14 +10,14 @@ returns-in-Err-clause-err c = text_unsuited (λ s. (let e = c.in-Err.ensures.onl
 
 pub returns-in-Some-clause-same : goal.returns-in-Some-clause-same
 returns-in-Some-clause-same c =
-    let r = subst (λ q. Reads c.args.kind c.args.octets.now q) c.in-Some.ensures.some c.in-Ok.ensures.ok in
-    let t = is_the_text c.args.kind c.in-Some.text.now c.args.octets.now r.value c.requires r.told r.is_read in
+    let r = subst (λ q. ReadsContents c.args.kind c.args.octets.now q) c.in-Some.ensures.some c.in-Ok.ensures.ok in
+    let t = is_the_text c.args.kind c.in-Some.text.now c.args.octets.now r.value c.requires r.means r.is_read in
     on_ok c.copied.result (λ s e. e ∙ t.0) c.copied.ensures.ok
 
 pub returns-in-Some-clause-suits : goal.returns-in-Some-clause-suits
 returns-in-Some-clause-suits c =
-    let r = subst (λ q. Reads c.args.kind c.args.octets.now q) c.in-Some.ensures.some c.in-Ok.ensures.ok in
-    let t = is_the_text c.args.kind c.in-Some.text.now c.args.octets.now r.value c.requires r.told r.is_read in
+    let r = subst (λ q. ReadsContents c.args.kind c.args.octets.now q) c.in-Some.ensures.some c.in-Ok.ensures.ok in
+    let t = is_the_text c.args.kind c.in-Some.text.now c.args.octets.now r.value c.requires r.means r.is_read in
     on_ok c.copied.result (λ s e. t.1) c.copied.ensures.ok
 
 pub returns-in-Some-clause-err : goal.returns-in-Some-clause-err

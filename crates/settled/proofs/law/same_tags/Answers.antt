@@ -5,7 +5,7 @@ use Rattle.schema_of.specs.values.Allowing.{Allows, AllowsCode}
 
 pub returns : goal.returns
 returns c =
-    let chosen = c.parts_are_written.ensures.alternatives in
+    let chosen = c.lemma_parts_are_written.ensures.alternatives in
     let unique = c.one_path.ensures.unique in
     record {
       firsts = λ p s i g of. (

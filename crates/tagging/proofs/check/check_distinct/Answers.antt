@@ -5,7 +5,7 @@ use Rattle.std.proofs.Common.{length, ap, refl, subst, sym, ◌∙◌}
 use Rattle.std.proofs.lemmas.Option.{slice_get_read}
 use Rattle.std.proofs.lemmas.List.{length-map}
 use Rattle.tagging.specs.proving.Lists.{Collected, tag_lists}
-use Rattle.tagging.specs.proving.Told.{IsClashFault}
+use Rattle.tagging.specs.proving.Reported.{IsClashFault}
 use Rattle.tagging.proofs.Firsts.{clashing_at, later_inside, of_front}
 use Rattle.tagging.proofs.Tables.{parts_long}
 use Rattle.tagging.proofs.Taggings.{collected_long}

@@ -2,7 +2,7 @@ use Rattle.std.proofs.Common.{◌≡◌, length, Some, sym, ap, ◌∙◌, arith
 use Rattle.std.proofs.lemmas.Option.{slice_get-get_or}
 use Rattle.names.specs.Sources.{place_of}
 use Rattle.type_table.specs.Seen.{types_of}
-use Rattle.type_table.specs.Table.{walk, next, reference, behind_of, Is}
+use Rattle.type_table.specs.Table.{walk, next, reference, target_of, Is}
 use Rattle.tagging.specs.proving.Columns.{here, through}
 use Rattle.type_table.specs.proving.Tables.{as_long}
 use Rattle.tagging.proofs.Tables.{is_here}
@@ -30,11 +30,11 @@ loop-step-preserved c =
     let ts = types_of c.args.types.now in
     let w = c.index-types-at.result in
     let h : Is ts c.loop-step.at (reference c.in-Some.j) w.default (place_of w.place) = subst (λ k. Is ts c.loop-step.at k w.default (place_of w.place)) c.in-Some.ensures (is_here c.args.types.now c.loop-step.at w c.loop-step.invariant.inside c.index-types-at.is) in
-    let n : next ts c.loop-step.at ≡ Some c.in-Some.j = ap behind_of h.found in
+    let n : next ts c.loop-step.at ≡ Some c.in-Some.j = ap target_of h.found in
     let i = c.requires.linked.closed c.loop-step.at c.in-Some.j n in
     record {
       inside = omega (arith, i, as_long c.args.types.now);
-      leads = one_more (next ts) c.loop-step.step c.args.start c.loop-step.at c.in-Some.j c.loop-step.invariant.leads n;
+      chain = one_more (next ts) c.loop-step.step c.args.start c.loop-step.at c.in-Some.j c.loop-step.invariant.chain n;
       onto = λ f u. c.loop-step.invariant.onto f (through h u);
     }
 
@@ -42,4 +42,4 @@ pub returns : goal.returns
 returns c =
     let ts = types_of c.args.types.now in
     let all : c.loop-step.step ≡ length ts = omega (arith, as_long c.args.types.now) in
-    absurd (never_long ts c.args.start c.loop-step.at c.requires.linked (omega (arith, c.requires.there, as_long c.args.types.now)) (ap (λ k. walk ts k c.args.start) (sym all) ∙ c.loop-step.invariant.leads))
+    absurd (never_long ts c.args.start c.loop-step.at c.requires.linked (omega (arith, c.requires.there, as_long c.args.types.now)) (ap (λ k. walk ts k c.args.start) (sym all) ∙ c.loop-step.invariant.chain))

@@ -7,6 +7,6 @@ use Rattle.tagging.proofs.columns.front_by.Given as goal
 abbrev pub invariant-loop-step : goal.invariant-loop-step
 invariant-loop-step l = record {
   inside : l.at < length l.types;
-  leads : walk (types_of l.types) l.step l.start ≡ Some l.at;
+  chain : walk (types_of l.types) l.step l.start ≡ Some l.at;
   onto : (f : ℕ) → Front (types_of l.types) l.at f → Front (types_of l.types) l.start f;
 }

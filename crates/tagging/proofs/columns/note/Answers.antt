@@ -1,7 +1,7 @@
 use Rattle.std.proofs.Common.{◌≡◌, ◌<◌, length, Some, ap, ◌∙◌, arith}
 use Rattle.std.proofs.lemmas.List.{length-set}
 use Rattle.type_table.specs.Seen.{types_of}
-use Rattle.type_table.specs.Table.{next, behind as behind_kind, behind_of}
+use Rattle.type_table.specs.Table.{next, target as target_kind, target_of}
 use Rattle.tagging.specs.proving.Columns.{Front}
 use Rattle.type_table.specs.proving.Notes.{still_known, now_known, right_more}
 use Rattle.tagging.proofs.Steps.{front_through}
@@ -25,7 +25,7 @@ pub bounds-fronts-at : goal.bounds-fronts-at
 bounds-fronts-at c =
     let ts = types_of c.args.types.now in
     let h = is_here c.args.types.now c.loop-step.at c.index-types-at.result c.loop-step.invariant.inside c.index-types-at.is in
-    let n : next ts c.loop-step.at ≡ Some c.in-Some.j = ap behind_of (h.found) ∙ ap (λ k. behind_kind k) c.in-Some.ensures in
+    let n : next ts c.loop-step.at ≡ Some c.in-Some.j = ap target_of (h.found) ∙ ap (λ k. target_kind k) c.in-Some.ensures in
     let i = c.requires.linked.closed c.loop-step.at c.in-Some.j n in
     omega (arith, i, as_long c.args.types.now, c.requires.long, c.loop-step.auto.fronts, length-set c.args.fronts.now c.args.start c.args.front)
 
@@ -33,7 +33,7 @@ pub offset_bounds-fronts-at : goal.offset_bounds-fronts-at
 offset_bounds-fronts-at c =
     let ts = types_of c.args.types.now in
     let h = is_here c.args.types.now c.loop-step.at c.index-types-at.result c.loop-step.invariant.inside c.index-types-at.is in
-    let n : next ts c.loop-step.at ≡ Some c.in-Some.j = ap behind_of (h.found) ∙ ap (λ k. behind_kind k) c.in-Some.ensures in
+    let n : next ts c.loop-step.at ≡ Some c.in-Some.j = ap target_of (h.found) ∙ ap (λ k. target_kind k) c.in-Some.ensures in
     let i = c.requires.linked.closed c.loop-step.at c.in-Some.j n in
     let inside : c.in-Some.j < length c.args.types.now = omega (arith, i, as_long c.args.types.now) in
     omega arith
@@ -43,7 +43,7 @@ loop-step-preserved c =
     let ts = types_of c.args.types.now in
     let m = length c.args.types.now in
     let h = is_here c.args.types.now c.loop-step.at c.index-types-at.result c.loop-step.invariant.inside c.index-types-at.is in
-    let n : next ts c.loop-step.at ≡ Some c.in-Some.j = ap behind_of (h.found) ∙ ap (λ k. behind_kind k) c.in-Some.ensures in
+    let n : next ts c.loop-step.at ≡ Some c.in-Some.j = ap target_of (h.found) ∙ ap (λ k. target_kind k) c.in-Some.ensures in
     let i = c.requires.linked.closed c.loop-step.at c.in-Some.j n in
     let u = front_through ts c.loop-step.at c.in-Some.j c.args.front _ _ _ c.loop-step.invariant.front h c.in-Some.ensures in
     record {

@@ -1,5 +1,5 @@
 use Rattle.std.proofs.Common.{ap, ◌∙◌}
-use Rattle.tagging.specs.proving.Step.{form_before}
+use Rattle.tagging.specs.proving.TagStep.{form_before}
 use Rattle.tagging.specs.Tags.{outermost}
 use Rattle.tagging.proofs.Paths.{form_same, none_is, written_unique}
 use Rattle.tagging.proofs.path.form_at.Goals as goal

@@ -2,7 +2,7 @@ use Rattle.std.proofs.Common.{subst}
 use Rattle.names.specs.Sources.{place_of}
 use Rattle.type_table.specs.Seen.{type_of, kind_of}
 use Rattle.type_table.specs.Table.{Is, tagged}
-use Rattle.tagging.specs.proving.Step.{ending}
+use Rattle.tagging.specs.proving.TagStep.{ending}
 use Rattle.tagging.proofs.Tables.{no_tag}
 use Rattle.tagging.proofs.Paths.{is_at}
 use Rattle.tagging.proofs.Steps.{ends_there, inside_there}

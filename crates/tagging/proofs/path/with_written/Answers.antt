@@ -1,8 +1,8 @@
 use Rattle.std.proofs.Common.{◌∷◌, [], ◌++◌, Some, refl, sym, ◌∙◌, arith, subst, append-nil}
 use Rattle.std.proofs.lemmas.List.{length-append}
 use Rattle.tagging.specs.declared.path.TagForm.TheVariants.{Explicit}
-use Rattle.tagging.specs.Tags.{Path, label, path_of, Written}
-use Rattle.tagging.specs.proving.Step.{ending}
+use Rattle.tagging.specs.Tags.{Path, label, path_of, WrittenTags}
+use Rattle.tagging.specs.proving.TagStep.{ending}
 use Rattle.tagging.proofs.Paths.{path_long, pushed_last, pushed, written_exists, added_long}
 use Rattle.tagging.proofs.Steps.{none_passed, many_passed, one_passed}
 use Rattle.tagging.proofs.path.with_written.Goals as goal
@@ -19,14 +19,14 @@ pub returns-in-Ends-None-clause-ok : goal.returns-in-Ends-None-clause-ok
 returns-in-Ends-None-clause-ok c =
     let ts = c.args.columns.now.types in
     let x = c.in-Ends-None in
-    let w : Written ts c.loop-passed.at [] = subst (λ o. Written ts c.loop-passed.at (ending o)) x.field-0-is x.ensures.0 in
+    let w : WrittenTags ts c.loop-passed.at [] = subst (λ o. WrittenTags ts c.loop-passed.at (ending o)) x.field-0-is x.ensures.0 in
     c.loop-passed.invariant.onto [] (path_of c.loop-passed.path.items) w (sym (append-nil (path_of c.loop-passed.path.items)))
 
 pub returns-in-Ends-Some-clause-ok : goal.returns-in-Ends-Some-clause-ok
 returns-in-Ends-Some-clause-ok c =
     let ts = c.args.columns.now.types in
     let x = c.in-Ends-Some in
-    let w : Written ts c.loop-passed.at (ending (Some x.tag)) = subst (λ o. Written ts c.loop-passed.at (ending o)) x.field-0-is x.ensures.0 in
+    let w : WrittenTags ts c.loop-passed.at (ending (Some x.tag)) = subst (λ o. WrittenTags ts c.loop-passed.at (ending o)) x.field-0-is x.ensures.0 in
     c.loop-passed.invariant.onto (ending (Some x.tag)) (path_of c.push.new.self.items) w
     (pushed_last c.loop-passed.path.items c.push.new.self.items (record { tag = x.tag; form = Explicit }) (ending (Some x.tag)) c.in_ok-push-in-Ends-Some.ensures.ok refl)
 
@@ -35,7 +35,7 @@ returns-in_err-push-in-Ends-Some-clause-short c = λ p v l.
     let ts = c.args.columns.now.types in
     let x = c.in-Ends-Some in
     let o : Path = ending (Some x.tag) in
-    let w : Written ts c.loop-passed.at o = subst (λ z. Written ts c.loop-passed.at (ending z)) x.field-0-is x.ensures.0 in
+    let w : WrittenTags ts c.loop-passed.at o = subst (λ z. WrittenTags ts c.loop-passed.at (ending z)) x.field-0-is x.ensures.0 in
     let a = c.loop-passed.invariant.onto o (path_of c.loop-passed.path.items ++ o) w refl in
     let n = added_long ts c.args.start (path_of c.args.before.items) (path_of c.loop-passed.path.items ++ o) p a v in
     let m = path_long c.loop-passed.path.items o in
@@ -50,7 +50,7 @@ returns-in_err-push-in-Inside-clause-short c = λ p v l.
     let x = c.in-Inside in
     let u = written_exists ts x.j c.whole.ensures x.ensures.there in
     let o : Path = (label x.tag, c.form_at-form.result) ∷ u.0 in
-    let w : Written ts c.loop-passed.at o = subst (λ f. Written ts c.loop-passed.at ((label x.tag, f) ∷ u.0)) (sym (c.form_at-form.ensures u.0 u.1)) (x.ensures.tags u.0 u.1) in
+    let w : WrittenTags ts c.loop-passed.at o = subst (λ f. WrittenTags ts c.loop-passed.at ((label x.tag, f) ∷ u.0)) (sym (c.form_at-form.ensures u.0 u.1)) (x.ensures.tags u.0 u.1) in
     let a = c.loop-passed.invariant.onto o (path_of c.loop-passed.path.items ++ o) w refl in
     let k = added_long ts c.args.start (path_of c.args.before.items) (path_of c.loop-passed.path.items ++ o) p a v in
     let m = path_long c.loop-passed.path.items o in
@@ -67,7 +67,7 @@ loop-passed-preserved c =
       inside = x.ensures.there;
       passed = one_passed ts c.args.start c.loop-passed.at c.loop-passed.passed x.tag x.keyword x.default x.j c.loop-passed.invariant.passed x.ensures;
       onto = λ p q v s. c.loop-passed.invariant.onto ((label x.tag, c.form_at-form.result) ∷ p) q
-          (subst (λ f. Written ts c.loop-passed.at ((label x.tag, f) ∷ p)) (sym (c.form_at-form.ensures p v)) (x.ensures.tags p v))
+          (subst (λ f. WrittenTags ts c.loop-passed.at ((label x.tag, f) ∷ p)) (sym (c.form_at-form.ensures p v)) (x.ensures.tags p v))
           (s ∙ pushed c.loop-passed.path.items c.push-in-Inside.new.self.items p (record { tag = x.tag; form = c.form_at-form.result }) c.in_ok-push-in-Inside.ensures.ok);
       room = omega (arith, c.loop-passed.invariant.room, c.in_ok-push-in-Inside.ensures.capacity);
     }

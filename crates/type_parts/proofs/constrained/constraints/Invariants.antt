@@ -2,7 +2,7 @@ use Rattle.std.proofs.Common.{◌≡◌, length, map}
 use Rattle.grammar.specs.Lexeme.{lexemes}
 use Rattle.grammar.specs.Reading.{with_front, many_at}
 use Rattle.grammar.specs.Places.{small}
-use Rattle.kernel.specs.Given.{AreTokens}
+use Rattle.parser_combinators.specs.Given.{AreTokens}
 use Rattle.trees.specs.Constraints.{constraint_of}
 use Rattle.notation.specs.ConstraintReading.{constraint_at}
 use Rattle.grammar.specs.Reading.{is_open}

@@ -2,7 +2,7 @@ use Rattle.std.proofs.Common.{◌++◌, [], ◌∷◌, map, arith, ap, ◌∙◌
 use Rattle.std.proofs.lemmas.Iterator.Adapters.{YieldsList-from_vec}
 use Rattle.std.proofs.lemmas.Iterator.Consumers.{YieldsList-end}
 use Rattle.std.proofs.lemmas.List.{map_push, length_push}
-use Rattle.kernel.specs.Parts.{addition_of}
+use Rattle.parser_combinators.specs.Parts.{addition_of}
 use Rattle.trees.specs.Types.{MemberTree, type_member_of}
 use Rattle.type_syntax.specs.Listings.{named_component}
 use Rattle.type_syntax.proofs.Flattening.{one_alone, one_bracket, all_taken}

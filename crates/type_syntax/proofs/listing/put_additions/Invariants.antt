@@ -1,5 +1,5 @@
 use Rattle.std.proofs.Common.{◌≤◌, length, map}
-use Rattle.kernel.specs.Parts.{addition_of}
+use Rattle.parser_combinators.specs.Parts.{addition_of}
 use Rattle.trees.specs.Types.{type_member_of}
 use Rattle.type_syntax.specs.Listings.{named_component}
 use Rattle.type_syntax.proofs.Flattening.{Taken}

@@ -17,8 +17,8 @@ decreases-plain l = 10 * l.depth + 3
 abbrev pub decreases-tagged : goal.decreases-tagged
 decreases-tagged l = 10 * l.depth + 0
 
-abbrev pub decreases-behind : goal.decreases-behind
-decreases-behind l = 10 * l.depth + 3
+abbrev pub decreases-after_keyword : goal.decreases-after_keyword
+decreases-after_keyword l = 10 * l.depth + 3
 
 abbrev pub decreases-structure : goal.decreases-structure
 decreases-structure l = 10 * l.depth + 2
@@ -32,8 +32,8 @@ decreases-list_braces l = 10 * l.depth + 0
 abbrev pub decreases-list : goal.decreases-list
 decreases-list l = 10 * l.depth + 2
 
-abbrev pub decreases-of : goal.decreases-of
-decreases-of l = 10 * l.depth + 1
+abbrev pub decreases-element_type : goal.decreases-element_type
+decreases-element_type l = 10 * l.depth + 1
 
 abbrev pub decreases-step : goal.decreases-step
 decreases-step l = 10 * l.depth + 4
@@ -44,17 +44,17 @@ decreases-type_syntax l = 10 * l.depth + 5
 abbrev pub decreases-inside_tag : goal.decreases-inside_tag
 decreases-inside_tag l = 10 * l.depth + 6
 
-abbrev pub decreases-bare : goal.decreases-bare
-decreases-bare l = 10 * l.depth + 6
+abbrev pub decreases-alternative_type : goal.decreases-alternative_type
+decreases-alternative_type l = 10 * l.depth + 6
 
 abbrev pub decreases-component : goal.decreases-component
 decreases-component l = 10 * l.depth + 6
 
-abbrev pub decreases-inside_choice-reads_by : goal.decreases-inside_choice-reads_by
-decreases-inside_choice-reads_by l = 10 * l.depth + 7
+abbrev pub decreases-inside_choice-fn_parser : goal.decreases-inside_choice-fn_parser
+decreases-inside_choice-fn_parser l = 10 * l.depth + 7
 
-abbrev pub decreases-inside_list-reads_by : goal.decreases-inside_list-reads_by
-decreases-inside_list-reads_by l = 10 * l.depth + 7
+abbrev pub decreases-inside_list-fn_parser : goal.decreases-inside_list-fn_parser
+decreases-inside_list-fn_parser l = 10 * l.depth + 7
 
 abbrev pub decreases-inside_choice : goal.decreases-inside_choice
 decreases-inside_choice l = 10 * l.depth + 8

@@ -4,7 +4,7 @@ use mir.Val.{to_z}
 use Rattle.std.specs.Prelude.{pos}
 use Rattle.std.proofs.lemmas.Int.{to_z_pos}
 use Rattle.type_table.specs.Items.{is_among}
-use Rattle.type_table.proofs.Free.{AreTaken, among_stands, not_among, taken_more, taken_all}
+use Rattle.type_table.proofs.Free.{AreTaken, among_occurs, not_among, taken_more, taken_all}
 use Rattle.type_table.proofs.items.free.Goals as goal
 
 pub returns-then-at-ge170141183460469231731687303715884105728-clause-free : goal.returns-then-at-ge170141183460469231731687303715884105728-clause-free
@@ -32,7 +32,7 @@ loop-turn-preserved c =
     let here : is_among (pos c.loop-turn.at) c.args.used.now.keys ≡ true = ap (λ z. is_among z c.args.used.now.keys) (sym q) ∙ sym c.if-not-contains.ensures in
     let e : c.loop-turn.at + 1 ≡ suc c.loop-turn.at = omega arith in
     record {
-      taken = subst (λ m. AreTaken c.args.used.now.keys c.args.from m) (sym e) (taken_more c.args.used.now.keys c.args.from c.loop-turn.at c.loop-turn.invariant.taken (among_stands (pos c.loop-turn.at) c.args.used.now.keys here));
+      taken = subst (λ m. AreTaken c.args.used.now.keys c.args.from m) (sym e) (taken_more c.args.used.now.keys c.args.from c.loop-turn.at c.loop-turn.invariant.taken (among_occurs (pos c.loop-turn.at) c.args.used.now.keys here));
       reached = omega (arith, c.loop-turn.invariant.reached);
       small = omega (arith, small);
     }

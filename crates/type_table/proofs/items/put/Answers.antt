@@ -23,4 +23,4 @@ returns-clause-within c =
     let z = to_z w128 (of_z w128 c.args.number) in
     let same : z ≡ c.args.number = to_z-of_z w128 c.args.number f in
     let put = subst (λ n. Puts c.args.set.now.keys c.insert.new.self.keys n) same (puts int_cmp int_cmp_total int_exact c.args.set.now.keys c.insert.new.self.keys z c.in_ok-insert.ensures.updates.0) in
-    λ w. within_puts c.args.set.now.keys c.insert.new.self.keys c.args.number put w (subst IsWithinLimit same c.integer_within_limit.ensures)
+    λ w. within_puts c.args.set.now.keys c.insert.new.self.keys c.args.number put w (subst IsWithinLimit same c.lemma_integer_within_limit.ensures)

@@ -27,7 +27,7 @@ loop-item-preserved c =
           let items = ap (λ v. v.items) w.numbers-is ∙ more ∙ ap (λ y. c.loop-item.numbers.items ++ y ∷ []) same in
           record {
             numbers = root_step given c.loop-item.numbers.items c.match-item.numbers.items c.loop-item.next c.match-item.next c.loop-item.item-index c.args.items.now c.item-item.result w.in-Some.number (root_numbers (map item_of c.args.items.now)) l c.item-item.is c.loop-item.invariant.numbers (sym (ap (number_or c.loop-item.next given) w.in-Some.is)) (w.next-is ∙ sym (ap (counted_to c.loop-item.next given) w.in-Some.is)) items;
-            within = subst (λ q. AreWithinLimit q) (sym items) (within_more c.loop-item.numbers.items w.in-Some.number c.loop-item.invariant.within (subst IsWithinLimit same w.integer_within_limit.ensures));
+            within = subst (λ q. AreWithinLimit q) (sym items) (within_more c.loop-item.numbers.items w.in-Some.number c.loop-item.invariant.within (subst IsWithinLimit same w.lemma_integer_within_limit.ensures));
             small = (let n = w.next-is in omega (arith, n, c.loop-item.invariant.small));
           })
       | in-None+in_ok-push-in-None w ↦ (

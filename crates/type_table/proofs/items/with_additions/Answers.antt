@@ -34,7 +34,7 @@ loop-i-preserved c =
     record {
       numbers = additions_step c.args.root.items c.loop-i.numbers.items c.push.new.self.items c.loop-i.next c.max-next.result c.loop-i.i c.args.items.now c.index-items-i.result c.in-Some.number (c.args.root.items ++ additions_from c.args.root.items 0 (map item_of c.args.items.now)) l c.index-items-i.is c.loop-i.invariant.numbers (c.in-Some.ensures c.args.root.items set ∙ ap (λ q. number_or c.loop-i.next c.args.root.items q.number) (sym c.index-items-i.is)) next items;
       long = omega (arith, c.loop-i.invariant.long, ap length items, length-append c.loop-i.numbers.items (c.in-Some.number ∷ []));
-      within = subst (λ q. AreWithinLimit q) (sym items) (within_more c.loop-i.numbers.items c.in-Some.number c.loop-i.invariant.within (subst IsWithinLimit same c.integer_within_limit.ensures));
+      within = subst (λ q. AreWithinLimit q) (sym items) (within_more c.loop-i.numbers.items c.in-Some.number c.loop-i.invariant.within (subst IsWithinLimit same c.lemma_integer_within_limit.ensures));
       small = omega (arith, past_small, c.max-next.ensures, c.loop-i.invariant.small);
     }
 

@@ -2,16 +2,16 @@ use Rattle.std.proofs.Common.{◌≡◌, ◌++◌, List, [], length, map, sym, s
 use Rattle.std.proofs.lemmas.List.{map-append}
 use Rattle.trees.specs.Types.{an_enumerated, item_of}
 use Rattle.trees.specs.Values.{Name}
-use Rattle.names.specs.Modules.{AreDistinct, StandsTwice}
+use Rattle.names.specs.Modules.{AreDistinct, OccursTwice}
 use Rattle.names.specs.proving.Distinct.{twice_left}
 use Rattle.type_table.specs.Items.{Item}
-use Rattle.type_table.specs.Seen.{root_of, more_of, behind_marker}
+use Rattle.type_table.specs.Seen.{root_of, more_of, after_marker}
 use Rattle.type_table.specs.Table.{simple}
 use Rattle.type_table.specs.proving.Checks.{texts}
 use Rattle.type_table.proofs.ListFaults.{kind_repeated}
 use Rattle.std.proofs.lemmas.List.{length-map}
 use Rattle.trees.specs.declared.types.EnumeratedItem.{EnumeratedItem}
-use Rattle.type_table.specs.FirstInList.{HasFewItems, TellsSecond, all_names, all_places, item_places, items_behind}
+use Rattle.type_table.specs.FirstInList.{HasFewItems, ReportsSecond, all_names, all_places, item_places, items_after}
 use Rattle.type_table.proofs.FirstFaults.{second_such, second_wide}
 use Rattle.type_table.proofs.lists.enumerated.Goals as goal
 
@@ -31,8 +31,8 @@ returns-in-Err-item_names-clause-fault c =
     let more = more_of c.args.given.now in
     let none = texts c.new-names.result.keys in
     let same = ap (λ l. none ++ names_of (map item_of l)) c.deref.ensures.value ∙ root_names none root (ap texts c.new-names.ensures.empty) in
-    kind_repeated c.args.within.now c.args.assigns.now (simple (an_enumerated root (behind_marker c.args.given.now))) _ c.in-Err-item_names.fault
-    (λ y t. inl (subst (λ l. StandsTwice l y) (sym (map-append (λ (i : Item). i.0) root more)) (twice_left (names_of root) (names_of more) y (subst (λ l. StandsTwice l y) same t)))) c.in-Err-item_names.ensures.fault
+    kind_repeated c.args.within.now c.args.assigns.now (simple (an_enumerated root (after_marker c.args.given.now))) _ c.in-Err-item_names.fault
+    (λ y t. inl (subst (λ l. OccursTwice l y) (sym (map-append (λ (i : Item). i.0) root more)) (twice_left (names_of root) (names_of more) y (subst (λ l. OccursTwice l y) same t)))) c.in-Err-item_names.ensures.fault
 
 pub returns-in-Err-item_names-2-clause-fault : goal.returns-in-Err-item_names-2-clause-fault
 returns-in-Err-item_names-2-clause-fault c =
@@ -42,8 +42,8 @@ returns-in-Err-item_names-2-clause-fault c =
     let first = texts c.item_names.new.names.keys in
     let g = c.in-Ok-item_names.ensures.added ∙ ap (λ l. none ++ names_of (map item_of l)) c.deref.ensures.value in
     let same = ap (λ l. first ++ names_of l) c.additions.ensures.items ∙ all_names' none first root more (ap texts c.new-names.ensures.empty) g in
-    kind_repeated c.args.within.now c.args.assigns.now (simple (an_enumerated root (behind_marker c.args.given.now))) _ c.in-Err-item_names-2.fault
-    (λ y t. inl (subst (λ l. StandsTwice l y) same t)) c.in-Err-item_names-2.ensures.fault
+    kind_repeated c.args.within.now c.args.assigns.now (simple (an_enumerated root (after_marker c.args.given.now))) _ c.in-Err-item_names-2.fault
+    (λ y t. inl (subst (λ l. OccursTwice l y) same t)) c.in-Err-item_names-2.ensures.fault
 
 pub returns-in-Ok-item_numbers_once-clause-good : goal.returns-in-Ok-item_numbers_once-clause-good
 returns-in-Ok-item_numbers_once-clause-good c =
@@ -71,8 +71,8 @@ returns-in-Err-item_names-clause-first c =
     let same = ap (λ l. none ++ names_of (map item_of l)) c.deref.ensures.value ∙ root_names none root empty in
     let places = ap item_places c.deref.ensures.value in
     let t = c.in-Err-item_names.ensures.first [] (sym (ap length empty)) in
-    inr (inl (second_wide c.args.within.now ([] ++ item_places c.deref.result.now) (item_places (items_behind e)) (all_places e) (none ++ names_of (map item_of c.deref.result.now)) (names_of more) (all_names e) (λ i. Unit {0}) (λ i. HasFewItems e) c.in-Err-item_names.fault
-    (ap (λ l. l ++ item_places (items_behind e)) places) (ap (λ l. l ++ names_of more) same ∙ sym (map-append (λ (i : Item). i.0) root more)) (λ i u. (c.in-Ok.ensures.root, c.in-Ok.ensures.more)) t))
+    inr (inl (second_wide c.args.within.now ([] ++ item_places c.deref.result.now) (item_places (items_after e)) (all_places e) (none ++ names_of (map item_of c.deref.result.now)) (names_of more) (all_names e) (λ i. Unit {0}) (λ i. HasFewItems e) c.in-Err-item_names.fault
+    (ap (λ l. l ++ item_places (items_after e)) places) (ap (λ l. l ++ names_of more) same ∙ sym (map-append (λ (i : Item). i.0) root more)) (λ i u. (c.in-Ok.ensures.root, c.in-Ok.ensures.more)) t))
 
 pub returns-in-Err-item_names-2-clause-first : goal.returns-in-Err-item_names-2-clause-first
 returns-in-Err-item_names-2-clause-first c =

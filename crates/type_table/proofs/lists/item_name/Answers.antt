@@ -5,7 +5,7 @@ use Rattle.trees.specs.Types.{item_of}
 use Rattle.names.specs.proving.Distinct.{left, right}
 use Rattle.type_table.specs.Items.{Item}
 use Rattle.type_table.specs.Seen.{root_of, more_of}
-use Rattle.type_table.specs.FirstInList.{item_places, items_behind}
+use Rattle.type_table.specs.FirstInList.{item_places, items_after}
 use Rattle.trees.specs.declared.types.EnumeratedItem.{EnumeratedItem}
 use Rattle.type_table.proofs.lists.item_name.Goals as goal
 
@@ -32,7 +32,7 @@ returns-else-number-count-clause-name c =
 pub returns-then-number-count-clause-place : goal.returns-then-number-count-clause-place
 returns-then-number-count-clause-place c =
     let e = c.args.given.now in
-    left (item_places e.root.items) (item_places (items_behind e)) c.args.number _
+    left (item_places e.root.items) (item_places (items_after e)) c.args.number _
     (ap (λ l. slice_get (item_places l) c.args.number) (sym c.deref.ensures.value) ∙ c.name_at_place.ensures.place)
 
 pub returns-else-number-count-clause-place : goal.returns-else-number-count-clause-place
@@ -43,5 +43,5 @@ returns-else-number-count-clause-place c =
     let m : c.len-count.result ≡ length e.root.items = omega arith in
     let n : length roots ≡ c.len-count.result = length-map e.root.items (λ (i : EnumeratedItem). i.name) ∙ sym m in
     let z : c.args.number ≡ length roots + k = omega (arith, n) in
-    ap (λ j. slice_get (roots ++ item_places (items_behind e)) j) z ∙ right roots (item_places (items_behind e)) k
+    ap (λ j. slice_get (roots ++ item_places (items_after e)) j) z ∙ right roots (item_places (items_after e)) k
     ∙ ap (λ l. slice_get (item_places l) k) (sym c.additions.ensures.same) ∙ c.name_at_place-else-number-count.ensures.place

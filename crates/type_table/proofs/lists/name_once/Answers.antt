@@ -3,7 +3,7 @@ use Rattle.std.specs.List.{list_any}
 use Rattle.std.specs.Prelude.{bytes_eq}
 use Rattle.std.proofs.lemmas.Slice.Eq.{bytes_eq-Decides}
 use Rattle.trees.specs.Values.{name_at}
-use Rattle.names.specs.Modules.{StandsIn}
+use Rattle.names.specs.Modules.{OccursIn}
 use Rattle.type_table.specs.proving.Checks.{texts}
 use Rattle.type_table.proofs.Sets.{any_true, any_false, added_text}
 use Rattle.type_table.proofs.lists.name_once.Goals as goal
@@ -12,8 +12,8 @@ pub returns-then-contains-clause-fault : goal.returns-then-contains-clause-fault
 returns-then-contains-clause-fault c =
     let x = c.as_str-text.result.now in
     let ks = c.args.names.now.keys in
-    let e = c.in_ok-spot.ensures in
-    (e.within, e.name ∙ c.as_str-text.ensures.value, subst (λ z. StandsIn (texts ks) z) c.as_str-text.ensures.value (any_true string_bytes x (λ k. bytes_eq x (string_bytes k)) ks (λ k e. (bytes_eq-Decides x (string_bytes k)).0 e) (sym c.if-contains.ensures)))
+    let e = c.in_ok-source_location.ensures in
+    (e.within, e.name ∙ c.as_str-text.ensures.value, subst (λ z. OccursIn (texts ks) z) c.as_str-text.ensures.value (any_true string_bytes x (λ k. bytes_eq x (string_bytes k)) ks (λ k e. (bytes_eq-Decides x (string_bytes k)).0 e) (sym c.if-contains.ensures)))
 
 pub returns-clause-added : goal.returns-clause-added
 returns-clause-added c =
@@ -25,4 +25,4 @@ pub returns-clause-fresh : goal.returns-clause-fresh
 returns-clause-fresh c = λ s.
     let x = c.as_str-text.result.now in
     let ks = c.args.names.now.keys in
-    any_false string_bytes x (λ k. bytes_eq x (string_bytes k)) ks (λ k e. (bytes_eq-Decides x (string_bytes k)).1 e) (sym c.if-contains.ensures) (subst (λ z. StandsIn (texts ks) z) (sym c.as_str-text.ensures.value) s)
+    any_false string_bytes x (λ k. bytes_eq x (string_bytes k)) ks (λ k e. (bytes_eq-Decides x (string_bytes k)).1 e) (sym c.if-contains.ensures) (subst (λ z. OccursIn (texts ks) z) (sym c.as_str-text.ensures.value) s)

@@ -7,7 +7,7 @@ use Rattle.trees.specs.Types.{number_of, an_integer}
 use Rattle.type_table.specs.Table.{simple}
 use Rattle.type_table.specs.proving.Checks.{texts, IsNumberFault}
 use Rattle.type_table.specs.proving.Sets.{Puts}
-use Rattle.names.specs.Modules.{StandsIn}
+use Rattle.names.specs.Modules.{OccursIn}
 use Rattle.type_table.proofs.Fronts.{seen_at, seen_long, kept_start, kept_more, kept_all, kept_in_start, kept_in_more, kept_in_all}
 use Rattle.type_table.proofs.ListFaults.{kind_taken, kind_numbered}
 use Rattle.names.specs.proving.Distinct.{item_at}
@@ -33,7 +33,7 @@ loop-item-preserved c =
     let ks = c.loop-item.numbers.keys in
     record {
       names = kept_more _ (texts c.loop-item.names.keys) (texts c.name_once.new.names.keys) i _ (seen_at (λ (n : Name × ℤ). n.0) number_of gs i c.item-item.result l c.item-item.is) c.loop-item.invariant.names c.in-Ok.ensures.added c.in-Ok.ensures.fresh;
-      numbers = kept_in_more _ c.loop-item.numbers.keys c.number_once.new.numbers.keys i _ (seen_at (λ (n : Name × ℤ). n.1) number_of gs i c.item-item.result l c.item-item.is) c.loop-item.invariant.numbers (subst (λ z. Puts ks c.number_once.new.numbers.keys z) same c.in-Ok-number_once.ensures.added) (subst (λ z. StandsIn ks z → ⊥) same c.in-Ok-number_once.ensures.fresh);
+      numbers = kept_in_more _ c.loop-item.numbers.keys c.number_once.new.numbers.keys i _ (seen_at (λ (n : Name × ℤ). n.1) number_of gs i c.item-item.result l c.item-item.is) c.loop-item.invariant.numbers (subst (λ z. Puts ks c.number_once.new.numbers.keys z) same c.in-Ok-number_once.ensures.added) (subst (λ z. OccursIn ks z → ⊥) same c.in-Ok-number_once.ensures.fresh);
     }
 
 pub returns-in-Err-clause-fault : goal.returns-in-Err-clause-fault

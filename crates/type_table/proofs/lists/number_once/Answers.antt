@@ -4,7 +4,7 @@ use mir.Val.{SFits}
 use Rattle.std.specs.Ordering.{int_cmp}
 use Rattle.std.proofs.lemmas.Cmp.{int_cmp_total}
 use Rattle.std.proofs.lemmas.Int.{to_z-of_z}
-use Rattle.names.specs.Modules.{StandsIn}
+use Rattle.names.specs.Modules.{OccursIn}
 use Rattle.type_table.specs.proving.Sets.{Puts}
 use Rattle.type_table.proofs.Sets.{int_exact, has, has_not, puts}
 use Rattle.type_table.proofs.lists.number_once.Goals as goal
@@ -14,15 +14,15 @@ returns-then-contains-clause-fault c =
     let f : SFits w128 c.args.number = search rules in
     let z = to_z w128 (of_z w128 c.args.number) in
     let ks = c.args.numbers.now.keys in
-    let e = c.in_ok-spot.ensures in
-    (e.within, e.name ∙ c.as_str.ensures.value, subst (λ n. StandsIn ks n) (to_z-of_z w128 c.args.number f) (has int_cmp int_cmp_total int_exact ks z (sym c.if-contains.ensures)))
+    let e = c.in_ok-source_location.ensures in
+    (e.within, e.name ∙ c.as_str.ensures.value, subst (λ n. OccursIn ks n) (to_z-of_z w128 c.args.number f) (has int_cmp int_cmp_total int_exact ks z (sym c.if-contains.ensures)))
 
 pub returns-clause-fresh : goal.returns-clause-fresh
 returns-clause-fresh c =
     let f : SFits w128 c.args.number = search rules in
     let z = to_z w128 (of_z w128 c.args.number) in
     let ks = c.args.numbers.now.keys in
-    λ s. has_not int_cmp int_cmp_total int_exact ks z (sym c.if-contains.ensures) (subst (λ n. StandsIn ks n) (sym (to_z-of_z w128 c.args.number f)) s)
+    λ s. has_not int_cmp int_cmp_total int_exact ks z (sym c.if-contains.ensures) (subst (λ n. OccursIn ks n) (sym (to_z-of_z w128 c.args.number f)) s)
 
 pub returns-clause-added : goal.returns-clause-added
 returns-clause-added c =

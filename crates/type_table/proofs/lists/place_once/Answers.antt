@@ -6,7 +6,7 @@ use Rattle.type_table.proofs.lists.place_once.Goals as goal
 
 pub returns-then-contains-clause-fault : goal.returns-then-contains-clause-fault
 returns-then-contains-clause-fault c =
-    let e = c.in_ok-spot.ensures in
+    let e = c.in_ok-source_location.ensures in
     (e.within, e.name ∙ c.as_str.ensures.value, has nat_cmp nat_cmp_total nat_exact c.args.places.now.keys c.args.place (sym c.if-contains.ensures))
 
 pub returns-clause-fresh : goal.returns-clause-fresh

@@ -4,4 +4,4 @@ use Rattle.type_table.specs.Table.{walk}
 use Rattle.type_table.proofs.unfolding.core_by.Given as goal
 
 abbrev pub invariant-loop-step : goal.invariant-loop-step
-invariant-loop-step l = record { inside : l.at < length l.types; leads : walk (types_of l.types) l.step l.start ≡ Some l.at }
+invariant-loop-step l = record { inside : l.at < length l.types; chain : walk (types_of l.types) l.step l.start ≡ Some l.at }

@@ -1,7 +1,7 @@
 use Rattle.std.proofs.Common.{◌≡◌, ◌<◌, length, Some, sym, ◌∙◌, arith}
 use Rattle.std.proofs.lemmas.List.{length-set}
 use Rattle.type_table.specs.Seen.{types_of}
-use Rattle.type_table.specs.Table.{next, IsCore}
+use Rattle.type_table.specs.Table.{next, IsUnderlying}
 use Rattle.type_table.proofs.Knowing.{core_on}
 use Rattle.type_table.specs.proving.Notes.{still_known, now_known, right_more}
 use Rattle.type_table.specs.proving.Tables.{next_at, as_long}
@@ -14,7 +14,7 @@ loop-step-init c =
     record {
       inside = c.requires.there;
       core = c.requires.core;
-      known = right_more (length ts) (IsCore ts) c.args.cores.now c.args.start c.args.core c.requires.known c.requires.core;
+      known = right_more (length ts) (IsUnderlying ts) c.args.cores.now c.args.start c.args.core c.requires.known c.requires.core;
       kept = λ i k. still_known n c.args.cores.now c.args.start i c.args.core c.requires.within k;
       noted = now_known n c.args.cores.now c.args.start c.args.core (omega (arith, c.requires.there, c.requires.long)) c.requires.within;
     }
@@ -44,7 +44,7 @@ loop-step-preserved c =
     record {
       inside = omega (arith, i, as_long c.args.types.now);
       core = u;
-      known = right_more (length ts) (IsCore ts) c.loop-step.cores c.in-Some.j c.args.core c.loop-step.invariant.known u;
+      known = right_more (length ts) (IsUnderlying ts) c.loop-step.cores c.in-Some.j c.args.core c.loop-step.invariant.known u;
       kept = λ k h. still_known m c.loop-step.cores c.in-Some.j k c.args.core c.requires.within (c.loop-step.invariant.kept k h);
       noted = still_known m c.loop-step.cores c.in-Some.j c.args.start c.args.core c.requires.within c.loop-step.invariant.noted;
     }

@@ -13,7 +13,7 @@ use Rattle.value_notations.specs.Values as values
 use Rattle.value_notations.specs.Wrong.{misfit}
 use Rattle.typed_values.specs.Faults as faults
 use Rattle.typed_values.specs.proving.Reading as reading
-use Rattle.typed_values.proofs.Following.{sound_kind}
+use Rattle.value_notations.specs.proving.Following.{sound_kind}
 use Rattle.typed_values.proofs.Rows.{got}
 use Rattle.typed_values.proofs.Readings.{of_kind, own_fault, room_fault, place_at, as_many, placed, field_there, field_stands, place_none, list_means, list_outside, list_fault, choice_means, choice_fault, fields_fault, fields_mean, value_as, means_as, alternative_below, alternative_at, alternative_name, no_alternative, names_misfit, row_count, unfollowed_at, written_of, last_of, member_there, element_there, no_reference, no_tagged, absent_addition, absent_optional, absent_mandatory, read_means, read_stands, last_at, stands_as}
 use Rattle.typed_values.proofs.Outcomes.{made_none, made_wrong, made_more, fields_made_none, fields_made_wrong, fields_made_more, zip_count}
@@ -29,7 +29,7 @@ all-loop-i-init t g c =
 pub all-returns-in-Err-clause-fault : goal.all-returns-in-Err-clause-fault
 all-returns-in-Err-clause-fault t g c =
     made_wrong _ _ _ _ c.loop-i.values.items c.args.notations.now c.loop-i.i c.index-notations-i.result c.loop-i-test.true c.index-notations-i.is
-    c.loop-i.invariant.read c.loop-i.invariant.back c.in-Err.ensures.tells
+    c.loop-i.invariant.read c.loop-i.invariant.back c.in-Err.ensures.is_read
 
 pub all-returns-in-Err-push-clause-fault : goal.all-returns-in-Err-push-clause-fault
 all-returns-in-Err-push-clause-fault t g c =
@@ -41,7 +41,7 @@ all-loop-i-preserved t g c =
     record {
       read = made_more _ _ _ _ c.loop-i.values.items c.push.new.self.items c.in-Ok.value c.args.notations.now c.loop-i.i
           c.index-notations-i.result c.loop-i-test.true c.index-notations-i.is c.in-Ok-push.ensures.items
-          c.loop-i.invariant.read c.loop-i.invariant.back c.in-Ok.ensures.tells;
+          c.loop-i.invariant.read c.loop-i.invariant.back c.in-Ok.ensures.is_read;
       back = c.in-Ok.ensures.back ∙ c.loop-i.invariant.back;
       known = c.in-Ok.ensures.known;
     }
@@ -103,12 +103,12 @@ all_fields-loop-i-preserved t g c =
 
 -- ---- alternatives
 
-pub chosen-returns-in_default-clause-tells : goal.chosen-returns-in_default-clause-tells
-chosen-returns-in_default-clause-tells t g c = λ os e N w h.
+pub chosen-returns-in_default-clause-is_read : goal.chosen-returns-in_default-clause-is_read
+chosen-returns-in_default-clause-is_read t g c = λ os e N w h.
     own_fault _ refl refl refl (misfit (of_kind w) h c.in_default.ensures)
 
-pub chosen-returns-in_default-alternative-clause-tells : goal.chosen-returns-in_default-alternative-clause-tells
-chosen-returns-in_default-alternative-clause-tells t g c = λ os e N w h.
+pub chosen-returns-in_default-alternative-clause-is_read : goal.chosen-returns-in_default-alternative-clause-is_read
+chosen-returns-in_default-alternative-clause-is_read t g c = λ os e N w h.
     own_fault _ refl refl refl
     (no_alternative c.in-Some.name.now (tree_of c.in-Some.notation.now) w h c.in-Some.ensures c.in_default-alternative.ensures)
 
@@ -134,21 +134,21 @@ chosen-read-requires t g c = λ k h. (
   ),
 )
 
-pub chosen-returns-in-Err-clause-tells : goal.chosen-returns-in-Err-clause-tells
-chosen-returns-in-Err-clause-tells t g c = λ os e N w h.
+pub chosen-returns-in-Err-clause-is_read : goal.chosen-returns-in-Err-clause-is_read
+chosen-returns-in-Err-clause-is_read t g c = λ os e N w h.
     let xs = c.args.alternatives.now in
     let n = c.in-Some-alternative.number in
     let d = c.index-alternatives-number.result in
     choice_fault (part_of (get_or xs n d)) w h c.in-Some.ensures
     (n, alternative_at xs n d _ c.in-Some-alternative.ensures)
-    (alternative_name xs n d _ c.in-Some-alternative.ensures) c.in-Err.ensures.tells
+    (alternative_name xs n d _ c.in-Some-alternative.ensures) c.in-Err.ensures.is_read
 
-pub chosen-returns-in-Ok-alternative-clause-tells : goal.chosen-returns-in-Ok-alternative-clause-tells
-chosen-returns-in-Ok-alternative-clause-tells t g c = λ os e N w h.
+pub chosen-returns-in-Ok-alternative-clause-is_read : goal.chosen-returns-in-Ok-alternative-clause-is_read
+chosen-returns-in-Ok-alternative-clause-is_read t g c = λ os e N w h.
     let xs = c.args.alternatives.now in
     let n = c.in-Some-alternative.number in
     let d = c.index-alternatives-number.result in
-    let m = c.in-Ok.ensures.tells in
+    let m = c.in-Ok.ensures.is_read in
     record {
       value = alternative n m.value;
       shown = c.in-Ok-alternative.ensures m.value m.shown;
@@ -157,14 +157,14 @@ chosen-returns-in-Ok-alternative-clause-tells t g c = λ os e N w h.
           (alternative_name xs n d _ c.in-Some-alternative.ensures) m.means;
     }
 
-pub chosen-returns-in-Err-alternative-clause-tells : goal.chosen-returns-in-Err-alternative-clause-tells
-chosen-returns-in-Err-alternative-clause-tells t g c = λ os e N w h. faults.no_memory refl
+pub chosen-returns-in-Err-alternative-clause-is_read : goal.chosen-returns-in-Err-alternative-clause-is_read
+chosen-returns-in-Err-alternative-clause-is_read t g c = λ os e N w h. faults.no_memory refl
 
 -- ---- defaults
 
 pub read_default-returns-in-Ok-clause-may : goal.read_default-returns-in-Ok-clause-may
 read_default-returns-in-Ok-clause-may t g c =
-    let m = means_as c.new-opened.ensures c.in-Ok.ensures.tells.means in
+    let m = means_as c.new-opened.ensures c.in-Ok.ensures.is_read.means in
     values.where_default c.requires.1.1.1.1.0 c.requires.1.1.1.1.1.0 m.stands m.value
 
 -- ---- a component
@@ -174,7 +174,7 @@ field-bounds-given-place t g c = field_there c.args.given.now _ c.in-Some.place 
 
 pub field-returns-in-Ok-clause-value : goal.field-returns-in-Ok-clause-value
 field-returns-in-Ok-clause-value t g c =
-    let m = c.in-Ok.ensures.tells in
+    let m = c.in-Ok.ensures.is_read in
     record {
       value = Some m.value;
       shown = m.shown;
@@ -191,7 +191,7 @@ pub field-returns-in-Err-clause-fault : goal.field-returns-in-Err-clause-fault
 field-returns-in-Err-clause-fault t g c =
     reading.in_field
     (field_stands c.args.given.now _ c.in-Some.place c.index-given-place.result (sym c.requires.1.1.1.1.0 ∙ c.in-Some.is))
-    c.in-Err.ensures.tells
+    c.in-Err.ensures.is_read
 
 pub field-returns-in-Ok-default-clause-value : goal.field-returns-in-Ok-default-clause-value
 field-returns-in-Ok-default-clause-value t g c = record {
@@ -207,15 +207,15 @@ field-returns-in-Err-default-clause-fault t g c =
 
 -- ---- a SEQUENCE or SET
 
-pub fields-returns-in_default-clause-tells : goal.fields-returns-in_default-clause-tells
-fields-returns-in_default-clause-tells t g c = λ os e w h.
+pub fields-returns-in_default-clause-is_read : goal.fields-returns-in_default-clause-is_read
+fields-returns-in_default-clause-is_read t g c = λ os e w h.
     own_fault _ refl refl refl
     (misfit (of_kind w) h (names_misfit c.args.kind e _ _ c.requires.1.1.1.0 (fields_none_found _ c.in_default.ensures)))
 
-pub fields-returns-in-Err-clause-tells : goal.fields-returns-in-Err-clause-tells
-fields-returns-in-Err-clause-tells t g c = λ os e w h.
+pub fields-returns-in-Err-clause-is_read : goal.fields-returns-in-Err-clause-is_read
+fields-returns-in-Err-clause-is_read t g c = λ os e w h.
     own_fault _ refl refl refl
-    (c.unarranged-cause.ensures c.args.bounded.now _ _ _ os _ _ _ c.args.kind e _ _ (of_kind w) c.requires.1.1.1.0 h
+    (c.names_cause-cause.ensures c.args.bounded.now _ _ _ os _ _ _ c.args.kind e _ _ (of_kind w) c.requires.1.1.1.0 h
     (fields_found _ _ c.in-Some.ensures) c.in-Err.ensures)
 
 pub fields-all_fields-requires : goal.fields-all_fields-requires
@@ -231,33 +231,33 @@ fields-all_fields-requires t g c = λ k h. (
   ),
 )
 
-pub fields-returns-in-Ok-all_fields-clause-tells : goal.fields-returns-in-Ok-all_fields-clause-tells
-fields-returns-in-Ok-all_fields-clause-tells t g c = λ os e w h.
+pub fields-returns-in-Ok-all_fields-clause-is_read : goal.fields-returns-in-Ok-all_fields-clause-is_read
+fields-returns-in-Ok-all_fields-clause-is_read t g c = λ os e w h.
     let r = c.in-Ok-all_fields.ensures.value in
     let m = r.mean in
     record {
       value = family_fields (row_of_options r.values);
       shown = c.fields.ensures r.values r.shown;
       means = fields_mean w c.requires.1.1.1.0 h
-          (c.stands_for_fields.ensures c.args.bounded.now _ _ c.args.kind e _ _ _ _ _ (fields_found _ _ c.in-Some.ensures) c.in-Ok.ensures m.stand)
-          (c.groups_whole.ensures c.args.bounded.now _ _ c.args.kind _ _ _ _ c.in-Ok.ensures m.stand) m;
+          (c.lemma_value_of_fields.ensures c.args.bounded.now _ _ c.args.kind e _ _ _ _ _ (fields_found _ _ c.in-Some.ensures) c.in-Ok.ensures m.stand)
+          (c.lemma_groups_are_whole.ensures c.args.bounded.now _ _ c.args.kind _ _ _ _ c.in-Ok.ensures m.stand) m;
     }
 
-pub fields-returns-clause-tells : goal.fields-returns-clause-tells
-fields-returns-clause-tells t g c = λ os e w h.
+pub fields-returns-clause-is_read : goal.fields-returns-clause-is_read
+fields-returns-clause-is_read t g c = λ os e w h.
     fields_fault w c.requires.1.1.1.0 h (fields_found _ _ c.in-Some.ensures) c.in-Ok.ensures c.in-Err-all_fields.ensures.fault
 
 -- ---- a SEQUENCE OF or SET OF
 
-pub list-returns-in_default-clause-tells : goal.list-returns-in_default-clause-tells
-list-returns-in_default-clause-tells t g c = λ os k N w h.
+pub list-returns-in_default-clause-is_read : goal.list-returns-in_default-clause-is_read
+list-returns-in_default-clause-is_read t g c = λ os k N w h.
     own_fault _ refl refl refl (misfit (of_kind w) h (values_none_found _ c.in_default.ensures))
 
-pub list-returns-in-Err-clause-tells : goal.list-returns-in-Err-clause-tells
-list-returns-in-Err-clause-tells t g c = λ os k N w h. list_fault w h (values_found _ _ c.in-Some.ensures) c.in-Err.ensures.fault
+pub list-returns-in-Err-clause-is_read : goal.list-returns-in-Err-clause-is_read
+list-returns-in-Err-clause-is_read t g c = λ os k N w h. list_fault w h (values_found _ _ c.in-Some.ensures) c.in-Err.ensures.fault
 
-pub list-returns-then-not-allows_size-clause-tells : goal.list-returns-then-not-allows_size-clause-tells
-list-returns-then-not-allows_size-clause-tells t g c = λ os k N w h.
+pub list-returns-then-not-allows_size-clause-is_read : goal.list-returns-then-not-allows_size-clause-is_read
+list-returns-then-not-allows_size-clause-is_read t g c = λ os k N w h.
     let r = c.in-Ok.ensures.value in
     let many = row_count r.values ∙ zip_count _ _ r.values r.shown ∙ sym c.in-Ok.values.ok.0 ∙ sym c.len.ensures in
     own_fault _ refl refl refl
@@ -267,8 +267,8 @@ list-returns-then-not-allows_size-clause-tells t g c = λ os k N w h.
     let f = (c.allows_size.ensures _ (of_kind w)).1 (b _ (of_kind w)) in
     cc))
 
-pub list-returns-clause-tells : goal.list-returns-clause-tells
-list-returns-clause-tells t g c = λ os k N w h.
+pub list-returns-clause-is_read : goal.list-returns-clause-is_read
+list-returns-clause-is_read t g c = λ os k N w h.
     let r = c.in-Ok.ensures.value in
     let many = row_count r.values ∙ zip_count _ _ r.values r.shown ∙ sym c.in-Ok.values.ok.0 ∙ sym c.len.ensures in
     record {
@@ -281,16 +281,16 @@ list-returns-clause-tells t g c = λ os k N w h.
 
 -- ---- a notation
 
-pub read-returns-then-levels-eq0-clause-tells : goal.read-returns-then-levels-eq0-clause-tells
-read-returns-then-levels-eq0-clause-tells t g c = faults.itself refl refl refl tt c.if-levels-eq0.true
+pub read-returns-then-levels-eq0-clause-is_read : goal.read-returns-then-levels-eq0-clause-is_read
+read-returns-then-levels-eq0-clause-is_read t g c = faults.itself refl refl refl tt c.if-levels-eq0.true
 
-pub read-returns-then-left-eq0-clause-tells : goal.read-returns-then-left-eq0-clause-tells
-read-returns-then-left-eq0-clause-tells t g c = faults.itself refl refl refl c.if-levels-eq0.false c.if-left-eq0.true
+pub read-returns-then-left-eq0-clause-is_read : goal.read-returns-then-left-eq0-clause-is_read
+read-returns-then-left-eq0-clause-is_read t g c = faults.itself refl refl refl c.if-levels-eq0.false c.if-left-eq0.true
 
-pub read-returns-in-Err-clause-tells : goal.read-returns-in-Err-clause-tells
-read-returns-in-Err-clause-tells t g c =
+pub read-returns-in-Err-clause-is_read : goal.read-returns-in-Err-clause-is_read
+read-returns-in-Err-clause-is_read t g c =
     room_fault _ refl refl refl c.if-levels-eq0.false c.if-left-eq0.false
-    (unfollowed_at _ _ _ _ _ _ _ c.linked-linked.ensures c.written.ensures c.in-Err.ensures.fault c.unfollowed-cause.ensures)
+    (unfollowed_at _ _ _ _ _ _ _ c.linked-linked.ensures c.written.ensures c.in-Err.ensures.fault c.follow_cause-cause.ensures)
 
 pub value_of-list-requires : goal.value_of-list-requires
 value_of-list-requires t g c =
@@ -331,8 +331,8 @@ value_of-fields-requires t g c =
       ),
     )
 
-pub value_of-returns-in-Ok-clause-tells : goal.value_of-returns-in-Ok-clause-tells
-value_of-returns-in-Ok-clause-tells t g c = λ os h.
+pub value_of-returns-in-Ok-clause-is_read : goal.value_of-returns-in-Ok-clause-is_read
+value_of-returns-in-Ok-clause-is_read t g c = λ os h.
     let e = ap kind_of c.in-Simple.is in
     record {
       value = _;
@@ -340,31 +340,31 @@ value_of-returns-in-Ok-clause-tells t g c = λ os h.
       means = c.in-Ok.ensures _ _ os _ c.args.home.now (written_of e c.requires.1.1.1.1.1.0) (last_of e h);
     }
 
-pub value_of-returns-in-Err-clause-tells : goal.value_of-returns-in-Err-clause-tells
-value_of-returns-in-Err-clause-tells t g c = λ os h.
+pub value_of-returns-in-Err-clause-is_read : goal.value_of-returns-in-Err-clause-is_read
+value_of-returns-in-Err-clause-is_read t g c = λ os h.
     let e = ap kind_of c.in-Simple.is in
     c.in-Err.ensures _ _ os _ c.args.home.now (written_of e c.requires.1.1.1.1.1.0) (last_of e h)
 
-pub value_of-returns-in-Elements-clause-tells : goal.value_of-returns-in-Elements-clause-tells
-value_of-returns-in-Elements-clause-tells t g c = λ os h.
+pub value_of-returns-in-Elements-clause-is_read : goal.value_of-returns-in-Elements-clause-is_read
+value_of-returns-in-Elements-clause-is_read t g c = λ os h.
     let e = ap kind_of c.in-Elements.is in
-    c.list.ensures.tells os _ c.args.home.now (written_of e c.requires.1.1.1.1.1.0) (last_of e h)
+    c.list.ensures.is_read os _ c.args.home.now (written_of e c.requires.1.1.1.1.1.0) (last_of e h)
 
 -- ---- the rest
 
-pub value_of-returns-then-is_choice-clause-tells : goal.value_of-returns-then-is_choice-clause-tells
-value_of-returns-then-is_choice-clause-tells t g c = λ os h.
+pub value_of-returns-then-is_choice-clause-is_read : goal.value_of-returns-then-is_choice-clause-is_read
+value_of-returns-then-is_choice-clause-is_read t g c = λ os h.
     let e = ap kind_of c.in-Members.is
     ∙ ap (λ cs. table.members c.in-Members.kind c.in-Members.field-1 (map part_of cs)) (sym c.as_slice-members.ensures.value) in
     let g = e ∙ ap (λ k. table.members k c.in-Members.field-1 (map part_of c.as_slice-members.result.now))
     (c.is_choice.ensures.yes c.if-is_choice.true) in
-    c.chosen.ensures.tells os _ c.args.home.now (written_of g c.requires.1.1.1.1.1.0) (last_of g h)
+    c.chosen.ensures.is_read os _ c.args.home.now (written_of g c.requires.1.1.1.1.1.0) (last_of g h)
 
-pub value_of-returns-else-is_choice-clause-tells : goal.value_of-returns-else-is_choice-clause-tells
-value_of-returns-else-is_choice-clause-tells t g c = λ os h.
+pub value_of-returns-else-is_choice-clause-is_read : goal.value_of-returns-else-is_choice-clause-is_read
+value_of-returns-else-is_choice-clause-is_read t g c = λ os h.
     let e = ap kind_of c.in-Members.is
     ∙ ap (λ cs. table.members c.in-Members.kind c.in-Members.field-1 (map part_of cs)) (sym c.as_slice-members.ensures.value) in
-    c.fields.ensures.tells os _ (written_of e c.requires.1.1.1.1.1.0) (last_of e h)
+    c.fields.ensures.is_read os _ (written_of e c.requires.1.1.1.1.1.0) (last_of e h)
 
 pub value_of-unreachable-requires : goal.value_of-unreachable-requires
 value_of-unreachable-requires t g c =
@@ -392,19 +392,19 @@ value_of-simple_value-requires-clause-sound t g c =
 pub value_of-simple_value-requires-clause-is : goal.value_of-simple_value-requires-clause-is
 value_of-simple_value-requires-clause-is t g c = of_kind (written_of (ap kind_of c.in-Simple.is) c.requires.1.1.1.1.1.0)
 
-pub read-returns-in-Ok-value_of-clause-tells : goal.read-returns-in-Ok-value_of-clause-tells
-read-returns-in-Ok-value_of-clause-tells t g c =
-    let m = c.in-Ok-value_of.ensures.tells _ (last_at c.linked-linked.ensures c.in-Ok.ensures.last) in
+pub read-returns-in-Ok-value_of-clause-is_read : goal.read-returns-in-Ok-value_of-clause-is_read
+read-returns-in-Ok-value_of-clause-is_read t g c =
+    let m = c.in-Ok-value_of.ensures.is_read _ (last_at c.linked-linked.ensures c.in-Ok.ensures.last) in
     record {
       value = m.value;
       shown = m.shown;
       means = read_means _ _ c.if-levels-eq0.false c.if-left-eq0.false m.means;
     }
 
-pub read-returns-in-Err-value_of-clause-tells : goal.read-returns-in-Err-value_of-clause-tells
-read-returns-in-Err-value_of-clause-tells t g c =
+pub read-returns-in-Err-value_of-clause-is_read : goal.read-returns-in-Err-value_of-clause-is_read
+read-returns-in-Err-value_of-clause-is_read t g c =
     read_stands _ _ c.if-levels-eq0.false c.if-left-eq0.false
-    (c.in-Err-value_of.ensures.tells _ (last_at c.linked-linked.ensures c.in-Ok.ensures.last))
+    (c.in-Err-value_of.ensures.is_read _ (last_at c.linked-linked.ensures c.in-Ok.ensures.last))
 
 pub read-returns-in-Ok-value_of-clause-back : goal.read-returns-in-Ok-value_of-clause-back
 read-returns-in-Ok-value_of-clause-back t g c =
@@ -416,7 +416,7 @@ read_default-returns-clause-fault t g c =
       default = tree_of c.args.notation.now;
       standing = c.requires.1.1.1.1.0;
       presence = c.requires.1.1.1.1.1.0;
-      fault = stands_as c.new-opened.ensures c.in-Err.ensures.tells;
+      fault = stands_as c.new-opened.ensures c.in-Err.ensures.is_read;
     }
 
 pub default-returns-in-Addition-clause-may : goal.default-returns-in-Addition-clause-may

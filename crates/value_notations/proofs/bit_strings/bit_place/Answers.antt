@@ -3,7 +3,7 @@ use Rattle.std.specs.Prelude.{bytes_eq}
 use Rattle.std.proofs.lemmas.List.{length-map}
 use Rattle.trees.specs.Types.{bit_of}
 use Rattle.value_notations.proofs.Lists.{seen_here}
-use Rattle.value_notations.proofs.Under.{found_at, passed_at, passed_all}
+use Rattle.range_ends.specs.proving.Under.{found_at, passed_at, passed_all}
 use Rattle.value_notations.proofs.bit_strings.bit_place.Goals as goal
 
 pub returns-then-eq : goal.returns-then-eq

@@ -9,7 +9,7 @@ use Rattle.value_notations.proofs.leaf.nothing.Goals as goal
 pub returns-then-is_null : goal.returns-then-is_null
 returns-then-is_null c =
     let n = tree_of c.args.notation.now in
-    subst (λ (v : AbstractValue). IsLeaf a_null n v) (sym c.abstract_values.ensures.null_)
+    subst (λ (v : AbstractValue). IsLeaf a_null n v) (sym c.lemma_abstract_values.ensures.null_)
     (null_made n (sym c.is_null.ensures ∙ c.if-is_null.true))
 
 pub returns-else-is_null : goal.returns-else-is_null

@@ -9,13 +9,13 @@ use Rattle.value_notations.proofs.leaf.octet_string.Goals as goal
 pub returns-in-Some : goal.returns-in-Some
 returns-in-Some c =
     let n = tree_of c.args.notation.now in
-    subst (λ (v : AbstractValue). IsLeaf an_octet_string n v) (sym (c.abstract_values.ensures.octets_ c.in_ok-bit_octets.field-0))
+    subst (λ (v : AbstractValue). IsLeaf an_octet_string n v) (sym (c.lemma_abstract_values.ensures.octets_ c.in_ok-bit_octets.field-0))
     (binary_made n _ _ (sym c.binary_in.ensures ∙ ap (option_map (λ d. d.now)) c.in-Some.is) c.in_ok-bit_octets.ensures)
 
 pub returns-in_ok-hex_octets-in-Some-hex_in : goal.returns-in_ok-hex_octets-in-Some-hex_in
 returns-in_ok-hex_octets-in-Some-hex_in c =
     let n = tree_of c.args.notation.now in
     subst (λ (v : AbstractValue). IsLeaf an_octet_string n v)
-    (sym (c.abstract_values.ensures.octets_ c.in_ok-hex_octets-in-Some-hex_in.field-0))
+    (sym (c.lemma_abstract_values.ensures.octets_ c.in_ok-hex_octets-in-Some-hex_in.field-0))
     (hex_made n _ _ (sym c.hex_in.ensures ∙ ap (option_map (λ d. d.now)) c.in-Some-hex_in.is)
     c.in_ok-hex_octets-in-Some-hex_in.ensures)

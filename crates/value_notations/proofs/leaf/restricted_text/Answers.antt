@@ -24,5 +24,5 @@ returns-in_ok-from_str-in-Ok c =
     let cases = c.in-Ok.ensures.cases in
     let same : string_bytes t ≡ c.in-Some.octets.now = search rules in
     let r : c.are_characters.result ≡ true = search rules in
-    subst (λ (v : AbstractValue). IsLeaf (a_restricted_string c.args.kind) n v) (sym (c.abstract_values.ensures.text_ t))
+    subst (λ (v : AbstractValue). IsLeaf (a_restricted_string c.args.kind) n v) (sym (c.lemma_abstract_values.ensures.text_ t))
     (rw same (restricted_made c.args.kind n c.in-Some.octets.now is (c.are_characters.ensures.yes r)))

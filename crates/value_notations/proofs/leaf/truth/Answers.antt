@@ -9,7 +9,7 @@ use Rattle.value_notations.proofs.leaf.truth.Goals as goal
 pub returns-in-Some : goal.returns-in-Some
 returns-in-Some c =
     let n = tree_of c.args.notation.now in
-    subst (λ (v : AbstractValue). IsLeaf a_boolean n v) (sym (c.abstract_values.ensures.bool c.in-Some.value))
+    subst (λ (v : AbstractValue). IsLeaf a_boolean n v) (sym (c.lemma_abstract_values.ensures.bool c.in-Some.value))
     (truth_made n c.in-Some.value (sym c.truth_in.ensures ∙ c.in-Some.is))
 
 pub returns-in-None : goal.returns-in-None

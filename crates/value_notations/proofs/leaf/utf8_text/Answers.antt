@@ -22,5 +22,5 @@ returns-in_ok-from_str-in-Ok c =
     let says = c.in_ok-from_str-in-Ok.ensures in
     let cases = c.in-Ok.ensures.cases in
     let same : string_bytes t ≡ c.in-Some.octets.now = search rules in
-    subst (λ (v : AbstractValue). IsLeaf a_utf8_string n v) (sym (c.abstract_values.ensures.text_ t))
+    subst (λ (v : AbstractValue). IsLeaf a_utf8_string n v) (sym (c.lemma_abstract_values.ensures.text_ t))
     (rw same (utf8_made n c.in-Some.octets.now is cases.1))

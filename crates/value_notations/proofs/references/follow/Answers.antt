@@ -3,7 +3,7 @@ use Rattle.std.proofs.lemmas.List.{length-map}
 use Rattle.trees.specs.Values.{tree_of}
 use Rattle.names.specs.Sources.{value_of}
 use Rattle.type_table.specs.Seen.{kind_of}
-use Rattle.value_notations.specs.Wrong.{LeadsTo}
+use Rattle.value_notations.specs.Wrong.{OpenedPath}
 use Rattle.value_notations.specs.Wrong as wrong
 use Rattle.value_notations.specs.proving.Opened.{IsGrown}
 use Rattle.value_notations.proofs.Leading.{leads_more, leads_own, leads_lost, leads_round}
@@ -12,20 +12,20 @@ use Rattle.value_notations.proofs.references.follow.Goals as goal
 
 pub loop-step-init : goal.loop-step-init
 loop-step-init c = record {
-  leads = wrong.there;
+  chain = wrong.there;
   grown = none_more c.args.opened.now (length c.args.linked.now.values);
   text = c.utf8.within;
 }
 
 pub returns-in-Itself-clause-last : goal.returns-in-Itself-clause-last
-returns-in-Itself-clause-last c = leads_own c.loop-step.invariant.leads c.in-Itself.ensures
+returns-in-Itself-clause-last c = leads_own c.loop-step.invariant.chain c.in-Itself.ensures
 
 pub returns-in-Nothing-clause-fault : goal.returns-in-Nothing-clause-fault
-returns-in-Nothing-clause-fault c = leads_lost c.loop-step.invariant.leads c.in-Nothing.ensures
+returns-in-Nothing-clause-fault c = leads_lost c.loop-step.invariant.chain c.in-Nothing.ensures
 
 pub returns-in-Again-clause-fault : goal.returns-in-Again-clause-fault
 returns-in-Again-clause-fault c =
-    leads_round c.in-Again.number c.loop-step.invariant.leads c.in-Again.ensures.0 c.in-Again.ensures.1
+    leads_round c.in-Again.number c.loop-step.invariant.chain c.in-Again.ensures.0 c.in-Again.ensures.1
 
 pub loop-step-preserved : goal.loop-step-preserved
 loop-step-preserved c =
@@ -35,14 +35,14 @@ loop-step-preserved c =
     let ps = c.loop-step.opened in
     let N = c.notation_at.result.0.now in
     let m = tree_of c.notation_at.result.1.now in
-    let i = c.in-Behind.number in
+    let i = c.in-Referred.number in
     let e = c.in-Ok.ensures.ok in
     record {
-      leads = subst (λ (z : List ℕ). LeadsTo p k os c.args.within.now (tree_of c.args.notation.now) z N m) (sym e)
-          (leads_more i c.loop-step.invariant.leads c.in-Behind.ensures.0 c.in-Behind.ensures.1 c.notation_at.ensures.stands);
+      chain = subst (λ (z : List ℕ). OpenedPath p k os c.args.within.now (tree_of c.args.notation.now) z N m) (sym e)
+          (leads_more i c.loop-step.invariant.chain c.in-Referred.ensures.0 c.in-Referred.ensures.1 c.notation_at.ensures.stands);
       grown = subst (λ (z : List ℕ). IsGrown os z (length p.values) (c.loop-step.step + 1)) (sym e)
-          (one_more os ps (length p.values) c.loop-step.step i c.loop-step.invariant.grown c.in-Behind.ensures.2
-          c.in-Behind.ensures.1);
+          (one_more os ps (length p.values) c.loop-step.step i c.loop-step.invariant.grown c.in-Referred.ensures.2
+          c.in-Referred.ensures.1);
       text = c.notation_at.ensures.text;
     }
 

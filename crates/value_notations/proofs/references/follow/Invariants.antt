@@ -2,13 +2,13 @@ use Rattle.std.proofs.Common.{length}
 use Rattle.std.specs.Prelude.{IsUtf8}
 use Rattle.trees.specs.Values.{tree_of}
 use Rattle.type_table.specs.Seen.{kind_of}
-use Rattle.value_notations.specs.Wrong.{LeadsTo}
+use Rattle.value_notations.specs.Wrong.{OpenedPath}
 use Rattle.value_notations.specs.proving.Opened.{IsGrown}
 use Rattle.value_notations.proofs.references.follow.Given as goal
 
 abbrev pub invariant-loop-step : goal.invariant-loop-step
 invariant-loop-step l = record {
-  leads : LeadsTo l.linked (kind_of l.shape) l.initial.opened l.initial.module (tree_of l.initial.at) l.opened l.module (tree_of l.at);
+  chain : OpenedPath l.linked (kind_of l.shape) l.initial.opened l.initial.module (tree_of l.initial.at) l.opened l.module (tree_of l.at);
   grown : IsGrown l.initial.opened l.opened (length l.linked.values) l.step;
   text : IsUtf8 l.module;
 }

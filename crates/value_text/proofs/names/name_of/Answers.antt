@@ -4,7 +4,7 @@ use Rattle.std.proofs.Common.{◌≡◌, map, Some, sym, ap, ◌∙◌}
 use Rattle.std.proofs.lemmas.Int.{to_z-of_z}
 use Rattle.asn_base.specs.Seen.{item_of}
 use Rattle.value_text.specs.Print.{name_with}
-use Rattle.value_text.proofs.Items.{in_root, behind_root}
+use Rattle.value_text.proofs.Items.{in_root, after_root}
 use Rattle.value_text.proofs.names.name_of.Goals as goal
 
 pub returns-in-Some : goal.returns-in-Some
@@ -21,4 +21,4 @@ returns-in-Some-name_found c =
     let more : name_with (map item_of c.args.items.now.additions.items) c.args.number ≡ Some c.in-Some-name_found.name.now =
     ap (λ n. name_with (map item_of c.args.items.now.additions.items) n) (sym z)
     ∙ ap (λ l. name_with (map item_of l) (to_z w128 (of_z w128 c.args.number))) (sym c.as_slice-2.ensures.value) ∙ c.in-Some-name_found.ensures in
-    behind_root _ _ c.args.number _ c.requires more
+    after_root _ _ c.args.number _ c.requires more

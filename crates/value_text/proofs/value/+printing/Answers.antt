@@ -1,5 +1,5 @@
 use Rattle.std.proofs.Common.{◌++◌, ◌<◌, ◌≤◌, length, ap, ◌∙◌, string_bytes}
-use Rattle.value_text.proofs.Members.{below, type_there, member_nodes, element_nodes, present_step, absent_step, behind_step}
+use Rattle.value_text.proofs.Members.{below, type_there, member_nodes, element_nodes, present_step, absent_step, after_step}
 use Rattle.value_text.proofs.value.+printing.Goals as goal
 use Rattle.value_text.proofs.value.+printing.Goals.{print_fields-then-i-components+in-Some+in_ok-append_comma+in_ok-append-2+in_ok-append-3+in_ok-print_value, print_fields-then-i-components+in_default, print_fields-else-i-components}
 
@@ -18,7 +18,7 @@ print_fields-loop-i-preserved t c =
           w.in_default.is)
       | print_fields-else-i-components w ↦
           let le : length c.args.components.now ≤ c.loop-i.i = w.if-i-components.false in
-          rw (w.out-is, w.first-is) (behind_step _ _ _ _ _ _ _ c.loop-i.invariant lt le)
+          rw (w.out-is, w.first-is) (after_step _ _ _ _ _ _ _ c.loop-i.invariant lt le)
     ]
 
 pub print_elements-print_value-requires : goal.print_elements-print_value-requires

@@ -3,7 +3,7 @@ use Rattle.asn_base.specs.Abstract.{abstract, row_of_list, row_of_options}
 use Rattle.asn_base.specs.Seen.{component_of}
 use Rattle.asn_base.specs.Typed.{nodes, row_nodes}
 use Rattle.std.specs.Prelude.{◌==◌}
-use Rattle.value_text.specs.Print.{comma_behind, print_elements, print_fields}
+use Rattle.value_text.specs.Print.{comma_after, print_elements, print_fields}
 use Rattle.value_text.proofs.value.+printing.Given as goal
 
 abbrev pub decreases-print_value : goal.decreases-print_value
@@ -18,14 +18,14 @@ decreases-print_elements l = 2 * row_nodes (row_of_list (map abstract l.values.n
 abbrev pub invariant-print_elements-loop-i : goal.invariant-print_elements-loop-i
 invariant-print_elements-loop-i l =
     string_bytes l.out
-    ++ print_elements l.schema l.element.index (comma_behind (l.i == 0)) (row_of_list (map abstract (drop l.i l.values)))
+    ++ print_elements l.schema l.element.index (comma_after (l.i == 0)) (row_of_list (map abstract (drop l.i l.values)))
     ≡ string_bytes l.fn.out
     ++ (codes "{" ++ print_elements l.schema l.element.index [] (row_of_list (map abstract l.values)))
 
 abbrev pub invariant-print_fields-loop-i : goal.invariant-print_fields-loop-i
 invariant-print_fields-loop-i l =
     string_bytes l.out
-    ++ print_fields l.schema (map component_of (drop l.i l.components)) (comma_behind l.first)
+    ++ print_fields l.schema (map component_of (drop l.i l.components)) (comma_after l.first)
     (row_of_options (map (option_map abstract) (drop l.i l.values)))
     ≡ string_bytes l.fn.out
     ++ (codes "{" ++ print_fields l.schema (map component_of l.components) []

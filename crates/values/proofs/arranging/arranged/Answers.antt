@@ -2,7 +2,7 @@ use Rattle.std.proofs.Common.{map, subst, sym, ◌∙◌}
 use Rattle.trees.specs.Values.{member_of}
 use Rattle.type_table.specs.Seen.{part_of}
 use Rattle.value_notations.specs.Notations.{field_names}
-use Rattle.values.proofs.Arrangings.{AllThere, AllWhole, strange_at, twice_at, lacking_at, due_at, in_order, in_any_order, behind_at}
+use Rattle.values.proofs.Arrangings.{AllThere, AllWhole, strange_at, twice_at, lacking_at, due_at, in_order, in_any_order, disordered_at}
 use Rattle.values.proofs.arranging.arranged.Goals as goal
 
 pub returns-in-Some : goal.returns-in-Some
@@ -31,7 +31,7 @@ returns-in-Some-missing_in_group c =
 pub returns-in-Some-jumbled : goal.returns-in-Some-jumbled
 returns-in-Some-jumbled c =
     let cs = map part_of c.args.components.now in
-    behind_at c.args.kind cs (field_names (map member_of c.args.fields.now)) c.in-Ok.places.items c.in-Ok.ensures
+    disordered_at c.args.kind cs (field_names (map member_of c.args.fields.now)) c.in-Ok.places.items c.in-Ok.ensures
     (subst (AllThere cs) c.deref.ensures.value c.in_default-missing.ensures)
     (subst (AllWhole cs) c.deref-2.ensures.value c.in_default-missing_in_group.ensures) c.in-Some-jumbled.i c.in-Sequence.is
     c.requires.distinct c.in_default-repeated.ensures c.in_default.ensures c.in-Some-jumbled.ensures

@@ -5,7 +5,7 @@ use Rattle.trees.specs.Values.{name_at, member_of}
 use Rattle.type_table.specs.Seen.{part_of}
 use Rattle.value_notations.specs.Notations.{field_names, part_names}
 use Rattle.values.specs.Arranged.{place_of}
-use Rattle.values.proofs.Lookups.{field_at, fields_long, place_none, stands_some, known_before, known_next, known_all}
+use Rattle.values.proofs.Lookups.{field_at, fields_long, place_none, occurs_some, known_before, known_next, known_all}
 use Rattle.values.proofs.lookup.unknown.Goals as goal
 
 pub returns-in-None : goal.returns-in-None
@@ -27,7 +27,7 @@ loop-i-preserved c =
     let named = c.as_str.ensures.value ∙ ap (λ (z : Named ValueSyntax). name_at z.name) (sym c.index-fields-i.is) in
     let here = field_at c.args.fields.now c.loop-i.i f c.loop-i-test.true c.index-fields-i.is in
     known_next cs (field_names (map member_of c.args.fields.now)) c.loop-i.i (name_at f.name) _ here named
-    (stands_some _ cs c.in-Some.ensures) c.loop-i.invariant
+    (occurs_some _ cs c.in-Some.ensures) c.loop-i.invariant
 
 pub returns : goal.returns
 returns c =

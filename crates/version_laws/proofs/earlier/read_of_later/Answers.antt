@@ -1,27 +1,27 @@
 use Rattle.std.proofs.Common.{sym, subst}
 use Rattle.asn_base.specs.Same.{Same}
 use Rattle.ber_message.specs.Messages.{IsEncoding}
-use Rattle.later_versions.specs.Kept.{kept, left_out}
+use Rattle.later_versions.specs.Projected.{projected, left_out}
 use Rattle.version_laws.proofs.earlier.read_of_later.Goals as goal
 
 pub returns-in-Ok-clause-same : goal.returns-in-Ok-clause-same
 returns-in-Ok-clause-same c s' t' v t schema l known d seen =
     let s = c.args.code.now in
     let u = c.args.id.index in
-    let r = c.earlier_reads.ensures s s' u t' v c.args.octets.now schema l known c.are_octets.ensures d in
+    let r = c.lemma_earlier_reads.ensures s s' u t' v c.args.octets.now schema l known c.lemma_are_octets.ensures d in
     let o = c.in-Ok.ensures.only t r.value (left_out s u v) seen r.encodes in
-    (subst (λ w. Same s u (kept s u v) w) o.0 r.same, sym o.1)
+    (subst (λ w. Same s u (projected s u v) w) o.0 r.same, sym o.1)
 
 pub returns-in-Err-clause-read : goal.returns-in-Err-clause-read
 returns-in-Err-clause-read c s' t' v schema l known d short =
     let s = c.args.code.now in
     let u = c.args.id.index in
-    let r = c.earlier_reads.ensures s s' u t' v c.args.octets.now schema l known c.are_octets.ensures d in
+    let r = c.lemma_earlier_reads.ensures s s' u t' v c.args.octets.now schema l known c.lemma_are_octets.ensures d in
     let e : IsEncoding s u c.args.octets.now = record {
       value = r.value;
       count = left_out s u v;
       is_value = r.encodes.value;
-      is_said = r.encodes.says_it;
+      is_encoded = r.encodes.says_it;
       few = r.few;
       short = short;
     } in

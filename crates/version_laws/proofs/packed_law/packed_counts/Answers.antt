@@ -8,10 +8,10 @@ use Rattle.version_laws.proofs.packed_law.packed_counts.Goals as goal
 pub returns-clause-same : goal.returns-clause-same
 returns-clause-same c s s' t t' v w l known a =
     let laws : Laws = record {
-      groups = c.alike_values.ensures.groups;
-      levels = c.alike_values.ensures.levels;
-      joined = c.sameness.ensures.alike_joined;
-      turned = c.sameness.ensures.alike_turned;
+      groups = c.lemma_alike_values.ensures.groups;
+      levels = c.lemma_alike_values.ensures.levels;
+      joined = c.lemma_sameness.ensures.alike_joined;
+      turned = c.lemma_sameness.ensures.alike_turned;
     } in
     same_count laws s s' l a.are_alike known a.first a.second
 
@@ -24,9 +24,9 @@ returns-clause-whole c s s' t t' v a e = (zero_both s s' t a).back e
 pub returns-clause-back : goal.returns-clause-back
 returns-clause-back c s s' t t' v schema' l h a =
     let laws : Laws = record {
-      groups = c.alike_values.ensures.groups;
-      levels = c.alike_values.ensures.levels;
-      joined = c.sameness.ensures.alike_joined;
-      turned = c.sameness.ensures.alike_turned;
+      groups = c.lemma_alike_values.ensures.groups;
+      levels = c.lemma_alike_values.ensures.levels;
+      joined = c.lemma_sameness.ensures.alike_joined;
+      turned = c.lemma_sameness.ensures.alike_turned;
     } in
     (zero_both s s' t (wide_value laws s s' t t' schema' l h v a)).forth (back s s' schema' l (type_there s' t' h) a).none_out

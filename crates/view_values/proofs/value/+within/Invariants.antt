@@ -1,6 +1,5 @@
 use Rattle.std.proofs.Common.{◌+◌, ◌*◌}
-use Rattle.views.specs.Seen.{AreParts, nodes_left}
-use Rattle.views.specs.Tree.{Members}
+use Rattle.views.specs.Tree.{nodes_left}
 use Rattle.view_values.proofs.Rows.{Judged, Listed}
 use Rattle.view_values.proofs.value.+within.Given as goal
 
@@ -23,10 +22,10 @@ abbrev pub decreases-are_elements : goal.decreases-are_elements
 decreases-are_elements l = 5 * l.levels + 2
 
 abbrev pub invariant-are_components-loop-i : goal.invariant-are_components-loop-i
-invariant-are_components-loop-i l = (ms : Members) → AreParts l.members ms → Judged l.schema l.levels l.components l.size ms l.i l.left
+invariant-are_components-loop-i l = Judged l.schema l.levels l.components l.size l.fn.members l.i l.left
 
 abbrev pub invariant-are_elements-loop-part : goal.invariant-are_elements-loop-part
-invariant-are_elements-loop-part l = (ms : Members) → AreParts l.members ms → Listed l.schema l.levels l.element.index ms l.left
+invariant-are_elements-loop-part l = Listed l.schema l.levels l.element.index l.fn.members l.left
 
 abbrev pub decreases-are_elements-loop-part : goal.decreases-are_elements-loop-part
 decreases-are_elements-loop-part l = nodes_left l.left

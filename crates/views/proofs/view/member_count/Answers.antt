@@ -9,4 +9,4 @@ loop-at-preserved c =
     let i = c.loop-at.invariant in
     let n = c.next_of-end.ensures.next i.0.0 i.0.1 in
     let m = c.next_of-end.ensures.more in
-    ((n.rest, n.behind), omega (arith, i.1, m), c.next_of-end.ensures.inside)
+    ((n.rest, n.after), omega (arith, i.1, m), c.next_of-end.ensures.inside)

@@ -3,7 +3,7 @@ use Rattle.std.specs.Prelude.{◌↔◌, IsTrue}
 use Rattle.later_versions.specs.Differences.{IsComparison}
 use Rattle.later_versions.specs.Later.{Later}
 use Rattle.judging.specs.named_values.Named.{Names, TypeNamed}
-use Rattle.later_versions.specs.Told.{IsTold, comparison_of, says_later}
+use Rattle.later_versions.specs.DifferenceText.{HasText, comparison_of, says_later}
 use Rattle.asnc.specs.Kits.{Opened}
 use Rattle.asnc.proofs.kit.Kit.compare.Goals as goal
 
@@ -44,9 +44,9 @@ returns-in-Ok-clause-compared c =
           let both = subst (λ s. IsComparison c.older.inside.code t s u d) c.newer.invariant.1 first in
           let seen = subst (λ (k : Opened). IsComparison k.types t c.newer.inside.code u d) c.older.view_is both in
           subst (λ (k : Opened). IsComparison c.args.older.now.types t k.types u d) c.newer.view_is seen;
-      told =
-          let first = subst (λ s. IsTold s t c.newer.inside.schema a) c.older.invariant.1 c.in-Ok.ensures.told in
-          let both = subst (λ s. IsTold c.older.inside.code t s a) c.newer.invariant.1 first in
-          let seen = subst (λ (k : Opened). IsTold k.types t c.newer.inside.code a) c.older.view_is both in
-          subst (λ (k : Opened). IsTold c.args.older.now.types t k.types a) c.newer.view_is seen;
+      text_of =
+          let first = subst (λ s. HasText s t c.newer.inside.schema a) c.older.invariant.1 c.in-Ok.ensures.text_of in
+          let both = subst (λ s. HasText c.older.inside.code t s a) c.newer.invariant.1 first in
+          let seen = subst (λ (k : Opened). HasText k.types t c.newer.inside.code a) c.older.view_is both in
+          subst (λ (k : Opened). HasText c.args.older.now.types t k.types a) c.newer.view_is seen;
     }

@@ -4,7 +4,7 @@ use Rattle.asn_base.specs.Abstract.{abstract}
 use Rattle.asn_base.specs.Typed.{IsValue}
 use Rattle.der_writer.specs.Encoded.{IsEncoding}
 use Rattle.der_writer.specs.declared.fault.WriteFault.TheVariants.{NotOfType, TooLong}
-use Rattle.encodings.specs.Account.{Tells}
+use Rattle.encodings.specs.Account.{Describes}
 use Rattle.encodings.specs.Encoding.{Der}
 use Rattle.asnc.specs.Kits.{Opened}
 use Rattle.asnc.proofs.kit.Kit.encode.Goals as goal
@@ -16,7 +16,7 @@ returns-clause-encoding c =
 
 pub returns-clause-account : goal.returns-clause-account
 returns-clause-account c =
-    subst (λ (k : Opened). IfOk c.write_der.result (λ w. Tells k.types c.args.id.index (abstract c.args.value.now) w.0.items w.1))
+    subst (λ (k : Opened). IfOk c.write_der.result (λ w. Describes k.types c.args.id.index (abstract c.args.value.now) w.0.items w.1))
     c.self.view_is c.write_der.ensures.account
 
 pub returns-clause-not_of_type : goal.returns-clause-not_of_type

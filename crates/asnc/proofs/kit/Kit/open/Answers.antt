@@ -15,4 +15,4 @@ pub returns-in-Err-clause-only : goal.returns-in-Err-clause-only
 returns-in-Err-clause-only c = λ p a. c.refusal.ensures.memory (c.in-Err.ensures.only p a)
 
 pub returns-in-Err-clause-fault : goal.returns-in-Err-clause-fault
-returns-in-Err-clause-fault c = c.refusal.ensures.stands (map octets_of c.args.texts.now) c.in-Err.ensures.fault
+returns-in-Err-clause-fault c = c.refusal.ensures.valid (map octets_of c.args.texts.now) c.in-Err.ensures.fault

@@ -1,14 +1,14 @@
-use Rattle.codec_source.specs.Events.{among, which_stands}
+use Rattle.codec_source.specs.Events.{among, which_comes}
 use Rattle.ber_source.specs.Seen.{listed, state_of}
-use Rattle.ber_source.proofs.Taken.{takes_one, never_one, left_as}
+use Rattle.ber_source.specs.proving.Taken.{takes_one, never_one, left_as}
 use Rattle.ber_source.proofs.cursor.CursorSource.next_component.Goals as goal
 
 pub returns-clause-ok : goal.returns-clause-ok
 returns-clause-ok c =
-    takes_one c.one_answer.ensures.takes c.among_next.result (state_of listed c.self.inside.place) c.args.self.now (state_of listed c.among_next.new.place) (λ q. among c.args.steps.now q) c.self.view_is c.among_next.ensures.ok
+    takes_one c.lemma_one_answer.ensures.takes c.next_in_set.result (state_of listed c.self.inside.place) c.args.self.now (state_of listed c.next_in_set.new.place) (λ q. among c.args.steps.now q) c.self.view_is c.next_in_set.ensures.ok
 
 pub returns-clause-err : goal.returns-clause-err
-returns-clause-err c = never_one c.among_next.result (state_of listed c.self.inside.place) c.args.self.now (λ q. among c.args.steps.now q) c.self.view_is c.among_next.ensures.err
+returns-clause-err c = never_one c.next_in_set.result (state_of listed c.self.inside.place) c.args.self.now (λ q. among c.args.steps.now q) c.self.view_is c.next_in_set.ensures.err
 
 pub returns-clause-left : goal.returns-clause-left
-returns-clause-left c = left_as c.among_next.result (state_of listed c.self.inside.place) c.args.self.now (state_of listed c.among_next.new.place) (which_stands c.args.steps.now) c.self.view_is c.among_next.ensures.left
+returns-clause-left c = left_as c.next_in_set.result (state_of listed c.self.inside.place) c.args.self.now (state_of listed c.next_in_set.new.place) (which_comes c.args.steps.now) c.self.view_is c.next_in_set.ensures.left

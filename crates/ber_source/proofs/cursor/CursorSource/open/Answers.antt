@@ -1,11 +1,11 @@
 use Rattle.codec_source.specs.Events.{opens, to_open}
 use Rattle.ber_source.specs.Seen.{listed, state_of}
-use Rattle.ber_source.proofs.Taken.{takes, never, left_as}
+use Rattle.ber_source.specs.proving.Taken.{takes, never, left_as}
 use Rattle.ber_source.proofs.cursor.CursorSource.open.Goals as goal
 
 pub returns-clause-ok : goal.returns-clause-ok
 returns-clause-ok c =
-    takes c.one_answer.ensures.takes c.open.result (state_of listed c.self.inside.place) c.args.self.now (state_of listed c.open.new.place) (opens c.args.head) c.self.view_is c.open.ensures.ok
+    takes c.lemma_one_answer.ensures.takes c.open.result (state_of listed c.self.inside.place) c.args.self.now (state_of listed c.open.new.place) (opens c.args.head) c.self.view_is c.open.ensures.ok
 
 pub returns-clause-err : goal.returns-clause-err
 returns-clause-err c = never c.open.result (state_of listed c.self.inside.place) c.args.self.now (opens c.args.head) c.self.view_is c.open.ensures.err

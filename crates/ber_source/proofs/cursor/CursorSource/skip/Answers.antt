@@ -1,11 +1,11 @@
 use Rattle.codec_source.specs.Events.{skips, to_skip}
 use Rattle.ber_source.specs.Seen.{listed, state_of}
-use Rattle.ber_source.proofs.Taken.{takes, never, left_as}
+use Rattle.ber_source.specs.proving.Taken.{takes, never, left_as}
 use Rattle.ber_source.proofs.cursor.CursorSource.skip.Goals as goal
 
 pub returns-clause-ok : goal.returns-clause-ok
 returns-clause-ok c =
-    takes c.one_answer.ensures.takes c.skip.result (state_of listed c.self.inside.place) c.args.self.now (state_of listed c.skip.new.place) (skips) c.self.view_is c.skip.ensures.ok
+    takes c.lemma_one_answer.ensures.takes c.skip.result (state_of listed c.self.inside.place) c.args.self.now (state_of listed c.skip.new.place) (skips) c.self.view_is c.skip.ensures.ok
 
 pub returns-clause-err : goal.returns-clause-err
 returns-clause-err c = never c.skip.result (state_of listed c.self.inside.place) c.args.self.now (skips) c.self.view_is c.skip.ensures.err

@@ -1,12 +1,12 @@
 use Rattle.codec_source.specs.Events.{ends, to_end}
 use Rattle.ber_source.specs.Seen.{state_of}
 use Rattle.ber_views.specs.Log.{logged}
-use Rattle.ber_views.proofs.Taken.{takes, never, left_as}
+use Rattle.ber_source.specs.proving.Taken.{takes, never, left_as}
 use Rattle.ber_views.proofs.cursor.ViewerSource.end.Goals as goal
 
 pub returns-clause-ok : goal.returns-clause-ok
 returns-clause-ok c =
-    takes c.one_answer.ensures.takes c.end.result (state_of (λ t. logged t.log) c.self.inside.place) c.args.self.now (state_of (λ t. logged t.log) c.end.new.place) (ends) c.self.view_is c.end.ensures.ok
+    takes c.lemma_one_answer.ensures.takes c.end.result (state_of (λ t. logged t.log) c.self.inside.place) c.args.self.now (state_of (λ t. logged t.log) c.end.new.place) (ends) c.self.view_is c.end.ensures.ok
 
 pub returns-clause-err : goal.returns-clause-err
 returns-clause-err c = never c.end.result (state_of (λ t. logged t.log) c.self.inside.place) c.args.self.now (ends) c.self.view_is c.end.ensures.err

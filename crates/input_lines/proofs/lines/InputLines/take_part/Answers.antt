@@ -1,7 +1,7 @@
 use Rattle.std.proofs.Common.{rules, refl, sym, ap, subst, ◌≡◌, ◌∙◌, ◌+◌, ◌≤◌, ℕ, List, [], ◌∷◌, ◌++◌, length, take, drop}
 use Rattle.std.proofs.lemmas.List.{take_rest}
 use Rattle.std.specs.Io.KnownBytes.{Consumes}
-use Rattle.input_lines.specs.Left.{left_of}
+use Rattle.input_lines.specs.Remaining.{remaining_of}
 use Rattle.input_lines.proofs.Lefts.{taken_of}
 use Rattle.input_lines.proofs.lines.InputLines.take_part.Goals as goal
 
@@ -10,8 +10,8 @@ returns-then-step g c =
     let step = c.in_ok-step.ensures in
     let remaining = g.R.Read.remaining in
     let shown = take_rest c.deref.result.now c.refill.new.self.at ∙ ap (drop c.refill.new.self.at) c.deref.ensures.value in
-    let gone : (os : List ℕ) → take c.in_ok-step.step.count (drop c.refill.new.self.at c.refill.new.self.part.items) ≡ os → Consumes (left_of remaining c.args.self.now) (left_of remaining (record c.refill.new.self { at = c.refill.new.self.at + c.in_ok-step.step.count })) os = λ os same.
-    taken_of (left_of remaining c.args.self.now) (remaining c.refill.new.self.reader) c.refill.new.self.part.items
+    let gone : (os : List ℕ) → take c.in_ok-step.step.count (drop c.refill.new.self.at c.refill.new.self.part.items) ≡ os → Consumes (remaining_of remaining c.args.self.now) (remaining_of remaining (record c.refill.new.self { at = c.refill.new.self.at + c.in_ok-step.step.count })) os = λ os same.
+    taken_of (remaining_of remaining c.args.self.now) (remaining c.refill.new.self.reader) c.refill.new.self.part.items
     (drop c.refill.new.self.at c.refill.new.self.part.items) os c.refill.new.self.at c.in_ok-step.step.count
     c.in_ok-refill.ensures.kept refl (subst (λ (xs : List ℕ). c.in_ok-step.step.count ≤ length xs) shown step.within) same in
     record {
@@ -28,8 +28,8 @@ returns-else-step g c =
     let step = c.in_ok-step.ensures in
     let remaining = g.R.Read.remaining in
     let shown = take_rest c.deref.result.now c.refill.new.self.at ∙ ap (drop c.refill.new.self.at) c.deref.ensures.value in
-    let gone : (os : List ℕ) → take c.in_ok-step.step.count (drop c.refill.new.self.at c.refill.new.self.part.items) ≡ os → Consumes (left_of remaining c.args.self.now) (left_of remaining (record c.refill.new.self { at = c.refill.new.self.at + c.in_ok-step.step.count })) os = λ os same.
-    taken_of (left_of remaining c.args.self.now) (remaining c.refill.new.self.reader) c.refill.new.self.part.items
+    let gone : (os : List ℕ) → take c.in_ok-step.step.count (drop c.refill.new.self.at c.refill.new.self.part.items) ≡ os → Consumes (remaining_of remaining c.args.self.now) (remaining_of remaining (record c.refill.new.self { at = c.refill.new.self.at + c.in_ok-step.step.count })) os = λ os same.
+    taken_of (remaining_of remaining c.args.self.now) (remaining c.refill.new.self.reader) c.refill.new.self.part.items
     (drop c.refill.new.self.at c.refill.new.self.part.items) os c.refill.new.self.at c.in_ok-step.step.count
     c.in_ok-refill.ensures.kept refl (subst (λ (xs : List ℕ). c.in_ok-step.step.count ≤ length xs) shown step.within) same in
     record {

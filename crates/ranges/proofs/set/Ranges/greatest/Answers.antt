@@ -1,9 +1,11 @@
+use Rattle.std.proofs.Common.{◌<◌, length, subst, sym}
+use Rattle.ranges.specs.Numbers.{AreApart}
 use Rattle.ranges.proofs.Ends.{last_greatest}
 use Rattle.ranges.proofs.set.Ranges.greatest.Goals as goal
 
 pub returns : goal.returns
 returns c =
-    let items = c.self.inside.items.items in
-    let some = rw (← c.self.view_is) at c.requires in
-    let e = c.as_slice-ranges.ensures.value in
-    rw (← c.self.view_is) (rw e (last_greatest items _ some c.self.invariant))
+    let is = c.ranges-ranges.ensures.is in
+    rw (← is)
+    (last_greatest c.ranges-ranges.result.now _ (subst (λ xs. 0 < length xs) (sym is) c.requires)
+    (subst AreApart (sym is) c.ranges-ranges.ensures.apart))

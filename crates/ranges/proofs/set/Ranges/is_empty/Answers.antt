@@ -1,7 +1,10 @@
+use Rattle.std.proofs.Common.{subst, sym}
+use Rattle.ranges.specs.Numbers.{AreApart}
 use Rattle.ranges.proofs.Ends.{none_if_empty}
 use Rattle.ranges.proofs.set.Ranges.is_empty.Goals as goal
 
 pub returns-clause-members : goal.returns-clause-members
 returns-clause-members c =
-    let e = c.is_empty.ensures in
-    rw (← c.self.view_is) (none_if_empty c.self.inside.items.items c.is_empty.result c.self.invariant (rw c.as_slice.ensures.value at e))
+    let is = c.ranges-2.ensures.is in
+    rw (← is)
+    (none_if_empty c.ranges-2.result.now c.is_empty.result (subst AreApart (sym is) c.ranges-2.ensures.apart) c.is_empty.ensures)

@@ -16,7 +16,7 @@ use Rattle.resolve.proofs.linked.Linked.of.Goals as goal
 
 pub unfold_all-requires-clause-closed : goal.unfold_all-requires-clause-closed
 unfold_all-requires-clause-closed c =
-    subst (λ l. IsClosed (types_of l)) (sym c.deref-3.ensures.value) (closed (record { roots = c.numbered_there.ensures.roots; stand = c.numbered_there.ensures.assigned; closed = c.numbered_linked.ensures.closed; linked = c.numbered_linked.ensures.linked }) c.args.gathered c.requires.ready (types_of c.in-Ok.types.items) (table_of c.args.gathered c.of-names.result c.deref.result.now c.deref-2.result.now (types_of c.in-Ok.types.items) c.of-names.ensures c.deref.ensures.value c.deref-2.ensures.value c.in-Ok.ensures.ok))
+    subst (λ l. IsClosed (types_of l)) (sym c.deref-3.ensures.value) (closed (record { roots = c.lemma_numbered_there.ensures.roots; stand = c.lemma_numbered_there.ensures.assigned; closed = c.lemma_numbered_linked.ensures.closed; linked = c.lemma_numbered_linked.ensures.linked }) c.args.gathered c.requires.ready (types_of c.in-Ok.types.items) (table_of c.args.gathered c.of-names.result c.deref.result.now c.deref-2.result.now (types_of c.in-Ok.types.items) c.of-names.ensures c.deref.ensures.value c.deref-2.ensures.value c.in-Ok.ensures.ok))
 
 pub unfold_all-requires-clause-unknown : goal.unfold_all-requires-clause-unknown
 unfold_all-requires-clause-unknown c =
@@ -31,14 +31,14 @@ invariant_of-result c =
     let many : c.in_ok-cores.cores.len ≡ length c.unfold_all.new.cores = omega (arith, c.in_ok-cores.cores.ok.0, c.unfold_all.auto.cores, ap length c.deref_mut.ensures.value) in
     let back = written_back c.in_ok-cores.cores.len c.unfold_all.new.cores (drop (length c.unfold_all.new.cores) c.in_ok-cores.cores.items) many in (
       subst (λ n. IsWhole (record { modules = n; headers = map header_of c.args.gathered.headers.items; assignments = map assignment_of c.args.gathered.tables.assignments.items; types = ts; values = map value_of c.args.gathered.tables.values.items })) (sym c.of-names.ensures)
-          (whole (record { roots = c.numbered_there.ensures.roots; stand = c.numbered_there.ensures.assigned; closed = c.numbered_linked.ensures.closed; linked = c.numbered_linked.ensures.linked }) c.args.gathered c.requires.ready (types_of c.in-Ok.types.items) (table_of c.args.gathered c.of-names.result c.deref.result.now c.deref-2.result.now (types_of c.in-Ok.types.items) c.of-names.ensures c.deref.ensures.value c.deref-2.ensures.value c.in-Ok.ensures.ok) (all_unfold ts c.unfold_all.new.cores cores)),
+          (whole (record { roots = c.lemma_numbered_there.ensures.roots; stand = c.lemma_numbered_there.ensures.assigned; closed = c.lemma_numbered_linked.ensures.closed; linked = c.lemma_numbered_linked.ensures.linked }) c.args.gathered c.requires.ready (types_of c.in-Ok.types.items) (table_of c.args.gathered c.of-names.result c.deref.result.now c.deref-2.result.now (types_of c.in-Ok.types.items) c.of-names.ensures c.deref.ensures.value c.deref-2.ensures.value c.in-Ok.ensures.ok) (all_unfold ts c.unfold_all.new.cores cores)),
       subst (λ l. AreCores ts l) (sym back) cores,
     )
 
 pub circular_at-requires-clause-assigned : goal.circular_at-requires-clause-assigned
 circular_at-requires-clause-assigned c =
     let inside : c.in-Err-unfold_all.circular < length c.in-Ok.types.items = subst (λ l. c.in-Err-unfold_all.circular < length l) c.deref-3.ensures.value c.in-Err-unfold_all.ensures.cores.0 in
-    let t = typed (record { roots = c.numbered_there.ensures.roots; stand = c.numbered_there.ensures.assigned; closed = c.numbered_linked.ensures.closed; linked = c.numbered_linked.ensures.linked }) c.args.gathered c.requires.ready (types_of c.in-Ok.types.items) (table_of c.args.gathered c.of-names.result c.deref.result.now c.deref-2.result.now (types_of c.in-Ok.types.items) c.of-names.ensures c.deref.ensures.value c.deref-2.ensures.value c.in-Ok.ensures.ok) c.in-Err-unfold_all.circular (type_of c.index.result.now) (type_at c.in-Ok.types.items c.in-Err-unfold_all.circular c.index.result.now inside c.index.ensures) in
+    let t = typed (record { roots = c.lemma_numbered_there.ensures.roots; stand = c.lemma_numbered_there.ensures.assigned; closed = c.lemma_numbered_linked.ensures.closed; linked = c.lemma_numbered_linked.ensures.linked }) c.args.gathered c.requires.ready (types_of c.in-Ok.types.items) (table_of c.args.gathered c.of-names.result c.deref.result.now c.deref-2.result.now (types_of c.in-Ok.types.items) c.of-names.ensures c.deref.ensures.value c.deref-2.ensures.value c.in-Ok.ensures.ok) c.in-Err-unfold_all.circular (type_of c.index.result.now) (type_at c.in-Ok.types.items c.in-Err-unfold_all.circular c.index.result.now inside c.index.ensures) in
     omega (arith, t, ap length c.deref-in-Err-unfold_all-2.ensures.value)
 
 pub circular_at-requires-clause-placed : goal.circular_at-requires-clause-placed

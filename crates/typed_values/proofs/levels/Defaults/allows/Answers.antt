@@ -2,7 +2,7 @@ use Rattle.std.proofs.Common.{inl, inr, ◌<◌, ◌≡◌, ◌∙◌, length, s
 use Rattle.std.specs.Prelude.{slice_get}
 use Rattle.type_table.specs.Seen.{part_of}
 use Rattle.typed_values.specs.Known.{AreKnown}
-use Rattle.typed_values.proofs.Places.{less_or_more}
+use Rattle.value_notations.specs.proving.Places.{less_or_more}
 use Rattle.typed_values.proofs.Rows.{got_plain}
 use Rattle.typed_values.proofs.Absences.{absent_at_more}
 use Rattle.typed_values.proofs.levels.Defaults.allows.Goals as goal

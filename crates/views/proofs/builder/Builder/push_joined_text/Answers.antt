@@ -3,7 +3,7 @@ use Rattle.std.specs.Prelude.{None}
 use Rattle.std.proofs.lemmas.List.{map-append}
 use Rattle.views.specs.Tree.{leaf, text}
 use Rattle.views.specs.Nodes.{a_leaf, node}
-use Rattle.views.specs.Seen.{beside_of}
+use Rattle.views.specs.Seen.{side_lists}
 use Rattle.views.proofs.Steps.{built_steady, texts_added}
 use Rattle.views.proofs.Lists.{get_added}
 use Rattle.views.proofs.Filled.{length_same}
@@ -20,8 +20,8 @@ add-requires c =
 pub returns : goal.returns
 returns c b h =
     let old = c.args.self.now.lists.texts.items in
-    let a = beside_of c.args.self.now.lists in
-    let d = beside_of c.add_text.new.self in
+    let a = side_lists c.args.self.now.lists in
+    let d = side_lists c.add_text.new.self in
     let added = ap (map string_bytes) c.in_ok-place.ensures.added ∙ map-append string_bytes old (c.args.value ∷ []) in
     let place : c.in_ok-place.place ≡ length (map string_bytes old) = c.in_ok-place.ensures.from ∙ sym (length_same string_bytes old) in
     c.in_ok-add.ensures b (leaf (text (string_bytes c.args.value) None))

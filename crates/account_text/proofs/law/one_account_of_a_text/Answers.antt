@@ -1,5 +1,0 @@
-use Rattle.account_text.proofs.Texts.{one_account_of}
-use Rattle.account_text.proofs.law.one_account_of_a_text.Goals as goal
-
-pub returns : goal.returns
-returns c = one_account_of c.one_account.ensures

@@ -1,5 +1,0 @@
-use Rattle.asn_base.proofs.DepthLaws.{more_levels}
-use Rattle.asn_base.proofs.law.levels_grow.Goals as goal
-
-pub returns : goal.returns
-returns c = more_levels

@@ -1,7 +1,0 @@
-use Rattle.asn_base.specs.Accepted.{IsAcceptedType}
-use Rattle.asn_base.proofs.Lists.{at_place}
-use Rattle.asn_base.proofs.Schemas.{grows}
-use Rattle.asn_base.proofs.law.schemas_grow.Goals as goal
-
-pub returns : goal.returns
-returns c = record { each = λ s t r e a. at_place (IsAcceptedType s) s t r e a; empty = tt; grows = grows }

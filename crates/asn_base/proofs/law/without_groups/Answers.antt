@@ -1,5 +1,0 @@
-use Rattle.asn_base.proofs.NoGroups.{no_groups}
-use Rattle.asn_base.proofs.law.without_groups.Goals as goal
-
-pub returns : goal.returns
-returns c = no_groups

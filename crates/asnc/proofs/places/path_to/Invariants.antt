@@ -1,7 +1,0 @@
-use Rattle.std.proofs.Common.{◌≡◌, string_bytes}
-use Rattle.std.specs.Prelude.{drop}
-use Rattle.asnc.specs.Places.{path_behind, path_of}
-use Rattle.asnc.proofs.places.path_to.Given as goal
-
-abbrev pub invariant-loop-i : goal.invariant-loop-i
-invariant-loop-i l = path_behind l.schema (string_bytes l.path) (drop l.i l.values) ≡ path_of l.schema l.values

@@ -1,5 +1,0 @@
-use Rattle.ber_reader.proofs.Owing.{half_group, deep_sequence, deep_set}
-use Rattle.ber_reader.proofs.law.faults_of_components.Goals as goal
-
-pub returns : goal.returns
-returns c = record { half_a_group = half_group; deep_sequence = deep_sequence; deep_set = deep_set }

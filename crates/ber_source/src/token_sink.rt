@@ -1,0 +1,77 @@
+//! Receivers of the tokens that are read.
+
+ghost use Rattle.asn_base.specs.Types.{Resolved};
+ghost use Rattle.ber_source.specs.Seen.{value_token, as_token, token_of};
+ghost use Rattle.ber_source.specs.PrimitiveValue.{IsValueOfToken};
+ghost use Rattle.decode_faults.specs.declared.read_fault.ReadFault.TheVariants.{Memory};
+ghost use Rattle.octet_answers.specs.States.{Token as Token'};
+ghost use Rattle.std.specs.Prelude.{◌≡◌, ◌++◌, ◌∷◌, [], IfErr, List, map, OnOk};
+
+use crate::token::{PrimitiveToken, PrimitiveValue, StructToken, Token};
+use decode_faults::ReadFault;
+
+/// Receives the tokens of a message in its order, and builds something of them, such as a list or a view. A receiver
+/// refuses a token only if an allocation fails.
+pub trait TokenSink<'a>: Drop {
+    /// The tokens that were received so far.
+    ghost tokens: { Self → List Token' };
+
+    /// Whether values of this schema may be given to it.
+    ghost suits: { Self → List Resolved → Type 0 };
+
+    /// Receives one more token, which has no contents octets.
+    fn emit(&mut self, mark: StructToken) -> Result<(), ReadFault>
+        ensures ok { OnOk result (tokens self.new ≡ tokens self.old ++ as_token mark ∷ []) }
+        ensures err { IfErr result (λ e. e ≡ Memory) }
+        ensures suits { (s : List Resolved) → suits self.old s → suits self.new s };
+
+    /// Receives the contents octets of a value that holds no others, with their meaning.
+    fn hold(
+        &mut self,
+        held: PrimitiveToken<'a>,
+        decoded: PrimitiveValue<'a>,
+    ) -> Result<(), ReadFault>
+        requires { IsValueOfToken held decoded }
+        ensures ok { OnOk result (tokens self.new ≡ tokens self.old ++ value_token held.entry ∷ []) }
+        ensures err { IfErr result (λ e. e ≡ Memory) }
+        ensures suits { (s : List Resolved) → suits self.old s → suits self.new s };
+}
+
+/// A mark as a token.
+fn marked<'a>(mark: StructToken) -> Token<'a>
+    ensures { token_of result ≡ as_token mark }
+{
+    match mark {
+        StructToken::Component(place) => Token::Component(place),
+        StructToken::Chosen(index) => Token::Chosen(index),
+        StructToken::Begun(id) => Token::Begun(id),
+        StructToken::Ended => Token::Ended,
+        StructToken::Passed => Token::Passed,
+    }
+}
+
+/// A list of all tokens that were read, for values of any schema.
+impl<'a> TokenSink<'a> for Vec<Token<'a>> {
+    ghost tokens = { λ v. map token_of v.items };
+
+    ghost suits = { λ v s. Unit {0} };
+
+    fn emit(&mut self, mark: StructToken) -> Result<(), ReadFault> {
+        self.push(marked(mark))?;
+        Ok(())
+    }
+
+    fn hold(
+        &mut self,
+        held: PrimitiveToken<'a>,
+        decoded: PrimitiveValue<'a>,
+    ) -> Result<(), ReadFault> {
+        self.push(Token::PrimitiveToken {
+            kind: held.kind,
+            form: held.form,
+            octets: held.octets,
+            at: held.at,
+        })?;
+        Ok(())
+    }
+}

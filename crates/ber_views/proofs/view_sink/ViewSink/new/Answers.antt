@@ -1,0 +1,16 @@
+use Rattle.std.proofs.Common.{refl, rules, subst, sym}
+use Rattle.views.specs.Building.{begun}
+use Rattle.ber_views.specs.Wants.{Wants}
+use Rattle.ber_views.proofs.Faithful.{faithful_first}
+use Rattle.ber_views.proofs.view_sink.ViewSink.new.Goals as goal
+
+pub returns-clause-suits : goal.returns-clause-suits
+returns-clause-suits c = record {
+  code = refl;
+  builds = λ e. faithful_first c.args.code.now _ _ c.empty.ensures (λ m w ts q. record {
+    building = begun;
+    holds = c.nothing.ensures.holds;
+    wants = subst (λ n. Wants c.args.code.now m w ts n c.nothing.result.held begun) (sym c.nothing.ensures.number) (subst (λ h. Wants c.args.code.now m w ts 0 h begun) (sym c.nothing.ensures.held) q);
+  });
+  counts = λ e. search rules;
+}

@@ -1,0 +1,34 @@
+-- A view while it receives the tokens of a message.
+use Rattle.std.specs.Prelude.{◌≡◌, false, List, ◌++◌, length}
+use Rattle.asn_base.specs.Abstract.{AbstractValue}
+use Rattle.asn_base.specs.Types.{Resolved}
+use Rattle.octet_answers.specs.States.{Token}
+use Rattle.views.specs.Building.{begun}
+use Rattle.views.specs.Seen.{IsView}
+use Rattle.views.specs.Tree.{Tree, value_of, IsBorrowed}
+use Rattle.ber_views.specs.declared.build.Build.{Build}
+use Rattle.ber_views.specs.declared.view_sink.Built.{Built}
+use Rattle.ber_views.specs.declared.view_sink.ViewSink.{ViewSink}
+use Rattle.ber_views.specs.Log.{logged, passes}
+use Rattle.ber_views.specs.Shown.{leaves_of, AreShown}
+use Rattle.ber_views.specs.Wants.{Reading, IsBefore, Wants}
+
+-- So much of a value is built as the tokens so far give. It stays true whatever tokens follow, if all tokens together
+-- give the value's tree.
+abbrev pub IsFaithful : List Resolved → List Token → Build → Type 0
+IsFaithful s emitted b = (m : Reading) (w : AbstractValue) (ts : List Token)
+    → Wants s m w (emitted ++ ts) 0 false begun
+    → IsBefore s m w ts b
+
+-- the view receives values of this schema; unless an allocation failed, the tokens so far are built
+pub record IsViewSink (t : ViewSink) (s : List Resolved) : Type 0 where
+  pub code : t.code.now ≡ s
+  pub builds : t.failed ≡ false → IsFaithful s (logged t.log) t.build
+  pub counts : t.failed ≡ false → length t.skipped.items ≡ passes (logged t.log)
+
+-- The view of the value whose tree the tokens give, and the number of additions that were skipped.
+pub record IsBuiltOf (s : List Resolved) (emitted : List Token) (b : Built) : Type 0 where
+  pub view : (m : Reading) (w : AbstractValue)
+      → Wants s m w emitted 0 false begun
+      → (t : Tree) × IsView b.view t × (value_of t ≡ w) × IsBorrowed m.message t × AreShown m.tokens (leaves_of t)
+  pub counts : b.skipped ≡ passes emitted

@@ -1,3 +1,0 @@
-mod Weaker
-mod Coded
-mod Rows

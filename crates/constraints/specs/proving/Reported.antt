@@ -1,0 +1,47 @@
+-- The fault that the parts of a check report first.
+use Rattle.std.specs.Prelude.{◌≡◌, ◌⊎◌, ℕ, true, false, List, Some, slice_get}
+use Rattle.trees.specs.declared.constraint.RangesSyntax.{RangesSyntax}
+use Rattle.trees.specs.Constraints.{ranges_of}
+use Rattle.trees.specs.Values.{Name}
+use Rattle.type_table.specs.Table.{Type', Kind, walk}
+use Rattle.resolve.specs.Program.{Program}
+use Rattle.range_ends.specs.First.{IsFirstWrong}
+use Rattle.range_ends.specs.declared.ranges.Counted.{Counted}
+use Rattle.range_ends.specs.declared.ranges.RangeFault.{RangeFault}
+use Rattle.constraints.specs.Constraints.{is_marked}
+use Rattle.constraints.specs.First.{wrong_of, IsTypeFault, IsFirstFault}
+use Rattle.constraints.specs.declared.column.Fault.{Fault}
+use Rattle.constraints.specs.declared.column.Fault.TheVariants as faults
+use Rattle.constraints.specs.declared.meaning.Rule.TheVariants as rules
+use Rattle.constraints.specs.declared.meaning.ConstraintFault.{ConstraintFault}
+use Rattle.constraints.specs.declared.meaning.ConstraintFault.TheVariants as wrongs
+use Rattle.constraints.specs.proving.Meanings.{ranged}
+
+-- the first fault of ranges, in a constraint at the place
+pub data AreRangesWrong (p : Program) (k : Kind) (M : Name) (of : Counted) (place : ℕ) (r : RangesSyntax) (w : ConstraintFault)
+    : Type 0 where
+  no_memory : w ≡ wrongs.Memory → AreRangesWrong p k M of place r w
+  marker : is_marked k (ranged of (ranges_of r)) ≡ false →
+      w ≡ wrongs.At rules.MarkerPlace place →
+      AreRangesWrong p k M of place r w
+  range : (f : RangeFault) →
+      is_marked k (ranged of (ranges_of r)) ≡ true →
+      IsFirstWrong p k M of r.ranges.items f →
+      w ≡ wrong_of f →
+      AreRangesWrong p k M of place r w
+
+-- the first fault of a type, or `Memory`
+abbrev pub ReportsTypeFault : Program → ℕ → Fault → Type 0
+ReportsTypeFault p i f = (f ≡ faults.Memory) ⊎ IsTypeFault p i f
+
+-- the first fault of one of these types, or `Memory`
+abbrev pub ReportsOne : Program → List ℕ → Fault → Type 0
+ReportsOne p is f = (f ≡ faults.Memory) ⊎ ((n i : ℕ) × (slice_get is n ≡ Some i) × IsTypeFault p i f)
+
+-- the first fault of a program, or `Memory`
+abbrev pub ReportsFirstOf : Program → Fault → Type 0
+ReportsFirstOf p f = (f ≡ faults.Memory) ⊎ IsFirstFault p f
+
+-- type n of these is n steps after the type at which they start
+abbrev pub AreTargets : List Type' → ℕ → List ℕ → Type 0
+AreTargets ts start is = (n i : ℕ) → slice_get is n ≡ Some i → walk ts n start ≡ Some i

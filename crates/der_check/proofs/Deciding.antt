@@ -1,0 +1,502 @@
+-- What is decided of a whole by what is decided of its parts.
+use Rattle.std.proofs.Common.{arith, ◌≡◌, ℕ, zero, suc, ◌+◌, ◌≤◌, Bool, true, false, List, [], ◌∷◌, ◌++◌, length, refl, sym, ap, subst, ◌∙◌}
+use Rattle.std.specs.Prelude.{IsTrue, Option, Some, None, slice_get}
+use Rattle.std.specs.List.{concat, AllByRecursion}
+use Rattle.asn_base.specs.declared.tag.Tag.{Tag}
+use Rattle.asn_base.specs.declared.schema.TypeId.{TypeId}
+use Rattle.asn_base.specs.Abstract.{AbstractValue, fields, list, alternative, Row, row_of_options, row_of_list}
+use Rattle.asn_base.specs.Same.{Same}
+use Rattle.asn_base.specs.Schemas.{IsSchema, IsSound, HasValue, components}
+use Rattle.asn_base.specs.Types.{Alternative, Constraint, Kind, a_sequence, a_set, a_sequence_of, a_set_of, a_choice, Component, Resolved, Is}
+use Rattle.asn_base.specs.Typed.{ValueIn, value_in, ValueOf, of_leaf, of_sequence, of_set, of_sequence_of, of_set_of, of_choice, AreComponents, AreElements}
+use Rattle.encodings.specs.Contents.{Contents}
+use Rattle.encodings.specs.Orders.{Ascending, ascending_none, AtMost, InTagOrder}
+use Rattle.encodings.specs.Rules.{Rules, Basic, Distinguished}
+use Rattle.encodings.specs.Encoding.{Framed, EncodesTo, says, ContentsEncode, leaf, sequence, set, sequence_of, set_of, choice, Members, no_member, Elements, IsDefault, Der, Ber}
+use Rattle.codec_code.specs.declared.step.Field.{Field as Field'}
+use Rattle.encodings.specs.declared.leaf_kind.LeafKind.{LeafKind}
+use Rattle.codec_code.specs.declared.step.Step.{Step}
+use Rattle.codec_code.specs.declared.step.Step.TheVariants.{Leaf, Call}
+use Rattle.codec_code.specs.Routines.{id_of, field_of, routine_at, row_of, body, ends, fields_from, rest_if, choice_of, calls, component_in}
+use Rattle.codec_code.specs.Steps.{IsDefaultAt}
+use Rattle.encodings.specs.Leaves.{plain}
+use Rattle.der_check.specs.Heads.{IsWithinHeaders, no_head, in_head}
+use Rattle.der_check.specs.Sets.{ReadsComponents}
+use Rattle.der_check.specs.Strict.{Decides, form_of, begins_ranked, element_type, ValueGiven, ContentsGiven, ElementsGiven, StepsGiven, SequenceGiven, SetGiven, MemberGiven, MemberBy, PartGiven, PartBy, ComesFirst, IsAmong, SequenceBy, SetBy}
+use Rattle.der_check.proofs.Split.{HeadersApart, AllUnits}
+use Rattle.der_check.proofs.Shortened.{inside_short}
+use Rattle.der_check.proofs.Climbing.{reads_fields, reads_ranked}
+use Rattle.der_check.proofs.KindParts.{same_tags, same_kind, routine_is, bare_body, IsFramed, heads_framed, framed_heads, same_frame, strict_form, SequenceParts, sequence_parts, sequence_units, sequence_same, counted, fields_split, ranked_split, sequence_of_parts, set_of_parts, list_units, elements_of, members_of, chosen}
+use Rattle.der_check.proofs.SetParts.{SetParts, permutes_nothing, merges_nothing, set_parts, set_parted, set_units, set_placed, set_same}
+use Rattle.der_check.proofs.Leafs.{HoldsOthers, flat_contents, is_plain}
+
+some_same : {A : Type 0} {x y : A} → Some x ≡ Some y → x ≡ y
+some_same e = cc
+
+none_some : {A : Type 0} {x : A} → None ≡ Some x → ⊥
+none_some e = cc
+
+pub no_some : {A : Type 0} {x : A} {P : Type 0} → None ≡ Some x → P
+no_some e = absurd (none_some e)
+
+-- a decision on one thing is one on another that holds exactly if the first does
+pub decides_as : {P Q : ℕ → Type 0} (r : Option Bool) → ((j : ℕ) → P j → Q j) → ((j : ℕ) → Q j → P j) → Decides P r → Decides Q r
+decides_as None f g d = λ j q. d j (g j q)
+decides_as (Some b) f g d = (d.0, f d.0 d.1, d.2)
+
+-- ---- a value
+
+pub no_levels : {s : List Resolved} {n t : ℕ} {v : AbstractValue} → ValueIn s n t v → n ≡ 0 → ⊥
+no_levels (value_in i h) e = omega arith
+
+within_short : {ss rs : List Step} {o x : List ℕ} → IsWithinHeaders ss o rs x → length o ≤ 16777216 → length x ≤ 16777216
+within_short (no_head b) l = l
+within_short (in_head i w) l = within_short w (inside_short i l)
+
+-- the steps after the headers, and what is within them
+pub record IsSomewhere (st : List Step) (o : List ℕ) : Type 0 where
+  pub steps : List Step
+  pub contents : List ℕ
+  pub within : IsWithinHeaders st o steps contents
+
+pub strict_within : {s : List Resolved} {t j : ℕ} {v : AbstractValue} {o : List ℕ} (st : List Step) → st ≡ routine_at s t → EncodesTo s Distinguished t v j o → IsSomewhere st o
+strict_within {s} {t} {o = o} st e (says {tags = tags} {k = k} {c = c} {x = x} i h f) =
+    let b = body s k ++ ends (length tags) in
+    let w = framed_heads tags (row_of k) b (bare_body s k (length tags)) (subst (λ q. Framed Distinguished tags q x o) (strict_form h) f) in
+    record { steps = b; contents = x; within = subst (λ q. IsWithinHeaders q o b x) (sym (e ∙ routine_is s t tags k i)) w }
+
+-- what is given of the contents, and what it says of the value
+pub record Opened (s : List Resolved) (t m : ℕ) (v : AbstractValue) (ss : List Step) (x o : List ℕ) : Type 0 where
+  pub kind : Kind
+  pub given : ContentsGiven s t m ss v kind x
+  pub there : (j : ℕ) → ContentsEncode s Distinguished kind v j (form_of kind) x → EncodesTo s Distinguished t v j o
+  pub back : (j : ℕ) → EncodesTo s Distinguished t v j o → ContentsEncode s Distinguished kind v j (form_of kind) x
+
+pub value_opened : HeadersApart → {s : List Resolved} {t n : ℕ} {v : AbstractValue} {st ss : List Step} {x o : List ℕ} (m : ℕ) → n ≡ suc m → IsSchema s → st ≡ routine_at s t → ValueGiven s t n v o → IsWithinHeaders st o ss x → Opened s t m v ss x o
+value_opened law {s} {t} {n} {v} {st} {ss} {x} {o} m lev sch e g w = by n lev g.few g.value g.says_it
+  where
+    said : {tags : List Tag} {k : Kind} {j : ℕ} → Is s t tags k → IsFramed (body s k ++ ends (length tags)) tags (form_of k) ss x o → EncodesTo s Distinguished t v j o → ContentsEncode s Distinguished k v j (form_of k) x
+    said {tags} {k} {j} i fr (says {tags = tags'} {k = k'} {c = c'} {x = x'} i' h' f') =
+        let h2 = subst (λ q. ContentsEncode s Distinguished q v j c' x') (same_kind i' i) h' in
+        let f2 = subst (λ q. Framed Distinguished q c' x' o) (same_tags i' i) f' in
+        same_frame law tags (λ q. sch.tagged t k (subst (λ z. Is s t z k) q i)) fr.framed f2 h2
+
+    by : (n : ℕ) → n ≡ suc m → n ≤ 64 → ValueIn s n t v → EncodesTo s Basic t v g.count o → Opened s t m v ss x o
+    by zero lv few val d = elim val [ ]
+    by (suc n') lv few (value_in {k = k} i val) (says {tags = tags'} {k = k'} {c = c} {x = xb} i' hb fb) =
+        let same : n' ≡ m = omega arith in
+        let w2 = subst (λ q. IsWithinHeaders q o ss x) (e ∙ routine_is s t tags' k' i') w in
+        let fr = heads_framed tags' (row_of k') (body s k' ++ ends (length tags')) (bare_body s k' (length tags')) w2 in
+        record {
+          kind = k';
+          given = record {
+            few = (omega arith);
+            tags = tags';
+            is = i';
+            ended = length tags';
+            steps = fr.steps;
+            value = subst (λ q. ValueOf s q k' v) same (subst (λ q. ValueOf s n' q v) (same_kind i i') val);
+            count = g.count;
+            holds_it = same_frame law tags' (λ q. sch.tagged t k' (subst (λ z. Is s t z k') q i')) fr.framed fb hb;
+            short = within_short w g.short;
+          };
+          there = λ j h. says i' h fr.framed;
+          back = λ j d. said i' fr d;
+        }
+
+-- ---- contents that hold no others
+
+-- the same of a value that is known by an equation
+pub of_same : {s : List Resolved} {t n : ℕ} {ss : List Step} {x : List ℕ} {v w : AbstractValue} (r : Option Bool) → v ≡ w → ((k : Kind) → ContentsGiven s t n ss w k x → Decides (λ j. ContentsEncode s Distinguished k w j (form_of k) x) r) → (k : Kind) → ContentsGiven s t n ss v k x → Decides (λ j. ContentsEncode s Distinguished k v j (form_of k) x) r
+of_same {s} {t} {n} {ss} {x} r e f = subst (λ q. (k : Kind) → ContentsGiven s t n ss q k x → Decides (λ j. ContentsEncode s Distinguished k q j (form_of k) x) r) (sym e) f
+
+-- what a leaf is given as
+pub record LeafGiven (s : List Resolved) (k : Kind) (v : AbstractValue) (ss : List Step) (x : List ℕ) : Type 0 where
+  pub kind : LeafKind
+  pub rest : List Step
+  pub steps : ss ≡ Leaf kind ∷ rest
+  pub basic : Contents Basic (plain kind) v false x
+  pub there : (j : ℕ) → ContentsEncode s Distinguished k v j (form_of k) x → Contents Distinguished (plain kind) v false x
+  pub back : Contents Distinguished (plain kind) v false x → ContentsEncode s Distinguished k v 0 (form_of k) x
+
+pub leaf_given : {s : List Resolved} {t n : ℕ} {ss : List Step} {x : List ℕ} {v : AbstractValue} {k : Kind} → (HoldsOthers v → ⊥) → ContentsGiven s t n ss v k x → LeafGiven s k v ss x
+leaf_given {s} {ss = ss} {x = x} {v = v} {k = k} flat g =
+    let con = (flat_contents flat g.holds_it).0 in
+    let p = is_plain s con in
+    record {
+      kind = p.kind;
+      rest = ends g.ended;
+      steps = g.steps ∙ ap (λ q. q ++ ends g.ended) p.steps;
+      basic = subst (λ q. Contents Basic (plain p.kind) v q x) p.form p.basic;
+      there = λ j h. subst (λ q. Contents Distinguished (plain p.kind) v q x) p.form (p.there (flat_contents flat h).0);
+      back = λ h. leaf (p.back (subst (λ q. Contents Distinguished (plain p.kind) v q x) (sym p.form) h));
+    }
+
+pub leaf_decided : {s : List Resolved} {t n : ℕ} {ss : List Step} {x : List ℕ} {w : AbstractValue} (r : Option Bool) {v : AbstractValue} → v ≡ w → (HoldsOthers w → ⊥) → ((lk : LeafKind) (rest : List Step) (u : AbstractValue) → ss ≡ Leaf lk ∷ rest → Contents Basic (plain lk) u false x → Decides (λ j. (j ≡ 0) × Contents Distinguished (plain lk) u false x) r) → (k : Kind) → ContentsGiven s t n ss v k x → Decides (λ j. ContentsEncode s Distinguished k v j (form_of k) x) r
+leaf_decided {s} {t} {n} {ss} {x} {w} r e flat f = of_same r e (λ k g.
+    let l = leaf_given flat g in
+    decides_as r (λ j h. subst (λ q. ContentsEncode s Distinguished k w q (form_of k) x) (sym h.0) (l.back h.1)) (λ j h. ((flat_contents flat h).1, l.there j h)) (f l.kind l.rest w l.steps l.basic))
+
+-- ---- an alternative
+
+pub record ChoiceGiven (s : List Resolved) (n i : ℕ) (k : Kind) (w : AbstractValue) (ss : List Step) (x : List ℕ) : Type 0 where
+  pub all : List Alternative
+  pub rest : List Step
+  pub alternative_there : Alternative
+  pub steps : ss ≡ choice_of all ++ rest
+  pub is_at : slice_get all i ≡ Some alternative_there
+  pub given : ValueGiven s alternative_there.type n w x
+  pub there : (j : ℕ) → EncodesTo s Distinguished alternative_there.type w j x → ContentsEncode s Distinguished k (alternative i w) j (form_of k) x
+  pub back : (j : ℕ) → ContentsEncode s Distinguished k (alternative i w) j (form_of k) x → EncodesTo s Distinguished alternative_there.type w j x
+
+chosen_value : {s : List Resolved} {n i : ℕ} {root more : List Alternative} {e : Bool} {w : AbstractValue} {a : Alternative} → ValueOf s n (a_choice root e more) (alternative i w) → slice_get (root ++ more) i ≡ Some a → ValueIn s n a.type w
+chosen_value (of_leaf f) e = elim f [ ]
+chosen_value {s} {n} {w = w} (of_choice g v) e = subst (λ q. ValueIn s n q.type w) (some_same (sym g ∙ e)) v
+
+pub choice_given : {s : List Resolved} {t n i : ℕ} {ss : List Step} {x : List ℕ} {w : AbstractValue} (k : Kind) → ContentsGiven s t n ss (alternative i w) k x → ChoiceGiven s n i k w ss x
+choice_given {s} {n = n} {i = i} {ss = ss} {x = x} {w = w} k g = by k g.holds_it g.value g.steps
+  where
+    by : (k : Kind) {m : ℕ} → ContentsEncode s Basic k (alternative i w) m (form_of k) x → ValueOf s n k (alternative i w) → ss ≡ body s k ++ ends g.ended → ChoiceGiven s n i k w ss x
+    by k (leaf con) v e = elim con [ ]
+    by (a_choice root em more) {m} (choice {a = a} at h) v e =
+        record {
+          all = root ++ more;
+          rest = ends g.ended;
+          alternative_there = a;
+          steps = e;
+          is_at = at;
+          given = record { few = g.few; value = chosen_value v at; count = m; says_it = h; short = g.short };
+          there = λ j d. choice at d;
+          back = λ j d. chosen d at;
+        }
+
+pub called_at : (as' : List Alternative) (ss : List Step) (i : ℕ) (a : Alternative) → slice_get as' i ≡ Some a → slice_get (calls as' ++ ss) i ≡ Some (Call (id_of a.type))
+called_at [] ss i a e = absurd (none_some e)
+called_at (b ∷ bs) ss zero a e = ap (λ q. Some (Call (id_of q.type))) (some_same e)
+called_at (b ∷ bs) ss (suc i) a e = called_at bs ss i a e
+
+-- ---- components
+
+-- the steps of type t read the components of its kind
+pub steps_given : {s : List Resolved} {t : ℕ} {tags : List Tag} {k : Kind} {ss : List Step} (cs : List Component) → Is s t tags k → components k ≡ cs → ReadsComponents cs 0 ss → StepsGiven s t ss cs
+steps_given {s} {t} cs i e r = record { reads = r; placed = λ j c at. ap (λ o. elim o [ None ↦ None | Some q ↦ slice_get (components q.kind) j ]) i.found ∙ ap (λ q. slice_get q j) e ∙ at }
+
+sequence_values : {s : List Resolved} {n : ℕ} {e : Bool} {cs : List Component} {vs : Row} → ValueOf s n (a_sequence e cs) (fields vs) → AreComponents s n cs vs
+sequence_values (of_leaf f) = elim f [ ]
+sequence_values (of_sequence a g) = a
+
+set_values : {s : List Resolved} {n : ℕ} {e : Bool} {cs : List Component} {vs : Row} → ValueOf s n (a_set e cs) (fields vs) → AreComponents s n cs vs
+set_values (of_leaf f) = elim f [ ]
+set_values (of_set a g) = a
+
+-- contents of a SEQUENCE, or of a SET without components
+pub record AsSequence (s : List Resolved) (t n : ℕ) (ss : List Step) (os : List (Option AbstractValue)) (k : Kind) (x : List ℕ) : Type 0 where
+  pub all : List Component
+  pub known : List (List ℕ)
+  pub others : List (List ℕ)
+  pub given : SequenceGiven s t n ss os all known others x
+  pub there : (j : ℕ) → SequenceBy s os all known others j → ContentsEncode s Distinguished k (fields (row_of_options os)) j (form_of k) x
+  pub back : (j : ℕ) → ContentsEncode s Distinguished k (fields (row_of_options os)) j (form_of k) x → SequenceBy s os all known others j
+
+-- of a SET
+pub record AsSet (s : List Resolved) (t n : ℕ) (ss : List Step) (os : List (Option AbstractValue)) (k : Kind) (x : List ℕ) : Type 0 where
+  pub all : List Component
+  pub known : List (List ℕ)
+  pub in_order : List (List ℕ)
+  pub others : List (List ℕ)
+  pub units : List (List ℕ)
+  pub given : SetGiven s t n ss os all known in_order others units x
+  pub there : (j : ℕ) → SetBy s os all known in_order others j → ContentsEncode s Distinguished k (fields (row_of_options os)) j (form_of k) x
+  pub back : (j : ℕ) → ContentsEncode s Distinguished k (fields (row_of_options os)) j (form_of k) x → SetBy s os all known in_order others j
+
+never_ranked : false ≡ true → ⊥
+never_ranked e = cc
+
+ends_not_ranked : (e : Bool) (n : ℕ) → begins_ranked (rest_if e ++ ends n) ≡ false
+ends_not_ranked true n = refl
+ends_not_ranked false zero = refl
+ends_not_ranked false (suc n) = refl
+
+-- a SEQUENCE's steps begin with no component of a SET
+fields_not_ranked : (e : Bool) (cs : List Component) (n : ℕ) → begins_ranked (fields_from 0 cs ++ (rest_if e ++ ends n)) ≡ false
+fields_not_ranked e [] n = ends_not_ranked e n
+fields_not_ranked e (c ∷ cs) n = refl
+
+known_none : {s : List Resolved} {r : Rules} {ws : Row} {n : ℕ} {xs : List (List ℕ)} → Members s r [] ws n xs → (xs ≡ []) × (n ≡ 0)
+known_none no_member = (refl, refl)
+
+module _ (law : HeadersApart) {s : List Resolved} (sch : IsSchema s) where
+  of_sequence_kind : {t n : ℕ} {ss : List Step} {os : List (Option AbstractValue)} {e : Bool} {cs : List Component} {x : List ℕ} → ContentsGiven s t n ss (fields (row_of_options os)) (a_sequence e cs) x → AsSequence s t n ss os (a_sequence e cs) x
+  of_sequence_kind {t} {n} {ss} {os} {e} {cs} {x} g =
+      let p = sequence_parts g.holds_it in
+      record {
+        all = cs;
+        known = p.known;
+        others = p.others;
+        given = record {
+          few = g.few;
+          steps = steps_given cs g.is refl (subst (ReadsComponents cs 0) (sym (g.steps ∙ fields_split e cs g.ended)) (reads_fields e g.ended 0 cs));
+          values = sequence_values g.value;
+          count = p.count;
+          says_them = p.members;
+          units = sequence_units sch.tagged g.short p;
+        };
+        there = λ j b. made p j b;
+        back = λ j h. let q = sequence_parts h in let z = sequence_same law sch.tagged p q in
+            record { count = q.count; says_them = subst (λ l. Members s Distinguished cs (row_of_options os) q.count l) z.0 q.members; counted = q.counts ∙ ap (λ l. q.count + l) (counted q.unknown_ones ∙ ap length z.1) };
+      }
+    where
+      made : (p : SequenceParts s Basic e cs (row_of_options os) g.count x) (j : ℕ) → SequenceBy s os cs p.known p.others j → ContentsEncode s Distinguished (a_sequence e cs) (fields (row_of_options os)) j true x
+      made p j b =
+          subst (λ l. ContentsEncode s Distinguished (a_sequence e cs) (fields (row_of_options os)) j true l) (sym p.whole)
+          (subst (λ l. ContentsEncode s Distinguished (a_sequence e cs) (fields (row_of_options os)) l true (concat (p.known ++ p.others))) (sym (b.counted ∙ ap (λ l. b.count + l) (sym (counted p.unknown_ones))))
+          (sequence b.says_them p.unknown_ones))
+
+  of_set_kind : {t n : ℕ} {ss : List Step} {os : List (Option AbstractValue)} {e : Bool} {cs : List Component} {x : List ℕ} → ContentsGiven s t n ss (fields (row_of_options os)) (a_set e cs) x → AsSet s t n ss os (a_set e cs) x
+  of_set_kind {t} {n} {ss} {os} {e} {cs} {x} g =
+      let p = set_parts g.holds_it in
+      let apart = sch.distinct_tags t g.tags (a_set e cs) g.is in
+      record {
+        all = cs;
+        known = p.known;
+        in_order = p.in_order;
+        others = p.others;
+        units = p.all;
+        given = record {
+          few = g.few;
+          steps = steps_given cs g.is refl (subst (ReadsComponents cs 0) (sym (g.steps ∙ ranked_split s e cs g.ended)) (reads_ranked s cs e g.ended 0 cs));
+          values = set_values g.value;
+          count = p.count;
+          says_them = p.members;
+          units = set_units sch.tagged g.short p;
+          parted = set_parted sch.tagged p;
+          places = set_placed law sch.tagged apart p;
+        };
+        there = λ j b. made p j b;
+        back = λ j h. let q = set_parts h in let z = set_same law sch.tagged apart p q in
+            record { count = q.count; says_them = subst (λ l. Members s Distinguished cs (row_of_options os) q.count l) z.known q.members; ascend = subst (Ascending InTagOrder) z.in_order q.sorted; counted = q.counts ∙ ap (λ l. q.count + l) (counted q.unknown_ones ∙ ap length z.others) };
+      }
+    where
+      made : (p : SetParts s Basic e cs (row_of_options os) g.count x) (j : ℕ) → SetBy s os cs p.known p.in_order p.others j → ContentsEncode s Distinguished (a_set e cs) (fields (row_of_options os)) j true x
+      made p j b =
+          subst (λ l. ContentsEncode s Distinguished (a_set e cs) (fields (row_of_options os)) j true l) (sym p.whole)
+          (subst (λ l. ContentsEncode s Distinguished (a_set e cs) (fields (row_of_options os)) l true (concat p.all)) (sym (b.counted ∙ ap (λ l. b.count + l) (sym (counted p.unknown_ones))))
+          (set b.says_them p.permutes b.ascend p.unknown_ones p.merges))
+
+  -- a SET without components is as a SEQUENCE without
+  of_empty_set : {t n : ℕ} {ss : List Step} {os : List (Option AbstractValue)} {e : Bool} {x : List ℕ} → ContentsGiven s t n ss (fields (row_of_options os)) (a_set e []) x → AsSequence s t n ss os (a_set e []) x
+  of_empty_set {t} {n} {ss} {os} {e} {x} g =
+      let p = set_parts g.holds_it in
+      record {
+        all = [];
+        known = p.known;
+        others = p.others;
+        given = record {
+          few = g.few;
+          steps = steps_given [] g.is refl (subst (ReadsComponents [] 0) (sym (g.steps ∙ ranked_split s e [] g.ended)) (reads_ranked s [] e g.ended 0 []));
+          values = set_values g.value;
+          count = p.count;
+          says_them = p.members;
+          units = (let u = set_units sch.tagged g.short p in record { units = subst AllUnits (sym (together p)) u.units; whole = u.whole ∙ ap concat (sym (together p)); short = u.short });
+        };
+        there = λ j b. made p j b;
+        back = λ j h. let q = set_parts h in let z = set_same law sch.tagged tt p q in
+            record { count = q.count; says_them = subst (λ l. Members s Distinguished [] (row_of_options os) q.count l) z.known q.members; counted = q.counts ∙ ap (λ l. q.count + l) (counted q.unknown_ones ∙ ap length z.others) };
+      }
+    where
+      nothing : (p : SetParts s Basic e [] (row_of_options os) g.count x) → p.in_order ≡ []
+      nothing p = permutes_nothing p.permutes (known_none p.members).0
+
+      together : (p : SetParts s Basic e [] (row_of_options os) g.count x) → p.known ++ p.others ≡ p.all
+      together p = ap (λ l. l ++ p.others) (known_none p.members).0 ∙ sym (merges_nothing p.merges (nothing p))
+
+      made : (p : SetParts s Basic e [] (row_of_options os) g.count x) (j : ℕ) → SequenceBy s os [] p.known p.others j → ContentsEncode s Distinguished (a_set e []) (fields (row_of_options os)) j true x
+      made p j b =
+          subst (λ l. ContentsEncode s Distinguished (a_set e []) (fields (row_of_options os)) j true l) (sym p.whole)
+          (subst (λ l. ContentsEncode s Distinguished (a_set e []) (fields (row_of_options os)) l true (concat p.all)) (sym (b.counted ∙ ap (λ l. b.count + l) (sym (counted p.unknown_ones))))
+          (set b.says_them p.permutes (subst (Ascending InTagOrder) (sym (nothing p)) ascending_none) p.unknown_ones p.merges))
+
+  pub as_sequence : {t n : ℕ} {ss : List Step} {os : List (Option AbstractValue)} {x : List ℕ} (k : Kind) → begins_ranked ss ≡ false → ContentsGiven s t n ss (fields (row_of_options os)) k x → AsSequence s t n ss os k x
+  as_sequence {t} {n} {ss} {os} {x} k r g = by k g.holds_it g
+    where
+      by : (k : Kind) {m : ℕ} {y : List ℕ} → ContentsEncode s Basic k (fields (row_of_options os)) m (form_of k) y → ContentsGiven s t n ss (fields (row_of_options os)) k x → AsSequence s t n ss os k x
+      by k (leaf con) g' = elim con [ ]
+      by (a_sequence e cs) (sequence ms u) g' = of_sequence_kind g'
+      by (a_set e []) (set ms p st u m) g' = of_empty_set g'
+      by (a_set e (c ∷ cs)) (set ms p st u m) g' = absurd (never_ranked (sym r ∙ ap begins_ranked g'.steps))
+
+  pub as_set : {t n : ℕ} {ss : List Step} {os : List (Option AbstractValue)} {x : List ℕ} (k : Kind) → begins_ranked ss ≡ true → ContentsGiven s t n ss (fields (row_of_options os)) k x → AsSet s t n ss os k x
+  as_set {t} {n} {ss} {os} {x} k r g = by k g.holds_it g
+    where
+      by : (k : Kind) {m : ℕ} {y : List ℕ} → ContentsEncode s Basic k (fields (row_of_options os)) m (form_of k) y → ContentsGiven s t n ss (fields (row_of_options os)) k x → AsSet s t n ss os k x
+      by k (leaf con) g' = elim con [ ]
+      by (a_sequence e cs) (sequence ms u) g' = absurd (never_ranked (sym (fields_not_ranked e cs g'.ended) ∙ ap begins_ranked (sym (g'.steps ∙ fields_split e cs g'.ended)) ∙ r))
+      by (a_set e cs) (set ms p st u m) g' = of_set_kind g'
+
+  -- ---- elements
+
+  -- the elements of a list
+  pub record AsList (t n : ℕ) (ss : List Step) (vs : List AbstractValue) (k : Kind) (x : List ℕ) (u : TypeId) (sorted : Bool) : Type 0 where
+    pub encodings : List (List ℕ)
+    pub given : ElementsGiven s u.index n vs encodings x
+    pub there : (j : ℕ) → (sorted ≡ true → Ascending AtMost encodings) → Elements s Distinguished u.index (row_of_list vs) j encodings → ContentsEncode s Distinguished k (list (row_of_list vs)) j (form_of k) x
+    pub back : (j : ℕ) → ContentsEncode s Distinguished k (list (row_of_list vs)) j (form_of k) x → Elements s Distinguished u.index (row_of_list vs) j encodings × (sorted ≡ true → Ascending AtMost encodings)
+
+  -- the steps that give their type
+  pub record ListGiven (t n : ℕ) (ss : List Step) (vs : List AbstractValue) (k : Kind) (x : List ℕ) : Type 0 where
+    pub element : TypeId
+    pub sorted : Bool
+    pub found_type : element_type ss ≡ Some (element, sorted)
+    pub as_list : AsList t n ss vs k x element sorted
+
+  sequence_of_values : {n : ℕ} {c : Constraint} {u : ℕ} {vs : Row} → ValueOf s n (a_sequence_of c u) (list vs) → AreElements s n u vs
+  sequence_of_values (of_leaf f) = elim f [ ]
+  sequence_of_values (of_sequence_of a z) = a
+
+  set_of_values : {n : ℕ} {c : Constraint} {u : ℕ} {vs : Row} → ValueOf s n (a_set_of c u) (list vs) → AreElements s n u vs
+  set_of_values (of_leaf f) = elim f [ ]
+  set_of_values (of_set_of a z) = a
+
+  pub list_given : {t n : ℕ} {ss : List Step} {vs : List AbstractValue} {x : List ℕ} (k : Kind) → ContentsGiven s t n ss (list (row_of_list vs)) k x → ListGiven t n ss vs k x
+  list_given {t} {n} {ss} {vs} {x} k g = by k g.holds_it g
+    where
+      by : (k : Kind) {m : ℕ} {y : List ℕ} → ContentsEncode s Basic k (list (row_of_list vs)) m (form_of k) y → ContentsGiven s t n ss (list (row_of_list vs)) k x → ListGiven t n ss vs k x
+      by k (leaf con) g' = elim con [ ]
+      by (a_sequence_of c u) (sequence_of es) g' =
+          let p = sequence_of_parts g'.holds_it in
+          let us = list_units sch.tagged g'.short p in
+          record {
+            element = id_of u;
+            sorted = false;
+            found_type = ap element_type g'.steps;
+            as_list = record {
+              encodings = p.encodings;
+              given = record { few = g'.few; values = sequence_of_values g'.value; count = g'.count; says_them = p.elements; units = us };
+              there = λ j st e. subst (λ l. ContentsEncode s Distinguished (a_sequence_of c u) (list (row_of_list vs)) j true l) (sym p.whole) (sequence_of e);
+              back = λ j h. (elements_of law p.encodings sch.tagged us.units h p.whole, λ z. absurd (never_ranked z));
+            };
+          }
+      by (a_set_of c u) (set_of es st) g' =
+          let p = set_of_parts g'.holds_it in
+          let us = list_units sch.tagged g'.short p in
+          record {
+            element = id_of u;
+            sorted = true;
+            found_type = ap element_type g'.steps;
+            as_list = record {
+              encodings = p.encodings;
+              given = record { few = g'.few; values = set_of_values g'.value; count = g'.count; says_them = p.elements; units = us };
+              there = λ j so e. subst (λ l. ContentsEncode s Distinguished (a_set_of c u) (list (row_of_list vs)) j true l) (sym p.whole) (set_of e (so refl));
+              back = λ j h. let m = members_of law p.encodings sch.tagged us.units h p.whole in (m.0, λ z. m.1);
+            };
+          }
+
+-- ---- DEFAULT
+
+at_place : {A : Type 0} (P : A → Type 0) (xs : List A) (i : ℕ) (x : A) → slice_get xs i ≡ Some x → AllByRecursion P xs → P x
+at_place P [] i x e a = absurd (none_some e)
+at_place P (y ∷ xs) zero x e a = subst P (some_same e) a.0
+at_place P (y ∷ xs) (suc i) x e a = at_place P xs i x e a.1
+
+sound_default : (s : List Resolved) (i : ℕ) (c : Component) (k : Kind) → IsSound s k → slice_get (components k) i ≡ Some c → HasValue s c
+sound_default s i c (a_sequence e cs) a f = at_place (HasValue s) cs i c f a.defaults
+sound_default s i c (a_set e cs) a f = at_place (HasValue s) cs i c f a.0.defaults
+sound_default s i c k a f = absurd cc
+
+abbrev of_type : ℕ → Option Resolved → Option Component
+of_type i None = None
+of_type i (Some r) = slice_get (components r.kind) i
+
+type_there : (i : ℕ) (o : Option Resolved) (c : Component) → of_type i o ≡ Some c → (r : Resolved) × (o ≡ Some r) × (slice_get (components r.kind) i ≡ Some c)
+type_there i None c e = absurd (none_some e)
+type_there i (Some r) c e = (r, refl, e)
+
+-- the component's DEFAULT is the one of the type
+pub is_default_in : {s : List Resolved} {t i : ℕ} {c : Component} {w : AbstractValue} → component_in s t i ≡ Some c → IsDefaultAt s t i w → IsDefault s c w
+is_default_in {s} {t} {i} {c} {w} e a =
+    let same : a.component ≡ c = some_same (sym (ap (of_type i) a.is.found ∙ a.is_at) ∙ e) in
+    subst (λ q. IsDefault s q w) same (a.is_the_default.value, a.is_the_default.has_default, a.is_the_default.same.are_alike)
+
+pub default_at : {s : List Resolved} {t i n : ℕ} {c : Component} {w : AbstractValue} → IsSchema s → ((s : List Resolved) (t m n : ℕ) (v : AbstractValue) → m ≤ n → ValueIn s m t v → ValueIn s n t v) → component_in s t i ≡ Some c → n ≤ 64 → ValueIn s n c.type w → IsDefault s c w → IsDefaultAt s t i w
+default_at {s} {t} {i} {n} {c} {w} sch grow e few v d =
+    let r = type_there i (slice_get s t) c e in
+    let known = sound_default s i c r.0.kind (sch.sound t r.0.tags r.0.kind (record { found = r.1 })) r.2 in
+    record {
+      tags = r.0.tags;
+      kind = r.0.kind;
+      is = record { found = r.1 };
+      component = c;
+      is_at = r.2;
+      is_the_default = record { value = d.0; has_default = d.1; same = record { first = grow s c.type n 64 w few v; second = (known d.0 d.1).shaped; are_alike = d.2 } };
+    }
+
+-- ---- a whole message
+
+pub says_count : {s : List Resolved} {t j k : ℕ} {w : AbstractValue} {o : List ℕ} → ((s : List Resolved) (t k : ℕ) (v : AbstractValue) (o : List ℕ) → Der s t v k o → Ber s t v k o) → ((s : List Resolved) (t j k : ℕ) (v w : AbstractValue) (o : List ℕ) → IsSchema s → EncodesTo s Basic t v j o → EncodesTo s Basic t w k o → (v ≡ w) × (j ≡ k)) → IsSchema s → Same s t w w → EncodesTo s Distinguished t w j o → EncodesTo s Basic t w k o → j ≡ k
+says_count {s} {t} {j} {k} {w} {o} ber one sch same d b =
+    let e = ber s t j w o (w, same, d) in
+    (one s t j k e.0 w o sch e.2 b).1
+
+-- ---- what each call answers
+
+pub choice_decided : {s : List Resolved} {t n i : ℕ} {ss : List Step} {x : List ℕ} {w : AbstractValue} (u : TypeId) (o : Option TypeId) (r : Option Bool) → o ≡ Some u → ((as' : List Alternative) (rest : List Step) (a : Alternative) → ss ≡ choice_of as' ++ rest → slice_get as' i ≡ Some a → o ≡ Some (id_of a.type)) → (ValueGiven s u.index n w x → Decides (λ j. EncodesTo s Distinguished u.index w j x) r) → (k : Kind) → ContentsGiven s t n ss (alternative i w) k x → Decides (λ j. ContentsEncode s Distinguished k (alternative i w) j (form_of k) x) r
+choice_decided {s} {n = n} {x = x} {w = w} u o r e f h k g =
+    let q = choice_given k g in
+    let ty : u ≡ id_of q.alternative_there.type = some_same (sym e ∙ f q.all q.rest q.alternative_there q.steps q.is_at) in
+    decides_as r (λ j d. q.there j (subst (λ z. EncodesTo s Distinguished z.index w j x) ty d)) (λ j d. subst (λ z. EncodesTo s Distinguished z.index w j x) (sym ty) (q.back j d)) (h (subst (λ z. ValueGiven s z.index n w x) (sym ty) q.given))
+
+pub choice_none : {s : List Resolved} {t n i : ℕ} {ss : List Step} {x : List ℕ} {w : AbstractValue} (o : Option TypeId) → o ≡ None → ((as' : List Alternative) (rest : List Step) (a : Alternative) → ss ≡ choice_of as' ++ rest → slice_get as' i ≡ Some a → o ≡ Some (id_of a.type)) → (k : Kind) → ContentsGiven s t n ss (alternative i w) k x → Decides (λ j. ContentsEncode s Distinguished k (alternative i w) j (form_of k) x) None
+choice_none o e f k g = let q = choice_given k g in absurd (none_some (sym e ∙ f q.all q.rest q.alternative_there q.steps q.is_at))
+
+-- the same of octets that are others
+pub value_as : {s : List Resolved} {t n : ℕ} {v : AbstractValue} {x y : List ℕ} (r : Option Bool) → x ≡ y → (ValueGiven s t n v x → Decides (λ j. EncodesTo s Distinguished t v j x) r) → ValueGiven s t n v y → Decides (λ j. EncodesTo s Distinguished t v j y) r
+value_as {s} {t} {n} {v} r e f = subst (λ z. ValueGiven s t n v z → Decides (λ j. EncodesTo s Distinguished t v j z) r) e f
+
+pub member_as : {s : List Resolved} {t n i : ℕ} {ss : List Step} {v : AbstractValue} {c : Component} {x y : List ℕ} (r : Option Bool) → x ≡ y → ((d : Component) → MemberGiven s t n ss v i d x → Decides (MemberBy s d v x) r) → MemberGiven s t n ss v i c y → Decides (MemberBy s c v y) r
+member_as {s} {t} {n} {i} {ss} {v} {c} r e f = subst (λ z. MemberGiven s t n ss v i c z → Decides (MemberBy s c v z) r) e (f c)
+
+-- the component's type is that of its step
+pub field_type : {s : List Resolved} {t n i : ℕ} {ss : List Step} {v : AbstractValue} {c : Component} {x : List ℕ} (o : Option Field') (f : Field') → o ≡ Some f → ((cs : List Component) (d : Component) → ReadsComponents cs 0 ss → slice_get cs i ≡ Some d → o ≡ Some (field_of i d)) → MemberGiven s t n ss v i c x → f.ty.index ≡ c.type
+field_type o f e h m = ap (λ q. q.ty.index) (some_same (sym e ∙ h m.all _ m.steps.reads m.is_at))
+
+pub field_there : {s : List Resolved} {t n i : ℕ} {ss : List Step} {v : AbstractValue} {c : Component} {x : List ℕ} {P : Type 0} (o : Option Field') → o ≡ None → ((cs : List Component) (d : Component) → ReadsComponents cs 0 ss → slice_get cs i ≡ Some d → o ≡ Some (field_of i d)) → MemberGiven s t n ss v i c x → P
+field_there o e h m = absurd (none_some (sym e ∙ h m.all _ m.steps.reads m.is_at))
+
+pub value_of_type : {s : List Resolved} {n t u : ℕ} {v : AbstractValue} {x : List ℕ} (r : Option Bool) → u ≡ t → (ValueGiven s u n v x → Decides (λ j. EncodesTo s Distinguished u v j x) r) → ValueGiven s t n v x → Decides (λ j. EncodesTo s Distinguished t v j x) r
+value_of_type {s} {n} {v = v} {x = x} r e f = subst (λ z. ValueGiven s z n v x → Decides (λ j. EncodesTo s Distinguished z v j x) r) e f
+
+-- ---- a component with a DEFAULT
+
+abbrev pub OneCount : List Resolved → Type 0
+OneCount s = (t j k : ℕ) (v w : AbstractValue) (o : List ℕ) → EncodesTo s Distinguished t v j o → EncodesTo s Distinguished t w k o → j ≡ k
+
+pub member_decided : {s : List Resolved} {t n i : ℕ} {ss : List Step} {v : AbstractValue} {c : Component} {x : List ℕ} (part : Bool) → IsSchema s → ((s : List Resolved) (t m n : ℕ) (v : AbstractValue) → m ≤ n → ValueIn s m t v → ValueIn s n t v) → MemberGiven s t n ss v i c x → Decides (λ j. EncodesTo s Distinguished c.type v j x) (Some part) → ((IsTrue part × IsDefaultAt s t i v) → ⊥) → Decides (MemberBy s c v x) (Some part)
+member_decided {t = t} {i = i} {c = c} part sch grow m d no_one =
+    let p = m.steps.placed i c m.is_at in
+    (d.0, record { says_it = d.1; no_default = λ z e. no_one (d.2.1 z, default_at sch grow p m.given.few m.given.value e) }, d.2)
+
+pub member_omitted : {s : List Resolved} {t n i : ℕ} {ss : List Step} {v : AbstractValue} {c : Component} {x : List ℕ} (part : Bool) → OneCount s → MemberGiven s t n ss v i c x → Decides (λ j. EncodesTo s Distinguished c.type v j x) (Some part) → (IsTrue part × IsDefaultAt s t i v) → (j : ℕ) → MemberBy s c v x j → ⊥
+member_omitted {i = i} {v = v} {c = c} {x = x} part one m d o j b =
+    let p = m.steps.placed i c m.is_at in
+    b.no_default (one c.type j d.0 v v x b.says_it d.1 ∙ d.2.0 o.0) (is_default_in p o.1)
+
+-- ---- the next component
+
+pub next_given : {s : List Resolved} {t n i : ℕ} {ss : List Step} {o : Option AbstractValue} {c : Component} {x : List ℕ} (v : AbstractValue) → o ≡ Some v → PartGiven s t n ss o i c x → MemberGiven s t n ss v i c x
+next_given {s} {t} {n} {i} {ss} {c = c} {x = x} v e p = subst (λ q. PartGiven s t n ss q i c x) e p
+
+pub next_first : {o : Option AbstractValue} (x r octets : List ℕ) (v : AbstractValue) → o ≡ Some v → ComesFirst o x r octets → ComesFirst (Some v) x r octets
+next_first x r octets v e p = subst (λ q. ComesFirst q x r octets) e p
+
+pub next_among : {o : Option AbstractValue} (s : List Resolved) (c : Component) (x octets : List ℕ) (v : AbstractValue) → o ≡ Some v → IsAmong s c o x octets → IsAmong s c (Some v) x octets
+next_among s c x octets v e p = subst (λ q. IsAmong s c q x octets) e p
+
+pub next_by : {o : Option AbstractValue} (s : List Resolved) (c : Component) (x : List ℕ) (v : AbstractValue) (r : Option Bool) → o ≡ Some v → Decides (MemberBy s c v x) r → Decides (PartBy s c o x) r
+next_by s c x v r e d = subst (λ q. Decides (PartBy s c q x) r) (sym e) d
+
+-- ---- elements
+
+pub list_at : {s : List Resolved} {law : HeadersApart} {sch : IsSchema s} {t n : ℕ} {ss : List Step} {vs : List AbstractValue} {k : Kind} {x : List ℕ} (u : TypeId) (b : Bool) → (l : ListGiven law sch t n ss vs k x) → element_type ss ≡ Some (u, b) → AsList law sch t n ss vs k x u b
+list_at {s} {law} {sch} {t} {n} {ss} {vs} {k} {x} u b l e =
+    let f = some_same (sym l.found_type ∙ e) in
+    subst (λ q. AsList law sch t n ss vs k x u q) (ap (λ q. q.1) f) (subst (λ q. AsList law sch t n ss vs k x q l.sorted) (ap (λ q. q.0) f) l.as_list)

@@ -1,0 +1,51 @@
+//! The order of encodings in SET and SET OF (X.690, 10.3 and 11.6).
+
+ghost use Rattle.encodings.specs.Orders.{Ascending, AtMost};
+ghost use Rattle.std.specs.Prelude.{◌≡◌, ◌↔◌, ◌∷◌, IsTrue, List, slice_index, ℕ};
+ghost use Rattle.der_check.specs.Units.{AreUnits};
+
+use crate::units::next_encoding;
+use encodings::header_laws;
+
+/// The octet at an index, or 0 after the end.
+fn octet_at(octets: &[u8], i: usize) -> u8
+    ensures { result ≡ slice_index octets.now i }
+{
+    if i < octets.len() { octets[i] } else { 0 }
+}
+
+/// Whether the first octets are at most the second ones, after the shorter ones are filled with zeros.
+fn is_at_most(first: &[u8], second: &[u8]) -> bool
+    ensures { IsTrue result ↔ AtMost first.now second.now }
+{
+    for i in 0..first.len() {
+        let other = octet_at(second, i);
+        if first[i] < other {
+            return true;
+        }
+        if other < first[i] {
+            return false;
+        }
+    }
+    true
+}
+
+/// Whether encodings ascend.
+pub(crate) fn do_ascend(contents: &[u8]) -> bool
+    ensures { (ys : List (List ℕ)) → AreUnits ys contents.now → IsTrue result ↔ Ascending AtMost ys }
+{
+    header_laws();
+    let mut rest = contents;
+    let mut last: &[u8] = &[];
+    while !rest.is_empty() {
+        let Some(next) = next_encoding(rest) else {
+            return false;
+        };
+        if !is_at_most(last, next.octets) {
+            return false;
+        }
+        last = next.octets;
+        rest = next.rest;
+    }
+    true
+}

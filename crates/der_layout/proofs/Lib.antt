@@ -1,0 +1,13 @@
+pub mod InPlace
+pub mod Leaf
+pub mod Lengths
+pub mod Lists
+pub mod Ordered
+pub mod Placing
+pub mod Room
+pub mod Seen
+pub mod Small
+pub mod SpansOf
+pub mod Placement
+pub mod Trees
+pub mod Whole

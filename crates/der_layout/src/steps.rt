@@ -1,0 +1,367 @@
+//! The effect of each event on the table.
+
+ghost use Rattle.std.specs.Prelude.{◌≡◌, ◌<◌, ◌++◌, ◌∷◌, [], ◌⊎◌, List, IfErr, IfOk, OnOk, false, length, set, ℕ};
+ghost use Rattle.asn_base.specs.Abstract.{abstract};
+ghost use Rattle.encodings.specs.Leaves.{HasContents};
+ghost use Rattle.codec_code.specs.Events.{by_octets, by_rank};
+ghost use Rattle.codec_machine.specs.Frames.{HasNoContents};
+ghost use Rattle.codec_machine.specs.declared.fault.RunFault.TheVariants.{NotOfType};
+ghost use Rattle.octet_account.specs.Seen.{flat, flat_row};
+ghost use Rattle.der_layout.specs.Tables.{ContentsAdded, GroupBegins, GroupEnds, HeaderCloses, HeaderOpens};
+ghost use Rattle.der_layout.specs.Tables.{LeftOut, MemberEnds, MembersBegin, MembersEndIfAny, State, WholeAdded, state_of};
+ghost use Rattle.encodings.specs.Fewest.{shortest_header};
+ghost use Rattle.primitive_writer.specs.Pieces.{joined_pieces, short_octets};
+
+use crate::closing::close_length;
+use crate::header::{push_header, push_opening, push_short, short_header};
+use crate::places::{Arrangement, arrangement_of};
+use crate::rows::{header_row, leaf_row, sum};
+use crate::sort::{sort_by_octets, sort_by_rank};
+use crate::spans::put_members;
+use crate::table::{Group, Member, Open, Table};
+use asn_base::value::Value;
+use codec_code::{Head, RowKind};
+use codec_machine::RunFault;
+use encodings::LeafKind;
+use octet_account::row::{Row, RowLayout};
+use primitive_writer::law::lemma_one_contents;
+use primitive_writer::{
+    PrimitiveContents, ShortContents, octet_count, primitive_contents, primitive_len, push_leaf,
+    short_contents, short_len,
+};
+use std::alloc::AllocError;
+
+#[inline(always)]
+fn add_open(list: &mut Vec<Open>, one: Open) -> Result<(), AllocError>
+    ensures { OnOk result (list.new.items ≡ list.old.items ++ one ∷ []) }
+{
+    list.push(one)?;
+    Ok(())
+}
+
+fn add_group(list: &mut Vec<Group>, one: Group) -> Result<(), AllocError>
+    ensures { OnOk result (list.new.items ≡ list.old.items ++ one ∷ []) }
+{
+    list.push(one)?;
+    Ok(())
+}
+
+fn add_member(list: &mut Vec<Member>, one: Member) -> Result<(), AllocError>
+    ensures { OnOk result (list.new.items ≡ list.old.items ++ one ∷ []) }
+{
+    list.push(one)?;
+    Ok(())
+}
+
+#[inline(always)]
+fn add_row(list: &mut Vec<Row>, listed: RowLayout) -> Result<(), AllocError>
+    ensures { OnOk result (flat list.new.items ≡ flat list.old.items ++ flat_row listed ∷ []) }
+{
+    list.push(Row::of(listed))?;
+    Ok(())
+}
+
+/// Adds a header, whose number of contents octets isn't known yet: one octet is held open for the length.
+#[inline(always)]
+pub(crate) fn open_header(table: &mut Table, head: Head) -> Result<(), AllocError>
+    ensures { OnOk result (HeaderOpens head.tag head.constructed head.row (state_of table.old) (state_of table.new)) }
+{
+    let place = push_opening(&mut table.octets, head.tag, head.constructed)?;
+    add_open(
+        &mut table.opened,
+        Open {
+            place,
+            row: table.rows.len(),
+            head,
+            members_before: table.members,
+        },
+    )?;
+    add_row(&mut table.rows, RowLayout::Absent)?;
+    table.members = 0;
+    Ok(())
+}
+
+/// Adds the row of a component that isn't encoded.
+#[inline(always)]
+pub(crate) fn add_left_out(table: &mut Table, with_default: bool) -> Result<(), AllocError>
+    ensures { OnOk result (LeftOut with_default (state_of table.old) (state_of table.new)) }
+{
+    let listed = if with_default {
+        RowLayout::Default
+    } else {
+        RowLayout::Absent
+    };
+    add_row(&mut table.rows, listed)?;
+    table.members = sum(table.members, 1);
+    Ok(())
+}
+
+/// In a SET or SET OF, begins the list of its members.
+#[inline(always)]
+pub(crate) fn begin_group(table: &mut Table, row: RowKind) -> Result<(), AllocError>
+    ensures { OnOk result (GroupBegins row (state_of table.old) (state_of table.new)) }
+{
+    match row {
+        RowKind::Set => begin_members(table),
+        RowKind::SetOf => begin_members(table),
+        RowKind::Leaf => Ok(()),
+        RowKind::Wrap => Ok(()),
+        RowKind::Sequence => Ok(()),
+        RowKind::SequenceOf => Ok(()),
+    }
+}
+
+fn begin_members(table: &mut Table) -> Result<(), AllocError>
+    ensures { OnOk result (MembersBegin (state_of table.old) (state_of table.new)) }
+{
+    let place = table.octets.len();
+    add_group(
+        &mut table.groups,
+        Group {
+            start: place,
+            next: place,
+            members: Vec::new(table.alloc),
+        },
+    )?;
+    Ok(())
+}
+
+/// Adds the contents of a value. `NotOfType`: the value has no contents of this kind.
+pub(crate) fn add_contents(table: &mut Table, kind: LeafKind, value: &Value) -> Result<(), RunFault>
+    ensures adds { OnOk result ((x : List ℕ) × HasContents kind (abstract value.now) x
+        × ContentsAdded x (state_of table.old) (state_of table.new)) }
+    ensures not_of_type { IfErr result (λ e. e ≡ NotOfType → HasNoContents kind (abstract value.now)) }
+{
+    match primitive_len(kind, value) {
+        Some(_) => {
+            push_leaf(kind, value, &mut table.octets)?;
+            Ok(())
+        }
+        None => Err(RunFault::NotOfType),
+    }
+}
+
+/// Adds a header, the contents of a value without other values in it, and the end of the header. `NotOfType`: the value
+/// has no contents of this kind.
+pub(crate) fn add_whole(
+    table: &mut Table,
+    head: Head,
+    kind: LeafKind,
+    value: &Value,
+) -> Result<(), RunFault>
+    ensures adds { OnOk result ((x : List ℕ) × HasContents kind (abstract value.now) x
+        × WholeAdded head x (state_of table.old) (state_of table.new)) }
+    ensures not_of_type { IfErr result (λ e. e ≡ NotOfType → HasNoContents kind (abstract value.now)) }
+{
+    match short_contents(kind, value) {
+        Some(octets) => {
+            let count = short_len(octets);
+            match short_header(head.tag, head.constructed, count as u64) {
+                Some((first, size)) => {
+                    add_short(table, head, (first, size), octets)?;
+                    Ok(())
+                }
+                None => add_any(table, head, kind, value),
+            }
+        }
+        None => add_any(table, head, kind, value),
+    }
+}
+
+/// Adds a header of two octets with one to four contents octets, and the end of the header.
+#[inline(always)]
+fn add_short(
+    table: &mut Table,
+    head: Head,
+    header: (u8, u8),
+    octets: ShortContents,
+) -> Result<(), AllocError>
+    requires { shortest_header head.tag head.constructed (length (short_octets octets)) ≡ header.0 ∷ header.1 ∷ [] }
+    ensures { OnOk result (WholeAdded head (short_octets octets) (state_of table.old) (state_of table.new)) }
+{
+    push_short(&mut table.octets, header.0, header.1, octets)?;
+    add_row(
+        &mut table.rows,
+        leaf_row(head.tag, short_len(octets) as usize),
+    )?;
+    table.members = sum(table.members, 1);
+    Ok(())
+}
+
+/// Adds a header, contents of any length, and the end of the header.
+fn add_any(table: &mut Table, head: Head, kind: LeafKind, value: &Value) -> Result<(), RunFault>
+    ensures adds { OnOk result ((x : List ℕ) × HasContents kind (abstract value.now) x
+        × WholeAdded head x (state_of table.old) (state_of table.new)) }
+    ensures not_of_type { IfErr result (λ e. e ≡ NotOfType → HasNoContents kind (abstract value.now)) }
+{
+    match primitive_contents(kind, value) {
+        Some(octets) => {
+            let contents = octet_count(&octets) as usize;
+            push_header(
+                &mut table.octets,
+                head.tag,
+                head.constructed,
+                contents as u64,
+            )?;
+            push_contents(&mut table.octets, kind, value, &octets)?;
+            add_row(&mut table.rows, leaf_row(head.tag, contents))?;
+            table.members = sum(table.members, 1);
+            Ok(())
+        }
+        None => Err(RunFault::NotOfType),
+    }
+}
+
+/// Adds the contents octets of a value, which are these.
+fn push_contents(
+    out: &mut Vec<u8>,
+    kind: LeafKind,
+    value: &Value,
+    octets: &PrimitiveContents,
+) -> Result<(), AllocError>
+    requires { HasContents kind (abstract value.now) (joined_pieces octets.now) }
+    ensures { OnOk result (out.new.items ≡ out.old.items ++ joined_pieces octets.now) }
+{
+    match octets {
+        PrimitiveContents::One(octet) => out.extend_from_slice(&[*octet]),
+        PrimitiveContents::Few(few) => out.extend_from_slice(few.as_slice()),
+        PrimitiveContents::Whole(whole) => out.extend_from_slice(whole),
+        _ => push_leaf(kind, value, out),
+    }
+}
+
+/// In a SET or SET OF, makes the octets since the last member a member of it.
+pub(crate) fn end_member(table: &mut Table, rank: usize) -> Result<(), AllocError>
+    ensures { OnOk result (((state_of table.old).groups ≡ []) × (state_of table.old ≡ state_of table.new)
+        ⊎ MemberEnds rank (state_of table.old) (state_of table.new)) }
+{
+    match table.groups.pop() {
+        Some(group) => {
+            let end = table.octets.len();
+            let mut members = group.members;
+            let number = members.len();
+            let member = Member {
+                rank,
+                number,
+                start: group.next,
+                end,
+            };
+            add_member(&mut members, member)?;
+            add_group(
+                &mut table.groups,
+                Group {
+                    start: group.start,
+                    next: end,
+                    members,
+                },
+            )?;
+            Ok(())
+        }
+        None => Ok(()),
+    }
+}
+
+/// Whether the members of such a header are put in an order. Otherwise nothing is to be done at its end.
+#[inline(always)]
+pub(crate) fn is_arranged(row: RowKind) -> bool
+    ensures { result ≡ false → (a : State) → GroupEnds row [] [] a a }
+{
+    match row {
+        RowKind::Set | RowKind::SetOf => true,
+        RowKind::Leaf | RowKind::Wrap => false,
+        RowKind::Sequence | RowKind::SequenceOf => false,
+    }
+}
+
+/// Ends a SET or SET OF: the octets of its members are put in their order.
+pub(crate) fn end_group(table: &mut Table, row: RowKind) -> Result<Arrangement, AllocError>
+    ensures { IfOk result (λ r.
+        GroupEnds row r.places.items r.inverse.items (state_of table.old) (state_of table.new)) }
+{
+    match row {
+        RowKind::Set => end_set(table),
+        RowKind::SetOf => end_set_of(table),
+        RowKind::Leaf => Ok(Arrangement::none(table.alloc)),
+        RowKind::Wrap => Ok(Arrangement::none(table.alloc)),
+        RowKind::Sequence => Ok(Arrangement::none(table.alloc)),
+        RowKind::SequenceOf => Ok(Arrangement::none(table.alloc)),
+    }
+}
+
+fn end_set(table: &mut Table) -> Result<Arrangement, AllocError>
+    ensures { IfOk result (λ r.
+        MembersEndIfAny by_rank r.places.items r.inverse.items (state_of table.old) (state_of table.new)) }
+{
+    match table.groups.pop() {
+        Some(group) => {
+            let mut members = group.members;
+            sort_by_rank(&mut members)?;
+            let sorted = members.as_slice();
+            let arrangement = arrangement_of(table.alloc, sorted)?;
+            put_members(
+                table.alloc,
+                &mut table.octets,
+                group.start,
+                group.next,
+                sorted,
+            )?;
+            Ok(arrangement)
+        }
+        None => Ok(Arrangement::none(table.alloc)),
+    }
+}
+
+fn end_set_of(table: &mut Table) -> Result<Arrangement, AllocError>
+    ensures { IfOk result (λ r.
+        MembersEndIfAny by_octets r.places.items r.inverse.items (state_of table.old) (state_of table.new)) }
+{
+    match table.groups.pop() {
+        Some(group) => {
+            let mut members = group.members;
+            let octets = table.octets.as_slice();
+            sort_by_octets(octets, &mut members)?;
+            let sorted = members.as_slice();
+            let arrangement = arrangement_of(table.alloc, sorted)?;
+            put_members(
+                table.alloc,
+                &mut table.octets,
+                group.start,
+                group.next,
+                sorted,
+            )?;
+            Ok(arrangement)
+        }
+        None => Ok(Arrangement::none(table.alloc)),
+    }
+}
+
+/// Replaces the row at a place, if there is one.
+#[inline(always)]
+fn put_row(rows: &mut Vec<Row>, place: usize, listed: RowLayout)
+    ensures { flat rows.new.items ≡ set (flat rows.old.items) place (flat_row listed) }
+{
+    if place < rows.len() {
+        rows[place] = Row::of(listed);
+    }
+}
+
+/// Closes a header: the header gets its length octets, and its row gets its numbers and members.
+#[inline(always)]
+pub(crate) fn close_header(
+    table: &mut Table,
+    one: Open,
+    arrangement: Arrangement,
+) -> Result<(), AllocError>
+    ensures { one.place < length (state_of table.old).octets
+        → OnOk result (HeaderCloses one arrangement.places.items arrangement.inverse.items
+        (state_of table.old) (state_of table.new)) }
+{
+    if one.place < table.octets.len() {
+        let contents = table.octets.len() - one.place - 1;
+        let row = header_row(table.alloc, one.head, contents, table.members, arrangement)?;
+        put_row(&mut table.rows, one.row, row);
+        close_length(&mut table.octets, one.place)?;
+        table.members = sum(one.members_before, 1);
+    }
+    Ok(())
+}

@@ -1,0 +1,130 @@
+//! Faults of names in words.
+
+use names::{Limit, NameFault};
+use source_text::{shown, token_text, tokens_in, word_at};
+use std::alloc::{AllocError, Global};
+use suggestions::did_you_mean;
+use text::Token;
+use trees::SourceLocation;
+
+/// The words for a limit that is passed.
+fn describe_limit(limit: Limit) -> &'static str {
+    match limit {
+        Limit::Modules => "found more modules, expected at most 256",
+        Limit::Types =>
+            "found more types, expected at most 4096 type assignments and 65536 types in them",
+        Limit::Values => "found more value assignments, expected at most 65536",
+        Limit::Members => "found a longer list, expected at most 256 members and 64 additions",
+        Limit::Items => "found more items, expected at most 1024 and 64 additions",
+        Limit::NamedBit => "found a greater number of a named bit, expected at most 65535",
+        Limit::Integer => "found another number, expected one from -2^127 to 2^127 - 1",
+    }
+}
+
+/// The words for a type that comes back to itself: a list through a DEFAULT in it, or a reference.
+fn describe_circle(
+    alloc: Global,
+    text: &[u8],
+    source_location: &SourceLocation,
+) -> Result<String, AllocError> {
+    let name = shown(alloc, source_location.name.as_str())?;
+    match word_at(text, source_location.at) {
+        "SEQUENCE" | "SET" => format!(in alloc;
+            "found a list in the type {name} to which a DEFAULT in it leads back, expected another DEFAULT"
+        ),
+        "" => format!(in alloc;
+            "found the type {name}, which leads back to itself, expected one that does not"
+        ),
+        word => {
+            let reference = shown(alloc, word)?;
+            format!(in alloc;
+                "found {reference} in the type {name}, which leads back to itself, expected another type"
+            )
+        }
+    }
+}
+
+/// The words for a name that means nothing.
+fn describe_unknown(
+    alloc: Global,
+    texts: &[Vec<u8>],
+    source_location: &SourceLocation,
+) -> Result<String, AllocError> {
+    let module = shown(alloc, source_location.module.as_str())?;
+    let name = shown(alloc, source_location.name.as_str())?;
+    let hint = did_you_mean(alloc, texts, "", source_location.name.as_str())?;
+    format!(in alloc;
+        "found {name}, which has no meaning of this kind in the module {module}{hint}"
+    )
+}
+
+/// The number of the token that begins at an octet, or the number of tokens if none does.
+fn place_of(tokens: &[Token], octet: usize) -> usize {
+    tokens
+        .iter()
+        .position(|token| token.span.start == octet)
+        .unwrap_or(tokens.len())
+}
+
+/// Whether no item before this one has its name in the braces that contain it: going back from `place`, an opening
+/// brace comes before the same name.
+fn is_alone(text: &[u8], tokens: &[Token], place: usize) -> bool {
+    let name = token_text(text, tokens, place);
+    let mut depth: usize = 0;
+    for back in 1..place.saturating_add(1) {
+        let before = place.saturating_sub(back);
+        match token_text(text, tokens, before) {
+            "}" | ")" | "]" => depth = depth.saturating_add(1),
+            "{" if depth == 0 => return true,
+            "{" | "(" | "[" => depth = depth.saturating_sub(1),
+            spelled if depth == 0 && spelled == name => return false,
+            _ => {}
+        }
+    }
+    false
+}
+
+/// The words for a name that is given twice, or for a number that is.
+fn describe_repeated(
+    alloc: Global,
+    text: &[u8],
+    source_location: &SourceLocation,
+) -> Result<String, AllocError> {
+    let name = shown(alloc, source_location.name.as_str())?;
+    let tokens = tokens_in(alloc, text)?;
+    let place = place_of(&tokens, source_location.at);
+    if place < tokens.len() && is_alone(text, &tokens, place) {
+        return format!(in alloc;
+            "found the number of {name} a second time, expected another number"
+        );
+    }
+    format!(in alloc; "found the name {name} a second time, expected another name")
+}
+
+/// The words for a fault of names.
+pub(crate) fn describe_names(
+    alloc: Global,
+    texts: &[Vec<u8>],
+    text: &[u8],
+    fault: &NameFault,
+) -> Result<String, AllocError> {
+    match fault {
+        NameFault::Memory => String::from_str(alloc, "out of memory"),
+        NameFault::Limit(limit, _) => String::from_str(alloc, describe_limit(*limit)),
+        NameFault::Twice(source_location) => describe_repeated(alloc, text, source_location),
+        NameFault::UnknownName(source_location) => describe_unknown(alloc, texts, source_location),
+        NameFault::NotExported(source_location) => {
+            let name = shown(alloc, source_location.name.as_str())?;
+            format!(in alloc;
+                "found {name}, which its module does not export, expected an exported name"
+            )
+        }
+        NameFault::Circular(source_location) => describe_circle(alloc, text, source_location),
+        NameFault::UnknownModule(source_location) => {
+            let name = shown(alloc, source_location.name.as_str())?;
+            format!(in alloc;
+                "found imports from the module {name}, expected a text with that module"
+            )
+        }
+    }
+}

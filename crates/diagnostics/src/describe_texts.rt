@@ -1,0 +1,100 @@
+//! The words for faults of the octets and of the tokens of a text.
+
+use notation::SyntaxFault;
+use source_text::{character, open_string, shown, token_text, tokens_in};
+use std::alloc::{AllocError, Global};
+use suggestions::wanted;
+use text::{LexFault, Limit, Token};
+
+/// The words for a character that is not allowed where it is.
+fn describe_character(alloc: Global, text: &[u8], place: usize) -> Result<String, AllocError> {
+    let character = character(alloc, text, place)?;
+    let hint = match text.get(place) {
+        Some(b'=') => "; did you mean ::=?",
+        _ => "",
+    };
+    format!(in alloc; "found {character}, which is allowed in comments and quotes only{hint}")
+}
+
+/// The words for a fault of the octets of a text.
+pub(crate) fn describe_octets(
+    alloc: Global,
+    text: &[u8],
+    fault: &LexFault,
+) -> Result<String, AllocError> {
+    let words = match fault {
+        LexFault::Memory => "out of memory",
+        LexFault::Limit(Limit::Text, _) => "found a longer text, expected at most 16777216 octets",
+        LexFault::Limit(Limit::Integer, _) =>
+            "found a greater number, expected at most 2 to the 127",
+        LexFault::NotUtf8(_) => "found octets that are not UTF-8, expected UTF-8",
+        LexFault::BadCharacter(place) => return describe_character(alloc, text, *place),
+        LexFault::OpenComment(_) => "found a comment without an end, expected its end",
+        LexFault::OpenString(place) => open_string(text, *place),
+        LexFault::BadNumber(_) =>
+            "found a number that begins with 0 or has a letter after it, expected neither",
+        LexFault::BadName(_) =>
+            "found a name that ends with a hyphen, expected a letter or a digit after it",
+    };
+    String::from_str(alloc, words)
+}
+
+/// The words for the token at a place, in quotes, or for the end of the text.
+pub(crate) fn found(
+    alloc: Global,
+    text: &[u8],
+    tokens: &[Token],
+    place: usize,
+) -> Result<String, AllocError> {
+    if place >= tokens.len() {
+        return String::from_str(alloc, "found the end of the text");
+    }
+    let spelled = shown(alloc, token_text(text, tokens, place))?;
+    format!(in alloc; "found '{spelled}'")
+}
+
+/// The token with which a construct begins that this compiler leaves out. The result is empty for another fault.
+pub(crate) fn left_out(
+    alloc: Global,
+    text: &[u8],
+    fault: &SyntaxFault,
+) -> Result<String, AllocError> {
+    match fault {
+        SyntaxFault::OutOfProfile(place) => {
+            let tokens = tokens_in(alloc, text)?;
+            shown(alloc, token_text(text, tokens.as_slice(), *place))
+        }
+        _ => Ok(String::new(alloc)),
+    }
+}
+
+/// The words for a fault of the tokens of a text.
+pub(crate) fn describe_tokens(
+    alloc: Global,
+    text: &[u8],
+    fault: &SyntaxFault,
+) -> Result<String, AllocError> {
+    let words = match fault {
+        SyntaxFault::Memory => "out of memory",
+        SyntaxFault::Limit(parser_combinators::Limit::Nesting, _) =>
+            "found more open braces, expected at most 128",
+        SyntaxFault::Limit(parser_combinators::Limit::Integer, _) =>
+            "found a greater number, expected at most 2 to the 127 minus 1",
+        SyntaxFault::Limit(parser_combinators::Limit::TagNumber, _) => {
+            "found a greater number of a tag, expected at most 2 to the 31 minus 1"
+        }
+        SyntaxFault::OutOfProfile(_) => {
+            let spelled = left_out(alloc, text, fault)?;
+            return format!(in alloc; "found {spelled}, which this compiler does not support");
+        }
+        SyntaxFault::Unexpected(place) => {
+            let tokens = tokens_in(alloc, text)?;
+            let mut words = found(alloc, text, tokens.as_slice(), *place)?;
+            let word = token_text(text, tokens.as_slice(), *place);
+            let wanted = wanted(alloc, tokens.as_slice(), *place, word)?;
+            words.push_str(wanted.as_str())?;
+            return Ok(words);
+        }
+    };
+    String::from_str(alloc, words)
+}

@@ -1,0 +1,111 @@
+//! The words for names of the command line that mean nothing, and for files that can't be read.
+
+use crate::finding::{assigns, module_text, parts};
+use account_text::Stop;
+use source_text::{escaped, on_one_line, shown, token_text, tokens_in};
+use std::alloc::{AllocError, Global};
+use suggestions::{did_you_mean, is_near, is_small};
+use text::reserved::Word;
+
+/// The words for a file that can't be read.
+pub(crate) fn describe_file(alloc: Global, name: &str, what: &str) -> Result<String, AllocError> {
+    let name = escaped(alloc, name)?;
+    format!(in alloc; "{name} {what}")
+}
+
+/// What follows the name of the fault if a file holds no account.
+pub(crate) fn describe_account(
+    alloc: Global,
+    name: &str,
+    stop: &Stop,
+) -> Result<String, AllocError> {
+    let name = escaped(alloc, name)?;
+    let line = format!(in alloc; ": {name}: {stop}")?;
+    on_one_line(alloc, line.as_str())
+}
+
+/// A question for the first module whose name is near another name: `; did you mean M?`. Empty if there is none.
+fn near_module(alloc: Global, texts: &[Vec<u8>], name: &str) -> Result<String, AllocError> {
+    for text in texts {
+        let tokens = tokens_in(alloc, text.as_slice())?;
+        let module = token_text(text.as_slice(), tokens.as_slice(), 0);
+        if is_near(name.as_bytes(), module.as_bytes()) {
+            let module = shown(alloc, module)?;
+            return format!(in alloc; "; did you mean {module}?");
+        }
+    }
+    Ok(String::new(alloc))
+}
+
+/// The words for the first module that assigns a name. Empty if none does.
+fn other_module(
+    alloc: Global,
+    texts: &[Vec<u8>],
+    name: &str,
+    value: bool,
+) -> Result<String, AllocError> {
+    for text in texts {
+        let tokens = tokens_in(alloc, text.as_slice())?;
+        if assigns(text.as_slice(), tokens.as_slice(), name, value) {
+            let module = shown(alloc, token_text(text.as_slice(), tokens.as_slice(), 0))?;
+            return format!(in alloc; "; the module {module} assigns one");
+        }
+    }
+    Ok(String::new(alloc))
+}
+
+/// Whether a name is a word of the notation.
+fn is_word(name: &str) -> bool {
+    for word in &Word::ALL {
+        if word.text() == name {
+            return true;
+        }
+    }
+    false
+}
+
+/// A hint: which other module has the name, or which name may have been meant.
+fn hint(alloc: Global, texts: &[Vec<u8>], name: &str, value: bool) -> Result<String, AllocError> {
+    let other = other_module(alloc, texts, name, value)?;
+    if !other.is_empty() {
+        return Ok(other);
+    }
+    did_you_mean(alloc, texts, "", name)
+}
+
+/// Why a name of the command line, as `Module.Name`, means nothing; `value` is whether it should be the name of a
+/// value.
+pub(crate) fn describe_unknown_name(
+    alloc: Global,
+    texts: &[Vec<u8>],
+    name: &str,
+    value: bool,
+) -> Result<String, AllocError> {
+    let kind = if value { "value" } else { "type" };
+    let quoted = shown(alloc, name)?;
+    let (within, simple) = parts(name);
+    if within.is_empty() {
+        return format!(in alloc;
+            "{quoted} names no module: a {kind} is named as MODULE, a dot, and its name"
+        );
+    }
+    if module_text(alloc, texts, 0, within)?.is_none() {
+        let module = shown(alloc, within)?;
+        let near = near_module(alloc, texts, within)?;
+        return format!(in alloc; "there is no module {module} for {quoted}{near}");
+    }
+    if is_word(simple) {
+        let word = shown(alloc, simple)?;
+        return format!(in alloc;
+            "{word} is a word of the notation, and not the name of a {kind} that a module assigns"
+        );
+    }
+    if is_small(simple) != value {
+        let other = if value { "type" } else { "value" };
+        return format!(in alloc; "{quoted} is the name of a {other}, and not of a {kind}");
+    }
+    let hint = hint(alloc, texts, simple, value)?;
+    format!(in alloc;
+        "the module has no {kind} {quoted}: it neither assigns nor imports one of this name{hint}"
+    )
+}

@@ -1,0 +1,4 @@
+-- What only contracts inside the crates, and proofs, speak of: laws that upper crates use.
+pub mod Weaker
+pub mod Placing
+pub mod TwosComplement

@@ -1,0 +1,222 @@
+//! Where and why a type is no later version of another one, in words.
+
+ghost use Rattle.std.specs.Prelude.{◌≡◌, ◌++◌, [], IfOk, OnOk, decimal, get_or, map, slice_get, string_bytes};
+ghost use Rattle.asn_base.specs.Seen.{alternative_of, component_of, kind_of};
+ghost use Rattle.later_versions.specs.DifferenceText.{HasText, at_path, comparison_of, difference_text, name_at as name_at'};
+ghost use Rattle.later_versions.specs.DifferenceText.{name_of, names_in, with_members, with_name, words_of};
+
+use crate::members::member_or_none;
+use crate::reason::{Comparison, Difference, Explained, Reason};
+use asn_base::schema::{Alternatives, Component, Core, Schema, TypeId};
+use std::alloc::{AllocError, Global};
+
+/// The name of the component at a place, or nothing if there is none.
+fn component_name(components: &[Component], place: usize) -> &str
+    ensures { result.now ≡ get_or (map (λ c. c.name) (map component_of components.now)) place [] }
+{
+    if place < components.len() {
+        return components[place].name.as_str();
+    }
+    ""
+}
+
+/// The name of the alternative at a place over both lists, or nothing if there is none.
+fn alternative_name(alternatives: &Alternatives, place: usize) -> &str
+    ensures { result.now ≡ get_or
+        (map (λ a. a.name)
+        (map alternative_of alternatives.now.root.items ++ map alternative_of alternatives.now.additions.items))
+        place [] }
+{
+    let root = alternatives.root.as_slice();
+    if place < root.len() {
+        return root[place].name.as_str();
+    }
+    let additions = alternatives.additions.as_slice();
+    if place - root.len() < additions.len() {
+        return additions[place - root.len()].name.as_str();
+    }
+    ""
+}
+
+/// The name of the member at a place, or nothing if there is none or it has no name.
+fn member_name(core: &Core, place: usize) -> &str
+    ensures { result.now ≡ get_or (names_in (kind_of core.now)) place [] }
+{
+    match core {
+        Core::Sequence(_, components) => component_name(components.as_slice(), place),
+        Core::Set(_, components) => component_name(components.as_slice(), place),
+        Core::Choice(alternatives) => alternative_name(alternatives, place),
+        _ => "",
+    }
+}
+
+/// The name of the member at a place of a type of the schema.
+fn name_at(schema: &Schema, id: TypeId, place: usize) -> &str
+    ensures { result.now ≡ name_at' schema.now id.index place }
+{
+    if schema.has(id) {
+        return member_name(schema.core(id), place);
+    }
+    ""
+}
+
+/// Appends a name to a path, after a dot, unless the path is empty; of elements, which have no name, square brackets.
+fn push_name(path: &mut String, name: &str) -> Result<(), AllocError>
+    ensures { OnOk result (string_bytes path.new ≡ with_name (string_bytes path.old) name.now) }
+{
+    if name.is_empty() {
+        path.push_str("[]")?;
+        return Ok(());
+    }
+    if !path.is_empty() {
+        path.push_str(".")?;
+    }
+    path.push_str(name)?;
+    Ok(())
+}
+
+/// The path of members' places from a type, in the names of the schema. A path of more than 60 octets isn't followed by
+/// others.
+fn member_path(
+    alloc: Global,
+    schema: &Schema,
+    id: TypeId,
+    places: &[usize],
+) -> Result<String, AllocError>
+    ensures { IfOk result (λ path. string_bytes path ≡ with_members schema.now id.index [] places.now) }
+{
+    let mut path = String::new(alloc);
+    let mut ty = id;
+    for i in 0..places.len() {
+        if path.len() > 60 {
+            return Ok(path);
+        }
+        push_name(&mut path, name_at(schema, ty, places[i]))?;
+        ty = member_or_none(schema, ty, places[i]);
+    }
+    Ok(path)
+}
+
+/// What comes in the text of a reason before the name or the number.
+fn words(reason: Reason) -> &'static str
+    ensures { result.now ≡ words_of reason }
+{
+    match reason {
+        Reason::Tags => "the tags differ",
+        Reason::Kind => "the types are of two kinds",
+        Reason::Numbers => "other numbers are allowed",
+        Reason::Alphabet => "other characters are allowed",
+        Reason::Sizes => "other sizes are allowed",
+        Reason::Bounds => "PER uses other bounds",
+        Reason::NamedBits => "other bits are named",
+        Reason::Marker => "the extension marker is in one of both alone",
+        Reason::Root(_) => "the roots differ from number ",
+        Reason::Addition(_) => "the additions differ from number ",
+        Reason::Removed(_) => "the newer type lacks component ",
+        Reason::Name(_) => "the newer type has another name for component ",
+        Reason::Presence(_) => "OPTIONAL, DEFAULT or the extension marker differs at component ",
+        Reason::Default(_) => "the newer type has another default of component ",
+        Reason::Appended(_) => "the root of the newer type has one more component: ",
+        Reason::Brackets(_) => "version brackets differ at component ",
+    }
+}
+
+/// The number of a member.
+fn number(alloc: Global, place: usize) -> Result<String, AllocError>
+    ensures { IfOk result (λ s. string_bytes s ≡ decimal place) }
+{
+    let digits = place.to_string(alloc)?;
+    Ok(digits)
+}
+
+/// The name of a component as a text of its own.
+fn name(alloc: Global, schema: &Schema, id: TypeId, place: usize) -> Result<String, AllocError>
+    ensures { IfOk result (λ s. string_bytes s ≡ name_at' schema.now id.index place) }
+{
+    let name = String::from_str(alloc, name_at(schema, id, place))?;
+    Ok(name)
+}
+
+/// The name of the component, or the number of the member from 0, in the text of a reason.
+fn name_in_reason(
+    alloc: Global,
+    older: &Schema,
+    newer: &Schema,
+    difference: &Difference,
+) -> Result<String, AllocError>
+    ensures { IfOk result (λ s. string_bytes s ≡ name_of
+        older.now difference.now.older.index newer.now difference.now.newer.index difference.now.reason) }
+{
+    match difference.reason {
+        Reason::Tags => Ok(String::new(alloc)),
+        Reason::Kind => Ok(String::new(alloc)),
+        Reason::Numbers => Ok(String::new(alloc)),
+        Reason::Alphabet => Ok(String::new(alloc)),
+        Reason::Sizes => Ok(String::new(alloc)),
+        Reason::Bounds => Ok(String::new(alloc)),
+        Reason::NamedBits => Ok(String::new(alloc)),
+        Reason::Marker => Ok(String::new(alloc)),
+        Reason::Root(place) => Ok(number(alloc, place)?),
+        Reason::Addition(place) => Ok(number(alloc, place)?),
+        Reason::Removed(place) => Ok(name(alloc, older, difference.older, place)?),
+        Reason::Name(place) => Ok(name(alloc, older, difference.older, place)?),
+        Reason::Presence(place) => Ok(name(alloc, older, difference.older, place)?),
+        Reason::Default(place) => Ok(name(alloc, older, difference.older, place)?),
+        Reason::Appended(place) => Ok(name(alloc, newer, difference.newer, place)?),
+        Reason::Brackets(place) => Ok(name(alloc, newer, difference.newer, place)?),
+    }
+}
+
+/// The text of a path: nothing for an empty one.
+fn at(alloc: Global, path: &str) -> Result<String, AllocError>
+    ensures { IfOk result (λ s. string_bytes s ≡ at_path path.now) }
+{
+    if path.is_empty() {
+        return Ok(String::new(alloc));
+    }
+    let mut text = String::from_str(alloc, "at ")?;
+    text.push_str(path)?;
+    text.push_str(": ")?;
+    Ok(text)
+}
+
+/// The text of a difference: the path, if it isn't empty, and the reason.
+fn text_of(
+    alloc: Global,
+    older: &Schema,
+    id: TypeId,
+    newer: &Schema,
+    difference: &Difference,
+) -> Result<String, AllocError>
+    ensures { IfOk result (λ s. string_bytes s ≡ difference_text older.now id.index newer.now difference.now) }
+{
+    let path = member_path(alloc, older, id, difference.places.as_slice())?;
+    let name = name_in_reason(alloc, older, newer, difference)?;
+    let mut text = at(alloc, path.as_str())?;
+    text.push_str(words(difference.reason))?;
+    text.push_str(name.as_str())?;
+    Ok(text)
+}
+
+/// The answer of a comparison from a type of the older schema, with its text.
+pub(crate) fn explained(
+    alloc: Global,
+    older: &Schema,
+    id: TypeId,
+    newer: &Schema,
+    comparison: Comparison,
+) -> Result<Explained, AllocError>
+    ensures is { IfOk result (λ a. comparison_of a ≡ comparison) }
+    ensures text_of { IfOk result (HasText older.now id.index newer.now) }
+{
+    match comparison {
+        Comparison::Later => Ok(Explained::Later),
+        Comparison::Differs(difference) => {
+            let text = match text_of(alloc, older, id, newer, &difference) {
+                Ok(text) => text,
+                Err(fault) => return Err(fault),
+            };
+            Ok(Explained::Differs(difference, text))
+        }
+    }
+}

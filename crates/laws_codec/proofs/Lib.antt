@@ -1,0 +1,2 @@
+mod Coded
+mod Rows

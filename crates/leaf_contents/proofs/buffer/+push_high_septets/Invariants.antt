@@ -1,4 +1,0 @@
-use Rattle.leaf_contents.proofs.buffer.+push_high_septets.Given as goal
-
-abbrev pub decreases-push_high_septets : goal.decreases-push_high_septets
-decreases-push_high_septets l = l.number

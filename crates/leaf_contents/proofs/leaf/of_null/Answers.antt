@@ -1,7 +1,0 @@
-use Rattle.std.proofs.Common.{refl, ap, ◌∙◌}
-use Rattle.asn_base.specs.Abstract.{abstract}
-use Rattle.leaf_contents.proofs.Contents.{has_null}
-use Rattle.leaf_contents.proofs.leaf.of_null.Goals as goal
-
-pub returns-in-Null : goal.returns-in-Null
-returns-in-Null c = has_null (ap abstract c.in-Null.is ∙ c.abstract_values.ensures.null_) refl

@@ -1,8 +1,0 @@
-use Rattle.std.proofs.Common.{ap, subst, ◌∙◌}
-use Rattle.std.specs.Int.Digits.{AllBelowBase}
-use Rattle.asn_base.specs.Abstract.{abstract}
-use Rattle.leaf_contents.proofs.Contents.{has_utf8}
-use Rattle.leaf_contents.proofs.leaf.of_utf8.Goals as goal
-
-pub returns-in-Text : goal.returns-in-Text
-returns-in-Text c = has_utf8 (ap abstract c.in-Text.is ∙ c.abstract_values.ensures.text_ c.in-Text.text) c.as_bytes-in-Text.ensures.value (subst (λ q. AllBelowBase 256 q) c.as_bytes.ensures.value c.are_octets.ensures)

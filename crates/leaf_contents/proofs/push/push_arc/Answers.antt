@@ -1,6 +1,0 @@
-use Rattle.std.proofs.Common.{arith, length, ap}
-use Rattle.leaf_contents.proofs.Digits.{most_septets}
-use Rattle.leaf_contents.proofs.push.push_arc.Goals as goal
-
-pub push_septets-requires : goal.push_septets-requires
-push_septets-requires c = omega (arith, ap length c.new-few.ensures, most_septets c.args.number c.ranges.number.fits)

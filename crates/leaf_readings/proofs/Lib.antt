@@ -1,8 +1,0 @@
-pub mod Characters
-pub mod Exact
-pub mod Lists
-pub mod OneOctet
-pub mod Shortest
-pub mod Spelling
-pub mod Told
-pub mod Zeroes

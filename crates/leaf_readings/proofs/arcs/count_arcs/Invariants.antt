@@ -1,9 +1,0 @@
-use Rattle.std.proofs.Common.{◌≤◌, ◌+◌, length}
-use Rattle.leaf_readings.specs.proving.Spelled.{Counted}
-use Rattle.leaf_readings.proofs.arcs.count_arcs.Given as goal
-
-abbrev pub invariant-loop-rest : goal.invariant-loop-rest
-invariant-loop-rest l = Counted l.count l.small l.rest l.octets × (l.count + length l.rest ≤ length l.octets)
-
-abbrev pub decreases-loop-rest : goal.decreases-loop-rest
-decreases-loop-rest l = length l.rest

@@ -1,8 +1,0 @@
-use Rattle.leaf_readings.proofs.Exact.{is_ok, is_err}
-use Rattle.leaf_readings.proofs.leaf.read_leaf.Goals as goal
-
-pub returns-clause-only : goal.returns-clause-only
-returns-clause-only c = is_ok c.args.kind c.args.contents.now c.read_kind.result c.read_kind.ensures.err
-
-pub returns-clause-just : goal.returns-clause-just
-returns-clause-just c = is_err c.args.kind c.args.contents.now c.read_kind.result c.read_kind.ensures.ok c.read_kind.ensures.err

@@ -1,3 +1,0 @@
-pub mod Spelled
-pub mod Numbers
-pub mod Zeros

@@ -1,5 +1,0 @@
-use Rattle.names.proofs.Excluding.{names_exclude}
-use Rattle.names.proofs.law.name_faults_exclude.Goals as goal
-
-pub returns : goal.returns
-returns c = names_exclude

@@ -1,5 +1,0 @@
-use Rattle.notation.proofs.Places.{one_tree}
-use Rattle.notation.proofs.law.one_value.Goals as goal
-
-pub returns : goal.returns
-returns c = one_tree

@@ -1,5 +1,0 @@
-use Rattle.notation.proofs.Places.{laws}
-use Rattle.notation.proofs.law.values_are_read.Goals as goal
-
-pub returns : goal.returns
-returns c = laws

@@ -1,5 +1,0 @@
-use Rattle.octet_account.proofs.Kept.{one}
-use Rattle.octet_account.proofs.law.one_account.Goals as goal
-
-pub returns : goal.returns
-returns c = one

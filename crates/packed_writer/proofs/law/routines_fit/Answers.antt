@@ -1,5 +1,0 @@
-use Rattle.packed_writer.proofs.Fitting.{fits}
-use Rattle.packed_writer.proofs.law.routines_fit.Goals as goal
-
-pub returns : goal.returns
-returns c = fits

@@ -1,0 +1,6 @@
+use Rattle.std.proofs.Common.{◌≡◌, take}
+use Rattle.std.specs.Str.Parse.{digits_value}
+use Rattle.parser_combinators.proofs.decode.value_of.Given as goal
+
+abbrev pub invariant-loop-octet : goal.invariant-loop-octet
+invariant-loop-octet l = l.value ≡ digits_value 10 (take l.octet-index l.digits)

@@ -1,0 +1,4 @@
+pub mod Spelled
+pub mod Numbers
+pub mod Zeros
+pub mod Adding

@@ -1,0 +1,11 @@
+use Rattle.std.proofs.Common.{◌≡◌, ◌<◌, length, Some}
+use Rattle.type_table.specs.Seen.{kind_of}
+use Rattle.range_ends.specs.proving.Steps.{next}
+use Rattle.type_table.specs.Walks.{follow}
+use Rattle.range_ends.proofs.ends.first_number.Given as goal
+
+abbrev pub invariant-loop-step : goal.invariant-loop-step
+invariant-loop-step l = record {
+  inside : l.at < length l.linked.values;
+  chain : follow (next l.linked (kind_of l.shape) l.target) l.step l.start ≡ Some l.at;
+}

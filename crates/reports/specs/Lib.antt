@@ -1,4 +1,0 @@
-pub mod Heading
-pub mod Spots
-pub use Rattle.messages.specs.front_end as front_end
-pub use Rattle.messages.specs as messages

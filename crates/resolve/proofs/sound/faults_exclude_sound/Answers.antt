@@ -1,5 +1,0 @@
-use Rattle.resolve.proofs.Exclusion.{fault_not_sound}
-use Rattle.resolve.proofs.sound.faults_exclude_sound.Goals as goal
-
-pub returns : goal.returns
-returns c = fault_not_sound

@@ -1,0 +1,99 @@
+//! Offsets and tokens in texts.
+
+ghost use Rattle.std.specs.Prelude.{◌≡◌, ◌<◌, ◌^◌, ◌-◌, length, min};
+ghost use Rattle.source_text.specs.Lines.{begins_character, column_of, ends_line, line_of};
+
+use std::alloc::{AllocError, Global};
+use text::{LexFault, Token, TokenKind};
+
+/// The octets of a token.
+pub fn spelling<'a>(text: &'a [u8], token: Token) -> &'a [u8] {
+    text.get(token.span.start..token.span.end).unwrap_or(&[])
+}
+
+/// The spelling of a token; empty after the last token.
+pub fn token_text<'a>(text: &'a [u8], tokens: &[Token], place: usize) -> &'a str {
+    match tokens.get(place) {
+        Some(token) => std::str::from_utf8(spelling(text, *token)).unwrap_or("?"),
+        None => "",
+    }
+}
+
+/// The offset at which a token begins; after the last token, the length of the text.
+pub fn start(text: &[u8], tokens: &[Token], place: usize) -> usize {
+    match tokens.get(place) {
+        Some(token) => token.span.start,
+        None => text.len(),
+    }
+}
+
+/// Whether the token at a place is of this kind.
+pub fn is_kind(tokens: &[Token], place: usize, kind: TokenKind) -> bool {
+    match tokens.get(place) {
+        Some(token) => token.kind == kind,
+        None => false,
+    }
+}
+
+/// The tokens of a text; empty if the text has a fault of its octets.
+pub fn tokens_in(alloc: Global, text: &[u8]) -> Result<Vec<Token>, AllocError> {
+    match text::lex(alloc, text) {
+        Ok(tokens) => Ok(tokens),
+        Err(LexFault::Memory) => Err(AllocError),
+        Err(_) => Ok(Vec::new(alloc)),
+    }
+}
+
+/// The name or the word that begins at an offset; empty if none does.
+pub fn word_at(text: &[u8], octet: usize) -> &str {
+    let rest = text.get(octet..).unwrap_or(&[]);
+    let end = rest
+        .iter()
+        .position(|c| !c.is_ascii_alphanumeric() && *c != b'-')
+        .unwrap_or(rest.len());
+    std::str::from_utf8(rest.get(..end).unwrap_or(rest)).unwrap_or("")
+}
+
+/// Whether a line ends with the octet at an offset: LF, or CR with no LF after it.
+fn ends_line_at(text: &[u8], place: usize) -> bool
+    requires { place < length text.now }
+    ensures { result ≡ ends_line text.now place }
+{
+    match text[place] {
+        b'\n' => true,
+        b'\r' => {
+            let next = place + 1;
+            next >= text.len() || text[next] != b'\n'
+        }
+        _ => false,
+    }
+}
+
+/// Whether a character begins with the octet at a place.
+fn is_begin(text: &[u8], place: usize) -> bool
+    requires { place < length text.now }
+    ensures { result ≡ begins_character text.now place }
+{
+    text[place] < 128 || text[place] >= 192
+}
+
+/// The line and the column of an octet, both from 1, the column in characters; those of the end of the text if the
+/// octet is after it.
+#[tactic(auto, unfolding(crate::specs::Lines::line_of, crate::specs::Lines::column_of))]
+pub fn line_and_column(text: &[u8], octet: usize) -> (usize, usize)
+    ensures line { result.0 ≡ min (line_of text.now (min octet (length text.now))) (2 ^ 64 - 1) }
+    ensures column { result.1 ≡ min (column_of text.now (min octet (length text.now))) (2 ^ 64 - 1) }
+{
+    let mut line: usize = 1;
+    let mut column: usize = 1;
+    let end = octet.min(text.len());
+    for place in 0..end {
+        if ends_line_at(text, place) {
+            line = line.saturating_add(1);
+            column = 1;
+        } else if is_begin(text, place) {
+            column = column.saturating_add(1);
+        }
+    }
+    (line, column)
+}

@@ -1,6 +1,0 @@
-use Rattle.syntax.proofs.Assigned.{module_laws}
-use Rattle.syntax.proofs.ModuleText.{one_tree}
-use Rattle.syntax.proofs.parsing.one_module.Goals as goal
-
-pub returns : goal.returns
-returns c = one_tree (module_laws c.heads_are_read.ensures c.types_are_read.ensures)

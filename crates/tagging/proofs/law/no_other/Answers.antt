@@ -1,5 +1,0 @@
-use Rattle.tagging.proofs.Taggings.{no_other_fault}
-use Rattle.tagging.proofs.law.no_other.Goals as goal
-
-pub returns : goal.returns
-returns c = no_other_fault

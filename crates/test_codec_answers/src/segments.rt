@@ -1,0 +1,71 @@
+//! Strings in segments.
+
+use crate::front::header_of;
+use crate::leaf::kind_named;
+use crate::refusal::{Refusal, refuse};
+use crate::words::{octets_in, word};
+use encodings::LeafKind;
+use octets::Form;
+use row_format::Row;
+use segmented_strings::{Reassembled, read_segments};
+use std::alloc::{AllocError, Global};
+
+/// The greatest number of octets.
+const MOST: usize = 16_777_216;
+
+/// The words for a joined string.
+fn written(alloc: Global, joined: &Reassembled) -> Result<String, AllocError> {
+    match joined {
+        Reassembled::Bits(unused, octets) => {
+            let digits = hex::encode_upper(alloc, octets.as_slice())?;
+            format!(in alloc; "bits of '{digits}'H but {unused}")
+        }
+        Reassembled::Octets(octets) => {
+            let digits = hex::encode_upper(alloc, octets.as_slice())?;
+            format!(in alloc; "'{digits}'H")
+        }
+        Reassembled::Text(words) => format!(in alloc; "\"{words}\""),
+    }
+}
+
+/// The string in these contents octets, in which headers may have at most `room` levels. The error is the fault.
+fn join(alloc: Global, kind: LeafKind, contents: &[u8], room: usize) -> Result<String, Refusal> {
+    if contents.len() > MOST {
+        return Err(refuse(alloc, &"too long"));
+    }
+    match read_segments(alloc, kind, contents, room) {
+        Ok(joined) => Ok(written(alloc, &joined)?),
+        Err(fault) => Err(refuse(alloc, &fault)),
+    }
+}
+
+/// The string in the contents octets after a header, which must be constructed.
+fn join_encoding(
+    alloc: Global,
+    kind: LeafKind,
+    octets: &[u8],
+    room: usize,
+) -> Result<String, Refusal> {
+    let header = header_of(alloc, octets)?;
+    if header.form == Form::Primitive {
+        return Err(refuse(alloc, &"primitive"));
+    }
+    match octets.get(header.octets..) {
+        Some(contents) => join(alloc, kind, contents, room),
+        None => Err(refuse(alloc, &"no contents")),
+    }
+}
+
+/// `segments NAME KIND LEVELS HEX`: the string of a constructed encoding, in whose contents headers may have at most
+/// LEVELS levels. Otherwise the answer is the fault of its header, or that of its contents and the place of the octet,
+/// from 0.
+pub fn answer(alloc: Global, row: &Row) -> Result<String, Refusal> {
+    let Some(kind) = kind_named(word(row, 2)) else {
+        return Err(refuse(alloc, &"no such kind"));
+    };
+    let Ok(room) = word(row, 3).parse::<usize>() else {
+        return Err(refuse(alloc, &"no number of levels"));
+    };
+    let octets = octets_in(alloc, word(row, 4))?;
+    join_encoding(alloc, kind, octets.as_slice(), room)
+}

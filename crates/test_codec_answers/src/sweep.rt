@@ -1,0 +1,115 @@
+//! Messages that are cut or changed.
+
+use crate::refusal::{Refusal, refuse};
+use crate::words::{octets_of, type_of};
+use asn_base::schema::TypeId;
+use ber_message::read_message;
+use codec_code::Code;
+use decode_faults::ReadFault;
+use row_format::Row;
+use std::alloc::{AllocError, Global};
+
+/// How many messages were decoded, how many were truncated, and how many had another fault.
+#[derive(Drop)]
+struct Tried {
+    read: usize,
+    truncated: usize,
+    refused: usize,
+}
+
+/// Decodes one more message.
+fn try_one(
+    alloc: Global,
+    code: &Code,
+    id: TypeId,
+    octets: &[u8],
+    tried: &mut Tried,
+) -> Result<(), AllocError> {
+    match read_message(alloc, code, id, octets) {
+        Ok(_) => tried.read = tried.read.saturating_add(1),
+        Err(ReadFault::Memory) => return Err(AllocError),
+        Err(ReadFault::Truncated) => tried.truncated = tried.truncated.saturating_add(1),
+        Err(_) => tried.refused = tried.refused.saturating_add(1),
+    }
+    Ok(())
+}
+
+/// Decodes each proper front of the octets.
+fn cut(alloc: Global, code: &Code, id: TypeId, octets: &[u8]) -> Result<Tried, AllocError> {
+    let mut tried = Tried {
+        read: 0,
+        truncated: 0,
+        refused: 0,
+    };
+    for n in 0..octets.len() {
+        try_one(alloc, code, id, &octets[..n], &mut tried)?;
+    }
+    Ok(tried)
+}
+
+/// Decodes the octets with each bit of one octet changed in turn.
+fn change_one(
+    alloc: Global,
+    code: &Code,
+    id: TypeId,
+    octets: &mut Vec<u8>,
+    place: usize,
+    tried: &mut Tried,
+) -> Result<(), AllocError> {
+    let mut mask: u8 = 1;
+    for _ in 0..8 {
+        if let Some(octet) = octets.get_mut(place) {
+            *octet ^= mask;
+        }
+        try_one(alloc, code, id, octets.as_slice(), tried)?;
+        if let Some(octet) = octets.get_mut(place) {
+            *octet ^= mask;
+        }
+        mask = mask.wrapping_mul(2);
+    }
+    Ok(())
+}
+
+/// Decodes the octets with each bit changed in turn.
+fn change(
+    alloc: Global,
+    code: &Code,
+    id: TypeId,
+    octets: &mut Vec<u8>,
+) -> Result<Tried, AllocError> {
+    let mut tried = Tried {
+        read: 0,
+        truncated: 0,
+        refused: 0,
+    };
+    for place in 0..octets.len() {
+        change_one(alloc, code, id, octets, place, &mut tried)?;
+    }
+    Ok(tried)
+}
+
+fn push_tried(text: &mut String, tried: &Tried) -> Result<(), AllocError> {
+    let Tried {
+        read,
+        truncated,
+        refused,
+    } = tried;
+    write!(
+        text,
+        "{read} read, {truncated} truncated, {refused} refused otherwise"
+    )
+}
+
+/// `sweep NAME TYPE HEX..`: how many of the message's proper fronts are decoded, and how many of the messages that
+/// differ from it in one bit.
+pub fn answer(alloc: Global, code: &Code, row: &Row) -> Result<String, Refusal> {
+    let id = type_of(alloc, row)?;
+    let mut octets = octets_of(alloc, row)?;
+    let cut = cut(alloc, code, id, octets.as_slice())?;
+    let changed = change(alloc, code, id, &mut octets)?;
+    let mut text = String::from_str(alloc, "fronts: ")?;
+    push_tried(&mut text, &cut)?;
+    text.push_str("\nchanged: ")?;
+    push_tried(&mut text, &changed)?;
+    Ok(text)
+}

@@ -1,0 +1,73 @@
+//! Views of messages, in words.
+
+ghost use Rattle.views.specs.Seen.{IsView};
+ghost use Rattle.views.specs.Tree.{Tree};
+
+use crate::refusal::{Refusal, refuse};
+use crate::words::{octets_of, type_of};
+use asn_base::schema::{Schema, TypeId};
+use ber_reader::{Read, read_ber};
+use codec_code::Code;
+use row_format::Row;
+use std::alloc::{AllocError, Global};
+use view_text::print_view;
+use views::{ValueRef, View};
+
+/// Adds the number of octets, and the place of the first of them in the message.
+fn push_place(out: &mut String, count: usize, at: Option<usize>) -> Result<(), AllocError> {
+    match at {
+        Some(at) => write!(out, "\n{count} octets borrowed at {at}"),
+        None => write!(out, "\n{count} octets joined"),
+    }
+}
+
+/// Adds the place of the octets of a part that is a string.
+fn push_string(out: &mut String, part: &ValueRef<'_, '_>) -> Result<(), AllocError> {
+    if let Some((octets, at)) = part.as_octets() {
+        push_place(out, octets.len(), at)?;
+    }
+    if let Some((_, octets, at)) = part.as_bits() {
+        push_place(out, octets.len(), at)?;
+    }
+    if let Some((text, at)) = part.as_text() {
+        push_place(out, text.len(), at)?;
+    }
+    Ok(())
+}
+
+/// Adds the places of the strings of a view, of the whole and of its members.
+fn push_strings(out: &mut String, view: &View<'_>) -> Result<(), AllocError>
+    requires { (t : Tree) × IsView view.now t }
+{
+    let whole = view.top();
+    push_string(out, &whole)?;
+    for (_, part) in whole.members() {
+        push_string(out, &part)?;
+    }
+    Ok(())
+}
+
+/// The text of the value, how many additions were skipped, and the places of its strings.
+pub fn shown(alloc: Global, schema: &Schema, id: TypeId, read: &Read<'_>) -> Result<String, Refusal>
+    requires { (t : Tree) × IsView read.now.view t }
+{
+    let mut text = match print_view(alloc, schema, id, &read.view) {
+        Ok(text) => text,
+        Err(fault) => return Err(refuse(alloc, &fault)),
+    };
+    let skipped = read.skipped;
+    write!(text, "\nskipped {skipped}")?;
+    push_strings(&mut text, &read.view)?;
+    Ok(text)
+}
+
+/// `view NAME TYPE HEX..`: the text of the decoded value, how many additions were skipped, and the places of its
+/// strings, or the fault.
+pub fn answer(alloc: Global, schema: &Schema, code: &Code, row: &Row) -> Result<String, Refusal> {
+    let id = type_of(alloc, row)?;
+    let octets = octets_of(alloc, row)?;
+    match read_ber(alloc, code, id, octets.as_slice()) {
+        Ok(read) => shown(alloc, schema, id, &read),
+        Err(fault) => Err(refuse(alloc, &fault)),
+    }
+}

@@ -1,0 +1,187 @@
+//! Allocations that fail one after another. Each call answers `Memory` and writes nothing, or it gives the answer.
+
+use super::values::{mixed_octets, mixed_value, named};
+use asn_base::schema::{Schema, TypeId};
+use asn_base::value::Value;
+use codec_code::{Code, Coding, Fault, compile};
+use der_writer::{Sink, WriteFault, write_der, write_der_to};
+use std::alloc::Global;
+use std::io;
+use std::test::Fail;
+use test_starving::{Starved, Swept, Turn, sweep};
+use test_types::schema;
+
+/// A sink that takes no memory. It compares what it takes with the octets that it has.
+#[derive(Drop)]
+struct Compared {
+    octets: Vec<u8>,
+    taken: usize,
+    wrong: bool,
+    failures: u64,
+}
+
+impl Sink for Compared {
+    ghost use Rattle.std.specs.Prelude.{None};
+
+    ghost taken = { λ s. None };
+
+    ghost failed = { λ s. s.failures };
+
+    fn failures(&self) -> u64 {
+        self.failures
+    }
+
+    fn put(&mut self, octets: &[u8]) -> io::Result<usize> {
+        if !is_at(self.octets.as_slice(), self.taken, octets) {
+            self.wrong = true;
+        }
+        self.taken = self.taken.wrapping_add(octets.len());
+        Ok(octets.len())
+    }
+}
+
+/// Whether the octets have this part at a place.
+fn is_at(octets: &[u8], at: usize, part: &[u8]) -> bool {
+    at <= octets.len() && octets[at..].starts_with(part)
+}
+
+/// `compile`: the code has a routine of the type `mixed`.
+#[derive(Drop)]
+struct Compiling {
+    schema: Schema,
+    id: TypeId,
+    steps: usize,
+}
+
+impl Starved for Compiling {
+    fn call(&mut self, alloc: Global) -> Turn {
+        match compile(alloc, &self.schema) {
+            Ok(code) if code.steps(self.id, Coding::Tagged).len() == self.steps => Turn::Right,
+            Ok(_) => Turn::Wrong,
+            Err(Fault::Memory) => Turn::Refused,
+        }
+    }
+}
+
+/// `write_der`.
+#[derive(Drop)]
+struct Writing {
+    code: Code,
+    id: TypeId,
+    value: Value,
+    octets: Vec<u8>,
+}
+
+impl Starved for Writing {
+    fn call(&mut self, alloc: Global) -> Turn {
+        match write_der(alloc, &self.code, self.id, &self.value) {
+            Ok((octets, _account)) => answer(octets.as_slice() == self.octets.as_slice()),
+            Err(WriteFault::Memory) => Turn::Refused,
+            Err(_) => Turn::Wrong,
+        }
+    }
+}
+
+/// `write_der_to`: after a fault nothing was written.
+#[derive(Drop)]
+struct Sending {
+    code: Code,
+    id: TypeId,
+    value: Value,
+    sink: Compared,
+}
+
+impl Starved for Sending {
+    fn call(&mut self, alloc: Global) -> Turn {
+        if self.sink.wrong || self.sink.failures > 0 {
+            return Turn::Wrong;
+        }
+        self.sink.taken = 0;
+        let answer = write_der_to(alloc, &self.code, self.id, &self.value, &mut self.sink);
+        if self.sink.wrong || self.sink.failures > 0 {
+            return Turn::Wrong;
+        }
+        match answer {
+            Ok(_) if self.sink.taken == self.sink.octets.len() => Turn::Right,
+            Err(WriteFault::Memory) if self.sink.taken == 0 => Turn::Refused,
+            _ => Turn::Wrong,
+        }
+    }
+}
+
+/// The result of a turn with an answer that is right or wrong.
+pub fn answer(right: bool) -> Turn {
+    if right { Turn::Right } else { Turn::Wrong }
+}
+
+/// Checks that a sweep had many calls that failed and many that were right, and no other ones.
+pub fn report(rt: &HostRuntime, name: &str, swept: Swept) -> Result<(), Fail> {
+    match swept {
+        Swept::Endless => Ok(()),
+        Swept::Wrong(turn) => {
+            eprintln!(rt; "{name}: wrong in turn {turn}")?;
+            Err("another answer".into())
+        }
+        Swept::Through { refused, right } => {
+            eprintln!(rt; "{name}: refused {refused}, right {right}")?;
+            if refused > 20 && right > 100 {
+                Ok(())
+            } else {
+                Err("too few turns of a kind".into())
+            }
+        }
+    }
+}
+
+/// The code of the sample types.
+pub fn sample_code(alloc: Global) -> Result<Code, Fail> {
+    let schema = schema(alloc)?;
+    match compile(alloc, &schema) {
+        Ok(code) => Ok(code),
+        Err(_) => Err("no code".into()),
+    }
+}
+
+#[test]
+fn compile_with_ever_more_memory(rt: HostRuntime) -> Result<(), Fail> {
+    let alloc = rt.alloc();
+    // The seven steps are Head, four components, Rest and End.
+    let mut compiling = Compiling {
+        schema: schema(alloc)?,
+        id: named("mixed")?,
+        steps: 7,
+    };
+    let swept = sweep(alloc, &mut compiling)?;
+    report(&rt, "compile", swept)
+}
+
+#[test]
+fn write_der_with_ever_more_memory(rt: HostRuntime) -> Result<(), Fail> {
+    let alloc = rt.alloc();
+    let mut writing = Writing {
+        code: sample_code(alloc)?,
+        id: named("mixed")?,
+        value: mixed_value(alloc)?,
+        octets: mixed_octets(alloc)?,
+    };
+    let swept = sweep(alloc, &mut writing)?;
+    report(&rt, "write_der", swept)
+}
+
+#[test]
+fn write_der_to_with_ever_more_memory(rt: HostRuntime) -> Result<(), Fail> {
+    let alloc = rt.alloc();
+    let mut sending = Sending {
+        code: sample_code(alloc)?,
+        id: named("mixed")?,
+        value: mixed_value(alloc)?,
+        sink: Compared {
+            octets: mixed_octets(alloc)?,
+            taken: 0,
+            wrong: false,
+            failures: 0,
+        },
+    };
+    let swept = sweep(alloc, &mut sending)?;
+    report(&rt, "write_der_to", swept)
+}

@@ -1,0 +1,149 @@
+//! Messages of unaligned canonical PER that are made and read while allocations fail one after another. Each call
+//! answers `Memory`, or gives the answer.
+
+use super::memory::{answer, report};
+use super::values::{SAMPLES, Sample, Typed};
+use asn_base::same::same;
+use asn_base::schema::Schema;
+use decode_faults::Refusal;
+use packed_code::{Fault, PackedCode, compile_packed};
+use packed_reader::{PerFault, RefusedBits, read_uper};
+use packed_writer::{WriteFault, write_uper};
+use std::alloc::Global;
+use std::test::Fail;
+use test_starving::{Starved, Turn, sweep};
+use test_types::schema;
+
+/// `compile_packed`: the code has as many types as the schema.
+#[derive(Drop)]
+struct Compiling<'a> {
+    schema: &'a Schema,
+}
+
+impl<'a> Starved for Compiling<'a> {
+    fn call(&mut self, alloc: Global) -> Turn {
+        match compile_packed(alloc, self.schema) {
+            Ok(code) => answer(code.schema().types().len() == self.schema.types().len()),
+            Err(Fault::Memory) => Turn::Refused,
+        }
+    }
+}
+
+/// A long value and its message, which is written and read.
+#[derive(Drop)]
+struct Packed {
+    typed: Typed,
+    code: PackedCode,
+    octets: Vec<u8>,
+}
+
+impl Packed {
+    /// The long value of a sample type and its message.
+    fn of(alloc: Global, sample: Sample) -> Result<Packed, Fail> {
+        let typed = Typed::of(alloc, sample)?;
+        let Ok(code) = compile_packed(alloc, &typed.schema) else {
+            return Err("no code".into());
+        };
+        let Ok(octets) = write_uper(alloc, &code, typed.id, &typed.value) else {
+            return Err("no message".into());
+        };
+        Ok(Packed {
+            typed,
+            code,
+            octets,
+        })
+    }
+}
+
+/// `write_uper`.
+#[derive(Drop)]
+struct Writing<'a> {
+    packed: &'a Packed,
+}
+
+impl<'a> Starved for Writing<'a> {
+    fn call(&mut self, alloc: Global) -> Turn {
+        let packed = self.packed;
+        match write_uper(alloc, &packed.code, packed.typed.id, &packed.typed.value) {
+            Ok(octets) => answer(octets.as_slice() == packed.octets.as_slice()),
+            Err(WriteFault::Memory) => Turn::Refused,
+            Err(_) => Turn::Wrong,
+        }
+    }
+}
+
+/// `read_uper`.
+#[derive(Drop)]
+struct Reading<'a> {
+    packed: &'a Packed,
+}
+
+impl<'a> Starved for Reading<'a> {
+    fn call(&mut self, alloc: Global) -> Turn {
+        let packed = self.packed;
+        let typed = &packed.typed;
+        let answered = read_uper(alloc, &packed.code, typed.id, packed.octets.as_slice());
+        match &answered {
+            Ok((value, 0)) => answer(same(value, &typed.value, &typed.schema, typed.id)),
+            Err(PerFault::Memory) => Turn::Refused,
+            _ => Turn::Wrong,
+        }
+    }
+}
+
+/// `read_uper` of a message whose last octet is missing.
+#[derive(Drop)]
+struct Refusing<'a> {
+    packed: &'a Packed,
+}
+
+/// Whether the bits end within an element: its number is in the path.
+fn ends_in_an_element(refused: &RefusedBits) -> bool {
+    refused.refusal == Refusal::Truncated && !refused.path.is_empty()
+}
+
+impl<'a> Starved for Refusing<'a> {
+    fn call(&mut self, alloc: Global) -> Turn {
+        let packed = self.packed;
+        let short = packed.octets.len().saturating_sub(1);
+        let front = &packed.octets.as_slice()[..short];
+        let answered = read_uper(alloc, &packed.code, packed.typed.id, front);
+        match &answered {
+            Err(PerFault::Memory) => Turn::Refused,
+            Err(PerFault::Refused(refused)) => answer(ends_in_an_element(refused)),
+            _ => Turn::Wrong,
+        }
+    }
+}
+
+/// Sweeps over the calls for the long value of a sample type.
+fn pack_sample(rt: &HostRuntime, sample: Sample) -> Result<(), Fail> {
+    let alloc = rt.alloc();
+    let packed = Packed::of(alloc, sample)?;
+    let mut writing = Writing { packed: &packed };
+    let written = sweep(alloc, &mut writing)?;
+    report(rt, "write_uper", written)?;
+    let mut reading = Reading { packed: &packed };
+    let read = sweep(alloc, &mut reading)?;
+    report(rt, "read_uper", read)?;
+    let mut refusing = Refusing { packed: &packed };
+    let refused = sweep(alloc, &mut refusing)?;
+    report(rt, "read_uper of a front", refused)
+}
+
+#[test]
+fn compile_packed_with_ever_more_memory(rt: HostRuntime) -> Result<(), Fail> {
+    let alloc = rt.alloc();
+    let schema = schema(alloc)?;
+    let mut compiling = Compiling { schema: &schema };
+    let swept = sweep(alloc, &mut compiling)?;
+    report(&rt, "compile_packed", swept)
+}
+
+#[test]
+fn packed_messages_with_ever_more_memory(rt: HostRuntime) -> Result<(), Fail> {
+    for sample in SAMPLES {
+        pack_sample(&rt, sample)?;
+    }
+    Ok(())
+}

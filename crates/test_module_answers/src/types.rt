@@ -1,0 +1,267 @@
+//! Types of a schema in words.
+//!
+//! Each type is written after all its tags, where `[1]` is a context-specific tag, and the types of members are written
+//! in their places. `..` replaces a type that is too many levels down. A list or an enumeration with an extension
+//! marker has `...` after its word. A member after the marker has `+` before it, and one in version brackets `+` and
+//! the number of the brackets.
+//!
+//! For a constraint the bounds that the packed encoding uses are in parentheses, and the ranges of allowed values
+//! follow. Nothing is written if all values are allowed. A DEFAULT is written as the printed value.
+
+use crate::marks::{put_comma, put_end, put_marker, put_ranges, put_tag, string_word};
+use asn_base::constraint::Constraint;
+use asn_base::schema::{
+    Addition, Alternative, Alternatives, Component, Core, Item, Items, NamedBit, Presence, Schema,
+    TypeId,
+};
+use asn_base::tag::Tag;
+use std::alloc::{AllocError, Global};
+use value_text::{Fault, print};
+
+/// Adds tags, each with a blank after it.
+fn put_tags(out: &mut String, tags: &[Tag]) -> Result<(), AllocError> {
+    for tag in tags {
+        put_tag(out, *tag)?;
+        out.push(' ')?;
+    }
+    Ok(())
+}
+
+/// Whether a constraint leaves all numbers or all sizes.
+fn leaves_all(constraint: &Constraint, is_size: bool) -> bool {
+    let least = if is_size { Some(0) } else { None };
+    let seen = &constraint.visible;
+    let allows_all = match &constraint.allowed {
+        None => true,
+        Some(ranges) => match ranges.as_slice() {
+            [range] => range.least == least && range.greatest.is_none(),
+            _ => false,
+        },
+    };
+    allows_all && seen.least == least && seen.greatest.is_none() && !seen.extensible
+}
+
+/// Adds the values that a constraint leaves.
+fn put_constraint(
+    out: &mut String,
+    constraint: &Constraint,
+    is_size: bool,
+) -> Result<(), AllocError> {
+    if leaves_all(constraint, is_size) {
+        return Ok(());
+    }
+    let seen = &constraint.visible;
+    out.push_str(if is_size { " SIZE (" } else { " (" })?;
+    put_end(out, seen.least, "MIN")?;
+    out.push_str("..")?;
+    put_end(out, seen.greatest, "MAX")?;
+    out.push_str(if seen.extensible { ", ...)" } else { ")" })?;
+    match &constraint.allowed {
+        None => out.push_str(" all"),
+        Some(ranges) => put_ranges(out, ranges.as_slice()),
+    }
+}
+
+/// Adds the characters of a string type, or their number if there are many.
+fn put_codes(out: &mut String, codes: &[u8]) -> Result<(), AllocError> {
+    let count = codes.len();
+    match str::from_utf8(codes) {
+        Ok(text) if count < 20 => write!(out, " of `{text}`"),
+        _ => write!(out, " of {count} characters"),
+    }
+}
+
+/// Adds items with their numbers, each after a mark. `before` is how many items are before these.
+fn put_items(
+    out: &mut String,
+    items: &[Item],
+    before: usize,
+    mark: &str,
+) -> Result<(), AllocError> {
+    for (place, item) in items.iter().enumerate() {
+        put_comma(out, before.saturating_add(place))?;
+        let (name, number) = (item.name.as_str(), item.number);
+        write!(out, "{mark}{name} {number}")?;
+    }
+    Ok(())
+}
+
+/// Adds the items of an enumeration.
+fn put_all_items(out: &mut String, items: &Items) -> Result<(), AllocError> {
+    put_marker(out, items.extensible)?;
+    put_items(out, items.root.as_slice(), 0, "")?;
+    put_items(out, items.additions.as_slice(), items.root.len(), "+")?;
+    out.push('}')
+}
+
+/// Adds the named bits.
+fn put_bits(out: &mut String, bits: &[NamedBit]) -> Result<(), AllocError> {
+    out.push_str(" {")?;
+    for (place, bit) in bits.iter().enumerate() {
+        put_comma(out, place)?;
+        let (name, at) = (bit.name.as_str(), bit.place);
+        write!(out, "{name} {at}")?;
+    }
+    out.push('}')
+}
+
+/// The keyword of a type's kind.
+fn kind_of(core: &Core) -> &'static str {
+    match core {
+        Core::Boolean => "BOOLEAN",
+        Core::Integer(_) => "INTEGER",
+        Core::Enumerated(_) => "ENUMERATED",
+        Core::BitString(_) | Core::NamedBits(_) => "BIT STRING",
+        Core::OctetString(_) => "OCTET STRING",
+        Core::Null => "NULL",
+        Core::ObjectIdentifier => "OBJECT IDENTIFIER",
+        Core::RelativeOid => "RELATIVE-OID",
+        Core::Utf8String(_) => "UTF8String",
+        Core::RestrictedString(kind, _, _) => string_word(*kind),
+        Core::Sequence(_, _) => "SEQUENCE",
+        Core::Set(_, _) => "SET",
+        Core::SequenceOf(_, _) => "SEQUENCE OF",
+        Core::SetOf(_, _) => "SET OF",
+        Core::Choice(_) => "CHOICE",
+    }
+}
+
+/// Adds the mark of a member after the extension marker.
+fn put_addition(out: &mut String, addition: Addition) -> Result<(), AllocError> {
+    match addition.group {
+        Some(group) => write!(out, "+{group} "),
+        None => out.push('+'),
+    }
+}
+
+/// Adds whether a component may be absent.
+fn put_presence(
+    alloc: Global,
+    out: &mut String,
+    schema: &Schema,
+    component: &Component,
+) -> Result<(), AllocError> {
+    match &component.presence {
+        Presence::Mandatory => Ok(()),
+        Presence::Optional => out.push_str(" OPTIONAL"),
+        Presence::Addition(addition) => {
+            out.push_str(if addition.optional { " OPTIONAL" } else { "" })
+        }
+        Presence::Default(value) => match print(alloc, schema, component.ty, value) {
+            Ok(text) => write!(out, " DEFAULT {text}"),
+            Err(Fault::Memory) => Err(AllocError),
+            Err(Fault::NotOfType) => out.push_str(" DEFAULT of another type"),
+        },
+    }
+}
+
+/// Adds components that are at least `levels` levels above the deepest types that are printed.
+#[cycle(printing)]
+fn put_components(
+    alloc: Global,
+    out: &mut String,
+    schema: &Schema,
+    components: &[Component],
+    levels: u8,
+) -> Result<(), AllocError> {
+    for place in 0..components.len() {
+        let component = &components[place];
+        put_comma(out, place)?;
+        if let Presence::Addition(addition) = &component.presence {
+            put_addition(out, *addition)?;
+        }
+        out.push_str(component.name.as_str())?;
+        out.push(' ')?;
+        put_type(alloc, out, schema, component.ty, levels)?;
+        put_presence(alloc, out, schema, component)?;
+    }
+    out.push('}')
+}
+
+#[cycle(printing)]
+fn put_some_alternatives(
+    alloc: Global,
+    out: &mut String,
+    schema: &Schema,
+    alternatives: &[Alternative],
+    before: usize,
+    levels: u8,
+) -> Result<(), AllocError> {
+    for place in 0..alternatives.len() {
+        let alternative = &alternatives[place];
+        put_comma(out, before.saturating_add(place))?;
+        out.push_str(if before == 0 { "" } else { "+" })?;
+        out.push_str(alternative.name.as_str())?;
+        out.push(' ')?;
+        put_type(alloc, out, schema, alternative.ty, levels)?;
+    }
+    Ok(())
+}
+
+#[cycle(printing)]
+fn put_alternatives(
+    alloc: Global,
+    out: &mut String,
+    schema: &Schema,
+    all: &Alternatives,
+    levels: u8,
+) -> Result<(), AllocError> {
+    put_marker(out, all.extensible)?;
+    let root = all.root.as_slice();
+    put_some_alternatives(alloc, out, schema, root, 0, levels)?;
+    let more = all.additions.as_slice();
+    put_some_alternatives(alloc, out, schema, more, root.len(), levels)?;
+    out.push('}')
+}
+
+/// Adds what follows the keyword of a type's kind.
+#[cycle(printing)]
+fn put_core(
+    alloc: Global,
+    out: &mut String,
+    schema: &Schema,
+    core: &Core,
+    levels: u8,
+) -> Result<(), AllocError> {
+    match core {
+        Core::Boolean | Core::Null | Core::ObjectIdentifier | Core::RelativeOid => Ok(()),
+        Core::Integer(constraint) => put_constraint(out, constraint, false),
+        Core::BitString(constraint) => put_constraint(out, constraint, true),
+        Core::OctetString(constraint) => put_constraint(out, constraint, true),
+        Core::Utf8String(constraint) => put_constraint(out, constraint, true),
+        Core::Enumerated(items) => put_all_items(out, items),
+        Core::NamedBits(bits) => put_bits(out, bits.as_slice()),
+        Core::RestrictedString(_, codes, constraint) => {
+            put_codes(out, codes.as_slice())?;
+            put_constraint(out, constraint, true)
+        }
+        Core::Sequence(marker, components) | Core::Set(marker, components) => {
+            put_marker(out, *marker)?;
+            put_components(alloc, out, schema, components.as_slice(), levels)
+        }
+        Core::SequenceOf(constraint, element) | Core::SetOf(constraint, element) => {
+            put_constraint(out, constraint, true)?;
+            out.push(' ')?;
+            put_type(alloc, out, schema, *element, levels)
+        }
+        Core::Choice(all) => put_alternatives(alloc, out, schema, all, levels),
+    }
+}
+
+/// Adds a type with its tags and with the types in it, down to this number of levels.
+#[cycle(printing)]
+pub fn put_type(
+    alloc: Global,
+    out: &mut String,
+    schema: &Schema,
+    ty: TypeId,
+    levels: u8,
+) -> Result<(), AllocError> {
+    if levels == 0 || !schema.has(ty) {
+        return out.push_str("..");
+    }
+    let resolved = schema.get(ty);
+    put_tags(out, resolved.tags.as_slice())?;
+    out.push_str(kind_of(&resolved.core))?;
+    put_core(alloc, out, schema, &resolved.core, levels - 1)
+}

@@ -1,0 +1,3 @@
+pub mod ListedType
+pub mod Bounds
+pub mod Lawful

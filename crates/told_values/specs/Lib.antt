@@ -1,3 +1,0 @@
-pub mod Told
-pub mod proving
-pub use Rattle.typed_values.specs as typed_values

@@ -1,2 +1,0 @@
--- What proofs need about a reason with its name and offset.
-pub mod Pointed

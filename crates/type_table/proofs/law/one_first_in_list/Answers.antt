@@ -1,5 +1,0 @@
-use Rattle.type_table.proofs.OneFirst.{one_in_list}
-use Rattle.type_table.proofs.law.one_first_in_list.Goals as goal
-
-pub returns : goal.returns
-returns c = one_in_list

@@ -1,0 +1,56 @@
+-- The type at which something is wrong is one of the table.
+use Rattle.std.proofs.Common.{◌≡◌, ℕ, zero, suc, ◌<◌, List, [], ◌∷◌, ◌++◌, length, Some, refl, sym, subst, arith}
+use Rattle.std.specs.Prelude.{Bool, slice_get}
+use Rattle.std.specs.List.{All}
+use Rattle.trees.specs.declared.types.ElementsKind.{ElementsKind}
+use Rattle.trees.specs.declared.types.ListKind.{ListKind}
+use Rattle.trees.specs.Values.{Name, Tree}
+use Rattle.names.specs.Modules.{OccursIn}
+use Rattle.type_table.specs.Table.{Is, IsLinked, Kind, Part, Type', elements, members}
+use Rattle.resolve.specs.Program.{Program}
+use Rattle.range_ends.specs.Ends.{IsOfKind}
+use Rattle.typed_values.specs.Faults.{AreReadTo, HasKindIn, IsRightFault}
+use Rattle.typed_values.specs.Faults as stands
+use Rattle.typed_values.specs.declared.fault.Cause.TheVariants as cause
+use Rattle.typed_values.specs.declared.fault.ValueFault.{ValueFault}
+
+one_below : (n : ℕ) (cs : List Part) (j : ℕ) (c : Part) → All (λ x. x.ty < n) cs → slice_get cs j ≡ Some c → c.ty < n
+one_below n [] j c a e = absurd cc
+one_below n (x ∷ cs) zero c a e = let s : x ≡ c = cc in subst (λ z. z.ty < n) s (a zero x (omega arith))
+one_below n (x ∷ cs) (suc j) c a e = one_below n cs j c (λ m d l. a (suc m) d (omega arith)) e
+
+in_core : {ts : List Type'} {i : ℕ} {k : Kind} (w : IsOfKind ts i k) → Is ts w.core k w.type.default w.type.place
+in_core {ts} w =
+    subst (λ (x : Kind). Is ts w.core x w.type.default w.type.place) w.kind
+    (record { constraints = w.type.constraints; assignment = w.type.assignment; found = w.there })
+
+element_there : {ts : List Type'} {i j : ℕ} {k : ElementsKind} →
+    IsLinked ts → IsOfKind ts i (elements k j) → j < length ts
+element_there {ts} {i} {j} {k} l w = l.inner w.core j k w.type.default w.type.place (in_core w)
+
+member_there : {ts : List Type'} {i : ℕ} {k : ListKind} {e : Bool} {cs : List Part} (c : Part) →
+    IsLinked ts → IsOfKind ts i (members k e cs) → OccursIn cs c → c.ty < length ts
+member_there {ts} {i} {k} {e} {cs} c l w s =
+    one_below (length ts) cs s.0 c (l.parts w.core k e cs w.type.default w.type.place (in_core w)) s.1
+
+of_written : {p : Program} {i : ℕ} {k : Kind} {N : Name} → HasKindIn p i k N → IsOfKind p.types i k
+of_written w = record { core = w.core; type = w.type; chain = w.chain; there = w.there; kind = w.kind }
+
+middle : (cs : List Part) (c : Part) (ds : List Part) → OccursIn (cs ++ c ∷ ds) c
+middle [] c ds = (zero, refl)
+middle (b ∷ cs) c ds = let m = middle cs c ds in (suc m.0, m.1)
+
+part_there : {p : Program} {levels left rest : ℕ} {os ps : List ℕ} {M K N : Name} {i : ℕ} {n : Tree}
+    {fs : List (Name × Tree)} (c : Part) → IsLinked p.types → AreReadTo p levels left rest os M i n ps K N fs c →
+    c.ty < length p.types
+part_there c l a =
+    member_there c l (of_written a.written) (subst (λ (cs : List Part). OccursIn cs c) (sym a.split) (middle a.before c a.after))
+
+pub there : (p : Program) → IsLinked p.types → {levels left : ℕ} {os : List ℕ} {M : Name} {i : ℕ} {n : Tree} {f : ValueFault} →
+    i < length p.types → IsRightFault p levels left os M i n f → (f.cause ≡ cause.Memory → ⊥) → f.at.ty.index < length p.types
+there p l b (stands.no_memory e) m = absurd (m e)
+there p l b (stands.itself w t n r h) m = subst (λ j. j < length p.types) (sym t) b
+there p l b (stands.in_element after k e v r a q s) m = there p l (element_there l k) s m
+there p l b (stands.in_alternative c k e a x s) m = there p l (member_there c l k a) s m
+there p l b (stands.in_field c a q s) m = there p l (part_there c l a) s m
+there p l b (stands.in_default c a o r q s) m = there p l (part_there c l a) s m

@@ -1,0 +1,3 @@
+pub mod Diagnosed
+pub mod proving
+pub use Rattle.typed_values.specs as typed_values

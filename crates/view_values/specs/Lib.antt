@@ -1,2 +1,0 @@
--- Members among which later components are found (`Members`).
-pub mod Members

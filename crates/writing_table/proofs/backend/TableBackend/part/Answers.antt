@@ -1,5 +1,0 @@
-use Rattle.std.proofs.Common.{refl}
-use Rattle.writing_table.proofs.backend.TableBackend.part.Goals as goal
-
-pub returns : goal.returns
-returns c = (_, c.in_ok-end_member.ensures, refl)

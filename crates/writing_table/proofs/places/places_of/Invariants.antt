@@ -1,5 +1,0 @@
-use Rattle.writing_table.proofs.Placing.{Filled}
-use Rattle.writing_table.proofs.places.places_of.Given as goal
-
-abbrev pub invariant-loop-place : goal.invariant-loop-place
-invariant-loop-place l = Filled l.members l.place l.places.items

@@ -1,6 +1,0 @@
-use Rattle.std.proofs.Common.{◌≡◌, ◌++◌, drop}
-use Rattle.writing_table.specs.Tables.{spans}
-use Rattle.writing_table.proofs.spans.push_members.Given as goal
-
-abbrev pub invariant-loop-i : goal.invariant-loop-i
-invariant-loop-i l = l.out.items ++ spans l.octets (drop l.i l.members) ≡ l.fn.out.items ++ spans l.octets l.members
