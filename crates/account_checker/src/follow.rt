@@ -662,8 +662,8 @@ fn written<'r>(
     }
 }
 
-/// Whether the rows follow the elements of a SEQUENCE OF or SET OF. `listed` is the number of members that the row of the
-/// header gives.
+/// Whether the rows follow the elements of a SEQUENCE OF or SET OF. `listed` is the number of members that the row of
+/// the header gives.
 #[cycle(follow)]
 fn series<'r>(
     schema: &Schema,

@@ -72,7 +72,8 @@ fn set(
 /// Writes a row, except the bracket that closes it.
 fn listed(out: &mut Writer<Global>, row: &Row) -> Result<(), AllocError>
     ensures { Appends result out.old out.new
-        (begin_array ∷ string (kind_name (kind_of (flat_row row.now.listed))) ∷ listed_first (flat_row row.now.listed) []) }
+        (begin_array ∷ string (kind_name (kind_of (flat_row row.now.listed))) ∷ listed_first
+            (flat_row row.now.listed) []) }
 {
     match &row.listed {
         RowLayout::Leaf(numbers) => header(out, Kind::Leaf, numbers),

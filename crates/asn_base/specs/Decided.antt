@@ -85,7 +85,8 @@ AlikeChosen s as' i v w = (a : Alternative) × (slice_get as' i ≡ Some a) × A
 -- n members of the row are alike to x
 pub data Count (s : List Resolved) (u : ℕ) (x : AbstractValue) : Row → ℕ → Type 0 where
   no_more : Count s u x end 0
-  counted : {v : AbstractValue} {vs : Row} {n : ℕ} → Alike s u x v → Count s u x vs n → Count s u x (present v vs) (suc n)
+  counted : {v : AbstractValue} {vs : Row} {n : ℕ} → Alike s u x v → Count s u x vs n →
+      Count s u x (present v vs) (suc n)
   passed : {v : AbstractValue} {vs : Row} {n : ℕ}
       → (Alike s u x v → ⊥)
       → Count s u x vs n

@@ -32,7 +32,8 @@ IsDepthRow s b cs row = (j : ℕ) (c : Component) → slice_get cs j ≡ Some c 
 
 -- each row of the table has the depths of the components of the type at its place
 abbrev pub AreDepths : List Resolved → ℕ → List (List ℕ) → Type 0
-AreDepths s b rows = (t : ℕ) (r : Resolved) → slice_get s t ≡ Some r → IsDepthRow s b (components r.kind) (row_at rows t)
+AreDepths s b rows = (t : ℕ) (r : Resolved) → slice_get s t ≡ Some r →
+    IsDepthRow s b (components r.kind) (row_at rows t)
 
 -- the rows of a table, apart from how memory holds them
 abbrev pub rows_of : List (Vec ℕ Global) → List (List ℕ)

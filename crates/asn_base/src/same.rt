@@ -253,8 +253,10 @@ fn are_alike_fields(
     schema: &Schema,
     levels: u8,
 ) -> bool
-    ensures { AreComponents schema.now levels (map component_of components.now) (row_of_options (map (option_map abstract) first.now))
-        → AreComponents schema.now levels (map component_of components.now) (row_of_options (map (option_map abstract) second.now))
+    ensures { AreComponents schema.now levels (map component_of components.now)
+        (row_of_options (map (option_map abstract) first.now))
+        → AreComponents schema.now levels (map component_of components.now)
+            (row_of_options (map (option_map abstract) second.now))
         → (IsTrue result
         ↔ AlikeComponents schema.now (map component_of components.now)
         (row_of_options (map (option_map abstract) first.now))

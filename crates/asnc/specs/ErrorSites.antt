@@ -69,6 +69,7 @@ pub record IsErrorSite (s : List Resolved) (t : ℕ) (o : List ℕ) (offset : �
       → length o ≤ 16777216
       → IsStop s id o (budget_of (length o)) found
   pub judged : IsRead s id o → t < length s → length o ≤ 16777216 → IsStopBefore s id o found
-  pub innermost : (r : IsRead s id o) → (n : EncodesNoValue s t o) → IsBeforeInnermost s id o r.last.emitted n.value found
+  pub innermost : (r : IsRead s id o) → (n : EncodesNoValue s t o) →
+      IsBeforeInnermost s id o r.last.emitted n.value found
   pub at : offset ≡ found.place
   pub parts : path ≡ path_of s found.values.items

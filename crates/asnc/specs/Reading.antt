@@ -88,7 +88,8 @@ IsNotRead s r t o (faults.DecodeError u) = IsLocatedFault s r t o u
 IsNotRead s r t o fault = ⊥
 
 -- the text names a type, and the octets are refused as a value of this type
-pub record IsLocatedFaultAs (p : Program) (s : List Resolved) (r : Rules) (name o : List ℕ) (u : DecodeError) : Type 0 where
+pub record IsLocatedFaultAs (p : Program) (s : List Resolved) (r : Rules) (name o : List ℕ)
+    (u : DecodeError) : Type 0 where
   pub type : ℕ
   pub named : Names p name type
   pub unread : IsLocatedFault s r type o u

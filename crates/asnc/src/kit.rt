@@ -172,7 +172,8 @@ impl Kit {
         value: ValueGiven<'_>,
     ) -> Result<(TypeId, Value), Fault>
         // The type has this name, and this is the value that is meant.
-        ensures meant { IfOk result (λ r. IsMeant self.now.program ty.now (as_given value.entry) r.0.index (abstract r.1)) }
+        ensures meant { IfOk result
+            (λ r. IsMeant self.now.program ty.now (as_given value.entry) r.0.index (abstract r.1)) }
         // It is a value of the type, as the other calls require.
         ensures is { IfOk result (λ r. IsValue self.now.types r.0.index (abstract r.1)) }
         // A fault is true.
@@ -304,8 +305,8 @@ impl Kit {
     /// text, and the number of skipped additions that the type lacks. The type is named as `Module.Name`, by the module
     /// that assigns or imports it.
     ///
-    /// `NoType`: the name is not that of a type. `DecodeError`: the octets encode no value of the type by the rules, with
-    /// at most 400 levels of headers, or there are more than 16,777,216. `Memory`: an allocation failed.
+    /// `NoType`: the name is not that of a type. `DecodeError`: the octets encode no value of the type by the rules,
+    /// with at most 400 levels of headers, or there are more than 16,777,216. `Memory`: an allocation failed.
     pub fn ber(
         &self,
         alloc: Global,
@@ -355,8 +356,8 @@ impl Kit {
     /// Decodes the value of a type that octets are a message of in canonical PER, unaligned (X.691, 11.1). Returns its
     /// printed text, and the number of skipped additions that the type lacks. The type is named as for [`Kit::ber`].
     ///
-    /// `NoType`: the name is not that of a type. `BitDecodeError`: the octets are a message of no value of the type; its
-    /// first fault has its bit and its path. `MessageLimit`: there are more than 16,777,216 octets. `Memory`: an
+    /// `NoType`: the name is not that of a type. `BitDecodeError`: the octets are a message of no value of the type;
+    /// its first fault has its bit and its path. `MessageLimit`: there are more than 16,777,216 octets. `Memory`: an
     /// allocation failed.
     pub fn unper(&self, alloc: Global, ty: &str, octets: &[u8]) -> Result<(String, u64), Fault>
         // The octets are a message of exactly one value of the type, with one number of unknown additions. The value is

@@ -189,8 +189,8 @@ pub fn printed()
     lemma_printed_is_read_back();
 }
 
-/// What [`crate::Kit::ber`] and [`crate::Kit::unper`] print can be given as a text in place of the name of a value. Under
-/// the same name of a type it means the value that the octets encode. The exceptions are those of [`printed`].
+/// What [`crate::Kit::ber`] and [`crate::Kit::unper`] print can be given as a text in place of the name of a value.
+/// Under the same name of a type it means the value that the octets encode. The exceptions are those of [`printed`].
 pub fn given_back()
     ensures read { (xs : List (List ℕ)) (p : Program) (s : List Resolved) (r : Rules) (name o printed : List ℕ)
         (k : ℕ) →

@@ -158,7 +158,8 @@ fn read_strict<'a>(
     octets: &'a [u8],
 ) -> Result<Read<'a>, ReadFault>
     ensures read { IfOk result (IsReadBy code.now Distinguished id.index octets.now) }
-    ensures refused { IfErr result (λ e. (e ≡ no_memory → ⊥) → IsReadFault code.now Distinguished id.index octets.now e) }
+    ensures refused { IfErr result (λ e. (e ≡ no_memory → ⊥) →
+        IsReadFault code.now Distinguished id.index octets.now e) }
 {
     match read_der(alloc, code, id, octets) {
         Ok(read) => Ok(read),
@@ -206,8 +207,8 @@ fn read_text(
     Ok((text, read.skipped))
 }
 
-/// The printed value of the type that a text names. `NoType`: the text names no type. `DecodeError`: the octets encode no
-/// value of the type by the rules. `Memory`: an allocation failed.
+/// The printed value of the type that a text names. `NoType`: the text names no type. `DecodeError`: the octets encode
+/// no value of the type by the rules. `Memory`: an allocation failed.
 pub(crate) fn read_as(
     alloc: Global,
     modules: &Modules,

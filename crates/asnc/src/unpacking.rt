@@ -91,8 +91,8 @@ fn refusal(alloc: Global, schema: &Schema, id: TypeId, fault: PerFault) -> Fault
     }
 }
 
-/// The printed value of a type that octets are a message of, and the number of skipped additions. `BitDecodeError`: they
-/// are a message of no value of the type. `MessageLimit`: there are more than 16,777,216. `Memory`: an allocation
+/// The printed value of a type that octets are a message of, and the number of skipped additions. `BitDecodeError`:
+/// they are a message of no value of the type. `MessageLimit`: there are more than 16,777,216. `Memory`: an allocation
 /// failed.
 fn unpacked_text(
     alloc: Global,
@@ -116,8 +116,8 @@ fn unpacked_text(
     }
 }
 
-/// The printed value of the type that a text names. `NoType`: the text names no type. `BitDecodeError` and `MessageLimit`:
-/// the octets are a message of no value of the type. `Memory`: an allocation failed.
+/// The printed value of the type that a text names. `NoType`: the text names no type. `BitDecodeError` and
+/// `MessageLimit`: the octets are a message of no value of the type. `Memory`: an allocation failed.
 pub(crate) fn unpacked_as(
     alloc: Global,
     modules: &Modules,

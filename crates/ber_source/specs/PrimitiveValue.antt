@@ -30,4 +30,5 @@ pub record IsValueOfToken (held : PrimitiveToken) (decoded : PrimitiveValue) : T
 -- one that fails, within `budget` levels of headers.
 pub data AreBad (k : LeafKind) (budget : ℕ) (o : Octets) : Bool → ReadFault → ℕ → Type 0 where
   are_bad : (f : LeafFault) → IsRightFault f k o → AreBad k budget o false (of_leaf f) 0
-  segment_is_bad : {n : ℕ} (e : SegmentError) → Fails k budget e n o → n ≤ length o → AreBad k budget o true (of_segments e) n
+  segment_is_bad : {n : ℕ} (e : SegmentError) → Fails k budget e n o → n ≤ length o →
+      AreBad k budget o true (of_segments e) n

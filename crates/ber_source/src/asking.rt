@@ -58,7 +58,8 @@ pub fn is_component_next<'c, 'a, T: TokenSink<'a>>(
     ensures ok { IfOk result (λ yes. FieldNext (state_of T.tokens place.old) field yes (state_of T.tokens place.new)) }
     ensures err { IfRefused result ((yes : Bool) (b : State)
         → FieldNext (state_of T.tokens place.old) field yes b → ⊥) }
-    ensures left { IfRefusedWith result (Leaves (state_of T.tokens place.old) (whether_comes field) (state_of T.tokens place.new)) }
+    ensures left { IfRefusedWith result
+        (Leaves (state_of T.tokens place.old) (whether_comes field) (state_of T.tokens place.new)) }
 {
     lemma_one_unit();
     if place.here.octets.is_empty() {
@@ -91,7 +92,8 @@ pub fn choose_next<'c, 'a, T: TokenSink<'a>>(
     ensures ok { IfOk result (λ id. Chooses (state_of T.tokens place.old) calls.now id (state_of T.tokens place.new)) }
     ensures err { IfRefused result ((id : TypeId') (b : State)
         → Chooses (state_of T.tokens place.old) calls.now id b → ⊥) }
-    ensures left { IfRefusedWith result (Leaves (state_of T.tokens place.old) (which_picked calls.now) (state_of T.tokens place.new)) }
+    ensures left { IfRefusedWith result
+        (Leaves (state_of T.tokens place.old) (which_picked calls.now) (state_of T.tokens place.new)) }
 {
     lemma_one_unit();
     let unit = match next_unit(place.here.octets) {
@@ -162,7 +164,8 @@ pub fn next_in_set<'c, 'a, T: TokenSink<'a>>(
         NextInSet (state_of T.tokens place.old) steps.now id (state_of T.tokens place.new)) }
     ensures err { IfRefused result ((id : Option' TypeId') (b : State)
         → NextInSet (state_of T.tokens place.old) steps.now id b → ⊥) }
-    ensures left { IfRefusedWith result (Leaves (state_of T.tokens place.old) (which_comes steps.now) (state_of T.tokens place.new)) }
+    ensures left { IfRefusedWith result
+        (Leaves (state_of T.tokens place.old) (which_comes steps.now) (state_of T.tokens place.new)) }
 {
     let found = match pass(place, steps, is_extensible(steps)) {
         Ok(found) => found,

@@ -110,7 +110,8 @@ pub fn begin<'c, 'a, T: TokenSink<'a>>(
     ensures within { IsValidState T.suits place.new }
     ensures ok { OnOk result (Begins (state_of T.tokens place.old) id (state_of T.tokens place.new)) }
     ensures err { IfRefused result ((b : State) → Begins (state_of T.tokens place.old) id b → ⊥) }
-    ensures left { IfRefusedWith result (Leaves (state_of T.tokens place.old) (to_begin id) (state_of T.tokens place.new)) }
+    ensures left { IfRefusedWith result
+        (Leaves (state_of T.tokens place.old) (to_begin id) (state_of T.tokens place.new)) }
 {
     if place.budget == 0 {
         return Err(ReadFault::TooDeep);
@@ -155,7 +156,8 @@ pub fn open<'c, 'a, T: TokenSink<'a>>(
     ensures within { IsValidState T.suits place.new }
     ensures ok { OnOk result (Opens (state_of T.tokens place.old) head (state_of T.tokens place.new)) }
     ensures err { IfRefused result ((b : State) → Opens (state_of T.tokens place.old) head b → ⊥) }
-    ensures left { IfRefusedWith result (Leaves (state_of T.tokens place.old) (to_open head) (state_of T.tokens place.new)) }
+    ensures left { IfRefusedWith result
+        (Leaves (state_of T.tokens place.old) (to_open head) (state_of T.tokens place.new)) }
 {
     lemma_one_unit();
     let unit = match next_unit(place.here.octets) {
@@ -238,7 +240,8 @@ pub fn hold<'c, 'a, T: TokenSink<'a>>(
     ensures within { IsValidState T.suits place.new }
     ensures ok { OnOk result (Holds (state_of T.tokens place.old) kind (state_of T.tokens place.new)) }
     ensures err { IfRefused result ((b : State) → Holds (state_of T.tokens place.old) kind b → ⊥) }
-    ensures left { IfRefusedWith result (Leaves (state_of T.tokens place.old) (to_hold kind) (state_of T.tokens place.new)) }
+    ensures left { IfRefusedWith result
+        (Leaves (state_of T.tokens place.old) (to_hold kind) (state_of T.tokens place.new)) }
 {
     if place.outer.len() > MAX_HEADERS {
         return Err(ReadFault::TooDeep);

@@ -55,8 +55,8 @@ pub(crate) fn relative_arcs(arcs: &mut Vec<u64>, octets: &[u8]) -> Result<(), Al
     Ok(())
 }
 
-/// Makes the list that of the numbers of an OBJECT IDENTIFIER with these contents octets, whose first two are one number
-/// there.
+/// Makes the list that of the numbers of an OBJECT IDENTIFIER with these contents octets, whose first two are one
+/// number there.
 pub(crate) fn object_arcs(arcs: &mut Vec<u64>, octets: &[u8]) -> Result<(), AllocError>
     requires { (ns : List ℕ) × IsObjectIdentifier ns × (octets.now ≡ flat_map septets (joined ns)) }
     ensures { (ns : List ℕ)

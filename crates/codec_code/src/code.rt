@@ -91,8 +91,9 @@ impl Code {
         is_value(value, &self.schema, id)
     }
 
-    /// Whether a quick test shows that the value that a view or a part of it holds is one of the type, except for the limit on nodes.
-    /// True is always right. False decides nothing: a copy of the value must be asked. The test takes no memory.
+    /// Whether a quick test shows that the value that a view or a part of it holds is one of the type, except for the
+    /// limit on nodes. True is always right. False decides nothing: a copy of the value must be asked. The test takes
+    /// no memory.
     pub fn is_surely_value(&self, id: TypeId, part: &ValueRef<'_, '_>) -> bool
         ensures { IsTrue result → IsValueWithoutNodes self.now id.index (value_of part.now) }
     {

@@ -231,9 +231,11 @@ fn set_component_step<'a, B: Backend<'a>>(
     frames: &mut Vec<Frame<'a>>,
     backend: &mut B,
 ) -> Result<Frame<'a>, RunFault>
-    ensures ok { IfOk result (λ f. ActedBy code.now B.adds id.index (SetComponent field rank ∷ rest.now) (abstract value.now)
+    ensures ok { IfOk result
+        (λ f. ActedBy code.now B.adds id.index (SetComponent field rank ∷ rest.now) (abstract value.now)
         frames.old.items backend.old (frames.new.items ++ f ∷ []) backend.new) }
-    ensures refused { IfErr result (NoEvents code.now id.index (SetComponent field rank ∷ rest.now) (abstract value.now)) }
+    ensures refused { IfErr result
+        (NoEvents code.now id.index (SetComponent field rank ∷ rest.now) (abstract value.now)) }
 {
     let written = match written_value(code, id, field, value) {
         Ok(written) => written,

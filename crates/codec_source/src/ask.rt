@@ -121,7 +121,8 @@ fn ask_field<'a, S: Source>(
     rest: &'a [Step],
     source: &mut S,
 ) -> Result<Answer<'a>, ReadFault>
-    ensures ok { IfOk result (λ a. Asks S.takes (Field' field ∷ rest.now) source.old a.following.now a.value source.new) }
+    ensures ok { IfOk result
+        (λ a. Asks S.takes (Field' field ∷ rest.now) source.old a.following.now a.value source.new) }
     ensures err { IfRefused result (AsksNothing S.takes (Field' field ∷ rest.now) source.old) }
     ensures left { IfRefusedWith result (S.refuses source.old (asked (Field' field ∷ rest.now)) source.new) }
 {
@@ -195,7 +196,8 @@ fn ask_sorted<'a, S: Source>(
     source: &mut S,
 ) -> Result<Answer<'a>, ReadFault>
     requires { all.now ≡ EachSorted id ∷ rest.now }
-    ensures ok { IfOk result (λ a. Asks S.takes (EachSorted id ∷ rest.now) source.old a.following.now a.value source.new) }
+    ensures ok { IfOk result
+        (λ a. Asks S.takes (EachSorted id ∷ rest.now) source.old a.following.now a.value source.new) }
     ensures err { IfRefused result (AsksNothing S.takes (EachSorted id ∷ rest.now) source.old) }
     ensures left { IfRefusedWith result (S.refuses source.old (asked (EachSorted id ∷ rest.now)) source.new) }
 {

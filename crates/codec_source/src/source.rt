@@ -108,7 +108,8 @@ pub trait Source {
         ensures same { IfOk result (λ yes. yes ≡ false → self.new ≡ self.old) }
         ensures err { IfErr result (λ e. e ≡ Memory) };
 
-    ghost lemma_one_answer: { (a b c : Self) (e f : Event) → Alike e f → takes a e b → takes a f c → (e ≡ f) × (b ≡ c) };
+    ghost lemma_one_answer: { (a b c : Self) (e f : Event) → Alike e f → takes a e b → takes a f c → (e ≡ f)
+        × (b ≡ c) };
 
     ghost spends: { (a b : Self) (t : TypeId') → takes a (begins t) b → budget b < budget a };
 

@@ -78,7 +78,8 @@ wrong_chars (chars.Reversed at) = wrongs.At rules.LowerAboveUpper at
 
 -- The first fault of a constraint by itself, of a type of kind k, read in module M. It is at the constraint, or at an
 -- end of a range in it.
-pub data IsConstraintWrong (p : Program) (k : Kind) (M : Name) (c : ConstraintSyntax) (w : ConstraintFault) : Type 0 where
+pub data IsConstraintWrong (p : Program) (k : Kind) (M : Name) (c : ConstraintSyntax)
+    (w : ConstraintFault) : Type 0 where
   memory : w ≡ wrongs.Memory → IsConstraintWrong p k M c w
   not_taken : takes k (constraint_of c) ≡ false →
       w ≡ wrongs.At rules.WrongKind c.at →
@@ -126,7 +127,8 @@ pub data IsNextWrong (p : Program) (k : Kind) (M : Name) (cs : List ConstraintSy
       IsNextWrong p k M cs l n c w
 
 -- the first fault of these constraints
-pub record IsFirstConstraint (p : Program) (k : Kind) (M : Name) (cs : List ConstraintSyntax) (l : Limit) (w : ConstraintFault)
+pub record IsFirstConstraint (p : Program) (k : Kind) (M : Name) (cs : List ConstraintSyntax) (l : Limit)
+    (w : ConstraintFault)
     : Type 0 where
   pub number : ℕ
   pub constraint : ConstraintSyntax

@@ -113,7 +113,8 @@ impl<'a> Bounded<'a> {
     /// Whether the constraints of two types are known to allow the same, if references and tags lead from both to one
     /// kind. The function takes no memory.
     pub fn leave_the_same(&self, one: TypeId, other: TypeId) -> bool
-        ensures { result ≡ true → (k : Kind) → IsOfKind self.now.types one.index k → IsOfKind self.now.types other.index k
+        ensures { result ≡ true → (k : Kind) → IsOfKind self.now.types one.index k →
+            IsOfKind self.now.types other.index k
             → LeaveTheSame self.now k one.index other.index }
     {
         let column = self.table.get();

@@ -149,7 +149,8 @@ fn narrowed_by(
     constraints: &[ConstraintSyntax],
 ) -> Result<Limit, ConstraintFault>
     ensures found { MatchResult result
-        (Narrows scope.now (kind_of shape.now) within.now (map constraint_of constraints.now) (length constraints.now) start)
+        (Narrows scope.now (kind_of shape.now) within.now (map constraint_of constraints.now)
+            (length constraints.now) start)
         (AreWrong scope.now (kind_of shape.now) within.now (map constraint_of constraints.now) start) }
     ensures first { IfErr result (IsFirstConstraint scope.now (kind_of shape.now) within.now constraints.now start) }
 {
@@ -181,7 +182,8 @@ pub(crate) fn limit_of(
     at: usize,
 ) -> Result<Limit, ConstraintFault>
     ensures found { MatchResult result
-        (λ l. Narrows scope.now (kind_of shape.now) within.now (map constraint_of constraints.now) (length constraints.now) start l
+        (λ l. Narrows scope.now (kind_of shape.now) within.now (map constraint_of constraints.now)
+            (length constraints.now) start l
         × LeavesSome (kind_of shape.now) l)
         (IsLimitFault scope.now (kind_of shape.now) within.now (map constraint_of constraints.now) start) }
     ensures first { IfErr result (IsLimitWrong scope.now (kind_of shape.now) within.now constraints.now start at) }

@@ -116,7 +116,8 @@ fn numbers_of(
     ranges: &RangesSyntax,
 ) -> Result<Ranges, ConstraintFault>
     ensures found { MatchResult result
-        (AreNumbersOf site.now.scope.now (kind_of site.now.shape.now) site.now.within.now site.now.of (ranges_of ranges.now))
+        (AreNumbersOf site.now.scope.now (kind_of site.now.shape.now) site.now.within.now site.now.of
+            (ranges_of ranges.now))
         (IsWrong site.now.scope.now (kind_of site.now.shape.now) site.now.within.now
         (ranged site.now.of (ranges_of ranges.now))) }
     ensures wrong { IfErr result

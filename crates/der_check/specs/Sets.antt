@@ -49,6 +49,7 @@ IsAfter (Some f) g = TagBefore f g
 -- The last tag of a component's encoding after one more encoding, and whether that one is a component's. The tag of a
 -- component's encoding becomes the last one, if it comes after the one before; other encodings leave the last tag as it
 -- is.
-pub data Climbs (s : List Resolved) (cs : List Component) (g : Tag) (last : Option Tag) : Option Tag → Bool → Type 0 where
+pub data Climbs (s : List Resolved) (cs : List Component) (g : Tag) (last : Option Tag) : Option Tag → Bool →
+    Type 0 where
   climbs : IsOfOne s g cs → IsAfter last g → Climbs s cs g last (Some g) Bool.true
   passes : IsOfNone s g cs → Climbs s cs g last last Bool.false

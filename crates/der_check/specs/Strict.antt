@@ -47,7 +47,8 @@ pub record ValueGiven (s : List Resolved) (t : TypeNumber) (n : ℕ) (v : Abstra
   pub short : length o ≤ 16777216
 
 -- contents are those of a value of this kind by the basic rules, and these are the steps that read them
-pub record ContentsGiven (s : List Resolved) (t : TypeNumber) (n : ℕ) (ss : List Step) (v : AbstractValue) (k : Kind) (x : Octets)
+pub record ContentsGiven (s : List Resolved) (t : TypeNumber) (n : ℕ) (ss : List Step) (v : AbstractValue) (k : Kind)
+    (x : Octets)
     : Type 0 where
   pub few : n ≤ 64
   pub tags : List Tag
@@ -60,7 +61,8 @@ pub record ContentsGiven (s : List Resolved) (t : TypeNumber) (n : ℕ) (ss : Li
   pub short : length x ≤ 16777216
 
 -- the same of elements, with their encodings
-pub record ElementsGiven (s : List Resolved) (t : TypeNumber) (n : ℕ) (vs : List AbstractValue) (xs : Encodings) (o : Octets)
+pub record ElementsGiven (s : List Resolved) (t : TypeNumber) (n : ℕ) (vs : List AbstractValue) (xs : Encodings)
+    (o : Octets)
     : Type 0 where
   pub few : n ≤ 64
   pub values : AreElements s n t (row_of_list vs)
@@ -74,7 +76,8 @@ pub record StepsGiven (s : List Resolved) (t : TypeNumber) (ss : List Step) (cs 
   pub placed : (i : ℕ) (c : Component) → slice_get cs i ≡ Some c → component_in s t i ≡ Some c
 
 -- the same of components, with their encodings and those of some additions after them
-pub record SequenceGiven (s : List Resolved) (t : TypeNumber) (n : ℕ) (ss : List Step) (os : List (Option AbstractValue))
+pub record SequenceGiven (s : List Resolved) (t : TypeNumber) (n : ℕ) (ss : List Step)
+    (os : List (Option AbstractValue))
     (cs : List Component) (xs us : Encodings) (o : Octets) : Type 0 where
   pub few : n ≤ 64
   pub steps : StepsGiven s t ss cs
@@ -96,7 +99,8 @@ pub record SetGiven (s : List Resolved) (t : TypeNumber) (n : ℕ) (ss : List St
   pub places : ArePlaced s ys cs (row_of_options os) xs
 
 -- the same of the component at place i
-pub record MemberGiven (s : List Resolved) (t : TypeNumber) (n : ℕ) (ss : List Step) (v : AbstractValue) (i : ℕ) (c : Component)
+pub record MemberGiven (s : List Resolved) (t : TypeNumber) (n : ℕ) (ss : List Step) (v : AbstractValue) (i : ℕ)
+    (c : Component)
     (x : Octets) : Type 0 where
   pub all : List Component
   pub steps : StepsGiven s t ss all
@@ -110,7 +114,8 @@ pub record MemberBy (s : List Resolved) (c : Component) (v : AbstractValue) (x :
   pub no_default : j ≡ 0 → IsDefault s c v → ⊥
 
 -- the same of a component that may be absent
-abbrev pub PartGiven : List Resolved → TypeNumber → ℕ → List Step → Option AbstractValue → ℕ → Component → Octets → Type 0
+abbrev pub PartGiven : List Resolved → TypeNumber → ℕ → List Step → Option AbstractValue → ℕ → Component → Octets →
+    Type 0
 PartGiven s t n ss None i c x = Unit {0}
 PartGiven s t n ss (Some v) i c x = MemberGiven s t n ss v i c x
 
@@ -129,14 +134,16 @@ IsAmong s c None x o = Unit {0}
 IsAmong s c (Some v) x o = (ys : Encodings) × AreUnits ys o × IsOnly s c.type ys x
 
 -- the components have these encodings by the distinguished rules, with j unknown additions, those after them included
-pub record SequenceBy (s : List Resolved) (os : List (Option AbstractValue)) (cs : List Component) (xs us : Encodings) (j : ℕ)
+pub record SequenceBy (s : List Resolved) (os : List (Option AbstractValue)) (cs : List Component) (xs us : Encodings)
+    (j : ℕ)
     : Type 0 where
   pub count : ℕ
   pub says_them : Members s Distinguished cs (row_of_options os) count xs
   pub counted : j ≡ count + length us
 
 -- the same of a SET, in order of the components' tags
-pub record SetBy (s : List Resolved) (os : List (Option AbstractValue)) (cs : List Component) (xs zs us : Encodings) (j : ℕ)
+pub record SetBy (s : List Resolved) (os : List (Option AbstractValue)) (cs : List Component) (xs zs us : Encodings)
+    (j : ℕ)
     : Type 0 where
   pub count : ℕ
   pub says_them : Members s Distinguished cs (row_of_options os) count xs

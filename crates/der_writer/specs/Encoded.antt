@@ -19,7 +19,8 @@ pub record IsEncoding (s : List Resolved) (t : TypeNumber) (v : AbstractValue) (
   pub shortest : Shortest s t v o
   pub not_too_long : length o ≤ 16777216
   -- any value that they encode by these rules is encoded in at most 400 levels of headers
-  pub few_levels : (w : AbstractValue) (d : EncodesTo s Distinguished t w 0 o) → IsValueWithoutNodes s t w → levels d ≤ 400
+  pub few_levels : (w : AbstractValue) (d : EncodesTo s Distinguished t w 0 o) → IsValueWithoutNodes s t w →
+      levels d ≤ 400
 
 -- the number of octets in an account's first row: those of the header and its contents
 abbrev pub total_octets : Account → ℕ

@@ -278,7 +278,8 @@ pub fn schema_laws()
         → p ≡ o ++ x
         → x ≡ [] }
     // An encoding by the distinguished rules has at most 400 levels of headers.
-    ensures levels { (s : List Resolved) (t : ℕ) (v : AbstractValue) (o : List ℕ) (d : EncodesTo s Distinguished t v 0 o)
+    ensures levels { (s : List Resolved) (t : ℕ) (v : AbstractValue) (o : List ℕ)
+        (d : EncodesTo s Distinguished t v 0 o)
         → IsSchema s
         → IsValueWithoutNodes s t v
         → levels d ≤ 400 }

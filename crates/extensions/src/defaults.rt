@@ -29,7 +29,8 @@ fn default_of<'a>(
     requires there { component.now.ty < length bounded.now.types }
     requires sound { AreSound bounded.now.types }
     requires known { AreKnown bounded.now defaults.old }
-    ensures value { IfOk result (λ v. IsDefaultOf bounded.now within.now (part_of component.now) (option_map shared_seen v)) }
+    ensures value { IfOk result
+        (λ v. IsDefaultOf bounded.now within.now (part_of component.now) (option_map shared_seen v)) }
     ensures fault { IfErr result (Reports (IsWrongDefault bounded.now within.now (part_of component.now))) }
     ensures known { AreKnown bounded.now defaults.new }
 {
@@ -53,7 +54,8 @@ fn default_of<'a>(
 
 /// Adds a value, or None. `AllocError` only if an allocation fails.
 fn add(values: &mut Vec<Option<Shared>>, value: Option<Shared>) -> Result<(), AllocError>
-    ensures { OnOk result (defaults_seen values.new.items ≡ defaults_seen values.old.items ++ option_map shared_seen value ∷ []) }
+    ensures { OnOk result
+        (defaults_seen values.new.items ≡ defaults_seen values.old.items ++ option_map shared_seen value ∷ []) }
 {
     values.push(value)?;
     Ok(())
@@ -71,7 +73,8 @@ fn defaults_in<'a>(
     requires there { HaveTypes (length bounded.now.types) (map part_of components.now) }
     requires sound { AreSound bounded.now.types }
     requires known { AreKnown bounded.now defaults.old }
-    ensures values { IfOk result (λ v. AreDefaultsOf bounded.now within.now (map part_of components.now) (defaults_seen v.items)) }
+    ensures values { IfOk result
+        (λ v. AreDefaultsOf bounded.now within.now (map part_of components.now) (defaults_seen v.items)) }
     ensures fault { IfErr result (Reports (IsFirstIn bounded.now within.now (map part_of components.now))) }
     ensures known { AreKnown bounded.now defaults.new }
 {

@@ -48,7 +48,8 @@ fn numbered(
     from: usize,
 ) -> Result<Vec<Item>, AllocError>
     requires { from + length written.now ≤ length numbers.now }
-    ensures { IfOk result (λ v. map item_of v.items ≡ with_numbers (map trees.item_of written.now) (drop from numbers.now)) }
+    ensures { IfOk result
+        (λ v. map item_of v.items ≡ with_numbers (map trees.item_of written.now) (drop from numbers.now)) }
 {
     let mut all = Vec::new(alloc);
     for at in 0..written.len() {

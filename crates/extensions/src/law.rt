@@ -18,7 +18,8 @@ ghost use Rattle.extensions.specs.SchemaOfModules.{IsLinkedProgram, IsWellTyped}
 /// Modules with a fault other than `Memory` don't keep all rules. So `settle` succeeds exactly if they do and no
 /// allocation fails.
 pub fn lemma_fault_excludes()
-    ensures { (p : Program) (e : ExtFault) → IsLinkedProgram p → (e ≡ Memory → ⊥) → IsRightFault p e → IsWellTyped p → ⊥ }
+    ensures { (p : Program) (e : ExtFault) → IsLinkedProgram p → (e ≡ Memory → ⊥) → IsRightFault p e → IsWellTyped p →
+        ⊥ }
 {
     settled::additions::law::lemma_fault_excludes();
     typed_values::law::lemma_faults_exclude();
@@ -46,7 +47,8 @@ pub fn one_place()
     ensures default { (p : Program) (e f : ValueFault) → IsLinkedProgram p → HaveFewNodes p → (d : IsFirstDefault p e)
         → (g : IsFirstDefault p f) →
         (d.number ≡ g.number) × (d.first.number ≡ g.first.number) }
-    ensures assigned { (p : Program) (e f : ValueFault) → IsLinkedProgram p → AreTypedDefaults p → (d : IsFirstValue p e)
+    ensures assigned { (p : Program) (e f : ValueFault) → IsLinkedProgram p → AreTypedDefaults p →
+        (d : IsFirstValue p e)
         → (g : IsFirstValue p f) →
         d.number ≡ g.number }
 {

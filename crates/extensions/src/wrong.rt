@@ -88,7 +88,8 @@ pub(crate) fn value_of<'a>(
     requires there { ty.index < length bounded.now.types }
     requires sound { AreSound bounded.now.types }
     requires known { AreKnown bounded.now defaults.old }
-    ensures value { IfOk result (λ v. IsTyped bounded.now (Allows bounded.now) (AllowsCode bounded.now) within.now ty.index
+    ensures value { IfOk result
+        (λ v. IsTyped bounded.now (Allows bounded.now) (AllowsCode bounded.now) within.now ty.index
         (tree_of notation.now) (abstract v)) }
     ensures fault { IfErr result (Reports (IsWrong bounded.now within.now ty.index (tree_of notation.now))) }
     ensures known { AreKnown bounded.now defaults.new }

@@ -88,7 +88,8 @@ fn value_in<'a>(
 ) -> Result<Value, ValueError>
     requires kept { IsCheckedProgram bounded.now }
     requires there { ty.index < length bounded.now.types }
-    ensures value { IfOk result (λ v. DenotesValue bounded.now within.now ty.index (tree_of notation.now) (abstract v)) }
+    ensures value { IfOk result
+        (λ v. DenotesValue bounded.now within.now ty.index (tree_of notation.now) (abstract v)) }
     ensures fault { IfErr result (IsValueError bounded.now within.now ty.index (tree_of notation.now)) }
 {
     match typed(alloc, bounded, ty, within, notation) {
@@ -140,7 +141,8 @@ impl Modules {
         notation: &ValueSyntax,
     ) -> Result<Value, ValueError>
         requires { ty.index < length self.now.types }
-        ensures value { IfOk result (λ v. DenotesValue self.now within.now ty.index (tree_of notation.now) (abstract v)) }
+        ensures value { IfOk result
+            (λ v. DenotesValue self.now within.now ty.index (tree_of notation.now) (abstract v)) }
         ensures fault { IfErr result (IsValueError self.now within.now ty.index (tree_of notation.now)) }
     {
         self.kept();

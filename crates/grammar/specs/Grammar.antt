@@ -132,4 +132,5 @@ version fits = optional (number_of fits ∙ mark Colon)
 
 -- a part, or one or more parts in version brackets
 abbrev pub addition : {A : Type 0} → (ℕ → Bool) → Grammar A → Grammar (A ⊎ List A)
-addition fits a = a ⇒ inl ∣ preceded (Mark OpenVersion) (version fits ∙ (listed a ∙ mark CloseVersion)) ⇒ (λ p. inr p.1.0)
+addition fits a = a ⇒ inl ∣ preceded (Mark OpenVersion) (version fits ∙ (listed a ∙ mark CloseVersion)) ⇒
+    (λ p. inr p.1.0)

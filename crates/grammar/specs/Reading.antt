@@ -104,7 +104,8 @@ goes_on_if true ts read = read
 goes_on_if false ts read = Ok ([], ts)
 
 unfoldable pub many_at : {A : Type 0} → (Lexeme → Bool) → Reader A → ℕ → Reader (List A)
-many_at begins read (suc k) (t ∷ ts) = goes_on_if (begins t) (t ∷ ts) (read (t ∷ ts) >>= λ x. many_at begins read k x.1 >>= λ xs. Ok (x.0 ∷ xs.0, xs.1))
+many_at begins read (suc k) (t ∷ ts) =
+    goes_on_if (begins t) (t ∷ ts) (read (t ∷ ts) >>= λ x. many_at begins read k x.1 >>= λ xs. Ok (x.0 ∷ xs.0, xs.1))
 many_at begins read k ts = Ok ([], ts)
 
 -- a part in braces, up to the closing brace
@@ -170,7 +171,8 @@ version_at fits ts = Ok (tt, ts)
 
 -- the parts after the opening brackets
 unfoldable pub version_parts_at : {A : Type 0} → (ℕ → Bool) → Reader A → Reader (A ⊎ List A)
-version_parts_at fits read ts = version_at fits ts >>= λ v. listed_at read v.1 >>= λ xs. close_version_at xs.1 >>= λ c. Ok (inr xs.0, c.1)
+version_parts_at fits read ts = version_at fits ts >>= λ v. listed_at read v.1 >>= λ xs. close_version_at xs.1 >>=
+    λ c. Ok (inr xs.0, c.1)
 
 unfoldable pub addition_at : {A : Type 0} → (ℕ → Bool) → Reader A → Reader (A ⊎ List A)
 addition_at fits read (Mark OpenVersion ∷ rest) = version_parts_at fits read rest

@@ -35,8 +35,8 @@ pub struct DecodeError {
 }
 
 /// Why bits can't be read as a value, and where: the place of the bit, from 0, and the part of the value that was being
-/// read there. The part is given as that of [`DecodeError`]; `allowed` says in words what the constraints of its type allow,
-/// if that is why.
+/// read there. The part is given as that of [`DecodeError`]; `allowed` says in words what the constraints of its type
+/// allow, if that is why.
 #[derive(Debug, Drop, Error)]
 #[error("{refusal} at bit {bit}")]
 pub struct BitDecodeError {

@@ -42,7 +42,8 @@ pub fn one_meaning()
 
 /// A text names at most one type or value.
 pub fn one_name()
-    ensures { (p : Program) (text : List ℕ) (a b : Assigned) → IsCheckedProgram p → IsNamed p text a → IsNamed p text b → a ≡ b }
+    ensures { (p : Program) (text : List ℕ) (a b : Assigned) → IsCheckedProgram p → IsNamed p text a →
+        IsNamed p text b → a ≡ b }
 {}
 
 /// Refusals come in one order: that of the type's name, then that of the value's name or of the text's octets and
@@ -73,7 +74,8 @@ pub fn one_refusal()
         IsNotMeant p first second (NoValue x) →
         IsNotMeant p first second (Notation f) →
         ⊥ }
-    ensures octets_before_notation { (p : Program) (first : List ℕ) (second : Given) (f : LexFault) (t : ValueDiagnostic) →
+    ensures octets_before_notation { (p : Program) (first : List ℕ) (second : Given) (f : LexFault)
+        (t : ValueDiagnostic) →
         IsNotMeant p first second (Notation (Octets f)) →
         DenotesNoValue p first second t →
         ⊥ }

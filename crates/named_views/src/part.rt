@@ -117,8 +117,8 @@ impl<'v, 'a> NamedValueRef<'v, 'a> {
         })
     }
 
-    /// The components of a SEQUENCE or SET that are there, each with its name, in the order of the message. The result is
-    /// None of any other type.
+    /// The components of a SEQUENCE or SET that are there, each with its name, in the order of the message. The result
+    /// is None of any other type.
     pub fn fields(&self) -> Option<NamedFields<'v, 'a>>
         ensures { MatchOption result (HasNoFields self.now) (AreFields self.now) }
     {

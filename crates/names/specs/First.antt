@@ -38,7 +38,8 @@ IsLimitAt gs e = ⊥
 -- ---- exports
 
 -- the fault has the first of these names without an assignment, and its offset
-pub record IsFirstLost (ns : List (At (String Global))) (as' : List (Name × Assigned)) (s : SourceLocation) : Type 0 where
+pub record IsFirstLost (ns : List (At (String Global))) (as' : List (Name × Assigned))
+    (s : SourceLocation) : Type 0 where
   pub number : ℕ
   pub name : At (String Global)
   pub there : slice_get ns number ≡ Some name
@@ -54,7 +55,8 @@ ReportsUnknown ns as' e = ⊥
 
 -- the same of the names that a module exports
 abbrev pub IsFirstExport : Module → NameFault → Type 0
-IsFirstExport m e = (ns : List (At (String Global))) × (m.exports ≡ Some (map name_at ns)) × ReportsUnknown ns m.assigned e
+IsFirstExport m e = (ns : List (At (String Global))) × (m.exports ≡ Some (map name_at ns))
+    × ReportsUnknown ns m.assigned e
 
 -- ---- imports
 

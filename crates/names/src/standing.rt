@@ -102,7 +102,8 @@ fn check_import(
 /// An import, by its index: the name and the module that it is from.
 fn entry_at<'a>(imports: &'a IndexMap<String, Origin>, i: usize) -> (&'a String, &'a Origin)
     requires { i < length imports.now.entries }
-    ensures seen { slice_get (origins imports.now.entries) i ≡ Some (string_bytes result.0.now, origin_of result.1.now) }
+    ensures seen { slice_get (origins imports.now.entries) i
+        ≡ Some (string_bytes result.0.now, origin_of result.1.now) }
     ensures entry { slice_get imports.now.entries i ≡ Some (result.0.now, result.1.now) }
 {
     imports.get_index(i).unwrap()

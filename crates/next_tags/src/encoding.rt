@@ -40,7 +40,8 @@ pub fn next_unit(octets: &[u8]) -> Result<Unit<'_>, HeaderFault>
 #[inline(always)]
 fn split_unit(octets: &[u8], header: Header) -> Unit<'_>
     requires { HeaderAt header.tag (is_constructed header.form) header.contents header.octets octets.now }
-    ensures { UnitAt result.tag (is_constructed result.form) result.count result.contents.now result.rest.now octets.now }
+    ensures { UnitAt result.tag
+        (is_constructed result.form) result.count result.contents.now result.rest.now octets.now }
 {
     let (_, following) = octets.split_at(header.octets);
     let (contents, rest) = following.split_at(header.contents);

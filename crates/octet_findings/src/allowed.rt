@@ -32,8 +32,8 @@ fn has_ends(constraint: &Constraint) -> bool {
 }
 
 /// Returns what the constraints of a type allow where bits are outside of them, as `a number of (0..7)`. The result is
-/// None if the bits of the type have no such bounds, and for strings of characters, whose contents can be wrong as well.
-/// `AllocError`: an allocation failed.
+/// None if the bits of the type have no such bounds, and for strings of characters, whose contents can be wrong as
+/// well. `AllocError`: an allocation failed.
 pub fn allowed_in_bits(alloc: Global, core: &Core) -> Result<Option<String>, AllocError> {
     match core {
         Core::Integer(constraint) | Core::BitString(constraint) if has_ends(constraint) => {

@@ -44,8 +44,8 @@ fn of_rest(alloc: Global, octets: &[u8], at: usize) -> Result<Option<Finding>, A
     found(alloc, words, "the end of the message")
 }
 
-/// What is wrong with the contents octets of an ENUMERATED. They start at the offset if they are no number; otherwise its
-/// header is there.
+/// What is wrong with the contents octets of an ENUMERATED. They start at the offset if they are no number; otherwise
+/// its header is there.
 fn of_enumerated(
     alloc: Global,
     items: &Items,

@@ -44,7 +44,8 @@ IsFew (last n) = n < 16384
 IsFew (part m) = m ≤ 4
 
 -- the list after the items of one number were read, which were added to those before
-abbrev pub IsStep : {X : Type 0} → (ℕ → Option Refusal) → Several X → Bool → (before after : List X) → Next → (b r : Bits)
+abbrev pub IsStep : {X : Type 0} → (ℕ → Option Refusal) → Several X → Bool → (before after : List X) → Next →
+    (b r : Bits)
     → Type 0
 IsStep test items full before after nexts.Nothing b r =
     ((k : ℕ) → parts_from (suc k) test items full before b ≡ found after r) × (length r < length b)

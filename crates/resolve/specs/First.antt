@@ -169,7 +169,8 @@ pub data IsFirstLink (ms : List ModuleTree) : NameFault → Type 0 where
       AreFew ms →
       IsFirstNumbering (scopes_from 0 0 ms) (headers_of ms) (owned_from 0 ms) (roots_of ms) e →
       IsFirstLink ms e
-  of_unfolding : {s : SourceLocation} → AreNamed ms → AreFew ms → IsFirstCircular ms s → IsFirstLink ms (faults.Circular s)
+  of_unfolding : {s : SourceLocation} → AreNamed ms → AreFew ms → IsFirstCircular ms s →
+      IsFirstLink ms (faults.Circular s)
   of_program : {e : NameFault} (p : Program) →
       AreNamed ms →
       AreFew ms →

@@ -1,19 +1,20 @@
 //! Answers rows of data. It prints the name of each file, and for each row of the file an entry: the words of the row,
 //! and below them the lines of its answer, each after two blanks.
 //!
-//! The words of the command line name files of rows. `test_text_answers` answers those of the folders `text` and `expected`,
-//! `test_module_answers` those of `modules`, and `test_codec_answers` those of `codec`. This crate answers all others by the
-//! calls that the program `asnc` makes. It also prints the wanted answer of each row that has another one.
+//! The words of the command line name files of rows. `test_text_answers` answers those of the folders `text` and
+//! `expected`, `test_module_answers` those of `modules`, and `test_codec_answers` those of `codec`. This crate answers
+//! all others by the calls that the program `asnc` makes. It also prints the wanted answer of each row that has another
+//! one.
 //!
 //! The first word of such a row is a command, and the second is the name of the row. The commands are `line`,
-//! `notation`, `asnc`, `job`, `octcheck`, `octjob`, `sweep` and `packed-sweep`. Each is described at its function and at
-//! the head of the files that use it. If a row has a text named `wanted`, its answer must be that text, as the module
-//! `wanted` says. This program doesn't know these answers.
+//! `notation`, `asnc`, `job`, `octcheck`, `octjob`, `sweep` and `packed-sweep`. Each is described at its function and
+//! at the head of the files that use it. If a row has a text named `wanted`, its answer must be that text, as the
+//! module `wanted` says. This program doesn't know these answers.
 //!
 //! The answers of the stored run and of the rows were written by hand or made by other tools, not taken from this
-//! program. The exceptions are those of `suggestions.rows` and lists of expected tokens, which were compared by hand with the
-//! grammar. The answer to a row with the word `caret` includes the line of its fault. In a row with the word `numbered`
-//! each `#` of its texts is replaced by a number, counted from 0.
+//! program. The exceptions are those of `suggestions.rows` and lists of expected tokens, which were compared by hand
+//! with the grammar. The answer to a row with the word `caret` includes the line of its fault. In a row with the word
+//! `numbered` each `#` of its texts is replaced by a number, counted from 0.
 #![tactic(auto)]
 
 mod packed_sweeps;

@@ -57,8 +57,10 @@ kind_of k = nothing
 -- constructed contents octets x of this kind fail
 pub data Fails (k : LeafKind) (room : ℕ) : SegmentError → ℕ → Octets → Type 0 where
   bits_fail : {i : ℕ} {e : SegmentError} {x : Octets} → kind_of k ≡ some_bits → BitsFail room e i x → Fails k room e i x
-  octets_fail : {i : ℕ} {e : SegmentError} {x : Octets} → kind_of k ≡ some_octets → OctetsFail room e i x → Fails k room e i x
-  text_fails : {i : ℕ} {e : SegmentError} {x : Octets} → kind_of k ≡ some_text → OctetsFail room e i x → Fails k room e i x
+  octets_fail : {i : ℕ} {e : SegmentError} {x : Octets} → kind_of k ≡ some_octets → OctetsFail room e i x →
+      Fails k room e i x
+  text_fails : {i : ℕ} {e : SegmentError} {x : Octets} → kind_of k ≡ some_text → OctetsFail room e i x →
+      Fails k room e i x
   -- the joined octets aren't UTF-8, or have a character that the type doesn't have (8.23.5, 8.23.10)
   bad_text : {s x : Octets}
       → kind_of k ≡ some_text

@@ -95,7 +95,8 @@ just_three = record {
 
 -- 1 to 2, and a marker: so every size is allowed
 abbrev pub one_or_more : Constraint
-one_or_more = record { allowed = None; visible = record { least = Some (pos 1); greatest = Some (pos 2); extensible = true } }
+one_or_more =
+    record { allowed = None; visible = record { least = Some (pos 1); greatest = Some (pos 2); extensible = true } }
 
 -- space and the digits
 abbrev pub numeric_codes : List ℕ

@@ -132,7 +132,8 @@ plain_of simples.OctetString = an_octet_string
 plain_of simples.Null = a_null
 plain_of simples.ObjectIdentifier = an_object_identifier
 plain_of simples.RelativeOid = a_relative_oid
-plain_of (simples.Enumerated e) = an_enumerated (map item_of e.root.items) (option_map (λ is. map item_of is.items) e.additions)
+plain_of (simples.Enumerated e) =
+    an_enumerated (map item_of e.root.items) (option_map (λ is. map item_of is.items) e.additions)
 plain_of simples.Utf8String = a_utf8_string
 plain_of (simples.Restricted k) = a_restricted_string k
 

@@ -126,7 +126,8 @@ module _ (fits : ℕ → Bool) where
 
   -- a SEQUENCE OF or SET OF, with a size before OF or none (X.680, clauses 26, 28 and 49)
   abbrev pub list : ℕ → Grammar TypeTree → Grammar TypeTree
-  list n t = (sequence_or_set ∙ (list_size fits ∙ opens n (preceded (Word words.Of) t))) ⇒ (λ p. list_of p.0 p.1.0 p.1.1)
+  list n t = (sequence_or_set ∙ (list_size fits ∙ opens n (preceded (Word words.Of) t))) ⇒
+      (λ p. list_of p.0 p.1.0 p.1.1)
 
   -- types in which n more braces, tags and lists may be open, with these types and values inside (X.680, clause 17)
   abbrev pub type_with : (ℕ → Bool) → ℕ → Grammar TypeTree → Grammar Tree → Grammar TypeTree

@@ -40,7 +40,8 @@ module _ (fits : ℕ → Bool) where
 
   -- what is in the braces of a CHOICE
   unfoldable pub alternatives_at : Reader TypeTree → Reader Listing
-  alternatives_at read ts = extensible_at (named_at (alternative_type_at read)) (addition_at fits (named_at (alternative_type_at read))) ts
+  alternatives_at read ts = extensible_at (named_at (alternative_type_at read))
+      (addition_at fits (named_at (alternative_type_at read))) ts
 
   -- what comes after CHOICE
   unfoldable pub choice_at : ℕ → Reader TypeTree → Reader FormTree
@@ -78,7 +79,8 @@ module _ (fits : ℕ → Bool) where
 
   -- what comes after SEQUENCE or SET in a list type
   unfoldable pub list_at : ℕ → Reader TypeTree → Bool → Reader TypeTree
-  list_at n read set ts = list_size_at fits ts >>= λ s. element_type_at n read s.1 >>= λ t. Ok (list_of set s.0 t.0, t.1)
+  list_at n read set ts = list_size_at fits ts >>= λ s. element_type_at n read s.1 >>=
+      λ t. Ok (list_of set s.0 t.0, t.1)
 
   -- members and the constraints after them
   unfoldable pub structure_at : ℕ → Reader TypeTree → Reader Tree → Bool → Reader TypeTree

@@ -44,7 +44,8 @@ pub record HasKind (p : Program) (i : ℕ) (P : Kind → Type 0) : Type 0 where
 
 -- type i holds no other types. The references of notation n lead to a notation that is read in module K, and P is true
 -- of the type and of that notation.
-pub record HasLeafIn (p : Program) (os : List ℕ) (M K : Name) (i : ℕ) (n : Tree) (P : Plain → Tree → Type 0) : Type 0 where
+pub record HasLeafIn (p : Program) (os : List ℕ) (M K : Name) (i : ℕ) (n : Tree) (P : Plain → Tree →
+    Type 0) : Type 0 where
   pub plain : Plain
   pub is : IsOfKind p.types i (simple plain)
   pub opened : List ℕ
@@ -108,7 +109,8 @@ abbrev pub IsCause : Program → (levels left : ℕ) → List ℕ → Name → �
 IsCause p levels left os M i n cause.Memory = Unit {0}
 IsCause p levels left os M i n cause.Depth = levels ≡ 0
 IsCause p levels left os M i n cause.Nodes = left ≡ 0
-IsCause p levels left os M i n (cause.NoMeaning K l) = HasKind p i (λ k. HasNoMeaningAt p k os M n K.now (tree_of l.now))
+IsCause p levels left os M i n (cause.NoMeaning K l) =
+    HasKind p i (λ k. HasNoMeaningAt p k os M n K.now (tree_of l.now))
 IsCause p levels left os M i n (cause.Circular j K l) =
     HasKind p i (λ k. IsCircularNameAt p k os M n j K.now (tree_of l.now))
 IsCause p levels left os M i n cause.NotOfType = IsWrongHere p os M i n not_of_type
@@ -154,7 +156,8 @@ pub record AreReadTo (p : Program) (levels left rest : ℕ) (os : List ℕ) (M :
 -- everything before the nested notation stands for allowed values, whose nodes are counted. The DEFAULT of an absent
 -- component may have as many levels as a written value, and 2^24 nodes. `os` are the values whose notations are being
 -- read already.
-pub data IsRightFault (p : Program) : (levels left : ℕ) (os : List ℕ) (M : Name) (i : ℕ) (n : Tree) → ValueFault → Type 0 where
+pub data IsRightFault (p : Program) : (levels left : ℕ) (os : List ℕ) (M : Name) (i : ℕ) (n : Tree) → ValueFault →
+    Type 0 where
   no_memory : {levels left : ℕ} {os : List ℕ} {M : Name} {i : ℕ} {n : Tree} {f : ValueFault} →
       f.cause ≡ cause.Memory →
       IsRightFault p levels left os M i n f

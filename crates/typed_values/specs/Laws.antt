@@ -13,7 +13,8 @@ use Rattle.typed_values.specs.Faults.{HasKindIn}
 
 -- the value of each DEFAULT has at most 2^24 nodes
 abbrev pub HaveFewNodes : Program → Type 0
-HaveFewNodes p = (i : ℕ) (k : ListKind) (e : Bool) (cs : List Part) (N : Name) (c : Part) (d : Tree) (v : AbstractValue) →
+HaveFewNodes p = (i : ℕ) (k : ListKind) (e : Bool) (cs : List Part) (N : Name) (c : Part) (d : Tree)
+    (v : AbstractValue) →
     HasKindIn p i (members k e cs) N →
     OccursIn cs c →
     c.presence ≡ default d →

@@ -20,7 +20,8 @@ use value_notations::law::{lemma_wrong_have_no_value, one_value};
 /// A notation with a fault other than `Memory`, in linked modules whose defaults have few nodes, stands for no value of
 /// its type within these limits. The limits are at most `levels` levels, and at most `left` nodes.
 pub fn lemma_faults_exclude()
-    ensures { (p : Program) (levels left i : ℕ) (os : List ℕ) (M : Name) (n : Tree) (f : ValueFault') (v : AbstractValue)
+    ensures { (p : Program) (levels left i : ℕ) (os : List ℕ) (M : Name) (n : Tree) (f : ValueFault')
+        (v : AbstractValue)
         → IsApart p.modules
         → AreSound p.types
         → HaveFewNodes p

@@ -137,7 +137,8 @@ fn value_of<'a, O: Outcome>(
     requires written { HasKindIn bounded.now at.ty.index (kind_of shape.now) home.now }
     requires known { AreKnown bounded.now defaults.old }
     ensures is_read { (os : List ℕ)
-        → IsLast bounded.now (kind_of shape.now) os at.entry.within.now (tree_of at.entry.notation.now) opened.old within.now
+        → IsLast bounded.now (kind_of shape.now) os at.entry.within.now
+            (tree_of at.entry.notation.now) opened.old within.now
         (tree_of last.now)
         → Answers O.shows bounded.now (suc levels) (suc left.old) left.new os at.entry.within.now
         at.entry.ty.index (tree_of at.entry.notation.now)
@@ -196,7 +197,8 @@ fn list<'a, O: Outcome>(
     requires known { AreKnown bounded.now defaults.old }
     ensures is_read { (os : List ℕ) (k : ElementsKind') (N : Name)
         → HasKindIn bounded.now at.entry.ty.index (elements k element.index) N
-        → IsLast bounded.now (elements k element.index) os at.entry.within.now (tree_of at.entry.notation.now) opened.old within.now
+        → IsLast bounded.now (elements k element.index) os at.entry.within.now
+            (tree_of at.entry.notation.now) opened.old within.now
         (tree_of last.now)
         → Answers O.shows bounded.now (suc levels) (suc left.old) left.new os at.entry.within.now
         at.entry.ty.index (tree_of at.entry.notation.now)
@@ -348,7 +350,8 @@ fn fields<'a, O: Outcome>(
     requires known { AreKnown bounded.now defaults.old }
     ensures is_read { (os : List ℕ) (e : 𝔹)
         → HasKindIn bounded.now at.entry.ty.index (members kind e (map part_of components.now)) home.now
-        → IsLast bounded.now (members kind e (map part_of components.now)) os at.entry.within.now (tree_of at.entry.notation.now)
+        → IsLast bounded.now (members kind e (map part_of components.now)) os at.entry.within.now
+            (tree_of at.entry.notation.now)
         opened.old within.now (tree_of last.now)
         → Answers O.shows bounded.now (suc levels) (suc left.old) left.new os at.entry.within.now
         at.entry.ty.index (tree_of at.entry.notation.now)
@@ -640,7 +643,8 @@ pub fn read_with<'a>(
     requires there { ty.index < length bounded.now.types }
     requires sound { AreSound bounded.now.types }
     requires known { AreKnown bounded.now defaults.old }
-    ensures value { IfOk result (λ v. IsTyped bounded.now (Allows bounded.now) (AllowsCode bounded.now) within.now ty.index
+    ensures value { IfOk result
+        (λ v. IsTyped bounded.now (Allows bounded.now) (AllowsCode bounded.now) within.now ty.index
         (tree_of notation.now) (abstract v)) }
     ensures fault { IfErr result (IsRightFault bounded.now 64 16777216 [] within.now ty.index (tree_of notation.now)) }
     ensures known { AreKnown bounded.now defaults.new }
@@ -700,7 +704,8 @@ pub fn typed<'a>(
 ) -> Result<Value, ValueFault<'a>>
     requires there { ty.index < length bounded.now.types }
     requires sound { AreSound bounded.now.types }
-    ensures value { IfOk result (λ v. IsTyped bounded.now (Allows bounded.now) (AllowsCode bounded.now) within.now ty.index
+    ensures value { IfOk result
+        (λ v. IsTyped bounded.now (Allows bounded.now) (AllowsCode bounded.now) within.now ty.index
         (tree_of notation.now) (abstract v)) }
     ensures fault { IfErr result (IsRightFault bounded.now 64 16777216 [] within.now ty.index (tree_of notation.now)) }
 {

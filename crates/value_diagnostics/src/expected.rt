@@ -154,8 +154,8 @@ fn of_range(alloc: Global, range: &Range) -> Result<String, AllocError> {
     }
 }
 
-/// Returns ranges in the notation of constraints, as `1..3 | 8`, cut off after 60 characters. `AllocError`: an allocation
-/// failed.
+/// Returns ranges in the notation of constraints, as `1..3 | 8`, cut off after 60 characters. `AllocError`: an
+/// allocation failed.
 pub fn of_ranges(alloc: Global, ranges: &[Range]) -> Result<String, AllocError> {
     let mut list = List::new(alloc, " | ");
     for range in ranges {

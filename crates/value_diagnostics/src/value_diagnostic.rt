@@ -143,7 +143,8 @@ fn of_field<'a>(
     within: &'a str,
     notation: &'a ValueSyntax,
 ) -> ErrorSite<'a>
-    ensures { IsErrorSite result reason within.now (field_name (form_of notation.now) field) (field_place notation.now field) }
+    ensures { IsErrorSite result reason within.now (field_name (form_of notation.now) field)
+        (field_place notation.now field) }
 {
     let (name, at) = field_at(notation, field);
     ErrorSite {

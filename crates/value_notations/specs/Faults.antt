@@ -17,7 +17,8 @@ use Rattle.value_notations.specs.Wrong.{HasNoMeaning, IsCircularName, IsMisfit, 
 
 -- the references of notation n lead to notation l, a name that is read in module K and means neither something of the
 -- type nor a value
-pub record HasNoMeaningAt (p : Program) (k : Kind) (os : List ℕ) (M : Name) (n : Tree) (K : Name) (l : Tree) : Type 0 where
+pub record HasNoMeaningAt (p : Program) (k : Kind) (os : List ℕ) (M : Name) (n : Tree) (K : Name)
+    (l : Tree) : Type 0 where
   pub prefix : Option Name
   pub name : Name
   pub lost : HasNoMeaning p k os M n prefix name

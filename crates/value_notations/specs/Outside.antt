@@ -33,7 +33,8 @@ HasPast (relative_oid ns) = ArePast ns
 HasPast v = ⊥
 
 -- the notation stands for a value that the constraints of its type exclude
-pub record IsOutside (p : Program) (Allows : ℕ → ℤ → Type 0) (AllowsCode : ℕ → ℕ → Type 0) (os : List ℕ) (M : Name) (i : ℕ)
+pub record IsOutside (p : Program) (Allows : ℕ → ℤ → Type 0) (AllowsCode : ℕ → ℕ → Type 0) (os : List ℕ) (M : Name)
+    (i : ℕ)
     (n : Tree) : Type 0 where
   pub kind : Kind
   pub is : IsOfKind p.types i kind

@@ -23,7 +23,8 @@ use Rattle.value_notations.specs.Notations.{Notation, component_of}
 abbrev pub IsPlainValue : (ℕ → ℤ → Type 0) → (ℕ → ℕ → Type 0) → ℕ → Plain → AbstractValue → Type 0
 IsPlainValue Allows AllowsCode i a_boolean (boolean b) = Unit {0}
 IsPlainValue Allows AllowsCode i (an_integer ns) (integer z) = IsWithinLimit z × Allows i z
-IsPlainValue Allows AllowsCode i (an_enumerated root more) (enumerated z) = OccursIn (numbers_of root (additions_of more)) z
+IsPlainValue Allows AllowsCode i (an_enumerated root more) (enumerated z) =
+    OccursIn (numbers_of root (additions_of more)) z
 -- a BIT STRING with named bits takes no size
 IsPlainValue Allows AllowsCode i (a_bit_string []) (bits s) = Allows i (pos (length s))
 IsPlainValue Allows AllowsCode i (a_bit_string (b ∷ bs)) (bits s) = Unit {0}

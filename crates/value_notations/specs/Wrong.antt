@@ -50,7 +50,8 @@ pub data OpenedPath (p : Program) (k : Kind)
       OpenedPath p k os M (reference q x) ps K l
 
 -- the references lead to name x, which means neither something of the type nor a value
-pub record HasNoMeaning (p : Program) (k : Kind) (os : List ℕ) (M : Name) (n : Tree) (q : Option Name) (x : Name) : Type 0 where
+pub record HasNoMeaning (p : Program) (k : Kind) (os : List ℕ) (M : Name) (n : Tree) (q : Option Name)
+    (x : Name) : Type 0 where
   pub opened : List ℕ
   pub within : Name
   pub chain : OpenedPath p k os M n opened within (reference q x)

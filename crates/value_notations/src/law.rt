@@ -21,7 +21,8 @@ pub fn one_value()
 
 /// A notation in linked modules stands for no value if something is wrong with it, or with one that is nested in it.
 pub fn lemma_wrong_have_no_value()
-    ensures { (p : Program) (os qs : List ℕ) (M K : Name) (i j : ℕ) (n m : Tree) (t : NotationTrouble) (v : AbstractValue)
+    ensures { (p : Program) (os qs : List ℕ) (M K : Name) (i j : ℕ) (n m : Tree) (t : NotationTrouble)
+        (v : AbstractValue)
         → IsApart p.modules
         → AreSound p.types
         → IsRead p os M i n qs K j m

@@ -183,8 +183,8 @@ fn notation_at(linked: &Linked, number: usize) -> (&str, &ValueSyntax)
 /// the values that are being read; those whose notations are passed are added to it. Each step looks through all of
 /// them.
 ///
-/// `NoMeaning`: a name means neither something of the type nor a value. `Circular`: a name means a value that is being read
-/// already. `Memory`: there is not enough memory.
+/// `NoMeaning`: a name means neither something of the type nor a value. `Circular`: a name means a value that is being
+/// read already. `Memory`: there is not enough memory.
 pub fn follow<'a>(
     linked: &'a Linked,
     opened: &mut Opened,
@@ -195,7 +195,8 @@ pub fn follow<'a>(
     ensures last { IfOk result (λ e. IsLast linked.now (kind_of shape.now) opened.old within.now (tree_of notation.now)
         opened.new e.0.now (tree_of e.1.now)) }
     ensures grown { (xs : List ℕ) × (opened.new ≡ xs ++ opened.old) }
-    ensures fault { IfErr result (IsFollowFault linked.now (kind_of shape.now) opened.old within.now (tree_of notation.now)) }
+    ensures fault { IfErr result
+        (IsFollowFault linked.now (kind_of shape.now) opened.old within.now (tree_of notation.now)) }
 {
     let count = linked.values().len();
     let mut module = within;

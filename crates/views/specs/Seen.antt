@@ -118,7 +118,8 @@ pub record IsNext (s : SideLists) (ns : List Node') (at number end : ℕ) (left 
 -- what the first node of a tree says of it, with the nodes below it
 pub data FirstIs (s : SideLists) (below : List Node') : NodeContent → Tree → Type 0 where
   first_leaf : {l : Leaf} → FirstIs s below (a_leaf l) (leaf l)
-  first_fields : {size e : ℕ} {ms : Members} → SpellMembers s below ms → FirstIs s below (some_fields size e) (fields size ms)
+  first_fields : {size e : ℕ} {ms : Members} → SpellMembers s below ms →
+      FirstIs s below (some_fields size e) (fields size ms)
   first_list : {e : ℕ} {ms : Members} → SpellMembers s below ms → FirstIs s below (some_elements e) (list ms)
   first_alternative : {i e : ℕ} {t : Tree} → Spell s below 0 t → FirstIs s below (an_alternative i e) (alternative i t)
 

@@ -27,7 +27,8 @@ abbrev mutual
   members_within zero ns = no_member
   members_within (suc n) [] = no_member
   members_within (suc n) (x ∷ xs) =
-      member x.number (tree_within n (x ∷ take (extent x.content - 1) xs)) (members_within n (drop (extent x.content - 1) xs))
+      member x.number (tree_within n (x ∷ take (extent x.content - 1) xs))
+          (members_within n (drop (extent x.content - 1) xs))
 
 -- the tree that these nodes spell; a NULL if they spell none
 abbrev pub tree_from : List Node → Tree
@@ -118,7 +119,8 @@ members_spelled ms = members_back ms (2 * length (member_nodes ms)) (omega arith
 -- a leaf as a sum of what its kinds hold
 abbrev Kinds : Type 0
 Kinds =
-    Bool ⊎ (ℤ ⊎ (ℤ ⊎ ((ℕ × (List ℕ × Option ℕ)) ⊎ ((List ℕ × Option ℕ) ⊎ ((List ℕ × Option ℕ) ⊎ (List ℕ ⊎ (List ℕ ⊎ ℕ)))))))
+    Bool ⊎ (ℤ ⊎ (ℤ
+        ⊎ ((ℕ × (List ℕ × Option ℕ)) ⊎ ((List ℕ × Option ℕ) ⊎ ((List ℕ × Option ℕ) ⊎ (List ℕ ⊎ (List ℕ ⊎ ℕ)))))))
 
 abbrev kinds : Leaf → Kinds
 kinds (boolean b) = inl b

@@ -291,7 +291,8 @@ impl<'a> Builder<'a> {
 
     /// The view of the one value that was added, as number 0. No node may be open.
     pub fn finish(self) -> View<'a>
-        ensures { (t : Tree) → HasBuilt self.entry (record { here = member 0 t no_member; waits = [] }) → IsView result t }
+        ensures { (t : Tree) → HasBuilt self.entry (record { here = member 0 t no_member; waits = [] }) →
+            IsView result t }
     {
         View {
             nodes: self.nodes,

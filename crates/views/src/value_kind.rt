@@ -6,10 +6,10 @@ use crate::node::NodeContent;
 use crate::node_slices::{below, first_of};
 use crate::part::{MemberRefs, ValueRef, member_refs, value_ref};
 
-/// What a reference to a value shows. A value that holds no others is shown without its place in the message. `Bits` has the
-/// number of unused bits of the last octet, and the octets. `Fields` has the number of components of a SEQUENCE or SET,
-/// and the members that are there. `List` has the elements of a SEQUENCE OF or SET OF. `Alternative` has the number of
-/// an alternative of a CHOICE, and its value.
+/// What a reference to a value shows. A value that holds no others is shown without its place in the message. `Bits`
+/// has the number of unused bits of the last octet, and the octets. `Fields` has the number of components of a SEQUENCE
+/// or SET, and the members that are there. `List` has the elements of a SEQUENCE OF or SET OF. `Alternative` has the
+/// number of an alternative of a CHOICE, and its value.
 #[derive(Drop)]
 pub enum ValueKind<'v, 'a> {
     Bool(bool),
