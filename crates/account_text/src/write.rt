@@ -73,7 +73,7 @@ fn set(
 fn listed(out: &mut Writer<Global>, row: &Row) -> Result<(), AllocError>
     ensures { Appends result out.old out.new
         (begin_array ∷ string (kind_name (kind_of (flat_row row.now.listed))) ∷ listed_first
-            (flat_row row.now.listed) []) }
+        (flat_row row.now.listed) []) }
 {
     match &row.listed {
         RowLayout::Leaf(numbers) => header(out, Kind::Leaf, numbers),

@@ -222,7 +222,7 @@ fn are_fields(
     requires of { AreOf schema.now id.index (map component_of components.now) }
     ensures is { IsTrue result
         ↔ AreComponents schema.now levels (map component_of components.now)
-            (row_of_options (map (option_map abstract) values.now))
+        (row_of_options (map (option_map abstract) values.now))
         × GroupsAreWhole (map component_of components.now) (row_of_options (map (option_map abstract) values.now)) }
     ensures nodes { IsTrue result
         → left.new ≡ left.old - row_nodes (row_of_options (map (option_map abstract) values.now)) }
@@ -336,10 +336,10 @@ fn is_chosen(
 pub(crate) fn chosen_type(alternatives: &Alternatives, index: usize) -> Option<TypeId>
     ensures { MatchOption result
         (slice_get (map alternative_of alternatives.now.root.items
-            ++ map alternative_of alternatives.now.additions.items) index ≡ None)
+        ++ map alternative_of alternatives.now.additions.items) index ≡ None)
         (λ t. (a : Alternative)
         × (slice_get (map alternative_of alternatives.now.root.items
-            ++ map alternative_of alternatives.now.additions.items) index ≡ Some a)
+        ++ map alternative_of alternatives.now.additions.items) index ≡ Some a)
         × (a.type ≡ t.index)) }
 {
     let root = alternatives.root.as_slice();

@@ -256,7 +256,7 @@ fn are_alike_fields(
     ensures { AreComponents schema.now levels (map component_of components.now)
         (row_of_options (map (option_map abstract) first.now))
         → AreComponents schema.now levels (map component_of components.now)
-            (row_of_options (map (option_map abstract) second.now))
+        (row_of_options (map (option_map abstract) second.now))
         → (IsTrue result
         ↔ AlikeComponents schema.now (map component_of components.now)
         (row_of_options (map (option_map abstract) first.now))

@@ -73,7 +73,7 @@ pub fn lemma_faults_of_components()
         → (IsValue s t (fields vs) → ⊥)
         → nodes (fields vs) ≤ 16777216
         → AllByRecursion (λ p. ValueIn s 63 p.piece.type p.piece.value)
-            (component_pieces 0 (components (kind_at s t)) vs)
+        (component_pieces 0 (components (kind_at s t)) vs)
         → GroupsAreWhole (components (kind_at s t)) vs
         → ⊥ }
     ensures deep_sequence { (s : List Resolved) (t : ℕ) (tags : List Tag) (e : Bool) (cs : List Component) (vs : Row)

@@ -46,7 +46,7 @@ fn wrong_at<'v>(
 ) -> Option<Wrong<'v>>
     ensures { FirstWrong code.now
         (component_piece place (slice_get (components (kind_at code.now id.index)) place)
-            (option_map abstract member.now))
+        (option_map abstract member.now))
         (option_map (λ w. placed w.part w.ty.index (abstract w.value.now)) result) }
 {
     match member {

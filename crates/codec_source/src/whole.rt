@@ -48,7 +48,7 @@ pub(crate) fn read_whole<S: Source>(
         → BeforeStops r S.takes (λ a q b. S.refuses a q b e) (Head' head ∷ Leaf kind ∷ End ∷ []) fs source.old z) }
     ensures stopped { IfRefusedWith result (λ e. (r : ℕ → List Step') (fs : List Frame')
         → BeforeStops r S.takes (λ a q b. S.refuses a q b e)
-            (Head' head ∷ Leaf kind ∷ End ∷ []) fs source.old source.new) }
+        (Head' head ∷ Leaf kind ∷ End ∷ []) fs source.old source.new) }
 {
     match source.open(head) {
         Ok(()) => {}

@@ -150,7 +150,7 @@ fn narrowed_by(
 ) -> Result<Limit, ConstraintFault>
     ensures found { MatchResult result
         (Narrows scope.now (kind_of shape.now) within.now (map constraint_of constraints.now)
-            (length constraints.now) start)
+        (length constraints.now) start)
         (AreWrong scope.now (kind_of shape.now) within.now (map constraint_of constraints.now) start) }
     ensures first { IfErr result (IsFirstConstraint scope.now (kind_of shape.now) within.now constraints.now start) }
 {
@@ -183,7 +183,7 @@ pub(crate) fn limit_of(
 ) -> Result<Limit, ConstraintFault>
     ensures found { MatchResult result
         (λ l. Narrows scope.now (kind_of shape.now) within.now (map constraint_of constraints.now)
-            (length constraints.now) start l
+        (length constraints.now) start l
         × LeavesSome (kind_of shape.now) l)
         (IsLimitFault scope.now (kind_of shape.now) within.now (map constraint_of constraints.now) start) }
     ensures first { IfErr result (IsLimitWrong scope.now (kind_of shape.now) within.now constraints.now start at) }

@@ -117,7 +117,7 @@ fn numbers_of(
 ) -> Result<Ranges, ConstraintFault>
     ensures found { MatchResult result
         (AreNumbersOf site.now.scope.now (kind_of site.now.shape.now) site.now.within.now site.now.of
-            (ranges_of ranges.now))
+        (ranges_of ranges.now))
         (IsWrong site.now.scope.now (kind_of site.now.shape.now) site.now.within.now
         (ranged site.now.of (ranges_of ranges.now))) }
     ensures wrong { IfErr result

@@ -160,7 +160,7 @@ fn strict_contents(
     ensures { (k : Kind)
         → ContentsGiven code.now id.index levels steps.now (abstract value.now) k contents.now
         → Decides (λ j. ContentsEncode code.now Distinguished k (abstract value.now) j (form_of k) contents.now)
-            result }
+        result }
 {
     lemma_abstract_values();
     match value {

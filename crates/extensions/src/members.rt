@@ -142,7 +142,7 @@ fn alternative(part: &Part) -> Result<Alternative, AllocError>
 fn add(alternatives: &mut Vec<Alternative>, one: Alternative) -> Result<(), AllocError>
     ensures { OnOk result
         (map alternative_of alternatives.new.items ≡ map alternative_of alternatives.old.items ++ alternative_of one
-            ∷ []) }
+        ∷ []) }
 {
     alternatives.push(one)?;
     Ok(())

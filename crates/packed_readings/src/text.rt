@@ -123,7 +123,7 @@ pub fn read_restricted_string(
         (bits_left bits.old) ≡ found (string_bytes s) (bits_left bits.new)) }
     ensures err { IfErr result
         (λ e. IsFault
-            (sized_from (constraint_of constraint.now) (each_from (character_from alphabet.now)) (bits_left bits.old)) e
+        (sized_from (constraint_of constraint.now) (each_from (character_from alphabet.now)) (bits_left bits.old)) e
         (bits_left bits.new)) }
 {
     match read_sized(alloc, constraint, &Form::Characters(alphabet), bits) {

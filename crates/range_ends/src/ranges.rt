@@ -88,7 +88,7 @@ fn bound_at(site: &RangeContext<'_>, end: &EndSyntax) -> Result<i128, RangeFault
     ensures found { MatchResult result
         (IsBoundOf site.now.scope.now (kind_of site.now.shape.now) site.now.within.now site.now.of (end_of end.now))
         (IsBoundFault site.now.scope.now (kind_of site.now.shape.now) site.now.within.now site.now.of
-            (end_of end.now)) }
+        (end_of end.now)) }
     ensures wrong { IfErr result
         (IsEndWrong site.now.scope.now (kind_of site.now.shape.now) site.now.within.now site.now.of end.now) }
 {
@@ -118,7 +118,7 @@ fn between(
         (between' (Some (end_of first.now)) (Some (end_of last.now)))) }
     ensures wrong { IfErr result
         (IsBetweenWrong site.now.scope.now
-            (kind_of site.now.shape.now) site.now.within.now site.now.of first.now last.now) }
+        (kind_of site.now.shape.now) site.now.within.now site.now.of first.now last.now) }
 {
     let least = match bound_at(site, first) {
         Ok(least) => least,

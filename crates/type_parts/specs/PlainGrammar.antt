@@ -121,7 +121,7 @@ ref = (token TypeRef ∙ optional (preceded (Mark Dot) (token TypeRef))) ⇒ ref
 abbrev pub keyword : Grammar Keyword
 keyword =
     optional (word words.Implicit ⇒ (λ _. keywords.Implicit) ∣ word words.Explicit ⇒ (λ _. keywords.Explicit)) ⇒
-        keyword_of
+    keyword_of
 
 -- OPTIONAL, DEFAULT with a value, or nothing, after a component's type (X.680, clause 25)
 abbrev pub presence : Grammar Tree → Grammar PresenceTree

@@ -437,7 +437,7 @@ fn list_braces<'a>(
     requires tokens { AreTokens text.now tokens.now }
     ensures read { ReadsAs (option_map listing_tree)
         (braces_at depth
-            (listing_at small (named_at (component_at (type_at small (depth - 1)) (value_at small (depth - 1))))))
+        (listing_at small (named_at (component_at (type_at small (depth - 1)) (value_at small (depth - 1))))))
         text.now tokens.now result }
     ensures rest { IfOk result (λ x. AreTokens text.now x.1.now) }
 {

@@ -138,7 +138,7 @@ fn value_of<'a, O: Outcome>(
     requires known { AreKnown bounded.now defaults.old }
     ensures is_read { (os : List ℕ)
         → IsLast bounded.now (kind_of shape.now) os at.entry.within.now
-            (tree_of at.entry.notation.now) opened.old within.now
+        (tree_of at.entry.notation.now) opened.old within.now
         (tree_of last.now)
         → Answers O.shows bounded.now (suc levels) (suc left.old) left.new os at.entry.within.now
         at.entry.ty.index (tree_of at.entry.notation.now)
@@ -198,7 +198,7 @@ fn list<'a, O: Outcome>(
     ensures is_read { (os : List ℕ) (k : ElementsKind') (N : Name)
         → HasKindIn bounded.now at.entry.ty.index (elements k element.index) N
         → IsLast bounded.now (elements k element.index) os at.entry.within.now
-            (tree_of at.entry.notation.now) opened.old within.now
+        (tree_of at.entry.notation.now) opened.old within.now
         (tree_of last.now)
         → Answers O.shows bounded.now (suc levels) (suc left.old) left.new os at.entry.within.now
         at.entry.ty.index (tree_of at.entry.notation.now)
@@ -351,7 +351,7 @@ fn fields<'a, O: Outcome>(
     ensures is_read { (os : List ℕ) (e : 𝔹)
         → HasKindIn bounded.now at.entry.ty.index (members kind e (map part_of components.now)) home.now
         → IsLast bounded.now (members kind e (map part_of components.now)) os at.entry.within.now
-            (tree_of at.entry.notation.now)
+        (tree_of at.entry.notation.now)
         opened.old within.now (tree_of last.now)
         → Answers O.shows bounded.now (suc levels) (suc left.old) left.new os at.entry.within.now
         at.entry.ty.index (tree_of at.entry.notation.now)

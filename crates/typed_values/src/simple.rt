@@ -35,7 +35,7 @@ pub(crate) fn simple_value<'a>(
         → IsLast bounded.now (simple' (plain_of simple.now)) os at.entry.within.now (tree_of at.entry.notation.now) ps
         within.now (tree_of last.now)
         → Reports bounded.now (suc levels) (suc left) left os at.entry.within.now at.entry.ty.index
-            (tree_of at.entry.notation.now) result }
+        (tree_of at.entry.notation.now) result }
 {
     let value = match leaf(alloc, simple, last) {
         Ok(value) => value,

@@ -65,7 +65,7 @@ pub fn lemma_earlier_reads_packed()
         → IsKnown s t v
         → Packed s' t' v b
         → (w : AbstractValue) × Same s t (projected s t v) w
-            × EncodesPer s lenient t w (left_out_packed s t s' t' v) b }
+        × EncodesPer s lenient t w (left_out_packed s t s' t' v) b }
     // The same is true of messages.
     ensures reads { (s s' : List Resolved) (t t' : ℕ) (w : AbstractValue) (o : List ℕ)
         → IsSchema s

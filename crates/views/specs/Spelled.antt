@@ -28,7 +28,7 @@ abbrev mutual
   members_within (suc n) [] = no_member
   members_within (suc n) (x ∷ xs) =
       member x.number (tree_within n (x ∷ take (extent x.content - 1) xs))
-          (members_within n (drop (extent x.content - 1) xs))
+      (members_within n (drop (extent x.content - 1) xs))
 
 -- the tree that these nodes spell; a NULL if they spell none
 abbrev pub tree_from : List Node → Tree
@@ -120,7 +120,7 @@ members_spelled ms = members_back ms (2 * length (member_nodes ms)) (omega arith
 abbrev Kinds : Type 0
 Kinds =
     Bool ⊎ (ℤ ⊎ (ℤ
-        ⊎ ((ℕ × (List ℕ × Option ℕ)) ⊎ ((List ℕ × Option ℕ) ⊎ ((List ℕ × Option ℕ) ⊎ (List ℕ ⊎ (List ℕ ⊎ ℕ)))))))
+    ⊎ ((ℕ × (List ℕ × Option ℕ)) ⊎ ((List ℕ × Option ℕ) ⊎ ((List ℕ × Option ℕ) ⊎ (List ℕ ⊎ (List ℕ ⊎ ℕ)))))))
 
 abbrev kinds : Leaf → Kinds
 kinds (boolean b) = inl b
