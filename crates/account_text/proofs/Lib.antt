@@ -1,6 +1,7 @@
 pub mod Json
 pub mod Injective
 pub mod Small
+pub mod Stops
 pub mod Texts
 pub mod Leaving
 pub mod Standing

@@ -1,12 +1,13 @@
 //! Reads an account from its text, one row at a time. It keeps the rows, but no tree of the text.
 
-ghost use Rattle.std.specs.Prelude.{◌≡◌, ◌∷◌, ℕ, List, MatchOption, IfOk, Err, Ok, Some, decimal, true, false};
+ghost use Rattle.std.specs.Prelude.{◌≡◌, ◌∷◌, [], ℕ, List, MatchOption, IfOk, Err, Ok, Some, decimal, true, false};
 ghost use Rattle.std.specs.List.{AllByRecursion};
 ghost use Rattle.std.specs.Bool.{MatchBool};
 ghost use Rattle.json.specs.Token.{Token as Token', begin_array, end_array, string};
 ghost use Rattle.encodings.specs.Account.{Account as Account', Numbers as Numbers'};
 ghost use Rattle.octet_account.specs.Flat.{FlatRow, IsSmall, AreSmall};
 ghost use Rattle.octet_account.specs.Seen.{numbers_of, flat_row, flat};
+ghost use Rattle.account_text.specs.Stops.{NoRowAfter};
 ghost use Rattle.account_text.specs.Text.{IsTextOf, rows_json};
 ghost use Rattle.json.specs.Json.{document};
 ghost use Rattle.account_text.specs.proving.Tokens.{number_first, numbers_first, list_first, row_first, rows_first};
@@ -50,7 +51,7 @@ fn number(reader: &mut Reader<'_>) -> Option<u32>
 }
 
 /// Takes the bracket that opens an array.
-fn take_begin_array(reader: &mut Reader<'_>) -> bool
+pub(crate) fn take_begin_array(reader: &mut Reader<'_>) -> bool
     ensures { MatchBool result (reader.old ≡ begin_array ∷ reader.new)
         ((ts : List Token') → reader.old ≡ begin_array ∷ ts → ⊥) }
 {
@@ -176,7 +177,7 @@ fn listed(alloc: Global, kind: Kind, reader: &mut Reader<'_>) -> Result<RowLayou
 }
 
 /// Takes one row.
-pub(crate) fn row(alloc: Global, reader: &mut Reader<'_>) -> Result<Row, AccountFault>
+fn row(alloc: Global, reader: &mut Reader<'_>) -> Result<Row, AccountFault>
     ensures read { IfOk result (λ r. IsSmallRow (flat_row r.listed)
         × (reader.old ≡ row_first (flat_row r.listed) reader.new)) }
     ensures refused { result ≡ Err AccountFault.NotAccount → (r : FlatRow) (ts : List Token')
@@ -212,16 +213,22 @@ fn take_kind(reader: &mut Reader<'_>) -> Option<Kind>
     }
 }
 
-/// Takes rows up to the bracket that closes their array.
-fn rows(alloc: Global, reader: &mut Reader<'_>) -> Result<Vec<Row>, AccountFault>
-    ensures read { IfOk result (λ v. AllByRecursion IsSmallRow (flat v.items)
-        × (reader.old ≡ rows_first (flat v.items) (end_array ∷ reader.new))) }
+/// Takes rows up to the bracket that closes their array, and adds them to the empty list. If what comes next isn't a
+/// row, the list has the rows before it.
+pub(crate) fn rows(
+    alloc: Global,
+    reader: &mut Reader<'_>,
+    found: &mut Vec<Row>,
+) -> Result<(), AccountFault>
+    requires { found.old.items ≡ [] }
+    ensures read { IfOk result (λ _. AllByRecursion IsSmallRow (flat found.new.items)
+        × (reader.old ≡ rows_first (flat found.new.items) (end_array ∷ reader.new))) }
     ensures refused { result ≡ Err AccountFault.NotAccount → (rs : List FlatRow) (ts : List Token')
         → AllByRecursion IsSmallRow rs
         → reader.old ≡ rows_first rs (end_array ∷ ts)
         → ⊥ }
+    ensures stops { result ≡ Err AccountFault.NotAccount → NoRowAfter (flat found.new.items) reader.old }
 {
-    let mut found = Vec::new(alloc);
     while !reader.take_end_array() {
         let row = match row(alloc, reader) {
             Ok(row) => row,
@@ -231,7 +238,7 @@ fn rows(alloc: Global, reader: &mut Reader<'_>) -> Result<Vec<Row>, AccountFault
             return Err(AccountFault::Memory);
         }
     }
-    Ok(found)
+    Ok(())
 }
 
 /// Takes the rows of a whole text.
@@ -250,14 +257,15 @@ fn whole(alloc: Global, text: &str) -> Result<Vec<Row>, AccountFault>
     if !take_begin_array(&mut reader) {
         return Err(AccountFault::NotAccount);
     }
-    let rows = match rows(alloc, &mut reader) {
-        Ok(rows) => rows,
+    let mut found = Vec::new(alloc);
+    match rows(alloc, &mut reader, &mut found) {
+        Ok(()) => {}
         Err(fault) => return Err(fault),
-    };
+    }
     if reader.next().is_some() {
         return Err(AccountFault::NotAccount);
     }
-    Ok(rows)
+    Ok(found)
 }
 
 /// Reads the account whose rows a text has, in any spelling that JSON allows. Numbers are whole, from 0 to 16,777,216,

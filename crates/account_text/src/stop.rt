@@ -1,8 +1,11 @@
 //! The octet at which octets stop being the text of an account.
 
+ghost use Rattle.std.specs.Prelude.{IfOk};
+ghost use Rattle.account_text.specs.Stops.{IsStop, IsStopAfter};
+
 use crate::account_fault::AccountFault;
-use crate::read::row;
-use json::{Reader, Scratch, Token};
+use crate::read::{rows, take_begin_array};
+use json::{Reader, Scratch};
 use std::alloc::{AllocError, Global};
 use thiserror::Error;
 
@@ -31,46 +34,40 @@ pub enum Stop {
     NotOne(usize),
 }
 
-/// What is wrong after all rows.
-fn after_rows(reader: &mut Reader<'_>, rows: usize) -> Stop {
+/// What is wrong after all rows, of which there are so many.
+fn after_rows(reader: &mut Reader<'_>, rows: usize) -> Stop
+    ensures { IsStopAfter rows reader.old result }
+{
     if reader.next().is_some() {
         return Stop::Behind(reader.offset());
     }
     Stop::NotOne(rows)
 }
 
-/// Where rows stop being rows. A text has at most `most` rows.
-fn in_rows(alloc: Global, reader: &mut Reader<'_>, most: usize) -> Result<Stop, AllocError> {
-    for rows in 0..most {
-        if reader.take_end_array() {
-            return Ok(after_rows(reader, rows));
-        }
-        match row(alloc, reader) {
-            Ok(_) => {}
-            Err(AccountFault::Memory) => return Err(AllocError),
-            Err(AccountFault::NotAccount) => {
-                let offset = reader.offset();
-                return Ok(Stop::NotRow { row: rows, offset });
-            }
-        }
-    }
-    Ok(Stop::NotOne(most))
-}
-
 /// Returns the place at which octets that [`crate::from_json`] refuses stop being the text of an account. For a bad
 /// number or name it is the octet after it. `AllocError` comes only if an allocation fails.
-pub fn stop_of(alloc: Global, octets: &[u8]) -> Result<Stop, AllocError> {
+pub fn stop_of(alloc: Global, octets: &[u8]) -> Result<Stop, AllocError>
+    ensures { IfOk result (IsStop octets.now) }
+{
     let text = match str::from_utf8(octets) {
         Ok(text) => text,
         Err(fault) => return Ok(Stop::NotText(fault.valid_up_to())),
     };
     let mut scratch = Scratch::new(alloc);
-    let mut reader = match Reader::new(text, &mut scratch) {
-        Ok(reader) => reader,
-        Err(_) => return Err(AllocError),
+    let Ok(mut reader) = Reader::new(text, &mut scratch) else {
+        return Err(AllocError);
     };
-    match reader.next() {
-        Some(Token::BeginArray) => in_rows(alloc, &mut reader, octets.len()),
-        _ => Ok(Stop::NotArray),
+    if !take_begin_array(&mut reader) {
+        return Ok(Stop::NotArray);
+    }
+    let mut found = Vec::new(alloc);
+    match rows(alloc, &mut reader, &mut found) {
+        Ok(()) => Ok(after_rows(&mut reader, found.len())),
+        Err(AccountFault::Memory) => Err(AllocError),
+        Err(AccountFault::NotAccount) => {
+            let row = found.len();
+            let offset = reader.offset();
+            Ok(Stop::NotRow { row, offset })
+        }
     }
 }

@@ -11,6 +11,7 @@ use Rattle.account_checker.specs.Reasons.{Fails}
 use Rattle.account_checker.specs.declared.reason.Reason.{Reason}
 use Rattle.account_checker.specs.declared.reason.Reason.TheVariants.{NotOfType}
 use Rattle.account_checker.specs.declared.reason.Verdict.TheVariants.{Yes, No}
+use Rattle.account_text.specs.Stops.{IsStop}
 use Rattle.account_text.specs.Text.{IsTextOf}
 use Rattle.account_text.specs.declared.stop.Stop.{Stop}
 use Rattle.resolve.specs.Program.{Program}
@@ -104,8 +105,16 @@ module _ (xs : List (List ℕ)) (first : List ℕ) (second : Given) (account : L
       → IsNotJudged xs first second account (faults.NotAccount e)
       → (p : Program) × AreAccepted xs p × (t : ℕ) × (v : AbstractValue) × IsMeant p first second t v
       × ((a : Account) → IsUtf8 account → IsTextOf account a → ⊥)
-  not_an_account e j =
-      (j.program, j.accepted, j.on.type, j.on.value, j.on.meant, λ a u i. j.on.none a (record { utf8 = u; is = i }))
+      × IsStop account e
+  not_an_account e j = (
+    j.program,
+    j.accepted,
+    j.on.type,
+    j.on.value,
+    j.on.meant,
+    λ a u i. j.on.text.none a (record { utf8 = u; is = i }),
+    j.on.text.stop,
+  )
 
   no_value_there : (t : ValueDiagnostic)
       → IsNotJudged xs first second account (faults.Value t)

@@ -11,6 +11,8 @@ use Rattle.account_checker.specs.Reasons.{Fails, IsRight}
 use Rattle.account_checker.specs.declared.reason.Reason.TheVariants as reasons
 use Rattle.account_checker.specs.declared.reason.Verdict.{Verdict}
 use Rattle.account_checker.specs.declared.reason.Verdict.TheVariants.{Yes, No}
+use Rattle.account_text.specs.declared.stop.Stop.{Stop}
+use Rattle.account_text.specs.Stops.{IsStop}
 use Rattle.account_text.specs.Text.{IsTextOf}
 use Rattle.trees.specs.Values.{Name, Tree}
 use Rattle.resolve.specs.Program.{Program}
@@ -76,22 +78,27 @@ pub record IsConfirmed (xs : List (List ℕ)) (first : List ℕ) (second : Given
   -- the octets are an encoding by the basic rules, and no such encoding, in any definite form of lengths, is shorter
   pub shortest : Shortest types type value o
 
+-- the octets aren't the text of an account, and stop being one there
+pub record StopsBeingAccount (octets : List ℕ) (s : Stop) : Type 0 where
+  pub none : (a : Account) → IsAccountIn octets a → ⊥
+  pub stop : IsStop octets s
+
 -- the octets aren't the text of an account; `Memory` says nothing of the octets
 abbrev pub IsNoAccount : List ℕ → Fault → Type 0
 IsNoAccount octets faults.Memory = Unit {0}
-IsNoAccount octets (faults.NotAccount s) = (a : Account) → IsAccountIn octets a → ⊥
+IsNoAccount octets (faults.NotAccount s) = StopsBeingAccount octets s
 IsNoAccount octets fault = ⊥
 
--- the two texts mean a value, and the third isn't the text of an account
-pub record HasNoAccount (p : Program) (first : List ℕ) (second : Given) (account : List ℕ) : Type 0 where
+-- the two texts mean a value, and the third isn't the text of an account, and stops being one there
+pub record HasNoAccount (p : Program) (first : List ℕ) (second : Given) (account : List ℕ) (s : Stop) : Type 0 where
   pub type : ℕ
   pub value : AbstractValue
   pub meant : IsMeant p first second type value
-  pub none : (a : Account) → IsAccountIn account a → ⊥
+  pub text : StopsBeingAccount account s
 
 -- There is no verdict in a program: the texts mean no value, or otherwise there is no account.
 abbrev pub IsNotJudgedOn : Program → (first : List ℕ) → (second : Given) → (account : List ℕ) → Fault → Type 0
-IsNotJudgedOn p first second account (faults.NotAccount s) = HasNoAccount p first second account
+IsNotJudgedOn p first second account (faults.NotAccount s) = HasNoAccount p first second account s
 IsNotJudgedOn p first second account fault = IsNotMeant p first second fault
 
 -- the texts are accepted, and there is no verdict in their program

@@ -42,6 +42,7 @@ fn refusal(fault: CompileError) -> Fault
 }
 
 /// The fault that octets aren't the text of an account, with the octet at which this shows.
+#[tactic(auto, using(crate::proofs::Refused::stops_there))]
 fn no_account(alloc: Global, octets: &[u8]) -> Fault
     ensures { ((a : Account') → IsAccountIn octets.now a → ⊥) → IsNoAccount octets.now result }
 {

@@ -15,6 +15,18 @@ returns-in-Err-clause-refused c = λ e rs ts small f.
     (λ r us s g. c.in-Err.ensures.refused (ap Err same) r us s (test.1 ∙ g))
     (c.loop-alloc.invariant.left rs ts small f)
 
+pub returns-in-Err-clause-stops : goal.returns-in-Err-clause-stops
+returns-in-Err-clause-stops c = λ e.
+    let same : c.in-Err.fault ≡ NotAccount = cc (e) in
+    let test = c.loop-alloc-test.ensures in
+    record {
+      rest = c.loop-alloc.reader;
+      small = c.loop-alloc.invariant.small;
+      rows = c.loop-alloc.invariant.done;
+      unclosed = test.0;
+      no_row = λ r us s g. c.in-Err.ensures.refused (ap Err same) r us s (test.1 ∙ g);
+    }
+
 pub loop-alloc-smaller : goal.loop-alloc-smaller
 loop-alloc-smaller c =
     let read = c.in-Ok.ensures.read in

@@ -24,13 +24,13 @@ returns-then-is_some-clause-refused c = λ _ rs small e.
     let read = c.in-Ok-rows.ensures.read in
     let rows = ap after (sym c.if-not-take_begin_array.ensures ∙ c.in-Ok.ensures.ok ∙ to_tokens c.args.text.now rs e) in
     not_ended c.next.result c.rows.new.reader c.next.new.self c.next.ensures.value (sym c.is_some.ensures ∙ c.if-is_some.true)
-    (one_list_of_rows (flat c.in-Ok-rows.rows.items) rs c.rows.new.reader [] read.0 small (sym read.1 ∙ rows)).1
+    (one_list_of_rows (flat c.rows.new.found.items) rs c.rows.new.reader [] read.0 small (sym read.1 ∙ rows)).1
 
 pub returns-clause-read : goal.returns-clause-read
 returns-clause-read c =
     let read = c.in-Ok-rows.ensures.read in
     let end = ended c.next.result c.rows.new.reader c.next.new.self c.next.ensures.value (sym c.is_some.ensures ∙ c.if-is_some.false) in
-    let rows = flat c.in-Ok-rows.rows.items in (
+    let rows = flat c.rows.new.found.items in (
       read.0,
       from_tokens c.args.text.now rows
           (sym c.in-Ok.ensures.ok ∙ c.if-not-take_begin_array.ensures ∙ ap (λ us. begin_array ∷ us) (read.1 ∙ ap (λ us. rows_first rows (end_array ∷ us)) end)),
