@@ -46,14 +46,14 @@ not_meant p first second account (faults.NotAccount s) h = absurd h
 -- octets that stop being the text of an account there are none
 pub stops_there : (octets : List ℕ) (s : Stop) →
     IsStop octets s → ((a : Account) → IsAccountIn octets a → ⊥) → IsNoAccount octets (faults.NotAccount s)
-stops_there octets s stop none = record { none = none; stop = stop }
+stops_there octets s stop none = (none, stop)
 
 -- a value without an account has none
 pub not_read : (p : Program) (first : List ℕ) (second : Given) (account : List ℕ) (t : ℕ) (v : AbstractValue)
     (e : Fault) →
     IsMeant p first second t v → IsNoAccount account e → IsNotJudgedOn p first second account e
 not_read p first second account t v faults.Memory m h = tt
-not_read p first second account t v (faults.NotAccount s) m h = record { type = t; value = v; meant = m; text = h }
+not_read p first second account t v (faults.NotAccount s) m h = record { type = t; value = v; meant = m; none = h.0; stop = h.1 }
 not_read p first second account t v (faults.NoType x) m h = absurd h
 not_read p first second account t v (faults.NoValue x) m h = absurd h
 not_read p first second account t v (faults.Value x) m h = absurd h
@@ -116,7 +116,7 @@ Refuses = (p : Program) (first : List ℕ) (second : Given) (t : ℕ) (v : Abstr
 pub not_refused : Refuses → (p : Program) (s : List Resolved) (first : List ℕ) (second : Given) (o account : List ℕ)
     (r : Verdict) (e : Fault) →
     IsCheckedProgram p → IsVerdictOn p s first second o account r → IsNotJudgedOn p first second account e → e ≡ faults.Memory
-not_refused law p s first second o account r (faults.NotAccount x) k v h = absurd (h.text.none v.described v.read)
+not_refused law p s first second o account r (faults.NotAccount x) k v h = absurd (h.none v.described v.read)
 not_refused law p s first second o account r faults.Memory k v h = refl
 not_refused law p s first second o account r (faults.NoType x) k v h = law p first second v.type v.value
     (faults.NoType x) k v.meant h

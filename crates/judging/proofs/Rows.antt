@@ -112,8 +112,8 @@ module _ (xs : List (List ℕ)) (first : List ℕ) (second : Given) (account : L
     j.on.type,
     j.on.value,
     j.on.meant,
-    λ a u i. j.on.text.none a (record { utf8 = u; is = i }),
-    j.on.text.stop,
+    λ a u i. j.on.none a (record { utf8 = u; is = i }),
+    j.on.stop,
   )
 
   no_value_there : (t : ValueDiagnostic)

@@ -78,15 +78,10 @@ pub record IsConfirmed (xs : List (List ℕ)) (first : List ℕ) (second : Given
   -- the octets are an encoding by the basic rules, and no such encoding, in any definite form of lengths, is shorter
   pub shortest : Shortest types type value o
 
--- the octets aren't the text of an account, and stop being one there
-pub record StopsBeingAccount (octets : List ℕ) (s : Stop) : Type 0 where
-  pub none : (a : Account) → IsAccountIn octets a → ⊥
-  pub stop : IsStop octets s
-
--- the octets aren't the text of an account; `Memory` says nothing of the octets
+-- the octets aren't the text of an account, and stop being one there; `Memory` says nothing of the octets
 abbrev pub IsNoAccount : List ℕ → Fault → Type 0
 IsNoAccount octets faults.Memory = Unit {0}
-IsNoAccount octets (faults.NotAccount s) = StopsBeingAccount octets s
+IsNoAccount octets (faults.NotAccount s) = ((a : Account) → IsAccountIn octets a → ⊥) × IsStop octets s
 IsNoAccount octets fault = ⊥
 
 -- the two texts mean a value, and the third isn't the text of an account, and stops being one there
@@ -94,7 +89,8 @@ pub record HasNoAccount (p : Program) (first : List ℕ) (second : Given) (accou
   pub type : ℕ
   pub value : AbstractValue
   pub meant : IsMeant p first second type value
-  pub text : StopsBeingAccount account s
+  pub none : (a : Account) → IsAccountIn account a → ⊥
+  pub stop : IsStop account s
 
 -- There is no verdict in a program: the texts mean no value, or otherwise there is no account.
 abbrev pub IsNotJudgedOn : Program → (first : List ℕ) → (second : Given) → (account : List ℕ) → Fault → Type 0
