@@ -13,7 +13,7 @@ const STEP: usize = 16;
 /// How many turns at the beginning of a sweep in a pool leave a few octets more than the turn before.
 const FINE_TURNS: usize = 64;
 
-/// After how many calls in turn that were right a sweep in a pool ends.
+/// After at most how many calls one after another that were right a sweep in a pool ends.
 const ENOUGH: usize = 8;
 
 /// The result of a call: the same as with enough memory, `Memory`, or anything else.
@@ -76,12 +76,12 @@ fn next(turn: usize, octets: usize, part: usize) -> usize {
     octets.saturating_add(more)
 }
 
-/// The turns of a sweep in a pool, until the call was right in eight of them one after another, or the pool has no more.
+/// The turns of a sweep in a pool, until enough calls one after another were right, or the pool has no more.
 fn turns_in<S: Starved>(alloc: Global, pool: &mut Pool, part: usize, starved: &mut S) -> Swept {
     let (mut refused, mut right, mut enough) = (0usize, 0usize, 0usize);
     let mut octets: usize = 0;
     for turn in 0..TURNS {
-        if enough == ENOUGH || octets > pool.octets() {
+        if enough >= part.max(1).min(ENOUGH) || octets > pool.octets() {
             break;
         }
         if !pool.leave(alloc, octets) {
@@ -105,8 +105,9 @@ fn turns_in<S: Starved>(alloc: Global, pool: &mut Pool, part: usize, starved: &m
     Swept::Through { refused, right }
 }
 
-/// Makes a call with more memory of a pool in each turn, until it was right in eight turns one after another or the
-/// pool has no more, and then with the whole pool. After the first 64 turns each leaves more by one `part`.
+/// Makes a call with more memory of a pool in each turn, until it was right in `part` turns one after another, at most
+/// eight, or the pool has no more; and then with the whole pool. After the first 64 turns each leaves more by one
+/// `part`.
 pub fn sweep_in<S: Starved>(alloc: Global, pool: &mut Pool, part: usize, starved: &mut S) -> Swept {
     let swept = if pool.measure(alloc) {
         turns_in(alloc, pool, part, starved)
