@@ -65,9 +65,9 @@ fn part(row: &Row) -> usize {
         octets = octets.saturating_add(text.octets.len());
     }
     if octets < 4096 {
-        16
+        8
     } else if octets < 65536 {
-        4
+        2
     } else {
         1
     }

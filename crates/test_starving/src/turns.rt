@@ -11,10 +11,10 @@ const TURNS: usize = 3000;
 const STEP: usize = 16;
 
 /// How many turns at the beginning of a sweep in a pool leave a few octets more than the turn before.
-const FINE_TURNS: usize = 64;
+const FINE_TURNS: usize = 32;
 
 /// After at most how many calls one after another that were right a sweep in a pool ends.
-const ENOUGH: usize = 8;
+const ENOUGH: usize = 3;
 
 /// The result of a call: the same as with enough memory, `Memory`, or anything else.
 #[derive(Clone, Copy, Debug, PartialEq, Eq)]
