@@ -106,7 +106,7 @@ fn turns_in<S: Starved>(alloc: Global, pool: &mut Pool, part: usize, starved: &m
 }
 
 /// Makes a call with more memory of a pool in each turn, until it was right in `part` turns one after another, at most
-/// eight, or the pool has no more; and then with the whole pool. After the first 64 turns each leaves more by one
+/// three, or the pool has no more; and then with the whole pool. After the first 32 turns each leaves more by one
 /// `part`.
 pub fn sweep_in<S: Starved>(alloc: Global, pool: &mut Pool, part: usize, starved: &mut S) -> Swept {
     let swept = if pool.measure(alloc) {
