@@ -1,3 +1,4 @@
+pub mod Beginnings
 pub mod InPlace
 pub mod Leaf
 pub mod Lengths
@@ -11,3 +12,4 @@ pub mod SpansOf
 pub mod Placement
 pub mod Trees
 pub mod Whole
+pub mod Words

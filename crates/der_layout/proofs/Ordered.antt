@@ -44,7 +44,7 @@ by_test x y o false true e f h = inl (ltb-true y x f)
 by_test x y o false false e f h = inr ((let a = ltb-false x y e in let b = ltb-false y x f in let g : y ≡ x = omega arith in g), h)
 
 -- not less
-differs : (x y : ℕ) (o : Ordering) → is_lt (first_differs x y o) ≡ false → (y < x) ⊎ ((y ≡ x) × (is_lt o ≡ false))
+pub differs : (x y : ℕ) (o : Ordering) → is_lt (first_differs x y o) ≡ false → (y < x) ⊎ ((y ≡ x) × (is_lt o ≡ false))
 differs x y o h = by_test x y o (nat_lt x y) (nat_lt y x) refl refl h
 
 to_test : (x y : ℕ) (o : Ordering) (b c : Bool) → nat_lt x y ≡ b → nat_lt y x ≡ c → ((y < x) ⊎ ((y ≡ x) × (is_lt o ≡ false))) → is_lt (if b then Less else (if c then Greater else o)) ≡ false
@@ -99,15 +99,18 @@ before o m n = is_lt (order (span o m) (span o n))
 true_not_false : {b : Bool} → b ≡ true → b ≡ false → ⊥
 true_not_false e f = let g : true ≡ false = sym e ∙ f in cc
 
-pub weak_order : (o : List ℕ) → IsStrictWeakOrder (before o)
-weak_order o = record {
-  one_way = λ x y h. elim (at_most_or (span o x) (span o y)) [
-    | inl l ↦ from_at_most (span o x) (span o y) l
-    | inr r ↦ absurd (true_not_false h (from_at_most (span o y) (span o x) r))
+pub weak_order_by : {X : Type 0} (f : X → List ℕ) → IsStrictWeakOrder (λ x y. is_lt (order (f x) (f y)))
+weak_order_by f = record {
+  one_way = λ x y h. elim (at_most_or (f x) (f y)) [
+    | inl l ↦ from_at_most (f x) (f y) l
+    | inr r ↦ absurd (true_not_false h (from_at_most (f y) (f x) r))
   ];
-  chain = λ x y z h k. from_at_most (span o z) (span o x)
-      (at_most_both (span o z) (span o y) (span o x) (at_most (span o z) (span o y) k) (at_most (span o y) (span o x) h));
+  chain = λ x y z h k. from_at_most (f z) (f x)
+      (at_most_both (f z) (f y) (f x) (at_most (f z) (f y) k) (at_most (f y) (f x) h));
 }
+
+pub weak_order : (o : List ℕ) → IsStrictWeakOrder (before o)
+weak_order o = weak_order_by (span o)
 
 pub ascending_from : (o : List ℕ) (ms : List Member) → IsSortedBy (before o) ms → Ascending AtMost (encodings_of (map (placed_of o) ms))
 ascending_from o [] h = ascending_none

@@ -56,6 +56,54 @@ pub(crate) fn push_two(out: &mut Vec<u8>, first: u8, second: u8) -> Result<(), A
     Ok(())
 }
 
+/// Adds three octets. `AllocError` only if an allocation fails.
+#[inline(always)]
+fn push_three(out: &mut Vec<u8>, first: u8, second: u8, third: u8) -> Result<(), AllocError>
+    ensures { OnOk result (out.new.items ≡ out.old.items ++ first ∷ second ∷ third ∷ []) }
+{
+    push_two(out, first, second)?;
+    push_one(out, third)?;
+    Ok(())
+}
+
+/// Adds four octets. `AllocError` only if an allocation fails.
+#[inline(always)]
+fn push_four(
+    out: &mut Vec<u8>,
+    first: u8,
+    second: u8,
+    third: u8,
+    fourth: u8,
+) -> Result<(), AllocError>
+    ensures { OnOk result (out.new.items ≡ out.old.items ++ first ∷ second ∷ third ∷ fourth ∷ []) }
+{
+    push_two(out, first, second)?;
+    push_two(out, third, fourth)?;
+    Ok(())
+}
+
+/// Adds one octet. `AllocError` only if an allocation fails.
+#[inline(always)]
+fn push_one(out: &mut Vec<u8>, octet: u8) -> Result<(), AllocError>
+    ensures { OnOk result (out.new.items ≡ out.old.items ++ octet ∷ []) }
+{
+    out.push(octet)?;
+    Ok(())
+}
+
+/// Adds one to four contents octets. `AllocError` only if an allocation fails.
+#[inline(always)]
+fn push_few(out: &mut Vec<u8>, octets: ShortContents) -> Result<(), AllocError>
+    ensures { OnOk result (out.new.items ≡ out.old.items ++ short_octets octets) }
+{
+    match octets {
+        ShortContents::One(a) => push_one(out, a),
+        ShortContents::Two(a, b) => push_two(out, a, b),
+        ShortContents::Three(a, b, c) => push_three(out, a, b, c),
+        ShortContents::Four(a, b, c, d) => push_four(out, a, b, c, d),
+    }
+}
+
 /// Adds two octets of a header and one to four contents octets. `AllocError` only if an allocation fails.
 #[inline(always)]
 pub(crate) fn push_short(
@@ -66,12 +114,9 @@ pub(crate) fn push_short(
 ) -> Result<(), AllocError>
     ensures { OnOk result (out.new.items ≡ out.old.items ++ first ∷ second ∷ short_octets octets) }
 {
-    match octets {
-        ShortContents::One(a) => out.extend_from_slice(&[first, second, a]),
-        ShortContents::Two(a, b) => out.extend_from_slice(&[first, second, a, b]),
-        ShortContents::Three(a, b, c) => out.extend_from_slice(&[first, second, a, b, c]),
-        ShortContents::Four(a, b, c, d) => out.extend_from_slice(&[first, second, a, b, c, d]),
-    }
+    push_two(out, first, second)?;
+    push_few(out, octets)?;
+    Ok(())
 }
 
 /// Adds the identifier octets of a tag, and one octet that is held open for the length. The result is the place of that

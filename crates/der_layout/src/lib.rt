@@ -14,6 +14,7 @@ mod sort;
 mod spans;
 mod steps;
 mod table;
+mod word;
 
 pub use encoding::{Encoded, encode};
 pub use fault::EncodeFault;

@@ -4,7 +4,7 @@ ghost use Rattle.std.specs.Prelude.{◌≡◌, [], IfOk, map, set};
 ghost use Rattle.der_layout.specs.Rows.{numbers_in, places_by, listed};
 
 use crate::rows::small;
-use crate::table::Member;
+use crate::table::{Member, with_room};
 use std::alloc::{AllocError, Global};
 
 /// The places of members. `places` has the place of each member, in the order of definition or of the value. `inverse`
@@ -33,7 +33,7 @@ impl Arrangement {
 fn inverse_of(alloc: Global, members: &[Member]) -> Result<Vec<u32>, AllocError>
     ensures { IfOk result (λ q. q.items ≡ map listed (numbers_in members.now)) }
 {
-    let mut inverse = Vec::new(alloc);
+    let mut inverse = with_room(alloc, members.len());
     for place in 0..members.len() {
         inverse.push(small(members[place].number))?;
     }

@@ -20,7 +20,7 @@ fn first_of(octets: &[u8], count: usize) -> &[u8]
 
 /// The octets without the first ones.
 #[inline(always)]
-fn rest_of(octets: &[u8], count: usize) -> &[u8]
+pub(crate) fn rest_of(octets: &[u8], count: usize) -> &[u8]
     ensures { result.now ≡ drop count octets.now }
 {
     if count < octets.len() {
@@ -31,6 +31,7 @@ fn rest_of(octets: &[u8], count: usize) -> &[u8]
 }
 
 /// The octets of a member.
+#[inline(always)]
 pub(crate) fn octets_of<'o>(octets: &'o [u8], member: &Member) -> &'o [u8]
     ensures { result.now ≡ span octets.now member.now }
 {

@@ -319,7 +319,7 @@ fn end_set_of(table: &mut Table) -> Result<Arrangement, AllocError>
         Some(group) => {
             let mut members = group.members;
             let octets = table.octets.as_slice();
-            sort_by_octets(octets, &mut members)?;
+            sort_by_octets(table.alloc, octets, &mut members)?;
             let sorted = members.as_slice();
             let arrangement = arrangement_of(table.alloc, sorted)?;
             put_members(

@@ -2,7 +2,7 @@ use Rattle.std.proofs.Common.{rules, ◌≡◌}
 use Rattle.std.specs.Ordering.{is_lt}
 use Rattle.std.proofs.lemmas.Fn.{always_returns_same}
 use Rattle.der_layout.proofs.Ordered.{before, weak_order, ascending_from}
-use Rattle.der_layout.proofs.sort.sort_by_octets.Goals as goal
+use Rattle.der_layout.proofs.sort.sort_few.Goals as goal
 
 pub returns : goal.returns
 returns c =
