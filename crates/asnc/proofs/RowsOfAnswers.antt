@@ -138,10 +138,10 @@ module _ (s : List Resolved) (r : Rules) (t : ℕ) (o : List ℕ) where
 
     view_alone : (w : AbstractValue) (j : ℕ)
         → Encodes s Basic t w j o
-        → (w ≡ value_of h.reading.tree) × (j ≡ x.skipped)
+        → (w ≡ value_of x.view) × (j ≡ x.skipped)
     view_alone = h.only
 
-    view_by_rules : EncodesTo s r t (value_of h.reading.tree) x.skipped o
+    view_by_rules : EncodesTo s r t (value_of x.view) x.skipped o
     view_by_rules = h.by_rules
 
   module _ (e : ReadFault) (h : IsReadFault s r t o e) where

@@ -34,11 +34,11 @@ refused_too p s name o t u (Some v) q n j = refl
 refused_too p s name o t u None q n j =
     let b = j.1 in
     let i = b.reading in
-    let m : IsReadAs p s Basic name o (print s t (value_of i.tree)) j.0.skipped = record {
+    let m : IsReadAs p s Basic name o (print s t (value_of j.0.view)) j.0.skipped = record {
       type = t;
       named = n;
       read = record {
-        value = value_of i.tree;
+        value = value_of j.0.view;
         encodes = i.encodes;
         few = i.few;
         short = i.short;
@@ -47,5 +47,5 @@ refused_too p s name o t u None q n j =
         text = refl;
       };
     } in
-    let e : faults.DecodeError u ≡ faults.Memory = read p s Basic name o (print s t (value_of i.tree)) j.0.skipped (faults.DecodeError u) m q in
+    let e : faults.DecodeError u ≡ faults.Memory = read p s Basic name o (print s t (value_of j.0.view)) j.0.skipped (faults.DecodeError u) m q in
     cc

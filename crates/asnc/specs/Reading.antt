@@ -43,8 +43,8 @@ pub record IsRead (s : List Resolved) (r : Rules) (t : ℕ) (o printed : List �
 -- the same for a view of the value, with the number of additions that were skipped
 pub record IsReadBy (s : List Resolved) (r : Rules) (t : ℕ) (o : List ℕ) (x : Read) : Type 0 where
   pub reading : IsReading s t o x
-  pub only : (w : AbstractValue) (j : ℕ) → Encodes s Basic t w j o → (w ≡ value_of reading.tree) × (j ≡ x.skipped)
-  pub by_rules : EncodesTo s r t (value_of reading.tree) x.skipped o
+  pub only : (w : AbstractValue) (j : ℕ) → Encodes s Basic t w j o → (w ≡ value_of x.view) × (j ≡ x.skipped)
+  pub by_rules : EncodesTo s r t (value_of x.view) x.skipped o
 
 -- the text names a type, and a value of this type is read and printed
 pub record IsReadAs (p : Program) (s : List Resolved) (r : Rules) (name o printed : List ℕ) (k : ℕ) : Type 0 where

@@ -16,8 +16,7 @@ ghost use Rattle.packed_writer.specs.Message.{IsMessage, IsTooLong};
 ghost use Rattle.packed_writer.specs.declared.fault.WriteFault.TheVariants.{NotOfType as not_packed};
 ghost use Rattle.packed_writer.specs.declared.fault.WriteFault.TheVariants.{TooLong as too_many_bits};
 ghost use Rattle.value_text.specs.Print.{print};
-ghost use Rattle.views.specs.Seen.{IsView};
-ghost use Rattle.views.specs.Tree.{Tree, value_of};
+ghost use Rattle.views.specs.Tree.{value_of};
 ghost use Rattle.resolve.specs.Program.{Program};
 ghost use Rattle.judging.specs.front_end.Accepted.{Accepted, AreAccepted, HasTypes, octets_of};
 ghost use Rattle.judging.specs.front_end.Faults.{IsRightFault};
@@ -568,12 +567,10 @@ impl Kit {
         id: TypeId,
         view: &View<'_>,
     ) -> Result<String, value_text::Fault>
-        requires tree { (t : Tree) × IsView view.now t }
         // A value of the type is printed, and nothing else.
-        ensures value { (t : Tree) → IsView view.now t
-            → IfOk result (λ s. IsValue self.now.types id.index (value_of t)) }
-        ensures text { (t : Tree) → IsView view.now t
-            → IfOk result (λ s. string_bytes s ≡ print self.now.types id.index (value_of t)) }
+        ensures value { IfOk result (λ s. IsValue self.now.types id.index (value_of view.now)) }
+        ensures text { IfOk result (λ s.
+            string_bytes s ≡ print self.now.types id.index (value_of view.now)) }
     {
         print_view(alloc, &self.schema, id, view)
     }

@@ -8,8 +8,6 @@ ghost use Rattle.decode_faults.specs.declared.read_fault.ReadFault.TheVariants.{
 ghost use Rattle.encodings.specs.Encoding.{EncodesTo};
 ghost use Rattle.encodings.specs.Reading.{Encodes};
 ghost use Rattle.encodings.specs.Rules.{Rules as Rules', Basic, Distinguished};
-ghost use Rattle.views.specs.Seen.{IsView};
-ghost use Rattle.views.specs.Tree.{Tree, value_of};
 ghost use Rattle.asnc.specs.ErrorSites.{IsErrorSite};
 ghost use Rattle.asnc.specs.Reading.{IsNotRead, IsNotReadAs, IsRead, IsReadAs, IsReadBy, IsReadFault, rules_of};
 

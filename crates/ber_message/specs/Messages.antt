@@ -19,8 +19,9 @@ use Rattle.octet_answers.specs.Answers.{Takes}
 use Rattle.octet_answers.specs.Unanswered.{Leaves}
 use Rattle.octet_answers.specs.States.{State, Token, front}
 use Rattle.laws_reading.specs.TokensShow.{TokensShow, skipped_in, AreSlicesOf}
-use Rattle.ber_views.specs.ViewSink.{IsBuiltOf}
+use Rattle.ber_views.specs.Shown.{leaves_of, AreShown}
 use Rattle.ber_views.specs.declared.view_sink.Built.{Built}
+use Rattle.views.specs.Tree.{value_of, IsBorrowed}
 
 -- The octets encode exactly a value of the type by the basic rules, with `count` unknown additions. They are at most
 -- 16,777,216, with at most 400 levels of headers. The tokens show the value, and as many skipped additions. The
@@ -46,13 +47,17 @@ pub record IsRead (s : List Resolved) (t : TypeId) (o : Octets) : Type 0 where
   pub reads : Reads (λ u. routine_at s u) Takes t (front s o (budget_of (length o))) last
   pub at_end : last.here.octets ≡ []
 
--- The view of a value, built of the tokens that the type's routine reads of a message to its end, with the number of
--- additions that were skipped. The routine reads the message in exactly one way.
+-- The view of a message's value, with the number of additions that were skipped. The type's routine reads the message
+-- to its end, in exactly one way. What the view shows with an offset is in the message at that offset. For each token
+-- with contents octets, in order, the view shows these octets.
 pub record IsViewed (s : List Resolved) (t : TypeNumber) (o : Octets) (b : Built) : Type 0 where
   pub read : IsRead s (id_of t) o
   pub one : (other : IsRead s (id_of t) o) → other.last ≡ read.last
   pub message : IsMessage s t o read.last.emitted
-  pub built : IsBuiltOf s read.last.emitted b
+  pub value : value_of b.view ≡ message.value
+  pub skipped : b.skipped ≡ message.count
+  pub borrowed : IsBorrowed o b.view
+  pub shown : AreShown read.last.emitted (leaves_of b.view)
 
 -- the octets start with an encoding of a value, and may go on
 pub record HasMessageFirst (s : List Resolved) (t : TypeNumber) (o : Octets) : Type 0 where

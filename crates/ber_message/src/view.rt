@@ -2,13 +2,14 @@
 
 ghost use Rattle.asn_base.specs.Abstract.{AbstractValue};
 ghost use Rattle.ber_message.specs.Messages.{BeginsEncoding, EndsTooSoon, HasEncodingFirst, HasMessageFirst, IsEncoding, IsRead, IsViewed, Refuses};
-ghost use Rattle.ber_views.specs.ViewSink.{IsBuiltOf};
+ghost use Rattle.ber_views.specs.ViewSink.{GiveTree, IsBuiltOf};
 ghost use Rattle.decode_faults.specs.declared.read_fault.ReadFault.TheVariants.{Memory, MessageLimit, Missing};
 ghost use Rattle.decode_faults.specs.declared.read_fault.ReadFault.TheVariants.{NotDer, OutsideConstraint, Trailing};
 ghost use Rattle.decode_faults.specs.declared.read_fault.ReadFault.TheVariants.{Truncated};
 ghost use Rattle.encodings.specs.Encoding.{EncodesTo};
 ghost use Rattle.encodings.specs.Rules.{Basic};
 ghost use Rattle.std.specs.Prelude.{◌≡◌, ◌<◌, ◌⊎◌, Err, IfErr, IfOk, length, ℕ};
+ghost use Rattle.views.specs.Tree.{value_of};
 
 use crate::message::{are_octets, ends_early};
 use asn_base::schema::TypeId;
@@ -35,10 +36,9 @@ pub fn read_view<'a>(
 ) -> Result<Built<'a>, ReadFault>
     ensures ok { IfOk result (λ b. IsViewed code.now id.index octets.now b) }
     // The octets exactly encode no other value, and have no other number of unknown additions.
-    ensures only { IfOk result (λ b. (v : IsViewed code.now id.index octets.now b)
-        → (w : AbstractValue) (k : ℕ)
+    ensures only { IfOk result (λ b. (w : AbstractValue) (k : ℕ)
         → EncodesTo code.now Basic id.index w k octets.now
-        → (w ≡ v.message.value) × (k ≡ v.message.count)) }
+        → (w ≡ value_of b.view) × (k ≡ b.skipped)) }
     ensures limit { 16777216 < length octets.now → result ≡ Err MessageLimit }
     ensures long { result ≡ Err MessageLimit → 16777216 < length octets.now }
     ensures trailing { result ≡ Err Trailing → HasMessageFirst code.now id.index octets.now }
@@ -90,6 +90,7 @@ pub fn read_view<'a>(
 
 /// What was read, as a view.
 fn finished<'a>(viewer: Viewer<'_, 'a>) -> Result<Built<'a>, ReadFault>
+    requires { GiveTree viewer.schema viewer.emitted }
     ensures ok { IfOk result (λ b. IsBuiltOf viewer.entry.schema viewer.entry.emitted b) }
     ensures err { IfErr result (λ e. e ≡ Memory) }
 {

@@ -1,9 +1,6 @@
-pub mod Shapes
 pub mod Rows
-pub mod Built
 pub mod Reading
 pub mod Strictly
-pub mod OneTree
 pub mod Stepping
 pub mod Judging
 pub mod Leading

@@ -16,8 +16,7 @@ use Rattle.asn_base.specs.declared.schema.TypeId.{TypeId}
 use Rattle.ber_message.specs.Messages.{IsMessage, IsRead, EncodesNoValue}
 use Rattle.ber_message.specs.Stops.{IsStop, IsStopBefore}
 use Rattle.ber_message.specs.declared.stop.ErrorPosition.{ErrorPosition}
-use Rattle.views.specs.Tree.{Tree, value_of, IsBorrowed}
-use Rattle.views.specs.Seen.{IsView}
+use Rattle.views.specs.Tree.{value_of, IsBorrowed}
 use Rattle.ber_reader.specs.declared.read.Read.{Read}
 use Rattle.ber_reader.specs.Judged.{IsJudged}
 use Rattle.ber_reader.proofs.Rows.{found_below}
@@ -27,17 +26,16 @@ record SaidWithin (s : List Resolved) (t : ℕ) (w : AbstractValue) (k : ℕ) (o
   is_encoded : EncodesTo s Basic t w k o
   few : levels is_encoded ≤ 400
 
-pub reading_of : {s : List Resolved} {t : ℕ} {o : List ℕ} {ts : List Token} (r : Read) (m : IsMessage s t o ts) (tree : Tree)
-    → IsView r.view tree
-    → IsBorrowed o tree
-    → IsShown s t o tree
-    → value_of tree ≡ m.value
+pub reading_of : {s : List Resolved} {t : ℕ} {o : List ℕ} {ts : List Token} (r : Read) (m : IsMessage s t o ts)
+    → IsBorrowed o r.view
+    → IsShown s t o r.view
+    → value_of r.view ≡ m.value
     → r.skipped ≡ m.count
-    → IsValueWithoutNodes s t (value_of tree)
+    → IsValueWithoutNodes s t (value_of r.view)
     → IsReading s t o r
-reading_of {s} {t} {o} r m tree v b h e k w =
-    let d : SaidWithin s t (value_of tree) r.skipped o = subst (λ q. SaidWithin s t (value_of tree) q o) (sym k) (subst (λ q. SaidWithin s t q m.count o) (sym e) (record { is_encoded = m.is_encoded; few = m.few })) in
-    record { tree = tree; view = v; encodes = record { value = w; says_it = d.is_encoded }; few = d.few; short = m.short; borrowed = b; shown = h }
+reading_of {s} {t} {o} r m b h e k w =
+    let d : SaidWithin s t (value_of r.view) r.skipped o = subst (λ q. SaidWithin s t (value_of r.view) q o) (sym k) (subst (λ q. SaidWithin s t q m.count o) (sym e) (record { is_encoded = m.is_encoded; few = m.few })) in
+    record { encodes = record { value = w; says_it = d.is_encoded }; few = d.few; short = m.short; borrowed = b; shown = h }
 
 -- a test that holds
 pub holds : {P : Type 0} (b : Bool) → b ≡ true → IsTrue b ↔ P → P

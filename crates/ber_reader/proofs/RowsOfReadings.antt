@@ -24,16 +24,12 @@ use Rattle.encodings.specs.Levels.{levels}
 use Rattle.encodings.specs.Reading.{Encodes}
 use Rattle.encodings.specs.Rules.{Basic, Distinguished}
 use Rattle.octet_answers.specs.States.{Token}
-use Rattle.views.specs.Seen.{IsView}
-use Rattle.views.specs.Tree.{IsBorrowed, Tree, value_of}
+use Rattle.views.specs.Tree.{IsBorrowed, value_of}
 
 -- ---- what is read
 
 module _ (s : List Resolved) (t : ℕ) (o : List ℕ) (r : Read) (h : IsReading s t o r) where
-  reading_view : IsView r.view h.tree
-  reading_view = h.view
-
-  reading_octets : Encodes s Basic t (value_of h.tree) r.skipped o
+  reading_octets : Encodes s Basic t (value_of r.view) r.skipped o
   reading_octets = h.encodes
 
   reading_few : levels h.encodes.says_it ≤ 400
@@ -42,7 +38,7 @@ module _ (s : List Resolved) (t : ℕ) (o : List ℕ) (r : Read) (h : IsReading 
   reading_short : length o ≤ 16777216
   reading_short = h.short
 
-  reading_borrowed : IsBorrowed o h.tree
+  reading_borrowed : IsBorrowed o r.view
   reading_borrowed = h.borrowed
 
   reading_routine : IsRead s (id_of t) o
@@ -51,14 +47,14 @@ module _ (s : List Resolved) (t : ℕ) (o : List ℕ) (r : Read) (h : IsReading 
   reading_alone : (other : IsRead s (id_of t) o) → other.last ≡ h.shown.read.last
   reading_alone = h.shown.one
 
-  reading_as_held : AreShown h.shown.read.last.emitted (leaves_of h.tree)
+  reading_as_held : AreShown h.shown.read.last.emitted (leaves_of r.view)
   reading_as_held = h.shown.as_held
 
 module _ (s : List Resolved) (t : ℕ) (o : List ℕ) (r : Read) (h : IsStrictReading s t o r) where
   strict_reading : IsReading s t o r
   strict_reading = h.reading
 
-  strict_octets : EncodesTo s Distinguished t (value_of h.reading.tree) r.skipped o
+  strict_octets : EncodesTo s Distinguished t (value_of r.view) r.skipped o
   strict_octets = h.strict
 
 -- ---- where octets are refused

@@ -17,7 +17,6 @@ use Rattle.ber_message.specs.Paths.{begun_in}
 use Rattle.ber_message.specs.declared.stop.ErrorPosition.{ErrorPosition}
 use Rattle.octet_answers.specs.States.{Token}
 use Rattle.views.specs.Tree.{Tree, value_of, IsBorrowed}
-use Rattle.views.specs.Seen.{IsView}
 use Rattle.ber_reader.specs.Judged.{IsJudged, IsPathToWrong, piece}
 use Rattle.ber_reader.specs.declared.read.Read.{Read}
 
@@ -34,18 +33,16 @@ pub record IsShown (s : List Resolved) (t : TypeNumber) (o : Octets) (tree : Tre
 -- skipped. They are at most 16,777,216, with at most 400 levels of headers. What the view shows with an offset is in
 -- the message at that offset; these are all strings that are primitive there.
 pub record IsReading (s : List Resolved) (t : TypeNumber) (o : Octets) (r : Read) : Type 0 where
-  pub tree : Tree
-  pub view : IsView r.view tree
-  pub encodes : Encodes s Basic t (value_of tree) r.skipped o
+  pub encodes : Encodes s Basic t (value_of r.view) r.skipped o
   pub few : levels encodes.says_it ≤ 400
   pub short : length o ≤ 16777216
-  pub borrowed : IsBorrowed o tree
-  pub shown : IsShown s t o tree
+  pub borrowed : IsBorrowed o r.view
+  pub shown : IsShown s t o r.view
 
 -- such a view, of octets that encode exactly the value by the distinguished rules
 pub record IsStrictReading (s : List Resolved) (t : TypeNumber) (o : Octets) (r : Read) : Type 0 where
   pub reading : IsReading s t o r
-  pub strict : EncodesTo s Distinguished t (value_of reading.tree) r.skipped o
+  pub strict : EncodesTo s Distinguished t (value_of r.view) r.skipped o
 
 -- The octet of a fault of a message. It is where reading stops. If the type's routine reads the octets to their end, it
 -- is the header of a part of a value, and that part is being read there.

@@ -10,8 +10,7 @@ ghost use Rattle.encodings.specs.Encoding.{EncodesTo};
 ghost use Rattle.encodings.specs.Reading.{Encodes};
 ghost use Rattle.encodings.specs.Rules.{Basic, Distinguished};
 ghost use Rattle.std.specs.Prelude.{◌≡◌, ◌<◌, ◌⊎◌, Err, IfErr, IfOk, length, MatchResult, ℕ};
-ghost use Rattle.views.specs.Seen.{IsView};
-ghost use Rattle.views.specs.Tree.{Tree, value_of};
+ghost use Rattle.views.specs.Tree.{value_of};
 
 use crate::read::{Read, read_ber};
 use asn_base::schema::TypeId;
@@ -35,10 +34,9 @@ pub fn read_der<'a>(
 ) -> Result<Read<'a>, ReadFault>
     ensures ok { IfOk result (λ r. IsStrictReading code.now id.index octets.now r) }
     // The octets exactly encode no other value, and have no other number of unknown additions.
-    ensures only { IfOk result (λ r. (t : Tree) (w : AbstractValue) (k : ℕ)
-        → IsView r.view t
+    ensures only { IfOk result (λ r. (w : AbstractValue) (k : ℕ)
         → Encodes code.now Basic id.index w k octets.now
-        → (w ≡ value_of t) × (k ≡ r.skipped)) }
+        → (w ≡ value_of r.view) × (k ≡ r.skipped)) }
     ensures limit { 16777216 < length octets.now → result ≡ Err MessageLimit }
     ensures long { result ≡ Err MessageLimit → 16777216 < length octets.now }
     ensures trailing { result ≡ Err Trailing → HasMessageFirst code.now id.index octets.now }

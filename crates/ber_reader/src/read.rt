@@ -11,8 +11,7 @@ ghost use Rattle.decode_faults.specs.declared.read_fault.ReadFault.TheVariants.{
 ghost use Rattle.encodings.specs.Reading.{Encodes};
 ghost use Rattle.encodings.specs.Rules.{Basic};
 ghost use Rattle.std.specs.Prelude.{◌≡◌, ◌<◌, ◌⊎◌, Err, IfErr, IfOk, length, MatchResult, OnOk, ℕ};
-ghost use Rattle.views.specs.Seen.{IsView};
-ghost use Rattle.views.specs.Tree.{Tree, value_of};
+ghost use Rattle.views.specs.Tree.{value_of};
 
 use crate::wrong::fault_of;
 use asn_base::schema::TypeId;
@@ -48,10 +47,9 @@ pub fn read_ber<'a>(
 ) -> Result<Read<'a>, ReadFault>
     ensures ok { IfOk result (λ r. IsReading code.now id.index octets.now r) }
     // The octets exactly encode no other value, and have no other number of unknown additions.
-    ensures only { IfOk result (λ r. (t : Tree) (w : AbstractValue) (k : ℕ)
-        → IsView r.view t
+    ensures only { IfOk result (λ r. (w : AbstractValue) (k : ℕ)
         → Encodes code.now Basic id.index w k octets.now
-        → (w ≡ value_of t) × (k ≡ r.skipped)) }
+        → (w ≡ value_of r.view) × (k ≡ r.skipped)) }
     ensures limit { 16777216 < length octets.now → result ≡ Err MessageLimit }
     ensures long { result ≡ Err MessageLimit → 16777216 < length octets.now }
     ensures trailing { result ≡ Err Trailing → HasMessageFirst code.now id.index octets.now }
@@ -93,19 +91,11 @@ pub fn read_ber<'a>(
 /// Judges whether the value that a view shows is one of the type. The value is copied only if the view alone doesn't
 /// show that it is one.
 fn judge(alloc: Global, code: &Code, id: TypeId, view: &View<'_>) -> Result<(), ReadFault>
-    requires { (t : Tree) × IsView view.now t }
-    ensures ok { OnOk result ((t : Tree)
-        → IsView view.now t
-        → IsValueWithoutNodes code.now id.index (value_of t)) }
+    ensures ok { OnOk result (IsValueWithoutNodes code.now id.index (value_of view.now)) }
     ensures err { IfErr result (λ e. (e ≡ Memory → ⊥)
-        → (t : Tree)
-        → IsView view.now t
-        → IsValue code.now id.index (value_of t)
+        → IsValue code.now id.index (value_of view.now)
         → ⊥) }
-    ensures judged { IfErr result (λ e. (e ≡ Memory → ⊥)
-        → (t : Tree)
-        → IsView view.now t
-        → IsJudged code.now id.index (value_of t) e) }
+    ensures judged { IfErr result (λ e. (e ≡ Memory → ⊥) → IsJudged code.now id.index (value_of view.now) e) }
     ensures limit { result ≡ Err MessageLimit → ⊥ }
     ensures trailing { result ≡ Err Trailing → ⊥ }
 {

@@ -4,8 +4,7 @@ use Rattle.asn_base.specs.Abstract.{AbstractValue}
 use Rattle.asn_base.specs.Types.{Resolved}
 use Rattle.octet_answers.specs.States.{Token}
 use Rattle.views.specs.Building.{begun}
-use Rattle.views.specs.Seen.{IsView}
-use Rattle.views.specs.Tree.{Tree, value_of, IsBorrowed}
+use Rattle.views.specs.Tree.{value_of, IsBorrowed}
 use Rattle.ber_views.specs.declared.build.Build.{Build}
 use Rattle.ber_views.specs.declared.view_sink.Built.{Built}
 use Rattle.ber_views.specs.declared.view_sink.ViewSink.{ViewSink}
@@ -26,9 +25,15 @@ pub record IsViewSink (t : ViewSink) (s : List Resolved) : Type 0 where
   pub builds : t.failed ≡ false → IsFaithful s (logged t.log) t.build
   pub counts : t.failed ≡ false → length t.skipped.items ≡ passes (logged t.log)
 
+-- the tokens give the tree of some value
+pub record GiveTree (s : List Resolved) (emitted : List Token) : Type 0 where
+  pub reading : Reading
+  pub value : AbstractValue
+  pub wants : Wants s reading value emitted 0 false begun
+
 -- The view of the value whose tree the tokens give, and the number of additions that were skipped.
 pub record IsBuiltOf (s : List Resolved) (emitted : List Token) (b : Built) : Type 0 where
   pub view : (m : Reading) (w : AbstractValue)
       → Wants s m w emitted 0 false begun
-      → (t : Tree) × IsView b.view t × (value_of t ≡ w) × IsBorrowed m.message t × AreShown m.tokens (leaves_of t)
+      → (value_of b.view ≡ w) × IsBorrowed m.message b.view × AreShown m.tokens (leaves_of b.view)
   pub counts : b.skipped ≡ passes emitted

@@ -4,7 +4,7 @@ ghost use Rattle.asn_base.specs.Types.{Resolved};
 ghost use Rattle.ber_source.specs.PrimitiveValue.{IsValueOfToken};
 ghost use Rattle.ber_source.specs.Seen.{value_token, as_token, token_of};
 ghost use Rattle.ber_views.specs.Log.{logged, passes};
-ghost use Rattle.ber_views.specs.ViewSink.{IsBuiltOf, IsViewSink};
+ghost use Rattle.ber_views.specs.ViewSink.{GiveTree, IsBuiltOf, IsViewSink};
 ghost use Rattle.std.specs.Prelude.{◌≡◌, ◌+◌, ◌++◌, ◌∷◌, [], IfOk, length, List, OnOk};
 
 use crate::build::{Build, hold, nothing, take};
@@ -51,6 +51,7 @@ impl<'c, 'a> ViewSink<'c, 'a> {
     /// Returns the view of the value whose tree the received tokens give, and the number of skipped additions.
     /// `AllocError`: an allocation failed while tokens were received.
     pub fn finish(self) -> Result<Built<'a>, AllocError>
+        requires { (s : List Resolved) × IsViewSink self s × GiveTree s (logged self.log) }
         ensures { (s : List Resolved)
             → IsViewSink self.entry s
             → IfOk result (IsBuiltOf s (logged self.entry.log)) }

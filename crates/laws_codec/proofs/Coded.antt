@@ -16,8 +16,6 @@ use Rattle.encodings.specs.Reading.{Encodes}
 use Rattle.encodings.specs.Rules.{Basic, Distinguished}
 use Rattle.packed_encodings.specs.Packing.{Reads}
 use Rattle.packed_reader.specs.declared.fault.PerFault.{PerFault}
-use Rattle.views.specs.Seen.{IsView}
-use Rattle.views.specs.Tree.{Tree}
 use Rattle.laws_codec.specs.Calls.{IsBerResult, IsDerResult, IsOnly, IsUperResult}
 use Rattle.laws_codec.specs.Headline.{GivesBack, IsBerMessage, IsReadAs, Unpacks}
 use Rattle.encodings.specs.proving.Weaker.{basic_of}
@@ -44,14 +42,11 @@ readable m = record {
 read_as : {s : List Resolved} {t : ℕ} {v w : AbstractValue} {o : List ℕ} (r : Read)
     → Same s t v w
     → Encodes s Basic t w 0 o
-    → (tree : Tree)
-    → IsView r.view tree
     → IsOnly s t o r
     → IsReadAs s t v r
-read_as {s} {t} {v} {w} {o} r m e tree seen only = record {
-  shows = (tree, seen);
-  same = λ u h. subst (Same s t v) (only u w 0 h e).0 m;
-  none_skipped = sym (only tree w 0 seen e).1;
+read_as {s} {t} {v} {w} {o} r m e only = record {
+  same = subst (Same s t v) (only w 0 e).0 m;
+  none_skipped = sym (only w 0 e).1;
 }
 
 pub gives_back : {s : List Resolved} {t : ℕ} {v : AbstractValue} {o : List ℕ} (x : Result Read ReadFault)
@@ -59,7 +54,7 @@ pub gives_back : {s : List Resolved} {t : ℕ} {v : AbstractValue} {o : List ℕ
     → IsBerResult s t o x
     → GivesBack s t v x
 gives_back (Ok r) m c =
-    read_as r m.ber.1 (record { value = m.ber.1.second; says_it = m.ber.2 }) c.ok.tree c.ok.view c.only
+    read_as r m.ber.1 (record { value = m.ber.1.second; says_it = m.ber.2 }) c.only
 gives_back (Err e) m c = c.read (readable m)
 
 -- octets that encode a value by the distinguished rules encode it by the basic ones
@@ -80,9 +75,7 @@ strict_back : {s : List Resolved} {t : ℕ} {v : AbstractValue} {o : List ℕ} (
     → IsDerResult s t o x
     → GivesBack s t v x
 unfolding readable
-strict_back (Ok r) m d c =
-    let i = c.ok.reading in
-    read_as r m.ber.1 (record { value = m.ber.1.second; says_it = m.ber.2 }) i.tree i.view c.only
+strict_back (Ok r) m d c = read_as r m.ber.1 (record { value = m.ber.1.second; says_it = m.ber.2 }) c.only
 strict_back (Err e) m d c = c.read (readable m) d
 
 pub gives_back_strictly : {s : List Resolved} {t : ℕ} {v : AbstractValue} {o : List ℕ} (x : Result Read ReadFault)

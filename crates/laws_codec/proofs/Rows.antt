@@ -27,8 +27,7 @@ use Rattle.packed_encodings.specs.Padding.{Padded}
 use Rattle.packed_reader.specs.declared.fault.PerFault.{PerFault}
 use Rattle.packed_reader.specs.declared.fault.PerFault.TheVariants as per
 use Rattle.packed_writer.specs.Message.{IsMessage}
-use Rattle.views.specs.Seen.{IsView}
-use Rattle.views.specs.Tree.{Tree, value_of}
+use Rattle.views.specs.Tree.{value_of}
 use Rattle.laws_codec.specs.Calls.{IsBerResult, IsDerResult, IsUperResult, IsWritten}
 use Rattle.laws_codec.specs.Headline.{IsBerMessage, IsCoded}
 
@@ -77,15 +76,11 @@ module _ (s : List Resolved) (t : ℕ) (v : AbstractValue) (h : IsCoded s t v) w
     message = record { ber = b; few = few; short = short }
 
     module _ (r : Read) (ok : IsReading s t o r)
-        (only : (tree : Tree) (w : AbstractValue) (k : ℕ) → IsView r.view tree → Encodes s Basic t w k o
-        → (w ≡ value_of tree) × (k ≡ r.skipped)) where
+        (only : (w : AbstractValue) (k : ℕ) → Encodes s Basic t w k o → (w ≡ value_of r.view) × (k ≡ r.skipped)) where
       read_result : IsBerResult s t o (Ok r)
       read_result = record { ok = ok; only = only; read = λ i. tt }
 
-      read_shows : (tree : Tree) × IsView r.view tree
-      read_shows = (h.read o (Ok r) message read_result).shows
-
-      read_same : (tree : Tree) → IsView r.view tree → Same s t v (value_of tree)
+      read_same : Same s t v (value_of r.view)
       read_same = (h.read o (Ok r) message read_result).same
 
       read_count : r.skipped ≡ 0
@@ -96,15 +91,11 @@ module _ (s : List Resolved) (t : ℕ) (v : AbstractValue) (h : IsCoded s t v) w
 
   module _ (o : List ℕ) (d : Der s t v 0 o) (short : length o ≤ 16777216) where
     module _ (r : Read) (ok : IsStrictReading s t o r)
-        (only : (tree : Tree) (w : AbstractValue) (k : ℕ) → IsView r.view tree → Encodes s Basic t w k o
-        → (w ≡ value_of tree) × (k ≡ r.skipped)) where
+        (only : (w : AbstractValue) (k : ℕ) → Encodes s Basic t w k o → (w ≡ value_of r.view) × (k ≡ r.skipped)) where
       strict_result : IsDerResult s t o (Ok r)
       strict_result = record { ok = ok; only = only; read = λ i q. tt }
 
-      strict_shows : (tree : Tree) × IsView r.view tree
-      strict_shows = (h.read_strictly o (Ok r) d short strict_result).shows
-
-      strict_same : (tree : Tree) → IsView r.view tree → Same s t v (value_of tree)
+      strict_same : Same s t v (value_of r.view)
       strict_same = (h.read_strictly o (Ok r) d short strict_result).same
 
       strict_count : r.skipped ≡ 0

@@ -22,8 +22,7 @@ use Rattle.packed_encodings.specs.Packing.{Reads}
 use Rattle.packed_reader.specs.declared.fault.PerFault.{PerFault}
 use Rattle.packed_reader.specs.declared.fault.PerFault.TheVariants as per
 use Rattle.packed_writer.specs.Message.{IsMessage}
-use Rattle.views.specs.Seen.{IsView}
-use Rattle.views.specs.Tree.{Tree, value_of}
+use Rattle.views.specs.Tree.{value_of}
 
 -- `write_der` returns octets o and account a for v, a value of type t of schema s.
 pub record IsWritten (s : List Resolved) (t : TypeNumber) (v : AbstractValue) (o : Octets) (a : Account) : Type 0 where
@@ -39,10 +38,7 @@ IsVerdict s t v o a x = x ≡ Yes ↔ IsRight s t v o a
 -- What octets o exactly encode by the basic rules is the value that the view shows, with as many unknown additions as
 -- were skipped.
 abbrev pub IsOnly : List Resolved → TypeNumber → Octets → Read → Type 0
-IsOnly s t o r = (tree : Tree) (w : AbstractValue) (k : ℕ)
-    → IsView r.view tree
-    → Encodes s Basic t w k o
-    → (w ≡ value_of tree) × (k ≡ r.skipped)
+IsOnly s t o r = (w : AbstractValue) (k : ℕ) → Encodes s Basic t w k o → (w ≡ value_of r.view) × (k ≡ r.skipped)
 
 -- `read_ber` returns x for octets o and type t of schema s.
 pub record IsBerResult (s : List Resolved) (t : TypeNumber) (o : Octets) (x : Result Read ReadFault) : Type 0 where

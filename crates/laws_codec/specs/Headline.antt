@@ -21,8 +21,7 @@ use Rattle.packed_encodings.specs.Packing.{Packed, Reads}
 use Rattle.packed_encodings.specs.Padding.{Padded}
 use Rattle.packed_reader.specs.declared.fault.PerFault.{PerFault}
 use Rattle.packed_reader.specs.declared.fault.PerFault.TheVariants as per
-use Rattle.views.specs.Seen.{IsView}
-use Rattle.views.specs.Tree.{Tree, value_of}
+use Rattle.views.specs.Tree.{value_of}
 use Rattle.laws_codec.specs.Calls.{IsBerResult, IsDerResult, IsPacked, IsUperResult, IsVerdict, IsWritten}
 
 -- The octets are an encoding by the basic rules, in any definite form of lengths, of v, a value of type t (X.690,
@@ -34,9 +33,8 @@ pub record IsBerMessage (s : List Resolved) (t : TypeNumber) (v : AbstractValue)
 
 -- What was decoded is v, a value of type t, or one that is the same.
 pub record IsReadAs (s : List Resolved) (t : TypeNumber) (v : AbstractValue) (r : Read) : Type 0 where
-  -- the view shows a tree, and the value of each tree that it shows is the same as v
-  pub shows : (tree : Tree) × IsView r.view tree
-  pub same : (tree : Tree) → IsView r.view tree → Same s t v (value_of tree)
+  -- the value that the view shows is the same as v
+  pub same : Same s t v (value_of r.view)
   -- no additions were skipped
   pub none_skipped : r.skipped ≡ 0
 

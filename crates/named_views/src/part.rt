@@ -5,8 +5,7 @@ ghost use Rattle.asn_base.specs.Seen.{kind_of};
 ghost use Rattle.named_views.specs.Typed.{AreElements, AreFields, HasNoChoice, HasNoElements, HasNoField, HasNoFields};
 ghost use Rattle.named_views.specs.Typed.{HasNoItem, IsChosen, IsField, IsNamedItem};
 ghost use Rattle.value_text.specs.Print.{element_in};
-ghost use Rattle.views.specs.Seen.{IsView};
-ghost use Rattle.views.specs.Tree.{Tree, boolean_in, integer_in, octets_in, text_in};
+ghost use Rattle.views.specs.Tree.{boolean_in, integer_in, octets_in, text_in};
 
 use crate::elements::Elements;
 use crate::named_fields::NamedFields;
@@ -58,8 +57,7 @@ fn element_of(core: &Core) -> Option<TypeId>
 impl<'v, 'a> NamedValueRef<'v, 'a> {
     /// The whole of a view, as a value of a type.
     pub fn of(view: &'v View<'a>, schema: &'v Schema, id: TypeId) -> Self
-        requires { (t : Tree) × IsView view.now t }
-        ensures tree { (t : Tree) → IsView view.now t → result.tree ≡ t }
+        ensures tree { result.tree ≡ view.now }
         ensures of_type { result.type ≡ id.index }
         ensures schema { result.schema ≡ schema.now }
     {

@@ -1,8 +1,7 @@
 //! Views that are built by hand.
 
 ghost use Rattle.std.specs.Prelude.{◌≡◌, IfOk, Some, None, string_bytes};
-ghost use Rattle.views.specs.Seen.{IsView};
-ghost use Rattle.views.specs.Tree.{Tree, fields, leaf, member, no_member, octets as octets', text};
+ghost use Rattle.views.specs.Tree.{fields, leaf, member, no_member, octets as octets', text};
 
 use crate::built_shown::all;
 use crate::refusal::Refusal;
@@ -17,10 +16,10 @@ const MESSAGE: [u8; 14] = [
 
 /// The view of `{a octets, b joined}`, with octets at place 4 of a message and a joined text.
 pub fn strings<'a>(alloc: Global, octets: &'a [u8], joined: String) -> Result<View<'a>, AllocError>
-    ensures { IfOk result (λ v. IsView v
-        (fields 2
+    ensures { IfOk result (λ v. v
+        ≡ fields 2
         (member 0 (leaf (octets' octets.now (Some 4)))
-        (member 1 (leaf (text (string_bytes joined) None)) no_member)))) }
+        (member 1 (leaf (text (string_bytes joined) None)) no_member))) }
 {
     let mut builder = Builder::new(alloc);
     builder.open_fields(0, 2)?;

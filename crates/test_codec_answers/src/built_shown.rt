@@ -1,8 +1,5 @@
 //! The parts of a view, in words.
 
-ghost use Rattle.views.specs.Seen.{IsView};
-ghost use Rattle.views.specs.Tree.{Tree};
-
 use asn_base::value::Value;
 use std::alloc::{AllocError, Global};
 use views::{ValueRef, View};
@@ -75,9 +72,7 @@ fn values(alloc: Global, value: &Value, out: &mut String) -> Result<(), AllocErr
 }
 
 /// The parts of the view of a SEQUENCE of strings, in words, and the same of its value.
-pub fn all(alloc: Global, view: &View<'_>) -> Result<String, AllocError>
-    requires { (t : Tree) × IsView view.now t }
-{
+pub fn all(alloc: Global, view: &View<'_>) -> Result<String, AllocError> {
     let mut out = String::new(alloc);
     let whole = view.top();
     let count = whole.count();

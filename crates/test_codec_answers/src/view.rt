@@ -1,8 +1,5 @@
 //! Views of messages, in words.
 
-ghost use Rattle.views.specs.Seen.{IsView};
-ghost use Rattle.views.specs.Tree.{Tree};
-
 use crate::refusal::{Refusal, refuse};
 use crate::words::{octets_of, type_of};
 use asn_base::schema::{Schema, TypeId};
@@ -36,9 +33,7 @@ fn push_string(out: &mut String, part: &ValueRef<'_, '_>) -> Result<(), AllocErr
 }
 
 /// Adds the places of the strings of a view, of the whole and of its members.
-fn push_strings(out: &mut String, view: &View<'_>) -> Result<(), AllocError>
-    requires { (t : Tree) × IsView view.now t }
-{
+fn push_strings(out: &mut String, view: &View<'_>) -> Result<(), AllocError> {
     let whole = view.top();
     push_string(out, &whole)?;
     for (_, part) in whole.members() {
@@ -48,9 +43,12 @@ fn push_strings(out: &mut String, view: &View<'_>) -> Result<(), AllocError>
 }
 
 /// The text of the value, how many additions were skipped, and the places of its strings.
-pub fn shown(alloc: Global, schema: &Schema, id: TypeId, read: &Read<'_>) -> Result<String, Refusal>
-    requires { (t : Tree) × IsView read.now.view t }
-{
+pub fn shown(
+    alloc: Global,
+    schema: &Schema,
+    id: TypeId,
+    read: &Read<'_>,
+) -> Result<String, Refusal> {
     let mut text = match print_view(alloc, schema, id, &read.view) {
         Ok(text) => text,
         Err(fault) => return Err(refuse(alloc, &fault)),

@@ -11,8 +11,7 @@ ghost use Rattle.later_versions.specs.Later.{Later};
 ghost use Rattle.std.specs.Int.Digits.{AllBelowBase};
 ghost use Rattle.std.specs.Prelude.{◌≡◌, ◌≤◌, IfErr, IfOk, List, length, ℕ};
 ghost use Rattle.version_laws.specs.Versions.{IsKnown};
-ghost use Rattle.views.specs.Seen.{IsView};
-ghost use Rattle.views.specs.Tree.{Tree, value_of};
+ghost use Rattle.views.specs.Tree.{value_of};
 
 use crate::law::lemma_earlier_reads;
 use asn_base::schema::TypeId;
@@ -42,13 +41,12 @@ pub fn read_of_later<'a>(
         → Der s' t' v 0 octets.now
         → length octets.now ≤ 16777216
         → IfErr result (λ e. e ≡ Memory) }
-    ensures same { IfOk result (λ r. (s' : List Resolved) (t' : ℕ) (v : AbstractValue) (t : Tree)
+    ensures same { IfOk result (λ r. (s' : List Resolved) (t' : ℕ) (v : AbstractValue)
         → IsSchema s'
         → Later code.now id.index s' t'
         → IsKnown code.now id.index v
         → Der s' t' v 0 octets.now
-        → IsView r.view t
-        → Same code.now id.index (projected code.now id.index v) (value_of t)
+        → Same code.now id.index (projected code.now id.index v) (value_of r.view)
         × (r.skipped ≡ left_out code.now id.index v)) }
 {
     lemma_earlier_reads();

@@ -12,8 +12,7 @@ ghost use Rattle.later_versions.specs.Later.{Later};
 ghost use Rattle.std.specs.Prelude.{◌≡◌, ◌<◌, ◌≤◌, IfErr, IfOk, List, length, ℕ};
 ghost use Rattle.version_laws.specs.Versions.{IsReadAs};
 ghost use Rattle.version_laws.specs.Lifted.{lifted};
-ghost use Rattle.views.specs.Seen.{IsView};
-ghost use Rattle.views.specs.Tree.{Tree, value_of};
+ghost use Rattle.views.specs.Tree.{value_of};
 
 use crate::law::lemma_later_reads;
 use asn_base::schema::TypeId;
@@ -37,12 +36,11 @@ pub fn read_of_earlier<'a>(
         → Der s t v 0 octets.now
         → length octets.now ≤ 16777216
         → IfErr result (λ e. e ≡ Memory) }
-    ensures same { IfOk result (λ r. (s : List Resolved) (t : ℕ) (v : AbstractValue) (tree : Tree)
+    ensures same { IfOk result (λ r. (s : List Resolved) (t : ℕ) (v : AbstractValue)
         → Later s t code.now id.index
         → id.index < length code.now
         → Der s t v 0 octets.now
-        → IsView r.view tree
-        → Same code.now id.index (lifted code.now id.index v) (value_of tree) × (r.skipped ≡ 0)) }
+        → Same code.now id.index (lifted code.now id.index v) (value_of r.view) × (r.skipped ≡ 0)) }
     // The same is true of each encoding by the basic rules without unknown additions, within 400 levels of headers.
     ensures basic { (s : List Resolved) (t : ℕ) (v : AbstractValue)
         → Later s t code.now id.index
@@ -51,12 +49,11 @@ pub fn read_of_earlier<'a>(
         → length octets.now ≤ 16777216
         → IfErr result (λ e. e ≡ Memory) }
     // The value that the octets encode is read exactly, widened to the later type.
-    ensures stands { IfOk result (λ r. (s : List Resolved) (t : ℕ) (w : AbstractValue) (tree : Tree)
+    ensures stands { IfOk result (λ r. (s : List Resolved) (t : ℕ) (w : AbstractValue)
         → Later s t code.now id.index
         → id.index < length code.now
         → Encodes s Basic t w 0 octets.now
-        → IsView r.view tree
-        → (value_of tree ≡ lifted code.now id.index w) × (r.skipped ≡ 0)) }
+        → (value_of r.view ≡ lifted code.now id.index w) × (r.skipped ≡ 0)) }
 {
     code.lemma_invariant();
     lemma_later_reads();
@@ -81,12 +78,11 @@ pub fn read_der_of_earlier<'a>(
         → Der s t v 0 octets.now
         → length octets.now ≤ 16777216
         → IfErr result (λ e. e ≡ Memory) }
-    ensures same { IfOk result (λ r. (s : List Resolved) (t : ℕ) (v : AbstractValue) (tree : Tree)
+    ensures same { IfOk result (λ r. (s : List Resolved) (t : ℕ) (v : AbstractValue)
         → Later s t code.now id.index
         → id.index < length code.now
         → Der s t v 0 octets.now
-        → IsView r.view tree
-        → Same code.now id.index (lifted code.now id.index v) (value_of tree) × (r.skipped ≡ 0)) }
+        → Same code.now id.index (lifted code.now id.index v) (value_of r.view) × (r.skipped ≡ 0)) }
     // Whatever else the octets are, the value that is read is the one that they encode by the distinguished rules.
     ensures strict { IfOk result (λ r. IsStrictReading code.now id.index octets.now r) }
 {

@@ -3,8 +3,7 @@
 ghost use Rattle.asn_base.specs.Typed.{IsValue};
 ghost use Rattle.std.specs.Prelude.{◌≡◌, ◌<◌, ◌↔◌, IfOk, IsErrOf, IsTrue, length, string_bytes};
 ghost use Rattle.value_text.specs.Print.{print};
-ghost use Rattle.views.specs.Seen.{IsView};
-ghost use Rattle.views.specs.Tree.{Tree, value_of};
+ghost use Rattle.views.specs.Tree.{value_of};
 
 use crate::part::print_part;
 use asn_base::decide::is_value;
@@ -23,10 +22,7 @@ pub fn print_shown(
     view: &View<'_>,
 ) -> Result<String, AllocError>
     requires there { id.index < length schema.now }
-    requires tree { (t : Tree) × IsView view.now t }
-    ensures { (t : Tree)
-        → IsView view.now t
-        → IfOk result (λ s. string_bytes s ≡ print schema.now id.index (value_of t)) }
+    ensures { IfOk result (λ s. string_bytes s ≡ print schema.now id.index (value_of view.now)) }
 {
     let mut out = String::new(alloc);
     print_part(schema, id, &view.top(), &mut out)?;
@@ -45,20 +41,11 @@ pub fn print_view(
     id: TypeId,
     view: &View<'_>,
 ) -> Result<String, Fault>
-    requires tree { (t : Tree) × IsView view.now t }
     // A printed value is one of the type.
-    ensures value { (t : Tree)
-        → IsView view.now t
-        → IfOk result (λ s. IsValue schema.now id.index (value_of t)) }
-    ensures text { (t : Tree)
-        → IsView view.now t
-        → IfOk result (λ s. string_bytes s ≡ print schema.now id.index (value_of t)) }
+    ensures value { IfOk result (λ s. IsValue schema.now id.index (value_of view.now)) }
+    ensures text { IfOk result (λ s. string_bytes s ≡ print schema.now id.index (value_of view.now)) }
     // After `NotOfType` the value isn't one of the type.
-    ensures not_of_type { (t : Tree)
-        → IsView view.now t
-        → IsErrOf result Fault.NotOfType
-        → IsValue schema.now id.index (value_of t)
-        → ⊥ }
+    ensures not_of_type { IsErrOf result Fault.NotOfType → IsValue schema.now id.index (value_of view.now) → ⊥ }
 {
     if !is_shown_value(alloc, schema, id, view)? {
         return Err(Fault::NotOfType);
@@ -73,10 +60,7 @@ fn is_shown_value(
     id: TypeId,
     view: &View<'_>,
 ) -> Result<bool, AllocError>
-    requires tree { (t : Tree) × IsView view.now t }
-    ensures { (t : Tree)
-        → IsView view.now t
-        → IfOk result (λ b. IsTrue b ↔ IsValue schema.now id.index (value_of t)) }
+    ensures { IfOk result (λ b. IsTrue b ↔ IsValue schema.now id.index (value_of view.now)) }
 {
     let value = view.to_value(alloc)?;
     Ok(is_value(&value, schema, id))

@@ -1,18 +1,23 @@
 -- The tree or the members that nodes spell are those that are read from them.
-use Rattle.std.proofs.Common.{arith, ◌≡◌, ℕ, ◌+◌, ◌<◌, ◌≤◌, Bool, true, false, eqb-true, List, length, drop, refl, sym, ap, subst, ◌∙◌, Some}
+use Rattle.std.proofs.Common.{arith, ◌≡◌, ℕ, ◌+◌, ◌<◌, ◌≤◌, Bool, true, false, eqb-true, List, length, drop, refl, sym, ap, subst, ◌∙◌, append-nil, Some}
 use Rattle.std.specs.Prelude.{◌==◌, cond}
 use Rattle.std.specs.List.{slice_range}
 use Rattle.views.specs.declared.node.NodeContent.{NodeContent as NodeContent'}
 use Rattle.views.specs.declared.node.NodeContent.TheVariants as content
 use Rattle.views.specs.declared.node.Node.{Node as Node'}
 use Rattle.views.specs.Tree.{Tree, leaf, fields, list, alternative, Members, no_member, member, members_in, component, left_after, nodes_in, nodes_left}
-use Rattle.views.specs.Nodes.{NodeContent}
-use Rattle.views.specs.Seen.{SideLists, content_of, AreWithin, Spell, Left, IsNext, FirstIs, first_leaf, first_fields, first_list, first_alternative, IsSpelled, AreSpelled, tree_of, members_of, IsHead, BeginWith}
+use Rattle.views.specs.Building.{begun, with_tree}
+use Rattle.views.specs.Nodes.{NodeContent, nodes}
+use Rattle.views.specs.Seen.{SideLists, content_of, AreBuilt, AreWithin, Spell, Left, IsNext, FirstIs, first_leaf, first_fields, first_list, first_alternative, IsSpelled, AreSpelled, tree_of, members_of, IsHead, BeginWith}
 use Rattle.views.specs.Spelled.{tree_from, members_from, tree_spelled, members_spelled}
 use Rattle.views.proofs.Fronts.{members_none}
 
 pub tree_seen : (s : SideLists) (ns : List Node') (k : ℕ) (t : Tree) → Spell s ns k t → tree_of s ns ≡ t
 tree_seen s ns k t p = ap tree_from p.nodes ∙ tree_spelled k t
+
+-- what a finished builder has built is the tree that its nodes spell
+pub built_seen : (s : SideLists) (ns : List Node') (hs : List ℕ) (t : Tree) → AreBuilt s ns hs (with_tree 0 t begun) → tree_of s ns ≡ t
+built_seen s ns hs t b = tree_seen s ns 0 t (record { nodes = b.nodes ∙ append-nil (nodes 0 t); within = b.within })
 
 pub members_seen : (s : SideLists) (ns : List Node') (at : ℕ) (ms : Members) → Left s ns at ms → members_of s ns at ≡ ms
 members_seen s ns at ms p = ap members_from p.nodes ∙ members_spelled ms

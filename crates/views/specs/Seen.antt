@@ -8,7 +8,6 @@ use Rattle.views.specs.declared.node.NodeContent.TheVariants as content
 use Rattle.views.specs.declared.node.Node.{Node as Node'}
 use Rattle.views.specs.declared.node.Lists.{Lists}
 use Rattle.views.specs.declared.builder.Builder.{Builder}
-use Rattle.views.specs.declared.view.View.{View}
 use Rattle.views.specs.PackedI128.{number_of}
 use Rattle.views.specs.Tree.{boolean, integer, enumerated, bits, octets, text, null, oid, relative_oid, Leaf, Tree, leaf, fields, list, alternative}
 use Rattle.views.specs.Tree.{Members, member}
@@ -122,10 +121,6 @@ pub data FirstIs (s : SideLists) (below : List Node') : NodeContent → Tree →
       FirstIs s below (some_fields size e) (fields size ms)
   first_list : {e : ℕ} {ms : Members} → SpellMembers s below ms → FirstIs s below (some_elements e) (list ms)
   first_alternative : {i e : ℕ} {t : Tree} → Spell s below 0 t → FirstIs s below (an_alternative i e) (alternative i t)
-
--- a view of a tree
-abbrev pub IsView : View → Tree → Type 0
-IsView v t = Spell (side_lists v.lists) v.nodes.items 0 t
 
 -- nodes spell some tree
 abbrev pub IsSpelled : SideLists → List Node' → Type 0

@@ -3,8 +3,8 @@
 ghost use Rattle.std.specs.Prelude.{◌≡◌, ◌<◌, ◌^◌, ◌∷◌, [], List, None, OnOk, Some, length, ℕ, string_bytes};
 ghost use Rattle.views.specs.Building.{Building, Header, IsClosed, Waiting, begun, opened, open_alternative, open_fields, open_list, open_content, with_leaf, with_tree};
 ghost use Rattle.views.specs.Nodes.{node, nodes};
-ghost use Rattle.views.specs.Seen.{HasBuilt, IsContentWithin, IsView, side_lists, content_of};
-ghost use Rattle.views.specs.Tree.{Tree, bits, boolean, enumerated, integer, member, no_member, null, octets, oid, relative_oid, text};
+ghost use Rattle.views.specs.Seen.{HasBuilt, IsContentWithin, side_lists, content_of};
+ghost use Rattle.views.specs.Tree.{Tree, bits, boolean, enumerated, integer, null, octets, oid, relative_oid, text};
 
 use crate::node::{Lists, Node, NodeContent};
 use crate::packed_i128::PackedI128;
@@ -291,8 +291,8 @@ impl<'a> Builder<'a> {
 
     /// The view of the one value that was added, as number 0. No node may be open.
     pub fn finish(self) -> View<'a>
-        ensures { (t : Tree) → HasBuilt self.entry (record { here = member 0 t no_member; waits = [] }) →
-            IsView result t }
+        requires { (t : Tree) × HasBuilt self (with_tree 0 t begun) }
+        ensures { (t : Tree) → HasBuilt self.entry (with_tree 0 t begun) → result ≡ t }
     {
         View {
             nodes: self.nodes,

@@ -2,7 +2,7 @@
 
 ghost use Rattle.asn_base.specs.Abstract.{abstract, row_of_list, row_of_options};
 ghost use Rattle.std.specs.Prelude.{◌≡◌, ◌++◌, ◌∷◌, [], ℕ, IfOk, OnOk, map, option_map};
-ghost use Rattle.views.specs.Seen.{IsView, Spell, SpellMembers, side_lists};
+ghost use Rattle.views.specs.Seen.{Spell, SpellMembers, side_lists};
 ghost use Rattle.views.specs.Rows.{AreAbsent, IsPut};
 ghost use Rattle.views.specs.Tree.{Members, Tree, component_value, element_values, placed, value_of};
 
@@ -13,6 +13,7 @@ use crate::part::{ValueRef, value_ref};
 use asn_base::law::lemma_abstract_values;
 use asn_base::value::Value;
 use std::alloc::{AllocError, Global};
+use std::marker::Model;
 
 /// A value that was read from a message. A string that is a slice of the message is borrowed from it.
 pub struct View<'a> {
@@ -20,11 +21,25 @@ pub struct View<'a> {
     pub(crate) lists: Lists,
 }
 
+impl<'a> Model for View<'a> {
+    ghost use Rattle.views.specs.Spelled.{tree_code};
+    ghost use Rattle.views.specs.Tree.{Tree};
+
+    ghost Value = { Tree };
+
+    ghost coded = { tree_code };
+
+    ghost use Rattle.views.specs.Seen.{IsSpelled, side_lists, tree_of};
+
+    ghost view = { λ v. tree_of (side_lists v.lists) v.nodes.items };
+
+    ghost invariant = { λ v. IsSpelled (side_lists v.lists) v.nodes.items };
+}
+
 impl<'a> View<'a> {
     /// A reference to the whole value.
     pub fn top(&self) -> ValueRef<'_, 'a>
-        requires { (t : Tree) × IsView self.now t }
-        ensures { (t : Tree) → IsView self.now t → result ≡ t }
+        ensures { result ≡ self.now }
     {
         value_ref(&self.lists, self.nodes.as_slice())
     }
@@ -33,8 +48,7 @@ impl<'a> View<'a> {
     /// recurses once for each level of the value, and so does dropping a value: a value of a schema has at most 64
     /// levels.
     pub fn to_value(&self, alloc: Global) -> Result<Value, AllocError>
-        requires { (t : Tree) × IsView self.now t }
-        ensures { (t : Tree) → IsView self.now t → IfOk result (λ v. abstract v ≡ value_of t) }
+        ensures { IfOk result (λ v. abstract v ≡ value_of self.now) }
     {
         Ok(value(alloc, &self.lists, self.nodes.as_slice())?)
     }

@@ -4,7 +4,7 @@ use Rattle.asnc.proofs.MessagesRead.{unread_by, of_any}
 use Rattle.asnc.proofs.reading.read_basic.Goals as goal
 
 pub returns-in-Ok-clause-read : goal.returns-in-Ok-clause-read
-returns-in-Ok-clause-read c = record { reading = c.in-Ok.ensures.ok; only = λ w j e. c.in-Ok.ensures.only c.in-Ok.ensures.ok.tree w j c.in-Ok.ensures.ok.view e; by_rules = c.in-Ok.ensures.ok.encodes.says_it }
+returns-in-Ok-clause-read c = record { reading = c.in-Ok.ensures.ok; only = λ w j e. c.in-Ok.ensures.only w j e; by_rules = c.in-Ok.ensures.ok.encodes.says_it }
 
 pub returns-in-Err-clause-refused : goal.returns-in-Err-clause-refused
 returns-in-Err-clause-refused c = λ n.

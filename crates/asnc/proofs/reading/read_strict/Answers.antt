@@ -5,7 +5,7 @@ use Rattle.asnc.proofs.reading.read_strict.Goals as goal
 pub returns-in-Ok-clause-read : goal.returns-in-Ok-clause-read
 returns-in-Ok-clause-read c =
     let q = c.in-Ok.ensures.ok in
-    record { reading = q.reading; only = λ w j e. c.in-Ok.ensures.only q.reading.tree w j q.reading.view e; by_rules = q.strict }
+    record { reading = q.reading; only = λ w j e. c.in-Ok.ensures.only w j e; by_rules = q.strict }
 
 pub returns-in-Err-clause-refused : goal.returns-in-Err-clause-refused
 returns-in-Err-clause-refused c = λ n.

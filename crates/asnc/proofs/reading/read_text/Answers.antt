@@ -7,23 +7,19 @@ use Rattle.asnc.proofs.reading.read_text.Goals as goal
 
 pub print_shown-requires : goal.print_shown-requires
 print_shown-requires c =
-    let q = c.in-Ok.ensures.read.reading in
-    record {
-      there = subst (λ s. c.args.id.index < length s) (sym c.requires.same) (type_there q.encodes.value);
-      tree = (q.tree, q.view);
-    }
+    record { there = subst (λ s. c.args.id.index < length s) (sym c.requires.same) (type_there c.in-Ok.ensures.read.reading.encodes.value) }
 
 pub returns-clause-read : goal.returns-clause-read
 returns-clause-read c =
     let q = c.in-Ok.ensures.read.reading in
     record {
-      value = value_of q.tree;
+      value = value_of c.in-Ok.read.view;
       encodes = q.encodes;
       few = q.few;
       short = q.short;
       only = c.in-Ok.ensures.read.only;
       by_rules = c.in-Ok.ensures.read.by_rules;
-      text = c.in_ok-text.ensures q.tree q.view ∙ ap (λ s. print s c.args.id.index (value_of q.tree)) c.requires.same;
+      text = c.in_ok-text.ensures ∙ ap (λ s. print s c.args.id.index (value_of c.in-Ok.read.view)) c.requires.same;
     }
 
 pub returns-in-Err-clause-refused : goal.returns-in-Err-clause-refused

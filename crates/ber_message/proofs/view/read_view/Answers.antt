@@ -1,13 +1,14 @@
-use Rattle.std.proofs.Common.{arith, rules, refl, ◌≤◌, [], length, sym, ap, subst, ◌∙◌, inr, append-nil, length-append}
+use Rattle.std.proofs.Common.{arith, rules, refl, ◌≡◌, ◌≤◌, [], length, sym, ap, subst, ◌∙◌, inr, append-nil, length-append}
 use Rattle.std.specs.Prelude.{Err}
 use Rattle.codec_code.specs.Routines.{routine_at}
 use Rattle.codec_source.specs.Reading.{Reads}
 use Rattle.octet_answers.specs.Answers.{Takes}
-use Rattle.ber_message.specs.Messages.{budget_of, too_long, trailing_octets, cut_off, stopped, no_type}
+use Rattle.ber_message.specs.Messages.{IsRead, budget_of, too_long, trailing_octets, cut_off, stopped, no_type}
 use Rattle.ber_message.proofs.Reading.{whole_message, front_message, fails, holds, headed, ends_before, is_memory, read_of, true_false, none_there}
 use Rattle.codec_source.specs.Stopping.{StopsReading}
 use Rattle.octet_answers.specs.Unanswered.{Leaves}
-use Rattle.ber_views.specs.ViewSink.{IsBuiltOf}
+use Rattle.ber_views.specs.ViewSink.{GiveTree, IsBuiltOf}
+use Rattle.ber_message.proofs.Trees.{gives_tree, viewed}
 use Rattle.ber_message.proofs.Kept.{if_ok, memory_alone, reads_schema, refused_memory}
 use Rattle.ber_message.proofs.Stopped.{ends_too_soon, fault_or, never_stops, not_memory}
 use Rattle.decode_faults.specs.declared.read_fault.ReadFault.TheVariants.{Missing, MessageLimit, NotDer, OutsideConstraint, Trailing}
@@ -44,6 +45,16 @@ returns-then-not-is_at_end-clause-err c memory limit has r =
     let e = c.in-Ok-read.ensures.only r.last (subst (λ q. Reads (λ u. routine_at s u) Takes c.args.id q r.last) (sym c.in-Ok.ensures.ok) r.reads) in
     fails c.is_at_end.result c.if-not-is_at_end.true c.is_at_end.ensures (ap (λ q. q.here.octets) (sym e) ∙ r.at_end)
 
+pub finished-requires : goal.finished-requires
+finished-requires c =
+    let s = c.args.code.now in
+    let z = c.read.new.source in
+    let r = subst (λ q. Reads (λ u. routine_at s u) Takes c.args.id q z) c.in-Ok.ensures.ok c.in-Ok-read.ensures.ok in
+    let end = holds c.is_at_end.result c.if-not-is_at_end.false c.is_at_end.ensures in
+    let m = whole_message z.emitted (c.lemma_read_is_encoded.ensures s c.args.id c.args.octets.now (budget_of (length c.args.octets.now)) z c.lemma_invariant.ensures (holds c.has.result c.if-not-has.false c.has.ensures) c.are_octets.ensures r)
+    end c.in-Ok.ensures.few refl in
+    subst (λ q. GiveTree q z.emitted) (sym (reads_schema r)) (gives_tree s c.lemma_invariant.ensures c.args.id.index c.args.octets.now z.emitted m)
+
 pub returns-clause-ok : goal.returns-clause-ok
 returns-clause-ok c =
     let s = c.args.code.now in
@@ -52,11 +63,14 @@ returns-clause-ok c =
     let end = holds c.is_at_end.result c.if-not-is_at_end.false c.is_at_end.ensures in
     let m = whole_message z.emitted (c.lemma_read_is_encoded.ensures s c.args.id c.args.octets.now (budget_of (length c.args.octets.now)) z c.lemma_invariant.ensures (holds c.has.result c.if-not-has.false c.has.ensures) c.are_octets.ensures r)
     end c.in-Ok.ensures.few refl in
-    if_ok c.finished.result (λ b h. record { read = record { last = z; reads = r; at_end = end }; one = λ q. c.in-Ok-read.ensures.only q.last (subst (λ x. Reads (λ u. routine_at s u) Takes c.args.id x q.last) (sym c.in-Ok.ensures.ok) q.reads); message = m; built = subst (λ q. IsBuiltOf q z.emitted b) (reads_schema r) h }) c.finished.ensures.ok
+    let one : (q : IsRead s c.args.id c.args.octets.now) → q.last ≡ z = λ q. c.in-Ok-read.ensures.only q.last (subst (λ x. Reads (λ u. routine_at s u) Takes c.args.id x q.last) (sym c.in-Ok.ensures.ok) q.reads) in
+    if_ok c.finished.result (λ b h. viewed s c.lemma_invariant.ensures c.args.id.index c.args.octets.now b (record { last = z; reads = r; at_end = end }) one m (subst (λ q. IsBuiltOf q z.emitted b) (reads_schema r) h)) c.finished.ensures.ok
 
 pub returns-clause-only : goal.returns-clause-only
 returns-clause-only c =
-    if_ok c.finished.result (λ b h v w k e. c.schema_laws.ensures.says_one c.args.code.now c.args.id.index k v.message.count w v.message.value c.args.octets.now c.lemma_invariant.ensures e v.message.is_encoded) c.finished.ensures.ok
+    if_ok c.finished.result (λ b v w k e.
+    let q = c.schema_laws.ensures.says_one c.args.code.now c.args.id.index k v.message.count w v.message.value c.args.octets.now c.lemma_invariant.ensures e v.message.is_encoded in
+    (q.0 ∙ sym v.value, q.1 ∙ sym v.skipped)) (returns-clause-ok c)
 
 pub returns-clause-limit : goal.returns-clause-limit
 returns-clause-limit c l = absurd (let f = c.in-Ok.ensures.few in omega (arith, l, f))

@@ -4,15 +4,9 @@ use Rattle.ber_message.specs.Paths.{BeginsBefore}
 use Rattle.ber_reader.specs.Judged.{piece}
 use Rattle.ber_source.specs.Seen.{token_of}
 use Rattle.laws_reading.specs.TokensShow.{TokensShow}
-use Rattle.ber_reader.proofs.Built.{tree_of}
 use Rattle.ber_reader.proofs.Leading.{before_wrong, if_ok, path_alone}
 use Rattle.ber_reader.proofs.Reading.{holds, never_holds, says_type}
 use Rattle.ber_reader.proofs.place.before_wrong.Goals as goal
-
-pub to_value-requires : goal.to_value-requires
-to_value-requires c =
-    let q = tree_of c.args.code.now c.lemma_invariant.ensures c.args.id.index c.args.octets.now c.in-Ok.built c.in-Ok.ensures.ok in
-    (q.0, q.1)
 
 pub returns-in-Err : goal.returns-in-Err
 returns-in-Err c = λ r n m.
@@ -21,22 +15,16 @@ returns-in-Err c = λ r n m.
 
 pub returns-then-is_value : goal.returns-then-is_value
 returns-then-is_value c = λ r n m.
-    let v = c.in-Ok.ensures.ok in
-    let s = c.args.code.now in
-    let t = c.args.id.index in
-    let q = tree_of s c.lemma_invariant.ensures t c.args.octets.now c.in-Ok.built v in
-    let e = c.in_ok-value.ensures q.0 q.1 ∙ q.2 ∙ sym (c.in-Ok.ensures.only v n.value n.count n.is_encoded).0 in
-    absurd (n.is_none (subst (IsValueWithoutNodes s t) e (holds c.is_value.result c.if-is_value.true c.is_value.ensures).shaped))
+    let e = c.in_ok-value.ensures ∙ sym (c.in-Ok.ensures.only n.value n.count n.is_encoded).0 in
+    absurd (n.is_none (subst (IsValueWithoutNodes c.args.code.now c.args.id.index) e (holds c.is_value.result c.if-is_value.true c.is_value.ensures).shaped))
 
 pub returns : goal.returns
 returns c = λ r n m.
-    let v = c.in-Ok.ensures.ok in
     let s = c.args.code.now in
     let t = c.args.id.index in
-    let q = tree_of s c.lemma_invariant.ensures t c.args.octets.now c.in-Ok.built v in
-    let mine = (c.in-Ok.ensures.only v n.value n.count n.is_encoded).0 in
-    let its = (c.in-Ok.ensures.only v m.value m.count m.is_encoded).0 in
-    let e = c.in_ok-value.ensures q.0 q.1 ∙ q.2 ∙ sym mine in
+    let mine = (c.in-Ok.ensures.only n.value n.count n.is_encoded).0 in
+    let its = (c.in-Ok.ensures.only m.value m.count m.is_encoded).0 in
+    let e = c.in_ok-value.ensures ∙ sym mine in
     let path = path_alone c.new-path.ensures.items (ap (piece t) e) (c.in_ok-path_to_wrong.ensures (λ w. never_holds c.is_value.result c.if-is_value.false c.is_value.ensures w)) in
     let emitted = map token_of c.args.tokens.now in
     let shown = subst (λ w. TokensShow s t w emitted) (its ∙ sym mine) m.shown in

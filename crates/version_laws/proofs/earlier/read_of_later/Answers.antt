@@ -5,11 +5,11 @@ use Rattle.later_versions.specs.Projected.{projected, left_out}
 use Rattle.version_laws.proofs.earlier.read_of_later.Goals as goal
 
 pub returns-in-Ok-clause-same : goal.returns-in-Ok-clause-same
-returns-in-Ok-clause-same c s' t' v t schema l known d seen =
+returns-in-Ok-clause-same c s' t' v schema l known d =
     let s = c.args.code.now in
     let u = c.args.id.index in
     let r = c.lemma_earlier_reads.ensures s s' u t' v c.args.octets.now schema l known c.lemma_are_octets.ensures d in
-    let o = c.in-Ok.ensures.only t r.value (left_out s u v) seen r.encodes in
+    let o = c.in-Ok.ensures.only r.value (left_out s u v) r.encodes in
     (subst (λ w. Same s u (projected s u v) w) o.0 r.same, sym o.1)
 
 pub returns-in-Err-clause-read : goal.returns-in-Err-clause-read

@@ -10,7 +10,7 @@ returns-in-Err-clause-read c s t v l h d short =
     c.in-Err.ensures.read (encoding r.is short) r.strict
 
 pub returns-in-Ok-clause-same : goal.returns-in-Ok-clause-same
-returns-in-Ok-clause-same c s t v tree l h d seen =
+returns-in-Ok-clause-same c s t v l h d =
     let r = (c.lemma_later_reads.ensures.distinguished s c.args.code.now t c.args.id.index v c.args.octets.now c.lemma_invariant.ensures l h d).is in
-    let o = c.in-Ok.ensures.only tree r.value 0 seen r.encodes in
+    let o = c.in-Ok.ensures.only r.value 0 r.encodes in
     (subst (λ w. Same c.args.code.now c.args.id.index (lifted c.args.code.now c.args.id.index v) w) o.0 r.same, sym o.1)

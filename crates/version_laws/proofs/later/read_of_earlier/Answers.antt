@@ -14,13 +14,13 @@ returns-in-Err-clause-basic c s t v l h r short =
     c.in-Err.ensures.read (encoding (c.lemma_later_reads.ensures.basic s c.args.code.now t c.args.id.index v c.args.octets.now c.lemma_invariant.ensures l h r) short)
 
 pub returns-in-Ok-clause-same : goal.returns-in-Ok-clause-same
-returns-in-Ok-clause-same c s t v tree l h d seen =
+returns-in-Ok-clause-same c s t v l h d =
     let r = (c.lemma_later_reads.ensures.distinguished s c.args.code.now t c.args.id.index v c.args.octets.now c.lemma_invariant.ensures l h d).is in
-    let o = c.in-Ok.ensures.only tree r.value 0 seen r.encodes in
+    let o = c.in-Ok.ensures.only r.value 0 r.encodes in
     (subst (λ w. Same c.args.code.now c.args.id.index (lifted c.args.code.now c.args.id.index v) w) o.0 r.same, sym o.1)
 
 pub returns-in-Ok-clause-stands : goal.returns-in-Ok-clause-stands
-returns-in-Ok-clause-stands c s t w tree l h e seen =
+returns-in-Ok-clause-stands c s t w l h e =
     let n = c.lemma_later_reads.ensures.stands s c.args.code.now Basic t c.args.id.index w c.args.octets.now c.lemma_invariant.ensures l h e in
-    let o = c.in-Ok.ensures.only tree (lifted c.args.code.now c.args.id.index w) 0 seen n in
+    let o = c.in-Ok.ensures.only (lifted c.args.code.now c.args.id.index w) 0 n in
     (sym o.0, sym o.1)

@@ -7,22 +7,22 @@ use Rattle.std.specs.List.{slice_range}
 use Rattle.asn_base.specs.Abstract.{AbstractValue, fields, list, alternative, Row, present}
 use Rattle.asn_base.specs.Types.{TypeNumber, Kind, a_sequence, a_set, a_sequence_of, a_set_of, a_choice, Component, Resolved, Is}
 use Rattle.asn_base.specs.Schemas.{IsSchema, IsSound, AreListed}
-use Rattle.codec_code.specs.Routines.{routine_at}
+use Rattle.codec_code.specs.Routines.{id_of, routine_at}
 use Rattle.octet_answers.specs.States.{Token, component, chosen, begun, ended, held, passed}
 use Rattle.laws_reading.specs.TokensShow.{TokensShow, shows, ShowsOf, shows_leaf, shows_sequence, shows_set, shows_sequence_of, shows_set_of, shows_choice, ShowsFields, no_field, absent_field, present_field, ShowsMixed, nothing_mixed, passed_mixed, component_mixed, ShowsElements, no_element_shown, element_shown, IsSliceAt, AreSlicesOf}
 use Rattle.views.specs.Building.{Building, opened, open_fields, open_list, open_alternative, Header, Closes, closes_fields, closes_list, closes_alternative, with_tree, begun as begun'}
 use Rattle.views.specs.Tree.{Leaf, boolean, integer, enumerated, bits, octets, text, null, oid, relative_oid, leaf_value, Tree, leaf, value_of, Members, no_member, member, joined, element_values, component_value, IsBorrowed, AreBorrowed, IsBorrowedLeaf, IsBorrowedAt}
 use Rattle.views.specs.Tree as tree
 use Rattle.laws_reading.specs.TokensShow.{skipped_in}
-use Rattle.views.specs.Seen.{IsView}
-use Rattle.ber_message.specs.Messages.{IsViewed}
+use Rattle.ber_message.specs.Messages.{IsMessage, IsRead, IsViewed}
 use Rattle.ber_views.specs.declared.view_sink.Built.{Built}
+use Rattle.ber_views.specs.ViewSink.{GiveTree, IsBuiltOf}
 use Rattle.ber_views.specs.Log.{passes}
 use Rattle.ber_views.specs.Shapes.{shape_of, shape_in}
 use Rattle.ber_views.specs.Shown.{IsShownAs, leaves_of, leaves_in, AreShown}
 use Rattle.ber_views.specs.Wants.{Reading, begun_as, number_as, Wants}
-use Rattle.ber_reader.proofs.Shapes.{shape_at, leaf_shape}
-use Rattle.ber_reader.proofs.Rows.{many, Ordered, ordered_none, ordered_absent, ordered_present, ordered_row, Mixed, mixed_none, mixed_more, mixed_row, joined_none, joined_more, found_below}
+use Rattle.ber_message.proofs.Shapes.{shape_at, leaf_shape}
+use Rattle.ber_message.proofs.Rows.{many, Ordered, ordered_none, ordered_absent, ordered_present, ordered_row, Mixed, mixed_none, mixed_more, mixed_row, joined_none, joined_more, found_below}
 
 -- ---- what is in the message
 
@@ -236,12 +236,13 @@ pub shown_builds : (s : List Resolved) → IsSchema s → (m : List ℕ) → len
 shown_builds s schema m short t w ts sh st =
     subst (λ q. Wants s (record { message = m; tokens = ts }) w q 0 false begun') (append-nil ts) (value_wants s schema (record { message = m; tokens = ts }) short w sh st [] 0 begun' (λ t e b c. record { tree = t; whole = refl; shows = e; borrowed = b; shown = c }))
 
--- the tree of a message that is viewed
-pub tree_of : (s : List Resolved) → IsSchema s → (t : TypeNumber) (o : List ℕ) (b : Built) (v : IsViewed s t o b)
-    → (u : Tree) × IsView b.view u × (value_of u ≡ v.message.value) × IsBorrowed o u × AreShown v.read.last.emitted (leaves_of u)
-tree_of s schema t o b v =
-    v.built.view (record { message = o; tokens = v.read.last.emitted }) v.message.value
-    (shown_builds s schema o v.message.short t v.message.value v.read.last.emitted v.message.shown v.message.slices)
+-- the tokens of a message give its tree
+pub gives_tree : (s : List Resolved) → IsSchema s → (t : TypeNumber) (o : List ℕ) (ts : List Token) → IsMessage s t o ts → GiveTree s ts
+gives_tree s schema t o ts m = record {
+  reading = record { message = o; tokens = ts };
+  value = m.value;
+  wants = shown_builds s schema o m.short t m.value ts m.shown m.slices;
+}
 
 as_many : (ts : List Token) → passes ts ≡ skipped_in ts
 as_many [] = refl
@@ -252,6 +253,21 @@ as_many (begun t ∷ ts) = as_many ts
 as_many (ended ∷ ts) = as_many ts
 as_many (held k c x at ∷ ts) = as_many ts
 
--- as many additions were skipped
-pub skipped_of : {s : List Resolved} {t : TypeNumber} {o : List ℕ} (b : Built) (v : IsViewed s t o b) → b.skipped ≡ v.message.count
-skipped_of b v = v.built.counts ∙ as_many v.read.last.emitted ∙ v.message.counted
+-- the view of a message that was read
+pub viewed : (s : List Resolved) → IsSchema s → (t : TypeNumber) (o : List ℕ) (b : Built) (r : IsRead s (id_of t) o)
+    → ((other : IsRead s (id_of t) o) → other.last ≡ r.last)
+    → IsMessage s t o r.last.emitted
+    → IsBuiltOf s r.last.emitted b
+    → IsViewed s t o b
+viewed s schema t o b r one m v =
+    let ts = r.last.emitted in
+    let q = v.view (record { message = o; tokens = ts }) m.value (shown_builds s schema o m.short t m.value ts m.shown m.slices) in
+    record {
+      read = r;
+      one = one;
+      message = m;
+      value = q.0;
+      skipped = v.counts ∙ as_many ts ∙ m.counted;
+      borrowed = q.1;
+      shown = q.2;
+    }
