@@ -1,12 +1,13 @@
 -- The values whose notations are being read: in memory the latest is the last.
 use Rattle.std.proofs.Common.{◌≡◌, ℕ, zero, suc, ◌≤◌, ◌<◌, ◌+◌, ◌||◌, Bool, true, false, List, [], ◌∷◌, ◌++◌, length, take, Some, refl, sym, ap, ◌∙◌, subst, arith, eqb, inl, inr}
-use Rattle.std.specs.Prelude.{slice_get, reverse}
+use Rattle.std.specs.Prelude.{slice_get, reverse, if◌then◌else◌}
 use Rattle.std.specs.List.{IsDistinct, AllByRecursion, list_any}
 use Rattle.std.proofs.lemmas.Bool.{eqb-true, eq-eqb, or_cases, cases_Bool}
 use Rattle.std.proofs.lemmas.List.{reverse-append, reverse-reverse, length-reverse, take_at}
 use Rattle.std.proofs.lemmas.List.Sorted.{IsPermutation-reverse, list_any-IsPermutation}
 use Rattle.std.proofs.lemmas.Map.Steps.{length-le_from_distinct_below}
 use Rattle.std.proofs.lemmas.Option.{same_Some}
+use Rattle.indexmap.specs.IndexSet.{insert_key}
 use Rattle.names.specs.Modules.{OccursIn}
 use Rattle.value_notations.specs.proving.Opened.{IsGrown}
 
@@ -22,36 +23,49 @@ closed ns xs os c e l =
 pub opened_more : (ns : List ℕ) (x : ℕ) → reverse (ns ++ x ∷ []) ≡ x ∷ reverse ns
 opened_more ns x = reverse-append ns (x ∷ [])
 
-any_stands : (xs : List ℕ) (x : ℕ) → list_any (λ y. eqb y x) xs ≡ true → OccursIn xs x
-any_stands [] x e = absurd cc
-any_stands (y ∷ xs) x e =
-    elim (or_cases (eqb y x) (list_any (λ y. eqb y x) xs) e) [
-      | inl h ↦ (0, ap Some (eqb-true y x h))
-      | inr h ↦ (let s = any_stands xs x h in (suc s.0, s.1))
+any_occurs : (xs : List ℕ) (x : ℕ) → list_any (eqb x) xs ≡ true → OccursIn xs x
+any_occurs [] x e = absurd cc
+any_occurs (y ∷ xs) x e =
+    elim (or_cases (eqb x y) (list_any (eqb x) xs) e) [
+      | inl h ↦ (0, ap Some (sym (eqb-true x y h)))
+      | inr h ↦ (let s = any_occurs xs x h in (suc s.0, s.1))
     ]
 
 same_any : (x : ℕ) (b : Bool) → (eqb x x || b) ≡ true
 same_any x b = rw (eq-eqb x x refl) refl
 
-occurs_any : (xs : List ℕ) (x i : ℕ) → slice_get xs i ≡ Some x → list_any (λ y. eqb y x) xs ≡ true
+occurs_any : (xs : List ℕ) (x i : ℕ) → slice_get xs i ≡ Some x → list_any (eqb x) xs ≡ true
 occurs_any [] x i e = absurd cc
-occurs_any (y ∷ xs) x zero e = let q : y ≡ x = same_Some y x e in rw q (same_any x (list_any (λ y. eqb y x) xs))
-occurs_any (y ∷ xs) x (suc i) e = rw (occurs_any xs x i e) (or_true (eqb y x))
+occurs_any (y ∷ xs) x zero e = let q : y ≡ x = same_Some y x e in rw q (same_any x (list_any (eqb x) xs))
+occurs_any (y ∷ xs) x (suc i) e = rw (occurs_any xs x i e) (or_true (eqb x y))
   where
     or_true : (b : Bool) → (b || true) ≡ true
     or_true true = refl
     or_true false = refl
 
-any_reversed : (xs : List ℕ) (x : ℕ) → list_any (λ y. eqb y x) xs ≡ list_any (λ y. eqb y x) (reverse xs)
-any_reversed xs x = list_any-IsPermutation (λ y. eqb y x) xs (reverse xs) (IsPermutation-reverse xs)
+any_reversed : (xs : List ℕ) (x : ℕ) → list_any (eqb x) xs ≡ list_any (eqb x) (reverse xs)
+any_reversed xs x = list_any-IsPermutation (eqb x) xs (reverse xs) (IsPermutation-reverse xs)
 
-pub held : (xs : List ℕ) (x : ℕ) → list_any (λ y. eqb y x) xs ≡ true → OccursIn (reverse xs) x
-held xs x e = any_stands (reverse xs) x (sym (any_reversed xs x) ∙ e)
+pub held : (xs : List ℕ) (x : ℕ) → list_any (eqb x) xs ≡ true → OccursIn (reverse xs) x
+held xs x e = any_occurs (reverse xs) x (sym (any_reversed xs x) ∙ e)
 
-pub not_held : (xs : List ℕ) (x : ℕ) → list_any (λ y. eqb y x) xs ≡ false → OccursIn (reverse xs) x → ⊥
+pub not_held : (xs : List ℕ) (x : ℕ) → list_any (eqb x) xs ≡ false → OccursIn (reverse xs) x → ⊥
 not_held xs x e s =
     let t : true ≡ false = sym (occurs_any (reverse xs) x s.0 s.1) ∙ sym (any_reversed xs x) ∙ e in
     absurd cc
+
+-- a number that isn't there yet becomes the last one in memory
+pub opened_one : (xs new : List ℕ) (x : ℕ) → (OccursIn (reverse xs) x → ⊥) → new ≡ insert_key eqb xs x
+    → reverse new ≡ x ∷ reverse xs
+opened_one xs new x fresh e =
+    elim (cases_Bool (list_any (eqb x) xs)) [
+      | inl h ↦ absurd (fresh (held xs x h))
+      | inr h ↦ ap reverse (e ∙ added (list_any (eqb x) xs) h) ∙ opened_more xs x
+    ]
+  where
+    added : (b : Bool) → b ≡ false → (if b then xs else xs ++ x ∷ []) ≡ xs ++ x ∷ []
+    added true f = absurd cc
+    added false f = refl
 
 -- ---- those that one call opens
 

@@ -3,6 +3,7 @@
 ghost use Rattle.std.specs.Prelude.{◌≡◌, ℕ, List, [], ◌∷◌, ◌++◌, length, true, false, OnErr, OnOk};
 ghost use Rattle.names.specs.Modules.{OccursIn};
 
+use indexmap::IndexSet;
 use std::alloc::{AllocError, Global};
 use std::marker::Model;
 
@@ -10,7 +11,7 @@ use std::marker::Model;
 #[derive(Drop)]
 pub struct Opened {
     /// The numbers in the order in which they were added: the latest last.
-    numbers: Vec<usize>,
+    numbers: IndexSet<usize>,
 }
 
 impl Model for Opened {
@@ -18,7 +19,7 @@ impl Model for Opened {
 
     ghost Value = { List ℕ };
 
-    ghost view = { λ o. reverse o.numbers.items };
+    ghost view = { λ o. reverse o.numbers.keys };
 }
 
 impl Opened {
@@ -27,7 +28,7 @@ impl Opened {
         ensures { result ≡ [] }
     {
         Opened {
-            numbers: Vec::new(alloc),
+            numbers: IndexSet::new(alloc),
         }
     }
 
@@ -47,22 +48,22 @@ impl Opened {
         self.numbers.truncate(count);
     }
 
-    /// Whether a value is among them.
+    /// Whether a value is among them. The time doesn't depend on how many there are.
     #[tactic(auto, using(crate::proofs::Opening::held, crate::proofs::Opening::not_held))]
     pub(crate) fn holds(&self, number: usize) -> bool
         ensures yes { result ≡ true → OccursIn self.now number }
         ensures no { result ≡ false → OccursIn self.now number → ⊥ }
     {
-        self.numbers.as_slice().contains(&number)
+        self.numbers.contains(&number)
     }
 
     /// Adds one more value, as the latest. An `Err` adds none.
-    #[tactic(auto, using(crate::proofs::Opening::opened_more))]
     pub(crate) fn open(&mut self, number: usize) -> Result<(), AllocError>
+        requires fresh { OccursIn self.old number → ⊥ }
         ensures ok { OnOk result (self.new ≡ number ∷ self.old) }
         ensures err { OnErr result (self.new ≡ self.old) }
     {
-        self.numbers.push(number)?;
+        self.numbers.insert(number)?;
         Ok(())
     }
 }

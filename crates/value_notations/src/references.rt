@@ -180,8 +180,7 @@ fn notation_at(linked: &Linked, number: usize) -> (&str, &ValueSyntax)
 /// The notation to which the references of a notation lead, and the module that it is read in (X.680, clauses 13.2,
 /// 17.11, 19.10 and 20.8). It is the first notation that is no name, or that is the name of a number or an item of the
 /// type. The notation is read in `within` under a type of this shape, which is no reference and no tag. `opened` are
-/// the values that are being read; those whose notations are passed are added to it. Each step looks through all of
-/// them.
+/// the values that are being read; those whose notations are passed are added to it.
 ///
 /// `NoMeaning`: a name means neither something of the type nor a value. `Circular`: a name means a value that is being
 /// read already. `Memory`: there is not enough memory.
