@@ -1,4 +1,4 @@
-use Rattle.std.proofs.Common.{arith, inl, inr, Err, sym, ap, subst, ◌∙◌}
+use Rattle.std.proofs.Common.{arith, inl, inr, Err, sym, ap, subst}
 use Rattle.encodings.specs.Rules.{Basic}
 use Rattle.asn_base.specs.Typed.{IsValue, IsValueWithoutNodes}
 use Rattle.decode_faults.specs.declared.read_fault.ReadFault.TheVariants.{Missing, NotDer, OutsideConstraint}
