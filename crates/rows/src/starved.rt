@@ -57,20 +57,14 @@ impl Starved for Again<'_> {
     }
 }
 
-/// By which part of its memory a turn has more than the turn before. The longer the texts of a row are, the fewer turns
-/// it has, and the fewer calls that are right.
+/// By which part of its memory a turn has more than the turn before. A row with long texts has fewer turns, and fewer
+/// calls that are right.
 fn part(row: &Row) -> usize {
     let mut octets: usize = 0;
     for text in &row.texts {
         octets = octets.saturating_add(text.octets.len());
     }
-    if octets < 4096 {
-        8
-    } else if octets < 65536 {
-        2
-    } else {
-        1
-    }
+    if octets < 4096 { 4 } else { 1 }
 }
 
 /// The answer to the calls of a row. Rows that sweep have another answer of their own.
