@@ -160,6 +160,16 @@ doubled_values() {
     for (i = 1; i <= n; i++) print "v" i " T" i " ::= {v" i - 1 ", v" i - 1 "}" }' | in_module
 }
 
+# named_doubled N: N values that each name one such value of 19 levels, which has 2^20 nodes.
+named_doubled() {
+  awk -v n="$1" 'BEGIN {
+    print "T0 ::= NULL"
+    for (i = 1; i <= 19; i++) print "T" i " ::= SEQUENCE OF T" i - 1
+    print "v0 T0 ::= NULL"
+    for (i = 1; i <= 19; i++) print "v" i " T" i " ::= {v" i - 1 ", v" i - 1 "}"
+    for (i = 0; i < n; i++) print "w" i " T19 ::= v19" }' | in_module
+}
+
 # doubled_defaults N: such a value of 17 levels, as the DEFAULT of N components, 200 in a list.
 doubled_defaults() {
   awk -v n="$1" 'BEGIN {
@@ -252,6 +262,7 @@ measure narrowed_union 5000 10000 20000
 measure long_default 5000 10000 20000
 measure doubled_values 16 17 18
 measure doubled_values 24
+measure named_doubled 100 200 400
 measure doubled_defaults 5 10 20
 measure record_values 10000 20000 40000
 measure endless 180 360 720

@@ -3,7 +3,7 @@
 ghost use Rattle.std.specs.Prelude.{◌≡◌, ◌<◌, Some, OnOk, IfErr, length, slice_get, map};
 ghost use Rattle.names.specs.Sources.{value_of as value_seen};
 ghost use Rattle.type_table.specs.Lists.{AreSound};
-ghost use Rattle.typed_values.specs.Known.{AreKnown};
+ghost use Rattle.typed_values.specs.Found.{AreFound};
 ghost use Rattle.extensions.specs.Faults.{IsFirstValue, IsTypedValue};
 ghost use Rattle.extensions.specs.SchemaOfModules.{AreTypedValues};
 ghost use Rattle.extensions.specs.proving.Tables.{IsWrongValue, Reports};
@@ -13,28 +13,28 @@ use asn_base::schema::TypeId;
 use constraints::Bounded;
 use names::ValueAt;
 use std::alloc::Global;
-use typed_values::Defaults;
+use typed_values::Found;
 
 /// Checks that the notation of this value assignment is that of a value of its type.
 fn is_typed<'a>(
     alloc: Global,
     bounded: &Bounded<'a>,
-    defaults: &mut Defaults,
+    found: &mut Found,
     number: usize,
     value: &'a ValueAt,
 ) -> Result<(), Wrong<'a>>
     requires is { slice_get bounded.now.values number ≡ Some (value_seen value.now) }
     requires sound { AreSound bounded.now.types }
-    requires known { AreKnown bounded.now defaults.old }
+    requires known { AreFound bounded.now found.old }
     ensures typed { OnOk result (IsTypedValue bounded.now number) }
     ensures fault { IfErr result (Reports (IsWrongValue bounded.now number)) }
-    ensures known { AreKnown bounded.now defaults.new }
+    ensures known { AreFound bounded.now found.new }
 {
     let linked = bounded.linked();
     linked.whole();
     let home = linked.assigned(value.assignment);
     let ty = TypeId { index: value.ty };
-    match judged(alloc, bounded, defaults, ty, home.module, &value.syntax) {
+    match judged(alloc, bounded, found, ty, home.module, &value.syntax) {
         Ok(()) => Ok(()),
         Err(wrong) => Err(wrong),
     }
@@ -45,18 +45,18 @@ fn is_typed<'a>(
 pub(crate) fn all_typed<'a>(
     alloc: Global,
     bounded: &Bounded<'a>,
-    defaults: &mut Defaults,
+    found: &mut Found,
     values: &'a [ValueAt],
 ) -> Result<(), Wrong<'a>>
     requires is { map value_seen values.now ≡ bounded.now.values }
     requires sound { AreSound bounded.now.types }
-    requires known { AreKnown bounded.now defaults.old }
+    requires known { AreFound bounded.now found.old }
     ensures typed { OnOk result (AreTypedValues bounded.now) }
     ensures fault { IfErr result (Reports (IsFirstValue bounded.now)) }
-    ensures known { AreKnown bounded.now defaults.new }
+    ensures known { AreFound bounded.now found.new }
 {
     for number in 0..values.len() {
-        match is_typed(alloc, bounded, defaults, number, &values[number]) {
+        match is_typed(alloc, bounded, found, number, &values[number]) {
             Ok(()) => {}
             Err(wrong) => return Err(wrong),
         }

@@ -3,7 +3,7 @@
 ghost use Rattle.std.specs.Prelude.{◌≡◌, ◌++◌, ◌∷◌, [], ◌<◌, IfOk, IfErr, OnOk, length, map, option_map, slice_get, Some};
 ghost use Rattle.type_table.specs.Lists.{AreSound};
 ghost use Rattle.type_table.specs.Seen.{part_of, type_of, types_of};
-ghost use Rattle.typed_values.specs.Known.{AreKnown};
+ghost use Rattle.typed_values.specs.Found.{AreFound};
 ghost use Rattle.extensions.specs.proving.Defaults.{AreDefaultsOf, IsDefaultOf};
 ghost use Rattle.extensions.specs.Faults.{IsFirstDefault, IsFirstIn, IsWrongDefault};
 ghost use Rattle.extensions.specs.proving.Tables.{AreDefaultsAt, AreTabled, HaveTypes, IsFirstAt, Reports, defaults_seen, shared_seen, table_seen};
@@ -15,24 +15,24 @@ use constraints::Bounded;
 use std::alloc::{AllocError, Global};
 use trees::PresenceSyntax;
 use type_table::{ListMember, Shape, TypeNode};
-use typed_values::Defaults;
+use typed_values::Found;
 
 /// The value of a component's DEFAULT, whose notation is in this module, or None if the component has no DEFAULT.
 fn default_of<'a>(
     alloc: Global,
     bounded: &Bounded<'a>,
-    defaults: &mut Defaults,
+    found: &mut Found,
     pool: &mut Pool,
     within: &'a str,
     component: &'a ListMember,
 ) -> Result<Option<Shared>, Wrong<'a>>
     requires there { component.now.ty < length bounded.now.types }
     requires sound { AreSound bounded.now.types }
-    requires known { AreKnown bounded.now defaults.old }
+    requires known { AreFound bounded.now found.old }
     ensures value { IfOk result
         (λ v. IsDefaultOf bounded.now within.now (part_of component.now) (option_map shared_seen v)) }
     ensures fault { IfErr result (Reports (IsWrongDefault bounded.now within.now (part_of component.now))) }
-    ensures known { AreKnown bounded.now defaults.new }
+    ensures known { AreFound bounded.now found.new }
 {
     let ty = TypeId {
         index: component.ty,
@@ -41,7 +41,7 @@ fn default_of<'a>(
         PresenceSyntax::Mandatory => Ok(None),
         PresenceSyntax::Optional => Ok(None),
         PresenceSyntax::Default(notation) => {
-            match value_of(alloc, bounded, defaults, ty, within, notation) {
+            match value_of(alloc, bounded, found, ty, within, notation) {
                 Ok(value) => match pool.place(alloc, bounded.linked(), within, notation, value) {
                     Ok(shared) => Ok(Some(shared)),
                     Err(_) => Err(Wrong::Memory),
@@ -65,22 +65,22 @@ fn add(values: &mut Vec<Option<Shared>>, value: Option<Shared>) -> Result<(), Al
 fn defaults_in<'a>(
     alloc: Global,
     bounded: &Bounded<'a>,
-    defaults: &mut Defaults,
+    found: &mut Found,
     pool: &mut Pool,
     within: &'a str,
     components: &'a [ListMember],
 ) -> Result<Vec<Option<Shared>>, Wrong<'a>>
     requires there { HaveTypes (length bounded.now.types) (map part_of components.now) }
     requires sound { AreSound bounded.now.types }
-    requires known { AreKnown bounded.now defaults.old }
+    requires known { AreFound bounded.now found.old }
     ensures values { IfOk result
         (λ v. AreDefaultsOf bounded.now within.now (map part_of components.now) (defaults_seen v.items)) }
     ensures fault { IfErr result (Reports (IsFirstIn bounded.now within.now (map part_of components.now))) }
-    ensures known { AreKnown bounded.now defaults.new }
+    ensures known { AreFound bounded.now found.new }
 {
     let mut values = Vec::new(alloc);
     for at in 0..components.len() {
-        match default_of(alloc, bounded, defaults, pool, within, &components[at]) {
+        match default_of(alloc, bounded, found, pool, within, &components[at]) {
             Ok(value) => match add(&mut values, value) {
                 Ok(()) => {}
                 Err(_) => return Err(Wrong::Memory),
@@ -95,7 +95,7 @@ fn defaults_in<'a>(
 fn defaults_at<'a>(
     alloc: Global,
     bounded: &Bounded<'a>,
-    defaults: &mut Defaults,
+    found: &mut Found,
     pool: &mut Pool,
     ty: usize,
     written: &'a TypeNode,
@@ -103,10 +103,10 @@ fn defaults_at<'a>(
     requires there { ty < length bounded.now.types }
     requires is { slice_get bounded.now.types ty ≡ Some (type_of written.now) }
     requires sound { AreSound bounded.now.types }
-    requires known { AreKnown bounded.now defaults.old }
+    requires known { AreFound bounded.now found.old }
     ensures values { IfOk result (λ v. AreDefaultsAt bounded.now ty (defaults_seen v.items)) }
     ensures fault { IfErr result (Reports (IsFirstAt bounded.now ty)) }
-    ensures known { AreKnown bounded.now defaults.new }
+    ensures known { AreFound bounded.now found.new }
 {
     let linked = bounded.linked();
     linked.whole();
@@ -115,7 +115,7 @@ fn defaults_at<'a>(
         Shape::Members(_, _, components) => defaults_in(
             alloc,
             bounded,
-            defaults,
+            found,
             pool,
             home.module,
             components,
@@ -140,15 +140,15 @@ fn put(table: &mut Vec<Vec<Option<Shared>>>, values: Vec<Option<Shared>>) -> Res
 pub(crate) fn all_defaults<'a>(
     alloc: Global,
     bounded: &Bounded<'a>,
-    defaults: &mut Defaults,
+    found: &mut Found,
     types: &'a [TypeNode],
 ) -> Result<Vec<Vec<Option<Shared>>>, Wrong<'a>>
     requires types { types_of types.now ≡ bounded.now.types }
     requires sound { AreSound bounded.now.types }
-    requires known { AreKnown bounded.now defaults.old }
+    requires known { AreFound bounded.now found.old }
     ensures table { IfOk result (λ t. AreTabled bounded.now (length bounded.now.types) (table_seen t.items)) }
     ensures fault { IfErr result (Reports (IsFirstDefault bounded.now)) }
-    ensures known { AreKnown bounded.now defaults.new }
+    ensures known { AreFound bounded.now found.new }
 {
     let mut pool = match Pool::of(alloc, bounded.linked().values().len()) {
         Ok(pool) => pool,
@@ -156,7 +156,7 @@ pub(crate) fn all_defaults<'a>(
     };
     let mut table = Vec::new(alloc);
     for ty in 0..types.len() {
-        match defaults_at(alloc, bounded, defaults, &mut pool, ty, &types[ty]) {
+        match defaults_at(alloc, bounded, found, &mut pool, ty, &types[ty]) {
             Ok(values) => match put(&mut table, values) {
                 Ok(()) => {}
                 Err(_) => return Err(Wrong::Memory),

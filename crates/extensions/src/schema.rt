@@ -14,7 +14,7 @@ use asn_base::schema::Resolved;
 use constraints::Bounded;
 use settled::additions::additions;
 use std::alloc::Global;
-use typed_values::Defaults;
+use typed_values::Found;
 
 /// The types of the schema of bounded modules: one for each written type, with the same number. The modules must be
 /// those that parsing and linking give. First markers and additions are checked, then each DEFAULT in the order of
@@ -32,7 +32,7 @@ pub fn settled_types<'a>(
         Ok(()) => {}
         Err(fault) => return Err(of_additions(fault)),
     }
-    let mut known = match Defaults::of(alloc, bounded) {
+    let mut known = match Found::of(alloc, bounded) {
         Ok(known) => known,
         Err(_) => return Err(ExtFault::Memory),
     };

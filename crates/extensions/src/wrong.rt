@@ -7,7 +7,7 @@ ghost use Rattle.type_table.specs.Lists.{AreSound};
 ghost use Rattle.resolve.specs.Program.{Program};
 ghost use Rattle.typed_values.specs.declared.fault.Cause.TheVariants as causes;
 ghost use Rattle.typed_values.specs.Faults.{IsRightFault};
-ghost use Rattle.typed_values.specs.Known.{AreKnown};
+ghost use Rattle.typed_values.specs.Found.{AreFound};
 ghost use Rattle.value_notations.specs.Values.{IsTyped};
 ghost use Rattle.settled.specs.values.Allowing.{Allows, AllowsCode};
 ghost use Rattle.extensions.specs.Faults.{IsWrong};
@@ -19,7 +19,7 @@ use asn_base::value::Value;
 use constraints::Bounded;
 use std::alloc::Global;
 use trees::ValueSyntax;
-use typed_values::{Cause, Defaults, ValueFault, check_with, read_with};
+use typed_values::{Cause, Found, ValueFault, check_with, read_with};
 
 /// Why there is no value: an allocation failed, or a notation has this fault.
 #[derive(Clone, Copy)]
@@ -57,19 +57,19 @@ fn wrong_of<'a>(fault: ValueFault<'a>) -> Wrong<'a>
 pub(crate) fn judged<'a>(
     alloc: Global,
     bounded: &Bounded<'a>,
-    defaults: &mut Defaults,
+    found: &mut Found,
     ty: TypeId,
     within: &'a str,
     notation: &'a ValueSyntax,
 ) -> Result<(), Wrong<'a>>
     requires there { ty.index < length bounded.now.types }
     requires sound { AreSound bounded.now.types }
-    requires known { AreKnown bounded.now defaults.old }
+    requires known { AreFound bounded.now found.old }
     ensures value { OnOk result (HasTypedValue bounded.now within.now ty.index (tree_of notation.now)) }
     ensures fault { IfErr result (Reports (IsWrong bounded.now within.now ty.index (tree_of notation.now))) }
-    ensures known { AreKnown bounded.now defaults.new }
+    ensures known { AreFound bounded.now found.new }
 {
-    match check_with(alloc, bounded, defaults, ty, within, notation) {
+    match check_with(alloc, bounded, found, ty, within, notation) {
         Ok(()) => Ok(()),
         Err(fault) => Err(wrong_of(fault)),
     }
@@ -80,25 +80,25 @@ pub(crate) fn judged<'a>(
 pub(crate) fn value_of<'a>(
     alloc: Global,
     bounded: &Bounded<'a>,
-    defaults: &mut Defaults,
+    found: &mut Found,
     ty: TypeId,
     within: &'a str,
     notation: &'a ValueSyntax,
 ) -> Result<Value, Wrong<'a>>
     requires there { ty.index < length bounded.now.types }
     requires sound { AreSound bounded.now.types }
-    requires known { AreKnown bounded.now defaults.old }
+    requires known { AreFound bounded.now found.old }
     ensures value { IfOk result
         (λ v. IsTyped bounded.now (Allows bounded.now) (AllowsCode bounded.now) within.now ty.index
         (tree_of notation.now) (abstract v)) }
     ensures fault { IfErr result (Reports (IsWrong bounded.now within.now ty.index (tree_of notation.now))) }
-    ensures known { AreKnown bounded.now defaults.new }
+    ensures known { AreFound bounded.now found.new }
 {
-    match judged(alloc, bounded, defaults, ty, within, notation) {
+    match judged(alloc, bounded, found, ty, within, notation) {
         Ok(()) => {}
         Err(wrong) => return Err(wrong),
     }
-    match read_with(alloc, bounded, defaults, ty, within, notation) {
+    match read_with(alloc, bounded, found, ty, within, notation) {
         Ok(value) => Ok(value),
         Err(fault) => Err(wrong_of(fault)),
     }

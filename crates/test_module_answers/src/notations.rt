@@ -13,7 +13,7 @@ use names::{Assigned, ValueAt};
 use resolve::Linked;
 use std::alloc::{AllocError, Global};
 use trees::ValueSyntax;
-use typed_values::{Cause, Defaults, ValueFault, read_with, typed};
+use typed_values::{Cause, Found, ValueFault, read_with, typed};
 use value_diagnostics::number;
 
 /// More levels than a value has.
@@ -109,10 +109,10 @@ fn twice<'a>(
     requires there { ty.index < length bounded.now.types }
     requires sound { AreSound bounded.now.types }
 {
-    let mut defaults = Defaults::of(alloc, bounded)?;
-    let first = read_with(alloc, bounded, &mut defaults, ty, within, notation);
+    let mut found = Found::of(alloc, bounded)?;
+    let first = read_with(alloc, bounded, &mut found, ty, within, notation);
     drop(first);
-    Ok(read_with(alloc, bounded, &mut defaults, ty, within, notation))
+    Ok(read_with(alloc, bounded, &mut found, ty, within, notation))
 }
 
 /// The answer for a notation that is read alone and with a table of DEFAULTs.

@@ -47,6 +47,19 @@ mutual
   more_elements values.no_element = values.no_element
   more_elements (values.one_element v r) = values.one_element (one_more v) (more_elements r)
 
+pub value_at_more : {p : Program} {i : ℕ} {v : AbstractValue} (m n : ℕ) → m ≤ n →
+    ValueIn p (Allows p) (AllowsCode p) m i v → ValueIn p (Allows p) (AllowsCode p) n i v
+value_at_more {p} {i} {v} m zero l a =
+    subst (λ q. ValueIn p (Allows p) (AllowsCode p) q i v) (let e : m ≡ 0 = omega (arith, l) in e) a
+value_at_more {p} {i} {v} m (suc n) l a =
+    elim (less_or_more m (suc n)) [
+      | inl e ↦ subst (λ q. ValueIn p (Allows p) (AllowsCode p) q i v) e a
+      | inr h ↦ elim h [
+        | inl b ↦ one_more (value_at_more m n (omega (arith, b)) a)
+        | inr b ↦ absurd (omega (arith, b, l))
+      ]
+    ]
+
 pub absent_at_more : {p : Program} {M : Name} {c : Part} (m n : ℕ) → m ≤ n →
     MayBeAbsent p (Allows p) (AllowsCode p) m M c → MayBeAbsent p (Allows p) (AllowsCode p) n M c
 absent_at_more {p} {M} {c} m zero l a =

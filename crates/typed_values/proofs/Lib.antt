@@ -6,3 +6,8 @@ pub mod Outcomes
 pub mod Shown
 pub mod Excluding
 pub mod Absences
+pub mod Unders
+pub mod Ready
+pub mod Layers
+pub mod Tables
+pub mod Sizes

@@ -2,3 +2,5 @@
 pub mod Outcomes
 pub mod Reading
 pub mod Forms
+pub mod Ready
+pub mod Entries

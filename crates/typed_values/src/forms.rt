@@ -1,10 +1,11 @@
-//! What the form of a notation holds.
+//! What the form of a notation holds, and which lists are CHOICEs.
 
-ghost use Rattle.std.specs.Prelude.{◌≡◌, MatchOption, map, option_map};
+ghost use Rattle.std.specs.Prelude.{◌≡◌, MatchOption, false, map, option_map, true};
+ghost use Rattle.trees.specs.declared.types.ListKind.TheVariants.{Choice as choice};
 ghost use Rattle.trees.specs.Values.{Name, Tree, chosen, member_of, members, tree_of, trees};
 ghost use Rattle.typed_values.specs.proving.Forms.{members_in, trees_in};
 
-use trees::{Named, ValueForm, ValueSyntax};
+use trees::{ListKind, Named, ValueForm, ValueSyntax};
 
 /// The values in braces, or None if the notation is no such braces.
 pub(crate) fn values_in(notation: &ValueSyntax) -> Option<&[ValueSyntax]>
@@ -40,5 +41,17 @@ pub(crate) fn chosen_in(notation: &ValueSyntax) -> Option<(&str, &ValueSyntax)>
             Some((name.as_str(), value))
         }
         _ => None,
+    }
+}
+
+/// Whether the list is a CHOICE.
+pub(crate) fn is_choice(kind: ListKind) -> bool
+    ensures yes { result ≡ true → kind ≡ choice }
+    ensures no { result ≡ false → kind ≡ choice → ⊥ }
+{
+    match kind {
+        ListKind::Choice => true,
+        ListKind::Sequence => false,
+        ListKind::Set => false,
     }
 }

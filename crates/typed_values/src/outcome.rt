@@ -1,6 +1,6 @@
 //! What is made of a notation that stands for a value: the value, or nothing at all.
 
-ghost use Rattle.std.specs.Prelude.{◌≡◌, ℕ, List, Option, IfOk};
+ghost use Rattle.std.specs.Prelude.{◌≡◌, ℕ, List, Option, IfOk, IfSome};
 ghost use Rattle.std.specs.List.{AllZip};
 ghost use Rattle.asn_base.specs.Abstract.{AbstractValue, abstract, alternative, fields, list, row_of_list, row_of_options};
 ghost use Rattle.typed_values.specs.proving.Outcomes.{ShowsOption};
@@ -13,6 +13,10 @@ use std::alloc::{AllocError, Global};
 pub(crate) trait Outcome: Sized + Drop {
     /// The outcome is one for this value.
     ghost shows: { Self → AbstractValue → Type 0 };
+
+    /// The outcome for any value, if there is such a one.
+    fn known() -> Option<Self>
+        ensures { IfSome result (λ r. (v : AbstractValue) → shows r v) };
 
     /// The outcome for a value that holds no others.
     fn leaf(value: Value) -> Self
@@ -35,6 +39,12 @@ pub(crate) trait Outcome: Sized + Drop {
 /// The value itself.
 impl Outcome for Value {
     ghost shows = { λ x v. abstract x ≡ v };
+
+    fn known() -> Option<Value>
+        ensures { IfSome result (λ r. (v : AbstractValue) → abstract r ≡ v) }
+    {
+        None
+    }
 
     fn leaf(value: Value) -> Value
         ensures { abstract result ≡ abstract value }
@@ -73,6 +83,12 @@ pub(crate) struct CheckedOnly;
 
 impl Outcome for CheckedOnly {
     ghost shows = { λ x v. Unit {0} };
+
+    fn known() -> Option<CheckedOnly>
+        ensures { IfSome result (λ r. (v : AbstractValue) → Unit {0}) }
+    {
+        Some(CheckedOnly)
+    }
 
     fn leaf(value: Value) -> CheckedOnly
         ensures { Unit {0} }

@@ -18,17 +18,22 @@ ghost use Rattle.values.specs.Allowing.{Allows, AllowsCode};
 ghost use Rattle.values.specs.Arranged.{place_of};
 ghost use Rattle.typed_values.specs.Faults.{HasKindIn, IsRightFault};
 ghost use Rattle.typed_values.specs.Known.{AreKnown, AreListed, IsListed};
-ghost use Rattle.typed_values.specs.proving.Reading.{Answers, ArePlaced, IsMade, IsWrongDefault, IsWrongField, MakeFields, MakeRow, MakesField, FailsInField, FailsInOne};
+ghost use Rattle.typed_values.specs.Kept.{AreRight, HasSize, IsNameOf};
+ghost use Rattle.typed_values.specs.Ranks.{EachUnder, NamedUnder, Under};
+ghost use Rattle.typed_values.specs.proving.Ready.{IsReady, IsStrict};
+ghost use Rattle.typed_values.specs.proving.Reading.{Answers, ArePlaced, IsWrongDefault, IsWrongField, MakeFields, MakeRow, MakesField, FailsInField, FailsInOne};
 
 use crate::fault::{Cause, ValueFault, ValueSite, follow_cause, names_cause};
-use crate::forms::{chosen_in, fields_in, values_in};
+use crate::forms::{chosen_in, fields_in, is_choice, values_in};
+use crate::kept::{kept, kept_number};
 use crate::levels::Defaults;
-use crate::outcome::{CheckedOnly, Outcome};
+use crate::named_values::{NamedValues, Size};
+use crate::outcome::Outcome;
+use crate::ranks::Ranks;
 use crate::room::room_for;
 use crate::simple::simple_value;
 use crate::written::written;
 use asn_base::schema::TypeId;
-use asn_base::value::Value;
 use limits::MAX_NODES;
 use std::alloc::Global;
 use trees::{ListKind, Named, PresenceSyntax, Standing, ValueSyntax};
@@ -39,27 +44,15 @@ use values::constraints::{Bounded, allows_size};
 use values::law::{lemma_groups_are_whole, lemma_value_of_fields};
 use values::{alternative, arranged};
 
-/// The most levels that a value may have.
-const MOST_LEVELS: u8 = 64;
-
-/// Whether the list is a CHOICE.
-fn is_choice(kind: ListKind) -> bool
-    ensures yes { result ≡ true → kind ≡ choice }
-    ensures no { result ≡ false → kind ≡ choice → ⊥ }
-{
-    match kind {
-        ListKind::Choice => true,
-        ListKind::Sequence => false,
-        ListKind::Set => false,
-    }
-}
-
 /// Reads a notation under a type, if `levels` levels and `left` nodes are left. `opened` are the values whose notations
-/// are being read; those that the reading of a value adds are removed again.
+/// are being read; those that the reading of a value adds are removed again. A name of a value is read once for each
+/// type, if no value is built and if the value's notation can't lead back to it.
 #[cycle(reading)]
-fn read<'a, O: Outcome>(
+pub(crate) fn read<'a, O: Outcome>(
     alloc: Global,
     bounded: &Bounded<'a>,
+    ranks: &Ranks,
+    named: &mut NamedValues,
     defaults: &mut Defaults,
     levels: u8,
     left: &mut u32,
@@ -69,10 +62,149 @@ fn read<'a, O: Outcome>(
     requires there { at.ty.index < length bounded.now.types }
     requires sound { AreSound bounded.now.types }
     requires known { AreKnown bounded.now defaults.old }
+    requires ready { IsReady bounded.now ranks.now named.old opened.old
+        (λ b. Under bounded.now ranks.now.0 b at.within.now (tree_of at.notation.now)) }
     ensures is_read { Answers O.shows bounded.now levels left.old left.new opened.old
         at.entry.within.now at.entry.ty.index (tree_of at.entry.notation.now) result }
     ensures back { OnOk result (opened.new ≡ opened.old) }
     ensures known { AreKnown bounded.now defaults.new }
+    ensures right { AreRight bounded.now ranks.now named.new }
+{
+    match kept_number::<O>(bounded.linked(), ranks, at) {
+        None => read_through(
+            alloc, bounded, ranks, named, defaults, levels, left, opened, at,
+        ),
+        Some(number) => read_named(
+            alloc, bounded, ranks, named, defaults, levels, left, opened, at, number,
+        ),
+    }
+}
+
+/// Reads a name of a value, unless the table has the value under the type, and enough levels and nodes are left. After
+/// the reading the table has it.
+#[cycle(reading)]
+fn read_named<'a, O: Outcome>(
+    alloc: Global,
+    bounded: &Bounded<'a>,
+    ranks: &Ranks,
+    named: &mut NamedValues,
+    defaults: &mut Defaults,
+    levels: u8,
+    left: &mut u32,
+    opened: &mut Opened,
+    at: ValueSite<'a>,
+    number: usize,
+) -> Result<O, ValueFault<'a>>
+    requires there { at.ty.index < length bounded.now.types }
+    requires sound { AreSound bounded.now.types }
+    requires known { AreKnown bounded.now defaults.old }
+    requires ready { IsReady bounded.now ranks.now named.old opened.old
+        (λ b. Under bounded.now ranks.now.0 b at.within.now (tree_of at.notation.now)) }
+    requires names { IsNameOf bounded.now at.ty.index at.within.now (tree_of at.notation.now) number }
+    requires strict { IsStrict ranks.now number }
+    ensures is_read { Answers O.shows bounded.now levels left.old left.new opened.old
+        at.entry.within.now at.entry.ty.index (tree_of at.entry.notation.now) result }
+    ensures back { OnOk result (opened.new ≡ opened.old) }
+    ensures known { AreKnown bounded.now defaults.new }
+    ensures right { AreRight bounded.now ranks.now named.new }
+{
+    match kept::<O>(named, defaults, number, at.ty, levels, left) {
+        Some(outcome) => return Ok(outcome),
+        None => {}
+    }
+    let before = defaults.begin(levels);
+    let start = *left;
+    let value = match read_through(
+        alloc, bounded, ranks, named, defaults, levels, left, opened, at,
+    ) {
+        Ok(value) => value,
+        Err(fault) => return Err(fault),
+    };
+    let used = defaults.used(levels);
+    let most = Size {
+        nodes: start - *left,
+        levels,
+    };
+    let size = size_of::<O>(alloc, bounded, ranks, named, defaults, used, most, at);
+    match named.keep(number, at.ty, size) {
+        Ok(()) => {}
+        Err(_) => {
+            let cause = Cause::Memory;
+            return Err(ValueFault { at, cause });
+        }
+    }
+    let _ = defaults.begin(before);
+    defaults.reach(levels - used);
+    Ok(value)
+}
+
+/// How many nodes and levels the value has that a notation stands for, if it has at most `levels` levels; `most` if the
+/// second reading fails.
+#[cycle(reading)]
+fn size_of<'a, O: Outcome>(
+    alloc: Global,
+    bounded: &Bounded<'a>,
+    ranks: &Ranks,
+    named: &mut NamedValues,
+    defaults: &mut Defaults,
+    levels: u8,
+    most: Size,
+    at: ValueSite<'a>,
+) -> Size
+    requires there { at.ty.index < length bounded.now.types }
+    requires sound { AreSound bounded.now.types }
+    requires known { AreKnown bounded.now defaults.old }
+    requires right { AreRight bounded.now ranks.now named.old }
+    requires most { HasSize bounded.now at.within.now at.ty.index (tree_of at.notation.now) most.nodes most.levels }
+    ensures size { HasSize bounded.now at.entry.within.now at.entry.ty.index (tree_of at.entry.notation.now)
+        result.nodes result.levels }
+    ensures known { AreKnown bounded.now defaults.new }
+    ensures right { AreRight bounded.now ranks.now named.new }
+{
+    let mut left = most.nodes;
+    let mut opened = Opened::new(alloc);
+    match read_through::<O>(
+        alloc,
+        bounded,
+        ranks,
+        named,
+        defaults,
+        levels,
+        &mut left,
+        &mut opened,
+        at,
+    ) {
+        Ok(_) => Size {
+            nodes: most.nodes - left,
+            levels,
+        },
+        Err(_) => most,
+    }
+}
+
+/// Reads a notation under a type, also if it is a name of a value that was read before.
+#[cycle(reading)]
+fn read_through<'a, O: Outcome>(
+    alloc: Global,
+    bounded: &Bounded<'a>,
+    ranks: &Ranks,
+    named: &mut NamedValues,
+    defaults: &mut Defaults,
+    levels: u8,
+    left: &mut u32,
+    opened: &mut Opened,
+    at: ValueSite<'a>,
+) -> Result<O, ValueFault<'a>>
+    requires there { at.ty.index < length bounded.now.types }
+    requires sound { AreSound bounded.now.types }
+    requires known { AreKnown bounded.now defaults.old }
+    requires ready { IsReady bounded.now ranks.now named.old opened.old
+        (λ b. Under bounded.now ranks.now.0 b at.within.now (tree_of at.notation.now)) }
+    ensures is_read { Answers O.shows bounded.now levels left.old left.new opened.old
+        at.entry.within.now at.entry.ty.index (tree_of at.entry.notation.now) result }
+    ensures back { OnOk result (opened.new ≡ opened.old) }
+    ensures known { AreKnown bounded.now defaults.new }
+    ensures right { AreRight bounded.now ranks.now named.new }
 {
     if levels == 0 {
         let cause = Cause::Depth;
@@ -96,6 +228,8 @@ fn read<'a, O: Outcome>(
             match value_of(
                 alloc,
                 bounded,
+                ranks,
+                named,
                 defaults,
                 levels - 1,
                 left,
@@ -122,6 +256,8 @@ fn read<'a, O: Outcome>(
 fn value_of<'a, O: Outcome>(
     alloc: Global,
     bounded: &Bounded<'a>,
+    ranks: &Ranks,
+    named: &mut NamedValues,
     defaults: &mut Defaults,
     levels: u8,
     left: &mut u32,
@@ -136,6 +272,8 @@ fn value_of<'a, O: Outcome>(
     requires sound { AreSound bounded.now.types }
     requires written { HasKindIn bounded.now at.ty.index (kind_of shape.now) home.now }
     requires known { AreKnown bounded.now defaults.old }
+    requires ready { IsReady bounded.now ranks.now named.old opened.old
+        (λ b. Under bounded.now ranks.now.0 b within.now (tree_of last.now)) }
     ensures is_read { (os : List ℕ)
         → IsLast bounded.now (kind_of shape.now) os at.entry.within.now
         (tree_of at.entry.notation.now) opened.old within.now
@@ -145,6 +283,7 @@ fn value_of<'a, O: Outcome>(
         result }
     ensures back { OnOk result (opened.new ≡ opened.old) }
     ensures known { AreKnown bounded.now defaults.new }
+    ensures right { AreRight bounded.now ranks.now named.new }
 {
     let linked = bounded.linked();
     linked.whole();
@@ -156,19 +295,21 @@ fn value_of<'a, O: Outcome>(
         Shape::Elements(_, element) => {
             let element = TypeId { index: *element };
             list(
-                alloc, bounded, defaults, levels, left, opened, at, element, within, last,
+                alloc, bounded, ranks, named, defaults, levels, left, opened, at, element, within,
+                last,
             )
         }
         Shape::Members(kind, _, parts) => {
             let members = parts.as_slice();
             if is_choice(*kind) {
                 chosen(
-                    alloc, bounded, defaults, levels, left, opened, at, members, within, last,
+                    alloc, bounded, ranks, named, defaults, levels, left, opened, at, members,
+                    within, last,
                 )
             } else {
                 fields(
-                    alloc, bounded, defaults, levels, left, opened, at, *kind, members, home,
-                    within, last,
+                    alloc, bounded, ranks, named, defaults, levels, left, opened, at, *kind,
+                    members, home, within, last,
                 )
             }
         }
@@ -182,6 +323,8 @@ fn value_of<'a, O: Outcome>(
 fn list<'a, O: Outcome>(
     alloc: Global,
     bounded: &Bounded<'a>,
+    ranks: &Ranks,
+    named: &mut NamedValues,
     defaults: &mut Defaults,
     levels: u8,
     left: &mut u32,
@@ -195,6 +338,8 @@ fn list<'a, O: Outcome>(
     requires element { element.index < length bounded.now.types }
     requires sound { AreSound bounded.now.types }
     requires known { AreKnown bounded.now defaults.old }
+    requires ready { IsReady bounded.now ranks.now named.old opened.old
+        (λ b. Under bounded.now ranks.now.0 b within.now (tree_of last.now)) }
     ensures is_read { (os : List ℕ) (k : ElementsKind') (N : Name)
         → HasKindIn bounded.now at.entry.ty.index (elements k element.index) N
         → IsLast bounded.now (elements k element.index) os at.entry.within.now
@@ -205,13 +350,14 @@ fn list<'a, O: Outcome>(
         result }
     ensures back { OnOk result (opened.new ≡ opened.old) }
     ensures known { AreKnown bounded.now defaults.new }
+    ensures right { AreRight bounded.now ranks.now named.new }
 {
     let Some(notations) = values_in(last) else {
         let cause = Cause::NotOfType;
         return Err(ValueFault { at, cause });
     };
     let values = match all(
-        alloc, bounded, defaults, levels, left, opened, element, within, notations,
+        alloc, bounded, ranks, named, defaults, levels, left, opened, element, within, notations,
     ) {
         Ok(values) => values,
         Err(fault) => return Err(fault),
@@ -228,6 +374,8 @@ fn list<'a, O: Outcome>(
 fn all<'a, O: Outcome>(
     alloc: Global,
     bounded: &Bounded<'a>,
+    ranks: &Ranks,
+    named: &mut NamedValues,
     defaults: &mut Defaults,
     levels: u8,
     left: &mut u32,
@@ -239,12 +387,15 @@ fn all<'a, O: Outcome>(
     requires there { element.index < length bounded.now.types }
     requires sound { AreSound bounded.now.types }
     requires known { AreKnown bounded.now defaults.old }
+    requires ready { IsReady bounded.now ranks.now named.old opened.old
+        (λ b. EachUnder bounded.now ranks.now.0 b within.now (map tree_of notations.now)) }
     ensures value { IfOk result (λ vs. MakeRow O.shows bounded.now levels left.old left.new opened.old within.now
         element.index (map tree_of notations.now) vs.items) }
     ensures fault { IfErr result (FailsInOne bounded.now levels left.old opened.old within.now element.index
         (map tree_of notations.now)) }
     ensures back { OnOk result (opened.new ≡ opened.old) }
     ensures known { AreKnown bounded.now defaults.new }
+    ensures right { AreRight bounded.now ranks.now named.new }
 {
     let mut values = room_for(alloc, notations.len());
     for i in 0..notations.len() {
@@ -253,7 +404,9 @@ fn all<'a, O: Outcome>(
             within,
             notation: &notations[i],
         };
-        let value = match read(alloc, bounded, defaults, levels, left, opened, at) {
+        let value = match read(
+            alloc, bounded, ranks, named, defaults, levels, left, opened, at,
+        ) {
             Ok(value) => value,
             Err(fault) => return Err(fault),
         };
@@ -273,6 +426,8 @@ fn all<'a, O: Outcome>(
 fn chosen<'a, O: Outcome>(
     alloc: Global,
     bounded: &Bounded<'a>,
+    ranks: &Ranks,
+    named: &mut NamedValues,
     defaults: &mut Defaults,
     levels: u8,
     left: &mut u32,
@@ -286,6 +441,8 @@ fn chosen<'a, O: Outcome>(
         → c.ty < length bounded.now.types }
     requires sound { AreSound bounded.now.types }
     requires known { AreKnown bounded.now defaults.old }
+    requires ready { IsReady bounded.now ranks.now named.old opened.old
+        (λ b. Under bounded.now ranks.now.0 b within.now (tree_of last.now)) }
     ensures is_read { (os : List ℕ) (e : 𝔹) (N : Name)
         → HasKindIn bounded.now at.entry.ty.index (members choice e (map part_of alternatives.now)) N
         → IsLast bounded.now (members choice e (map part_of alternatives.now)) os at.entry.within.now
@@ -295,6 +452,7 @@ fn chosen<'a, O: Outcome>(
         result }
     ensures back { OnOk result (opened.new ≡ opened.old) }
     ensures known { AreKnown bounded.now defaults.new }
+    ensures right { AreRight bounded.now ranks.now named.new }
 {
     let Some((name, notation)) = chosen_in(last) else {
         let cause = Cause::NotOfType;
@@ -312,7 +470,9 @@ fn chosen<'a, O: Outcome>(
         within,
         notation,
     };
-    let value: O = match read(alloc, bounded, defaults, levels, left, opened, inner) {
+    let value: O = match read(
+        alloc, bounded, ranks, named, defaults, levels, left, opened, inner,
+    ) {
         Ok(value) => value,
         Err(fault) => return Err(fault),
     };
@@ -330,6 +490,8 @@ fn chosen<'a, O: Outcome>(
 fn fields<'a, O: Outcome>(
     alloc: Global,
     bounded: &Bounded<'a>,
+    ranks: &Ranks,
+    named: &mut NamedValues,
     defaults: &mut Defaults,
     levels: u8,
     left: &mut u32,
@@ -348,6 +510,8 @@ fn fields<'a, O: Outcome>(
     requires sound { AreSound bounded.now.types }
     requires listed { AreListed bounded.now home.now (map part_of components.now) }
     requires known { AreKnown bounded.now defaults.old }
+    requires ready { IsReady bounded.now ranks.now named.old opened.old
+        (λ b. Under bounded.now ranks.now.0 b within.now (tree_of last.now)) }
     ensures is_read { (os : List ℕ) (e : 𝔹)
         → HasKindIn bounded.now at.entry.ty.index (members kind e (map part_of components.now)) home.now
         → IsLast bounded.now (members kind e (map part_of components.now)) os at.entry.within.now
@@ -358,6 +522,7 @@ fn fields<'a, O: Outcome>(
         result }
     ensures back { OnOk result (opened.new ≡ opened.old) }
     ensures known { AreKnown bounded.now defaults.new }
+    ensures right { AreRight bounded.now ranks.now named.new }
 {
     lemma_value_of_fields();
     lemma_groups_are_whole();
@@ -375,6 +540,8 @@ fn fields<'a, O: Outcome>(
     match all_fields(
         alloc,
         bounded,
+        ranks,
+        named,
         defaults,
         levels,
         left,
@@ -396,6 +563,8 @@ fn fields<'a, O: Outcome>(
 fn all_fields<'a, O: Outcome>(
     alloc: Global,
     bounded: &Bounded<'a>,
+    ranks: &Ranks,
+    named: &mut NamedValues,
     defaults: &mut Defaults,
     levels: u8,
     left: &mut u32,
@@ -413,19 +582,22 @@ fn all_fields<'a, O: Outcome>(
     requires sound { AreSound bounded.now.types }
     requires listed { AreListed bounded.now home.now (map part_of components.now) }
     requires known { AreKnown bounded.now defaults.old }
+    requires ready { IsReady bounded.now ranks.now named.old opened.old
+        (λ b. NamedUnder bounded.now ranks.now.0 b within.now (map member_of given.now)) }
     ensures value { IfOk result (λ vs. MakeFields O.shows bounded.now levels left.old left.new opened.old within.now
         home.now (map member_of given.now) (map part_of components.now) vs.items) }
     ensures fault { IfErr result (FailsInField bounded.now levels left.old opened.old within.now home.now
         (map member_of given.now) (map part_of components.now)) }
     ensures back { OnOk result (opened.new ≡ opened.old) }
     ensures known { AreKnown bounded.now defaults.new }
+    ensures right { AreRight bounded.now ranks.now named.new }
 {
     let mut values = room_for(alloc, components.len());
     for i in 0..components.len() {
         let component = &components[i];
         let value = match field(
-            alloc, bounded, defaults, levels, left, opened, component, home, within, given,
-            places[i],
+            alloc, bounded, ranks, named, defaults, levels, left, opened, component, home, within,
+            given, places[i],
         ) {
             Ok(value) => value,
             Err(fault) => return Err(fault),
@@ -446,6 +618,8 @@ fn all_fields<'a, O: Outcome>(
 fn field<'a, O: Outcome>(
     alloc: Global,
     bounded: &Bounded<'a>,
+    ranks: &Ranks,
+    named: &mut NamedValues,
     defaults: &mut Defaults,
     levels: u8,
     left: &mut u32,
@@ -462,12 +636,15 @@ fn field<'a, O: Outcome>(
     requires sound { AreSound bounded.now.types }
     requires listed { IsListed bounded.now home.now (part_of component.now) }
     requires known { AreKnown bounded.now defaults.old }
+    requires ready { IsReady bounded.now ranks.now named.old opened.old
+        (λ b. NamedUnder bounded.now ranks.now.0 b within.now (map member_of given.now)) }
     ensures value { IfOk result (MakesField O.shows bounded.now levels left.old left.new opened.old within.now home.now
         (map member_of given.now) (part_of component.now)) }
     ensures fault { IfErr result (IsWrongField bounded.now levels left.old opened.old within.now home.now
         (map member_of given.now) (part_of component.now)) }
     ensures back { OnOk result (opened.new ≡ opened.old) }
     ensures known { AreKnown bounded.now defaults.new }
+    ensures right { AreRight bounded.now ranks.now named.new }
 {
     let ty = TypeId {
         index: component.ty,
@@ -480,12 +657,16 @@ fn field<'a, O: Outcome>(
                 within,
                 notation,
             };
-            match read(alloc, bounded, defaults, levels, left, opened, at) {
+            match read(
+                alloc, bounded, ranks, named, defaults, levels, left, opened, at,
+            ) {
                 Ok(value) => Ok(Some(value)),
                 Err(fault) => Err(fault),
             }
         }
-        None => match default::<O>(alloc, bounded, defaults, levels, component, home) {
+        None => match default::<O>(
+            alloc, bounded, ranks, named, defaults, levels, component, home,
+        ) {
             Ok(()) => Ok(None),
             Err(fault) => Err(fault),
         },
@@ -497,6 +678,8 @@ fn field<'a, O: Outcome>(
 fn default<'a, O: Outcome>(
     alloc: Global,
     bounded: &Bounded<'a>,
+    ranks: &Ranks,
+    named: &mut NamedValues,
     defaults: &mut Defaults,
     levels: u8,
     component: &'a ListMember,
@@ -507,10 +690,12 @@ fn default<'a, O: Outcome>(
     requires sound { AreSound bounded.now.types }
     requires listed { IsListed bounded.now home.now (part_of component.now) }
     requires known { AreKnown bounded.now defaults.old }
+    requires right { AreRight bounded.now ranks.now named.old }
     ensures may { OnOk result (MayBeAbsent bounded.now (Allows bounded.now) (AllowsCode bounded.now) levels home.now
         (part_of component.now)) }
     ensures fault { IfErr result (IsWrongDefault bounded.now levels home.now (part_of component.now)) }
     ensures known { AreKnown bounded.now defaults.new }
+    ensures right { AreRight bounded.now ranks.now named.new }
 {
     match component.standing {
         Standing::Addition(_) => Ok(()),
@@ -518,7 +703,7 @@ fn default<'a, O: Outcome>(
             PresenceSyntax::Mandatory => Ok(()),
             PresenceSyntax::Optional => Ok(()),
             PresenceSyntax::Default(notation) => whole_default::<O>(
-                alloc, bounded, defaults, levels, component, home, notation,
+                alloc, bounded, ranks, named, defaults, levels, component, home, notation,
             ),
         },
     }
@@ -530,6 +715,8 @@ fn default<'a, O: Outcome>(
 fn whole_default<'a, O: Outcome>(
     alloc: Global,
     bounded: &Bounded<'a>,
+    ranks: &Ranks,
+    named: &mut NamedValues,
     defaults: &mut Defaults,
     levels: u8,
     component: &'a ListMember,
@@ -542,21 +729,27 @@ fn whole_default<'a, O: Outcome>(
     requires sound { AreSound bounded.now.types }
     requires listed { IsListed bounded.now home.now (part_of component.now) }
     requires known { AreKnown bounded.now defaults.old }
+    requires right { AreRight bounded.now ranks.now named.old }
     ensures may { OnOk result (MayBeAbsent bounded.now (Allows bounded.now) (AllowsCode bounded.now) levels home.now
         (part_of component.now)) }
     ensures fault { IfErr result (IsWrongDefault bounded.now levels home.now (part_of component.now)) }
     ensures known { AreKnown bounded.now defaults.new }
+    ensures right { AreRight bounded.now ranks.now named.new }
 {
     if defaults.allows(bounded, component, home, levels) {
         return Ok(());
     }
     let before = defaults.begin(levels);
-    match read_default::<O>(alloc, bounded, defaults, levels, component, home, notation) {
+    match read_default::<O>(
+        alloc, bounded, ranks, named, defaults, levels, component, home, notation,
+    ) {
         Ok(()) => {}
         Err(fault) => return Err(fault),
     }
     let used = defaults.used(levels);
-    match read_default::<O>(alloc, bounded, defaults, used, component, home, notation) {
+    match read_default::<O>(
+        alloc, bounded, ranks, named, defaults, used, component, home, notation,
+    ) {
         Ok(()) => defaults.note(bounded, component, home, used),
         Err(_) => defaults.note(bounded, component, home, levels),
     }
@@ -570,6 +763,8 @@ fn whole_default<'a, O: Outcome>(
 fn read_default<'a, O: Outcome>(
     alloc: Global,
     bounded: &Bounded<'a>,
+    ranks: &Ranks,
+    named: &mut NamedValues,
     defaults: &mut Defaults,
     levels: u8,
     component: &'a ListMember,
@@ -581,10 +776,12 @@ fn read_default<'a, O: Outcome>(
     requires presence { (part_of component.now).presence ≡ default' (tree_of notation.now) }
     requires sound { AreSound bounded.now.types }
     requires known { AreKnown bounded.now defaults.old }
+    requires right { AreRight bounded.now ranks.now named.old }
     ensures may { OnOk result (MayBeAbsent bounded.now (Allows bounded.now) (AllowsCode bounded.now) levels home.now
         (part_of component.now)) }
     ensures fault { IfErr result (IsWrongDefault bounded.now levels home.now (part_of component.now)) }
     ensures known { AreKnown bounded.now defaults.new }
+    ensures right { AreRight bounded.now ranks.now named.new }
 {
     let at = ValueSite {
         ty: TypeId {
@@ -595,130 +792,18 @@ fn read_default<'a, O: Outcome>(
     };
     let mut left = MAX_NODES;
     let mut opened = Opened::new(alloc);
-    match read::<O>(alloc, bounded, defaults, levels, &mut left, &mut opened, at) {
-        Ok(_) => Ok(()),
-        Err(fault) => Err(fault),
-    }
-}
-
-/// What is made of a notation under a type, with 64 levels and 2^24 nodes.
-fn whole<'a, O: Outcome>(
-    alloc: Global,
-    bounded: &Bounded<'a>,
-    defaults: &mut Defaults,
-    at: ValueSite<'a>,
-) -> Result<O, ValueFault<'a>>
-    requires there { at.ty.index < length bounded.now.types }
-    requires sound { AreSound bounded.now.types }
-    requires known { AreKnown bounded.now defaults.old }
-    ensures value { IfOk result (IsMade O.shows bounded.now at.entry.within.now at.entry.ty.index
-        (tree_of at.entry.notation.now)) }
-    ensures fault { IfErr result (IsRightFault bounded.now 64 16777216 [] at.entry.within.now at.entry.ty.index
-        (tree_of at.entry.notation.now)) }
-    ensures known { AreKnown bounded.now defaults.new }
-{
-    let mut left = MAX_NODES;
-    let mut opened = Opened::new(alloc);
-    read(
+    match read::<O>(
         alloc,
         bounded,
+        ranks,
+        named,
         defaults,
-        MOST_LEVELS,
+        levels,
         &mut left,
         &mut opened,
         at,
-    )
-}
-
-/// The value that a notation stands for under a type (X.680, clause 17), as [`typed`] returns it. The caller gives the
-/// table, and one table serves all notations of the same modules.
-pub fn read_with<'a>(
-    alloc: Global,
-    bounded: &Bounded<'a>,
-    defaults: &mut Defaults,
-    ty: TypeId,
-    within: &'a str,
-    notation: &'a ValueSyntax,
-) -> Result<Value, ValueFault<'a>>
-    requires there { ty.index < length bounded.now.types }
-    requires sound { AreSound bounded.now.types }
-    requires known { AreKnown bounded.now defaults.old }
-    ensures value { IfOk result
-        (λ v. IsTyped bounded.now (Allows bounded.now) (AllowsCode bounded.now) within.now ty.index
-        (tree_of notation.now) (abstract v)) }
-    ensures fault { IfErr result (IsRightFault bounded.now 64 16777216 [] within.now ty.index (tree_of notation.now)) }
-    ensures known { AreKnown bounded.now defaults.new }
-{
-    let at = ValueSite {
-        ty,
-        within,
-        notation,
-    };
-    match whole::<Value>(alloc, bounded, defaults, at) {
-        Ok(value) => Ok(value),
-        Err(fault) => Err(fault),
-    }
-}
-
-/// Whether a notation stands for a value of a type, or its first fault, as [`read_with`] returns it. No value is
-/// built, so the call takes little memory, however many nodes the value has.
-pub fn check_with<'a>(
-    alloc: Global,
-    bounded: &Bounded<'a>,
-    defaults: &mut Defaults,
-    ty: TypeId,
-    within: &'a str,
-    notation: &'a ValueSyntax,
-) -> Result<(), ValueFault<'a>>
-    requires there { ty.index < length bounded.now.types }
-    requires sound { AreSound bounded.now.types }
-    requires known { AreKnown bounded.now defaults.old }
-    ensures value { OnOk result ((v : AbstractValue) × IsTyped bounded.now (Allows bounded.now) (AllowsCode bounded.now)
-        within.now ty.index (tree_of notation.now) v) }
-    ensures fault { IfErr result (IsRightFault bounded.now 64 16777216 [] within.now ty.index (tree_of notation.now)) }
-    ensures known { AreKnown bounded.now defaults.new }
-{
-    let at = ValueSite {
-        ty,
-        within,
-        notation,
-    };
-    match whole::<CheckedOnly>(alloc, bounded, defaults, at) {
+    ) {
         Ok(_) => Ok(()),
         Err(fault) => Err(fault),
-    }
-}
-
-/// The value that a notation stands for under a type (X.680, clause 17): `ty` is the type, `within` the name of the
-/// module in which the notation is read. A value has at most 64 levels and 2^24 nodes; an absent component counts with
-/// the levels of its DEFAULT.
-///
-/// The error is the first fault, in the order in which the notation is read, with its place: `Cause` says what is
-/// wrong.
-pub fn typed<'a>(
-    alloc: Global,
-    bounded: &Bounded<'a>,
-    ty: TypeId,
-    within: &'a str,
-    notation: &'a ValueSyntax,
-) -> Result<Value, ValueFault<'a>>
-    requires there { ty.index < length bounded.now.types }
-    requires sound { AreSound bounded.now.types }
-    ensures value { IfOk result
-        (λ v. IsTyped bounded.now (Allows bounded.now) (AllowsCode bounded.now) within.now ty.index
-        (tree_of notation.now) (abstract v)) }
-    ensures fault { IfErr result (IsRightFault bounded.now 64 16777216 [] within.now ty.index (tree_of notation.now)) }
-{
-    match Defaults::of(alloc, bounded) {
-        Ok(mut defaults) => read_with(alloc, bounded, &mut defaults, ty, within, notation),
-        Err(_) => {
-            let at = ValueSite {
-                ty,
-                within,
-                notation,
-            };
-            let cause = Cause::Memory;
-            Err(ValueFault { at, cause })
-        }
     }
 }

@@ -1,7 +1,7 @@
-use Rattle.typed_values.specs.Known.{AreKnown}
+use Rattle.typed_values.specs.Found.{AreFound}
 use Rattle.std.proofs.Common.{ℕ, ◌<◌}
 use Rattle.extensions.specs.Faults.{IsTypedValue}
 use Rattle.extensions.proofs.assigned.all_typed.Given as goal
 
 abbrev pub invariant-loop-number : goal.invariant-loop-number
-invariant-loop-number l = ((j : ℕ) → j < l.number → IsTypedValue l.bounded j) × AreKnown l.bounded l.defaults
+invariant-loop-number l = ((j : ℕ) → j < l.number → IsTypedValue l.bounded j) × AreFound l.bounded l.found

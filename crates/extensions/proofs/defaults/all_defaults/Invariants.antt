@@ -1,6 +1,6 @@
-use Rattle.typed_values.specs.Known.{AreKnown}
+use Rattle.typed_values.specs.Found.{AreFound}
 use Rattle.extensions.specs.proving.Tables.{AreTabled, table_seen}
 use Rattle.extensions.proofs.defaults.all_defaults.Given as goal
 
 abbrev pub invariant-loop-ty : goal.invariant-loop-ty
-invariant-loop-ty l = AreTabled l.bounded l.ty (table_seen l.table.items) × AreKnown l.bounded l.defaults
+invariant-loop-ty l = AreTabled l.bounded l.ty (table_seen l.table.items) × AreFound l.bounded l.found

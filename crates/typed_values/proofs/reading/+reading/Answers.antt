@@ -17,6 +17,7 @@ use Rattle.value_notations.specs.proving.Following.{sound_kind}
 use Rattle.typed_values.proofs.Rows.{got}
 use Rattle.typed_values.proofs.Readings.{of_kind, own_fault, room_fault, place_at, as_many, placed, field_there, field_stands, place_none, list_means, list_outside, list_fault, choice_means, choice_fault, fields_fault, fields_mean, value_as, means_as, alternative_below, alternative_at, alternative_name, no_alternative, names_misfit, row_count, unfollowed_at, written_of, last_of, member_there, element_there, no_reference, no_tagged, absent_addition, absent_optional, absent_mandatory, read_means, read_stands, last_at, stands_as}
 use Rattle.typed_values.proofs.Outcomes.{made_none, made_wrong, made_more, fields_made_none, fields_made_wrong, fields_made_more, zip_count}
+use Rattle.typed_values.proofs.Ready.{ready_again, ready_chosen, ready_fields, ready_each, ready_element, ready_field, ready_last, ready_new}
 use Rattle.typed_values.proofs.Braces.{values_found, values_none_found, fields_found, fields_none_found}
 use Rattle.typed_values.proofs.reading.+reading.Goals as goal
 
@@ -24,7 +25,7 @@ use Rattle.typed_values.proofs.reading.+reading.Goals as goal
 
 pub all-loop-i-init : goal.all-loop-i-init
 all-loop-i-init t g c =
-    record { read = made_none _ _ _ _ _ _ _ c.room_for-values.result.items c.room_for-values.ensures; back = refl; known = c.requires.1.1.1.1.1 }
+    record { read = made_none _ _ _ _ _ _ _ c.room_for-values.result.items c.room_for-values.ensures; back = refl; known = c.requires.1.1.1.1.1.0; right = c.requires.1.1.1.1.1.1.right }
 
 pub all-returns-in-Err-clause-fault : goal.all-returns-in-Err-clause-fault
 all-returns-in-Err-clause-fault t g c =
@@ -44,13 +45,14 @@ all-loop-i-preserved t g c =
           c.loop-i.invariant.read c.loop-i.invariant.back c.in-Ok.ensures.is_read;
       back = c.in-Ok.ensures.back ∙ c.loop-i.invariant.back;
       known = c.in-Ok.ensures.known;
+      right = c.in-Ok.ensures.right;
     }
 
 -- ---- components
 
 pub all_fields-loop-i-init : goal.all_fields-loop-i-init
 all_fields-loop-i-init t g c =
-    record { read = fields_made_none _ _ _ _ _ _ _ _ c.room_for-values.result.items c.room_for-values.ensures; back = refl; known = c.requires.1.1.1.1.1.1.1 }
+    record { read = fields_made_none _ _ _ _ _ _ _ _ c.room_for-values.result.items c.room_for-values.ensures; back = refl; known = c.requires.1.1.1.1.1.1.1.0; right = c.requires.1.1.1.1.1.1.1.1.right }
 
 pub all_fields-field-requires : goal.all_fields-field-requires
 all_fields-field-requires t g c =
@@ -73,7 +75,10 @@ all_fields-field-requires t g c =
               at.1,
               (
                 c.requires.1.1.1.1.1.0,
-                (record { parts = cs; listed = c.requires.1.1.1.1.1.1.0; there = (c.loop-i.i, there) }, c.loop-i.invariant.known),
+                (
+                  record { parts = cs; listed = c.requires.1.1.1.1.1.1.0; there = (c.loop-i.i, there) },
+                  (c.loop-i.invariant.known, ready_again c.requires.1.1.1.1.1.1.1.1 c.loop-i.invariant.back c.loop-i.invariant.right),
+                ),
               ),
             ),
           ),
@@ -99,6 +104,7 @@ all_fields-loop-i-preserved t g c =
           c.loop-i.invariant.read c.loop-i.invariant.back c.in-Ok.ensures.value;
       back = c.in-Ok.ensures.back ∙ c.loop-i.invariant.back;
       known = c.in-Ok.ensures.known;
+      right = c.in-Ok.ensures.right;
     }
 
 -- ---- alternatives
@@ -129,7 +135,7 @@ chosen-read-requires t g c = λ k h. (
       c.requires.1.1.1.0 c.in-Some-alternative.number _
           (alternative_at c.args.alternatives.now c.in-Some-alternative.number c.index-alternatives-number.result _
           c.in-Some-alternative.ensures),
-      (c.requires.1.1.1.1.0, c.requires.1.1.1.1.1),
+      (c.requires.1.1.1.1.0, (c.requires.1.1.1.1.1.0, ready_chosen c.in-Some.ensures c.requires.1.1.1.1.1.1)),
     ),
   ),
 )
@@ -226,7 +232,16 @@ fields-all_fields-requires t g c = λ k h. (
     (
       subst (λ ps. ArePlaced (map part_of c.args.components.now) (field_names (map member_of c.in-Some.given.now)) ps)
           (sym c.as_slice.ensures.value) (placed c.args.kind _ _ _ c.in-Ok.ensures),
-      (c.requires.1.1.1.1.1.0, (c.requires.1.1.1.1.1.1.0, (c.requires.1.1.1.1.1.1.1.0, c.requires.1.1.1.1.1.1.1.1))),
+      (
+        c.requires.1.1.1.1.1.0,
+        (
+          c.requires.1.1.1.1.1.1.0,
+          (
+            c.requires.1.1.1.1.1.1.1.0,
+            (c.requires.1.1.1.1.1.1.1.1.0, ready_fields (fields_found _ _ c.in-Some.ensures) c.requires.1.1.1.1.1.1.1.1.1),
+          ),
+        ),
+      ),
     ),
   ),
 )
@@ -281,14 +296,14 @@ list-returns-clause-is_read t g c = λ os k N w h.
 
 -- ---- a notation
 
-pub read-returns-then-levels-eq0-clause-is_read : goal.read-returns-then-levels-eq0-clause-is_read
-read-returns-then-levels-eq0-clause-is_read t g c = faults.itself refl refl refl tt c.if-levels-eq0.true
+pub read_through-returns-then-levels-eq0-clause-is_read : goal.read_through-returns-then-levels-eq0-clause-is_read
+read_through-returns-then-levels-eq0-clause-is_read t g c = faults.itself refl refl refl tt c.if-levels-eq0.true
 
-pub read-returns-then-left-eq0-clause-is_read : goal.read-returns-then-left-eq0-clause-is_read
-read-returns-then-left-eq0-clause-is_read t g c = faults.itself refl refl refl c.if-levels-eq0.false c.if-left-eq0.true
+pub read_through-returns-then-left-eq0-clause-is_read : goal.read_through-returns-then-left-eq0-clause-is_read
+read_through-returns-then-left-eq0-clause-is_read t g c = faults.itself refl refl refl c.if-levels-eq0.false c.if-left-eq0.true
 
-pub read-returns-in-Err-clause-is_read : goal.read-returns-in-Err-clause-is_read
-read-returns-in-Err-clause-is_read t g c =
+pub read_through-returns-in-Err-clause-is_read : goal.read_through-returns-in-Err-clause-is_read
+read_through-returns-in-Err-clause-is_read t g c =
     room_fault _ refl refl refl c.if-levels-eq0.false c.if-left-eq0.false
     (unfollowed_at _ _ _ _ _ _ _ c.linked-linked.ensures c.written.ensures c.in-Err.ensures.fault c.follow_cause-cause.ensures)
 
@@ -296,14 +311,14 @@ pub value_of-list-requires : goal.value_of-list-requires
 value_of-list-requires t g c =
     let l = (subst (λ (p : Program). IsWhole p) c.linked-linked.ensures c.whole.ensures).linked in
     let e = ap kind_of c.in-Elements.is in
-    λ k h. (search rules, (h, (c.requires.1.1.1.0, (element_there l (written_of e c.requires.1.1.1.1.1.0), (c.requires.1.1.1.1.0, c.requires.1.1.1.1.1.1)))))
+    λ k h. (search rules, (h, (c.requires.1.1.1.0, (element_there l (written_of e c.requires.1.1.1.1.1.0), (c.requires.1.1.1.1.0, (c.requires.1.1.1.1.1.1.0, c.requires.1.1.1.1.1.1.1))))))
 
 pub value_of-chosen-requires : goal.value_of-chosen-requires
 value_of-chosen-requires t g c =
     let l = (subst (λ (p : Program). IsWhole p) c.linked-linked.ensures c.whole.ensures).linked in
     let e = ap kind_of c.in-Members.is
     ∙ ap (λ cs. table.members c.in-Members.kind c.in-Members.field-1 (map part_of cs)) (sym c.as_slice-members.ensures.value) in
-    λ k h. (search rules, (h, (member_there l (written_of e c.requires.1.1.1.1.1.0), (c.requires.1.1.1.1.0, c.requires.1.1.1.1.1.1))))
+    λ k h. (search rules, (h, (member_there l (written_of e c.requires.1.1.1.1.1.0), (c.requires.1.1.1.1.0, (c.requires.1.1.1.1.1.1.0, c.requires.1.1.1.1.1.1.1)))))
 
 pub value_of-fields-requires : goal.value_of-fields-requires
 value_of-fields-requires t g c =
@@ -323,7 +338,10 @@ value_of-fields-requires t g c =
               member_there l w,
               (
                 c.requires.1.1.1.1.0,
-                (record { type = c.args.at.ty.index; kind = c.in-Members.kind; marked = c.in-Members.field-1; written = w }, c.requires.1.1.1.1.1.1),
+                (
+                  record { type = c.args.at.ty.index; kind = c.in-Members.kind; marked = c.in-Members.field-1; written = w },
+                  (c.requires.1.1.1.1.1.1.0, c.requires.1.1.1.1.1.1.1),
+                ),
               ),
             ),
           ),
@@ -392,8 +410,8 @@ value_of-simple_value-requires-clause-sound t g c =
 pub value_of-simple_value-requires-clause-is : goal.value_of-simple_value-requires-clause-is
 value_of-simple_value-requires-clause-is t g c = of_kind (written_of (ap kind_of c.in-Simple.is) c.requires.1.1.1.1.1.0)
 
-pub read-returns-in-Ok-value_of-clause-is_read : goal.read-returns-in-Ok-value_of-clause-is_read
-read-returns-in-Ok-value_of-clause-is_read t g c =
+pub read_through-returns-in-Ok-value_of-clause-is_read : goal.read_through-returns-in-Ok-value_of-clause-is_read
+read_through-returns-in-Ok-value_of-clause-is_read t g c =
     let m = c.in-Ok-value_of.ensures.is_read _ (last_at c.linked-linked.ensures c.in-Ok.ensures.last) in
     record {
       value = m.value;
@@ -401,13 +419,13 @@ read-returns-in-Ok-value_of-clause-is_read t g c =
       means = read_means _ _ c.if-levels-eq0.false c.if-left-eq0.false m.means;
     }
 
-pub read-returns-in-Err-value_of-clause-is_read : goal.read-returns-in-Err-value_of-clause-is_read
-read-returns-in-Err-value_of-clause-is_read t g c =
+pub read_through-returns-in-Err-value_of-clause-is_read : goal.read_through-returns-in-Err-value_of-clause-is_read
+read_through-returns-in-Err-value_of-clause-is_read t g c =
     read_stands _ _ c.if-levels-eq0.false c.if-left-eq0.false
     (c.in-Err-value_of.ensures.is_read _ (last_at c.linked-linked.ensures c.in-Ok.ensures.last))
 
-pub read-returns-in-Ok-value_of-clause-back : goal.read-returns-in-Ok-value_of-clause-back
-read-returns-in-Ok-value_of-clause-back t g c =
+pub read_through-returns-in-Ok-value_of-clause-back : goal.read_through-returns-in-Ok-value_of-clause-back
+read_through-returns-in-Ok-value_of-clause-back t g c =
     c.close.ensures c.in-Ok.ensures.grown.0 _ (c.in-Ok-value_of.ensures.back ∙ c.in-Ok.ensures.grown.1) (sym c.count-count.ensures)
 
 pub read_default-returns-clause-fault : goal.read_default-returns-clause-fault
@@ -448,3 +466,39 @@ pub field-offset_bounds-given-place : goal.field-offset_bounds-given-place
 field-offset_bounds-given-place t g c =
     let b = field_there c.args.given.now _ c.in-Some.place (sym c.requires.1.1.1.1.0 ∙ c.in-Some.is) in
     search rules
+
+-- ---- names and limits
+
+pub all-read-requires : goal.all-read-requires
+all-read-requires t g c = λ k h. (
+  search rules,
+  (
+    h,
+    (
+      c.requires.1.1.1.0,
+      (
+        c.requires.1.1.1.1.0,
+        (
+          c.loop-i.invariant.known,
+          ready_element c.args.notations.now c.loop-i.i c.index-notations-i.result c.loop-i-test.true c.index-notations-i.is
+              c.requires.1.1.1.1.1.1 c.loop-i.invariant.back c.loop-i.invariant.right,
+        ),
+      ),
+    ),
+  ),
+)
+
+pub list-all-requires : goal.list-all-requires
+list-all-requires t g c = λ k h. (
+  search rules,
+  (
+    h,
+    (
+      c.requires.1.1.1.1.0,
+      (
+        c.requires.1.1.1.1.1.0,
+        (c.requires.1.1.1.1.1.1.0, ready_each (values_found _ _ c.in-Some.ensures) c.requires.1.1.1.1.1.1.1),
+      ),
+    ),
+  ),
+)
