@@ -7,6 +7,8 @@ pub mod Shown
 pub mod Excluding
 pub mod Absences
 pub mod Unders
+pub mod Again
+pub mod Limits
 pub mod Ready
 pub mod Layers
 pub mod Tables

@@ -11,7 +11,8 @@ use Rattle.value_notations.specs.Notations.{fields_in, values_in}
 use Rattle.typed_values.specs.Kept.{AreRight}
 use Rattle.typed_values.specs.Ranks.{EachUnder, NamedUnder, Under}
 use Rattle.typed_values.specs.proving.Ready.{IsReady}
-use Rattle.typed_values.proofs.Unders.{above_last, each_at, fields_under, named_at, values_under}
+use Rattle.typed_values.proofs.Again.{above_last, fields_under, named_at, values_under}
+use Rattle.typed_values.proofs.Unders.{each_at}
 
 module _ {p : Program} {r : List ℕ × List ℕ} {es fs : List (ℕ × ℕ × ℕ × ℕ)} {os qs : List ℕ} where
   pub ready_again : {P : ℕ → Type 0} → IsReady p r es os P → qs ≡ os → AreRight p r fs → IsReady p r fs qs P

@@ -8,7 +8,7 @@ use Rattle.typed_values.specs.Ranks.{Under}
 use Rattle.typed_values.specs.proving.Reading.{Makes}
 use Rattle.typed_values.specs.proving.Ready.{IsReady, IsStrict}
 use Rattle.typed_values.proofs.Absences.{value_at_more}
-use Rattle.typed_values.proofs.Unders.{again}
+use Rattle.typed_values.proofs.Again.{again}
 
 pub size_made : {A : Type 0} {shows : A → AbstractValue → Type 0} {p : Program} {levels before after : ℕ} {os : List ℕ}
     {M : Name} {i : ℕ} {n : Tree} {x : A} (count : ℕ) →

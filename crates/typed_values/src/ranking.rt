@@ -128,7 +128,7 @@ fn turn(numbers: &mut [usize]) {
 }
 
 /// The ranks of `count` values. `AllocError` comes only if an allocation fails.
-pub(crate) fn ranking(
+pub(crate) fn ranks_in(
     alloc: Global,
     mentions: &Mentions,
     count: usize,

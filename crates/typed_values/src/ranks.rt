@@ -10,7 +10,7 @@ ghost use Rattle.typed_values.specs.Ranks.{EachUnder, IsRanked, NamedUnder, Unde
 ghost use Rattle.typed_values.specs.proving.Ready.{IsStrict};
 
 use crate::mentions::{mentions_of, notation_at};
-use crate::ranking::ranking;
+use crate::ranking::ranks_in;
 use names::Assigned;
 use resolve::Linked;
 use std::alloc::{AllocError, Global};
@@ -170,7 +170,7 @@ impl Ranks {
         ensures { IfOk result (IsRanked linked.now) }
     {
         let mentions = mentions_of(alloc, linked)?;
-        let ranks = ranking(alloc, &mentions, linked.values().len())?;
+        let ranks = ranks_in(alloc, &mentions, linked.values().len())?;
         let limits = limits_of(alloc, linked, &ranks)?;
         Ok(Ranks { ranks, limits })
     }
