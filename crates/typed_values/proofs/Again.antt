@@ -214,7 +214,7 @@ named_again {p} {r} {os} {qs} {M} {N} {i} {q} {y} {x} {z} {v} j g s above none o
     let strict = s.1 in
     let low : Under p r.0 (slice_index r.0 c) O m = under_more (omega (arith, strict, limit, rank)) m (g.0 c O m at) in
     let high : (w : ℕ) → OccursIn qs w → slice_index r.0 c ≤ slice_index r.0 w =
-        λ w t. let h = above w t in let n = g.1 w in omega (arith, h, n, rank) in
+    λ w t. let h = above w t in let n = g.1 w in omega (arith, h, n, rank) in
     let beside : AreBeside r (slice_index r.0 c) (c ∷ os) (c ∷ qs) = λ w t. beside_first high c w t.0 t.1 in
     let apart' : OccursIn qs c → ⊥ = λ t. let h = above c t in absurd (omega (arith, h, strict, limit, rank)) in
     let found = moved_last g beside low e in
@@ -234,7 +234,7 @@ again {p} {r} {es} {os} {M} {n} {i} {j} ready name strict k =
     let below = strict.0 in
     let long : 0 < length r.1 = omega (arith, below) in
     let above : (w : ℕ) → OccursIn os w → slice_index r.0 j < slice_index r.1 w =
-        λ w t. subst (λ (z : Tree). Under p r.0 (slice_index r.1 w) M z) name.notation (ready.above long w t) j name.refers in
+    λ w t. subst (λ (z : Tree). Under p r.0 (slice_index r.1 w) M z) name.notation (ready.above long w t) j name.refers in
     subst (λ (z : Tree). Notation p os M i z k.size.value) (sym name.notation)
     (named_again j (ready.right.ranked long) strict above k.named.none k.named.only name.none name.refers
     (subst (λ (z : Tree). Notation p k.size.opened k.within i z k.size.value) k.named.notation k.size.stands))

@@ -28,5 +28,5 @@ pub kept_more : (p : Program) (es : List Entry) (e : Entry) → AreKept p (map e
     IsKept p e.value e.ty e.nodes e.levels → AreKept p (map entry_seen (es ++ e ∷ []))
 kept_more p es e h k = λ d s. elim (end_at (map entry_seen es) (entry_seen e) d s.0 (subst (λ zs. slice_get zs s.0 ≡ Some d) (map_end entry_seen es e) s.1)) [
   | inl o ↦ h d o
-  | inr q ↦ subst (λ (z : ℕ × ℕ × ℕ × ℕ). IsKept p z.0 z.1.0 z.1.1.0 z.1.1.1) q k
+  | inr q ↦ subst (λ (z : ℕ × ℕ × ℕ × ℕ). IsKept p z.0 z.1 z.2 z.3) q k
 ]

@@ -42,7 +42,7 @@ pub record IsKept (p : Program) (j i count levels : ℕ) : Type 0 where
 
 -- each entry of the table, which has the numbers of a value and of a type, nodes and levels, is right
 abbrev pub AreKept : Program → List (ℕ × ℕ × ℕ × ℕ) → Type 0
-AreKept p es = (e : ℕ × ℕ × ℕ × ℕ) → OccursIn es e → IsKept p e.0 e.1.0 e.1.1.0 e.1.1.1
+AreKept p es = (e : ℕ × ℕ × ℕ × ℕ) → OccursIn es e → IsKept p e.0 e.1 e.2 e.3
 
 -- ranks and a table that are right
 pub record AreRight (p : Program) (r : List ℕ × List ℕ) (es : List (ℕ × ℕ × ℕ × ℕ)) : Type 0 where
