@@ -130,15 +130,21 @@ fn is_item(items: &Items, number: i128) -> bool
     finds_number(items, number) || has_number(items, number)
 }
 
-/// Whether the code is in the alphabet, if its codes ascend. If they don't, the answer may be a wrong false.
-fn finds_code(alphabet: &[u8], code: u8) -> bool
+/// Whether the alphabet has the code at the place that is less than the code by `shift`.
+#[inline(always)]
+fn is_at(alphabet: &[u8], code: u8, shift: usize) -> bool
     ensures { IsTrue result → IsMember code alphabet.now }
 {
-    let place = alphabet.partition_point(|other| *other < code);
-    match alphabet.get(place) {
+    match alphabet.get((code as usize).wrapping_sub(shift)) {
         Some(other) => *other == code,
         None => false,
     }
+}
+
+/// By how much the code is greater than its place in the alphabet, if its codes ascend.
+fn shift_of(alphabet: &[u8], code: u8) -> usize {
+    let place = alphabet.partition_point(|other| *other < code);
+    (code as usize).wrapping_sub(place)
 }
 
 /// Whether the code is in the alphabet.
@@ -153,19 +159,31 @@ fn has_code(alphabet: &[u8], code: u8) -> bool
     false
 }
 
-/// Whether the code is in the alphabet. The codes ascend, so all of them are read only if none is the code.
-fn is_code(alphabet: &[u8], code: u8) -> bool
+/// Whether the code is in the alphabet. Codes that follow one another in the alphabet are greater than their places by
+/// the same number: `shift` is that of the code before, and gets that of this code. The codes ascend, so all of them are
+/// read only if none is the code.
+#[inline(always)]
+fn is_code(alphabet: &[u8], code: u8, shift: &mut usize) -> bool
     ensures { IsTrue result ↔ IsMember code alphabet.now }
 {
-    finds_code(alphabet, code) || has_code(alphabet, code)
+    is_at(alphabet, code, *shift) || is_found(alphabet, code, shift)
+}
+
+/// Whether the code is in the alphabet, by a search.
+fn is_found(alphabet: &[u8], code: u8, shift: &mut usize) -> bool
+    ensures { IsTrue result ↔ IsMember code alphabet.now }
+{
+    *shift = shift_of(alphabet, code);
+    is_at(alphabet, code, *shift) || has_code(alphabet, code)
 }
 
 /// Whether each octet is a code of the alphabet.
 fn are_codes(alphabet: &[u8], octets: &[u8]) -> bool
     ensures { IsTrue result ↔ AllByRecursion (λ x. IsMember x alphabet.now) octets.now }
 {
+    let mut shift = 0;
     for i in 0..octets.len() {
-        if !is_code(alphabet, octets[i]) {
+        if !is_code(alphabet, octets[i], &mut shift) {
             return false;
         }
     }
