@@ -45,9 +45,9 @@ if [[ ! -e $folder/part.5 ]]; then
   exit 1
 fi
 
-# taken PART FUNCTION MEMBERS: the instructions of one call of a function, for each of its members.
+# taken PART FUNCTIONS MEMBERS: the instructions of one call of each function, added up, for each of the members.
 taken() {
-  awk -v wanted="$2" -v members="$3" '
+  awk -v wanted=" $2 " -v members="$3" '
     match($0, /^c?fn=\([0-9]+\)/) {
       id = substr($0, index($0, "("), RLENGTH - index($0, "(") + 1)
       if (length($0) > RLENGTH) names[id] = substr($0, RLENGTH + 2)
@@ -56,14 +56,19 @@ taken() {
     /^calls=/ {
       count = substr($1, 7)
       getline
-      if (called == wanted) { calls += count; cost += $2 }
+      if (index(wanted, " " called " ")) { calls[called] += count; cost[called] += $2 }
     }
-    END { if (calls) printf "%d", cost / calls / members + 0.5; else printf "-" }' "$folder/part.$1"
+    END {
+      for (one in calls) sum += cost[one] / calls[one] / members
+      if (sum) printf "%d", sum + 0.5; else printf "-"
+    }' "$folder/part.$1"
 }
 
+# What write_der calls: it is a part of its caller itself.
+writing="der_layout::encoding::encode octet_account::account::Account::of"
 printf '%-46s%10s%10s\n' "instructions" written read
 while read -r part members name; do
-  printf '%-46s%10s%10s\n' "$name" "$(taken "$part" der_writer::to_list::write_der "$members")" \
+  printf '%-46s%10s%10s\n' "$name" "$(taken "$part" "$writing" "$members")" \
     "$(taken "$part" ber_reader::read::read_ber "$members")"
 done <<'ROWS'
 3 50000 an element of a SEQUENCE OF small SEQUENCEs
