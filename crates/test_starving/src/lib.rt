@@ -3,9 +3,7 @@
 #![tactic(auto)]
 
 mod hog;
-mod pool;
 mod turns;
 
 pub use hog::Hog;
-pub use pool::Pool;
-pub use turns::{Starved, Swept, Turn, sweep, sweep_in};
+pub use turns::{Starved, Swept, Turn, sweep};
