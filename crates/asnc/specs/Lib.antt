@@ -1,9 +1,9 @@
 -- The definitions that a user must believe. `Kits` says what a kit is, and when texts have none. `Writing` says which
 -- octets encode a named value, and when there are none; `Packing` says the same for packed encodings. `Reading` says
 -- which value of a named type octets encode, and when none is read; `Unpacking` says the same for packed encodings.
--- `ErrorSites` says at which octet a message is refused. `Showing` says which lines show its headers. `Versions` says how
--- versions of a type read each other. `Headline` goes from the texts to the octets and back, and `Whole` says all of it
--- of one named value.
+-- `ErrorSites` says at which octet a message is refused. `Showing` says which lines show its headers. `Versions` says
+-- how versions of a type read each other. `Headline` goes from the texts to the octets and back, and `Whole` says all
+-- of it of one named value.
 pub use Rattle.judging.specs.messages.Status
 pub mod Headline
 pub mod Kits

@@ -94,8 +94,8 @@ pub record IsLocatedFaultAs (p : Program) (s : List Resolved) (r : Rules) (name 
   pub named : Names p name type
   pub unread : IsLocatedFault s r type o u
 
--- Nothing is read, for the reason that the fault gives. `NoType`: the text names no type. `DecodeError`: the text names a
--- type, and the octets are refused. `Memory` says nothing about either.
+-- Nothing is read, for the reason that the fault gives. `NoType`: the text names no type. `DecodeError`: the text names
+-- a type, and the octets are refused. `Memory` says nothing about either.
 abbrev pub IsNotReadAs : Program → List Resolved → Rules → List ℕ → List ℕ → Fault → Type 0
 IsNotReadAs p s r name o faults.Memory = Unit {0}
 IsNotReadAs p s r name o (faults.NoType x) = (string_bytes x ≡ name) × ((t : ℕ) → TypeNamed p name t → ⊥)

@@ -1,5 +1,5 @@
--- What contents octets mean (`PrimitiveValue`); a cursor in memory, as the state that it represents (`Seen`); and what a
--- cursor guarantees as a source (`Laws`).
+-- What contents octets mean (`PrimitiveValue`); a cursor in memory, as the state that it represents (`Seen`); and what
+-- a cursor guarantees as a source (`Laws`).
 pub mod PrimitiveValue
 pub mod Seen
 pub mod ShortValue

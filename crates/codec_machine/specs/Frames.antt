@@ -82,8 +82,8 @@ pub record Replaced (s : List Resolved) (T : List Event → Type 0) (w : ℕ) (e
   pub stays : (all : List Event) → T all → EmitsSome (AllEmit s pushed)
   pub less : weighs (total s) pushed < w
 
--- Events were added to the state. Each list of events that is left, which meets U, makes with them a list that meets T. If
--- some list of events meets T, some list is left.
+-- Events were added to the state. Each list of events that is left, which meets U, makes with them a list that meets T.
+-- If some list of events meets T, some list is left.
 pub record Progress {S : Type 0} (adds : S → List Event → S → Type 0) (T : List Event → Type 0) (a : S)
     (U : List Event → Type 0) (b : S) : Type 0 where
   pub events : List Event

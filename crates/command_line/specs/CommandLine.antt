@@ -403,7 +403,8 @@ IsCheck rows (commands.Check ty value octets account texts) = IsTypeName rows (s
     × AreTexts rows texts
 IsCheck rows command = ⊥
 
--- The command is the one with this name: `list`, `ber`, `uper`, `unper`, `account`, `later`, `show`, or otherwise `der`.
+-- The command is the one with this name: `list`, `ber`, `uper`, `unper`, `account`, `later`, `show`, or otherwise
+-- `der`.
 pub record IsCommandOf (name : Text) (rows : List Row) (command : Command) : Type 0 where
   pub list : name ≡ codes "list" → IsList rows command
   pub ber : name ≡ codes "ber" → IsBer rows command

@@ -1,6 +1,6 @@
 -- What a reader has to believe: that each DEFAULT and each value assignment is typed, and which schema a program has
--- that keeps all rules (`SchemaOfModules`). The meaning of faults is in `Faults`. Only contracts inside the crate and proofs
--- use what is in `proving`.
+-- that keeps all rules (`SchemaOfModules`). The meaning of faults is in `Faults`. Only contracts inside the crate and
+-- proofs use what is in `proving`.
 pub mod SchemaOfModules
 pub mod Faults
 pub mod proving

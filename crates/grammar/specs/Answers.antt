@@ -95,7 +95,8 @@ pub one_stop : {A : Type 0} (g : Limited A) (a : Limits) (ts : List Lexeme) (sta
     → Stops g a ts start i
     → Stops g a ts start j
     → i ≡ j
-one_stop g a ts start i j s s' = same_place i j (λ lt. s.longest j lt s'.to s'.before) (λ lt. s'.longest i lt s.to s.before)
+one_stop g a ts start i j s s' = same_place i j (λ lt. s.longest j lt s'.to s'.before)
+    (λ lt. s'.longest i lt s.to s.before)
 
 -- if nothing can continue under any limits, no limit is passed
 pub not_both : {A : Type 0} (g : Limited A) (a : Limits) (ts : List Lexeme) (start i j : ℕ) (l : Limit)
@@ -135,17 +136,27 @@ module _ {A : Type 0} (g : Limited A) (a : Limits) (read : Reader A) (reads : Re
     front_at : (u rest : List Lexeme)
         → drop start ts ≡ u ++ rest
         →
-        (start ≤ length ts - length rest) × (length ts - length rest ≤ length ts) × (u ≡ between ts start (length ts - length rest))
+        (start ≤ length ts - length rest) × (length ts - length rest ≤ length ts)
+        × (u ≡ between ts start (length ts - length rest))
     front_at u rest e =
-        let n : (length ts - length rest) - start ≡ length u = omega (arith, ap length e, length-append u rest, length-drop start ts) in
-        (omega (arith, ap length e, length-append u rest, length-drop start ts), omega arith, sym (ap (λ (l : List Lexeme). take ((length ts - length rest) - start) l) e ⋆ take_at u rest ((length ts - length rest) - start) (sym n)))
+        let n : (length ts - length rest) - start ≡ length u =
+        omega (arith, ap length e, length-append u rest, length-drop start ts) in (
+          omega (arith, ap length e, length-append u rest, length-drop start ts),
+          omega arith,
+          sym
+              (ap (λ (l : List Lexeme). take ((length ts - length rest) - start) l) e
+              ⋆ take_at u rest ((length ts - length rest) - start) (sym n)),
+        )
 
     next_at : (u r : List Lexeme) (t : Lexeme)
         → drop start ts ≡ u ++ t ∷ r
         → u ++ t ∷ [] ≡ between ts start ((length ts - length (t ∷ r)) + 1)
     next_at u r t e =
-        let n : ((length ts - length (t ∷ r)) + 1) - start ≡ length (u ++ t ∷ []) = omega (arith, ap length e, length-append u (t ∷ r), length-append u (t ∷ []), length-drop start ts) in
-        sym (ap (λ (l : List Lexeme). take (((length ts - length (t ∷ r)) + 1) - start) l) (e ⋆ sym (append_assoc u (t ∷ []) r)) ⋆ take_at (u ++ t ∷ []) r (((length ts - length (t ∷ r)) + 1) - start) (sym n))
+        let n : ((length ts - length (t ∷ r)) + 1) - start ≡ length (u ++ t ∷ []) =
+        omega (arith, ap length e, length-append u (t ∷ r), length-append u (t ∷ []), length-drop start ts) in
+        sym (ap (λ (l : List Lexeme). take (((length ts - length (t ∷ r)) + 1) - start) l)
+        (e ⋆ sym (append_assoc u (t ∷ []) r)) ⋆ take_at (u ++ t ∷ []) r (((length ts - length (t ∷ r)) + 1) - start)
+        (sym n))
 
     rest_fits : (u rest : List Lexeme) → drop start ts ≡ u ++ rest → length rest ≤ length ts
     rest_fits u rest e = omega (arith, ap length e, length-append u rest, length-drop start ts)
@@ -161,13 +172,15 @@ module _ {A : Type 0} (g : Limited A) (a : Limits) (read : Reader A) (reads : Re
     come : (b : Limits) (j : ℕ)
         → (g b).IsPrefix (between ts start j)
         → Passes (λ l. Within l b a) (rest_from j) (read (drop start ts))
-    come b j h = subst (λ (l : List Lexeme). Passes (λ l. Within l b a) (rest_from j) (read l)) (take-append-drop (j - start) (drop start ts)) (front b (between ts start j) (rest_from j) h)
+    come b j h = subst (λ (l : List Lexeme). Passes (λ l. Within l b a) (rest_from j) (read l))
+        (take-append-drop (j - start) (drop start ts)) (front b (between ts start j) (rest_from j) h)
 
     pub found_at : (x : A × List Lexeme)
         → read (drop start ts) ≡ Ok x
         → IsRead (g a) (free g) ts start x.0 (length ts - length x.1)
     found_at x e =
-        let s : Sound nowhere (g a) (drop start ts) (Ok x) = subst (Sound nowhere (g a) (drop start ts)) e (reads.sound (drop start ts)) in
+        let s : Sound nowhere (g a) (drop start ts) (Ok x) = subst (Sound nowhere (g a) (drop start ts)) e
+        (reads.sound (drop start ts)) in
         let f = front_at s.0 x.1 s.1 in
         let fits = rest_fits s.0 x.1 s.1 in
         let end = length ts - length x.1 in
@@ -176,7 +189,8 @@ module _ {A : Type 0} (g : Limited A) (a : Limits) (read : Reader A) (reads : Re
           to = f.1;
           is = subst (λ (l : List Lexeme). (g a).Is x.0 l) f.2 s.2;
           ends = λ lt h.
-              let p : length x.1 ≤ length (rest_from (end + 1)) = subst (Passes (λ l. Within l h.0 a) (rest_from (end + 1))) e (come h.0 (end + 1) h.1) in
+              let p : length x.1 ≤ length (rest_from (end + 1)) =
+              subst (Passes (λ l. Within l h.0 a) (rest_from (end + 1))) e (come h.0 (end + 1) h.1) in
               let from = f.0 in
               absurd (omega (arith, p, rest_from_long (end + 1) (omega (arith, from)) (omega (arith, lt)), fits, lt));
         }
@@ -202,7 +216,8 @@ module _ {A : Type 0} (g : Limited A) (a : Limits) (read : Reader A) (reads : Re
 
     pub stops_at : (f : Fault) → read (drop start ts) ≡ Err f → Stops g a ts start (length ts - left_of f)
     stops_at f q =
-        let s : Sound nowhere (g a) (drop start ts) (Err f) = subst (Sound nowhere (g a) (drop start ts)) q (reads.sound (drop start ts)) in
+        let s : Sound nowhere (g a) (drop start ts) (Err f) = subst (Sound nowhere (g a) (drop start ts)) q
+        (reads.sound (drop start ts)) in
         stopped f s.0 s.1 s.2 (s.3 ⋆ plain f (length s.1)) s.4 q
 
     none_at : (k : ℕ) (u rest : List Lexeme)
@@ -215,12 +230,14 @@ module _ {A : Type 0} (g : Limited A) (a : Limits) (read : Reader A) (reads : Re
         → ⊥
     none_at k u [] e d q le x w =
         let f = front_at u [] e in
-        no_whole k u x q (subst (λ (l : List Lexeme). (free g).Is x l) (ap (λ (k : ℕ). between ts start (length ts - k)) d ⋆ sym f.2) w)
+        no_whole k u x q (subst (λ (l : List Lexeme). (free g).Is x l)
+        (ap (λ (k : ℕ). between ts start (length ts - k)) d ⋆ sym f.2) w)
     none_at k u (t ∷ r) e d q le x w = absurd (omega (arith, d, le, rest_fits u (t ∷ r) e))
 
     pub unexpected_at : (k : ℕ) → read (drop start ts) ≡ Err (Unexpected k) → Ends g a ts start (length ts - k)
     unexpected_at k q =
-        let s : Sound nowhere (g a) (drop start ts) (Err (Unexpected k)) = subst (Sound nowhere (g a) (drop start ts)) q (reads.sound (drop start ts)) in
+        let s : Sound nowhere (g a) (drop start ts) (Err (Unexpected k)) = subst (Sound nowhere (g a) (drop start ts)) q
+        (reads.sound (drop start ts)) in
         let stops = stops_at (Unexpected k) q in
         let from = stops.from in
         let fits = rest_fits s.0 s.1 s.2 in
@@ -235,7 +252,8 @@ module _ {A : Type 0} (g : Limited A) (a : Limits) (read : Reader A) (reads : Re
 
     pub left_le : (f : Fault) → read (drop start ts) ≡ Err f → left_of f ≤ length ts
     left_le f e =
-        let s : Sound nowhere (g a) (drop start ts) (Err f) = subst (Sound nowhere (g a) (drop start ts)) e (reads.sound (drop start ts)) in
+        let s : Sound nowhere (g a) (drop start ts) (Err f) = subst (Sound nowhere (g a) (drop start ts)) e
+        (reads.sound (drop start ts)) in
         let d = s.3 ⋆ plain f (length s.1) in
         omega (arith, d, rest_fits s.0 s.1 s.2)
 
@@ -244,7 +262,8 @@ module _ {A : Type 0} (g : Limited A) (a : Limits) (read : Reader A) (reads : Re
         → PassesLimit g a ts start (length ts - k) l
     limit_at l k q =
         let b = (reads.passed l).0 in
-        let s : Sound (past l) (g (raised l a b)) (drop start ts) (Err (Beyond l k)) = subst (Sound (past l) (g (raised l a b)) (drop start ts)) q ((reads.passed l).1 (drop start ts)) in
+        let s : Sound (past l) (g (raised l a b)) (drop start ts) (Err (Beyond l k)) =
+        subst (Sound (past l) (g (raised l a b)) (drop start ts)) q ((reads.passed l).1 (drop start ts)) in
         let f = front_at s.0 s.1 s.2 in
         let fits = rest_fits s.0 s.1 s.2 in
         let d : k ≡ suc (length s.1) = s.3 ⋆ its_own l (length s.1) in
@@ -260,7 +279,8 @@ module _ {A : Type 0} (g : Limited A) (a : Limits) (read : Reader A) (reads : Re
 
     pub rest_le : (x : A × List Lexeme) → read (drop start ts) ≡ Ok x → length x.1 ≤ length ts
     rest_le x e =
-        let s : Sound nowhere (g a) (drop start ts) (Ok x) = subst (Sound nowhere (g a) (drop start ts)) e (reads.sound (drop start ts)) in
+        let s : Sound nowhere (g a) (drop start ts) (Ok x) = subst (Sound nowhere (g a) (drop start ts)) e
+        (reads.sound (drop start ts)) in
         rest_fits s.0 x.1 s.1
 
     -- after what is read, nothing can continue
@@ -269,16 +289,24 @@ module _ {A : Type 0} (g : Limited A) (a : Limits) (read : Reader A) (reads : Re
         → 1 ≤ length x.1
         → Ends g a ts start (length ts - length x.1)
     ended_at x e some =
-        let s : Sound nowhere (g a) (drop start ts) (Ok x) = subst (Sound nowhere (g a) (drop start ts)) e (reads.sound (drop start ts)) in
+        let s : Sound nowhere (g a) (drop start ts) (Ok x) = subst (Sound nowhere (g a) (drop start ts)) e
+        (reads.sound (drop start ts)) in
         let f = front_at s.0 x.1 s.1 in
         let from = f.0 in
         let fits = rest_fits s.0 x.1 s.1 in
-        let beyond : (b : Limits) (j : ℕ) → length ts - length x.1 < j → j ≤ length ts → (g b).IsPrefix (between ts start j) → ⊥ =
+        let beyond : (b : Limits) (j : ℕ) → length ts - length x.1 < j → j ≤ length ts
+        → (g b).IsPrefix (between ts start j) → ⊥ =
         λ b j lt to c.
         let p : length x.1 ≤ length (rest_from j) = subst (Passes (λ l. Within l b a) (rest_from j)) e (come b j c) in
         omega (arith, p, lt, to, fits, rest_from_long j (omega (arith, from, lt)) to) in
         record {
-          stops = record { from = f.0; to = f.1; before = subst (g a).IsPrefix f.2 (reads.part x.0 s.0 s.2); longest = beyond a };
+          stops = record {
+            from = f.0;
+            to = f.1;
+            before = subst (g a).IsPrefix f.2 (reads.part x.0 s.0 s.2);
+            longest =
+                beyond a;
+          };
           always = beyond;
           none = λ k. absurd (omega (arith, k, some, fits));
         }
@@ -291,9 +319,11 @@ module _ {A : Type 0} (g : Limited A) (a : Limits) (read : Reader A) (reads : Re
         → Closed (free g) u us
     closed_at u us end e d ends t r g' h =
         let shape : drop start ts ≡ u ++ t ∷ r = e ⋆ ap (λ (l : List Lexeme). u ++ l) g' in
-        let long : length (t ∷ r) ≤ length ts = omega (arith, ap length shape, length-append u (t ∷ r), length-drop start ts) in
+        let long : length (t ∷ r) ≤ length ts =
+        omega (arith, ap length shape, length-append u (t ∷ r), length-drop start ts) in
         let k : end ≡ length ts - length (t ∷ r) = d ⋆ ap (λ (l : List Lexeme). length ts - length l) g' in
-        ends (omega arith) (subst (λ (i : ℕ). (free g).IsPrefix (between ts start (i + 1))) (sym k) (subst (free g).IsPrefix (next_at u r t shape) h))
+        ends (omega arith) (subst (λ (i : ℕ). (free g).IsPrefix (between ts start (i + 1))) (sym k)
+        (subst (free g).IsPrefix (next_at u r t shape) h))
 
     pub only_at : (x : A) (end : ℕ)
         → IsRead (g a) (free g) ts start x end
@@ -358,8 +388,10 @@ module _ {A : Type 0} (g : Limited A) (a : Limits) (read : Reader A) (reads : Re
       | inr h ↦ absurd (w h)
     ]
 
-    limit_found : (l : Limit) (i : ℕ) → PassesLimit g a ts start i l → (k : ℕ) × (read (drop start ts) ≡ Err (Beyond l k))
-    limit_found l i p = limit_by l i p (read (drop start ts)) (reads.sound (drop start ts)) (come (raised l a p.others) p.further p.goes_on)
+    limit_found : (l : Limit) (i : ℕ) → PassesLimit g a ts start i l → (k : ℕ)
+        × (read (drop start ts) ≡ Err (Beyond l k))
+    limit_found l i p = limit_by l i p (read (drop start ts)) (reads.sound (drop start ts))
+        (come (raised l a p.others) p.further p.goes_on)
 
     same_limit : (l m : Limit) (k n : ℕ) (r : Read A) → r ≡ Err (Beyond l k) → r ≡ Err (Beyond m n) → l ≡ m
     same_limit l m k n r p q = let e = sym p ⋆ q in cc
@@ -379,7 +411,8 @@ module _ {A : Type 0} (g : Limited A) (a : Limits) (read : Reader A) (reads : Re
       subst ((g a).Is x) (sym (s.1 ⋆ append-nil s.0)) s.2
 
   pub whole_read : (ts : List Lexeme) (x : A) → (g a).Is x ts → read ts ≡ Ok (x, [])
-  whole_read ts x h = subst (λ (l : List Lexeme). read l ≡ Ok (x, [])) (append-nil ts) (go (reads.closed x ts [] h (λ t r e. absurd cc)))
+  whole_read ts x h = subst (λ (l : List Lexeme). read l ≡ Ok (x, [])) (append-nil ts)
+      (go (reads.closed x ts [] h (λ t r e. absurd cc)))
     where
       go : ReadsAs (λ l. Within l a a) (read (ts ++ [])) x [] → read (ts ++ []) ≡ Ok (x, [])
       go (inl e) = e

@@ -24,7 +24,8 @@ module _ {A B : Type 0} (within : Limit → Type 0) (a : Grammar A) (b : Grammar
       → ((vs : List Lexeme) → Passes within vs (more vs))
       → Passes within us r
       → Passes within us (r >>= λ x. put x.0 (more x.1))
-  plain_passes us (Ok x) more all h = passes_on within us x.1 _ h (passes_made within x.1 (more x.1) (λ e. (x.0 ∷ e.0, e.1)) (all x.1))
+  plain_passes us (Ok x) more all h = passes_on within us x.1 _ h
+      (passes_made within x.1 (more x.1) (λ e. (x.0 ∷ e.0, e.1)) (all x.1))
   plain_passes us (Err (Unexpected n)) more all h = h
   plain_passes us (Err (Beyond l n)) more all h = h
 
@@ -33,14 +34,17 @@ module _ {A B : Type 0} (within : Limit → Type 0) (a : Grammar A) (b : Grammar
       → Passes within us (or_marker ra rb more (next_marker us) us)
   unfolding next_marker additions_at
   or_shrink [] more all = plain_passes [] (ra []) more all (fa.front [] [] fa.nil)
-  or_shrink (Mark Ellipsis ∷ us) more all = passes_on within (Mark Ellipsis ∷ us) us _ (one_less (Mark Ellipsis) us) (passes_made within us (after_commas_at rb (length us) us) (λ ys. ([], Some ys)) (commas_shrink within b starts-b ends-b rb fb (length us) us))
+  or_shrink (Mark Ellipsis ∷ us) more all = passes_on within (Mark Ellipsis ∷ us) us _ (one_less (Mark Ellipsis) us)
+      (passes_made within us (after_commas_at rb (length us) us) (λ ys. ([], Some ys))
+      (commas_shrink within b starts-b ends-b rb fb (length us) us))
   or_shrink (t ∷ us) more all = plain_passes (t ∷ us) (ra (t ∷ us)) more all (fa.front [] (t ∷ us) fa.nil)
 
   more_shrink : (k : ℕ) (us : List Lexeme) → Passes within us (more_at ra rb k us)
   unfolding more_at
   more_shrink zero us = le_same us
   more_shrink (suc k) [] = le_same []
-  more_shrink (suc k) (Mark Comma ∷ us) = passes_on within (Mark Comma ∷ us) us _ (one_less (Mark Comma) us) (or_shrink us (more_at ra rb k) (more_shrink k))
+  more_shrink (suc k) (Mark Comma ∷ us) = passes_on within (Mark Comma ∷ us) us _ (one_less (Mark Comma) us)
+      (or_shrink us (more_at ra rb k) (more_shrink k))
   more_shrink (suc k) (t ∷ us) = le_same (t ∷ us)
 
   -- after one more comma, for which there is fuel
@@ -51,7 +55,8 @@ module _ {A B : Type 0} (within : Limit → Type 0) (a : Grammar A) (b : Grammar
       → Passes within us (more_at ra rb k ts)
   unfolding more_at
   at_comma zero rest us ts le e go = absurd (omega (arith, ap length e))
-  at_comma (suc k) rest us ts le e go = subst (λ (l : List Lexeme). Passes within us (more_at ra rb (suc k) l)) (sym e) (go k (omega (arith, ap length e)))
+  at_comma (suc k) rest us ts le e go = subst (λ (l : List Lexeme). Passes within us (more_at ra rb (suc k) l)) (sym e)
+      (go k (omega (arith, ap length e)))
 
   no_marker : (t : Lexeme) (r : List Lexeme) → starts t ≡ true → next_marker (t ∷ r) ≡ None
   unfolding next_marker
@@ -63,25 +68,34 @@ module _ {A B : Type 0} (within : Limit → Type 0) (a : Grammar A) (b : Grammar
       → starts t ≡ true
       → P (ra (t ∷ r) >>= λ x. put x.0 (more x.1))
       → P (or_marker ra rb more (next_marker (t ∷ r)) (t ∷ r))
-  at_part P t r more e h = subst (λ (o : Option (List Lexeme)). P (or_marker ra rb more o (t ∷ r))) (sym (no_marker t r e)) h
+  at_part P t r more e h = subst (λ (o : Option (List Lexeme)). P (or_marker ra rb more o (t ∷ r)))
+      (sym (no_marker t r e)) h
 
   -- a prefix of a part
   part_front : (j : ℕ) (w us : List Lexeme)
       → a.IsPrefix w
       → Passes within us (or_marker ra rb (more_at ra rb j) (next_marker (w ++ us)) (w ++ us))
   part_front j [] us h = or_shrink us (more_at ra rb j) (more_shrink j)
-  part_front j (t ∷ w) us h = at_part (Passes within us) t (w ++ us) (more_at ra rb j) (fa.first t w h) (plain_passes us (ra (t ∷ (w ++ us))) (more_at ra rb j) (more_shrink j) (fa.front (t ∷ w) us h))
+  part_front j (t ∷ w) us h = at_part (Passes within us) t (w ++ us) (more_at ra rb j) (fa.first t w h)
+      (plain_passes us (ra (t ∷ (w ++ us))) (more_at ra rb j) (more_shrink j) (fa.front (t ∷ w) us h))
 
   -- a prefix of the marker and what comes after it
   marked_front : (j : ℕ) (w us : List Lexeme)
       → (marked b).IsPrefix w
       → Passes within us (or_marker ra rb (more_at ra rb j) (next_marker (w ++ us)) (w ++ us))
   unfolding next_marker additions_at
-  marked_front j w us h = elim (preceded_front (Mark Ellipsis) (commas b) w ([], [], [], refl, refl, inl (inl refl)) h) [
-    | inl e ↦ subst (λ (l : List Lexeme). Passes within us (or_marker ra rb (more_at ra rb j) (next_marker (l ++ us)) (l ++ us))) (sym e) (or_shrink us (more_at ra rb j) (more_shrink j))
-    | inr (v, e, (xs, v1, v2, d, hm, hv)) ↦ subst (λ (l : List Lexeme). Passes within us (or_marker ra rb (more_at ra rb j) (next_marker (l ++ us)) (l ++ us))) (sym (e ⋆ ap (λ (l : List Lexeme). Mark Ellipsis ∷ l) d))
-        (passes_made within us (after_commas_at rb (length ((v1 ++ v2) ++ us)) ((v1 ++ v2) ++ us)) (λ ys. ([], Some ys)) (commas_front within b starts-b ends-b rb fb apart-b (length ((v1 ++ v2) ++ us)) xs v1 v2 us (le_same ((v1 ++ v2) ++ us)) hm hv))
-  ]
+  marked_front j w us h = elim
+      (preceded_front (Mark Ellipsis) (commas b) w ([], [], [], refl, refl, inl (inl refl)) h) [
+        | inl e ↦ subst (λ (l : List Lexeme). Passes within us
+            (or_marker ra rb (more_at ra rb j) (next_marker (l ++ us)) (l ++ us))) (sym e)
+            (or_shrink us (more_at ra rb j) (more_shrink j))
+        | inr (v, e, (xs, v1, v2, d, hm, hv)) ↦ subst
+            (λ (l : List Lexeme). Passes within us (or_marker ra rb (more_at ra rb j) (next_marker (l ++ us)) (l ++ us)))
+            (sym (e ⋆ ap (λ (l : List Lexeme). Mark Ellipsis ∷ l) d))
+            (passes_made within us (after_commas_at rb (length ((v1 ++ v2) ++ us)) ((v1 ++ v2) ++ us)) (λ ys. ([], Some ys))
+            (commas_front within b starts-b ends-b rb fb apart-b (length ((v1 ++ v2) ++ us)) xs v1 v2 us
+            (le_same ((v1 ++ v2) ++ us)) hm hv))
+      ]
 
   -- after the whole parts there is nothing, or a comma and a prefix of a part or of the marker
   abbrev Last : List Lexeme → Type 0
@@ -91,16 +105,21 @@ module _ {A B : Type 0} (within : Limit → Type 0) (a : Grammar A) (b : Grammar
       → length (w ++ us) ≤ k
       → Last w
       → Passes within us (more_at ra rb k (w ++ us))
-  last_front k w us le (inl e) = subst (λ (l : List Lexeme). Passes within us (more_at ra rb k (l ++ us))) (sym e) (more_shrink k us)
-  last_front k w us le (inr (v, e, inl h)) = at_comma k (v ++ us) us (w ++ us) le (ap (λ (l : List Lexeme). l ++ us) e) (λ j lj. part_front j v us h)
-  last_front k w us le (inr (v, e, inr h)) = at_comma k (v ++ us) us (w ++ us) le (ap (λ (l : List Lexeme). l ++ us) e) (λ j lj. marked_front j v us h)
+  last_front k w us le (inl e) = subst (λ (l : List Lexeme). Passes within us (more_at ra rb k (l ++ us))) (sym e)
+      (more_shrink k us)
+  last_front k w us le (inr (v, e, inl h)) = at_comma k (v ++ us) us (w ++ us) le (ap (λ (l : List Lexeme). l ++ us) e)
+      (λ j lj. part_front j v us h)
+  last_front k w us le (inr (v, e, inr h)) = at_comma k (v ++ us) us (w ++ us) le (ap (λ (l : List Lexeme). l ++ us) e)
+      (λ j lj. marked_front j v us h)
 
   reads_as_more : (x : A) (us vs : List Lexeme) (r : Read A) (more : Reader (Extensible A B))
       → ReadsAs within r x vs
       → Passes within us (more vs)
       → Passes within us (r >>= λ x. put x.0 (more x.1))
-  reads_as_more x us vs r more (inl e) h = subst (λ (q : Read A). Passes within us (q >>= λ x. put x.0 (more x.1))) (sym e) (passes_made within us (more vs) (λ e. (x ∷ e.0, e.1)) h)
-  reads_as_more x us vs r more (inr w) h = subst (λ (q : Read A). Passes within us (q >>= λ x. put x.0 (more x.1))) (sym w.2) (inr w.1)
+  reads_as_more x us vs r more (inl e) h = subst (λ (q : Read A). Passes within us (q >>= λ x. put x.0 (more x.1)))
+      (sym e) (passes_made within us (more vs) (λ e. (x ∷ e.0, e.1)) h)
+  reads_as_more x us vs r more (inr w) h = subst (λ (q : Read A). Passes within us (q >>= λ x. put x.0 (more x.1)))
+      (sym w.2) (inr w.1)
 
   -- what comes after a part begins with a comma, or is empty
   begins : (xs : List A) (q w : List Lexeme)
@@ -124,24 +143,33 @@ module _ {A B : Type 0} (within : Limit → Type 0) (a : Grammar A) (b : Grammar
       → Passes within us (or_marker ra rb (more_at ra rb j) (next_marker (p ++ (rest ++ us))) (p ++ (rest ++ us)))
   one_front j x [] rest us h c m = absurd (solid.no_empty x h)
   one_front j x (t ∷ p) rest us h (inl e) m =
-      subst (λ (l : List Lexeme). Passes within us (or_marker ra rb (more_at ra rb j) (next_marker ((t ∷ p) ++ (l ++ us))) ((t ∷ p) ++ (l ++ us)))) (sym e) (part_front j (t ∷ p) us (fa.part x (t ∷ p) h))
+      subst (λ (l : List Lexeme). Passes within us
+      (or_marker ra rb (more_at ra rb j) (next_marker ((t ∷ p) ++ (l ++ us))) ((t ∷ p) ++ (l ++ us)))) (sym e)
+      (part_front j (t ∷ p) us (fa.part x (t ∷ p) h))
   one_front j x (t ∷ p) rest us h (inr (v, e)) m =
       at_part (Passes within us) t (p ++ (rest ++ us)) (more_at ra rb j) (fa.first t p (fa.part x (t ∷ p) h))
-      (reads_as_more x us (rest ++ us) (ra ((t ∷ p) ++ (rest ++ us))) (more_at ra rb j) (fa.whole x (t ∷ p) (rest ++ us) h (follows_comma (rest ++ us) (v ++ us) (ap (λ (l : List Lexeme). l ++ us) e))) m)
+      (reads_as_more x us (rest ++ us) (ra ((t ∷ p) ++ (rest ++ us))) (more_at ra rb j)
+      (fa.whole x (t ∷ p) (rest ++ us) h
+      (follows_comma (rest ++ us) (v ++ us) (ap (λ (l : List Lexeme). l ++ us) e))) m)
 
   all_front : (k : ℕ) (xs : List A) (u w us : List Lexeme)
       → length ((u ++ w) ++ us) ≤ k
       → IsMany (preceded (Mark Comma) a) xs u
       → Last w
       → Passes within us (more_at ra rb k ((u ++ w) ++ us))
-  all_front k [] u w us le h l = subst (λ (v : List Lexeme). Passes within us (more_at ra rb k (v ++ us))) (sym (ap (λ (v : List Lexeme). v ++ w) h)) (last_front k w us (omega (arith, le, ap length h, length-append u w, length-append (u ++ w) us, length-append w us)) l)
+  all_front k [] u w us le h l = subst (λ (v : List Lexeme). Passes within us (more_at ra rb k (v ++ us)))
+      (sym (ap (λ (v : List Lexeme). v ++ w) h))
+      (last_front k w us
+      (omega (arith, le, ap length h, length-append u w, length-append (u ++ w) us, length-append w us)) l)
   all_front k (x ∷ xs) u w us le (p, q, e, hp, hq) l =
       let c = preceded_is (Mark Comma) a x p hp in
       let shape : (u ++ w) ++ us ≡ Mark Comma ∷ (c.0 ++ ((q ++ w) ++ us)) =
       ap (λ (l : List Lexeme). (l ++ w) ++ us) (e ⋆ ap (λ (l : List Lexeme). l ++ q) c.1)
-      ⋆ ap (λ (l : List Lexeme). Mark Comma ∷ l) (ap (λ (l : List Lexeme). l ++ us) (append_assoc c.0 q w) ⋆ append_assoc c.0 (q ++ w) us) in
+      ⋆ ap (λ (l : List Lexeme). Mark Comma ∷ l)
+      (ap (λ (l : List Lexeme). l ++ us) (append_assoc c.0 q w) ⋆ append_assoc c.0 (q ++ w) us) in
       at_comma k (c.0 ++ ((q ++ w) ++ us)) us ((u ++ w) ++ us) le shape
-      (λ j lj. one_front j x c.0 (q ++ w) us c.2 (begins xs q w hq l) (all_front j xs q w us (omega (arith, lj, length-append c.0 ((q ++ w) ++ us))) hq l))
+      (λ j lj. one_front j x c.0 (q ++ w) us c.2 (begins xs q w hq l)
+      (all_front j xs q w us (omega (arith, lj, length-append c.0 ((q ++ w) ++ us))) hq l))
 
   last_of : (w : List Lexeme) → (preceded (Mark Comma) a).IsPrefix w → Last w
   last_of w h = elim (preceded_front (Mark Comma) a w fa.nil h) [
@@ -160,8 +188,12 @@ module _ {A B : Type 0} (within : Limit → Type 0) (a : Grammar A) (b : Grammar
   tail_front : (u us : List Lexeme)
       → (tail a b).IsPrefix u
       → Passes within us (more_at ra rb (length (u ++ us)) (u ++ us))
-  tail_front u us (inl (xs, v, w, e, hv, hw)) = subst (λ (l : List Lexeme). Passes within us (more_at ra rb (length (l ++ us)) (l ++ us))) (sym e) (all_front (length ((v ++ w) ++ us)) xs v w us (le_same ((v ++ w) ++ us)) hv (last_of w hw))
-  tail_front u us (inr (xs, v, w, e, hv, hw)) = subst (λ (l : List Lexeme). Passes within us (more_at ra rb (length (l ++ us)) (l ++ us))) (sym e) (all_front (length ((v ++ w) ++ us)) xs v w us (le_same ((v ++ w) ++ us)) hv (last_marked w hw))
+  tail_front u us (inl (xs, v, w, e, hv, hw)) =
+      subst (λ (l : List Lexeme). Passes within us (more_at ra rb (length (l ++ us)) (l ++ us))) (sym e)
+      (all_front (length ((v ++ w) ++ us)) xs v w us (le_same ((v ++ w) ++ us)) hv (last_of w hw))
+  tail_front u us (inr (xs, v, w, e, hv, hw)) =
+      subst (λ (l : List Lexeme). Passes within us (more_at ra rb (length (l ++ us)) (l ++ us))) (sym e)
+      (all_front (length ((v ++ w) ++ us)) xs v w us (le_same ((v ++ w) ++ us)) hv (last_marked w hw))
 
   -- ---- each whole is read
 
@@ -198,14 +230,18 @@ module _ {A B : Type 0} (within : Limit → Type 0) (a : Grammar A) (b : Grammar
       → ReadsAs within (more_at ra rb k ts) y us
   unfolding more_at
   whole_at_comma zero y rest us ts le e go = absurd (omega (arith, ap length e))
-  whole_at_comma (suc k) y rest us ts le e go = subst (λ (l : List Lexeme). ReadsAs within (more_at ra rb (suc k) l) y us) (sym e) (go k (omega (arith, ap length e)))
+  whole_at_comma (suc k) y rest us ts le e go =
+      subst (λ (l : List Lexeme). ReadsAs within (more_at ra rb (suc k) l) y us) (sym e)
+      (go k (omega (arith, ap length e)))
 
   reads_as_both : (x : A) (y : Extensible A B) (us vs : List Lexeme) (r : Read A) (more : Reader (Extensible A B))
       → ReadsAs within r x vs
       → ReadsAs within (more vs) y us
       → ReadsAs within (r >>= λ x. put x.0 (more x.1)) (x ∷ y.0, y.1) us
-  reads_as_both x y us vs r more (inl e) (inl h) = inl (ap (λ (q : Read A). q >>= λ x. put x.0 (more x.1)) e ⋆ ap (put x) h)
-  reads_as_both x y us vs r more (inl e) (inr h) = inr (h.0, h.1, ap (λ (q : Read A). q >>= λ x. put x.0 (more x.1)) e ⋆ ap (put x) h.2)
+  reads_as_both x y us vs r more (inl e) (inl h) =
+      inl (ap (λ (q : Read A). q >>= λ x. put x.0 (more x.1)) e ⋆ ap (put x) h)
+  reads_as_both x y us vs r more (inl e) (inr h) =
+      inr (h.0, h.1, ap (λ (q : Read A). q >>= λ x. put x.0 (more x.1)) e ⋆ ap (put x) h.2)
   reads_as_both x y us vs r more (inr w) h = inr (w.0, w.1, ap (λ (q : Read A). q >>= λ x. put x.0 (more x.1)) w.2)
 
   -- the marker and the additions are read
@@ -216,18 +252,23 @@ module _ {A B : Type 0} (within : Limit → Type 0) (a : Grammar A) (b : Grammar
   unfolding next_marker additions_at
   marked_whole j ys w us h f =
       let m = preceded_is (Mark Ellipsis) (commas b) ys w h in
-      subst (λ (l : List Lexeme). ReadsAs within (or_marker ra rb (more_at ra rb j) (next_marker (l ++ us)) (l ++ us)) ([], Some ys) us) (sym m.1)
-      (reads_as_made within us (after_commas_at rb (length (m.0 ++ us)) (m.0 ++ us)) ys (λ ys. ([], Some ys)) (commas_whole within b starts-b ends-b rb fb apart-b (length (m.0 ++ us)) ys m.0 us (le_same (m.0 ++ us)) m.2 (ends_follow_b us f) (no_commas us f)))
+      subst (λ (l : List Lexeme). ReadsAs within (or_marker ra rb (more_at ra rb j) (next_marker (l ++ us)) (l ++ us))
+      ([], Some ys) us) (sym m.1)
+      (reads_as_made within us (after_commas_at rb (length (m.0 ++ us)) (m.0 ++ us)) ys (λ ys. ([], Some ys))
+      (commas_whole within b starts-b ends-b rb fb apart-b (length (m.0 ++ us)) ys m.0 us (le_same (m.0 ++ us)) m.2
+      (ends_follow_b us f) (no_commas us f)))
 
   last_whole : (k : ℕ) (o : Option (List B)) (w us : List Lexeme)
       → length (w ++ us) ≤ k
       → (optional (preceded (Mark Comma) (marked b))).Is o w
       → Follows end_of us
       → ReadsAs within (more_at ra rb k (w ++ us)) ([], o) us
-  last_whole k None w us le h f = subst (λ (l : List Lexeme). ReadsAs within (more_at ra rb k (l ++ us)) ([], None) us) (sym h) (inl (more_none k us f))
+  last_whole k None w us le h f = subst (λ (l : List Lexeme). ReadsAs within (more_at ra rb k (l ++ us)) ([], None) us)
+      (sym h) (inl (more_none k us f))
   last_whole k (Some ys) w us le h f =
       let m = preceded_is (Mark Comma) (marked b) ys w h in
-      whole_at_comma k ([], Some ys) (m.0 ++ us) us (w ++ us) le (ap (λ (l : List Lexeme). l ++ us) m.1) (λ j lj. marked_whole j ys m.0 us m.2 f)
+      whole_at_comma k ([], Some ys) (m.0 ++ us) us (w ++ us) le (ap (λ (l : List Lexeme). l ++ us) m.1)
+      (λ j lj. marked_whole j ys m.0 us m.2 f)
 
   -- a part doesn't end before what comes after it
   last_follows : (o : Option (List B)) (w us : List Lexeme)
@@ -235,25 +276,30 @@ module _ {A B : Type 0} (within : Limit → Type 0) (a : Grammar A) (b : Grammar
       → Follows end_of us
       → Follows ends (w ++ us)
   last_follows None w us h f = subst (λ (l : List Lexeme). Follows ends (l ++ us)) (sym h) (ends_follow us f)
-  last_follows (Some ys) w us h f = let m = preceded_is (Mark Comma) (marked b) ys w h in follows_comma (w ++ us) (m.0 ++ us) (ap (λ (l : List Lexeme). l ++ us) m.1)
+  last_follows (Some ys) w us h f = let m = preceded_is (Mark Comma) (marked b) ys w h in follows_comma (w ++ us)
+      (m.0 ++ us) (ap (λ (l : List Lexeme). l ++ us) m.1)
 
   tail_follows : (xs : List A) (o : Option (List B)) (v w us : List Lexeme)
       → IsMany (preceded (Mark Comma) a) xs v
       → (optional (preceded (Mark Comma) (marked b))).Is o w
       → Follows end_of us
       → Follows ends (v ++ (w ++ us))
-  tail_follows xs o v w us h ho f = follows_many within a starts ends ra fa apart xs v (w ++ us) h (last_follows o w us ho f)
+  tail_follows xs o v w us h ho f = follows_many within a starts ends ra fa apart xs v (w ++ us) h
+      (last_follows o w us ho f)
 
   one_whole : (j : ℕ) (x : A) (y : Extensible A B) (p rest us : List Lexeme)
       → a.Is x p
       → Follows ends (rest ++ us)
       → ReadsAs within (more_at ra rb j (rest ++ us)) y us
       →
-      ReadsAs within (or_marker ra rb (more_at ra rb j) (next_marker (p ++ (rest ++ us))) (p ++ (rest ++ us))) (x ∷ y.0, y.1) us
+      ReadsAs within (or_marker ra rb (more_at ra rb j) (next_marker (p ++ (rest ++ us))) (p ++ (rest ++ us)))
+      (x ∷ y.0, y.1) us
   one_whole j x y [] rest us h f m = absurd (solid.no_empty x h)
   one_whole j x y (t ∷ p) rest us h f m =
-      at_part (λ (r : Read (Extensible A B)). ReadsAs within r (x ∷ y.0, y.1) us) t (p ++ (rest ++ us)) (more_at ra rb j) (fa.first t p (fa.part x (t ∷ p) h))
-      (reads_as_both x y us (rest ++ us) (ra ((t ∷ p) ++ (rest ++ us))) (more_at ra rb j) (fa.whole x (t ∷ p) (rest ++ us) h f) m)
+      at_part (λ (r : Read (Extensible A B)). ReadsAs within r (x ∷ y.0, y.1) us) t (p ++ (rest ++ us))
+      (more_at ra rb j) (fa.first t p (fa.part x (t ∷ p) h))
+      (reads_as_both x y us (rest ++ us) (ra ((t ∷ p) ++ (rest ++ us))) (more_at ra rb j)
+      (fa.whole x (t ∷ p) (rest ++ us) h f) m)
 
   all_whole : (k : ℕ) (xs : List A) (o : Option (List B)) (v w us : List Lexeme)
       → length ((v ++ w) ++ us) ≤ k
@@ -261,20 +307,28 @@ module _ {A B : Type 0} (within : Limit → Type 0) (a : Grammar A) (b : Grammar
       → (optional (preceded (Mark Comma) (marked b))).Is o w
       → Follows end_of us
       → ReadsAs within (more_at ra rb k ((v ++ w) ++ us)) (xs, o) us
-  all_whole k [] o v w us le h ho f = subst (λ (l : List Lexeme). ReadsAs within (more_at ra rb k (l ++ us)) ([], o) us) (sym (ap (λ (l : List Lexeme). l ++ w) h)) (last_whole k o w us (omega (arith, le, ap length h, length-append v w, length-append (v ++ w) us, length-append w us)) ho f)
+  all_whole k [] o v w us le h ho f = subst (λ (l : List Lexeme). ReadsAs within (more_at ra rb k (l ++ us)) ([], o) us)
+      (sym (ap (λ (l : List Lexeme). l ++ w) h))
+      (last_whole k o w us
+      (omega (arith, le, ap length h, length-append v w, length-append (v ++ w) us, length-append w us)) ho f)
   all_whole k (x ∷ xs) o v w us le (p, q, e, hp, hq) ho f =
       let c = preceded_is (Mark Comma) a x p hp in
       let shape : (v ++ w) ++ us ≡ Mark Comma ∷ (c.0 ++ ((q ++ w) ++ us)) =
       ap (λ (l : List Lexeme). (l ++ w) ++ us) (e ⋆ ap (λ (l : List Lexeme). l ++ q) c.1)
-      ⋆ ap (λ (l : List Lexeme). Mark Comma ∷ l) (ap (λ (l : List Lexeme). l ++ us) (append_assoc c.0 q w) ⋆ append_assoc c.0 (q ++ w) us) in
+      ⋆ ap (λ (l : List Lexeme). Mark Comma ∷ l)
+      (ap (λ (l : List Lexeme). l ++ us) (append_assoc c.0 q w) ⋆ append_assoc c.0 (q ++ w) us) in
       whole_at_comma k (x ∷ xs, o) (c.0 ++ ((q ++ w) ++ us)) us ((v ++ w) ++ us) le shape
-      (λ j lj. one_whole j x (xs, o) c.0 (q ++ w) us c.2 (subst (Follows ends) (sym (append_assoc q w us)) (tail_follows xs o q w us hq ho f)) (all_whole j xs o q w us (omega (arith, lj, length-append c.0 ((q ++ w) ++ us))) hq ho f))
+      (λ j lj. one_whole j x (xs, o) c.0 (q ++ w) us c.2
+      (subst (Follows ends) (sym (append_assoc q w us)) (tail_follows xs o q w us hq ho f))
+      (all_whole j xs o q w us (omega (arith, lj, length-append c.0 ((q ++ w) ++ us))) hq ho f))
 
   tail_whole : (y : Extensible A B) (u us : List Lexeme)
       → (tail a b).Is y u
       → Follows end_of us
       → ReadsAs within (more_at ra rb (length (u ++ us)) (u ++ us)) y us
-  tail_whole y u us (v, w, e, hv, hw) f = subst (λ (l : List Lexeme). ReadsAs within (more_at ra rb (length (l ++ us)) (l ++ us)) y us) (sym e) (all_whole (length ((v ++ w) ++ us)) y.0 y.1 v w us (le_same ((v ++ w) ++ us)) hv hw f)
+  tail_whole y u us (v, w, e, hv, hw) f =
+      subst (λ (l : List Lexeme). ReadsAs within (more_at ra rb (length (l ++ us)) (l ++ us)) y us) (sym e)
+      (all_whole (length ((v ++ w) ++ us)) y.0 y.1 v w us (le_same ((v ++ w) ++ us)) hv hw f)
 
   tail_first : (t : Lexeme) (u : List Lexeme) → (tail a b).IsPrefix (t ∷ u) → is_comma t ≡ true
   tail_first t u h = elim (front_begins (t ∷ u) h) [
@@ -303,7 +357,18 @@ module _ {A B : Type 0} (within : Limit → Type 0) (a : Grammar A) (b : Grammar
       last_part (Some ys) w h =
           let m = preceded_is (Mark Comma) (marked b) ys w h in
           let n = preceded_is (Mark Ellipsis) (commas b) ys m.0 m.2 in
-          inr (subst (preceded (Mark Comma) (marked b)).IsPrefix (sym m.1) (front_preceded (Mark Comma) (marked b) m.0 (subst (marked b).IsPrefix (sym n.1) (front_preceded (Mark Ellipsis) (commas b) n.0 (ys, n.0, [], sym (append-nil n.0), n.2, inl (inl refl))))))
+          inr (subst (preceded (Mark Comma) (marked b)).IsPrefix (sym m.1)
+          (front_preceded (Mark Comma) (marked b) m.0
+          (subst (marked b).IsPrefix (sym n.1)
+          (front_preceded (Mark Ellipsis) (commas b) n.0
+          (ys, n.0, [], sym (append-nil n.0), n.2, inl (inl refl))))))
 
   pub tail_finds : Finds within (tail a b) is_comma end_of (λ us. more_at ra rb (length us) us)
-  tail_finds = record { nil = inl ([], [], [], refl, refl, inl (inl refl)); part = tail_part; first = tail_first; whole = tail_whole; front = tail_front }
+  tail_finds = record {
+    nil = inl ([], [], [], refl, refl, inl (inl refl));
+    part = tail_part;
+    first =
+        tail_first;
+    whole = tail_whole;
+    front = tail_front;
+  }

@@ -48,7 +48,8 @@ module _ {A B : Type 0} (ra : Reader A) (rb : Reader B) where
   extensible_read ts = refl
 
   abbrev after_marker : Reader (List B)
-  after_marker = then_read (λ (p : Unit {0} × List B). p.1) (one_at is_ellipsis) (λ us. after_commas_at rb (length us) us)
+  after_marker = then_read (λ (p : Unit {0} × List B). p.1) (one_at is_ellipsis)
+      (λ us. after_commas_at rb (length us) us)
 
   abbrev marked_read : Reader (Extensible A B)
   marked_read ts = after_marker ts >>= λ ys. Ok (unrooted ys.0, ys.1)
@@ -66,26 +67,40 @@ module _ {A B : Type 0} (s f : Type 0) (over : Limit → ℕ) (within : Limit �
     (no_mark : starts (Mark Ellipsis) ≡ false) where
   loose_commas :
       OwesLoosely s f over within (commas b) is_comma (with_comma ends-b) (λ us. after_commas_at rb (length us) us)
-  loose_commas = record { sound = λ q ts. commas_sound over b rb (kb.sound q) (length ts) ts; finds = λ q. finds_many within b starts-b ends-b rb (kb.finds q) apart-b }
+  loose_commas = record {
+    sound = λ q ts. commas_sound over b rb (kb.sound q) (length ts) ts;
+    finds =
+        λ q. finds_many within b starts-b ends-b rb (kb.finds q) apart-b;
+  }
 
   loose_tail :
-      OwesLoosely s f over within (tail a b) is_comma (with_comma (either ends ends-b)) (λ us. more_at ra rb (length us) us)
+      OwesLoosely s f over within (tail a b) is_comma (with_comma (either ends ends-b))
+      (λ us. more_at ra rb (length us) us)
   loose_tail = record {
     sound = λ q ts. more_sound over a b ra rb (ka.sound q) (kb.sound q) (length ts) ts;
-    finds = λ q. tail_finds within a b starts ends starts-b ends-b ra rb (ka.finds q) (kb.finds q) ka.solid apart apart-b no_mark;
+    finds = λ q. tail_finds within a b starts ends starts-b ends-b ra rb (ka.finds q) (kb.finds q) ka.solid apart
+        apart-b no_mark;
   }
 
   extensible_owed :
       Owes s f over within (extensible a b) starts (either ends (with_comma (either ends ends-b))) (extensible_at ra rb)
-  extensible_owed = rule_same (extensible a b) (extensible_same a b) (rule_read (extensible_at ra rb) (extensible_read ra rb) (rule_tail first_and ka loose_tail (comma_apart ends apart)))
+  extensible_owed = rule_same (extensible a b) (extensible_same a b)
+      (rule_read (extensible_at ra rb) (extensible_read ra rb)
+      (rule_tail first_and ka loose_tail (comma_apart ends apart)))
 
   marked_owed :
-      Owes s f over within (marked b ⇒ unrooted {A = A}) is_ellipsis (either no_lexeme (with_comma ends-b)) (marked_read ra rb)
-  marked_owed = rule_made unrooted (rule_tail (λ p. p.1) (rule_token (one_is (Mark Ellipsis) is_ellipsis refl ellipsis_one)) loose_commas (λ t e. refl))
+      Owes s f over within (marked b ⇒ unrooted {A = A}) is_ellipsis (either no_lexeme (with_comma ends-b))
+      (marked_read ra rb)
+  marked_owed = rule_made unrooted
+      (rule_tail (λ p. p.1) (rule_token (one_is (Mark Ellipsis) is_ellipsis refl ellipsis_one)) loose_commas
+      (λ t e. refl))
 
   rootless_owed :
-      Owes s f over within (rootless a b) (either is_ellipsis starts) (either (either no_lexeme (with_comma ends-b)) (either ends (with_comma (either ends ends-b)))) (rootless_at ra rb)
-  rootless_owed = rule_read (rootless_at ra rb) (rootless_same ra rb) (rule_pick marked_owed extensible_owed (starts_apart starts no_mark))
+      Owes s f over within (rootless a b) (either is_ellipsis starts)
+      (either (either no_lexeme (with_comma ends-b)) (either ends (with_comma (either ends ends-b))))
+      (rootless_at ra rb)
+  rootless_owed = rule_read (rootless_at ra rb) (rootless_same ra rb)
+      (rule_pick marked_owed extensible_owed (starts_apart starts no_mark))
 
 pub rule_extensible : {A B : Type 0} {s f : Type 0} {over : Limit → ℕ} {within : Limit → Type 0} {a : Grammar A}
     {b : Grammar B} {starts ends starts-b ends-b : Lexeme → Bool} {ra : Reader A} {rb : Reader B}
@@ -95,7 +110,8 @@ pub rule_extensible : {A B : Type 0} {s f : Type 0} {over : Limit → ℕ} {with
     → ends-b (Mark Comma) ≡ false
     → starts (Mark Ellipsis) ≡ false
     → Owes s f over within (extensible a b) starts (either ends (with_comma (either ends ends-b))) (extensible_at ra rb)
-rule_extensible {A} {B} {s} {f} {over} {within} {a} {b} {starts} {ends} {starts-b} {ends-b} {ra} {rb} ka kb apart apart-b no_mark = extensible_owed s f over within a b starts ends starts-b ends-b ra rb ka kb apart apart-b no_mark
+rule_extensible {A} {B} {s} {f} {over} {within} {a} {b} {starts} {ends} {starts-b} {ends-b} {ra} {rb} ka kb apart
+    apart-b no_mark = extensible_owed s f over within a b starts ends starts-b ends-b ra rb ka kb apart apart-b no_mark
 
 pub rule_rootless : {A B : Type 0} {s f : Type 0} {over : Limit → ℕ} {within : Limit → Type 0} {a : Grammar A}
     {b : Grammar B} {starts ends starts-b ends-b : Lexeme → Bool} {ra : Reader A} {rb : Reader B}
@@ -105,8 +121,11 @@ pub rule_rootless : {A B : Type 0} {s f : Type 0} {over : Limit → ℕ} {within
     → ends-b (Mark Comma) ≡ false
     → starts (Mark Ellipsis) ≡ false
     →
-    Owes s f over within (rootless a b) (either is_ellipsis starts) (either (either no_lexeme (with_comma ends-b)) (either ends (with_comma (either ends ends-b)))) (rootless_at ra rb)
-rule_rootless {A} {B} {s} {f} {over} {within} {a} {b} {starts} {ends} {starts-b} {ends-b} {ra} {rb} ka kb apart apart-b no_mark = rootless_owed s f over within a b starts ends starts-b ends-b ra rb ka kb apart apart-b no_mark
+    Owes s f over within (rootless a b) (either is_ellipsis starts)
+    (either (either no_lexeme (with_comma ends-b)) (either ends (with_comma (either ends ends-b))))
+    (rootless_at ra rb)
+rule_rootless {A} {B} {s} {f} {over} {within} {a} {b} {starts} {ends} {starts-b} {ends-b} {ra} {rb} ka kb apart apart-b
+    no_mark = rootless_owed s f over within a b starts ends starts-b ends-b ra rb ka kb apart apart-b no_mark
 
 -- ---- version brackets
 
@@ -169,7 +188,8 @@ colon_again n (Err e) = refl
 
 number_again : (b : Bool) (n : ℕ) (ts rest : List Lexeme)
     →
-    made forgot (made (λ x. Some x) (after_read (λ p. p) (fitting b ts (Ok (n, rest))) colon_at)) ≡ fitting b ts (colon_at rest)
+    made forgot (made (λ x. Some x) (after_read (λ p. p) (fitting b ts (Ok (n, rest))) colon_at)) ≡ fitting b ts
+    (colon_at rest)
 number_again true n ts rest = colon_again n (colon_at rest)
 number_again false n ts rest = refl
 
@@ -208,26 +228,30 @@ module _ {A : Type 0} (fits : ℕ → Bool) (read : Reader A) where
   inside_read = then_read (λ p. p) (version_read fits) parts_read
 
   abbrev bracket_read : Reader (A ⊎ List A)
-  bracket_read ts = then_read (λ (p : Unit {0} × (Version × (List A × Unit {0}))). p.1) (one_at is_open_version) inside_read ts >>= λ x. Ok (bracket x.0, x.1)
+  bracket_read ts = then_read (λ (p : Unit {0} × (Version × (List A × Unit {0}))). p.1) (one_at is_open_version)
+      inside_read ts >>= λ x. Ok (bracket x.0, x.1)
 
   abbrev whole_read : Reader (A ⊎ List A)
   whole_read = pick is_open_version bracket_read (λ ts. read ts >>= λ x. Ok (inl x.0, x.1))
 
   closing : (v : Version) (xs : List A) (r : Read (Unit {0}))
       →
-      made bracket (made (λ (y : List A × Unit {0}). (v, y)) (made (λ (y : Unit {0}). (xs, y)) r)) ≡ (r >>= λ c. Ok (inr xs, c.1))
+      made bracket (made (λ (y : List A × Unit {0}). (v, y)) (made (λ (y : Unit {0}). (xs, y)) r))
+      ≡ (r >>= λ c. Ok (inr xs, c.1))
   closing v xs (Ok c) = refl
   closing v xs (Err e) = refl
 
   listing : (v : Version) (r : Read (List A))
       →
-      made bracket (made (λ (y : List A × Unit {0}). (v, y)) (after_read (λ p. p) r close_version_at)) ≡ (r >>= λ xs. close_version_at xs.1 >>= λ c. Ok (inr xs.0, c.1))
+      made bracket (made (λ (y : List A × Unit {0}). (v, y)) (after_read (λ p. p) r close_version_at))
+      ≡ (r >>= λ xs. close_version_at xs.1 >>= λ c. Ok (inr xs.0, c.1))
   listing v (Ok xs) = closing v xs.0 (close_version_at xs.1)
   listing v (Err e) = refl
 
   after_version : (r : Read Version)
       →
-      made bracket (after_read (λ p. p) r parts_read) ≡ (made forgot r >>= λ v. listed_at read v.1 >>= λ xs. close_version_at xs.1 >>= λ c. Ok (inr xs.0, c.1))
+      made bracket (after_read (λ p. p) r parts_read)
+      ≡ (made forgot r >>= λ v. listed_at read v.1 >>= λ xs. close_version_at xs.1 >>= λ c. Ok (inr xs.0, c.1))
   after_version (Ok v) = listing v.0 (listed_at read v.1)
   after_version (Err e) = refl
 
@@ -236,7 +260,8 @@ module _ {A : Type 0} (fits : ℕ → Bool) (read : Reader A) where
   addition_same [] = refl
   addition_same (Mark OpenVersion ∷ ts) =
       ap (made bracket) (read_again (inside_read ts)) ⋆ after_version (version_read fits ts)
-      ⋆ ap (λ (r : Read (Unit {0})). r >>= λ v. listed_at read v.1 >>= λ xs. close_version_at xs.1 >>= λ c. Ok (inr xs.0, c.1)) (version_same fits ts)
+      ⋆ ap (λ (r : Read (Unit {0})). r >>= λ v. listed_at read v.1 >>= λ xs. close_version_at xs.1 >>= λ c. Ok
+      (inr xs.0, c.1)) (version_same fits ts)
   addition_same (t ∷ ts) = refl
 
 -- lexemes with which parts in version brackets must not begin or continue
@@ -269,20 +294,31 @@ module _ (s f : Type 0) (over : Limit → ℕ) (within : Limit → Type 0) (fits
     (starts ends : Lexeme → Bool) (read : Reader A) (k : Owes s f over within a starts ends read)
     (e : FitsBrackets starts ends) where
   loose_version : OwesLoosely s f over within (version fits') is_number (either is_number no_lexeme) (version_read fits)
-  loose_version = loose_optional (rule_both (number_of fits') (mark Colon) (rule_seq (λ p. p) (asked (rule_number over within fits fits' grows past room)) (rule_read colon_at colon_same (rule_token (one_is (Mark Colon) is_colon refl colon_one))) (λ t e. refl)))
+  loose_version = loose_optional
+      (rule_both (number_of fits') (mark Colon)
+      (rule_seq (λ p. p) (asked (rule_number over within fits fits' grows past room))
+      (rule_read colon_at colon_same (rule_token (one_is (Mark Colon) is_colon refl colon_one))) (λ t e. refl)))
 
   rule_parts : Owes s f over within (listed a ∙ mark CloseVersion) starts no_lexeme (parts_read fits read)
-  rule_parts = rule_both (listed a) (mark CloseVersion) (rule_seq (λ p. p) (rule_listed k e.comma) (rule_read close_version_at close_version_same (rule_token (one_is (Mark CloseVersion) is_close_version refl close_version_only))) (close_apart (with_comma ends) e.close))
+  rule_parts = rule_both (listed a) (mark CloseVersion)
+      (rule_seq (λ p. p) (rule_listed k e.comma)
+      (rule_read close_version_at close_version_same
+      (rule_token (one_is (Mark CloseVersion) is_close_version refl close_version_only)))
+      (close_apart (with_comma ends) e.close))
 
   rule_bracket :
-      Owes s f over within (preceded (Mark OpenVersion) (version fits' ∙ (listed a ∙ mark CloseVersion)) ⇒ bracket) is_open_version no_lexeme (bracket_read fits read)
+      Owes s f over within (preceded (Mark OpenVersion) (version fits' ∙ (listed a ∙ mark CloseVersion)) ⇒ bracket)
+      is_open_version no_lexeme (bracket_read fits read)
   rule_bracket =
       rule_made bracket (rule_preceded (rule_token (one_is (Mark OpenVersion) is_open_version refl open_version_one))
-      (rule_both (version fits') (listed a ∙ mark CloseVersion) (rule_lead (λ p. p) loose_version rule_parts (numbers_apart starts e.number))))
+      (rule_both (version fits') (listed a ∙ mark CloseVersion)
+      (rule_lead (λ p. p) loose_version rule_parts (numbers_apart starts e.number))))
 
   addition_owed :
-      Owes s f over within (addition fits' a) (either is_open_version starts) (either no_lexeme ends) (addition_at fits read)
-  addition_owed = rule_read (addition_at fits read) (addition_same fits read) (rule_turned (rule_pick rule_bracket (rule_made inl k) (open_apart starts e.bracket)))
+      Owes s f over within (addition fits' a) (either is_open_version starts) (either no_lexeme ends)
+      (addition_at fits read)
+  addition_owed = rule_read (addition_at fits read) (addition_same fits read)
+      (rule_turned (rule_pick rule_bracket (rule_made inl k) (open_apart starts e.bracket)))
 
 pub rule_addition : {A : Type 0} {s f : Type 0} (over : Limit → ℕ) (within : Limit → Type 0) (fits fits' : ℕ → Bool)
     → ((n : ℕ) → fits n ≡ true → fits' n ≡ true)
@@ -292,5 +328,7 @@ pub rule_addition : {A : Type 0} {s f : Type 0} (over : Limit → ℕ) (within :
     → Owes s f over within a starts ends read
     → FitsBrackets starts ends
     →
-    Owes s f over within (addition fits' a) (either is_open_version starts) (either no_lexeme ends) (addition_at fits read)
-rule_addition {A} {s} {f} over within fits fits' grows past room {a} {starts} {ends} {read} k e = addition_owed s f over within fits fits' grows past room a starts ends read k e
+    Owes s f over within (addition fits' a) (either is_open_version starts) (either no_lexeme ends)
+    (addition_at fits read)
+rule_addition {A} {s} {f} over within fits fits' grows past room {a} {starts} {ends} {read} k e =
+    addition_owed s f over within fits fits' grows past room a starts ends read k e

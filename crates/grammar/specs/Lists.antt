@@ -37,14 +37,26 @@ module _ (over : Limit → ℕ) where
       → (ts : List Lexeme)
       → Sound over (listed a) ts (listed_at read ts)
   unfolding listed_at
-  listed_sound a read s ts = seq_sound over a (many (preceded (Mark Comma) a)) (λ p. p.0 ∷ p.1) ts (read ts) (λ us. after_commas_at read (length us) us) (s ts) (λ us. commas_sound over a read s (length us) us)
+  listed_sound a read s ts = seq_sound over a (many (preceded (Mark Comma) a)) (λ p. p.0 ∷ p.1) ts (read ts)
+      (λ us. after_commas_at read (length us) us) (s ts) (λ us. commas_sound over a read s (length us) us)
 
   -- the part in braces
   pub brace_sound : {A B : Type 0} (a : Grammar A) (f : A → B) (ts : List Lexeme) (r : Read B)
       → Sound over ((a ∙ mark CloseBrace) ⇒ (λ p. f p.0)) ts r
       → Sound over (braces a ⇒ f) ((Mark OpenBrace) ∷ ts) r
-  brace_sound a f ts (Ok x) (u, e, (p, q, h)) = ((Mark OpenBrace) ∷ u, ap (λ (l : List Lexeme). (Mark OpenBrace) ∷ l) e, (p.0, q, ((tt, p), refl, ((Mark OpenBrace) ∷ [], u, refl, refl, h))))
-  brace_sound a f ts (Err g) (u, rest, e, k, h) = ((Mark OpenBrace) ∷ u, rest, ap (λ (l : List Lexeme). (Mark OpenBrace) ∷ l) e, k, inr (tt, (Mark OpenBrace) ∷ [], u, refl, refl, h))
+  brace_sound a f ts (Ok x) (u, e, (p, q, h)) = (
+    (Mark OpenBrace) ∷ u,
+    ap (λ (l : List Lexeme). (Mark OpenBrace) ∷ l) e,
+    (p.0, q, ((tt, p), refl, ((Mark OpenBrace) ∷ [], u, refl, refl, h))),
+  )
+  brace_sound a f ts (Err g) (u, rest, e, k, h) = (
+    (Mark OpenBrace) ∷ u,
+    rest,
+    ap (λ (l : List Lexeme). (Mark OpenBrace) ∷ l) e,
+    k,
+    inr
+        (tt, (Mark OpenBrace) ∷ [], u, refl, refl, h),
+  )
 
   pub named_sound : {A : Type 0} (a : Grammar A) (read : Reader A)
       → ((us : List Lexeme) → Sound over a us (read us))
@@ -58,7 +70,8 @@ module _ (over : Limit → ℕ) where
           → Sound over a ts r
           → Sound over (token Ident ∙ a) (Ident x ∷ ts) (r >>= λ v. Ok ((x, v.0), v.1))
       next (Ok t) (u, e, h) = (Ident x ∷ u, ap (λ (l : List Lexeme). Ident x ∷ l) e, (Ident x ∷ [], u, refl, refl, h))
-      next (Err f) (u, rest, e, k, h) = (Ident x ∷ u, rest, ap (λ (l : List Lexeme). Ident x ∷ l) e, k, inr (x, Ident x ∷ [], u, refl, refl, h))
+      next (Err f) (u, rest, e, k, h) =
+          (Ident x ∷ u, rest, ap (λ (l : List Lexeme). Ident x ∷ l) e, k, inr (x, Ident x ∷ [], u, refl, refl, h))
   named_sound a read s (t ∷ ts) = stop_sound (token Ident ∙ a) (t ∷ ts) (inl (inl refl))
 
 -- ---- the first lexemes of a sequence
@@ -79,7 +92,8 @@ pub seq_first : {A B : Type 0} (a : Grammar A) (b : Grammar B) (starts : Lexeme 
     → starts t ≡ true
 seq_first a b starts solid part first t u (inl h) = first t u h
 seq_first a b starts solid part first t u (inr (x, [], w, e, ha, hb)) = absurd (solid.no_empty x ha)
-seq_first a b starts solid part first t u (inr (x, s ∷ v, w, e, ha, hb)) = subst (λ (t : Lexeme). starts t ≡ true) (sym (head_is t s u (v ++ w) e)) (first s v (part x (s ∷ v) ha))
+seq_first a b starts solid part first t u (inr (x, s ∷ v, w, e, ha, hb)) = subst (λ (t : Lexeme). starts t ≡ true)
+    (sym (head_is t s u (v ++ w) e)) (first s v (part x (s ∷ v) ha))
 
 pub seq_solid : {A B C : Type 0} (a : Grammar A) (b : Grammar B) (f : A × B → C) → IsSolid a → IsSolid ((a ∙ b) ⇒ f)
 seq_solid a b f solid = record { no_empty = λ z h. go z h }
@@ -112,7 +126,8 @@ seq_next a b s P solid part na nb = record { next = go }
         subst P (sym (second_is s t s' t' u w e)) (nb x t' w (subst (λ (y : Lexeme). a.Is x (y ∷ [])) q ha) hb)
     go t u (inr (x, s' ∷ t' ∷ v, w, e, ha, hb)) =
         let q : s' ≡ s = sym (head_is s s' (t ∷ u) ((t' ∷ v) ++ w) e) in
-        subst P (sym (second_is s t s' t' u (v ++ w) e)) (na.next t' v (subst (λ (y : Lexeme). a.IsPrefix (y ∷ t' ∷ v)) q (part x (s' ∷ t' ∷ v) ha)))
+        subst P (sym (second_is s t s' t' u (v ++ w) e))
+        (na.next t' v (subst (λ (y : Lexeme). a.IsPrefix (y ∷ t' ∷ v)) q (part x (s' ∷ t' ∷ v) ha)))
 
 pub made_next : {A B : Type 0} (a : Grammar A) (f : A → B) (s : Lexeme) (P : Lexeme → Type 0)
     → Next a s P
@@ -149,24 +164,32 @@ module _ {A : Type 0} (within : Limit → Type 0) (a : Grammar A) (starts ends :
       nothing_is t u e = cc
 
   pub finds_many :
-      Finds within (many (preceded (Mark Comma) a)) is_comma (with_comma ends) (λ us. after_commas_at read (length us) us)
+      Finds within (many (preceded (Mark Comma) a)) is_comma (with_comma ends)
+      (λ us. after_commas_at read (length us) us)
   finds_many = record {
     nil = ([], [], [], refl, refl, inl (inl refl));
     part = λ xs u h. (xs, u, [], sym (append-nil u), h, inl (inl refl));
     first = comma_first;
-    whole = λ xs u us h f. let p = split_ends ends us apart f in commas_whole within a starts ends read fa apart (length (u ++ us)) xs u us (omega arith) h p.0 p.1;
-    front = λ u us h. subst (λ (l : List Lexeme). Passes within us (after_commas_at read (length (l ++ us)) (l ++ us))) (sym h.3) (commas_front within a starts ends read fa apart (length ((h.1 ++ h.2) ++ us)) h.0 h.1 h.2 us (omega arith) h.4 h.5);
+    whole = λ xs u us h f. let p = split_ends ends us apart f in commas_whole within a starts ends read fa apart
+        (length (u ++ us)) xs u us (omega arith) h p.0 p.1;
+    front = λ u us h. subst (λ (l : List Lexeme). Passes within us (after_commas_at read (length (l ++ us)) (l ++ us)))
+        (sym h.3) (commas_front within a starts ends read fa apart (length ((h.1 ++ h.2) ++ us)) h.0 h.1 h.2 us
+        (omega arith) h.4 h.5);
   }
 
   pub finds_listed : IsSolid a → Finds within (listed a) starts (with_comma ends) (listed_at read)
   unfolding listed_at
   finds_listed solid = record {
     nil = inl fa.nil;
-    part = seq_part within a (many (preceded (Mark Comma) a)) (λ p. p.0 ∷ p.1) starts ends is_comma (with_comma ends) (with_comma ends) read (λ us. after_commas_at read (length us) us) fa finds_many;
+    part = seq_part within a (many (preceded (Mark Comma) a)) (λ p. p.0 ∷ p.1) starts ends is_comma (with_comma ends)
+        (with_comma ends) read (λ us. after_commas_at read (length us) us) fa finds_many;
     first = seq_first a (many (preceded (Mark Comma) a)) starts solid fa.part fa.first;
-    whole = seq_whole within a (many (preceded (Mark Comma) a)) (λ p. p.0 ∷ p.1) starts ends is_comma (with_comma ends) (with_comma ends) read (λ us. after_commas_at read (length us) us) fa finds_many
-        (λ xs v us h f. follows_many within a starts ends read fa apart xs v us h (split_ends ends us apart f).0) (λ us f. f);
-    front = seq_front within a (many (preceded (Mark Comma) a)) (λ p. p.0 ∷ p.1) starts ends is_comma (with_comma ends) (with_comma ends) read (λ us. after_commas_at read (length us) us) fa finds_many (comma_apart ends apart);
+    whole = seq_whole within a (many (preceded (Mark Comma) a)) (λ p. p.0 ∷ p.1) starts ends is_comma (with_comma ends)
+        (with_comma ends) read (λ us. after_commas_at read (length us) us) fa finds_many
+        (λ xs v us h f. follows_many within a starts ends read fa apart xs v us h (split_ends ends us apart f).0)
+        (λ us f. f);
+    front = seq_front within a (many (preceded (Mark Comma) a)) (λ p. p.0 ∷ p.1) starts ends is_comma (with_comma ends)
+        (with_comma ends) read (λ us. after_commas_at read (length us) us) fa finds_many (comma_apart ends apart);
   }
 
 -- ---- the end of braces
@@ -180,7 +203,15 @@ no_lexeme t = false
 
 pub finds_closed : (within : Limit → Type 0) → Finds within (mark CloseBrace) is_rbrace no_lexeme closed_at
 unfolding closed_at
-finds_closed within = record { nil = inl refl; part = λ x u h. inr (tt, h); first = first; whole = λ x u us h f. subst (λ (l : List Lexeme). ReadsAs within (closed_at (l ++ us)) tt us) (sym h) (inl refl); front = front }
+finds_closed within = record {
+  nil = inl refl;
+  part = λ x u h. inr (tt, h);
+  first = first;
+  whole =
+      λ x u us h f. subst (λ (l : List Lexeme). ReadsAs within (closed_at (l ++ us)) tt us) (sym h) (inl refl);
+  front =
+      front;
+}
   where
     first : (t : Lexeme) (u : List Lexeme) → (mark CloseBrace).IsPrefix (t ∷ u) → is_rbrace t ≡ true
     first t u (inl e) = absurd cc
@@ -193,7 +224,8 @@ finds_closed within = record { nil = inl refl; part = λ x u h. inr (tt, h); fir
 
     front : (u us : List Lexeme) → (mark CloseBrace).IsPrefix u → Passes within us (closed_at (u ++ us))
     front u us (inl e) = subst (λ (l : List Lexeme). Passes within us (closed_at (l ++ us))) (sym e) (shrinks us)
-    front u us (inr (x, e)) = let h : length us ≤ length us = omega arith in subst (λ (l : List Lexeme). Passes within us (closed_at (l ++ us))) (sym e) h
+    front u us (inr (x, e)) = let h : length us ≤ length us =
+        omega arith in subst (λ (l : List Lexeme). Passes within us (closed_at (l ++ us))) (sym e) h
 
 rbrace_apart : (ends : Lexeme → Bool)
     → ends (Mark CloseBrace) ≡ false
@@ -215,11 +247,15 @@ module _ {A C : Type 0} (within : Limit → Type 0) (a : Grammar A) (starts ends
       let fl = finds_listed within a starts ends read fa apart solid in
       record {
         nil = inl fl.nil;
-        part = seq_part within (listed a) (mark CloseBrace) f starts (with_comma ends) is_rbrace no_lexeme no_lexeme (listed_at read) closed_at fl (finds_closed within);
+        part = seq_part within (listed a) (mark CloseBrace) f starts (with_comma ends) is_rbrace no_lexeme no_lexeme
+            (listed_at read) closed_at fl (finds_closed within);
         first = seq_first (listed a) (mark CloseBrace) starts listed_solid fl.part fl.first;
-        whole = seq_whole within (listed a) (mark CloseBrace) f starts (with_comma ends) is_rbrace no_lexeme no_lexeme (listed_at read) closed_at fl (finds_closed within)
-            (λ y v us h g. subst (λ (l : List Lexeme). Follows (with_comma ends) (l ++ us)) (sym h) apart_end) (λ us g. g);
-        front = seq_front within (listed a) (mark CloseBrace) f starts (with_comma ends) is_rbrace no_lexeme no_lexeme (listed_at read) closed_at fl (finds_closed within) (rbrace_apart ends apart_end);
+        whole = seq_whole within (listed a) (mark CloseBrace) f starts (with_comma ends) is_rbrace no_lexeme no_lexeme
+            (listed_at read) closed_at fl (finds_closed within)
+            (λ y v us h g. subst (λ (l : List Lexeme). Follows (with_comma ends) (l ++ us)) (sym h) apart_end)
+            (λ us g. g);
+        front = seq_front within (listed a) (mark CloseBrace) f starts (with_comma ends) is_rbrace no_lexeme no_lexeme
+            (listed_at read) closed_at fl (finds_closed within) (rbrace_apart ends apart_end);
       }
 
   -- the lexemes that can come after the first one in braces
@@ -228,8 +264,12 @@ module _ {A C : Type 0} (within : Limit → Type 0) (a : Grammar A) (starts ends
       → ((x : A) → a.Is x (s ∷ []) → (P (Mark Comma)) × (P (Mark CloseBrace)))
       → Next (listed a ∙ mark CloseBrace) s P
   body_next s P na one =
-      seq_next (listed a) (mark CloseBrace) s P listed_solid (finds_listed within a starts ends read fa apart solid).part
-      (made_next (a ∙ many (preceded (Mark Comma) a)) (λ p. p.0 ∷ p.1) s P (seq_next a (many (preceded (Mark Comma) a)) s P solid fa.part na (λ x t u h g. subst P (sym (is_comma_is t (comma_first within a starts ends read fa apart t u g))) (one x h).0)))
+      seq_next (listed a) (mark CloseBrace) s P listed_solid
+      (finds_listed within a starts ends read fa apart solid).part
+      (made_next (a ∙ many (preceded (Mark Comma) a)) (λ p. p.0 ∷ p.1) s P
+      (seq_next a (many (preceded (Mark Comma) a)) s P solid fa.part na
+      (λ x t u h g. subst P (sym (is_comma_is t (comma_first within a starts ends read fa apart t u g)))
+      (one x h).0)))
       (λ xs t u h g. subst P (sym (is_rbrace_is t ((finds_closed within).first t u g))) (single xs h).1)
     where
       is_comma_is : (t : Lexeme) → is_comma t ≡ true → t ≡ (Mark Comma)
@@ -243,7 +283,8 @@ module _ {A C : Type 0} (within : Limit → Type 0) (a : Grammar A) (starts ends
       -- a list of one lexeme has one part
       single : (xs : List A) → (listed a).Is xs (s ∷ []) → (P (Mark Comma)) × (P (Mark CloseBrace))
       single xs (p, q, ([], w, e, ha, hb)) = absurd (solid.no_empty p.0 ha)
-      single xs (p, q, (t ∷ [], w, e, ha, hb)) = one p.0 (subst (λ (t : Lexeme). a.Is p.0 (t ∷ [])) (sym (head_is s t [] w e)) ha)
+      single xs (p, q, (t ∷ [], w, e, ha, hb)) =
+          one p.0 (subst (λ (t : Lexeme). a.Is p.0 (t ∷ [])) (sym (head_is s t [] w e)) ha)
       single xs (p, q, (t ∷ t' ∷ v, w, e, ha, hb)) = absurd cc
 
 -- ---- a part after a name
@@ -265,15 +306,19 @@ module _ {A : Type 0} (within : Limit → Type 0) (v : Grammar A) (starts ends :
   named_shrinks : (us : List Lexeme) → Passes within us (named_at read us)
   unfolding named_at
   named_shrinks [] = omega arith
-  named_shrinks (Ident x ∷ us) = passes_on within (Ident x ∷ us) us _ (omega arith) (read_named x us (read us) (fv.front [] us fv.nil))
+  named_shrinks (Ident x ∷ us) = passes_on within (Ident x ∷ us) us _ (omega arith)
+      (read_named x us (read us) (fv.front [] us fv.nil))
   named_shrinks (t ∷ us) = omega arith
 
   named_front : (u us : List Lexeme) → (token Ident ∙ v).IsPrefix u → Passes within us (named_at read (u ++ us))
   unfolding named_at
-  named_front u us (inl (inl e)) = subst (λ (l : List Lexeme). Passes within us (named_at read (l ++ us))) (sym e) (named_shrinks us)
-  named_front u us (inl (inr (x, e))) = subst (λ (l : List Lexeme). Passes within us (named_at read (l ++ us))) (sym e) (read_named x us (read us) (fv.front [] us fv.nil))
+  named_front u us (inl (inl e)) = subst (λ (l : List Lexeme). Passes within us (named_at read (l ++ us))) (sym e)
+      (named_shrinks us)
+  named_front u us (inl (inr (x, e))) = subst (λ (l : List Lexeme). Passes within us (named_at read (l ++ us))) (sym e)
+      (read_named x us (read us) (fv.front [] us fv.nil))
   named_front u us (inr (x, p, q, e, hp, hq)) =
-      subst (λ (l : List Lexeme). Passes within us (named_at read (l ++ us))) (sym (e ⋆ ap (λ (l : List Lexeme). l ++ q) hp)) (read_named x us (read (q ++ us)) (fv.front q us hq))
+      subst (λ (l : List Lexeme). Passes within us (named_at read (l ++ us)))
+      (sym (e ⋆ ap (λ (l : List Lexeme). l ++ q) hp)) (read_named x us (read (q ++ us)) (fv.front q us hq))
 
   named_reads_as : (x : List ℕ) (y : A) (us : List Lexeme) (r : Read A)
       → ReadsAs within r y us
@@ -287,7 +332,9 @@ module _ {A : Type 0} (within : Limit → Type 0) (v : Grammar A) (starts ends :
       → ReadsAs within (named_at read (u ++ us)) m us
   unfolding named_at
   named_whole m u us (p, q, e, hp, hq) f =
-      subst (λ (l : List Lexeme). ReadsAs within (named_at read (l ++ us)) m us) (sym (e ⋆ ap (λ (l : List Lexeme). l ++ q) hp)) (named_reads_as m.0 m.1 us (read (q ++ us)) (fv.whole m.1 q us hq f))
+      subst (λ (l : List Lexeme). ReadsAs within (named_at read (l ++ us)) m us)
+      (sym (e ⋆ ap (λ (l : List Lexeme). l ++ q) hp))
+      (named_reads_as m.0 m.1 us (read (q ++ us)) (fv.whole m.1 q us hq f))
 
   pub finds_named : Finds within (token Ident ∙ v) is_ident ends (named_at read)
   finds_named = record {
@@ -301,7 +348,8 @@ module _ {A : Type 0} (within : Limit → Type 0) (v : Grammar A) (starts ends :
       first : (t : Lexeme) (u : List Lexeme) → (token Ident ∙ v).IsPrefix (t ∷ u) → is_ident t ≡ true
       first t u (inl (inl e)) = absurd cc
       first t u (inl (inr (x, e))) = subst (λ (t : Lexeme). is_ident t ≡ true) (sym (head_is t (Ident x) u [] e)) refl
-      first t u (inr (x, p, q, e, hp, hq)) = subst (λ (t : Lexeme). is_ident t ≡ true) (sym (head_is t (Ident x) u q (e ⋆ ap (λ (l : List Lexeme). l ++ q) hp))) refl
+      first t u (inr (x, p, q, e, hp, hq)) = subst (λ (t : Lexeme). is_ident t ≡ true)
+          (sym (head_is t (Ident x) u q (e ⋆ ap (λ (l : List Lexeme). l ++ q) hp))) refl
 
 -- ---- the lexemes after an open brace
 

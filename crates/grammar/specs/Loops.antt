@@ -61,7 +61,8 @@ any_fuel read s (suc k) zero [] p q = refl
 any_fuel read s (suc k) zero (t ∷ ts) p q = absurd (omega arith)
 any_fuel read s (suc k) (suc j) [] p q = refl
 any_fuel read s (suc k) (suc j) ((Mark Comma) ∷ ts) p q =
-    bind_same (read ts) (λ x. after_commas_at read k x.1 >>= λ xs. Ok (x.0 ∷ xs.0, xs.1)) (λ x. after_commas_at read j x.1 >>= λ xs. Ok (x.0 ∷ xs.0, xs.1))
+    bind_same (read ts) (λ x. after_commas_at read k x.1 >>= λ xs. Ok (x.0 ∷ xs.0, xs.1))
+    (λ x. after_commas_at read j x.1 >>= λ xs. Ok (x.0 ∷ xs.0, xs.1))
     (λ x e. let le = s.shorter ts x e in
     ap (λ (r : Read (List _)). r >>= λ xs. Ok (x.0 ∷ xs.0, xs.1)) (any_fuel read s k j x.1 (omega arith) (omega arith)))
 any_fuel read s (suc k) (suc j) (t ∷ ts) p q = refl
@@ -77,7 +78,8 @@ unfolding after_commas_at
 commas_more read s ts rest x front total e r h =
     let le = s.shorter rest x r in
     let fuel = any_fuel read s (length rest) (length x.1) x.1 le (omega arith) in
-    let one : after_commas_at read (length ((Mark Comma) ∷ rest)) ((Mark Comma) ∷ rest) ≡ (after_commas_at read (length x.1) x.1 >>= λ xs. Ok (x.0 ∷ xs.0, xs.1)) =
+    let one : after_commas_at read (length ((Mark Comma) ∷ rest)) ((Mark Comma) ∷ rest)
+    ≡ (after_commas_at read (length x.1) x.1 >>= λ xs. Ok (x.0 ∷ xs.0, xs.1)) =
     ap (λ (q : Read _). q >>= λ x. after_commas_at read (length rest) x.1 >>= λ xs. Ok (x.0 ∷ xs.0, xs.1)) r
     ⋆ ap (λ (q : Read (List _)). q >>= λ xs. Ok (x.0 ∷ xs.0, xs.1)) fuel in
     sym (ap (with_front front) one ⋆ regroup front x.0 (after_commas_at read (length x.1) x.1))
@@ -102,4 +104,5 @@ unfolding after_commas_at
 commas_fail read ts rest f front total e r h =
     let one : after_commas_at read (length ((Mark Comma) ∷ rest)) ((Mark Comma) ∷ rest) ≡ Err f =
     ap (λ (q : Read _). q >>= λ x. after_commas_at read (length rest) x.1 >>= λ xs. Ok (x.0 ∷ xs.0, xs.1)) r in
-    sym h ⋆ ap (λ (l : List Lexeme). with_front front (after_commas_at read (length l) l)) (is_comma ts rest e) ⋆ ap (with_front front) one
+    sym h ⋆ ap (λ (l : List Lexeme). with_front front (after_commas_at read (length l) l)) (is_comma ts rest e)
+    ⋆ ap (with_front front) one

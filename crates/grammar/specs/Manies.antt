@@ -55,7 +55,9 @@ module _ (over : Limit → ℕ) {A : Type 0} (a : Grammar A) where
   many_sound begins read s zero ts = ([], refl, refl)
   many_sound begins read s (suc k) [] = ([], refl, refl)
   many_sound begins read s (suc k) (t ∷ ts) =
-      goes_is (Sound over (many a) (t ∷ ts)) (begins t) (t ∷ ts) (next (read (t ∷ ts)) (many_at begins read k)) (λ e. one_sound (t ∷ ts) (read (t ∷ ts)) (many_at begins read k) (s (t ∷ ts)) (many_sound begins read s k)) (λ e. ([], refl, refl))
+      goes_is (Sound over (many a) (t ∷ ts)) (begins t) (t ∷ ts) (next (read (t ∷ ts)) (many_at begins read k))
+      (λ e. one_sound (t ∷ ts) (read (t ∷ ts)) (many_at begins read k) (s (t ∷ ts)) (many_sound begins read s k))
+      (λ e. ([], refl, refl))
 
 -- ---- no prefix is refused, and each whole is read
 
@@ -67,7 +69,8 @@ module _ {A : Type 0} (within : Limit → Type 0) (a : Grammar A) (starts ends e
         → ((vs : List Lexeme) → Passes within vs (more vs))
         → Passes within us r
         → Passes within us (next r more)
-    one_passes us (Ok x) more all h = passes_on within us x.1 _ h (passes_made within x.1 (more x.1) (λ xs. x.0 ∷ xs) (all x.1))
+    one_passes us (Ok x) more all h = passes_on within us x.1 _ h
+        (passes_made within x.1 (more x.1) (λ xs. x.0 ∷ xs) (all x.1))
     one_passes us (Err (Unexpected n)) more all h = h
     one_passes us (Err (Beyond l n)) more all h = h
 
@@ -76,7 +79,9 @@ module _ {A : Type 0} (within : Limit → Type 0) (a : Grammar A) (starts ends e
     many_shrink zero ts = omega arith
     many_shrink (suc k) [] = omega arith
     many_shrink (suc k) (t ∷ ts) =
-        goes_is (Passes within (t ∷ ts)) (starts t) (t ∷ ts) (next (read (t ∷ ts)) (many_at starts read k)) (λ e. one_passes (t ∷ ts) (read (t ∷ ts)) (many_at starts read k) (many_shrink k) (fa.front [] (t ∷ ts) fa.nil)) (λ e. le (t ∷ ts))
+        goes_is (Passes within (t ∷ ts)) (starts t) (t ∷ ts) (next (read (t ∷ ts)) (many_at starts read k))
+        (λ e. one_passes (t ∷ ts) (read (t ∷ ts)) (many_at starts read k) (many_shrink k)
+        (fa.front [] (t ∷ ts) fa.nil)) (λ e. le (t ∷ ts))
       where
         le : (us : List Lexeme) → length us ≤ length us
         le us = omega arith
@@ -87,7 +92,8 @@ module _ {A : Type 0} (within : Limit → Type 0) (a : Grammar A) (starts ends e
         → Passes within us (more vs)
         → Passes within us (next r more)
     reads_as_more x us vs r more (inl e) h =
-        subst (λ (q : Read A). Passes within us (next q more)) (sym e) (passes_made within us (more vs) (λ xs. x ∷ xs) h)
+        subst (λ (q : Read A). Passes within us (next q more)) (sym e)
+        (passes_made within us (more vs) (λ xs. x ∷ xs) h)
     reads_as_more x us vs r more (inr w) h = subst (λ (q : Read A). Passes within us (next q more)) (sym w.2) (inr w.1)
 
     -- a whole begins with a lexeme with which a part can begin
@@ -120,28 +126,40 @@ module _ {A : Type 0} (within : Limit → Type 0) (a : Grammar A) (starts ends e
     at_start P zero t rest ts le e s go = absurd (omega (arith, ap length e))
     at_start P (suc k) t rest ts le e s go =
         subst (λ (l : List Lexeme). P (many_at starts read (suc k) l)) (sym e)
-        (goes_is P (starts t) (t ∷ rest) (next (read (t ∷ rest)) (many_at starts read k)) (λ b. subst (λ (l : List Lexeme). P (next (read l) (many_at starts read k))) e (go k (omega (arith, ap length e)))) (λ b. absurd (opposite (starts t) s b)))
+        (goes_is P (starts t) (t ∷ rest) (next (read (t ∷ rest)) (many_at starts read k))
+        (λ b. subst (λ (l : List Lexeme). P (next (read l) (many_at starts read k))) e
+        (go k (omega (arith, ap length e)))) (λ b. absurd (opposite (starts t) s b)))
 
     many_front : (k : ℕ) (xs : List A) (u v us : List Lexeme)
         → length ((u ++ v) ++ us) ≤ k
         → IsMany a xs u
         → a.IsPrefix v
         → Passes within us (many_at starts read k ((u ++ v) ++ us))
-    many_front k [] u [] us le h g = subst (λ (l : List Lexeme). Passes within us (many_at starts read k (l ++ us))) (sym (append-nil u ⋆ h)) (many_shrink k us)
+    many_front k [] u [] us le h g = subst (λ (l : List Lexeme). Passes within us (many_at starts read k (l ++ us)))
+        (sym (append-nil u ⋆ h)) (many_shrink k us)
     many_front k [] u (t ∷ w) us le h g =
-        at_start (Passes within us) k t (w ++ us) ((u ++ t ∷ w) ++ us) le (ap (λ (l : List Lexeme). (l ++ t ∷ w) ++ us) h) (fa.first t w g)
-        (λ j lj. subst (λ (l : List Lexeme). Passes within us (next (read l) (many_at starts read j))) (sym (ap (λ (l : List Lexeme). (l ++ t ∷ w) ++ us) h)) (one_passes us (read (t ∷ (w ++ us))) (many_at starts read j) (many_shrink j) (fa.front (t ∷ w) us g)))
+        at_start (Passes within us) k t (w ++ us) ((u ++ t ∷ w) ++ us) le
+        (ap (λ (l : List Lexeme). (l ++ t ∷ w) ++ us) h) (fa.first t w g)
+        (λ j lj. subst (λ (l : List Lexeme). Passes within us (next (read l) (many_at starts read j)))
+        (sym (ap (λ (l : List Lexeme). (l ++ t ∷ w) ++ us) h))
+        (one_passes us (read (t ∷ (w ++ us))) (many_at starts read j) (many_shrink j) (fa.front (t ∷ w) us g)))
     many_front k (x ∷ xs) u v us le (p, q, e, hp, hq) g =
         let b = is_begun x p hp in
         let whole : (u ++ v) ++ us ≡ p ++ ((q ++ v) ++ us) =
-        ap (λ (l : List Lexeme). (l ++ v) ++ us) e ⋆ ap (λ (l : List Lexeme). l ++ us) (append_assoc p q v) ⋆ append_assoc p (q ++ v) us in
-        let shape : (u ++ v) ++ us ≡ b.0 ∷ (b.1 ++ ((q ++ v) ++ us)) = whole ⋆ ap (λ (l : List Lexeme). l ++ ((q ++ v) ++ us)) b.2 in
+        ap (λ (l : List Lexeme). (l ++ v) ++ us) e ⋆ ap (λ (l : List Lexeme). l ++ us) (append_assoc p q v)
+        ⋆ append_assoc p (q ++ v) us in
+        let shape : (u ++ v) ++ us ≡ b.0 ∷ (b.1 ++ ((q ++ v) ++ us)) = whole
+        ⋆ ap (λ (l : List Lexeme). l ++ ((q ++ v) ++ us)) b.2 in
         at_start (Passes within us) k b.0 (b.1 ++ ((q ++ v) ++ us)) ((u ++ v) ++ us) le shape b.3
-        (λ j lj. subst (λ (l : List Lexeme). Passes within us (next (read l) (many_at starts read j))) (sym whole) (elim (begun xs q v hq g) [
-          | inl n ↦ subst (λ (l : List Lexeme). Passes within us (next (read (p ++ (l ++ us))) (many_at starts read j))) (sym n)
+        (λ j lj. subst (λ (l : List Lexeme). Passes within us (next (read l) (many_at starts read j))) (sym whole)
+        (elim (begun xs q v hq g) [
+          | inl n ↦ subst (λ (l : List Lexeme). Passes within us (next (read (p ++ (l ++ us))) (many_at starts read j)))
+              (sym n)
               (one_passes us (read (p ++ us)) (many_at starts read j) (many_shrink j) (fa.front p us (fa.part x p hp)))
-          | inr (t, w, n, s) ↦ reads_as_more x us ((q ++ v) ++ us) (read (p ++ ((q ++ v) ++ us))) (many_at starts read j)
-              (fa.whole x p ((q ++ v) ++ us) hp (follows_start t ((q ++ v) ++ us) (w ++ us) (ap (λ (l : List Lexeme). l ++ us) n) s))
+          | inr (t, w, n, s) ↦ reads_as_more x us ((q ++ v) ++ us) (read (p ++ ((q ++ v) ++ us)))
+              (many_at starts read j)
+              (fa.whole x p ((q ++ v) ++ us) hp
+              (follows_start t ((q ++ v) ++ us) (w ++ us) (ap (λ (l : List Lexeme). l ++ us) n) s))
               (many_front j xs q v us (omega (arith, length-append b.1 ((q ++ v) ++ us))) hq g)
         ]))
 
@@ -149,7 +167,8 @@ module _ {A : Type 0} (within : Limit → Type 0) (a : Grammar A) (starts ends e
     unfolding many_at
     no_more zero us f = refl
     no_more (suc k) [] f = refl
-    no_more (suc k) (t ∷ us) f = goes_is (λ (r : Read (List A)). r ≡ Ok ([], t ∷ us)) (starts t) (t ∷ us) (next (read (t ∷ us)) (many_at starts read k)) (λ e. absurd (opposite (starts t) e (es t f))) (λ e. refl)
+    no_more (suc k) (t ∷ us) f = goes_is (λ (r : Read (List A)). r ≡ Ok ([], t ∷ us)) (starts t) (t ∷ us)
+        (next (read (t ∷ us)) (many_at starts read k)) (λ e. absurd (opposite (starts t) e (es t f))) (λ e. refl)
 
     last_ends : (us : List Lexeme) → Follows ends' us → Follows ends us
     last_ends [] f = tt
@@ -159,14 +178,22 @@ module _ {A : Type 0} (within : Limit → Type 0) (a : Grammar A) (starts ends e
     follows_many [] u us h f = subst (λ (l : List Lexeme). Follows ends (l ++ us)) (sym h) (last_ends us f)
     follows_many (x ∷ xs) u us (p, q, e, hp, hq) f =
         let b = is_begun x p hp in
-        follows_start b.0 (u ++ us) ((b.1 ++ q) ++ us) (ap (λ (l : List Lexeme). l ++ us) (e ⋆ ap (λ (l : List Lexeme). l ++ q) b.2)) b.3
+        follows_start b.0 (u ++ us) ((b.1 ++ q) ++ us)
+        (ap (λ (l : List Lexeme). l ++ us) (e ⋆ ap (λ (l : List Lexeme). l ++ q) b.2)) b.3
 
     reads_as_both : (x : A) (xs : List A) (us vs : List Lexeme) (r : Read A) (more : Reader (List A))
         → ReadsAs within r x vs
         → ReadsAs within (more vs) xs us
         → ReadsAs within (next r more) (x ∷ xs) us
-    reads_as_both x xs us vs r more (inl e) (inl h) = inl (ap (λ (r : Read A). next r more) e ⋆ ap (λ (s : Read (List A)). s >>= λ xs. Ok (x ∷ xs.0, xs.1)) h)
-    reads_as_both x xs us vs r more (inl e) (inr h) = inr (h.0, h.1, ap (λ (r : Read A). next r more) e ⋆ ap (λ (s : Read (List A)). s >>= λ xs. Ok (x ∷ xs.0, xs.1)) h.2)
+    reads_as_both x xs us vs r more (inl e) (inl h) =
+        inl (ap (λ (r : Read A). next r more) e ⋆ ap (λ (s : Read (List A)). s >>= λ xs. Ok (x ∷ xs.0, xs.1)) h)
+    reads_as_both x xs us vs r more (inl e) (inr h) =
+        inr (
+          h.0,
+          h.1,
+          ap (λ (r : Read A). next r more) e
+              ⋆ ap (λ (s : Read (List A)). s >>= λ xs. Ok (x ∷ xs.0, xs.1)) h.2,
+        )
     reads_as_both x xs us vs r more (inr w) h = inr (w.0, w.1, ap (λ (r : Read A). next r more) w.2)
 
     many_whole : (k : ℕ) (xs : List A) (u us : List Lexeme)
@@ -174,13 +201,15 @@ module _ {A : Type 0} (within : Limit → Type 0) (a : Grammar A) (starts ends e
         → IsMany a xs u
         → Follows ends' us
         → ReadsAs within (many_at starts read k (u ++ us)) xs us
-    many_whole k [] u us le h f = subst (λ (l : List Lexeme). ReadsAs within (many_at starts read k (l ++ us)) [] us) (sym h) (inl (no_more k us f))
+    many_whole k [] u us le h f = subst (λ (l : List Lexeme). ReadsAs within (many_at starts read k (l ++ us)) [] us)
+        (sym h) (inl (no_more k us f))
     many_whole k (x ∷ xs) u us le (p, q, e, hp, hq) f =
         let b = is_begun x p hp in
         let whole : u ++ us ≡ p ++ (q ++ us) = ap (λ (l : List Lexeme). l ++ us) e ⋆ append_assoc p q us in
         let shape : u ++ us ≡ b.0 ∷ (b.1 ++ (q ++ us)) = whole ⋆ ap (λ (l : List Lexeme). l ++ (q ++ us)) b.2 in
         at_start (λ (r : Read (List A)). ReadsAs within r (x ∷ xs) us) k b.0 (b.1 ++ (q ++ us)) (u ++ us) le shape b.3
-        (λ j lj. subst (λ (l : List Lexeme). ReadsAs within (next (read l) (many_at starts read j)) (x ∷ xs) us) (sym whole) (reads_as_both x xs us (q ++ us) (read (p ++ (q ++ us))) (many_at starts read j)
+        (λ j lj. subst (λ (l : List Lexeme). ReadsAs within (next (read l) (many_at starts read j)) (x ∷ xs) us)
+        (sym whole) (reads_as_both x xs us (q ++ us) (read (p ++ (q ++ us))) (many_at starts read j)
         (fa.whole x p (q ++ us) hp (follows_many xs q us hq f))
         (many_whole j xs q us (omega (arith, length-append b.1 (q ++ us))) hq f)))
 
@@ -190,7 +219,8 @@ module _ {A : Type 0} (within : Limit → Type 0) (a : Grammar A) (starts ends e
       part = λ xs u h. (xs, u, [], sym (append-nil u), h, fa.nil);
       first = first;
       whole = λ xs u us h f. many_whole (length (u ++ us)) xs u us (omega arith) h f;
-      front = λ u us h. subst (λ (l : List Lexeme). Passes within us (many_at starts read (length (l ++ us)) (l ++ us))) (sym h.3) (many_front (length ((h.1 ++ h.2) ++ us)) h.0 h.1 h.2 us (omega arith) h.4 h.5);
+      front = λ u us h. subst (λ (l : List Lexeme). Passes within us (many_at starts read (length (l ++ us)) (l ++ us)))
+          (sym h.3) (many_front (length ((h.1 ++ h.2) ++ us)) h.0 h.1 h.2 us (omega arith) h.4 h.5);
     }
       where
         nothing_is : (t : Lexeme) (u : List Lexeme) → t ∷ u ≡ [] → ⊥
@@ -268,7 +298,8 @@ many_more begins read s [] x front total b r h = absurd cc
 many_more begins read s (t ∷ ts) x front total b r h =
     let le = s.shorter (t ∷ ts) x r in
     let fuel = any_fuel begins read s (length ts) (length x.1) x.1 (omega arith) (omega arith) in
-    let one : many_at begins read (length (t ∷ ts)) (t ∷ ts) ≡ (many_at begins read (length x.1) x.1 >>= λ xs. Ok (x.0 ∷ xs.0, xs.1)) =
+    let one : many_at begins read (length (t ∷ ts)) (t ∷ ts) ≡ (many_at begins read (length x.1) x.1 >>= λ xs. Ok
+    (x.0 ∷ xs.0, xs.1)) =
     goes_true (begins t) (t ∷ ts) (next (read (t ∷ ts)) (many_at begins read (length ts))) b
     ⋆ ap (λ (q : Read _). next q (many_at begins read (length ts))) r
     ⋆ ap (λ (q : Read (List _)). q >>= λ xs. Ok (x.0 ∷ xs.0, xs.1)) fuel in
@@ -282,7 +313,9 @@ pub many_end : {A : Type 0} (begins : Lexeme → Bool) (read : Reader A) (ts : L
 unfolding many_at
 many_end begins read [] front total b h = sym h ⋆ ap (λ (l : List _). Ok (l, [])) (append-nil front)
 many_end begins read (t ∷ ts) front total b h =
-    sym h ⋆ ap (with_front front) (goes_false (begins t) (t ∷ ts) (next (read (t ∷ ts)) (many_at begins read (length ts))) b) ⋆ ap (λ (l : List _). Ok (l, t ∷ ts)) (append-nil front)
+    sym h
+    ⋆ ap (with_front front) (goes_false (begins t) (t ∷ ts) (next (read (t ∷ ts)) (many_at begins read (length ts)))
+    b) ⋆ ap (λ (l : List _). Ok (l, t ∷ ts)) (append-nil front)
 
 pub many_fail : {A : Type 0} (begins : Lexeme → Bool) (read : Reader A) (ts : List Lexeme) (f : Fault) (front : List A)
     (total : Read (List A))
@@ -293,4 +326,6 @@ pub many_fail : {A : Type 0} (begins : Lexeme → Bool) (read : Reader A) (ts : 
 unfolding many_at
 many_fail begins read [] f front total b r h = absurd cc
 many_fail begins read (t ∷ ts) f front total b r h =
-    sym h ⋆ ap (with_front front) (goes_true (begins t) (t ∷ ts) (next (read (t ∷ ts)) (many_at begins read (length ts))) b ⋆ ap (λ (q : Read _). next q (many_at begins read (length ts))) r)
+    sym h
+    ⋆ ap (with_front front) (goes_true (begins t) (t ∷ ts) (next (read (t ∷ ts)) (many_at begins read (length ts)))
+    b ⋆ ap (λ (q : Read _). next q (many_at begins read (length ts))) r)

@@ -18,9 +18,16 @@ beyond_sound : (over : Limit → ℕ) (k : ℕ)
     → g.IsPrefix u
     → (P → g.IsPrefix (u ++ Number n ∷ []))
     → Sound over g (u ++ Number n ∷ ts) (Err (Beyond Integer (length (Number n ∷ ts))))
-beyond_sound over zero e P past g n u ts before with_it = (u, Number n ∷ ts, refl, ap (λ (k : ℕ). more k (length (Number n ∷ ts))) (sym e), before)
-beyond_sound over (suc k) e P past g n u ts before with_it =
-    (u ++ Number n ∷ [], ts, sym (append_assoc u (Number n ∷ []) ts), same ⋆ ap (λ (k : ℕ). more k (length ts)) (sym e), with_it past)
+beyond_sound over zero e P past g n u ts before with_it =
+    (u, Number n ∷ ts, refl, ap (λ (k : ℕ). more k (length (Number n ∷ ts))) (sym e), before)
+beyond_sound over (suc k) e P past g n u ts before with_it = (
+  u ++ Number n ∷ [],
+  ts,
+  sym (append_assoc u (Number n ∷ []) ts),
+  same
+      ⋆ ap (λ (k : ℕ). more k (length ts)) (sym e),
+  with_it past,
+)
   where
     same : length (Number n ∷ ts) ≡ suc (length ts)
     same = omega arith

@@ -25,21 +25,38 @@ pub loose_read : {A : Type 0} {s f : Type 0} {over : Limit → ℕ} {within : Li
     → ((ts : List Lexeme) → r ts ≡ r' ts)
     → OwesLoosely s f over within g starts ends r
     → OwesLoosely s f over within g starts ends r'
-loose_read {A} {s} {f} {over} {within} {g} {starts} {ends} {r} r' e k = record { sound = λ q. same_sound over g r r' e (k.sound q); finds = λ q. same_finds within g starts ends r r' e (k.finds q) }
+loose_read {A} {s} {f} {over} {within} {g} {starts} {ends} {r} r' e k =
+    record {
+      sound = λ q. same_sound over g r r' e (k.sound q);
+      finds = λ q. same_finds within g starts ends r r' e
+          (k.finds q);
+    }
 
 -- a pair, of which the first part may be empty
 pub rule_both : {A B : Type 0} {s f : Type 0} {over : Limit → ℕ} {within : Limit → Type 0} (a : Grammar A)
     (b : Grammar B) {starts ends : Lexeme → Bool} {read : Reader (A × B)}
     → Owes s f over within ((a ∙ b) ⇒ (λ p. p)) starts ends read
     → Owes s f over within (a ∙ b) starts ends read
-rule_both {A} {B} {s} {f} {over} {within} a b {starts} {ends} {read} k = record { sound = λ q. pair_sound over a b read (k.sound q); finds = λ q. pair_finds within a b starts ends read (k.finds q); solid = record { no_empty = λ p h. k.solid.no_empty p (p, refl, h) } }
+rule_both {A} {B} {s} {f} {over} {within} a b {starts} {ends} {read} k =
+    record {
+      sound = λ q. pair_sound over a b read (k.sound q);
+      finds = λ q. pair_finds within a b starts ends read
+          (k.finds q);
+      solid = record { no_empty = λ p h. k.solid.no_empty p (p, refl, h) };
+    }
 
 -- a part after a name
 pub rule_named : {A : Type 0} {s f : Type 0} {over : Limit → ℕ} {within : Limit → Type 0} {a : Grammar A}
     {starts ends : Lexeme → Bool} {read : Reader A}
     → OwesLoosely s f over within a starts ends read
     → Owes s f over within (token Ident ∙ a) is_ident ends (named_at read)
-rule_named {A} {s} {f} {over} {within} {a} {starts} {ends} {read} k = record { sound = λ q. named_sound over a read (k.sound q); finds = λ q. finds_named within a starts ends read (k.finds q); solid = pair_solid (token Ident) a (token_solid Ident) }
+rule_named {A} {s} {f} {over} {within} {a} {starts} {ends} {read} k =
+    record {
+      sound = λ q. named_sound over a read (k.sound q);
+      finds = λ q. finds_named within a starts ends read
+          (k.finds q);
+      solid = pair_solid (token Ident) a (token_solid Ident);
+    }
 
 -- the tree of a tree that is made of two parts
 pub after_made : {A B C D : Type 0} (g : C → D) (f : A × B → C) (r : Read A) (rb : Reader B)
@@ -119,7 +136,14 @@ module _ {A : Type 0} (s f : Type 0) (over : Limit → ℕ) (within : Limit → 
       long = omega arith
 
       go : (c : Bool) → test t ≡ c → Sound over (preceded l b) (t ∷ ts) (barred c zero (t ∷ ts) (read ts))
-      go true q = (t ∷ [], ts, refl, long ⋆ ap (λ (k : ℕ). more k (length ts)) (sym e), inl (inr (tt, ap (λ (u : Lexeme). u ∷ []) (one t q))))
+      go true q = (
+        t ∷ [],
+        ts,
+        refl,
+        long
+            ⋆ ap (λ (k : ℕ). more k (length ts)) (sym e),
+        inl (inr (tt, ap (λ (u : Lexeme). u ∷ []) (one t q))),
+      )
       go false q = ([], t ∷ ts, refl, refl, inl (inl refl))
 
   -- at a lexeme where no more parts may be open, the limit is passed, if not all is within it
@@ -127,7 +151,8 @@ module _ {A : Type 0} (s f : Type 0) (over : Limit → ℕ) (within : Limit → 
       → (x : A) (t : Lexeme) (ts us : List Lexeme)
       → test t ≡ true
       → ReadsAs within (opened_by test zero read (t ∷ ts)) x us
-  out_reads_as w x t ts us e = inr ((Nesting, length (t ∷ ts)), w, ap (λ (c : Bool). barred c zero (t ∷ ts) (read ts)) e)
+  out_reads_as w x t ts us e = inr
+      ((Nesting, length (t ∷ ts)), w, ap (λ (c : Bool). barred c zero (t ∷ ts) (read ts)) e)
 
   out_passes : (within Nesting → ⊥)
       → (t : Lexeme) (ts us : List Lexeme)
@@ -138,7 +163,14 @@ module _ {A : Type 0} (s f : Type 0) (over : Limit → ℕ) (within : Limit → 
   one_finds : (within Nesting → ⊥)
       → ((x : A) (u : List Lexeme) → b.Is x u → b.IsPrefix u)
       → Finds within (preceded l b) test ends (opened_by test zero read)
-  one_finds w part = record { nil = inl (inl refl); part = λ x u h. preceded_part x u h; first = first; whole = whole; front = front }
+  one_finds w part = record {
+    nil = inl (inl refl);
+    part = λ x u h. preceded_part x u h;
+    first = first;
+    whole =
+        whole;
+    front = front;
+  }
     where
       preceded_part : (x : A) (u : List Lexeme) → (preceded l b).Is x u → (preceded l b).IsPrefix u
       preceded_part x u (p, d, (v, y, q, hv, hy)) = inr (tt, v, y, q, hv, part p.1 y hy)
@@ -171,7 +203,8 @@ module _ {A : Type 0} {s f : Type 0} {over : Limit → ℕ} {within : Limit → 
       → Owes s f over within (opens m (preceded l b)) test ends (opened_by test n read)
   rule_opens zero zero fit deep part k = record {
     sound = λ q. none_sound s f over within l test holds one b starts ends read (let e = fit q in omega (arith, e));
-    finds = λ q. cut_off_finds within test ends (opened_by test zero read) (zero_passes s f over within l test holds one b starts ends read);
+    finds = λ q. cut_off_finds within test ends (opened_by test zero read)
+        (zero_passes s f over within l test holds one b starts ends read);
     solid = cut_off_solid;
   }
   rule_opens zero (suc m) fit deep part k = record {
@@ -181,10 +214,12 @@ module _ {A : Type 0} {s f : Type 0} {over : Limit → ℕ} {within : Limit → 
   }
   rule_opens (suc n) zero fit deep part k = record {
     sound = λ q. absurd (let e = fit q in omega (arith, e));
-    finds = λ q. cut_off_finds within test ends (opened_by test (suc n) read) (more_passes s f over within l test holds one b starts ends read n ((k tt).finds q));
+    finds = λ q. cut_off_finds within test ends (opened_by test (suc n) read)
+        (more_passes s f over within l test holds one b starts ends read n ((k tt).finds q));
     solid = cut_off_solid;
   }
-  rule_opens (suc n) (suc m) fit deep part k = rule_read (opened_by test (suc n) read) (opened_same test n read) (rule_preceded (rule_token (one_is l test holds one)) (k tt))
+  rule_opens (suc n) (suc m) fit deep part k = rule_read (opened_by test (suc n) read) (opened_same test n read)
+      (rule_preceded (rule_token (one_is l test holds one)) (k tt))
 
 -- ---- a part in braces
 
@@ -220,7 +255,8 @@ pub rule_braces : {A : Type 0} {s f : Type 0} {over : Limit → ℕ} {within : L
     → (IsOpenable n → Owes s f over within (inside a) starts ends read)
     → Owes s f over within (opens m (braces a)) is_lbrace ends (opened_by is_lbrace n read)
 rule_braces a n m fit deep part k =
-    rule_same (opens m (braces a)) (opens_same m (preceded (Mark OpenBrace) (inside a)) (braces a) (braces_same a)) (rule_opens (Mark OpenBrace) is_lbrace refl lbrace_one (inside a) n m fit deep part k)
+    rule_same (opens m (braces a)) (opens_same m (preceded (Mark OpenBrace) (inside a)) (braces a) (braces_same a))
+    (rule_opens (Mark OpenBrace) is_lbrace refl lbrace_one (inside a) n m fit deep part k)
 
 inside_same : {A : Type 0} (read : Reader A) (ts : List Lexeme)
     → then_read (λ (p : A × Unit {0}). p.0) read closed_at ts ≡ inside_at read ts
@@ -251,7 +287,8 @@ pub rule_inside : {A : Type 0} {s f : Type 0} {over : Limit → ℕ} {within : L
     → Owes s f over within a starts ends read
     → ends (Mark CloseBrace) ≡ false
     → Owes s f over within (inside a) starts no_lexeme (inside_at read)
-rule_inside {A} {s} {f} {over} {within} {a} {starts} {ends} {read} k e = rule_read (inside_at read) (inside_same read) (rule_seq (λ p. p.0) k (rule_token closed_is) (close_apart ends e))
+rule_inside {A} {s} {f} {over} {within} {a} {starts} {ends} {read} k e = rule_read (inside_at read) (inside_same read)
+    (rule_seq (λ p. p.0) k (rule_token closed_is) (close_apart ends e))
 
 -- a part that may be empty, up to the closing brace
 pub rule_inside_loose : {A : Type 0} {s f : Type 0} {over : Limit → ℕ} {within : Limit → Type 0} {a : Grammar A}
@@ -259,7 +296,8 @@ pub rule_inside_loose : {A : Type 0} {s f : Type 0} {over : Limit → ℕ} {with
     → OwesLoosely s f over within a starts ends read
     → ends (Mark CloseBrace) ≡ false
     → Owes s f over within (inside a) (either starts is_closed) no_lexeme (inside_at read)
-rule_inside_loose {A} {s} {f} {over} {within} {a} {starts} {ends} {read} k e = rule_read (inside_at read) (inside_same read) (rule_lead (λ p. p.0) k (rule_token closed_is) (close_apart ends e))
+rule_inside_loose {A} {s} {f} {over} {within} {a} {starts} {ends} {read} k e = rule_read (inside_at read)
+    (inside_same read) (rule_lead (λ p. p.0) k (rule_token closed_is) (close_apart ends e))
 
 -- a part in braces; n more parts may be open for the reader, and m for the grammar
 pub rule_in_braces : {A : Type 0} {s f : Type 0} {over : Limit → ℕ} {within : Limit → Type 0} (a : Grammar A)
@@ -269,4 +307,5 @@ pub rule_in_braces : {A : Type 0} {s f : Type 0} {over : Limit → ℕ} {within 
     → (f → (x : A) (u : List Lexeme) → (inside a).Is x u → (inside a).IsPrefix u)
     → (IsOpenable n → Owes s f over within (inside a) starts no_lexeme (inside_at read))
     → Owes s f over within (opens m (braces a)) is_lbrace no_lexeme (braces_at n read)
-rule_in_braces {A} {s} {f} {over} {within} a {starts} read n m fit deep part k = rule_read (braces_at n read) (braces_read n read) (rule_braces a n m fit deep part k)
+rule_in_braces {A} {s} {f} {over} {within} a {starts} read n m fit deep part k = rule_read (braces_at n read)
+    (braces_read n read) (rule_braces a n m fit deep part k)

@@ -55,7 +55,9 @@ module _ {s f : Type 0} {over : Limit → ℕ} {within : Limit → Type 0} where
   unfolding parens_at
   rule_parens {A} {a} {starts} {ends} {read} k e =
       rule_read (parens_at read) same
-      (rule_seq (λ p. p.1.0) (rule_read open_at open_same rule_open) (rule_pair a (mark CloseParenthesis) k.solid (rule_seq (λ p. p) k (rule_read close_at close_same rule_close) (close_only ends e))) (λ t h. refl))
+      (rule_seq (λ p. p.1.0) (rule_read open_at open_same rule_open)
+      (rule_pair a (mark CloseParenthesis) k.solid
+      (rule_seq (λ p. p) k (rule_read close_at close_same rule_close) (close_only ends e))) (λ t h. refl))
     where
       closing : (r : Read (Unit {0})) (x : A)
           → made (λ (p : A × Unit {0}). p.0) (made (λ (y : Unit {0}). (x, y)) r) ≡ made (λ (y : Unit {0}). x) r
@@ -64,17 +66,20 @@ module _ {s f : Type 0} {over : Limit → ℕ} {within : Limit → Type 0} where
 
       inside : (r : Read A)
           →
-          made (λ (p : A × Unit {0}). p.0) (after_read (λ (p : A × Unit {0}). p) r close_at) ≡ after_read (λ (p : A × Unit {0}). p.0) r close_at
+          made (λ (p : A × Unit {0}). p.0) (after_read (λ (p : A × Unit {0}). p) r close_at) ≡ after_read
+          (λ (p : A × Unit {0}). p.0) r close_at
       inside (Ok x) = closing (close_at x.1) x.0
       inside (Err f) = refl
 
       opening : (r : Read (Unit {0}))
           →
-          after_read (λ (p : Unit {0} × (A × Unit {0})). p.1.0) r (then_read (λ p. p) read close_at) ≡ (r >>= λ o. after_read (λ (p : A × Unit {0}). p.0) (read o.1) close_at)
+          after_read (λ (p : Unit {0} × (A × Unit {0})). p.1.0) r (then_read (λ p. p) read close_at)
+          ≡ (r >>= λ o. after_read (λ (p : A × Unit {0}). p.0) (read o.1) close_at)
       opening (Ok o) = inside (read o.1)
       opening (Err f) = refl
 
       same : (ts : List Lexeme)
           →
-          then_read (λ (p : Unit {0} × (A × Unit {0})). p.1.0) open_at (then_read (λ p. p) read close_at) ts ≡ parens_at read ts
+          then_read (λ (p : Unit {0} × (A × Unit {0})). p.1.0) open_at (then_read (λ p. p) read close_at) ts
+          ≡ parens_at read ts
       same ts = opening (open_at ts)

@@ -27,7 +27,8 @@ module _ {A : Type 0} (kind : A → Lexeme) (test : Lexeme → Bool) (read : Rea
       by : (b : Bool) → test s ≡ b → Sound over (token kind) (s ∷ ts) (read (s ∷ ts))
       by true e =
           let o = is.one s e in
-          subst (Sound over (token kind) (s ∷ ts)) (sym (ap (λ (s : Lexeme). read (s ∷ ts)) o.1 ⋆ is.hit o.0 ts)) (s ∷ [], refl, ap (λ (s : Lexeme). s ∷ []) o.1)
+          subst (Sound over (token kind) (s ∷ ts)) (sym (ap (λ (s : Lexeme). read (s ∷ ts)) o.1 ⋆ is.hit o.0 ts))
+          (s ∷ [], refl, ap (λ (s : Lexeme). s ∷ []) o.1)
       by false e = subst (Sound over (token kind) (s ∷ ts)) (sym (is.miss s ts e)) ([], s ∷ ts, refl, refl, inl refl)
 
   token_passes : (within : Limit → Type 0) (us : List Lexeme) → Passes within us (read us)
@@ -44,7 +45,8 @@ module _ {A : Type 0} (kind : A → Lexeme) (test : Lexeme → Bool) (read : Rea
       same = omega arith
 
       by : (b : Bool) → test s ≡ b → Passes within (s ∷ ts) (read (s ∷ ts))
-      by true e = let o = is.one s e in subst (Passes within (s ∷ ts)) (sym (ap (λ (s : Lexeme). read (s ∷ ts)) o.1 ⋆ is.hit o.0 ts)) less
+      by true e = let o = is.one s e in subst (Passes within (s ∷ ts))
+          (sym (ap (λ (s : Lexeme). read (s ∷ ts)) o.1 ⋆ is.hit o.0 ts)) less
       by false e = subst (Passes within (s ∷ ts)) (sym (is.miss s ts e)) same
 
   pub token_finds : (within : Limit → Type 0) → Finds within (token kind) test no_lexeme read
@@ -64,8 +66,10 @@ module _ {A : Type 0} (kind : A → Lexeme) (test : Lexeme → Bool) (read : Rea
       le us = omega arith
 
       front : (u us : List Lexeme) → (token kind).IsPrefix u → Passes within us (read (u ++ us))
-      front u us (inl e) = subst (λ (l : List Lexeme). Passes within us (read (l ++ us))) (sym e) (token_passes within us)
-      front u us (inr (x, e)) = subst (Passes within us) (sym (ap (λ (l : List Lexeme). read (l ++ us)) e ⋆ is.hit x us)) (le us)
+      front u us (inl e) = subst (λ (l : List Lexeme). Passes within us (read (l ++ us))) (sym e)
+          (token_passes within us)
+      front u us (inr (x, e)) = subst (Passes within us)
+          (sym (ap (λ (l : List Lexeme). read (l ++ us)) e ⋆ is.hit x us)) (le us)
 
 pub token_solid : {A : Type 0} (kind : A → Lexeme) → IsSolid (token kind)
 token_solid kind = record { no_empty = λ x e. absurd cc }
@@ -97,7 +101,8 @@ made_finds {A} {B} within a f starts ends read fa = record {
         → (a ⇒ f).Is y u
         → Follows ends us
         → ReadsAs within (read (u ++ us) >>= λ x. Ok (f x.0, x.1)) y us
-    whole y u us (x, e, h) g = subst (λ (y : B). ReadsAs within (read (u ++ us) >>= λ x. Ok (f x.0, x.1)) y us) (sym e) (reads_as_made within us (read (u ++ us)) x f (fa.whole x u us h g))
+    whole y u us (x, e, h) g = subst (λ (y : B). ReadsAs within (read (u ++ us) >>= λ x. Ok (f x.0, x.1)) y us) (sym e)
+        (reads_as_made within us (read (u ++ us)) x f (fa.whole x u us h g))
 
 pub made_solid : {A B : Type 0} (a : Grammar A) (f : A → B) → IsSolid a → IsSolid (a ⇒ f)
 made_solid a f s = record { no_empty = λ y h. s.no_empty h.0 h.2 }
@@ -150,7 +155,9 @@ open_finds {A} {B} within a b f starts starts-a ends-a starts-b ends-b ra rb fa 
     first : (t : Lexeme) (u : List Lexeme) → (a ∙ b).IsPrefix (t ∷ u) → starts t ≡ true
     first t u (inl h) = ga t (fa.first t u h)
     first t u (inr (x, [], w, e, ha, hb)) = gb t (fb.first t u (subst b.IsPrefix (sym e) hb))
-    first t u (inr (x, s ∷ v, w, e, ha, hb)) = ga t (subst (λ (t : Lexeme). starts-a t ≡ true) (sym (head_is t s u (v ++ w) e)) (fa.first s v (fa.part x (s ∷ v) ha)))
+    first t u (inr (x, s ∷ v, w, e, ha, hb)) =
+        ga t (subst (λ (t : Lexeme). starts-a t ≡ true) (sym (head_is t s u (v ++ w) e))
+        (fa.first s v (fa.part x (s ∷ v) ha)))
 
 pub open_solid : {A B C : Type 0} (a : Grammar A) (b : Grammar B) (f : A × B → C) → IsSolid b → IsSolid ((a ∙ b) ⇒ f)
 open_solid {A} {B} {C} a b f s = record { no_empty = go }
@@ -207,7 +214,9 @@ pub pick_sound : {A : Type 0} (over : Limit → ℕ) (a b : Grammar A) (test : L
     → SoundReader over (a ∣ b) (pick test ra rb)
 pick_sound over a b test ra rb sa sb [] = right_sound over a b [] (rb []) (sb [])
 pick_sound over a b test ra rb sa sb (t ∷ ts) =
-    chosen_is (Sound over (a ∣ b) (t ∷ ts)) (test t) (ra (t ∷ ts)) (rb (t ∷ ts)) (λ e. left_sound over a b (t ∷ ts) (ra (t ∷ ts)) (sa (t ∷ ts))) (λ e. right_sound over a b (t ∷ ts) (rb (t ∷ ts)) (sb (t ∷ ts)))
+    chosen_is (Sound over (a ∣ b) (t ∷ ts)) (test t) (ra (t ∷ ts)) (rb (t ∷ ts))
+    (λ e. left_sound over a b (t ∷ ts) (ra (t ∷ ts)) (sa (t ∷ ts)))
+    (λ e. right_sound over a b (t ∷ ts) (rb (t ∷ ts)) (sb (t ∷ ts)))
 
 either_is : (x : Bool) → x ≡ true → x ≡ false → ⊥
 either_is x p q = let e = sym p ⋆ q in absurd cc
@@ -221,7 +230,8 @@ module _ {A : Type 0} (within : Limit → Type 0) (a b : Grammar A)
   where
     pick_passes : (us : List Lexeme) → Passes within us (pick starts-a ra rb us)
     pick_passes [] = fb.front [] [] fb.nil
-    pick_passes (t ∷ ts) = chosen_is (Passes within (t ∷ ts)) (starts-a t) (ra (t ∷ ts)) (rb (t ∷ ts)) (λ e. fa.front [] (t ∷ ts) fa.nil) (λ e. fb.front [] (t ∷ ts) fb.nil)
+    pick_passes (t ∷ ts) = chosen_is (Passes within (t ∷ ts)) (starts-a t) (ra (t ∷ ts)) (rb (t ∷ ts))
+        (λ e. fa.front [] (t ∷ ts) fa.nil) (λ e. fb.front [] (t ∷ ts) fb.nil)
 
     left_ends : (us : List Lexeme) → Follows ends us → Follows ends-a us
     left_ends [] f = tt
@@ -234,9 +244,11 @@ module _ {A : Type 0} (within : Limit → Type 0) (a b : Grammar A)
     pick_front : (u us : List Lexeme) → (a ∣ b).IsPrefix u → Passes within us (pick starts-a ra rb (u ++ us))
     pick_front [] us h = pick_passes us
     pick_front (t ∷ u) us (inl h) =
-        chosen_is (Passes within us) (starts-a t) (ra (t ∷ (u ++ us))) (rb (t ∷ (u ++ us))) (λ e. fa.front (t ∷ u) us h) (λ e. absurd (either_is (starts-a t) (fa.first t u h) e))
+        chosen_is (Passes within us) (starts-a t) (ra (t ∷ (u ++ us))) (rb (t ∷ (u ++ us))) (λ e. fa.front (t ∷ u) us h)
+        (λ e. absurd (either_is (starts-a t) (fa.first t u h) e))
     pick_front (t ∷ u) us (inr h) =
-        chosen_is (Passes within us) (starts-a t) (ra (t ∷ (u ++ us))) (rb (t ∷ (u ++ us))) (λ e. absurd (either_is (starts-a t) e (apart t (fb.first t u h)))) (λ e. fb.front (t ∷ u) us h)
+        chosen_is (Passes within us) (starts-a t) (ra (t ∷ (u ++ us))) (rb (t ∷ (u ++ us)))
+        (λ e. absurd (either_is (starts-a t) e (apart t (fb.first t u h)))) (λ e. fb.front (t ∷ u) us h)
 
     pick_whole : (x : A) (u us : List Lexeme)
         → (a ∣ b).Is x u
@@ -245,9 +257,13 @@ module _ {A : Type 0} (within : Limit → Type 0) (a b : Grammar A)
     pick_whole x [] us (inl h) f = absurd (sa.no_empty x h)
     pick_whole x [] us (inr h) f = absurd (sb.no_empty x h)
     pick_whole x (t ∷ u) us (inl h) f =
-        chosen_is (λ (r : Read A). ReadsAs within r x us) (starts-a t) (ra (t ∷ (u ++ us))) (rb (t ∷ (u ++ us))) (λ e. fa.whole x (t ∷ u) us h (left_ends us f)) (λ e. absurd (either_is (starts-a t) (fa.first t u (fa.part x (t ∷ u) h)) e))
+        chosen_is (λ (r : Read A). ReadsAs within r x us) (starts-a t) (ra (t ∷ (u ++ us))) (rb (t ∷ (u ++ us)))
+        (λ e. fa.whole x (t ∷ u) us h (left_ends us f))
+        (λ e. absurd (either_is (starts-a t) (fa.first t u (fa.part x (t ∷ u) h)) e))
     pick_whole x (t ∷ u) us (inr h) f =
-        chosen_is (λ (r : Read A). ReadsAs within r x us) (starts-a t) (ra (t ∷ (u ++ us))) (rb (t ∷ (u ++ us))) (λ e. absurd (either_is (starts-a t) e (apart t (fb.first t u (fb.part x (t ∷ u) h))))) (λ e. fb.whole x (t ∷ u) us h (right_ends us f))
+        chosen_is (λ (r : Read A). ReadsAs within r x us) (starts-a t) (ra (t ∷ (u ++ us))) (rb (t ∷ (u ++ us)))
+        (λ e. absurd (either_is (starts-a t) e (apart t (fb.first t u (fb.part x (t ∷ u) h)))))
+        (λ e. fb.whole x (t ∷ u) us h (right_ends us f))
 
     pub pick_finds : Finds within (a ∣ b) starts ends (pick starts-a ra rb)
     pick_finds = record { nil = inl fa.nil; part = part; first = first; whole = pick_whole; front = pick_front }
@@ -277,7 +293,9 @@ pub optional_sound : {A : Type 0} (over : Limit → ℕ) (a : Grammar A) (test :
     → SoundReader over a read
     → SoundReader over (optional a) (perhaps test read)
 optional_sound over a test read s [] = ([], refl, refl)
-optional_sound {A} over a test read s (t ∷ ts) = chosen_is (Sound over (optional a) (t ∷ ts)) (test t) (read (t ∷ ts) >>= λ x. Ok (Some x.0, x.1)) (Ok (None, t ∷ ts)) (λ e. go (read (t ∷ ts)) (s (t ∷ ts))) (λ e. ([], refl, refl))
+optional_sound {A} over a test read s (t ∷ ts) = chosen_is (Sound over (optional a) (t ∷ ts)) (test t)
+    (read (t ∷ ts) >>= λ x. Ok (Some x.0, x.1)) (Ok (None, t ∷ ts)) (λ e. go (read (t ∷ ts)) (s (t ∷ ts)))
+    (λ e. ([], refl, refl))
   where
     go : (r : Read A) → Sound over a (t ∷ ts) r → Sound over (optional a) (t ∷ ts) (r >>= λ x. Ok (Some x.0, x.1))
     go (Ok x) h = h
@@ -288,7 +306,9 @@ module _ {A : Type 0} (within : Limit → Type 0) (a : Grammar A) (starts ends e
     (ee : (t : Lexeme) → ends' t ≡ false → ends t ≡ false) where
   perhaps_passes : (us : List Lexeme) → Passes within us (perhaps starts read us)
   perhaps_passes [] = omega arith
-  perhaps_passes (t ∷ us) = chosen_is (Passes within (t ∷ us)) (starts t) (read (t ∷ us) >>= λ x. Ok (Some x.0, x.1)) (Ok (None, t ∷ us)) (λ e. passes_made within (t ∷ us) (read (t ∷ us)) (λ x. Some x) (fa.front [] (t ∷ us) fa.nil)) (λ e. le (t ∷ us))
+  perhaps_passes (t ∷ us) = chosen_is (Passes within (t ∷ us)) (starts t) (read (t ∷ us) >>= λ x. Ok (Some x.0, x.1))
+      (Ok (None, t ∷ us)) (λ e. passes_made within (t ∷ us) (read (t ∷ us)) (λ x. Some x) (fa.front [] (t ∷ us) fa.nil))
+      (λ e. le (t ∷ us))
     where
       le : (us : List Lexeme) → length us ≤ length us
       le us = omega arith
@@ -297,11 +317,15 @@ module _ {A : Type 0} (within : Limit → Type 0) (a : Grammar A) (starts ends e
   perhaps_front [] us h = perhaps_passes us
   perhaps_front (t ∷ u) us (inl e) = absurd cc
   perhaps_front (t ∷ u) us (inr h) =
-      chosen_is (Passes within us) (starts t) (read (t ∷ (u ++ us)) >>= λ x. Ok (Some x.0, x.1)) (Ok (None, t ∷ (u ++ us))) (λ e. passes_made within us (read (t ∷ (u ++ us))) (λ x. Some x) (fa.front (t ∷ u) us h)) (λ e. absurd (either_is (starts t) (fa.first t u h) e))
+      chosen_is (Passes within us) (starts t) (read (t ∷ (u ++ us)) >>= λ x. Ok (Some x.0, x.1))
+      (Ok (None, t ∷ (u ++ us))) (λ e. passes_made within us (read (t ∷ (u ++ us))) (λ x. Some x)
+      (fa.front (t ∷ u) us h)) (λ e. absurd (either_is (starts t) (fa.first t u h) e))
 
   none_whole : (us : List Lexeme) → Follows ends' us → ReadsAs within (perhaps starts read us) None us
   none_whole [] f = inl refl
-  none_whole (t ∷ us) f = chosen_is (λ (r : Read (Option A)). ReadsAs within r None (t ∷ us)) (starts t) (read (t ∷ us) >>= λ x. Ok (Some x.0, x.1)) (Ok (None, t ∷ us)) (λ e. absurd (either_is (starts t) e (es t f))) (λ e. inl refl)
+  none_whole (t ∷ us) f = chosen_is (λ (r : Read (Option A)). ReadsAs within r None (t ∷ us)) (starts t)
+      (read (t ∷ us) >>= λ x. Ok (Some x.0, x.1)) (Ok (None, t ∷ us)) (λ e. absurd (either_is (starts t) e (es t f)))
+      (λ e. inl refl)
 
   part_ends : (us : List Lexeme) → Follows ends' us → Follows ends us
   part_ends [] f = tt
@@ -311,10 +335,15 @@ module _ {A : Type 0} (within : Limit → Type 0) (a : Grammar A) (starts ends e
       → (optional a).Is o u
       → Follows ends' us
       → ReadsAs within (perhaps starts read (u ++ us)) o us
-  perhaps_whole None u us h f = subst (λ (l : List Lexeme). ReadsAs within (perhaps starts read (l ++ us)) None us) (sym h) (none_whole us f)
+  perhaps_whole None u us h f = subst (λ (l : List Lexeme). ReadsAs within (perhaps starts read (l ++ us)) None us)
+      (sym h) (none_whole us f)
   perhaps_whole (Some x) [] us h f = absurd (sa.no_empty x h)
   perhaps_whole (Some x) (t ∷ u) us h f =
-      chosen_is (λ (r : Read (Option A)). ReadsAs within r (Some x) us) (starts t) (read (t ∷ (u ++ us)) >>= λ x. Ok (Some x.0, x.1)) (Ok (None, t ∷ (u ++ us))) (λ e. reads_as_made within us (read (t ∷ (u ++ us))) x (λ x. Some x) (fa.whole x (t ∷ u) us h (part_ends us f))) (λ e. absurd (either_is (starts t) (fa.first t u (fa.part x (t ∷ u) h)) e))
+      chosen_is (λ (r : Read (Option A)). ReadsAs within r (Some x) us) (starts t)
+      (read (t ∷ (u ++ us)) >>= λ x. Ok (Some x.0, x.1)) (Ok (None, t ∷ (u ++ us)))
+      (λ e. reads_as_made within us (read (t ∷ (u ++ us))) x (λ x. Some x)
+      (fa.whole x (t ∷ u) us h (part_ends us f)))
+      (λ e. absurd (either_is (starts t) (fa.first t u (fa.part x (t ∷ u) h)) e))
 
   pub optional_finds : Finds within (optional a) starts ends' (perhaps starts read)
   optional_finds = record { nil = inl refl; part = part; first = first; whole = perhaps_whole; front = perhaps_front }

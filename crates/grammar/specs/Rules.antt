@@ -14,12 +14,14 @@ use Rattle.grammar.specs.Manies.{many_sound, many_finds}
 
 -- What a reader guarantees for a production. If s holds, what is read is in the grammar. If f holds, no prefix is
 -- refused, and each whole is read.
-pub record OwesLoosely {A : Type 0} (s f : Type 0) (over : Limit → ℕ) (within : Limit → Type 0) (g : Grammar A) (starts ends : Lexeme → Bool) (read : Reader A) : Type 0 where
+pub record OwesLoosely {A : Type 0} (s f : Type 0) (over : Limit → ℕ) (within : Limit → Type 0) (g : Grammar A)
+    (starts ends : Lexeme → Bool) (read : Reader A) : Type 0 where
   pub sound : s → SoundReader over g read
   pub finds : f → Finds within g starts ends read
 
 -- the same, and no whole is empty
-pub record Owes {A : Type 0} (s f : Type 0) (over : Limit → ℕ) (within : Limit → Type 0) (g : Grammar A) (starts ends : Lexeme → Bool) (read : Reader A) : Type 0 where
+pub record Owes {A : Type 0} (s f : Type 0) (over : Limit → ℕ) (within : Limit → Type 0) (g : Grammar A)
+    (starts ends : Lexeme → Bool) (read : Reader A) : Type 0 where
   pub sound : s → SoundReader over g read
   pub finds : f → Finds within g starts ends read
   pub solid : IsSolid g
@@ -73,12 +75,23 @@ module _ {s f : Type 0} {over : Limit → ℕ} {within : Limit → Type 0} where
   pub rule_token : {A : Type 0} {kind : A → Lexeme} {test : Lexeme → Bool} {read : Reader A}
       → IsKind kind test read
       → Owes s f over within (token kind) test no_lexeme read
-  rule_token {A} {kind} {test} {read} is = record { sound = λ q. token_sound kind test read is over; finds = λ q. token_finds kind test read is within; solid = token_solid kind }
+  rule_token {A} {kind} {test} {read} is =
+      record {
+        sound = λ q. token_sound kind test read is over;
+        finds = λ q. token_finds kind test read is within;
+        solid = token_solid kind;
+      }
 
   pub rule_made : {A B : Type 0} {a : Grammar A} {starts ends : Lexeme → Bool} {read : Reader A} (g : A → B)
       → Owes s f over within a starts ends read
       → Owes s f over within (a ⇒ g) starts ends (λ ts. read ts >>= λ x. Ok (g x.0, x.1))
-  rule_made {A} {B} {a} {starts} {ends} {read} g r = record { sound = λ q. made_sound over a g read (r.sound q); finds = λ q. made_finds within a g starts ends read (r.finds q); solid = made_solid a g r.solid }
+  rule_made {A} {B} {a} {starts} {ends} {read} g r =
+      record {
+        sound = λ q. made_sound over a g read (r.sound q);
+        finds = λ q. made_finds within a g starts ends read
+            (r.finds q);
+        solid = made_solid a g r.solid;
+      }
 
   pub rule_seq : {A B C : Type 0} {a : Grammar A} {b : Grammar B} {starts-a ends-a starts-b ends-b : Lexeme → Bool}
       {ra : Reader A} {rb : Reader B} (g : A × B → C)
@@ -88,7 +101,8 @@ module _ {s f : Type 0} {over : Limit → ℕ} {within : Limit → Type 0} where
       → Owes s f over within ((a ∙ b) ⇒ g) starts-a ends-b (then_read g ra rb)
   rule_seq {A} {B} {C} {a} {b} {starts-a} {ends-a} {starts-b} {ends-b} {ra} {rb} g ka kb apart = record {
     sound = λ q ts. seq_sound over a b g ts (ra ts) rb (ka.sound q ts) (kb.sound q);
-    finds = λ q. seq_finds within a b g starts-a ends-a starts-b ends-b ra rb (ka.finds q) (kb.finds q) ka.solid kb.solid apart;
+    finds = λ q. seq_finds within a b g starts-a ends-a starts-b ends-b ra rb (ka.finds q) (kb.finds q) ka.solid
+        kb.solid apart;
     solid = seq_solid a b g ka.solid;
   }
 
@@ -133,7 +147,8 @@ module _ {s f : Type 0} {over : Limit → ℕ} {within : Limit → Type 0} where
         nil = inl fa.nil;
         part = seq_part within a b g starts-a ends-a starts-b ends-b (either ends-a ends-b) ra rb fa fb;
         first = seq_first a b starts-a ka.solid fa.part fa.first;
-        whole = seq_whole within a b g starts-a ends-a starts-b ends-b (either ends-a ends-b) ra rb fa fb (after fb) last;
+        whole = seq_whole within a b g starts-a ends-a starts-b ends-b (either ends-a ends-b) ra rb fa fb
+            (after fb) last;
         front = seq_front within a b g starts-a ends-a starts-b ends-b (either ends-a ends-b) ra rb fa fb apart;
       }
 
@@ -141,7 +156,13 @@ module _ {s f : Type 0} {over : Limit → ℕ} {within : Limit → Type 0} where
       → IsSolid a
       → Owes s f over within ((a ∙ b) ⇒ (λ p. p)) starts ends read
       → Owes s f over within (a ∙ b) starts ends read
-  rule_pair {A} {B} a b {starts} {ends} {read} solid k = record { sound = λ q. pair_sound over a b read (k.sound q); finds = λ q. pair_finds within a b starts ends read (k.finds q); solid = pair_solid a b solid }
+  rule_pair {A} {B} a b {starts} {ends} {read} solid k =
+      record {
+        sound = λ q. pair_sound over a b read (k.sound q);
+        finds = λ q. pair_finds within a b starts ends read
+            (k.finds q);
+        solid = pair_solid a b solid;
+      }
 
   pub rule_pick : {A : Type 0} {a b : Grammar A} {starts-a ends-a starts-b ends-b : Lexeme → Bool} {ra rb : Reader A}
       → Owes s f over within a starts-a ends-a ra
@@ -150,8 +171,10 @@ module _ {s f : Type 0} {over : Limit → ℕ} {within : Limit → Type 0} where
       → Owes s f over within (a ∣ b) (either starts-a starts-b) (either ends-a ends-b) (pick starts-a ra rb)
   rule_pick {A} {a} {b} {starts-a} {ends-a} {starts-b} {ends-b} {ra} {rb} ka kb apart = record {
     sound = λ q. pick_sound over a b starts-a ra rb (ka.sound q) (kb.sound q);
-    finds = λ q. pick_finds within a b starts-a starts-b (either starts-a starts-b) ends-a ends-b (either ends-a ends-b) ra rb (ka.finds q) (kb.finds q) apart ka.solid kb.solid
-        (λ t. bor_left (starts-a t) (starts-b t)) (λ t. bor_right (starts-a t) (starts-b t)) (λ t. no_left (ends-a t) (ends-b t)) (λ t. no_right (ends-a t) (ends-b t));
+    finds = λ q. pick_finds within a b starts-a starts-b (either starts-a starts-b) ends-a ends-b (either ends-a ends-b)
+        ra rb (ka.finds q) (kb.finds q) apart ka.solid kb.solid
+        (λ t. bor_left (starts-a t) (starts-b t)) (λ t. bor_right (starts-a t) (starts-b t))
+        (λ t. no_left (ends-a t) (ends-b t)) (λ t. no_right (ends-a t) (ends-b t));
     solid = either_solid a b ka.solid kb.solid;
   }
 
@@ -160,7 +183,8 @@ module _ {s f : Type 0} {over : Limit → ℕ} {within : Limit → Type 0} where
       → OwesLoosely s f over within (optional a) starts (either starts ends) (perhaps starts read)
   loose_optional {A} {a} {starts} {ends} {read} k = record {
     sound = λ q. optional_sound over a starts read (k.sound q);
-    finds = λ q. optional_finds within a starts ends (either starts ends) read (k.finds q) k.solid (λ t. no_left (starts t) (ends t)) (λ t. no_right (starts t) (ends t));
+    finds = λ q. optional_finds within a starts ends (either starts ends) read (k.finds q) k.solid
+        (λ t. no_left (starts t) (ends t)) (λ t. no_right (starts t) (ends t));
   }
 
   pub loose_many : {A : Type 0} {a : Grammar A} {starts ends : Lexeme → Bool} {read : Reader A}
@@ -169,14 +193,20 @@ module _ {s f : Type 0} {over : Limit → ℕ} {within : Limit → Type 0} where
       → OwesLoosely s f over within (many a) starts (either starts ends) (λ us. many_at starts read (length us) us)
   loose_many {A} {a} {starts} {ends} {read} k apart = record {
     sound = λ q ts. many_sound over a starts read (k.sound q) (length ts) ts;
-    finds = λ q. many_finds within a starts ends (either starts ends) read (k.finds q) k.solid apart (λ t. no_left (starts t) (ends t)) (λ t. no_right (starts t) (ends t));
+    finds = λ q. many_finds within a starts ends (either starts ends) read (k.finds q) k.solid apart
+        (λ t. no_left (starts t) (ends t)) (λ t. no_right (starts t) (ends t));
   }
 
   -- the tree made of a part that may be empty
   pub loose_made : {A B : Type 0} {a : Grammar A} {starts ends : Lexeme → Bool} {read : Reader A} (g : A → B)
       → OwesLoosely s f over within a starts ends read
       → OwesLoosely s f over within (a ⇒ g) starts ends (λ ts. read ts >>= λ x. Ok (g x.0, x.1))
-  loose_made {A} {B} {a} {starts} {ends} {read} g r = record { sound = λ q. made_sound over a g read (r.sound q); finds = λ q. made_finds within a g starts ends read (r.finds q) }
+  loose_made {A} {B} {a} {starts} {ends} {read} g r =
+      record {
+        sound = λ q. made_sound over a g read (r.sound q);
+        finds = λ q. made_finds within a g starts ends read
+            (r.finds q);
+      }
 
   -- a part that may be empty, before one that is never empty
   pub rule_lead : {A B C : Type 0} {a : Grammar A} {b : Grammar B} {starts-a ends-a starts-b ends-b : Lexeme → Bool}
@@ -187,7 +217,9 @@ module _ {s f : Type 0} {over : Limit → ℕ} {within : Limit → Type 0} where
       → Owes s f over within ((a ∙ b) ⇒ g) (either starts-a starts-b) ends-b (then_read g ra rb)
   rule_lead {A} {B} {C} {a} {b} {starts-a} {ends-a} {starts-b} {ends-b} {ra} {rb} g ka kb apart = record {
     sound = λ q ts. seq_sound over a b g ts (ra ts) rb (ka.sound q ts) (kb.sound q);
-    finds = λ q. open_finds within a b g (either starts-a starts-b) starts-a ends-a starts-b ends-b ra rb (ka.finds q) (kb.finds q) kb.solid apart (λ t. bor_left (starts-a t) (starts-b t)) (λ t. bor_right (starts-a t) (starts-b t));
+    finds = λ q. open_finds within a b g (either starts-a starts-b) starts-a ends-a starts-b ends-b ra rb (ka.finds q)
+        (kb.finds q) kb.solid apart (λ t. bor_left (starts-a t) (starts-b t))
+        (λ t. bor_right (starts-a t) (starts-b t));
     solid = open_solid a b g kb.solid;
   }
 
@@ -207,7 +239,13 @@ module _ {s f : Type 0} {over : Limit → ℕ} {within : Limit → Type 0} where
       → ((ts : List Lexeme) → r ts ≡ r' ts)
       → Owes s f over within a starts ends r
       → Owes s f over within a starts ends r'
-  rule_read {A} {a} {starts} {ends} {r} r' e k = record { sound = λ q. same_sound over a r r' e (k.sound q); finds = λ q. same_finds within a starts ends r r' e (k.finds q); solid = k.solid }
+  rule_read {A} {a} {starts} {ends} {r} r' e k =
+      record {
+        sound = λ q. same_sound over a r r' e (k.sound q);
+        finds = λ q. same_finds within a starts ends r r' e
+            (k.finds q);
+        solid = k.solid;
+      }
 
   -- with tests that are true of at least as many lexemes
   pub rule_tests : {A : Type 0} {a : Grammar A} {starts ends : Lexeme → Bool} {read : Reader A}
@@ -216,7 +254,8 @@ module _ {s f : Type 0} {over : Limit → ℕ} {within : Limit → Type 0} where
       → ((t : Lexeme) → ends' t ≡ false → ends t ≡ false)
       → Owes s f over within a starts ends read
       → Owes s f over within a starts' ends' read
-  rule_tests {A} {a} {starts} {ends} {read} starts' ends' gs ge k = record { sound = k.sound; finds = λ q. all (k.finds q); solid = k.solid }
+  rule_tests {A} {a} {starts} {ends} {read} starts' ends' gs ge k =
+      record { sound = k.sound; finds = λ q. all (k.finds q); solid = k.solid }
     where
       go : (us : List Lexeme) → Follows ends' us → Follows ends us
       go [] h = tt
@@ -236,7 +275,13 @@ module _ {s f : Type 0} {over : Limit → ℕ} {within : Limit → Type 0} where
       → Same a b
       → Owes s f over within a starts ends read
       → Owes s f over within b starts ends read
-  rule_same {A} {a} b {starts} {ends} {read} same k = record { sound = λ q ts. go ts (read ts) (k.sound q ts); finds = λ q. all (k.finds q); solid = record { no_empty = λ x h. k.solid.no_empty x (same.back.is x [] h) } }
+  rule_same {A} {a} b {starts} {ends} {read} same k =
+      record {
+        sound = λ q ts. go ts (read ts) (k.sound q ts);
+        finds = λ q. all (k.finds q);
+        solid =
+            record { no_empty = λ x h. k.solid.no_empty x (same.back.is x [] h) };
+      }
     where
       go : (ts : List Lexeme) (r : Read A) → Sound over a ts r → Sound over b ts r
       go ts (Ok x) h = (h.0, h.1, same.to.is x.0 h.0 h.2)
@@ -272,7 +317,8 @@ module _ (over : Limit → ℕ) (within : Limit → Type 0) (fits fits' : ℕ �
   unfolding number_at
   number_sound [] = ([], [], refl, refl, inl refl)
   number_sound (Number n ∷ ts) =
-      fitting_sound over fits fits' past (number_of fits') (fits n) n [] ts (Ok (n, ts)) (inl refl) (λ f. inr (n, f, refl)) (λ f. (Number n ∷ [], refl, (grows n f, refl)))
+      fitting_sound over fits fits' past (number_of fits') (fits n) n [] ts (Ok (n, ts)) (inl refl)
+      (λ f. inr (n, f, refl)) (λ f. (Number n ∷ [], refl, (grows n f, refl)))
   number_sound (t ∷ ts) = ([], t ∷ ts, refl, refl, inl refl)
 
   number_passes : (us : List Lexeme) → Passes within us (number_at fits us)
@@ -283,12 +329,16 @@ module _ (over : Limit → ℕ) (within : Limit → Type 0) (fits fits' : ℕ �
 
   number_front : (u us : List Lexeme) → (number_of fits').IsPrefix u → Passes within us (number_at fits (u ++ us))
   unfolding number_at
-  number_front u us (inl e) = subst (λ (l : List Lexeme). Passes within us (number_at fits (l ++ us))) (sym e) (number_passes us)
-  number_front u us (inr (n, f, e)) = subst (λ (l : List Lexeme). Passes within us (number_at fits (l ++ us))) (sym e) (fitting_passes within (fits n) us (Number n ∷ us) (Ok (n, us)) (room n f) (le_same us))
+  number_front u us (inl e) = subst (λ (l : List Lexeme). Passes within us (number_at fits (l ++ us))) (sym e)
+      (number_passes us)
+  number_front u us (inr (n, f, e)) = subst (λ (l : List Lexeme). Passes within us (number_at fits (l ++ us))) (sym e)
+      (fitting_passes within (fits n) us (Number n ∷ us) (Ok (n, us)) (room n f) (le_same us))
 
-  number_whole : (n : ℕ) (u us : List Lexeme) → (number_of fits').Is n u → ReadsAs within (number_at fits (u ++ us)) n us
+  number_whole : (n : ℕ) (u us : List Lexeme) → (number_of fits').Is n u
+      → ReadsAs within (number_at fits (u ++ us)) n us
   unfolding number_at
-  number_whole n u us h = subst (λ (l : List Lexeme). ReadsAs within (number_at fits (l ++ us)) n us) (sym h.1) (fitting_reads_as within (fits n) (Number n ∷ us) us (Ok (n, us)) n (room n h.0) (inl refl))
+  number_whole n u us h = subst (λ (l : List Lexeme). ReadsAs within (number_at fits (l ++ us)) n us) (sym h.1)
+      (fitting_reads_as within (fits n) (Number n ∷ us) us (Ok (n, us)) n (room n h.0) (inl refl))
 
   number_first : (t : Lexeme) (u : List Lexeme) → (number_of fits').IsPrefix (t ∷ u) → is_number t ≡ true
   number_first t u (inl e) = absurd cc
@@ -297,7 +347,14 @@ module _ (over : Limit → ℕ) (within : Limit → Type 0) (fits fits' : ℕ �
   pub rule_number : Rules over within (number_of fits') is_number no_lexeme (number_at fits)
   rule_number = record {
     sound = λ q. number_sound;
-    finds = λ q. record { nil = inl refl; part = λ n u h. inr (n, h.0, h.1); first = number_first; whole = λ n u us h f. number_whole n u us h; front = number_front };
+    finds = λ q. record {
+      nil = inl refl;
+      part = λ n u h. inr (n, h.0, h.1);
+      first = number_first;
+      whole =
+          λ n u us h f. number_whole n u us h;
+      front = number_front;
+    };
     solid = record { no_empty = λ n h. let e = h.1 in absurd cc };
   }
 
@@ -330,7 +387,14 @@ pub one_is : (s : Lexeme) (test : Lexeme → Bool)
     → test s ≡ true
     → ((t : Lexeme) → test t ≡ true → t ≡ s)
     → IsKind (λ (x : Unit {0}). s) test (one_at test)
-one_is s test holds one = record { yes = λ x. holds; one = λ t e. (tt, one t e); nil = refl; hit = λ x ts. ap (λ (b : Bool). taken b (s ∷ ts) ts) holds; miss = λ t ts e. ap (λ (b : Bool). taken b (t ∷ ts) ts) e }
+one_is s test holds one = record {
+  yes = λ x. holds;
+  one = λ t e. (tt, one t e);
+  nil = refl;
+  hit =
+      λ x ts. ap (λ (b : Bool). taken b (s ∷ ts) ts) holds;
+  miss = λ t ts e. ap (λ (b : Bool). taken b (t ∷ ts) ts) e;
+}
 
 -- what a reader guarantees for its production under limits: a are the reader's limits, and b are the grammar's
 abbrev pub Ruled : {A : Type 0} → ((ℕ → Bool) → Grammar A) → (Lexeme → Bool) → ((ℕ → Bool) → Reader A) → Type 0

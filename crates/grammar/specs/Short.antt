@@ -86,17 +86,21 @@ fitting_leaves n false ts r h = tt
 version_short : (fits : ℕ → Bool) → Short (version_at fits)
 unfolding version_at
 version_short fits [] = same 0
-version_short fits (Number n ∷ ts) = fitting_leaves (length (Number n ∷ ts)) (fits n) (Number n ∷ ts) (colon_at ts) (less (length ts) (length (Number n ∷ ts)) (colon_at ts) (one_less (Number n) ts) (colon_short ts))
+version_short fits (Number n ∷ ts) = fitting_leaves (length (Number n ∷ ts)) (fits n) (Number n ∷ ts) (colon_at ts)
+    (less (length ts) (length (Number n ∷ ts)) (colon_at ts) (one_less (Number n) ts) (colon_short ts))
 version_short fits (t ∷ ts) = same (length (t ∷ ts))
 
 module _ {A : Type 0} (read : Reader A) (s : Short read) where
   pub parens_short : Short (parens_at read)
   unfolding parens_at
-  parens_short ts = bind_leaves (length ts) (open_at ts) _ (open_short ts) (λ o. bind_leaves (length o.1) (read o.1) _ (s o.1) (λ x. bind_leaves (length x.1) (close_at x.1) _ (close_short x.1) (λ c. same (length c.1))))
+  parens_short ts = bind_leaves (length ts) (open_at ts) _ (open_short ts)
+      (λ o. bind_leaves (length o.1) (read o.1) _ (s o.1)
+      (λ x. bind_leaves (length x.1) (close_at x.1) _ (close_short x.1) (λ c. same (length c.1))))
 
   pub inside_short : Short (inside_at read)
   unfolding inside_at
-  inside_short ts = bind_leaves (length ts) (read ts) _ (s ts) (λ x. bind_leaves (length x.1) (closed_at x.1) _ (closed_short x.1) (λ c. same (length c.1)))
+  inside_short ts = bind_leaves (length ts) (read ts) _ (s ts)
+      (λ x. bind_leaves (length x.1) (closed_at x.1) _ (closed_short x.1) (λ c. same (length c.1)))
 
   opened_short : (n k : ℕ) (ts : List Lexeme) (r : Read A) → RestAtMost k r → RestAtMost k (opened n ts r)
   opened_short zero k ts r h = tt
@@ -105,13 +109,16 @@ module _ {A : Type 0} (read : Reader A) (s : Short read) where
   pub braces_short : (n : ℕ) → Short (braces_at n read)
   unfolding braces_at
   braces_short n [] = tt
-  braces_short n (Mark OpenBrace ∷ ts) = opened_short n (length (Mark OpenBrace ∷ ts)) (Mark OpenBrace ∷ ts) (inside_at read ts) (less (length ts) (length (Mark OpenBrace ∷ ts)) (inside_at read ts) (one_less (Mark OpenBrace) ts) (inside_short ts))
+  braces_short n (Mark OpenBrace ∷ ts) = opened_short n (length (Mark OpenBrace ∷ ts)) (Mark OpenBrace ∷ ts)
+      (inside_at read ts) (less (length ts) (length (Mark OpenBrace ∷ ts)) (inside_at read ts)
+      (one_less (Mark OpenBrace) ts) (inside_short ts))
   braces_short n (t ∷ ts) = tt
 
   pub named_short : Short (named_at read)
   unfolding named_at
   named_short [] = tt
-  named_short (Ident x ∷ ts) = less (length ts) (length (Ident x ∷ ts)) _ (one_less (Ident x) ts) (bind_leaves (length ts) (read ts) _ (s ts) (λ v. same (length v.1)))
+  named_short (Ident x ∷ ts) = less (length ts) (length (Ident x ∷ ts)) _ (one_less (Ident x) ts)
+      (bind_leaves (length ts) (read ts) _ (s ts) (λ v. same (length v.1)))
   named_short (t ∷ ts) = tt
 
   pub optional_short : (begins : Lexeme → Bool) → Short (perhaps begins read)
@@ -127,47 +134,61 @@ module _ {A : Type 0} (read : Reader A) (s : Short read) where
   unfolding after_commas_at
   commas_short zero ts = same (length ts)
   commas_short (suc k) [] = same 0
-  commas_short (suc k) (Mark Comma ∷ ts) = less (length ts) (length (Mark Comma ∷ ts)) _ (one_less (Mark Comma) ts) (bind_leaves (length ts) (read ts) _ (s ts) (λ x. bind_leaves (length x.1) (after_commas_at read k x.1) _ (commas_short k x.1) (λ xs. same (length xs.1))))
+  commas_short (suc k) (Mark Comma ∷ ts) = less (length ts) (length (Mark Comma ∷ ts)) _ (one_less (Mark Comma) ts)
+      (bind_leaves (length ts) (read ts) _ (s ts)
+      (λ x. bind_leaves (length x.1) (after_commas_at read k x.1) _ (commas_short k x.1) (λ xs. same (length xs.1))))
   commas_short (suc k) (t ∷ ts) = same (length (t ∷ ts))
 
   pub listed_short : Short (listed_at read)
   unfolding listed_at
-  listed_short ts = bind_leaves (length ts) (read ts) _ (s ts) (λ x. bind_leaves (length x.1) (after_commas_at read (length x.1) x.1) _ (commas_short (length x.1) x.1) (λ xs. same (length xs.1)))
+  listed_short ts = bind_leaves (length ts) (read ts) _ (s ts)
+      (λ x. bind_leaves (length x.1) (after_commas_at read (length x.1) x.1) _ (commas_short (length x.1) x.1)
+      (λ xs. same (length xs.1)))
 
   pub version_parts_short : (fits : ℕ → Bool) → Short (version_parts_at fits read)
   unfolding version_parts_at
-  version_parts_short fits ts = bind_leaves (length ts) (version_at fits ts) _ (version_short fits ts) (λ v. bind_leaves (length v.1) (listed_at read v.1) _ (listed_short v.1) (λ xs. bind_leaves (length xs.1) (close_version_at xs.1) _ (close_version_short xs.1) (λ c. same (length c.1))))
+  version_parts_short fits ts = bind_leaves (length ts) (version_at fits ts) _ (version_short fits ts)
+      (λ v. bind_leaves (length v.1) (listed_at read v.1) _ (listed_short v.1)
+      (λ xs. bind_leaves (length xs.1) (close_version_at xs.1) _ (close_version_short xs.1) (λ c. same (length c.1))))
 
   pub addition_short : (fits : ℕ → Bool) → Short (addition_at fits read)
   unfolding addition_at
   addition_short fits [] = bind_leaves 0 (read []) _ (s []) (λ x. same (length x.1))
-  addition_short fits (Mark OpenVersion ∷ ts) = less (length ts) (length (Mark OpenVersion ∷ ts)) (version_parts_at fits read ts) (one_less (Mark OpenVersion) ts) (version_parts_short fits ts)
+  addition_short fits (Mark OpenVersion ∷ ts) = less (length ts) (length (Mark OpenVersion ∷ ts))
+      (version_parts_at fits read ts) (one_less (Mark OpenVersion) ts) (version_parts_short fits ts)
   addition_short fits (t ∷ ts) = bind_leaves (length (t ∷ ts)) (read (t ∷ ts)) _ (s (t ∷ ts)) (λ x. same (length x.1))
 
 module _ {A B : Type 0} (ra : Reader A) (rb : Reader B) (s : Short ra) (sb : Short rb) where
   additions_short : Short (additions_at {A = A} rb)
   unfolding additions_at
-  additions_short ts = bind_leaves (length ts) (after_commas_at rb (length ts) ts) _ (commas_short rb sb (length ts) ts) (λ ys. same (length ys.1))
+  additions_short ts = bind_leaves (length ts) (after_commas_at rb (length ts) ts) _ (commas_short rb sb (length ts) ts)
+      (λ ys. same (length ys.1))
 
   after_marker : (o : Option (List Lexeme)) (ts : List Lexeme)
       → next_marker ts ≡ o
       → (more : Reader (Extensible A B))
       → Short more
       → RestAtMost (length ts) (or_marker ra rb more o ts)
-  after_marker None ts e more h = bind_leaves (length ts) (ra ts) _ (s ts) (λ x. bind_leaves (length x.1) (more x.1) _ (h x.1) (λ m. same (length m.1)))
-  after_marker (Some rest) ts e more h = less (length rest) (length ts) (additions_at rb rest) (marker_less ts rest e) (additions_short rest)
+  after_marker None ts e more h = bind_leaves (length ts) (ra ts) _ (s ts)
+      (λ x. bind_leaves (length x.1) (more x.1) _ (h x.1) (λ m. same (length m.1)))
+  after_marker (Some rest) ts e more h = less (length rest) (length ts) (additions_at rb rest) (marker_less ts rest e)
+      (additions_short rest)
 
   pub more_short : (k : ℕ) → Short (more_at ra rb k)
   unfolding more_at
   more_short zero ts = same (length ts)
   more_short (suc k) [] = same 0
-  more_short (suc k) (Mark Comma ∷ ts) = less (length ts) (length (Mark Comma ∷ ts)) _ (one_less (Mark Comma) ts) (after_marker (next_marker ts) ts refl (more_at ra rb k) (more_short k))
+  more_short (suc k) (Mark Comma ∷ ts) = less (length ts) (length (Mark Comma ∷ ts)) _ (one_less (Mark Comma) ts)
+      (after_marker (next_marker ts) ts refl (more_at ra rb k) (more_short k))
   more_short (suc k) (t ∷ ts) = same (length (t ∷ ts))
 
   pub extensible_short : Short (extensible_at ra rb)
   unfolding extensible_at
-  extensible_short ts = bind_leaves (length ts) (ra ts) _ (s ts) (λ x. bind_leaves (length x.1) (more_at ra rb (length x.1) x.1) _ (more_short (length x.1) x.1) (λ m. same (length m.1)))
+  extensible_short ts = bind_leaves (length ts) (ra ts) _ (s ts)
+      (λ x. bind_leaves (length x.1) (more_at ra rb (length x.1) x.1) _ (more_short (length x.1) x.1)
+      (λ m. same (length m.1)))
 
   pub rootless_short : Short (rootless_at ra rb)
   unfolding rootless_at
-  rootless_short ts = after_marker (next_marker ts) ts refl (λ us. more_at ra rb (length us) us) (λ us. more_short (length us) us)
+  rootless_short ts = after_marker (next_marker ts) ts refl (λ us. more_at ra rb (length us) us)
+      (λ us. more_short (length us) us)

@@ -85,7 +85,14 @@ definitions_miss s ts e = refl
 
 pub definitions_is : IsKind (λ (x : Unit {0}). Word Definitions) is_definitions definitions_at
 unfolding definitions_at
-definitions_is = record { yes = λ x. refl; one = definitions_one; nil = refl; hit = λ x ts. refl; miss = definitions_miss }
+definitions_is = record {
+  yes = λ x. refl;
+  one = definitions_one;
+  nil = refl;
+  hit = λ x ts. refl;
+  miss =
+      definitions_miss;
+}
 
 abbrev pub is_tags : Lexeme → Bool
 is_tags (Word Tags) = true

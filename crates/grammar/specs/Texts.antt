@@ -33,16 +33,24 @@ module _ {A : Type 0} (g : Limited A) (a : Limits) (read : Reader A) (reads : Re
       → read (lexemes x (take (length ts - place) (drop place ts))) ≡ Ok (v, lexemes x rest)
       → IsRead (g a) (free g) (lexemes x ts) place v (length ts - length rest)
   found v rest e =
-      let i = found_at g a read reads (lexemes x ts) place inside (v, lexemes x rest) (read_at (Ok (v, lexemes x rest)) e) in
+      let i = found_at g a read reads (lexemes x ts) place inside (v, lexemes x rest)
+      (read_at (Ok (v, lexemes x rest)) e) in
       subst (λ (k : ℕ). IsRead (g a) (free g) (lexemes x ts) place v k) (same_place rest) i
     where
       same_place : (rest : List Token) → length (lexemes x ts) - length (lexemes x rest) ≡ length ts - length rest
-      same_place rest = ap (λ (k : ℕ). k - length (lexemes x rest)) (long ts) ⋆ ap (λ (k : ℕ). length ts - k) (long rest)
+      same_place rest = ap (λ (k : ℕ). k - length (lexemes x rest)) (long ts)
+          ⋆ ap (λ (k : ℕ). length ts - k) (long rest)
 
   pub rest_fits : (v : A) (rest : List Token)
       → read (lexemes x (take (length ts - place) (drop place ts))) ≡ Ok (v, lexemes x rest)
       → length rest ≤ length ts
-  rest_fits v rest e = omega (arith, rest_le g a read reads (lexemes x ts) place inside (v, lexemes x rest) (read_at (Ok (v, lexemes x rest)) e), long ts, long rest)
+  rest_fits v rest e = omega (
+    arith,
+    rest_le g a read reads (lexemes x ts) place inside (v, lexemes x rest)
+        (read_at (Ok (v, lexemes x rest)) e),
+    long ts,
+    long rest,
+  )
 
   pub left_fits : (f : Fault)
       → read (lexemes x (take (length ts - place) (drop place ts))) ≡ Err f
@@ -52,17 +60,20 @@ module _ {A : Type 0} (g : Limited A) (a : Limits) (read : Reader A) (reads : Re
   pub first : (k : ℕ)
       → read (lexemes x (take (length ts - place) (drop place ts))) ≡ Err (Unexpected k)
       → Ends g a (lexemes x ts) place (length ts - k)
-  first k e = subst (λ (n : ℕ). Ends g a (lexemes x ts) place (n - k)) (long ts) (unexpected_at g a read reads (lexemes x ts) place inside k (read_at (Err (Unexpected k)) e))
+  first k e = subst (λ (n : ℕ). Ends g a (lexemes x ts) place (n - k)) (long ts)
+      (unexpected_at g a read reads (lexemes x ts) place inside k (read_at (Err (Unexpected k)) e))
 
   pub passes : (l : Limit) (k : ℕ)
       → read (lexemes x (take (length ts - place) (drop place ts))) ≡ Err (Beyond l k)
       → PassesLimit g a (lexemes x ts) place (length ts - k) l
-  passes l k e = subst (λ (n : ℕ). PassesLimit g a (lexemes x ts) place (n - k) l) (long ts) (limit_at g a read reads (lexemes x ts) place inside l k (read_at (Err (Beyond l k)) e))
+  passes l k e = subst (λ (n : ℕ). PassesLimit g a (lexemes x ts) place (n - k) l) (long ts)
+      (limit_at g a read reads (lexemes x ts) place inside l k (read_at (Err (Beyond l k)) e))
 
   pub found_only : (v : A) (end : ℕ)
       → IsRead (g a) (free g) (lexemes x ts) place v end
       →
-      (us : List Lexeme) × (read (lexemes x (take (length ts - place) (drop place ts))) ≡ Ok (v, us)) × (length ts - length us ≡ end)
+      (us : List Lexeme) × (read (lexemes x (take (length ts - place) (drop place ts))) ≡ Ok (v, us))
+      × (length ts - length us ≡ end)
   found_only v end i =
       let o = only_at g a read reads (lexemes x ts) place inside v end i in
       (o.0, ap read (slice_lexemes x place ts) ⋆ o.1, ap (λ (k : ℕ). k - length o.0) (sym (long ts)) ⋆ o.2)
@@ -79,14 +90,19 @@ module _ {A : Type 0} (g : Limited A) (a : Limits) (read : Reader A) (reads : Re
       → (v ≡ w) × (length ts - length rest ≡ end)
   same_found v w rest end e i =
       let o = found_only w end i in
-      let p = one_result (v, lexemes x rest) (w, o.0) (read (lexemes x (take (length ts - place) (drop place ts)))) e o.1 in
-      (ap (λ (y : A × List Lexeme). y.0) p, ap (λ (k : ℕ). length ts - k) (sym (long rest)) ⋆ ap (λ (y : A × List Lexeme). length ts - length y.1) p ⋆ o.2)
+      let p = one_result (v, lexemes x rest) (w, o.0) (read (lexemes x (take (length ts - place) (drop place ts)))) e
+      o.1 in (
+        ap (λ (y : A × List Lexeme). y.0) p,
+        ap (λ (k : ℕ). length ts - k) (sym (long rest))
+            ⋆ ap (λ (y : A × List Lexeme). length ts - length y.1) p ⋆ o.2,
+      )
 
   pub never_found : (f : Fault) (w : A) (end : ℕ)
       → read (lexemes x (take (length ts - place) (drop place ts))) ≡ Err f
       → IsRead (g a) (free g) (lexemes x ts) place w end
       → ⊥
-  never_found f w end e i = let o = found_only w end i in no_result (w, o.0) f (read (lexemes x (take (length ts - place) (drop place ts)))) o.1 e
+  never_found f w end e i = let o = found_only w end i in no_result (w, o.0) f
+      (read (lexemes x (take (length ts - place) (drop place ts)))) o.1 e
 
   -- what is read comes before a lexeme that can't continue it
   pub stopped : (v : A) (rest : List Token)
@@ -94,9 +110,11 @@ module _ {A : Type 0} (g : Limited A) (a : Limits) (read : Reader A) (reads : Re
       → 1 ≤ length rest
       → Ends g a (lexemes x ts) place (length ts - length rest)
   stopped v rest e some =
-      let same : length (lexemes x ts) - length (lexemes x rest) ≡ length ts - length rest = ap (λ (k : ℕ). k - length (lexemes x rest)) (long ts) ⋆ ap (λ (k : ℕ). length ts - k) (long rest) in
+      let same : length (lexemes x ts) - length (lexemes x rest) ≡ length ts - length rest =
+      ap (λ (k : ℕ). k - length (lexemes x rest)) (long ts) ⋆ ap (λ (k : ℕ). length ts - k) (long rest) in
       subst (λ (k : ℕ). Ends g a (lexemes x ts) place k) same
-      (ended_at g a read reads (lexemes x ts) place inside (v, lexemes x rest) (read_at (Ok (v, lexemes x rest)) e) (omega (arith, long rest, some)))
+      (ended_at g a read reads (lexemes x ts) place inside (v, lexemes x rest) (read_at (Ok (v, lexemes x rest)) e)
+      (omega (arith, long rest, some)))
 
 module _ {A : Type 0} (read : Reader A) (x : List ℕ) (ts : List Token) where
   -- the slice from the first token on has all tokens

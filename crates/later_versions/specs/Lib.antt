@@ -1,4 +1,5 @@
--- The definitions that a user must believe. They say what an older version keeps of a value (`Projected`), when a type is a
+-- The definitions that a user must believe. They say what an older version keeps of a value (`Projected`), when a type
+-- is a
 -- later version of another one (`Later`), and where and why it is none (`Differences`), and the text that says so
 -- (`DifferenceText`). The definitions in `proving` serve contracts inside the crate, and proofs.
 pub mod Projected

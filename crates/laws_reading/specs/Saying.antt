@@ -28,8 +28,8 @@ pub record StartsWithEncoding (s : List Resolved) (t : TypeNumber) (o : Octets) 
   pub counted : skipped_in z.emitted ≡ count
   pub slices : AreSlicesOf o z.emitted
 
--- At the start of a message, where `budget` values may begin, the type's routine reads the octets o that come first, and
--- no others.
+-- At the start of a message, where `budget` values may begin, the type's routine reads the octets o that come first,
+-- and no others.
 pub record IsReadTo (s : List Resolved) (t : TypeId) (o rest : Octets) (budget : ℕ) : Type 0 where
   pub last : State
   pub reads : Reads (λ u. routine_at s u) Takes t (front s (o ++ rest) budget) last

@@ -24,8 +24,8 @@ pub record IsMeant (p : Program) (first : List ℕ) (second : Given) (t : ℕ) (
   pub named : AreGiven p first second t within notation
   pub stands : DenotesValue p within t notation v
 
--- The first name is that of a type, and the notation of the value that is given stands for no value of the type. `diagnostic`
--- is a fault of that notation.
+-- The first name is that of a type, and the notation of the value that is given stands for no value of the type.
+-- `diagnostic` is a fault of that notation.
 pub record DenotesNoValue (p : Program) (first : List ℕ) (second : Given) (diagnostic : ValueDiagnostic) : Type 0 where
   pub type : ℕ
   pub within : Name

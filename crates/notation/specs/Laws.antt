@@ -56,9 +56,12 @@ pub fault_at_first : {A : Type 0} (g : Limited A) (ts : List Lexeme) (start : �
     → IsRightFault g ts start a f
 fault_at_first g ts start a i f e h = go f (is_refused_at (slice_get ts i)) refl e
   where
-    go : (f : SyntaxFault) (b : Bool) → is_refused_at (slice_get ts i) ≡ b → f ≡ unexpected ts i → IsRightFault g ts start a f
-    go f true q e = subst (IsRightFault g ts start a) (sym (e ⋆ ap (λ (b : Bool). if b then faults.OutOfProfile i else faults.Unexpected i) q)) (h, q)
-    go f false q e = subst (IsRightFault g ts start a) (sym (e ⋆ ap (λ (b : Bool). if b then faults.OutOfProfile i else faults.Unexpected i) q)) (h, q)
+    go : (f : SyntaxFault) (b : Bool) → is_refused_at (slice_get ts i) ≡ b → f ≡ unexpected ts i
+        → IsRightFault g ts start a f
+    go f true q e = subst (IsRightFault g ts start a)
+        (sym (e ⋆ ap (λ (b : Bool). if b then faults.OutOfProfile i else faults.Unexpected i) q)) (h, q)
+    go f false q e = subst (IsRightFault g ts start a)
+        (sym (e ⋆ ap (λ (b : Bool). if b then faults.OutOfProfile i else faults.Unexpected i) q)) (h, q)
 
 -- at most one fault is right, apart from Memory
 module _ {A : Type 0} (g : Limited A) (a : Limits) (read : Reader A) (reads : Reads g a read) (ts : List Lexeme)
@@ -84,16 +87,25 @@ module _ {A : Type 0} (g : Limited A) (a : Limits) (read : Reader A) (reads : Re
       → f ≡ f'
   faults_agree faults.Memory f' n n' s s' = absurd (n refl)
   faults_agree f faults.Memory n n' s s' = absurd (n' refl)
-  faults_agree (faults.Unexpected i) (faults.Unexpected j) n n' s s' = ap (λ (i : ℕ). faults.Unexpected i) (one_stop g a ts start i j s.0.stops s'.0.stops)
-  faults_agree (faults.OutOfProfile i) (faults.OutOfProfile j) n n' s s' = ap (λ (i : ℕ). faults.OutOfProfile i) (one_stop g a ts start i j s.0.stops s'.0.stops)
-  faults_agree (faults.Unexpected i) (faults.OutOfProfile j) n n' s s' = let e = refused_at i j false true (one_stop g a ts start i j s.0.stops s'.0.stops) s.1 s'.1 in absurd cc
-  faults_agree (faults.OutOfProfile i) (faults.Unexpected j) n n' s s' = let e = refused_at i j true false (one_stop g a ts start i j s.0.stops s'.0.stops) s.1 s'.1 in absurd cc
-  faults_agree (faults.Unexpected i) (faults.Limit l j) n n' s s' = absurd (not_both g a ts start i j (limit_of l) s.0 s')
-  faults_agree (faults.OutOfProfile i) (faults.Limit l j) n n' s s' = absurd (not_both g a ts start i j (limit_of l) s.0 s')
-  faults_agree (faults.Limit l i) (faults.Unexpected j) n n' s s' = absurd (not_both g a ts start j i (limit_of l) s'.0 s)
-  faults_agree (faults.Limit l i) (faults.OutOfProfile j) n n' s s' = absurd (not_both g a ts start j i (limit_of l) s'.0 s)
+  faults_agree (faults.Unexpected i) (faults.Unexpected j) n n' s s' = ap (λ (i : ℕ). faults.Unexpected i)
+      (one_stop g a ts start i j s.0.stops s'.0.stops)
+  faults_agree (faults.OutOfProfile i) (faults.OutOfProfile j) n n' s s' = ap (λ (i : ℕ). faults.OutOfProfile i)
+      (one_stop g a ts start i j s.0.stops s'.0.stops)
+  faults_agree (faults.Unexpected i) (faults.OutOfProfile j) n n' s s' = let e = refused_at i j false true
+      (one_stop g a ts start i j s.0.stops s'.0.stops) s.1 s'.1 in absurd cc
+  faults_agree (faults.OutOfProfile i) (faults.Unexpected j) n n' s s' = let e = refused_at i j true false
+      (one_stop g a ts start i j s.0.stops s'.0.stops) s.1 s'.1 in absurd cc
+  faults_agree (faults.Unexpected i) (faults.Limit l j) n n' s s' =
+      absurd (not_both g a ts start i j (limit_of l) s.0 s')
+  faults_agree (faults.OutOfProfile i) (faults.Limit l j) n n' s s' =
+      absurd (not_both g a ts start i j (limit_of l) s.0 s')
+  faults_agree (faults.Limit l i) (faults.Unexpected j) n n' s s' =
+      absurd (not_both g a ts start j i (limit_of l) s'.0 s)
+  faults_agree (faults.Limit l i) (faults.OutOfProfile j) n n' s s' =
+      absurd (not_both g a ts start j i (limit_of l) s'.0 s)
   faults_agree (faults.Limit l i) (faults.Limit m j) n n' s s' =
-      same_limit l m i j (limit_is l m (one_limit g a read reads ts start place (limit_of l) (limit_of m) i j s s')) (one_stop g a ts start i j s.stops s'.stops)
+      same_limit l m i j (limit_is l m (one_limit g a read reads ts start place (limit_of l) (limit_of m) i j s s'))
+      (one_stop g a ts start i j s.stops s'.stops)
     where
       same_limit : (l m : Limit') (i j : ℕ) → l ≡ m → i ≡ j → faults.Limit l i ≡ faults.Limit m j
       same_limit l m i j e d = ap (λ (l : Limit'). faults.Limit l i) e ⋆ ap (λ (i : ℕ). faults.Limit m i) d

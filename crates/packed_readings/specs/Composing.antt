@@ -63,21 +63,28 @@ inside_of F = record { is = F.inside }
 
 pub grows_of : {X : Type 0} {P : X → Bits → Type 0} {f : Bits → Outcome X} → IsReading P f → Grows f f
 grows_of {X} {P} {f} F = record {
-  finds = λ b r m v e. (let s = F.sound b r v e in ap (λ q. f (q ++ m)) s.2 ∙ ap f (append_assoc s.0 r m) ∙ F.whole v s.0 (r ++ m) s.1);
+  finds = λ b r m v e. (let s = F.sound b r v e in ap (λ q. f (q ++ m)) s.2 ∙ ap f (append_assoc s.0 r m)
+      ∙ F.whole v s.0 (r ++ m) s.1);
   stays = F.firm;
 }
 
 -- ---- one after the other
 
-module _ {X Y : Type 0} {P : X → Bits → Type 0} {Q : X → Y → Bits → Type 0} {f : Bits → Outcome X} {g : X → Bits → Outcome Y} where
+module _ {X Y : Type 0} {P : X → Bits → Type 0} {Q : X → Y → Bits → Type 0} {f : Bits → Outcome X}
+    {g : X → Bits → Outcome Y} where
   pub next_sound : Sound P f → ((v : X) → Sound (Q v) (g v)) → Sound (Then P Q) (λ b. onward (f b) g)
   next_sound F G = record { is = λ b r w e. by b r w (f b) refl e }
     where
-      by : (b r : Bits) (w : Y) (o : Outcome X) → f b ≡ o → onward o g ≡ found w r → (x : Bits) × Then P Q w x × (b ≡ x ++ r)
+      by : (b r : Bits) (w : Y) (o : Outcome X) → f b ≡ o → onward o g ≡ found w r → (x : Bits) × Then P Q w x
+          × (b ≡ x ++ r)
       by b r w (found v s) d h =
           let p = F.is b s v d in
-          let q = (G v).is s r w h in
-          (p.0 ++ q.0, record { first = v; front = p.0; back = q.0; is_first = p.1; is_next = q.1; whole = refl }, p.2 ∙ ap (λ z. p.0 ++ z) q.2 ∙ sym (append_assoc p.0 q.0 r))
+          let q = (G v).is s r w h in (
+            p.0 ++ q.0,
+            record { first = v; front = p.0; back = q.0; is_first = p.1; is_next = q.1; whole = refl },
+            p.2
+                ∙ ap (λ z. p.0 ++ z) q.2 ∙ sym (append_assoc p.0 q.0 r),
+          )
       by b r w (stops e s) d h = absurd (not_both h)
 
 module _ {X Y : Type 0} {P : X → Bits → Type 0} {f : Bits → Outcome X} {g : X → Bits → Outcome Y} where
@@ -95,13 +102,19 @@ module _ {X Y : Type 0} {P : X → Bits → Type 0} {f : Bits → Outcome X} {g 
 
 module _ {X Y : Type 0} {f f' : Bits → Outcome X} {g g' : X → Bits → Outcome Y} where
   pub next_grows : Grows f f' → ((v : X) → Grows (g v) (g' v)) → Grows (λ b. onward (f b) g) (λ b. onward (f' b) g')
-  next_grows F G = record { finds = λ b r m w h. by_found b r m w (f b) refl h; stays = λ b r m e h n. by_stop b r m e (f b) refl h n }
+  next_grows F G = record {
+    finds = λ b r m w h. by_found b r m w (f b) refl h;
+    stays = λ b r m e h n. by_stop b r m e
+        (f b) refl h n;
+  }
     where
-      by_found : (b r m : Bits) (w : Y) (o : Outcome X) → f b ≡ o → onward o g ≡ found w r → onward (f' (b ++ m)) g' ≡ found w (r ++ m)
+      by_found : (b r m : Bits) (w : Y) (o : Outcome X) → f b ≡ o → onward o g ≡ found w r
+          → onward (f' (b ++ m)) g' ≡ found w (r ++ m)
       by_found b r m w (found v s) d h = ap (λ o. onward o g') (F.finds b s m v d) ∙ (G v).finds s r m w h
       by_found b r m w (stops e s) d h = absurd (not_both h)
 
-      by_stop : (b r m : Bits) (e : Refusal) (o : Outcome X) → f b ≡ o → onward o g ≡ stops e r → (e ≡ Truncated → ⊥) → onward (f' (b ++ m)) g' ≡ stops e (r ++ m)
+      by_stop : (b r m : Bits) (e : Refusal) (o : Outcome X) → f b ≡ o → onward o g ≡ stops e r → (e ≡ Truncated → ⊥)
+          → onward (f' (b ++ m)) g' ≡ stops e (r ++ m)
       by_stop b r m e (found v s) d h n = ap (λ o. onward o g') (F.finds b s m v d) ∙ (G v).stays s r m e h n
       by_stop b r m e (stops e' s) d h n =
           let same : e' ≡ e = stops_why refl h in
@@ -109,7 +122,8 @@ module _ {X Y : Type 0} {f f' : Bits → Outcome X} {g g' : X → Bits → Outco
           ap (λ o. onward o g') (F.stays b s m e' d (λ t. n (sym same ∙ t)))
           ∙ ap (λ q. stops q (s ++ m)) same ∙ ap (λ q. stops e (q ++ m)) rest
 
-module _ {X Y : Type 0} {P : X → Bits → Type 0} {Q : X → Y → Bits → Type 0} {f : Bits → Outcome X} {g : X → Bits → Outcome Y} where
+module _ {X Y : Type 0} {P : X → Bits → Type 0} {Q : X → Y → Bits → Type 0} {f : Bits → Outcome X}
+    {g : X → Bits → Outcome Y} where
   pub next : IsReading P f → ((v : X) → IsReading (Q v) (g v)) → IsReading (Then P Q) (λ b. onward (f b) g)
   next F G =
       let grown = next_grows (grows_of F) (λ v. grows_of (G v)) in
@@ -130,13 +144,19 @@ module _ {X Y : Type 0} {P : X → Bits → Type 0} (j : X → Judged Y) {f : Bi
   pub judged_sound : Sound P f → Sound (IsJudged P j) (judging j f)
   judged_sound F = record { is = λ b r w e. by b r w (f b) refl e }
     where
-      at : (b r s : Bits) (w : Y) (v : X) (k : Judged Y) → j v ≡ k → verdict k b s ≡ found w r → f b ≡ found v s → (x : Bits) × IsJudged P j w x × (b ≡ x ++ r)
+      at : (b r s : Bits) (w : Y) (v : X) (k : Judged Y) → j v ≡ k → verdict k b s ≡ found w r → f b ≡ found v s
+          → (x : Bits) × IsJudged P j w x × (b ≡ x ++ r)
       at b r s w v (good u) c h d =
-          let p = F.is b s v d in
-          (p.0, record { read = v; is_read = p.1; judged = c ∙ ap good (found_value h) }, p.2 ∙ ap (λ z. p.0 ++ z) (found_rest h))
+          let p = F.is b s v d in (
+            p.0,
+            record { read = v; is_read = p.1; judged = c ∙ ap good (found_value h) },
+            p.2 ∙ ap (λ z. p.0 ++ z)
+                (found_rest h),
+          )
       at b r s w v (bad e) c h d = absurd (not_both h)
 
-      by : (b r : Bits) (w : Y) (o : Outcome X) → f b ≡ o → onward o (λ v r. verdict (j v) b r) ≡ found w r → (x : Bits) × IsJudged P j w x × (b ≡ x ++ r)
+      by : (b r : Bits) (w : Y) (o : Outcome X) → f b ≡ o → onward o (λ v r. verdict (j v) b r) ≡ found w r → (x : Bits)
+          × IsJudged P j w x × (b ≡ x ++ r)
       by b r w (found v s) d h = at b r s w v (j v) refl h d
       by b r w (stops e s) d h = absurd (not_both h)
 
@@ -148,31 +168,42 @@ module _ {X Y : Type 0} (j : X → Judged Y) {f : Bits → Outcome X} where
       at b r s e (good u) h = absurd (not_either h)
       at b r s e (bad e') h = ([], stops_where refl h)
 
-      by : (b r : Bits) (e : Refusal) (o : Outcome X) → f b ≡ o → onward o (λ v r. verdict (j v) b r) ≡ stops e r → (x : Bits) × (b ≡ x ++ r)
+      by : (b r : Bits) (e : Refusal) (o : Outcome X) → f b ≡ o → onward o (λ v r. verdict (j v) b r) ≡ stops e r
+          → (x : Bits) × (b ≡ x ++ r)
       by b r e (found v s) d h = at b r s e (j v) h
       by b r e (stops e' s) d h =
           let p = I.is b s e' d in
           (p.0, p.1 ∙ ap (λ z. p.0 ++ z) (stops_where refl h))
 
   pub judged_grows : Grows f f → Grows (judging j f) (judging j f)
-  judged_grows F = record { finds = λ b r m w h. by_found b r m w (f b) refl h; stays = λ b r m e h n. by_stop b r m e (f b) refl h n }
+  judged_grows F = record {
+    finds = λ b r m w h. by_found b r m w (f b) refl h;
+    stays = λ b r m e h n. by_stop b r m e
+        (f b) refl h n;
+  }
     where
       again : (b s m : Bits) (v : X) → f b ≡ found v s → judging j f (b ++ m) ≡ verdict (j v) (b ++ m) (s ++ m)
       again b s m v d = ap (λ o. onward o (λ v r. verdict (j v) (b ++ m) r)) (F.finds b s m v d)
 
-      at_found : (b r s m : Bits) (w : Y) (k : Judged Y) → verdict k b s ≡ found w r → verdict k (b ++ m) (s ++ m) ≡ found w (r ++ m)
-      at_found b r s m w (good u) h = ap (λ q. found q (s ++ m)) (found_value h) ∙ ap (λ q. found w (q ++ m)) (found_rest h)
+      at_found : (b r s m : Bits) (w : Y) (k : Judged Y) → verdict k b s ≡ found w r
+          → verdict k (b ++ m) (s ++ m) ≡ found w (r ++ m)
+      at_found b r s m w (good u) h = ap (λ q. found q (s ++ m)) (found_value h) ∙ ap (λ q. found w (q ++ m))
+          (found_rest h)
       at_found b r s m w (bad e) h = absurd (not_both h)
 
-      at_stop : (b r s m : Bits) (e : Refusal) (k : Judged Y) → verdict k b s ≡ stops e r → verdict k (b ++ m) (s ++ m) ≡ stops e (r ++ m)
+      at_stop : (b r s m : Bits) (e : Refusal) (k : Judged Y) → verdict k b s ≡ stops e r
+          → verdict k (b ++ m) (s ++ m) ≡ stops e (r ++ m)
       at_stop b r s m e (good u) h = absurd (not_either h)
-      at_stop b r s m e (bad e') h = ap (λ q. stops q (b ++ m)) (stops_why refl h) ∙ ap (λ q. stops e (q ++ m)) (stops_where refl h)
+      at_stop b r s m e (bad e') h = ap (λ q. stops q (b ++ m)) (stops_why refl h) ∙ ap (λ q. stops e (q ++ m))
+          (stops_where refl h)
 
-      by_found : (b r m : Bits) (w : Y) (o : Outcome X) → f b ≡ o → onward o (λ v r. verdict (j v) b r) ≡ found w r → judging j f (b ++ m) ≡ found w (r ++ m)
+      by_found : (b r m : Bits) (w : Y) (o : Outcome X) → f b ≡ o → onward o (λ v r. verdict (j v) b r) ≡ found w r
+          → judging j f (b ++ m) ≡ found w (r ++ m)
       by_found b r m w (found v s) d h = again b s m v d ∙ at_found b r s m w (j v) h
       by_found b r m w (stops e s) d h = absurd (not_both h)
 
-      by_stop : (b r m : Bits) (e : Refusal) (o : Outcome X) → f b ≡ o → onward o (λ v r. verdict (j v) b r) ≡ stops e r → (e ≡ Truncated → ⊥) → judging j f (b ++ m) ≡ stops e (r ++ m)
+      by_stop : (b r m : Bits) (e : Refusal) (o : Outcome X) → f b ≡ o → onward o (λ v r. verdict (j v) b r) ≡ stops e r
+          → (e ≡ Truncated → ⊥) → judging j f (b ++ m) ≡ stops e (r ++ m)
       by_stop b r m e (found v s) d h n = again b s m v d ∙ at_stop b r s m e (j v) h
       by_stop b r m e (stops e' s) d h n =
           let same : e' ≡ e = stops_why refl h in
@@ -193,10 +224,12 @@ module _ {X Y : Type 0} {P : X → Bits → Type 0} (j : X → Judged Y) {f : Bi
 
 -- ---- the same in other words
 
-pub same_sound : {X : Type 0} {P Q : X → Bits → Type 0} {f : Bits → Outcome X} → ((v : X) (x : Bits) → P v x → Q v x) → Sound P f → Sound Q f
+pub same_sound : {X : Type 0} {P Q : X → Bits → Type 0} {f : Bits → Outcome X} → ((v : X) (x : Bits) → P v x → Q v x)
+    → Sound P f → Sound Q f
 same_sound to F = record { is = λ b r v e. (let s = F.is b r v e in (s.0, to v s.0 s.1, s.2)) }
 
-pub same : {X : Type 0} {P Q : X → Bits → Type 0} {f : Bits → Outcome X} → ((v : X) (x : Bits) → P v x → Q v x) → ((v : X) (x : Bits) → Q v x → P v x) → IsReading P f → IsReading Q f
+pub same : {X : Type 0} {P Q : X → Bits → Type 0} {f : Bits → Outcome X} → ((v : X) (x : Bits) → P v x → Q v x)
+    → ((v : X) (x : Bits) → Q v x → P v x) → IsReading P f → IsReading Q f
 same to from F = record {
   sound = (same_sound to (sound_of F)).is;
   whole = λ v x r q. F.whole v x r (from v x q);

@@ -23,7 +23,8 @@ one_less t ts = omega arith
 pub number_short : (fits : ℕ → Bool) → Short (number_at fits)
 unfolding number_at
 number_short fits [] = tt
-number_short fits (Number n ∷ ts) = fitting_leaves (length (Number n ∷ ts)) (fits n) (Number n ∷ ts) (Ok (n, ts)) (one_less (Number n) ts)
+number_short fits (Number n ∷ ts) = fitting_leaves (length (Number n ∷ ts)) (fits n) (Number n ∷ ts) (Ok (n, ts))
+    (one_less (Number n) ts)
 number_short fits (t ∷ ts) = tt
 
 negative_short : (fits : ℕ → Bool) → Short (negative_at fits)
@@ -35,8 +36,10 @@ negative_short fits (t ∷ ts) = tt
 pub signed_short : (fits : ℕ → Bool) → Short (signed_at fits)
 unfolding signed_at
 signed_short fits [] = tt
-signed_short fits (Number n ∷ ts) = fitting_leaves (length (Number n ∷ ts)) (fits n) (Number n ∷ ts) (Ok (positive n, ts)) (one_less (Number n) ts)
-signed_short fits (Mark Minus ∷ ts) = less (length ts) (length (Mark Minus ∷ ts)) (negative_at fits ts) (one_less (Mark Minus) ts) (negative_short fits ts)
+signed_short fits (Number n ∷ ts) = fitting_leaves (length (Number n ∷ ts)) (fits n) (Number n ∷ ts)
+    (Ok (positive n, ts)) (one_less (Number n) ts)
+signed_short fits (Mark Minus ∷ ts) = less (length ts) (length (Mark Minus ∷ ts)) (negative_at fits ts)
+    (one_less (Mark Minus) ts) (negative_short fits ts)
 signed_short fits (t ∷ ts) = tt
 
 pub named_number_short : (fits : ℕ → Bool) → Short (named_number_at fits)
@@ -47,4 +50,5 @@ named_bit_short fits = named_short (parens_at (number_at fits)) (parens_short (n
 
 pub item_short : (fits : ℕ → Bool) → Short (item_at fits)
 item_short fits =
-    named_short _ (optional_short (parens_at (signed_at fits)) (parens_short (signed_at fits) (signed_short fits)) is_open)
+    named_short _ (optional_short (parens_at (signed_at fits)) (parens_short (signed_at fits) (signed_short fits))
+    is_open)

@@ -34,7 +34,9 @@ abbrev pub is_keyword : Lexeme → Bool
 is_keyword = either is_implicit_word is_explicit_word
 
 abbrev keyword_read : Reader Keyword
-keyword_read ts = perhaps is_keyword (pick is_implicit_word (λ ts. one_at is_implicit_word ts >>= λ x. Ok (keywords.Implicit, x.1)) (λ ts. one_at is_explicit_word ts >>= λ x. Ok (keywords.Explicit, x.1))) ts >>= λ x. Ok (keyword_of x.0, x.1)
+keyword_read ts = perhaps is_keyword
+    (pick is_implicit_word (λ ts. one_at is_implicit_word ts >>= λ x. Ok (keywords.Implicit, x.1))
+    (λ ts. one_at is_explicit_word ts >>= λ x. Ok (keywords.Explicit, x.1))) ts >>= λ x. Ok (keyword_of x.0, x.1)
 
 keyword_same : (ts : List Lexeme) → keyword_read ts ≡ keyword_at ts
 unfolding keyword_at
@@ -65,16 +67,21 @@ ref_same x ts = dot_same x ts
 module _ {s f : Type 0} {over : Limit → ℕ} {within : Limit → Type 0} where
   pub loose_keyword :
       OwesLoosely s f over within keyword is_keyword (either is_keyword (either no_lexeme no_lexeme)) keyword_at
-  loose_keyword = loose_read keyword_at keyword_same (loose_made keyword_of (loose_optional (rule_pick (rule_made (λ _. keywords.Implicit) rule_implicit_word) (rule_made (λ _. keywords.Explicit) rule_explicit_word) explicit_no_implicit)))
+  loose_keyword = loose_read keyword_at keyword_same
+      (loose_made keyword_of (loose_optional
+      (rule_pick (rule_made (λ _. keywords.Implicit) rule_implicit_word)
+      (rule_made (λ _. keywords.Explicit) rule_explicit_word) explicit_no_implicit)))
 
   pub rule_ref : Owes s f over within ref is_typeref (either no_lexeme (either is_dot no_lexeme)) ref_read
-  rule_ref = rule_tail referred (rule_token typeref_is) (loose_optional (rule_preceded rule_dot (rule_token typeref_is))) (λ t e. refl)
+  rule_ref = rule_tail referred (rule_token typeref_is)
+      (loose_optional (rule_preceded rule_dot (rule_token typeref_is))) (λ t e. refl)
 
 -- ---- parts that hold numbers
 
 module _ (fits : ℕ → Bool) where
   abbrev integer_read : ℕ → Reader Plain
-  integer_read n = then_read (λ (p : Unit {0} × Option (List (Name × ℤ))). integer_with p.1) (one_at is_integer_word) (perhaps is_lbrace (braces_at n (listed_at (named_number_at fits))))
+  integer_read n = then_read (λ (p : Unit {0} × Option (List (Name × ℤ))). integer_with p.1) (one_at is_integer_word)
+      (perhaps is_lbrace (braces_at n (listed_at (named_number_at fits))))
 
   integer_same : (n : ℕ) (ts : List Lexeme) → integer_read n (Word words.Integer ∷ ts) ≡ integer_at fits n ts
   unfolding integer_at
@@ -84,17 +91,21 @@ module _ (fits : ℕ → Bool) where
   string_bits n = then_read (λ p. p) string_at (perhaps is_lbrace (braces_at n (listed_at (named_bit_at fits))))
 
   abbrev bits_read : ℕ → Reader Plain
-  bits_read n = then_read (λ (p : Unit {0} × (Unit {0} × Option (List (Name × ℕ)))). bits_with p.1.1) (one_at is_bit_word) (string_bits n)
+  bits_read n = then_read (λ (p : Unit {0} × (Unit {0} × Option (List (Name × ℕ)))). bits_with p.1.1)
+      (one_at is_bit_word) (string_bits n)
 
   after_string : (r : Read (Option (List (Name × ℕ))))
       →
-      made (λ (p : Unit {0} × Option (List (Name × ℕ))). bits_with p.1) (made (λ (o : Option (List (Name × ℕ))). (tt, o)) r) ≡ made bits_with r
+      made (λ (p : Unit {0} × Option (List (Name × ℕ))). bits_with p.1)
+      (made (λ (o : Option (List (Name × ℕ))). (tt, o)) r) ≡ made bits_with r
   after_string (Ok o) = refl
   after_string (Err e) = refl
 
   string_then : (n : ℕ) (r : Read (Unit {0}))
       →
-      made (λ (p : Unit {0} × Option (List (Name × ℕ))). bits_with p.1) (after_read (λ p. p) r (perhaps is_lbrace (braces_at n (listed_at (named_bit_at fits))))) ≡ (r >>= λ s. bits_at fits n s.1)
+      made (λ (p : Unit {0} × Option (List (Name × ℕ))). bits_with p.1)
+      (after_read (λ p. p) r (perhaps is_lbrace (braces_at n (listed_at (named_bit_at fits)))))
+      ≡ (r >>= λ s. bits_at fits n s.1)
   unfolding bits_at
   string_then n (Ok s) = after_string (perhaps is_lbrace (braces_at n (listed_at (named_bit_at fits))) s.1)
   string_then n (Err e) = refl
@@ -104,7 +115,8 @@ module _ (fits : ℕ → Bool) where
   bits_same n ts = string_then n (string_at ts)
 
   abbrev items_read : ℕ → Reader Plain
-  items_read n = then_read (λ (p : Unit {0} × (List (Name × Option ℤ) × Option (List (Name × Option ℤ)))). enumerated_of p.1) (one_at is_enumerated_word) (braces_at n (extensible_at (item_at fits) (item_at fits)))
+  items_read n = then_read (λ (p : Unit {0} × (List (Name × Option ℤ) × Option (List (Name × Option ℤ)))). enumerated_of
+      p.1) (one_at is_enumerated_word) (braces_at n (extensible_at (item_at fits) (item_at fits)))
 
   items_same : (n : ℕ) (ts : List Lexeme) → items_read n (Word words.Enumerated ∷ ts) ≡ enumerated_at fits n ts
   unfolding enumerated_at
@@ -113,7 +125,8 @@ module _ (fits : ℕ → Bool) where
   abbrev simple_read : ℕ → Reader Plain
   simple_read n =
       pick is_type_word one_word_at
-      (pick is_object_word (then_read (λ (p : Unit {0} × Unit {0}). an_object_identifier) (one_at is_object_word) identifier_at)
+      (pick is_object_word (then_read (λ (p : Unit {0} × Unit {0}). an_object_identifier) (one_at is_object_word)
+      identifier_at)
       (pick is_octet_word (then_read (λ (p : Unit {0} × Unit {0}). an_octet_string) (one_at is_octet_word) string_at)
       (pick is_integer_word (integer_read n) (pick is_bit_word (bits_read n) (items_read n)))))
 
@@ -128,7 +141,8 @@ module _ (fits : ℕ → Bool) where
   simple_same n (t ∷ ts) = refl
 
 abbrev pub simple_starts : Lexeme → Bool
-simple_starts = either is_type_word (either is_object_word (either is_octet_word (either is_integer_word (either is_bit_word is_enumerated_word))))
+simple_starts = either is_type_word
+    (either is_object_word (either is_octet_word (either is_integer_word (either is_bit_word is_enumerated_word))))
 
 abbrev braced : Lexeme → Bool
 braced = either no_lexeme (either is_lbrace no_lexeme)
@@ -162,7 +176,8 @@ rest_no_object t e = refl
 
 rest_no_word : (t : Lexeme)
     →
-    either is_object_word (either is_octet_word (either is_integer_word (either is_bit_word is_enumerated_word))) t ≡ true
+    either is_object_word (either is_octet_word (either is_integer_word (either is_bit_word is_enumerated_word))) t
+    ≡ true
     → is_type_word t ≡ false
 rest_no_word (Word words.Object) e = refl
 rest_no_word (Word words.Octet) e = refl
@@ -180,7 +195,8 @@ module _ (over : Limit → ℕ) (within : Limit → Type 0) (fits fits' : ℕ �
   rule_num = rule_number over within fits fits' grows past room
 
   abbrev signed_read : Reader ℤ
-  signed_read = pick is_number (λ ts. number_at fits ts >>= λ n. Ok (positive n.0, n.1)) (λ ts. then_read (λ (p : Unit {0} × ℕ). p.1) (one_at is_minus) digits_at ts >>= λ n. Ok (negative n.0, n.1))
+  signed_read = pick is_number (λ ts. number_at fits ts >>= λ n. Ok (positive n.0, n.1))
+      (λ ts. then_read (λ (p : Unit {0} × ℕ). p.1) (one_at is_minus) digits_at ts >>= λ n. Ok (negative n.0, n.1))
 
   minus_same : (ts : List Lexeme) → signed_read (Mark Minus ∷ ts) ≡ signed_at fits (Mark Minus ∷ ts)
   unfolding signed_at negative_at digits_at
@@ -201,7 +217,9 @@ module _ (over : Limit → ℕ) (within : Limit → Type 0) (fits fits' : ℕ �
 
   rule_signed :
       Rules over within (signed fits') (either is_number is_minus) (either no_lexeme no_lexeme) (signed_at fits)
-  rule_signed = rule_read (signed_at fits) signed_same (rule_pick (rule_made positive rule_num) (rule_made negative (rule_preceded rule_minus rule_digits)) minus_no_number)
+  rule_signed = rule_read (signed_at fits) signed_same
+      (rule_pick (rule_made positive rule_num) (rule_made negative (rule_preceded rule_minus rule_digits))
+      minus_no_number)
 
   rule_given : Rules over within (parens (signed fits')) is_open no_lexeme (parens_at (signed_at fits))
   rule_given = rule_parens rule_signed refl
@@ -216,45 +234,62 @@ module _ (over : Limit → ℕ) (within : Limit → Type 0) (fits fits' : ℕ �
   rule_item = rule_named (loose_optional rule_given)
 
   rule_numbers :
-      Rules over within (inside (listed (named_number fits'))) is_ident no_lexeme (inside_at (listed_at (named_number_at fits)))
+      Rules over within (inside (listed (named_number fits'))) is_ident no_lexeme
+      (inside_at (listed_at (named_number_at fits)))
   rule_numbers = rule_inside (rule_listed rule_number_named refl) refl
 
   rule_bits :
-      Rules over within (inside (listed (named_bit fits'))) is_ident no_lexeme (inside_at (listed_at (named_bit_at fits)))
+      Rules over within (inside (listed (named_bit fits'))) is_ident no_lexeme
+      (inside_at (listed_at (named_bit_at fits)))
   rule_bits = rule_inside (rule_listed rule_bit_named refl) refl
 
   rule_items :
-      Rules over within (inside (extensible (item fits') (item fits'))) is_ident no_lexeme (inside_at (extensible_at (item_at fits) (item_at fits)))
+      Rules over within (inside (extensible (item fits') (item fits'))) is_ident no_lexeme
+      (inside_at (extensible_at (item_at fits) (item_at fits)))
   rule_items = rule_inside (rule_extensible rule_item rule_item refl refl refl) refl
 
   -- ---- their types
 
   module _ (s f : Type 0) (n m : ℕ) (fit : s → m ≡ over Nesting + n) (deep : f → within Nesting → m ≤ n) where
     rule_integer :
-        Owes s f over within (integer fits' m) is_integer_word (either no_lexeme (either is_lbrace no_lexeme)) (integer_read fits n)
-    rule_integer = rule_tail (λ p. integer_with p.1) rule_integer_word (loose_optional (rule_in_braces (listed (named_number fits')) (listed_at (named_number_at fits)) n m fit deep (λ q. (rule_numbers.finds tt).part) (λ o. asked rule_numbers))) (λ t e. refl)
+        Owes s f over within (integer fits' m) is_integer_word (either no_lexeme (either is_lbrace no_lexeme))
+        (integer_read fits n)
+    rule_integer = rule_tail (λ p. integer_with p.1) rule_integer_word
+        (loose_optional (rule_in_braces (listed (named_number fits')) (listed_at (named_number_at fits)) n m fit deep
+        (λ q. (rule_numbers.finds tt).part) (λ o. asked rule_numbers))) (λ t e. refl)
 
     rule_bit_string :
-        Owes s f over within (bit_string fits' m) is_bit_word (either no_lexeme (either is_lbrace no_lexeme)) (bits_read fits n)
+        Owes s f over within (bit_string fits' m) is_bit_word (either no_lexeme (either is_lbrace no_lexeme))
+        (bits_read fits n)
     rule_bit_string =
         rule_seq (λ p. bits_with p.1.1) rule_bit_word
-        (rule_both _ _ (rule_tail (λ p. p) rule_string (loose_optional (rule_in_braces (listed (named_bit fits')) (listed_at (named_bit_at fits)) n m fit deep (λ q. (rule_bits.finds tt).part) (λ o. asked rule_bits))) (λ t e. refl))) (λ t e. refl)
+        (rule_both _ _ (rule_tail (λ p. p) rule_string
+        (loose_optional (rule_in_braces (listed (named_bit fits')) (listed_at (named_bit_at fits)) n m fit deep
+        (λ q. (rule_bits.finds tt).part) (λ o. asked rule_bits))) (λ t e. refl))) (λ t e. refl)
 
     rule_enumerated : Owes s f over within (enumerated fits' m) is_enumerated_word no_lexeme (items_read fits n)
-    rule_enumerated = rule_seq (λ p. enumerated_of p.1) rule_enumerated_word (rule_in_braces (extensible (item fits') (item fits')) (extensible_at (item_at fits) (item_at fits)) n m fit deep (λ q. (rule_items.finds tt).part) (λ o. asked rule_items)) (λ t e. refl)
+    rule_enumerated = rule_seq (λ p. enumerated_of p.1) rule_enumerated_word
+        (rule_in_braces (extensible (item fits') (item fits')) (extensible_at (item_at fits) (item_at fits)) n m fit
+        deep (λ q. (rule_items.finds tt).part) (λ o. asked rule_items)) (λ t e. refl)
 
     rule_object :
-        Owes s f over within ((word words.Object ∙ word words.Identifier) ⇒ (λ _. an_object_identifier)) is_object_word no_lexeme (then_read (λ (p : Unit {0} × Unit {0}). an_object_identifier) (one_at is_object_word) identifier_at)
+        Owes s f over within ((word words.Object ∙ word words.Identifier) ⇒ (λ _. an_object_identifier)) is_object_word
+        no_lexeme (then_read (λ (p : Unit {0} × Unit {0}). an_object_identifier) (one_at is_object_word)
+        identifier_at)
     rule_object = rule_seq (λ p. an_object_identifier) rule_object_word rule_identifier (λ t e. refl)
 
     rule_octets :
-        Owes s f over within ((word words.Octet ∙ word words.String) ⇒ (λ _. an_octet_string)) is_octet_word no_lexeme (then_read (λ (p : Unit {0} × Unit {0}). an_octet_string) (one_at is_octet_word) string_at)
+        Owes s f over within ((word words.Octet ∙ word words.String) ⇒ (λ _. an_octet_string)) is_octet_word no_lexeme
+        (then_read (λ (p : Unit {0} × Unit {0}). an_octet_string) (one_at is_octet_word) string_at)
     rule_octets = rule_seq (λ p. an_octet_string) rule_octet_word rule_string (λ t e. refl)
 
     pub rule_simple : Owes s f over within (simple fits' m) simple_starts is_lbrace (simple_at fits n)
     rule_simple =
         rule_tests simple_starts is_lbrace (λ t e. e) simple_ends (rule_read (simple_at fits n) (simple_same fits n)
-        (rule_pick (asked (rule_one_word over within)) (rule_pick rule_object (rule_pick rule_octets (rule_pick rule_integer (rule_pick rule_bit_string rule_enumerated enumerated_no_bit) rest_no_integer) rest_no_octet) rest_no_object) rest_no_word))
+        (rule_pick (asked (rule_one_word over within))
+        (rule_pick rule_object (rule_pick rule_octets
+        (rule_pick rule_integer (rule_pick rule_bit_string rule_enumerated enumerated_no_bit) rest_no_integer)
+        rest_no_octet) rest_no_object) rest_no_word))
 
   -- ---- tags
 
@@ -264,8 +299,11 @@ module _ (over : Limit → ℕ) (within : Limit → Type 0) (fits fits' : ℕ �
 
   abbrev tag_read : Reader Tag
   tag_read =
-      pick is_application_word (λ ts. then_read (λ (p : Unit {0} × TagNumber). p.1) (one_at is_application_word) (tag_end_at fits) ts >>= λ n. Ok (tag_of application n.0, n.1))
-      (pick is_private_word (λ ts. then_read (λ (p : Unit {0} × TagNumber). p.1) (one_at is_private_word) (tag_end_at fits) ts >>= λ n. Ok (tag_of private n.0, n.1)) (λ ts. tag_end_at fits ts >>= λ n. Ok (tag_of context n.0, n.1)))
+      pick is_application_word (λ ts. then_read (λ (p : Unit {0} × TagNumber). p.1) (one_at is_application_word)
+      (tag_end_at fits) ts >>= λ n. Ok (tag_of application n.0, n.1))
+      (pick is_private_word (λ ts. then_read (λ (p : Unit {0} × TagNumber). p.1) (one_at is_private_word)
+      (tag_end_at fits) ts >>= λ n. Ok (tag_of private n.0, n.1))
+      (λ ts. tag_end_at fits ts >>= λ n. Ok (tag_of context n.0, n.1)))
 
   tag_same : (ts : List Lexeme) → tag_read ts ≡ tag_at fits ts
   unfolding tag_at class_at
@@ -283,7 +321,10 @@ module _ (over : Limit → ℕ) (within : Limit → Type 0) (fits fits' : ℕ �
   rest_no_application t e = refl
 
   pub rule_tag :
-      Rules over within (tag tags) (either is_application_word (either is_private_word is_number)) (either no_lexeme (either no_lexeme no_lexeme)) (tag_at fits)
+      Rules over within (tag tags) (either is_application_word (either is_private_word is_number))
+      (either no_lexeme (either no_lexeme no_lexeme)) (tag_at fits)
   rule_tag =
       rule_read (tag_at fits) tag_same
-      (rule_pick (rule_made (tag_of application) (rule_preceded rule_application_word rule_tag_end)) (rule_pick (rule_made (tag_of private) (rule_preceded rule_private_word rule_tag_end)) (rule_made (tag_of context) rule_tag_end) number_no_private) rest_no_application)
+      (rule_pick (rule_made (tag_of application) (rule_preceded rule_application_word rule_tag_end))
+      (rule_pick (rule_made (tag_of private) (rule_preceded rule_private_word rule_tag_end))
+      (rule_made (tag_of context) rule_tag_end) number_no_private) rest_no_application)

@@ -59,8 +59,10 @@ module _ (over : Limit → ℕ) (within : Limit → Type 0) where
   word_is w x us e = ap (λ (o : Option Plain). known o (Word w ∷ us) us) e
 
   word_front : (u us : List Lexeme) → one_word.IsPrefix u → Passes within us (one_word_at (u ++ us))
-  word_front u us (inl e) = subst (λ (l : List Lexeme). Passes within us (one_word_at (l ++ us))) (sym e) (word_passes us)
-  word_front u us (inr (w, x, e, q)) = subst (Passes within us) (sym (ap (λ (l : List Lexeme). one_word_at (l ++ us)) q ⋆ word_is w x us e)) (le_same us)
+  word_front u us (inl e) = subst (λ (l : List Lexeme). Passes within us (one_word_at (l ++ us))) (sym e)
+      (word_passes us)
+  word_front u us (inr (w, x, e, q)) = subst (Passes within us)
+      (sym (ap (λ (l : List Lexeme). one_word_at (l ++ us)) q ⋆ word_is w x us e)) (le_same us)
 
   word_first : (t : Lexeme) (u : List Lexeme) → one_word.IsPrefix (t ∷ u) → is_type_word t ≡ true
   word_first t u (inl e) = absurd cc
@@ -106,8 +108,16 @@ module _ (over : Limit → ℕ) (within : Limit → Type 0) (fits tags : ℕ →
         → Past k ((n : ℕ) → tags n ≡ true)
         → (n : ℕ) (ts : List Lexeme)
         → Sound over (tag_number tags) (Number n ∷ ts) (Err (Beyond TagLimit (length (Number n ∷ ts))))
-    great_sound zero e p n ts = ([], Number n ∷ ts, refl, ap (λ (k : ℕ). more k (length (Number n ∷ ts))) (sym e), inl refl)
-    great_sound (suc k) e p n ts = (Number n ∷ [], ts, refl, long ⋆ ap (λ (k : ℕ). more k (length ts)) (sym e), inr (n, p n, refl))
+    great_sound zero e p n ts = (
+      [],
+      Number n ∷ ts,
+      refl,
+      ap (λ (k : ℕ). more k (length (Number n ∷ ts)))
+          (sym e),
+      inl refl,
+    )
+    great_sound (suc k) e p n ts =
+        (Number n ∷ [], ts, refl, long ⋆ ap (λ (k : ℕ). more k (length ts)) (sym e), inr (n, p n, refl))
       where
         long : length (Number n ∷ ts) ≡ more (suc k) (length ts)
         long = omega arith
@@ -116,8 +126,16 @@ module _ (over : Limit → ℕ) (within : Limit → Type 0) (fits tags : ℕ →
         → fits (2 ^ 127) ≡ u
         → (n : ℕ) (b : Bool) (e : nat_lt n 2147483648 ≡ b) (ts : List Lexeme)
         → Sound over (tag_number tags) (Number n ∷ ts) (by_limit u n b e ts)
-    limit_sound u d n true e ts = (Number n ∷ [], refl, (rule.grows n (bor_left (nat_lt n 2147483648) (fits (2 ^ 127)) e), refl))
-    limit_sound true d n false e ts = (Number n ∷ [], ts, refl, refl, inr (n, rule.grows n (bor_right (nat_lt n 2147483648) (fits (2 ^ 127)) d), refl))
+    limit_sound u d n true e ts =
+        (Number n ∷ [], refl, (rule.grows n (bor_left (nat_lt n 2147483648) (fits (2 ^ 127)) e), refl))
+    limit_sound true d n false e ts = (
+      Number n ∷ [],
+      ts,
+      refl,
+      refl,
+      inr
+          (n, rule.grows n (bor_right (nat_lt n 2147483648) (fits (2 ^ 127)) d), refl),
+    )
     limit_sound false d n false e ts = great_sound (over TagLimit) refl rule.past n ts
 
     tag_sound : SoundReader over (tag_number tags) (tag_number_at fits)
@@ -145,7 +163,8 @@ module _ (over : Limit → ℕ) (within : Limit → Type 0) (fits tags : ℕ →
         → Passes within us (by_limit u n b e us)
     limit_front u d n true e us h = le_same us
     limit_front true d n false e us h = le_same us
-    limit_front false d n false e us h = inr (λ w. true_false (tag_fits fits n) (rule.room n h w) (none (nat_lt n 2147483648) (fits (2 ^ 127)) e d))
+    limit_front false d n false e us h =
+        inr (λ w. true_false (tag_fits fits n) (rule.room n h w) (none (nat_lt n 2147483648) (fits (2 ^ 127)) e d))
       where
         none : (x y : Bool) → x ≡ false → y ≡ false → bor x y ≡ false
         none true y p q = absurd cc
@@ -153,8 +172,10 @@ module _ (over : Limit → ℕ) (within : Limit → Type 0) (fits tags : ℕ →
 
     tag_front : (u us : List Lexeme) → (tag_number tags).IsPrefix u → Passes within us (tag_number_at fits (u ++ us))
     unfolding tag_number_at
-    tag_front u us (inl e) = subst (λ (l : List Lexeme). Passes within us (tag_number_at fits (l ++ us))) (sym e) (tag_passes us)
-    tag_front u us (inr (n, h, e)) = subst (λ (l : List Lexeme). Passes within us (tag_number_at fits (l ++ us))) (sym e) (limit_front (fits (2 ^ 127)) refl n (nat_lt n 2147483648) refl us h)
+    tag_front u us (inl e) = subst (λ (l : List Lexeme). Passes within us (tag_number_at fits (l ++ us))) (sym e)
+        (tag_passes us)
+    tag_front u us (inr (n, h, e)) = subst (λ (l : List Lexeme). Passes within us (tag_number_at fits (l ++ us)))
+        (sym e) (limit_front (fits (2 ^ 127)) refl n (nat_lt n 2147483648) refl us h)
 
     limit_whole : (u : Bool) (x : TagNumber) (b : Bool) (e : nat_lt x.0 2147483648 ≡ b) (us : List Lexeme)
         → ReadsAs within (by_limit u x.0 b e us) x us
@@ -165,7 +186,8 @@ module _ (over : Limit → ℕ) (within : Limit → Type 0) (fits tags : ℕ →
         → (tag_number tags).Is x u
         → ReadsAs within (tag_number_at fits (u ++ us)) x us
     unfolding tag_number_at
-    tag_whole x u us h = subst (λ (l : List Lexeme). ReadsAs within (tag_number_at fits (l ++ us)) x us) (sym h.1) (limit_whole (fits (2 ^ 127)) x (nat_lt x.0 2147483648) refl us)
+    tag_whole x u us h = subst (λ (l : List Lexeme). ReadsAs within (tag_number_at fits (l ++ us)) x us) (sym h.1)
+        (limit_whole (fits (2 ^ 127)) x (nat_lt x.0 2147483648) refl us)
 
     tag_first : (t : Lexeme) (u : List Lexeme) → (tag_number tags).IsPrefix (t ∷ u) → is_number t ≡ true
     tag_first t u (inl e) = absurd cc

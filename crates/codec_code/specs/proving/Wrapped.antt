@@ -41,7 +41,8 @@ flat_wrapped (g ∷ g' ∷ gs) k made b inner f h =
     let e : os ++ (inner ++ closed_by (suc n)) ≡ (os ++ (inner ++ closed_by n)) ++ closes ∷ [] =
     sym (append_assoc os (inner ++ closed_by n) (closes ∷ [])
     ∙ ap (λ q. os ++ q) (append_assoc inner (closed_by n) (closes ∷ []) ∙ ap (λ q. inner ++ q) (replicate_last n))) in
-    ap (λ q. opens g true Wrap ∷ q) (e ∙ ap (λ q. q ++ closes ∷ []) (flat_wrapped (g' ∷ gs) k made b inner f (λ z. absurd (cc))))
+    ap (λ q. opens g true Wrap ∷ q)
+    (e ∙ ap (λ q. q ++ closes ∷ []) (flat_wrapped (g' ∷ gs) k made b inner f (λ z. absurd (cc))))
 
 pub record Framed_in (tags : List Tag) (c : Bool) (P : List ℕ → Type 0) (o : List ℕ) : Type 0 where
   pub contents : List ℕ
@@ -53,7 +54,8 @@ pub record Framed_in (tags : List Tag) (c : Bool) (P : List ℕ → Type 0) (o :
 abbrev pub InHeader : (List ℕ → Type 0) → Tag → Bool → List ℕ → Type 0
 InHeader P g c o = (x : List ℕ) × P x × (o ≡ shortest_header g c (length x) ++ x)
 
-module _ (header : (t : Tag) (c : Bool) (n : ℕ) → n < 2 ^ 64 → HeaderBy Distinguished t c n (shortest_header t c n)) where
+module _ (header : (t : Tag) (c : Bool) (n : ℕ) → n < 2 ^ 64
+    → HeaderBy Distinguished t c n (shortest_header t c n)) where
   pub framed_in : (tags : List Tag) (c : Bool) (made : Tag → Tree) (b : Tree) (P : List ℕ → Type 0)
       → ((g : Tag) (o : List ℕ) → HasOctets (made g) o → InHeader P g c o)
       → (tags ≡ [] → (o : List ℕ) → HasOctets b o → P o)
@@ -67,7 +69,8 @@ module _ (header : (t : Tag) (c : Bool) (n : ℕ) → n < 2 ^ 64 → HeaderBy Di
         contents = p.0;
         are = p.1;
         more = omega (arith, n);
-        framed = λ lt. subst (λ q. Framed Distinguished (g ∷ []) c p.0 q) (sym p.2) (innermost (header g c (length p.0) (omega (arith, n))));
+        framed = λ lt. subst (λ q. Framed Distinguished (g ∷ []) c p.0 q) (sym p.2)
+            (innermost (header g c (length p.0) (omega (arith, n))));
       }
   framed_in (g ∷ g' ∷ gs) c made b P f h o s =
       let y = s.0 in
@@ -79,5 +82,7 @@ module _ (header : (t : Tag) (c : Bool) (n : ℕ) → n < 2 ^ 64 → HeaderBy Di
         contents = p.contents;
         are = p.are;
         more = (let m = p.more in omega (arith, m, n));
-        framed = λ lt. let k : length y < 2 ^ 64 = omega (arith, n) in subst (λ q. Framed Distinguished (g ∷ g' ∷ gs) c p.contents q) (sym e) (outer (p.framed k) (header g true (length y) k));
+        framed = λ lt. let k : length y < 2 ^ 64 = omega (arith, n) in subst
+            (λ q. Framed Distinguished (g ∷ g' ∷ gs) c p.contents q) (sym e)
+            (outer (p.framed k) (header g true (length y) k));
       }

@@ -82,7 +82,8 @@ module _ {S : Type 0} (r : ℕ → List Step) (takes : S → Event → S → Typ
 
 -- the frames lead to the states to which those at the start lead, and stop only where those stop
 pub record IsUnderWay {S : Type 0} (r : ℕ → List Step) (takes : S → Event → S → Type 0)
-    (refuses : S → Question → S → ReadFault → Type 0) (start : List Frame) (x : S) (frames : List Frame) (y : S) : Type 0 where
+    (refuses : S → Question → S → ReadFault → Type 0) (start : List Frame) (x : S) (frames : List Frame)
+    (y : S) : Type 0 where
   pub same : Same (Goes r takes start x) (Goes r takes frames y)
   pub stops : (e : ReadFault) (z : S)
       → GoesStop r takes (λ a q b. refuses a q b e) frames y z

@@ -65,7 +65,8 @@ pub record AreNoted (p : Program) (at : List (Option ℕ)) (limits : List Limit)
 -- each type of the list is followed by the type that it is a reference or tag of, unless that has a noted limit
 pub record IsTrail (ts : List Type') (at : List (Option ℕ)) (start : ℕ) (v : List ℕ) : Type 0 where
   pub inside : (n i : ℕ) → slice_get v n ≡ Some i → i < length ts
-  pub follows : (n i j : ℕ) → slice_get v n ≡ Some i → next ts i ≡ Some j → IsNoted at j ⊎ (slice_get v (n + 1) ≡ Some j)
+  pub follows : (n i j : ℕ) → slice_get v n ≡ Some i → next ts i ≡ Some j
+      → IsNoted at j ⊎ (slice_get v (n + 1) ≡ Some j)
   pub first : IsNoted at start ⊎ (slice_get v 0 ≡ Some start)
 
 -- type i breaks the rule
@@ -133,7 +134,8 @@ pub record BearsTarget (p : Program) (i : ℕ) (M : Name) (c : ConstraintTree) :
 -- the four restricted strings; for other types the list may have any codes.
 abbrev pub HasTargetCodes : Program → Kind → ℕ → List ℕ → Type 0
 HasTargetCodes p (simple (a_restricted_string s)) i cs = (x : ℕ) →
-    (IsMember x cs ↔ (IsTrue (is_character s x) × ((M : Name) (c : ConstraintTree) → BearsTarget p i M c → AllowsCharacter c x)))
+    (IsMember x cs ↔ (IsTrue (is_character s x)
+    × ((M : Name) (c : ConstraintTree) → BearsTarget p i M c → AllowsCharacter c x)))
 HasTargetCodes p k i cs = Unit {0}
 
 -- l is what the constraints of the types that type i, of kind k, leads to allow
@@ -142,7 +144,8 @@ pub record Inherits (p : Program) (i : ℕ) (l : Limit) (k : Kind) : Type 0 wher
       (IsInSome z l.numbers
       ↔ (IsCounted k z × ((M : Name) (c : ConstraintTree) → BearsTarget p i M c → AllowsNumber p k M c z)))
   pub codes : HasTargetCodes p k i l.codes
-  pub extensible : l.extensible ≡ true ↔ ((M : Name) × (c : ConstraintTree) × BearsTarget p i M c × (has_marker c ≡ true))
+  pub extensible : l.extensible ≡ true
+      ↔ ((M : Name) × (c : ConstraintTree) × BearsTarget p i M c × (has_marker c ≡ true))
 
 -- l is what the constraints of the types that type i leads to allow, and these constraints are as required
 pub record IsStartOf (p : Program) (i : ℕ) (l : Limit) : Type 0 where

@@ -64,7 +64,8 @@ pub record IsMarkedIn (cs : List ConstraintTree) (n : ℕ) : Type 0 where
 pub record Narrows (p : Program) (k : Kind) (M : Name) (cs : List ConstraintTree) (n : ℕ) (l m : Limit) : Type 0 where
   pub numbers : (z : ℤ) → IsCounted k z →
       (IsInSome z m.numbers
-      ↔ (IsInSome z l.numbers × ((i : ℕ) (c : ConstraintTree) → i < n → slice_get cs i ≡ Some c → AllowsNumber p k M c z)))
+      ↔ (IsInSome z l.numbers × ((i : ℕ) (c : ConstraintTree) → i < n → slice_get cs i ≡ Some c
+      → AllowsNumber p k M c z)))
   pub fewer : (z : ℤ) → IsInSome z m.numbers → IsInSome z l.numbers
   pub codes : (x : ℕ) → x < 128 →
       (IsMember x m.codes

@@ -26,7 +26,8 @@ ranged Numbers r = values_in r
 ranged Sizes r = sizes_in r
 
 -- the numbers of ranges, whose marker is at an allowed place
-pub record AreNumbersOf (p : Program) (k : Kind) (M : Name) (of : Counted) (r : RangesTree) (ns : List Range) : Type 0 where
+pub record AreNumbersOf (p : Program) (k : Kind) (M : Name) (of : Counted) (r : RangesTree) (ns : List Range)
+    : Type 0 where
   pub ranges : AreRanges p k M (IsOf of) r.ranges
   pub marked : is_marked k (ranged of r) ≡ true
   pub same : (z : ℤ) → (IsInSome z ns ↔ (IsOf of z × IsWithinOne p k M r.ranges z))

@@ -18,7 +18,8 @@ use Rattle.constraints.specs.declared.meaning.ConstraintFault.TheVariants as wro
 use Rattle.constraints.specs.proving.Meanings.{ranged}
 
 -- the first fault of ranges, in a constraint at the place
-pub data AreRangesWrong (p : Program) (k : Kind) (M : Name) (of : Counted) (place : ℕ) (r : RangesSyntax) (w : ConstraintFault)
+pub data AreRangesWrong (p : Program) (k : Kind) (M : Name) (of : Counted) (place : ℕ) (r : RangesSyntax)
+    (w : ConstraintFault)
     : Type 0 where
   no_memory : w ≡ wrongs.Memory → AreRangesWrong p k M of place r w
   marker : is_marked k (ranged of (ranges_of r)) ≡ false →

@@ -23,7 +23,8 @@ lower_back zero (suc k) (suc l) a b e = ap suc e
 lower_back (suc j) zero zero a b e = refl
 lower_back (suc j) zero (suc l) a b e = absurd (omega arith)
 lower_back (suc j) (suc k) zero a b e = absurd (omega arith)
-lower_back (suc j) (suc k) (suc l) a b e = ap suc (lower_back j k l (λ f. a (ap suc f)) (λ f. b (ap suc f)) (let f : lower j k ≡ lower j l = omega arith in f))
+lower_back (suc j) (suc k) (suc l) a b e =
+    ap suc (lower_back j k l (λ f. a (ap suc f)) (λ f. b (ap suc f)) (let f : lower j k ≡ lower j l = omega arith in f))
 
 -- zs without its element at place j
 record Without (j : ℕ) (x : List ℕ) (zs : List (List ℕ)) : Type 0 where
@@ -47,22 +48,27 @@ without (suc j) x (z ∷ zs) e =
     let r = without j x zs e in
     record { rest = z ∷ r.rest; at = there r.at; others = others r; fewer = ap suc r.fewer }
   where
-    others : (r : Without j x zs) (k : ℕ) → (k ≡ suc j → ⊥) → slice_get (z ∷ r.rest) (lower (suc j) k) ≡ slice_get (z ∷ zs) k
+    others : (r : Without j x zs) (k : ℕ) → (k ≡ suc j → ⊥)
+        → slice_get (z ∷ r.rest) (lower (suc j) k) ≡ slice_get (z ∷ zs) k
     others r zero a = refl
     others r (suc k) a = r.others k (λ f. a (ap suc f))
 
 -- each at its place, no two at one
 data Placed : List ℕ → List (List ℕ) → List (List ℕ) → Type 0 where
   placed_none : {zs : List (List ℕ)} → Placed [] [] zs
-  placed_more : {j : ℕ} {p : List ℕ} {x : List ℕ} {xs zs : List (List ℕ)} → slice_get zs j ≡ Some x → AllByRecursion (λ k. k ≡ j → ⊥) p → Placed p xs zs → Placed (j ∷ p) (x ∷ xs) zs
+  placed_more : {j : ℕ} {p : List ℕ} {x : List ℕ} {xs zs : List (List ℕ)} → slice_get zs j ≡ Some x
+      → AllByRecursion (λ k. k ≡ j → ⊥) p → Placed p xs zs → Placed (j ∷ p) (x ∷ xs) zs
 
-others_apart : (j k : ℕ) (p : List ℕ) → (k ≡ j → ⊥) → AllByRecursion (λ l. l ≡ j → ⊥) p → AllByRecursion (λ l. l ≡ k → ⊥) p → AllByRecursion (λ l. l ≡ lower j k → ⊥) (map (lower j) p)
+others_apart : (j k : ℕ) (p : List ℕ) → (k ≡ j → ⊥) → AllByRecursion (λ l. l ≡ j → ⊥) p
+    → AllByRecursion (λ l. l ≡ k → ⊥) p → AllByRecursion (λ l. l ≡ lower j k → ⊥) (map (lower j) p)
 others_apart j k [] n a b = tt
 others_apart j k (l ∷ p) n a b = ((λ e. b.0 (lower_back j l k a.0 n e)), others_apart j k p n a.1 b.1)
 
-placed_rest : {j : ℕ} {x : List ℕ} {p : List ℕ} {xs zs : List (List ℕ)} (w : Without j x zs) → AllByRecursion (λ k. k ≡ j → ⊥) p → Placed p xs zs → Placed (map (lower j) p) xs w.rest
+placed_rest : {j : ℕ} {x : List ℕ} {p : List ℕ} {xs zs : List (List ℕ)} (w : Without j x zs)
+    → AllByRecursion (λ k. k ≡ j → ⊥) p → Placed p xs zs → Placed (map (lower j) p) xs w.rest
 placed_rest w a placed_none = placed_none
-placed_rest {j} w a (placed_more {j = k} {p = p} e b r) = placed_more (w.others k a.0 ∙ e) (others_apart j k p a.0 a.1 b) (placed_rest w a.1 r)
+placed_rest {j} w a (placed_more {j = k} {p = p} e b r) = placed_more (w.others k a.0 ∙ e)
+    (others_apart j k p a.0 a.1 b) (placed_rest w a.1 r)
 
 permuted : (xs p : List (List ℕ)) (q : List ℕ) → Placed q xs p → length p ≡ length xs → Permutes xs p
 permuted [] [] q r l = permutes_none
@@ -79,13 +85,15 @@ all_by_place P (k ∷ p) h = (h 0 k refl, all_by_place P p (λ i l e. h (suc i) 
 abbrev OneToOne : List ℕ → Type 0
 OneToOne p = (i k j : ℕ) → slice_get p i ≡ Some j → slice_get p k ≡ Some j → i ≡ k
 
-placed : (p : List ℕ) (xs zs : List (List ℕ)) → length p ≡ length xs → OneToOne p → ((i j : ℕ) → slice_get p i ≡ Some j → slice_get zs j ≡ slice_get xs i) → Placed p xs zs
+placed : (p : List ℕ) (xs zs : List (List ℕ)) → length p ≡ length xs → OneToOne p
+    → ((i j : ℕ) → slice_get p i ≡ Some j → slice_get zs j ≡ slice_get xs i) → Placed p xs zs
 placed [] [] zs l one h = placed_none
 placed [] (x ∷ xs) zs l one h = absurd (omega arith)
 placed (j ∷ p) [] zs l one h = absurd (omega arith)
 placed (j ∷ p) (x ∷ xs) zs l one h =
     placed_more (h 0 j refl) (all_by_place (λ k. k ≡ j → ⊥) p (λ i k e f. apart i (e ∙ ap Some f)))
-    (placed p xs zs (let e = l in omega arith) (λ i k m e f. (let g = one (suc i) (suc k) m e f in omega arith)) (λ i k e. h (suc i) k e))
+    (placed p xs zs (let e = l in omega arith) (λ i k m e f. (let g = one (suc i) (suc k) m e f in omega arith))
+    (λ i k e. h (suc i) k e))
   where
     apart : (i : ℕ) → slice_get p i ≡ Some j → ⊥
     apart i e = let g = one 0 (suc i) j refl e in omega arith
@@ -96,9 +104,11 @@ same_some {i} e = ap (some_or i) e
 pub placing_permutes : {p q : List ℕ} {xs zs : List (List ℕ)} → ArePlacedAt p q xs zs → Permutes xs zs
 placing_permutes {p} {q} {xs} {zs} a =
     let r = a.are_places in
-    permuted xs zs p (placed p xs zs r.each_member (λ i k j e f. same_some (sym (r.there i j e) ∙ r.there k j f)) a.each) a.as_many
+    permuted xs zs p (placed p xs zs r.each_member (λ i k j e f. same_some (sym (r.there i j e) ∙ r.there k j f))
+    a.each) a.as_many
 
-same_lists : (xs ys : List (List ℕ)) → length ys ≡ length xs → ((i : ℕ) → i < length xs → slice_get ys i ≡ slice_get xs i) → ys ≡ xs
+same_lists : (xs ys : List (List ℕ)) → length ys ≡ length xs
+    → ((i : ℕ) → i < length xs → slice_get ys i ≡ slice_get xs i) → ys ≡ xs
 same_lists [] [] l h = refl
 same_lists [] (y ∷ ys) l h = absurd (omega arith)
 same_lists (x ∷ xs) [] l h = absurd (omega arith)

@@ -16,7 +16,8 @@ basic_frame bare = bare
 basic_frame (innermost h) = innermost (basic_header h)
 basic_frame (outer f h) = outer (basic_frame f) (basic_header h)
 
-basic_contents : {q : Rules} {k : Kind} {v : AbstractValue} {c : Bool} {x : List ℕ} → Contents q k v c x → Contents Basic k v c x
+basic_contents : {q : Rules} {k : Kind} {v : AbstractValue} {c : Bool} {x : List ℕ} → Contents q k v c x
+    → Contents Basic k v c x
 basic_contents of_false = of_false
 basic_contents (of_true a l e) = of_true a l tt
 basic_contents (of_integer a) = of_integer a
@@ -32,10 +33,12 @@ basic_contents (of_restricted a e) = of_restricted a tt
 
 mutual
   -- what octets say by any rules they say by the basic ones
-  pub basic_of : {q : Rules} {s : List Resolved} {t : ℕ} {v : AbstractValue} {n : ℕ} {o : List ℕ} → EncodesTo s q t v n o → EncodesTo s Basic t v n o
+  pub basic_of : {q : Rules} {s : List Resolved} {t : ℕ} {v : AbstractValue} {n : ℕ} {o : List ℕ}
+      → EncodesTo s q t v n o → EncodesTo s Basic t v n o
   basic_of (says i h fr) = says i (basic_holds h) (basic_frame fr)
 
-  basic_holds : {q : Rules} {s : List Resolved} {k : Kind} {v : AbstractValue} {n : ℕ} {c : Bool} {x : List ℕ} → ContentsEncode s q k v n c x → ContentsEncode s Basic k v n c x
+  basic_holds : {q : Rules} {s : List Resolved} {k : Kind} {v : AbstractValue} {n : ℕ} {c : Bool} {x : List ℕ}
+      → ContentsEncode s q k v n c x → ContentsEncode s Basic k v n c x
   basic_holds (leaf con) = leaf (basic_contents con)
   basic_holds (sequence ms u) = sequence (basic_members ms) u
   basic_holds (set ms p st u m) = set (basic_members ms) p tt u m
@@ -43,12 +46,14 @@ mutual
   basic_holds (set_of es st) = set_of (basic_elements es) tt
   basic_holds (choice g a) = choice g (basic_of a)
 
-  basic_members : {q : Rules} {s : List Resolved} {cs : List Component} {vs : Row} {n : ℕ} {xs : List (List ℕ)} → Members s q cs vs n xs → Members s Basic cs vs n xs
+  basic_members : {q : Rules} {s : List Resolved} {cs : List Component} {vs : Row} {n : ℕ} {xs : List (List ℕ)}
+      → Members s q cs vs n xs → Members s Basic cs vs n xs
   basic_members no_member = no_member
   basic_members (left_out m ms) = left_out m (basic_members ms)
   basic_members (member a d ms) = member (basic_of a) tt (basic_members ms)
 
-  basic_elements : {q : Rules} {s : List Resolved} {u : ℕ} {vs : Row} {n : ℕ} {xs : List (List ℕ)} → Elements s q u vs n xs → Elements s Basic u vs n xs
+  basic_elements : {q : Rules} {s : List Resolved} {u : ℕ} {vs : Row} {n : ℕ} {xs : List (List ℕ)}
+      → Elements s q u vs n xs → Elements s Basic u vs n xs
   basic_elements no_element = no_element
   basic_elements (element a es) = element (basic_of a) (basic_elements es)
 
@@ -62,7 +67,8 @@ strict_frame bare = bare
 strict_frame (innermost h) = innermost (strict_header h)
 strict_frame (outer f h) = outer (strict_frame f) (strict_header h)
 
-pub strict_contents : {k : Kind} {v : AbstractValue} {c : Bool} {x : List ℕ} → Contents Unsorted k v c x → Contents Distinguished k v c x
+pub strict_contents : {k : Kind} {v : AbstractValue} {c : Bool} {x : List ℕ} → Contents Unsorted k v c x
+    → Contents Distinguished k v c x
 strict_contents of_false = of_false
 strict_contents (of_true a l e) = of_true a l e
 strict_contents (of_integer a) = of_integer a
@@ -84,7 +90,8 @@ unsorted_frame bare = bare
 unsorted_frame (innermost h) = innermost (unsorted_header h)
 unsorted_frame (outer f h) = outer (unsorted_frame f) (unsorted_header h)
 
-unsorted_contents : {k : Kind} {v : AbstractValue} {c : Bool} {x : List ℕ} → Contents Distinguished k v c x → Contents Unsorted k v c x
+unsorted_contents : {k : Kind} {v : AbstractValue} {c : Bool} {x : List ℕ} → Contents Distinguished k v c x
+    → Contents Unsorted k v c x
 unsorted_contents of_false = of_false
 unsorted_contents (of_true a l e) = of_true a l e
 unsorted_contents (of_integer a) = of_integer a
@@ -100,10 +107,12 @@ unsorted_contents (of_restricted a e) = of_restricted a e
 
 mutual
   -- what octets say by the distinguished rules they say by them without the order
-  pub unsorted_of : {s : List Resolved} {t : ℕ} {v : AbstractValue} {n : ℕ} {o : List ℕ} → EncodesTo s Distinguished t v n o → EncodesTo s Unsorted t v n o
+  pub unsorted_of : {s : List Resolved} {t : ℕ} {v : AbstractValue} {n : ℕ} {o : List ℕ}
+      → EncodesTo s Distinguished t v n o → EncodesTo s Unsorted t v n o
   unsorted_of (says i h fr) = says i (unsorted_holds h) (unsorted_frame fr)
 
-  pub unsorted_holds : {s : List Resolved} {k : Kind} {v : AbstractValue} {n : ℕ} {c : Bool} {x : List ℕ} → ContentsEncode s Distinguished k v n c x → ContentsEncode s Unsorted k v n c x
+  pub unsorted_holds : {s : List Resolved} {k : Kind} {v : AbstractValue} {n : ℕ} {c : Bool} {x : List ℕ}
+      → ContentsEncode s Distinguished k v n c x → ContentsEncode s Unsorted k v n c x
   unsorted_holds (leaf con) = leaf (unsorted_contents con)
   unsorted_holds (sequence ms u) = sequence (unsorted_members ms) u
   unsorted_holds (set ms p st u m) = set (unsorted_members ms) p tt u m
@@ -111,11 +120,13 @@ mutual
   unsorted_holds (set_of es st) = set_of (unsorted_elements es) tt
   unsorted_holds (choice g a) = choice g (unsorted_of a)
 
-  unsorted_members : {s : List Resolved} {cs : List Component} {vs : Row} {n : ℕ} {xs : List (List ℕ)} → Members s Distinguished cs vs n xs → Members s Unsorted cs vs n xs
+  unsorted_members : {s : List Resolved} {cs : List Component} {vs : Row} {n : ℕ} {xs : List (List ℕ)}
+      → Members s Distinguished cs vs n xs → Members s Unsorted cs vs n xs
   unsorted_members no_member = no_member
   unsorted_members (left_out m ms) = left_out m (unsorted_members ms)
   unsorted_members (member a d ms) = member (unsorted_of a) d (unsorted_members ms)
 
-  unsorted_elements : {s : List Resolved} {u : ℕ} {vs : Row} {n : ℕ} {xs : List (List ℕ)} → Elements s Distinguished u vs n xs → Elements s Unsorted u vs n xs
+  unsorted_elements : {s : List Resolved} {u : ℕ} {vs : Row} {n : ℕ} {xs : List (List ℕ)}
+      → Elements s Distinguished u vs n xs → Elements s Unsorted u vs n xs
   unsorted_elements no_element = no_element
   unsorted_elements (element a es) = element (unsorted_of a) (unsorted_elements es)

@@ -18,7 +18,8 @@ left (z ∷ xs) ys (suc k) x e = left xs ys k x e
 
 pub right : {X : Type 0} (xs ys : List X) (k : ℕ) → slice_get (xs ++ ys) (length xs + k) ≡ slice_get ys k
 right [] ys k = let e : 0 + k ≡ k = omega arith in ap (λ n. slice_get ys n) e
-right (z ∷ xs) ys k = let e : suc (length xs) + k ≡ suc (length xs + k) = omega arith in ap (λ n. slice_get (z ∷ (xs ++ ys)) n) e ∙ right xs ys k
+right (z ∷ xs) ys k = let e : suc (length xs) + k ≡ suc (length xs + k) =
+    omega arith in ap (λ n. slice_get (z ∷ (xs ++ ys)) n) e ∙ right xs ys k
 
 -- an item of two joined lists is in the first or in the second
 pub either : {X : Type 0} (xs ys : List X) (m : ℕ) (x : X) → slice_get (xs ++ ys) m ≡ Some x →
@@ -57,12 +58,26 @@ mapped f (x ∷ xs) zero y e = (x, refl, (let q : f x ≡ y = cc in q))
 mapped f (x ∷ xs) (suc k) y e = mapped f xs k y e
 
 pub twice_left : {X : Type 0} (xs ys : List X) (x : X) → OccursTwice xs x → OccursTwice (xs ++ ys) x
-twice_left xs ys x t = record { first = t.first; second = t.second; apart = t.apart; here = left xs ys t.first x t.here; there = left xs ys t.second x t.there }
+twice_left xs ys x t = record {
+  first = t.first;
+  second = t.second;
+  apart = t.apart;
+  here =
+      left xs ys t.first x t.here;
+  there = left xs ys t.second x t.there;
+}
 
 pub twice_across : {X : Type 0} (xs ys : List X) (x : X) → OccursIn xs x → OccursIn ys x → OccursTwice (xs ++ ys) x
 twice_across xs ys x s t =
     let w = slice_get_within xs s.0 x s.1 in
-    record { first = s.0; second = length xs + t.0; apart = omega (arith, w); here = left xs ys s.0 x s.1; there = right xs ys t.0 ∙ t.1 }
+    record {
+      first = s.0;
+      second = length xs + t.0;
+      apart = omega (arith, w);
+      here = left xs ys s.0 x s.1;
+      there =
+          right xs ys t.0 ∙ t.1;
+    }
 
 one_at : {X : Type 0} (x y : X) (k : ℕ) → slice_get (x ∷ []) k ≡ Some y → (k ≡ 0) × (x ≡ y)
 one_at x y zero e = (refl, (let q : x ≡ y = cc in q))

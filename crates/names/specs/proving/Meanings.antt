@@ -80,7 +80,8 @@ from_module' ms M x N (Some m) a e f h = across m N e f h
 pub refers_across : (ms : List (Name × Module)) (M x N : Name) (o : Option Assigned) →
     imported_in x (under M ms) ≡ Some N → ((a : Assigned) → (o ≡ Some a ↔ Meaning ms M x a)) → (a : Assigned) →
     (o ≡ Some a ↔ Refers ms M (Some N) x a)
-refers_across ms M x N o q e a = (λ h. from_module' ms M x N (under M ms) a refl q ((e a).0 h), λ r. (e a).1 (any_meaning ms M x N a r))
+refers_across ms M x N o q e a =
+    (λ h. from_module' ms M x N (under M ms) a refl q ((e a).0 h), λ r. (e a).1 (any_meaning ms M x N a r))
 
 not_across : (ms : List (Name × Module)) (M x N : Name) (a : Assigned) → (N ≡ M → ⊥) →
     (imported_in x (under M ms) ≡ Some N → ⊥) → Refers ms M (Some N) x a → ⊥

@@ -50,7 +50,8 @@ member_first g n (header z (set_row rs p q)) rest = refl
 member_first g n (header z (setof_row rs p q)) rest = refl
 
 mutual
-  reads : (a : Account) (n : ℕ) (rest : List FlatRow) → read (plus (length (rows_of a)) n) (rows_of a ++ rest) ≡ (a, rest)
+  reads : (a : Account) (n : ℕ) (rest : List FlatRow) → read (plus (length (rows_of a)) n) (rows_of a ++ rest)
+      ≡ (a, rest)
   reads (header z leaf_row) n rest = refl
   reads (header z (wrap_row a)) n rest = ap (λ m. (header z (wrap_row m.0), m.1)) (reads a n rest)
   reads (header z (seq_row rs)) n rest = ap (with_rows seq_row z) (reads_rows rs n rest)
@@ -74,8 +75,11 @@ mutual
       (plus_length (rows_of a) (member_rows rs))
       ∙ ap (members_by (read (plus (plus (length (rows_of a)) (length (member_rows rs))) n)) (suc (count rs)))
       (append_assoc (rows_of a) (member_rows rs) rest)
-      ∙ member_first (read (plus (plus (length (rows_of a)) (length (member_rows rs))) n)) (count rs) a (member_rows rs ++ rest)
-      ∙ ap (λ m. one_more m (members_by (read (plus (plus (length (rows_of a)) (length (member_rows rs))) n)) (count rs)))
+      ∙ member_first (read (plus (plus (length (rows_of a)) (length (member_rows rs))) n)) (count rs) a
+      (member_rows rs ++ rest)
+      ∙ ap
+      (λ m. one_more m (members_by (read (plus (plus (length (rows_of a)) (length (member_rows rs))) n))
+      (count rs)))
       (ap (λ k. read k (rows_of a ++ (member_rows rs ++ rest)))
       (plus_assoc (length (rows_of a)) (length (member_rows rs)) n)
       ∙ reads a (plus (length (member_rows rs)) n) (member_rows rs ++ rest))

@@ -31,7 +31,8 @@ record SameMarked (ds es : List ℕ) (d e : ℕ) (x y : List ℕ) : Type 0 where
   last : d ≡ e
   rest : x ≡ y
 
-marked_front : (ds es : List ℕ) (d e : ℕ) (x y : List ℕ) → d < 128 → e < 128 → marked ds d ++ x ≡ marked es e ++ y → SameMarked ds es d e x y
+marked_front : (ds es : List ℕ) (d e : ℕ) (x y : List ℕ) → d < 128 → e < 128 → marked ds d ++ x ≡ marked es e ++ y
+    → SameMarked ds es d e x y
 marked_front [] [] d e x y h k f = record { digits = refl; last = ap head_or_0 f; rest = ap tail_of f }
 marked_front [] (b ∷ es) d e x y h k f = let g : d ≡ 128 + b = ap head_or_0 f in absurd (omega arith)
 marked_front (a ∷ ds) [] d e x y h k f = let g : 128 + a ≡ e = ap head_or_0 f in absurd (omega arith)
@@ -44,14 +45,18 @@ marked_front (a ∷ ds) (b ∷ es) d e x y h k f =
 pub septets_front : (m n : ℕ) (x y : List ℕ) → septets m ++ x ≡ septets n ++ y → (m ≡ n) × (x ≡ y)
 septets_front m n x y e =
     let f : marked (digits_of 128 (m / 128)) (m % 128) ++ x ≡ marked (digits_of 128 (n / 128)) (n % 128) ++ y
-    = ap (λ q. q ++ x) (sym (marked_is (digits_of 128 (m / 128)) (m % 128))) ∙ e ∙ ap (λ q. q ++ y) (marked_is (digits_of 128 (n / 128)) (n % 128)) in
-    let r = marked_front (digits_of 128 (m / 128)) (digits_of 128 (n / 128)) (m % 128) (n % 128) x y (omega arith) (omega arith) f in
-    let high : m / 128 ≡ n / 128 = sym (number_digits_of 128 (m / 128) (omega arith)) ∙ ap (number_from_digits 128) r.digits ∙ number_digits_of 128 (n / 128) (omega arith) in
+    = ap (λ q. q ++ x) (sym (marked_is (digits_of 128 (m / 128)) (m % 128))) ∙ e ∙ ap (λ q. q ++ y)
+    (marked_is (digits_of 128 (n / 128)) (n % 128)) in
+    let r = marked_front (digits_of 128 (m / 128)) (digits_of 128 (n / 128)) (m % 128) (n % 128) x y (omega arith)
+    (omega arith) f in
+    let high : m / 128 ≡ n / 128 = sym (number_digits_of 128 (m / 128) (omega arith)) ∙ ap (number_from_digits 128)
+    r.digits ∙ number_digits_of 128 (n / 128) (omega arith) in
     let low = r.last in
     (omega arith, r.rest)
 
 never_empty : (n : ℕ) (x : List ℕ) → septets n ++ x ≡ [] → ⊥
-never_empty n x e = by (digits_of 128 (n / 128)) (ap (λ q. q ++ x) (sym (marked_is (digits_of 128 (n / 128)) (n % 128))) ∙ e)
+never_empty n x e = by (digits_of 128 (n / 128))
+    (ap (λ q. q ++ x) (sym (marked_is (digits_of 128 (n / 128)) (n % 128))) ∙ e)
   where
     by : (ds : List ℕ) → marked ds (n % 128) ++ x ≡ [] → ⊥
     by [] f = let l = ap length f in omega arith
@@ -66,8 +71,17 @@ pub record Adding (ns old new rest : List ℕ) : Type 0 where
   pub spelled : rest ≡ flat_map septets left
   pub added : new ≡ old ++ done
 
-pub adding_none : (ns old rest : List ℕ) → AllByRecursion (λ n. n < 2 ^ 64) ns → rest ≡ flat_map septets ns → Adding ns old old rest
-adding_none ns old rest s e = record { done = []; left = ns; all = refl; small = s; spelled = e; added = sym (append-nil old) }
+pub adding_none : (ns old rest : List ℕ) → AllByRecursion (λ n. n < 2 ^ 64) ns → rest ≡ flat_map septets ns
+    → Adding ns old old rest
+adding_none ns old rest s e = record {
+  done = [];
+  left = ns;
+  all = refl;
+  small = s;
+  spelled = e;
+  added =
+      sym (append-nil old);
+}
 
 empty : (x : List ℕ) → length x ≡ 0 → x ≡ []
 empty [] f = refl
@@ -87,7 +101,8 @@ pub record Decoding (n : ℕ) (ns following : List ℕ) (told : Option ℕ) : Ty
   pub is : ns ≡ n ∷ left
   pub spelled : following ≡ flat_map septets left
 
-pub first_told : (ns octets following : List ℕ) (told : Option ℕ) → octets ≡ flat_map septets ns → Front told following octets → (n : ℕ) × Decoding n ns following told
+pub first_told : (ns octets following : List ℕ) (told : Option ℕ) → octets ≡ flat_map septets ns
+    → Front told following octets → (n : ℕ) × Decoding n ns following told
 first_told [] octets following told e f = absurd (never_empty f.number following (sym f.whole ∙ e))
 first_told (n ∷ ns) octets following told e f =
     let r = septets_front f.number n following (flat_map septets ns) (sym f.whole ∙ e) in
@@ -96,21 +111,24 @@ first_told (n ∷ ns) octets following told e f =
 some_is : (m n : ℕ) → IsArcOf (Some m) n → m ≡ n
 some_is m n e = e
 
-pub adding_more : {ns old new rest following : List ℕ} (m : ℕ) → Adding ns old new rest → Front (Some m) following rest → Adding ns old (new ++ m ∷ []) following
+pub adding_more : {ns old new rest following : List ℕ} (m : ℕ) → Adding ns old new rest → Front (Some m) following rest
+    → Adding ns old (new ++ m ∷ []) following
 adding_more {ns} {old} {new} {rest} {following} m a f =
     let t = first_told a.left rest following (Some m) a.spelled f in
     let same : m ≡ t.0 = some_is m t.0 t.1.is_arc in
     record {
       done = a.done ++ m ∷ [];
       left = t.1.left;
-      all = a.all ∙ ap (λ q. a.done ++ q) t.1.is ∙ ap (λ q. a.done ++ q ∷ t.1.left) (sym same) ∙ sym (append_assoc a.done (m ∷ []) t.1.left);
+      all = a.all ∙ ap (λ q. a.done ++ q) t.1.is ∙ ap (λ q. a.done ++ q ∷ t.1.left) (sym same)
+          ∙ sym (append_assoc a.done (m ∷ []) t.1.left);
       small = (subst (AllByRecursion (λ n. n < 2 ^ 64)) t.1.is a.small).1;
       spelled = t.1.spelled;
       added = ap (λ q. q ++ m ∷ []) a.added ∙ append_assoc old a.done (m ∷ []);
     }
 
 -- the number is below 2^64
-pub small_more : {ns old new rest following : List ℕ} (m : ℕ) → Adding ns old new rest → Front (Some m) following rest → m < 2 ^ 64
+pub small_more : {ns old new rest following : List ℕ} (m : ℕ) → Adding ns old new rest → Front (Some m) following rest
+    → m < 2 ^ 64
 small_more {ns} {old} {new} {rest} {following} m a f =
     let t = first_told a.left rest following (Some m) a.spelled f in
     subst (λ q. q < 2 ^ 64) (sym (some_is m t.0 t.1.is_arc)) (subst (AllByRecursion (λ n. n < 2 ^ 64)) t.1.is a.small).0
@@ -124,7 +142,8 @@ none_great {ns} {old} {new} {rest} {following} a f =
     omega arith
 
 -- the number at the front is there
-pub no_number : {ns old new rest : List ℕ} → 0 < length rest → Adding ns old new rest → ((n : ℕ) (r : List ℕ) → rest ≡ septets n ++ r → ⊥) → ⊥
+pub no_number : {ns old new rest : List ℕ} → 0 < length rest → Adding ns old new rest
+    → ((n : ℕ) (r : List ℕ) → rest ≡ septets n ++ r → ⊥) → ⊥
 no_number {rest = rest} some a none = by a.left a.spelled
   where
     by : (left : List ℕ) → rest ≡ flat_map septets left → ⊥
@@ -146,7 +165,8 @@ pub record Parts (m : ℕ) (ns following : List ℕ) : Type 0 where
   pub spelled : following ≡ flat_map septets others
   pub below : m < 2 ^ 64 + 80
 
-pub parts_of : {ns octets following : List ℕ} (m : ℕ) → IsObjectIdentifier ns → octets ≡ flat_map septets (joined ns) → Front (Some m) following octets → Parts m ns following
+pub parts_of : {ns octets following : List ℕ} (m : ℕ) → IsObjectIdentifier ns → octets ≡ flat_map septets (joined ns)
+    → Front (Some m) following octets → Parts m ns following
 parts_of {octets = octets} {following = following} m (arcs {x = x} {y = y} {zs = zs} a b c d l) e f =
     let r = septets_front f.number (40 * x + y) following (flat_map septets zs) (sym f.whole ∙ e) in
     let same : m ≡ 40 * x + y = some_is m f.number f.is_arc ∙ r.0 in
@@ -164,12 +184,14 @@ parts_of {octets = octets} {following = following} m (arcs {x = x} {y = y} {zs =
       below = omega arith;
     }
 
-pub never_great : {ns octets following : List ℕ} → IsObjectIdentifier ns → octets ≡ flat_map septets (joined ns) → Front None following octets → ⊥
+pub never_great : {ns octets following : List ℕ} → IsObjectIdentifier ns → octets ≡ flat_map septets (joined ns)
+    → Front None following octets → ⊥
 never_great {following = following} (arcs {x = x} {y = y} {zs = zs} a b c d l) e f =
     let r = septets_front f.number (40 * x + y) following (flat_map septets zs) (sym f.whole ∙ e) in
     let g : 2 ^ 64 + 80 ≤ f.number = f.is_arc in
     let s = r.0 in
     omega arith
 
-pub never_none : {ns octets : List ℕ} → IsObjectIdentifier ns → octets ≡ flat_map septets (joined ns) → ((n : ℕ) (r : List ℕ) → octets ≡ septets n ++ r → ⊥) → ⊥
+pub never_none : {ns octets : List ℕ} → IsObjectIdentifier ns → octets ≡ flat_map septets (joined ns)
+    → ((n : ℕ) (r : List ℕ) → octets ≡ septets n ++ r → ⊥) → ⊥
 never_none (arcs {x = x} {y = y} {zs = zs} a b c d l) e none = none (40 * x + y) (flat_map septets zs) e

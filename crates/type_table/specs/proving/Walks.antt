@@ -103,9 +103,27 @@ repeats_on next k i (Some j) e go =
     elim (go j) [
       | inl d ↦ elim (apart i (visited next k j)) [
         | inl a ↦ inl (a, d)
-        | inr h ↦ (let m = meets next k j i h in inr (record { before = zero; after = m.steps; at = i; few = omega (arith, m.few); chain = refl; back = rw e m.chain }))
+        | inr h ↦ (let m = meets next k j i h in inr
+            (record {
+              before = zero;
+              after = m.steps;
+              at = i;
+              few = omega (arith, m.few);
+              chain = refl;
+              back =
+                  rw e m.chain;
+            }))
       ]
-      | inr r ↦ inr (record { before = suc r.before; after = r.after; at = r.at; few = omega (arith, r.few); chain = rw e r.chain; back = r.back })
+      | inr r ↦ inr
+          (record {
+            before = suc r.before;
+            after = r.after;
+            at = r.at;
+            few = omega (arith, r.few);
+            chain =
+                rw e r.chain;
+            back = r.back;
+          })
     ]
 
 repeats : (next : ℕ → Option ℕ) (k i : ℕ) → IsDistinct eqb (visited next k i) ⊎ Repeats next k i
@@ -117,7 +135,8 @@ circular : (next : ℕ → Option ℕ) (n i p : ℕ) → follow next n i ≡ Som
 circular next n i p e r =
     let m : ℕ = n - r.before in
     let s : r.before + m ≡ n = omega (arith, r.few) in
-    let to_p : follow next m r.at ≡ Some p = sym (walk_walk next r.before m i r.at r.chain) ∙ ap (λ k. follow next k i) s ∙ e in
+    let to_p : follow next m r.at ≡ Some p = sym (walk_walk next r.before m i r.at r.chain) ∙ ap (λ k. follow next k i)
+    s ∙ e in
     let one = walk_walk next m (suc r.after) r.at p to_p in
     let two = walk_walk next (suc r.after) m r.at r.at r.back in
     let t : m + suc r.after ≡ suc r.after + m = omega arith in
@@ -128,7 +147,13 @@ pub comes_back : (next : ℕ → Option ℕ) (n i p : ℕ) → IsWithin next n �
     ComesBack next p
 comes_back next n i p c l e =
     elim (repeats next n i) [
-      | inl d ↦ absurd (omega (arith, length_visited next n i p e, length-le_from_distinct_below (visited next n i) n d (λ q h. below next n (meets next n i q h).steps i q c l (meets next n i q h).chain)))
+      | inl d ↦ absurd
+          (omega (
+            arith,
+            length_visited next n i p e,
+            length-le_from_distinct_below (visited next n i) n d
+                (λ q h. below next n (meets next n i q h).steps i q c l (meets next n i q h).chain),
+          ))
       | inr r ↦ circular next n i p e r
     ]
 
@@ -144,7 +169,12 @@ pub ended_few : (next : ℕ → Option ℕ) (n k i c : ℕ) → IsWithin next n 
     next c ≡ None → k < n
 ended_few next n k i c closed l e f =
     elim (repeats next k i) [
-      | inl d ↦ omega (arith, length_visited next k i c e, length-le_from_distinct_below (visited next k i) n d (λ q h. below next n (meets next k i q h).steps i q closed l (meets next k i q h).chain))
+      | inl d ↦ omega (
+        arith,
+        length_visited next k i c e,
+        length-le_from_distinct_below (visited next k i) n d
+            (λ q h. below next n (meets next k i q h).steps i q closed l (meets next k i q h).chain),
+      )
       | inr r ↦ absurd (ends_once next c f (circular next k i c e r))
     ]
 

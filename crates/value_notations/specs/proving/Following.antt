@@ -43,8 +43,10 @@ walks_to_one next (suc k) (suc m) i c d e n f o =
 
 pub one_kind : (ts : List Type') (i : ℕ) (k l : Kind) → IsOfKind ts i k → IsOfKind ts i l → k ≡ l
 one_kind ts i k l a b =
-    let same = walks_to_one (next ts) a.chain.steps b.chain.steps i a.core b.core a.chain.chain a.chain.ends b.chain.chain b.chain.ends in
-    let types = one_some (slice_get ts a.core) a.type b.type a.there (subst (λ (x : ℕ). slice_get ts x ≡ Some b.type) (sym same) b.there) in
+    let same = walks_to_one (next ts) a.chain.steps b.chain.steps i a.core b.core a.chain.chain a.chain.ends
+    b.chain.chain b.chain.ends in
+    let types = one_some (slice_get ts a.core) a.type b.type a.there
+    (subst (λ (x : ℕ). slice_get ts x ≡ Some b.type) (sym same) b.there) in
     sym a.kind ∙ ap (λ (t : Type'). t.kind) types ∙ b.kind
 
 pub sound_kind : (ts : List Type') (i : ℕ) (k : Kind) → AreSound ts → IsOfKind ts i k → IsSoundKind k
@@ -97,7 +99,8 @@ one_value_meant ms M q x i j apart a b =
 
 pub one_header : (p : Program) (g : ℕ) (M N x y : Name) → IsAssignment p g M x → IsAssignment p g N y → M ≡ N
 one_header p g M N x y a b =
-    let owners = ap (λ (o : ℕ × Name). o.0) (one_some (slice_get p.assignments g) (a.owner, x) (b.owner, y) a.assigned b.assigned) in
+    let owners = ap (λ (o : ℕ × Name). o.0)
+    (one_some (slice_get p.assignments g) (a.owner, x) (b.owner, y) a.assigned b.assigned) in
     ap (λ (h : Name × TagDefault). h.0)
     (one_some (slice_get p.headers a.owner) (M, a.tags) (N, b.tags) a.header
     (subst (λ (o : ℕ). slice_get p.headers o ≡ Some (N, b.tags)) (sym owners) b.header))
@@ -143,7 +146,8 @@ pub one_last : {p : Program} {k : Kind} {os ps qs : List ℕ} {M K L : Name} {n 
 one_last apart (last.own o) (last.own u) = record { opened = refl; within = refl; notation = refl }
 one_last {k = k} apart (last.own o) (last.referred {q = q} {x = x} i none r f v a) = absurd (not_named k q x none o)
 one_last {k = k} apart (last.referred {q = q} {x = x} i none r f v a) (last.own o) = absurd (not_named k q x none o)
-one_last {p} {M = M} apart (last.referred {N = N} {q = q} {x = x} {m = u} i none r f v a) (last.referred {N = O} {m = w} j without s g y b) =
+one_last {p} {M = M} apart (last.referred {N = N} {q = q} {x = x} {m = u} i none r f v a)
+    (last.referred {N = O} {m = w} j without s g y b) =
     let same = one_value_meant p.modules M q x i j apart r s in
     let at = one_module p i N O u w v (subst (λ (z : ℕ). IsValueAt p z O w) (sym same) y) in
     one_last apart a (moved i j same at.0 at.1 b)
