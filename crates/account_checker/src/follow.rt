@@ -1,41 +1,28 @@
 //! Whether the rows of an account follow a type and a value (X.690, 8.1 and 8.9 to 8.14).
 
-ghost use Rattle.account_checker.specs.Follows.{ElementsFollow, Follows, InsideFollows, MembersFollow, Under, Checked};
-ghost use Rattle.account_checker.specs.Follows.{AreContents, HasContents, before, is_built, sizes};
-ghost use Rattle.account_checker.specs.Follows.{total_octets as octets_in};
-ghost use Rattle.account_checker.specs.Parts.{AreEnds, ChoiceFollows, FieldsFollow, HasDefault, IsOuterOf, ListFollows};
-ghost use Rattle.account_checker.specs.Parts.{ElementAt, Member, MemberAt, WrittenAt};
-ghost use Rattle.account_checker.specs.Parts.{is_absent, is_default as left_out};
-ghost use Rattle.account_checker.specs.Parts.{place_in, rows_in, size_in, size_or};
-ghost use Rattle.asn_base.specs.Abstract.{AbstractValue, Row as Row', abstract, row_of_list, row_of_options};
-ghost use Rattle.asn_base.specs.Abstract.{alternative, fields, list};
-ghost use Rattle.asn_base.specs.Decided.{IsChosen, IsComponent};
-ghost use Rattle.asn_base.specs.Seen.{alternative_of, component_of, kind_of};
-ghost use Rattle.asn_base.specs.Typed.{AreComponents, AreElements, ValueIn, ValueOf};
-ghost use Rattle.asn_base.specs.Same.{IsLeaf};
-ghost use Rattle.asn_base.specs.Schemas.{HasValue, IsSound};
-ghost use Rattle.asn_base.specs.Types.{Alternative, Kind, Resolved};
-ghost use Rattle.account_checker.specs.declared.checks.Checks.{Checks as Checks'};
-ghost use Rattle.encodings.specs.Encoding.{IsDefault};
-ghost use Rattle.encodings.specs.Header.{Octets};
-ghost use Rattle.std.specs.List.{AllByRecursion};
-ghost use Rattle.encodings.specs.Account.{Account, Inside, Numbers as Numbers', Rows, header};
-ghost use Rattle.octet_account.specs.Flat.{FlatRow, count, member_rows, rows_of};
-ghost use Rattle.octet_account.specs.Seen.{flat, numbers_of, flat_row};
-ghost use Rattle.std.specs.List.{sum};
-ghost use Rattle.std.specs.Prelude.{◌+◌, ◌^◌, ◌≡◌, ◌≤◌, ◌<◌, ◌++◌, ◌∷◌, ◌↔◌, []};
-ghost use Rattle.std.specs.Prelude.{ℕ, List, length, map, option_map, slice_get};
-ghost use Rattle.std.specs.Prelude.{IsTrue, MatchOption, None, Some};
+ghost use Rattle.account_checker.specs.Follows.{Follows, InsideFollows, Under, Checked, total_octets as octets_in};
+ghost use Rattle.account_checker.specs.Parts.{ChoiceFollows, WrittenAt};
+ghost use Rattle.asn_base.specs.Abstract.{AbstractValue, abstract, alternative};
+ghost use Rattle.asn_base.specs.Decided.{IsChosen};
+ghost use Rattle.asn_base.specs.Seen.{alternative_of, kind_of};
+ghost use Rattle.asn_base.specs.Typed.{ValueIn, ValueOf};
+ghost use Rattle.asn_base.specs.Schemas.{IsSound};
+ghost use Rattle.encodings.specs.Account.{Account, Inside, Numbers as Numbers', header};
+ghost use Rattle.octet_account.specs.Flat.{FlatRow, count, rows_of};
+ghost use Rattle.octet_account.specs.Seen.{flat, flat_row};
+ghost use Rattle.std.specs.Prelude.{◌+◌, ◌≡◌, ◌≤◌, ◌<◌, ◌++◌, ◌∷◌, [], ℕ, List, map, MatchOption, None, Some};
 
 use crate::checks::Checks;
+use crate::components::structure;
+use crate::elements::series;
 use crate::header::{after_header, part};
-use crate::order::{Order, are_in_order, are_known, start, written_to};
+use crate::order::Order;
 use crate::walk::{
-    AfterMember, Counted, chosen_type, has_count, has_octets, innermost, is_constructed, is_leaf,
-    is_to_be_written, may_be_absent, may_be_left_out, numbers_in, offset_after, total_octets,
+    AfterMember, chosen_type, has_octets, innermost, is_constructed, is_leaf, numbers_in,
+    total_octets,
 };
 use asn_base::law::lemma_abstract_values;
-use asn_base::schema::{Alternatives, Component, Core, Presence, Schema, TypeId};
+use asn_base::schema::{Alternatives, Core, Schema, TypeId};
 use asn_base::tag::Tag;
 use asn_base::value::Value;
 use encodings::header_laws;
@@ -405,226 +392,9 @@ fn chosen<'r>(
     }
 }
 
-/// Whether the rows follow the components of a SEQUENCE or SET. `listed` is the number of members that the row of the
-/// header gives.
-#[cycle(follow)]
-fn structure<'r>(
-    schema: &Schema,
-    checks: Checks,
-    levels: u8,
-    components: &[Component],
-    value: &Value,
-    contents: u32,
-    octets: &[u8],
-    listed: u32,
-    order: Order<'r>,
-    rows: &'r [Row],
-) -> Option<&'r [Row]>
-    requires value { (vs : Row') → abstract value.now ≡ fields vs
-        → AreComponents schema.now levels (map component_of components.now) vs }
-    requires few { levels ≤ 64 }
-    requires defaults { AllByRecursion (HasValue schema.now) (map component_of components.now) }
-    ensures { (rs : Rows) (rest : List FlatRow)
-        → flat rows.now ≡ member_rows rs ++ rest
-        → count rs ≡ listed
-        → MatchOption result
-        (FieldsFollow schema.now checks order.entry (map component_of components.now) (abstract value.now)
-        contents octets.now rs → ⊥)
-        (λ r. FieldsFollow schema.now checks order.entry (map component_of components.now) (abstract value.now)
-        contents octets.now rs
-        × (flat r.now ≡ rest)) }
-{
-    lemma_abstract_values();
-    let Value::Fields(items) = value else {
-        return None;
-    };
-    let values = items.as_slice();
-    if listed as usize != components.len() {
-        return None;
-    }
-    if values.len() != components.len() {
-        return None;
-    }
-    let Some(known) = are_known(checks, order, contents, rows, components.len()) else {
-        return None;
-    };
-    match members(
-        schema, checks, levels, components, values, order, known, octets, rows,
-    ) {
-        Some(counted) => {
-            if has_count(checks, contents, counted.octets)
-                && are_in_order(checks, order, counted.written)
-            {
-                Some(counted.rows)
-            } else {
-                None
-            }
-        }
-        None => None,
-    }
-}
-
-/// Whether the rows follow the components and their values. Each component has its row or rows, one component after
-/// another.
-#[cycle(follow)]
-fn members<'r>(
-    schema: &Schema,
-    checks: Checks,
-    levels: u8,
-    components: &[Component],
-    values: &[Option<Value>],
-    order: Order<'r>,
-    known: bool,
-    octets: &[u8],
-    rows: &'r [Row],
-) -> Option<Counted<'r>>
-    requires long { length values.now ≡ length components.now }
-    requires value { AreComponents schema.now levels (map component_of components.now)
-        (row_of_options (map (option_map abstract) values.now)) }
-    requires few { levels ≤ 64 }
-    requires defaults { AllByRecursion (HasValue schema.now) (map component_of components.now) }
-    requires ends { IsTrue known
-        → (rs : Rows) (rest : List FlatRow)
-        → flat rows.now ≡ member_rows rs ++ rest
-        → count rs ≡ length components.now
-        → AreEnds order (sizes rs) }
-    ensures { (rs : Rows) (rest : List FlatRow)
-        → flat rows.now ≡ member_rows rs ++ rest
-        → count rs ≡ length components.now
-        → MatchOption result
-        (MembersFollow schema.now checks (place_in order.entry (sizes rs)) (map component_of components.now)
-        (row_of_options (map (option_map abstract) values.now)) 0 octets.now rs
-        → ⊥)
-        (λ r. MembersFollow schema.now checks (place_in order.entry (sizes rs)) (map component_of components.now)
-        (row_of_options (map (option_map abstract) values.now)) 0 octets.now rs
-        × (flat r.rows.now ≡ rest)
-        × (r.octets ≡ sum (sizes rs))
-        × (r.written ≡ length (sizes rs))) }
-{
-    let mut left = rows;
-    let mut place: u128 = 0;
-    let mut number: usize = 0;
-    for i in 0..components.len() {
-        let at = start(checks, order, known, rows, components.len(), number, place);
-        match member(
-            schema,
-            checks,
-            levels,
-            &components[i],
-            &values[i],
-            at,
-            octets,
-            left,
-        ) {
-            Some(passed) => {
-                left = passed.rows;
-                place = offset_after(place, passed.size, i);
-                number = written_to(number, passed.size, components.len());
-            }
-            None => return None,
-        }
-    }
-    Some(Counted {
-        rows: left,
-        octets: place,
-        written: number,
-    })
-}
-
-/// Whether the rows follow a component and its value. If the value is encoded, it is at this place.
-#[cycle(follow)]
-fn member<'r>(
-    schema: &Schema,
-    checks: Checks,
-    levels: u8,
-    component: &Component,
-    value: &Option<Value>,
-    place: u128,
-    octets: &[u8],
-    rows: &'r [Row],
-) -> Option<AfterMember<'r>>
-    requires value { IsComponent schema.now levels (component_of component.now) (option_map abstract value.now) }
-    requires few { levels ≤ 64 }
-    requires default { HasValue schema.now (component_of component.now) }
-    ensures { (m : Member) (rest : List FlatRow)
-        → flat rows.now ≡ rows_in m ++ rest
-        → MatchOption result
-        (MemberAt schema.now checks place (component_of component.now) (option_map abstract value.now) octets.now m → ⊥)
-        (λ r. MemberAt schema.now checks place (component_of component.now) (option_map abstract value.now) octets.now m
-        × (flat r.rows.now ≡ rest)
-        × (r.size ≡ size_in m)) }
-{
-    let Some((row, following)) = rows.split_first() else {
-        return None;
-    };
-    match &row.listed {
-        RowLayout::Absent => {
-            if may_be_absent(component, value) {
-                Some(AfterMember {
-                    rows: following,
-                    size: None,
-                })
-            } else {
-                None
-            }
-        }
-        RowLayout::Default => {
-            if may_be_left_out(schema, checks, levels, component, value) {
-                Some(AfterMember {
-                    rows: following,
-                    size: None,
-                })
-            } else {
-                None
-            }
-        }
-        _ => match value {
-            Some(value) => {
-                if !is_to_be_written(schema, checks, levels, component, value) {
-                    return None;
-                }
-                match written(
-                    schema,
-                    checks,
-                    levels,
-                    component.ty,
-                    value,
-                    place,
-                    octets,
-                    rows,
-                ) {
-                    Some(passed) => Some(passed),
-                    None => None,
-                }
-            }
-            None => match &component.presence {
-                Presence::Default(default) => {
-                    if checks.omitted {
-                        return None;
-                    }
-                    match written(
-                        schema,
-                        checks,
-                        levels,
-                        component.ty,
-                        default,
-                        place,
-                        octets,
-                        rows,
-                    ) {
-                        Some(passed) => Some(passed),
-                        None => None,
-                    }
-                }
-                _ => None,
-            },
-        },
-    }
-}
-
 /// Whether the rows follow a value that is encoded at a place.
 #[cycle(follow)]
-fn written<'r>(
+pub(crate) fn written<'r>(
     schema: &Schema,
     checks: Checks,
     levels: u8,
@@ -659,148 +429,5 @@ fn written<'r>(
             size: Some(size),
         }),
         None => None,
-    }
-}
-
-/// Whether the rows follow the elements of a SEQUENCE OF or SET OF. `listed` is the number of members that the row of
-/// the header gives.
-#[cycle(follow)]
-fn series<'r>(
-    schema: &Schema,
-    checks: Checks,
-    levels: u8,
-    element: TypeId,
-    value: &Value,
-    contents: u32,
-    octets: &[u8],
-    listed: u32,
-    order: Order<'r>,
-    rows: &'r [Row],
-) -> Option<&'r [Row]>
-    requires value { (vs : Row') → abstract value.now ≡ list vs → AreElements schema.now levels element.index vs }
-    requires few { levels ≤ 64 }
-    ensures { (rs : Rows) (rest : List FlatRow)
-        → flat rows.now ≡ member_rows rs ++ rest
-        → count rs ≡ listed
-        → MatchOption result
-        (ListFollows schema.now checks order.entry element.index (abstract value.now) contents octets.now rs → ⊥)
-        (λ r. ListFollows schema.now checks order.entry element.index (abstract value.now) contents octets.now rs
-        × (flat r.now ≡ rest)) }
-{
-    lemma_abstract_values();
-    let Value::List(items) = value else {
-        return None;
-    };
-    let values = items.as_slice();
-    if listed as usize != values.len() {
-        return None;
-    }
-    let Some(known) = are_known(checks, order, contents, rows, values.len()) else {
-        return None;
-    };
-    match elements(
-        schema, checks, levels, element, values, order, known, octets, rows,
-    ) {
-        Some(counted) => {
-            if has_count(checks, contents, counted.octets)
-                && are_in_order(checks, order, counted.written)
-            {
-                Some(counted.rows)
-            } else {
-                None
-            }
-        }
-        None => None,
-    }
-}
-
-/// Whether the rows follow the elements. Each element has its rows, one element after another.
-#[cycle(follow)]
-fn elements<'r>(
-    schema: &Schema,
-    checks: Checks,
-    levels: u8,
-    element: TypeId,
-    values: &[Value],
-    order: Order<'r>,
-    known: bool,
-    octets: &[u8],
-    rows: &'r [Row],
-) -> Option<Counted<'r>>
-    requires value { AreElements schema.now levels element.index (row_of_list (map abstract values.now)) }
-    requires few { levels ≤ 64 }
-    requires ends { IsTrue known
-        → (rs : Rows) (rest : List FlatRow)
-        → flat rows.now ≡ member_rows rs ++ rest
-        → count rs ≡ length values.now
-        → AreEnds order (sizes rs) }
-    ensures { (rs : Rows) (rest : List FlatRow)
-        → flat rows.now ≡ member_rows rs ++ rest
-        → count rs ≡ length values.now
-        → MatchOption result
-        (ElementsFollow schema.now checks (place_in order.entry (sizes rs)) element.index
-        (row_of_list (map abstract values.now)) 0 octets.now rs
-        → ⊥)
-        (λ r. ElementsFollow schema.now checks (place_in order.entry (sizes rs)) element.index
-        (row_of_list (map abstract values.now)) 0 octets.now rs
-        × (flat r.rows.now ≡ rest)
-        × (r.octets ≡ sum (sizes rs))
-        × (r.written ≡ length (sizes rs))) }
-{
-    let mut left = rows;
-    let mut place: u128 = 0;
-    let mut number: usize = 0;
-    for i in 0..values.len() {
-        let at = start(checks, order, known, rows, values.len(), number, place);
-        match one_element(
-            schema, checks, levels, element, &values[i], at, octets, left,
-        ) {
-            Some(passed) => {
-                left = passed.rows;
-                place = offset_after(place, passed.size, i);
-                number = written_to(number, passed.size, values.len());
-            }
-            None => return None,
-        }
-    }
-    Some(Counted {
-        rows: left,
-        octets: place,
-        written: number,
-    })
-}
-
-/// Whether the rows follow one element, which is at this place.
-#[cycle(follow)]
-fn one_element<'r>(
-    schema: &Schema,
-    checks: Checks,
-    levels: u8,
-    element: TypeId,
-    value: &Value,
-    place: u128,
-    octets: &[u8],
-    rows: &'r [Row],
-) -> Option<AfterMember<'r>>
-    requires value { ValueIn schema.now levels element.index (abstract value.now) }
-    requires few { levels ≤ 64 }
-    ensures { (m : Member) (rest : List FlatRow)
-        → flat rows.now ≡ rows_in m ++ rest
-        → MatchOption result
-        (ElementAt schema.now checks place element.index (abstract value.now) octets.now m → ⊥)
-        (λ r. ElementAt schema.now checks place element.index (abstract value.now) octets.now m
-        × (flat r.rows.now ≡ rest)
-        × (r.size ≡ size_in m)) }
-{
-    let Some((row, _)) = rows.split_first() else {
-        return None;
-    };
-    match &row.listed {
-        RowLayout::Absent => None,
-        RowLayout::Default => None,
-        _ => match written(schema, checks, levels, element, value, place, octets, rows) {
-            Some(passed) => Some(passed),
-            None => None,
-        },
     }
 }

@@ -3,6 +3,8 @@
 
 mod checking;
 pub mod checks;
+mod components;
+mod elements;
 mod follow;
 mod header;
 pub mod law;
