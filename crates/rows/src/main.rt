@@ -17,17 +17,21 @@
 //! `numbered` each `#` of its texts is replaced by a number, counted from 0.
 #![tactic(auto)]
 
+mod changes;
 mod packed_sweeps;
 mod programs;
 mod refusal;
 mod requests;
+mod starved;
 mod sweeps;
 mod wanted;
 
 ghost use Rattle.std.specs.Prelude.{IfOk, map, string_bytes};
 ghost use Rattle.row_format.specs.Rows.{IsEntry};
 
-use crate::refusal::{Refusal, refuse};
+use crate::changes::Changes;
+use crate::refusal::Refusal;
+use crate::starved::Answered;
 use crate::wanted::{Count, differs, push_shown};
 use row_format::{Row, rows};
 use std::alloc::{AllocError, Global};
@@ -38,21 +42,25 @@ use test_codec_answers::Samples;
 /// The answer to a row, by its command.
 fn answer_of(alloc: Global, row: &Row) -> Result<String, Refusal> {
     match row.command() {
-        "line" => programs::line(alloc, row),
-        "notation" => programs::notation(alloc, row),
-        "asnc" => programs::run(alloc, row, "asnc"),
-        "octcheck" => programs::run(alloc, row, "octcheck"),
-        "job" => programs::job_of(alloc, row, "asnc"),
-        "octjob" => programs::job_of(alloc, row, "octcheck"),
         "sweep" => sweeps::sweep(alloc, row),
         "packed-sweep" => packed_sweeps::sweep(alloc, row),
-        _ => Err(refuse(alloc, &"no such command")),
+        _ => programs::call(alloc, row, 0),
     }
 }
 
+/// What is found of the answers of this crate: how many are those that their rows want, and how many are wrong after a
+/// change. `answers` are those to the rows of one file, and `answered` the files that were answered.
+#[derive(Drop)]
+struct Findings {
+    count: Count,
+    changes: Changes,
+    answers: Vec<String>,
+    answered: Vec<Answered>,
+}
+
 /// The entry of a row that this crate answers: its title, and below it the lines of its answer. If the row wants
-/// another answer, that follows.
-fn own_answer(alloc: Global, row: &Row, count: &mut Count) -> Result<String, AllocError>
+/// another answer, or a change of its octets gets a wrong one, that follows.
+fn own_answer(alloc: Global, row: &Row, findings: &mut Findings) -> Result<String, AllocError>
     ensures { IfOk result (λ s. IsEntry (map string_bytes row.now.words.items) (string_bytes s)) }
 {
     let answer = match answer_of(alloc, row) {
@@ -62,10 +70,15 @@ fn own_answer(alloc: Global, row: &Row, count: &mut Count) -> Result<String, All
     };
     let mut lines = String::new(alloc);
     push_shown(alloc, &mut lines, answer.as_str())?;
-    if let Some(wanted) = differs(alloc, row, answer.as_str(), count)? {
+    if let Some(wanted) = differs(alloc, row, answer.as_str(), &mut findings.count)? {
         lines.push_str("but wanted:\n")?;
         push_shown(alloc, &mut lines, wanted)?;
     }
+    let wrong = findings.changes.change(alloc, row, answer.as_str())?;
+    if wrong > 0 {
+        write!(lines, "but {wrong} changes have a wrong answer\n")?;
+    }
+    findings.answers.push(answer)?;
     row.entry(alloc, lines.as_str())
 }
 
@@ -75,7 +88,7 @@ fn answer(
     samples: &Samples,
     folder: &str,
     row: &Row,
-    count: &mut Count,
+    findings: &mut Findings,
 ) -> io::Result<String>
     ensures { IfOk result (λ s. IsEntry (map string_bytes row.now.words.items) (string_bytes s)) }
 {
@@ -86,16 +99,27 @@ fn answer(
         "modules" if row.command() == "speed" => test_module_answers::measure(rt, row),
         "modules" => Ok(test_module_answers::answer(alloc, row)?),
         "codec" => Ok(samples.answer(alloc, row)?),
-        _ => Ok(own_answer(alloc, row, count)?),
+        _ => Ok(own_answer(alloc, row, findings)?),
     }
 }
 
-/// Prints the name of a file, and the entry of each of its rows.
+/// Prints how many messages and accounts of a file were changed.
+fn print_changed(rt: &HostRuntime, changes: Changes) -> io::Result<()> {
+    let Changes {
+        messages,
+        accounts,
+        wrong,
+    } = changes;
+    println!(rt; "{messages} messages and {accounts} accounts changed, {wrong} wrong answers")
+}
+
+/// Prints the name of a file, and the entry of each of its rows. After rows that this crate answers a line follows on
+/// how many were changed, and the file is kept.
 fn answer_file(
     rt: &HostRuntime,
     samples: &Samples,
     file: &str,
-    count: &mut Count,
+    findings: &mut Findings,
 ) -> io::Result<()> {
     println!(rt; "{file}")?;
     let octets = fs::read(rt, file)?;
@@ -105,8 +129,31 @@ fn answer_file(
     };
     let (folder, _) = file.split_once('/').unwrap_or(("", file));
     for row in &rows {
-        let entry = answer(rt, samples, folder, row, count)?;
+        let entry = answer(rt, samples, folder, row, findings)?;
         println!(rt; "{entry}")?;
+    }
+    if !folder.is_empty() {
+        return Ok(());
+    }
+    print_changed(rt, findings.changes)?;
+    findings.changes = Changes::default();
+    let file = String::from_str(rt.alloc(), file)?;
+    let answers = std::mem::replace(&mut findings.answers, Vec::new(rt.alloc()));
+    findings.answered.push(Answered {
+        file,
+        rows,
+        answers,
+    })?;
+    Ok(())
+}
+
+/// Answers the rows of this crate again with ever more memory, and prints what is found.
+fn answer_again(rt: &HostRuntime, answered: &[Answered]) -> io::Result<()> {
+    let Some(mut pool) = starved::all_memory(rt.alloc(), answered.len())? else {
+        return println!(rt; "no row with less memory: it has no end");
+    };
+    for file in answered {
+        file.answer_again(rt, &mut pool)?;
     }
     Ok(())
 }
@@ -114,14 +161,20 @@ fn answer_file(
 /// The status is 1 if an answer isn't the one that its row wants.
 fn main(rt: HostRuntime) -> io::Result<ExitCode> {
     let samples = Samples::new(rt.alloc())?;
-    let mut count = Count::default();
+    let mut findings = Findings {
+        count: Count::default(),
+        changes: Changes::default(),
+        answers: Vec::new(rt.alloc()),
+        answered: Vec::new(rt.alloc()),
+    };
     for file in env::args(&rt)?.skip(1) {
-        answer_file(&rt, &samples, file.as_str(), &mut count)?;
+        answer_file(&rt, &samples, file.as_str(), &mut findings)?;
     }
+    answer_again(&rt, findings.answered.as_slice())?;
     let Count {
         compared,
         different,
-    } = count;
+    } = findings.count;
     println!(rt; "{compared} rows want an answer, {different} have another")?;
     Ok(if different == 0 {
         ExitCode::SUCCESS

@@ -73,19 +73,20 @@ fn outcome(alloc: Global, asked: &Asked) -> Result<String, AllocError> {
 }
 
 /// The answer to a job that takes lines: what the program prints for these lines, and `status 1` if one was refused; or
-/// what it prints, and the line of the fault that ended it.
+/// what it prints, and the line of the fault that ended it. The sink takes `room` octets without an allocation.
 fn outcome_of_lines(
     alloc: Global,
     asked: &Asked,
     command: LineCommand,
     lines: &[u8],
+    room: usize,
 ) -> Result<String, AllocError> {
     let job = LineJob {
         job: &asked.job,
         inputs: &asked.inputs,
         command,
     };
-    let mut sink = InMemory::of(Vec::new(alloc));
+    let mut sink = InMemory::of(Vec::with_capacity(alloc, room)?);
     let done = work_lines(alloc, job, &mut InputLines::of(alloc, lines), &mut sink);
     let mut text = printed(alloc, sink.into_octets().as_slice())?;
     match done {
@@ -132,8 +133,8 @@ fn names_of(alloc: Global, texts: &[RowText]) -> Result<Vec<String>, AllocError>
     Ok(names)
 }
 
-/// The answer of `der` for a value in the texts of a row under the type that its first word names, `M.T` without one.
-fn of_value(alloc: Global, row: &Row, value: ValueWords) -> Result<String, Refusal> {
+/// The job of `der` for a value in the texts of a row under the type that its first word names, `M.T` without one.
+fn asked_of_value(alloc: Global, row: &Row, value: ValueWords) -> Result<Asked, Refusal> {
     let words = asked(alloc, row)?;
     let job = Job {
         verb: Verb::Der,
@@ -153,20 +154,20 @@ fn of_value(alloc: Global, row: &Row, value: ValueWords) -> Result<String, Refus
         octets: None,
         account: None,
     };
-    Ok(outcome(alloc, &Asked { job, inputs })?)
+    Ok(Asked { job, inputs })
 }
 
-/// `line NAME [TYPE [VALUE]]`: the answer for a value in the texts of the row. Without other names that is `M.v` under
+/// `line NAME [TYPE [VALUE]]`: the job for a value in the texts of the row. Without other names that is `M.v` under
 /// `M.T`.
-pub fn line(alloc: Global, row: &Row) -> Result<String, Refusal> {
+fn line(alloc: Global, row: &Row) -> Result<Asked, Refusal> {
     let words = asked(alloc, row)?;
     let name = String::from_str(alloc, word_or(words.as_slice(), 1, "M.v"))?;
-    of_value(alloc, row, ValueWords::Named(name))
+    asked_of_value(alloc, row, ValueWords::Named(name))
 }
 
-/// `notation NAME [TYPE]`: the answer for the value that the row's text `notation` is the notation of, under `M.T` if
+/// `notation NAME [TYPE]`: the job for the value that the row's text `notation` is the notation of, under `M.T` if
 /// there is no other name. The line end of that text is left out.
-pub fn notation(alloc: Global, row: &Row) -> Result<String, Refusal> {
+fn notation(alloc: Global, row: &Row) -> Result<Asked, Refusal> {
     let octets = match row.texts.iter().find(|text| is_notation(text)) {
         Some(text) => text.octets.as_slice(),
         None => &[],
@@ -175,7 +176,7 @@ pub fn notation(alloc: Global, row: &Row) -> Result<String, Refusal> {
         Ok(text) => text.strip_suffix('\n').unwrap_or(text),
         Err(_) => return Err(refuse(alloc, &"a notation that is not text")),
     };
-    of_value(
+    asked_of_value(
         alloc,
         row,
         ValueWords::Written(String::from_str(alloc, text)?),
@@ -254,16 +255,6 @@ pub fn asked_in(alloc: Global, row: &Row, program: &str) -> Result<Asked, Refusa
     }
 }
 
-/// `asnc NAME WORD..` and `octcheck NAME WORD..`: the output of the program for these words, with the texts of the row
-/// as its files. The text named `stdin` is standard input, if the job takes lines.
-pub fn run(alloc: Global, row: &Row, program: &str) -> Result<String, Refusal> {
-    let asked = asked_in(alloc, row, program)?;
-    match line_command(&asked.job) {
-        Some(command) => Ok(outcome_of_lines(alloc, &asked, command, lines_of(row))?),
-        None => Ok(outcome(alloc, &asked)?),
-    }
-}
-
 /// Adds a line for each file of newer modules.
 fn push_newer(alloc: Global, text: &mut String, newer: &[String]) -> Result<(), AllocError> {
     for file in newer {
@@ -284,7 +275,7 @@ fn value_shown(value: &ValueWords) -> (&'static str, &str) {
 }
 
 /// `job NAME WORD..` and `octjob NAME WORD..`: the job of asnc or octcheck for these words, a line for each part.
-pub fn job_of(alloc: Global, row: &Row, program: &str) -> Result<String, Refusal> {
+fn job_of(alloc: Global, row: &Row, program: &str) -> Result<String, Refusal> {
     let job = job_in(alloc, row, program)?;
     let verb = match job.verb {
         Verb::Der => "der",
@@ -315,4 +306,36 @@ pub fn job_of(alloc: Global, row: &Row, program: &str) -> Result<String, Refusal
     }
     push_newer(alloc, &mut text, job.newer.as_slice())?;
     Ok(text)
+}
+
+/// What a row asks: for `asnc NAME WORD..` and `octcheck NAME WORD..` the job of the program with these words, with the
+/// texts of the row as its files.
+pub fn asked_of(alloc: Global, row: &Row) -> Result<Asked, Refusal> {
+    match row.command() {
+        "line" => line(alloc, row),
+        "notation" => notation(alloc, row),
+        "asnc" | "packed-sweep" => asked_in(alloc, row, "asnc"),
+        "octcheck" | "sweep" => asked_in(alloc, row, "octcheck"),
+        _ => Err(refuse(alloc, &"no such command")),
+    }
+}
+
+/// The output of the program for the job of a row. The text named `stdin` is standard input, if the job takes lines;
+/// then the sink takes `room` octets without an allocation.
+fn run(alloc: Global, row: &Row, room: usize) -> Result<String, Refusal> {
+    let asked = asked_of(alloc, row)?;
+    match line_command(&asked.job) {
+        Some(command) => Ok(outcome_of_lines(alloc, &asked, command, lines_of(row), room)?),
+        None => Ok(outcome(alloc, &asked)?),
+    }
+}
+
+/// The answer to the calls of a row, by its command. Those of a row that sweeps are the calls before its changes. The
+/// sink of a job that takes lines takes `room` octets without an allocation.
+pub fn call(alloc: Global, row: &Row, room: usize) -> Result<String, Refusal> {
+    match row.command() {
+        "job" => job_of(alloc, row, "asnc"),
+        "octjob" => job_of(alloc, row, "octcheck"),
+        _ => run(alloc, row, room),
+    }
 }

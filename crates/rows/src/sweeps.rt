@@ -2,7 +2,7 @@
 
 use crate::programs::{Asked, asked_in};
 use crate::refusal::{Refusal, refuse};
-use asnc::Fault;
+use asnc::{Fault, number};
 use check_jobs::value_of;
 use judging::{Verdict, answer, judge};
 use row_format::Row;
@@ -13,18 +13,25 @@ const KINDS: [&str; 8] = [
     "leaf", "wrap", "seq", "seqof", "set", "setof", "absent", "default",
 ];
 
-/// How often the verdict was yes, how often it was no, and how often there was none, after changes of one kind.
+/// How often the verdict was yes, how often it was no, how often there was none since the account is none (100), and
+/// how often there was none for another reason, after changes of one kind.
 #[derive(Clone, Copy, Default)]
 struct Tally {
     yes: usize,
     no: usize,
     refused: usize,
+    other: usize,
 }
 
 impl Tally {
     /// A line with the verdicts after changes of one kind.
     fn line(&self, alloc: Global, what: &str) -> Result<String, AllocError> {
-        let Tally { yes, no, refused } = *self;
+        let Tally {
+            yes,
+            no,
+            refused,
+            ..
+        } = *self;
         format!(in alloc; "\n{what}: {yes} yes, {no} no, {refused} refused")
     }
 }
@@ -43,7 +50,13 @@ fn tried(
         Ok(Verdict::Yes) => tally.yes = tally.yes.saturating_add(1),
         Ok(Verdict::No(_)) => tally.no = tally.no.saturating_add(1),
         Err(Fault::Memory) => return Err(AllocError),
-        Err(_) => tally.refused = tally.refused.saturating_add(1),
+        Err(fault) => {
+            if number(&fault) == 100 {
+                tally.refused = tally.refused.saturating_add(1);
+            } else {
+                tally.other = tally.other.saturating_add(1);
+            }
+        }
     }
     Ok(())
 }
@@ -261,6 +274,23 @@ fn lines(alloc: Global, asked: &Asked, text: &str) -> Result<String, AllocError>
         out.push_str(line.as_str())?;
     }
     Ok(out)
+}
+
+/// How many answers to changes of an account or of its octets are wrong: a yes, a refusal of another number than 100,
+/// and, of octets with one bit changed, each that isn't a no.
+pub fn wrong_answers(alloc: Global, asked: &Asked, text: &str) -> Result<usize, AllocError> {
+    let bits = other_bits(alloc, asked, text)?;
+    let mut wrong = bits.refused;
+    for tally in &[
+        bits,
+        other_numbers(alloc, asked, text)?,
+        fewer_rows(alloc, asked, text)?,
+        more_rows(alloc, asked, text)?,
+        other_kinds(alloc, asked, text)?,
+    ] {
+        wrong = wrong.saturating_add(tally.yes).saturating_add(tally.other);
+    }
+    Ok(wrong)
 }
 
 /// `sweep NAME WORD..`: the words are those of octcheck, for an account without white space whose verdict is yes. The

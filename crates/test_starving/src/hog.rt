@@ -5,13 +5,16 @@ ghost use Rattle.std.specs.Prelude.{◌≤◌};
 use std::alloc::{AllocError, Global};
 
 /// Blocks to which nothing is written.
-type Blocks = Vec<Vec<u8>>;
+pub type Blocks = Vec<Vec<u8>>;
 
 /// The number of octets of a reserve.
 const RESERVE: usize = 65536;
 
 /// The greatest number of blocks.
-const MOST_BLOCKS: usize = 200_000;
+pub const MOST_BLOCKS: usize = 200_000;
+
+/// The greatest number of blocks of one size.
+const MOST_OF_A_SIZE: usize = 100_000;
 
 /// All memory that the allocator would give, except some reserves.
 #[derive(Drop)]
@@ -21,9 +24,9 @@ pub struct Hog {
     reserves: Blocks,
 }
 
-/// Takes blocks of a size until an allocation fails.
-fn take_blocks(alloc: Global, blocks: &mut Blocks, size: usize) {
-    for _ in 0..100_000 {
+/// Takes blocks of a size, at most so many, until an allocation fails.
+pub fn take_blocks(alloc: Global, blocks: &mut Blocks, size: usize, most: usize) {
+    for _ in 0..most {
         if blocks.len() >= blocks.capacity() {
             return;
         }
@@ -34,14 +37,28 @@ fn take_blocks(alloc: Global, blocks: &mut Blocks, size: usize) {
     }
 }
 
+/// Takes blocks whose sizes are powers of two, from the one before 2^`end` down to 2^3.
+pub fn take_powers(alloc: Global, blocks: &mut Blocks, end: u32)
+    requires { end ≤ 42 }
+{
+    for shift in (3..end).rev() {
+        take_blocks(alloc, blocks, 1 << shift, MOST_OF_A_SIZE);
+    }
+}
+
+/// Takes blocks of each small size.
+pub fn take_small_blocks(alloc: Global, blocks: &mut Blocks) {
+    for step in (0usize..130).rev() {
+        take_blocks(alloc, blocks, 16 * step + 8, MOST_OF_A_SIZE);
+    }
+}
+
 /// Takes the small blocks that were freed.
 fn take_crumbs(alloc: Global, crumbs: &mut Blocks) {
     for shift in (11u32..20).rev() {
-        take_blocks(alloc, crumbs, 1 << shift);
+        take_blocks(alloc, crumbs, 1 << shift, MOST_OF_A_SIZE);
     }
-    for step in (0usize..130).rev() {
-        take_blocks(alloc, crumbs, 16 * step + 8);
-    }
+    take_small_blocks(alloc, crumbs);
 }
 
 impl Hog {
@@ -53,9 +70,7 @@ impl Hog {
         for _ in 0..turns {
             reserves.push(Vec::with_capacity(alloc, RESERVE)?)?;
         }
-        for shift in (3u32..42).rev() {
-            take_blocks(alloc, &mut blocks, 1 << shift);
-        }
+        take_powers(alloc, &mut blocks, 42);
         Ok(Hog {
             blocks,
             crumbs,

@@ -3,7 +3,9 @@
 #![tactic(auto)]
 
 mod hog;
+mod pool;
 mod turns;
 
 pub use hog::Hog;
-pub use turns::{Starved, Swept, Turn, sweep};
+pub use pool::Pool;
+pub use turns::{Starved, Swept, Turn, sweep, sweep_in};
