@@ -21,6 +21,7 @@ mod fault;
 mod forms;
 mod layout;
 mod marks;
+pub mod refusal;
 mod row;
 
 pub use fault::RowFault;

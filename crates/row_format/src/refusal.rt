@@ -1,4 +1,4 @@
-//! Why a row has no answer, except words.
+//! Why a row has no answer.
 
 use std::alloc::{AllocError, AllocFailed, Global};
 use std::fmt;

@@ -20,7 +20,6 @@
 mod changes;
 mod packed_sweeps;
 mod programs;
-mod refusal;
 mod requests;
 mod starved;
 mod sweeps;
@@ -30,9 +29,9 @@ ghost use Rattle.std.specs.Prelude.{IfOk, map, string_bytes};
 ghost use Rattle.row_format.specs.Rows.{IsEntry};
 
 use crate::changes::Changes;
-use crate::refusal::Refusal;
 use crate::starved::Answered;
 use crate::wanted::{Count, differs, push_shown};
+use row_format::refusal::Refusal;
 use row_format::{Row, rows};
 use std::alloc::{AllocError, Global};
 use std::process::ExitCode;

@@ -1,6 +1,5 @@
 //! The answers of the programs asnc and octcheck to their words and to texts.
 
-use crate::refusal::{Refusal, refuse};
 use crate::requests::{asked, is_file, is_notation, texts_of, word};
 use asnc::{Fault, status};
 use check_jobs::refusal;
@@ -8,6 +7,7 @@ use command_line::{Given, Job, ValueWords, Verb, job};
 use diagnostics::report;
 use input_lines::InputLines;
 use jobs::{Inputs, LineCommand, LineJob, line_command, output, work_lines};
+use row_format::refusal::{Refusal, refuse};
 use row_format::{Row, RowText};
 use sinks::InMemory;
 use std::alloc::{AllocError, Global};

@@ -4,8 +4,8 @@
 //! the first of them before that refusal. The last call has enough memory, and must give the row's own answer.
 
 use crate::programs::call;
-use crate::refusal::Refusal;
 use row_format::Row;
+use row_format::refusal::Refusal;
 use std::alloc::{AllocError, Global};
 use std::io;
 use test_starving::{Pool, Starved, Swept, Turn, sweep_in};

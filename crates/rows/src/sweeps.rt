@@ -1,11 +1,11 @@
 //! The checker's verdicts after a change of an account or of octets.
 
 use crate::programs::{Asked, asked_in};
-use crate::refusal::{Refusal, refuse};
 use asnc::{Fault, number};
 use check_jobs::value_of;
 use judging::{Verdict, answer, judge};
 use row_format::Row;
+use row_format::refusal::{Refusal, refuse};
 use std::alloc::{AllocError, Global};
 
 /// The kinds of an account's rows.

@@ -1,8 +1,8 @@
 //! Lists of bits.
 
-use crate::refusal::Refusal;
 use bits::buffer::BitBuf;
 use row_format::Row;
+use row_format::refusal::Refusal;
 use std::alloc::{AllocError, Global};
 
 /// The two numbers before and after a slash.

@@ -4,7 +4,7 @@ ghost use Rattle.std.specs.Prelude.{◌≡◌, IfOk, Some, None, string_bytes};
 ghost use Rattle.views.specs.Tree.{fields, leaf, member, no_member, octets as octets', text};
 
 use crate::built_shown::all;
-use crate::refusal::Refusal;
+use row_format::refusal::Refusal;
 use std::alloc::{AllocError, Global};
 use views::{Builder, View};
 

@@ -1,10 +1,10 @@
 //! The header at the front of octets.
 
-use crate::refusal::{Refusal, refuse};
 use crate::words::{octets_in, word};
 use asn_base::tag::Class;
 use octets::{Form, Header, read_header};
 use row_format::Row;
+use row_format::refusal::{Refusal, refuse};
 use std::alloc::{AllocError, Global};
 
 fn class_name(class: Class) -> &'static str {

@@ -1,10 +1,10 @@
 //! Header octets, and the octets of numbers.
 
-use crate::refusal::{Refusal, refuse};
 use crate::words::{octets_in, word};
 use asn_base::tag::{Class, Tag};
 use octets::{Form, header_len, octets_of, write_header};
 use row_format::Row;
+use row_format::refusal::{Refusal, refuse};
 use std::alloc::{AllocError, Global};
 
 fn class(word: &str) -> Option<Class> {

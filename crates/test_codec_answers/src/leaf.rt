@@ -1,13 +1,13 @@
 //! Values without other values in them.
 
 use crate::front::header_of;
-use crate::refusal::{Refusal, refuse};
 use crate::words::{octets_in, word};
 use asn_base::strings::StringKind;
 use encodings::LeafKind;
 use octets::Form;
 use primitive_reader::{Leaf, is_distinguished, read_arc, read_leaf};
 use row_format::Row;
+use row_format::refusal::{Refusal, refuse};
 use std::alloc::{AllocError, Global};
 
 /// The kind with this name.

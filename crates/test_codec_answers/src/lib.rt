@@ -16,7 +16,6 @@ mod leaf;
 mod message;
 mod packed;
 mod place;
-mod refusal;
 mod segments;
 mod strict;
 mod sweep;
@@ -30,10 +29,10 @@ mod written;
 ghost use Rattle.std.specs.Prelude.{◌≡◌, IfOk, map, string_bytes};
 ghost use Rattle.row_format.specs.Rows.{IsEntry};
 
-use crate::refusal::{Refusal, refuse};
 use asn_base::schema::Schema;
 use codec_code::{Code, Fault, compile};
 use row_format::Row;
+use row_format::refusal::{Refusal, refuse};
 use std::alloc::{AllocError, Global};
 use test_types::schema;
 

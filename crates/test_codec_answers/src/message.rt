@@ -1,12 +1,12 @@
 //! The tokens of decoded messages.
 
-use crate::refusal::{Refusal, refuse};
 use crate::words::{octets_of, type_of};
 use ber_message::read_message;
 use ber_source::Token;
 use codec_code::Code;
 use octets::Form;
 use row_format::Row;
+use row_format::refusal::{Refusal, refuse};
 use std::alloc::{AllocError, Global};
 
 /// The most tokens that are printed. If there are more, their number is printed.

@@ -1,12 +1,12 @@
 //! The messages of values in the packed encodings.
 
-use crate::refusal::{Refusal, refuse};
 use crate::words::{type_of, value_at};
 use crate::written::shown;
 use asn_base::schema::Schema;
 use packed_code::compile_packed;
 use packed_writer::write_uper;
 use row_format::Row;
+use row_format::refusal::{Refusal, refuse};
 use std::alloc::Global;
 
 /// `uper NAME TYPE`: the octets of the value's message in unaligned PER, or the fault.

@@ -1,11 +1,11 @@
 //! The places of faults in messages.
 
-use crate::refusal::{Refusal, refuse};
 use crate::words::{octets_of, type_of};
 use ber_reader::{ErrorPosition, Part, locate_error, read_ber};
 use codec_code::Code;
 use decode_faults::ReadFault;
 use row_format::Row;
+use row_format::refusal::{Refusal, refuse};
 use std::alloc::{AllocError, Global};
 
 fn push_part(text: &mut String, part: Part) -> Result<(), AllocError> {

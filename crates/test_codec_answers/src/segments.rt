@@ -2,11 +2,11 @@
 
 use crate::front::header_of;
 use crate::leaf::kind_named;
-use crate::refusal::{Refusal, refuse};
 use crate::words::{octets_in, word};
 use encodings::LeafKind;
 use octets::Form;
 use row_format::Row;
+use row_format::refusal::{Refusal, refuse};
 use segmented_strings::{Reassembled, read_segments};
 use std::alloc::{AllocError, Global};
 

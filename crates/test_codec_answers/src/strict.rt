@@ -1,12 +1,12 @@
 //! Messages that are decoded by the distinguished rules.
 
-use crate::refusal::{Refusal, refuse};
 use crate::view::shown;
 use crate::words::{octets_of, type_of};
 use asn_base::schema::Schema;
 use ber_reader::read_der;
 use codec_code::Code;
 use row_format::Row;
+use row_format::refusal::{Refusal, refuse};
 use std::alloc::Global;
 
 /// `der NAME TYPE HEX..`: the answer of `view` if the message keeps the distinguished rules, or else the fault.

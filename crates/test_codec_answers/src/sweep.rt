@@ -1,12 +1,12 @@
 //! Messages that are cut or changed.
 
-use crate::refusal::{Refusal, refuse};
 use crate::words::{octets_of, type_of};
 use asn_base::schema::TypeId;
 use ber_message::read_message;
 use codec_code::Code;
 use decode_faults::ReadFault;
 use row_format::Row;
+use row_format::refusal::{Refusal, refuse};
 use std::alloc::{AllocError, Global};
 
 /// How many messages were decoded, how many were truncated, and how many had another fault.

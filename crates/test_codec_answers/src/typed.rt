@@ -1,6 +1,5 @@
 //! Values of the types of a schema.
 
-use crate::refusal::{Refusal, refuse};
 use crate::words::{type_of, value_at, word};
 use asn_base::decide::is_value;
 use asn_base::same::same;
@@ -8,6 +7,7 @@ use asn_base::schema::Schema;
 use asn_base::value::Value;
 use codec_code::Code;
 use row_format::Row;
+use row_format::refusal::{Refusal, refuse};
 use std::alloc::Global;
 
 /// The value of one of a row's texts, copied.

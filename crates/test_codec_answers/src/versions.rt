@@ -1,10 +1,10 @@
 //! Later versions of types.
 
-use crate::refusal::Refusal;
 use crate::words::word;
 use asn_base::schema::{Schema, TypeId};
 use later_versions::later;
 use row_format::Row;
+use row_format::refusal::Refusal;
 use std::alloc::{AllocError, Global};
 use test_types::type_named;
 

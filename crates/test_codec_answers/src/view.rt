@@ -1,11 +1,11 @@
 //! Views of messages, in words.
 
-use crate::refusal::{Refusal, refuse};
 use crate::words::{octets_of, type_of};
 use asn_base::schema::{Schema, TypeId};
 use ber_reader::{Read, read_ber};
 use codec_code::Code;
 use row_format::Row;
+use row_format::refusal::{Refusal, refuse};
 use std::alloc::{AllocError, Global};
 use view_text::print_view;
 use views::{ValueRef, View};

@@ -1,10 +1,10 @@
 //! The type, octets and value that the words and texts of a row give.
 
-use crate::refusal::{Refusal, refuse};
 use crate::value::value_of;
 use asn_base::schema::TypeId;
 use asn_base::value::Value;
 use row_format::Row;
+use row_format::refusal::{Refusal, refuse};
 use std::alloc::{AllocError, Global};
 use test_types::type_named;
 

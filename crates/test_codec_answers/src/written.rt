@@ -1,7 +1,6 @@
 //! Encodings of values.
 
 use crate::account::{octets_of, text_of};
-use crate::refusal::{Refusal, refuse};
 use crate::words::{type_of, value_at, word};
 use asn_base::schema::TypeId;
 use asn_base::value::Value;
@@ -9,6 +8,7 @@ use codec_code::Code;
 use der_writer::{Sink, Stops, write_der, write_der_to};
 use octet_account::account::Account;
 use row_format::Row;
+use row_format::refusal::{Refusal, refuse};
 use std::alloc::{AllocError, Global};
 
 /// The most octets that are printed in full. Of more octets the first eight are printed, and their number.

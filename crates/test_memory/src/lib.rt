@@ -3,6 +3,4 @@
 #![tactic(auto)]
 
 #[cfg(test)]
-mod hog;
-#[cfg(test)]
 mod tests;

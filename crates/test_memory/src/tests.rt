@@ -7,9 +7,9 @@ mod headers;
 mod lexer;
 mod parser;
 
-use crate::hog::Hog;
 use std::alloc::Global;
 use std::test::Fail;
+use test_starving::Hog;
 
 /// How many turns a sweep has. Each turn leaves a few octets more than the turn before.
 const TURNS: usize = 3000;

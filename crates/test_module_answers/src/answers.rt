@@ -3,9 +3,9 @@
 ghost use Rattle.std.specs.Prelude.{IfOk, map, string_bytes};
 ghost use Rattle.row_format.specs.Rows.{IsEntry};
 
-use crate::refusal::Refusal;
 use crate::words::{asked, wanted};
 use row_format::Row;
+use row_format::refusal::Refusal;
 use std::alloc::{AllocError, Global};
 
 /// A heading, and below it a line for each word of a row that asks for something.

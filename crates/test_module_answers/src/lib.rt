@@ -20,7 +20,6 @@ mod marks;
 mod notations;
 mod paths;
 mod places;
-mod refusal;
 mod schemas;
 mod shapes;
 mod shown;
@@ -33,8 +32,8 @@ ghost use Rattle.std.specs.Prelude.{IfOk, map, string_bytes};
 ghost use Rattle.row_format.specs.Rows.{IsEntry};
 
 use crate::answers::entry;
-use crate::refusal::{Refusal, refuse};
 use row_format::Row;
+use row_format::refusal::{Refusal, refuse};
 pub use speed::measure;
 use std::alloc::{AllocError, Global};
 

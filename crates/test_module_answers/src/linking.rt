@@ -5,13 +5,13 @@ ghost use Rattle.type_table.specs.Lists.{AreSound};
 
 use crate::answers::lines;
 use crate::faults::unbound;
-use crate::refusal::{Refusal, refuse};
 use crate::words::modules_of;
 use crate::{bounds, links, notations, paths};
 use asn_base::schema::TypeId;
 use constraints::{Bounded, bound};
 use resolve::{Linked, Referent, link};
 use row_format::Row;
+use row_format::refusal::{Refusal, refuse};
 use std::alloc::{AllocError, Global};
 use tagging::{Tagged, tag};
 use trees::Module;

@@ -3,11 +3,11 @@
 use crate::answers::lines;
 use crate::faults::refused;
 use crate::linking::type_at;
-use crate::refusal::Refusal;
 use crate::types::put_type;
 use crate::words::modules_of;
 use front_end::{CheckedModules, open};
 use row_format::Row;
+use row_format::refusal::Refusal;
 use std::alloc::{AllocError, Global};
 
 /// How many levels of types are printed.
