@@ -1,14 +1,15 @@
 -- What is decided of a whole by what is decided of its parts.
 use Rattle.std.proofs.Common.{arith, ◌≡◌, ℕ, zero, suc, ◌+◌, ◌≤◌, Bool, true, false, List, [], ◌∷◌, ◌++◌, length, refl, sym, ap, subst, ◌∙◌}
-use Rattle.std.specs.Prelude.{IsTrue, Option, Some, None, slice_get}
+use Rattle.std.specs.Prelude.{◌↔◌, IsTrue, Option, Some, None, Result, Ok, Err, slice_get}
+use Rattle.std.proofs.lemmas.List.{length-append}
 use Rattle.std.specs.List.{concat, AllByRecursion}
 use Rattle.asn_base.specs.declared.tag.Tag.{Tag}
 use Rattle.asn_base.specs.declared.schema.TypeId.{TypeId}
-use Rattle.asn_base.specs.Abstract.{AbstractValue, fields, list, alternative, Row, row_of_options, row_of_list}
+use Rattle.asn_base.specs.Abstract.{AbstractValue, fields, list, alternative, Row, row_of_options}
 use Rattle.asn_base.specs.Same.{Same}
-use Rattle.asn_base.specs.Schemas.{IsSchema, IsSound, HasValue, components}
+use Rattle.asn_base.specs.Schemas.{AreListed, IsSchema, IsSound, HasValue, components}
 use Rattle.asn_base.specs.Types.{Alternative, Constraint, Kind, a_sequence, a_set, a_sequence_of, a_set_of, a_choice, Component, Resolved, Is}
-use Rattle.asn_base.specs.Typed.{ValueIn, value_in, ValueOf, of_leaf, of_sequence, of_set, of_sequence_of, of_set_of, of_choice, AreComponents, AreElements}
+use Rattle.asn_base.specs.Typed.{ValueIn, value_in, ValueOf, of_leaf, of_sequence, of_set, of_sequence_of, of_set_of, of_choice, AreComponents, component_absent, component_present, AreElements}
 use Rattle.encodings.specs.Contents.{Contents}
 use Rattle.encodings.specs.Orders.{Ascending, ascending_none, AtMost, InTagOrder}
 use Rattle.encodings.specs.Rules.{Rules, Basic, Distinguished}
@@ -17,9 +18,11 @@ use Rattle.codec_code.specs.declared.step.Field.{Field as Field'}
 use Rattle.encodings.specs.declared.leaf_kind.LeafKind.{LeafKind}
 use Rattle.codec_code.specs.declared.step.Step.{Step}
 use Rattle.codec_code.specs.declared.step.Step.TheVariants.{Leaf, Call}
-use Rattle.codec_code.specs.Routines.{id_of, field_of, routine_at, row_of, body, ends, fields_from, rest_if, choice_of, calls, component_in}
+use Rattle.codec_code.specs.Routines.{id_of, field_of, routine_at, row_of, body, ends, fields_from, rest_if, choice_of, calls, component_in, need_of}
 use Rattle.codec_code.specs.Steps.{IsDefaultAt}
 use Rattle.encodings.specs.Leaves.{plain}
+use Rattle.der_check.specs.declared.refusal.Refusal.{Refusal}
+use Rattle.der_check.specs.declared.refusal.Refusal.TheVariants.{NotStrict}
 use Rattle.der_check.specs.Heads.{IsWithinHeaders, no_head, in_head}
 use Rattle.der_check.specs.Sets.{ReadsComponents}
 use Rattle.der_check.specs.Strict.{Decides, form_of, begins_ranked, element_type, ValueGiven, ContentsGiven, ElementsGiven, StepsGiven, SequenceGiven, SetGiven, MemberGiven, MemberBy, PartGiven, PartBy, ComesFirst, IsAmong, SequenceBy, SetBy}
@@ -40,9 +43,9 @@ pub no_some : {A : Type 0} {x : A} {P : Type 0} → None ≡ Some x → P
 no_some e = absurd (none_some e)
 
 -- a decision on one thing is one on another that holds exactly if the first does
-pub decides_as : {P Q : ℕ → Type 0} (r : Option Bool) → ((j : ℕ) → P j → Q j) → ((j : ℕ) → Q j → P j) → Decides P r → Decides Q r
-decides_as None f g d = λ j q. d j (g j q)
-decides_as (Some b) f g d = (d.0, f d.0 d.1, d.2)
+pub decides_as : {P Q : ℕ → Type 0} (r : Result Bool Refusal) → ((j : ℕ) → P j → Q j) → ((j : ℕ) → Q j → P j) → Decides P r → Decides Q r
+decides_as (Err e) f g d = λ h j q. d h j (g j q)
+decides_as (Ok b) f g d = (d.0, f d.0 d.1, d.2)
 
 -- ---- a value
 
@@ -107,7 +110,7 @@ value_opened law {s} {t} {n} {v} {st} {ss} {x} {o} m lev sch e g w = by n lev g.
 -- ---- contents that hold no others
 
 -- the same of a value that is known by an equation
-pub of_same : {s : List Resolved} {t n : ℕ} {ss : List Step} {x : List ℕ} {v w : AbstractValue} (r : Option Bool) → v ≡ w → ((k : Kind) → ContentsGiven s t n ss w k x → Decides (λ j. ContentsEncode s Distinguished k w j (form_of k) x) r) → (k : Kind) → ContentsGiven s t n ss v k x → Decides (λ j. ContentsEncode s Distinguished k v j (form_of k) x) r
+pub of_same : {s : List Resolved} {t n : ℕ} {ss : List Step} {x : List ℕ} {v w : AbstractValue} (r : Result Bool Refusal) → v ≡ w → ((k : Kind) → ContentsGiven s t n ss w k x → Decides (λ j. ContentsEncode s Distinguished k w j (form_of k) x) r) → (k : Kind) → ContentsGiven s t n ss v k x → Decides (λ j. ContentsEncode s Distinguished k v j (form_of k) x) r
 of_same {s} {t} {n} {ss} {x} r e f = subst (λ q. (k : Kind) → ContentsGiven s t n ss q k x → Decides (λ j. ContentsEncode s Distinguished k q j (form_of k) x) r) (sym e) f
 
 -- what a leaf is given as
@@ -132,7 +135,7 @@ leaf_given {s} {ss = ss} {x = x} {v = v} {k = k} flat g =
       back = λ h. leaf (p.back (subst (λ q. Contents Distinguished (plain p.kind) v q x) (sym p.form) h));
     }
 
-pub leaf_decided : {s : List Resolved} {t n : ℕ} {ss : List Step} {x : List ℕ} {w : AbstractValue} (r : Option Bool) {v : AbstractValue} → v ≡ w → (HoldsOthers w → ⊥) → ((lk : LeafKind) (rest : List Step) (u : AbstractValue) → ss ≡ Leaf lk ∷ rest → Contents Basic (plain lk) u false x → Decides (λ j. (j ≡ 0) × Contents Distinguished (plain lk) u false x) r) → (k : Kind) → ContentsGiven s t n ss v k x → Decides (λ j. ContentsEncode s Distinguished k v j (form_of k) x) r
+pub leaf_decided : {s : List Resolved} {t n : ℕ} {ss : List Step} {x : List ℕ} {w : AbstractValue} (r : Result Bool Refusal) {v : AbstractValue} → v ≡ w → (HoldsOthers w → ⊥) → ((lk : LeafKind) (rest : List Step) (u : AbstractValue) → ss ≡ Leaf lk ∷ rest → Contents Basic (plain lk) u false x → Decides (λ j. (j ≡ 0) × Contents Distinguished (plain lk) u false x) r) → (k : Kind) → ContentsGiven s t n ss v k x → Decides (λ j. ContentsEncode s Distinguished k v j (form_of k) x) r
 leaf_decided {s} {t} {n} {ss} {x} {w} r e flat f = of_same r e (λ k g.
     let l = leaf_given flat g in
     decides_as r (λ j h. subst (λ q. ContentsEncode s Distinguished k w q (form_of k) x) (sym h.0) (l.back h.1)) (λ j h. ((flat_contents flat h).1, l.there j h)) (f l.kind l.rest w l.steps l.basic))
@@ -189,6 +192,26 @@ set_values : {s : List Resolved} {n : ℕ} {e : Bool} {cs : List Component} {vs 
 set_values (of_leaf f) = elim f [ ]
 set_values (of_set a g) = a
 
+-- a value has as many places as its type has components, of which there are few
+as_many : {s : List Resolved} {n : ℕ} (cs : List Component) (os : List (Option AbstractValue)) → AreComponents s n cs (row_of_options os) → length os ≡ length cs
+as_many [] [] a = refl
+as_many [] (None ∷ os) a = elim a [ ]
+as_many [] (Some v ∷ os) a = elim a [ ]
+as_many (c ∷ cs) [] a = elim a [ ]
+as_many (c ∷ cs) (None ∷ os) (component_absent m a) = ap suc (as_many cs os a)
+as_many (c ∷ cs) (Some v ∷ os) (component_present v' a) = ap suc (as_many cs os a)
+
+few_listed : {s : List Resolved} {e : Bool} (cs : List Component) → AreListed s e cs → length cs ≤ 320
+few_listed cs l =
+    let p = ap length l.parts in
+    let q = length-append l.root l.more in
+    let f = l.few_root in
+    let g = l.few_more in
+    omega (arith, p, q, f, g)
+
+few_places_of : {s : List Resolved} {n : ℕ} (cs : List Component) (os : List (Option AbstractValue)) → length cs ≤ 320 → AreComponents s n cs (row_of_options os) → length os ≤ 320
+few_places_of cs os l a = let e = as_many cs os a in omega (arith, e, l)
+
 -- contents of a SEQUENCE, or of a SET without components
 pub record AsSequence (s : List Resolved) (t n : ℕ) (ss : List Step) (os : List (Option AbstractValue)) (k : Kind) (x : List ℕ) : Type 0 where
   pub all : List Component
@@ -236,6 +259,7 @@ module _ (law : HeadersApart) {s : List Resolved} (sch : IsSchema s) where
         given = record {
           few = g.few;
           steps = steps_given cs g.is refl (subst (ReadsComponents cs 0) (sym (g.steps ∙ fields_split e cs g.ended)) (reads_fields e g.ended 0 cs));
+          few_places = few_places_of cs os (few_listed cs (sch.sound t g.tags (a_sequence e cs) g.is)) (sequence_values g.value);
           values = sequence_values g.value;
           count = p.count;
           says_them = p.members;
@@ -265,6 +289,7 @@ module _ (law : HeadersApart) {s : List Resolved} (sch : IsSchema s) where
         given = record {
           few = g.few;
           steps = steps_given cs g.is refl (subst (ReadsComponents cs 0) (sym (g.steps ∙ ranked_split s e cs g.ended)) (reads_ranked s cs e g.ended 0 cs));
+          few_places = few_places_of cs os (few_listed cs (sch.sound t g.tags (a_set e cs) g.is).0) (set_values g.value);
           values = set_values g.value;
           count = p.count;
           says_them = p.members;
@@ -294,6 +319,7 @@ module _ (law : HeadersApart) {s : List Resolved} (sch : IsSchema s) where
         given = record {
           few = g.few;
           steps = steps_given [] g.is refl (subst (ReadsComponents [] 0) (sym (g.steps ∙ ranked_split s e [] g.ended)) (reads_ranked s [] e g.ended 0 []));
+          few_places = few_places_of [] os (omega arith) (set_values g.value);
           values = set_values g.value;
           count = p.count;
           says_them = p.members;
@@ -336,18 +362,18 @@ module _ (law : HeadersApart) {s : List Resolved} (sch : IsSchema s) where
   -- ---- elements
 
   -- the elements of a list
-  pub record AsList (t n : ℕ) (ss : List Step) (vs : List AbstractValue) (k : Kind) (x : List ℕ) (u : TypeId) (sorted : Bool) : Type 0 where
+  pub record AsList (t n : ℕ) (ss : List Step) (ws : Row) (k : Kind) (x : List ℕ) (u : TypeId) (sorted : Bool) : Type 0 where
     pub encodings : List (List ℕ)
-    pub given : ElementsGiven s u.index n vs encodings x
-    pub there : (j : ℕ) → (sorted ≡ true → Ascending AtMost encodings) → Elements s Distinguished u.index (row_of_list vs) j encodings → ContentsEncode s Distinguished k (list (row_of_list vs)) j (form_of k) x
-    pub back : (j : ℕ) → ContentsEncode s Distinguished k (list (row_of_list vs)) j (form_of k) x → Elements s Distinguished u.index (row_of_list vs) j encodings × (sorted ≡ true → Ascending AtMost encodings)
+    pub given : ElementsGiven s u.index n ws encodings x
+    pub there : (j : ℕ) → (sorted ≡ true → Ascending AtMost encodings) → Elements s Distinguished u.index ws j encodings → ContentsEncode s Distinguished k (list ws) j (form_of k) x
+    pub back : (j : ℕ) → ContentsEncode s Distinguished k (list ws) j (form_of k) x → Elements s Distinguished u.index ws j encodings × (sorted ≡ true → Ascending AtMost encodings)
 
   -- the steps that give their type
-  pub record ListGiven (t n : ℕ) (ss : List Step) (vs : List AbstractValue) (k : Kind) (x : List ℕ) : Type 0 where
+  pub record ListGiven (t n : ℕ) (ss : List Step) (ws : Row) (k : Kind) (x : List ℕ) : Type 0 where
     pub element : TypeId
     pub sorted : Bool
     pub found_type : element_type ss ≡ Some (element, sorted)
-    pub as_list : AsList t n ss vs k x element sorted
+    pub as_list : AsList t n ss ws k x element sorted
 
   sequence_of_values : {n : ℕ} {c : Constraint} {u : ℕ} {vs : Row} → ValueOf s n (a_sequence_of c u) (list vs) → AreElements s n u vs
   sequence_of_values (of_leaf f) = elim f [ ]
@@ -357,10 +383,10 @@ module _ (law : HeadersApart) {s : List Resolved} (sch : IsSchema s) where
   set_of_values (of_leaf f) = elim f [ ]
   set_of_values (of_set_of a z) = a
 
-  pub list_given : {t n : ℕ} {ss : List Step} {vs : List AbstractValue} {x : List ℕ} (k : Kind) → ContentsGiven s t n ss (list (row_of_list vs)) k x → ListGiven t n ss vs k x
-  list_given {t} {n} {ss} {vs} {x} k g = by k g.holds_it g
+  pub list_given : {t n : ℕ} {ss : List Step} {ws : Row} {x : List ℕ} (k : Kind) → ContentsGiven s t n ss (list ws) k x → ListGiven t n ss ws k x
+  list_given {t} {n} {ss} {ws} {x} k g = by k g.holds_it g
     where
-      by : (k : Kind) {m : ℕ} {y : List ℕ} → ContentsEncode s Basic k (list (row_of_list vs)) m (form_of k) y → ContentsGiven s t n ss (list (row_of_list vs)) k x → ListGiven t n ss vs k x
+      by : (k : Kind) {m : ℕ} {y : List ℕ} → ContentsEncode s Basic k (list ws) m (form_of k) y → ContentsGiven s t n ss (list ws) k x → ListGiven t n ss ws k x
       by k (leaf con) g' = elim con [ ]
       by (a_sequence_of c u) (sequence_of es) g' =
           let p = sequence_of_parts g'.holds_it in
@@ -372,7 +398,7 @@ module _ (law : HeadersApart) {s : List Resolved} (sch : IsSchema s) where
             as_list = record {
               encodings = p.encodings;
               given = record { few = g'.few; values = sequence_of_values g'.value; count = g'.count; says_them = p.elements; units = us };
-              there = λ j st e. subst (λ l. ContentsEncode s Distinguished (a_sequence_of c u) (list (row_of_list vs)) j true l) (sym p.whole) (sequence_of e);
+              there = λ j st e. subst (λ l. ContentsEncode s Distinguished (a_sequence_of c u) (list ws) j true l) (sym p.whole) (sequence_of e);
               back = λ j h. (elements_of law p.encodings sch.tagged us.units h p.whole, λ z. absurd (never_ranked z));
             };
           }
@@ -386,7 +412,7 @@ module _ (law : HeadersApart) {s : List Resolved} (sch : IsSchema s) where
             as_list = record {
               encodings = p.encodings;
               given = record { few = g'.few; values = set_of_values g'.value; count = g'.count; says_them = p.elements; units = us };
-              there = λ j so e. subst (λ l. ContentsEncode s Distinguished (a_set_of c u) (list (row_of_list vs)) j true l) (sym p.whole) (set_of e (so refl));
+              there = λ j so e. subst (λ l. ContentsEncode s Distinguished (a_set_of c u) (list ws) j true l) (sym p.whole) (set_of e (so refl));
               back = λ j h. let m = members_of law p.encodings sch.tagged us.units h p.whole in (m.0, λ z. m.1);
             };
           }
@@ -439,20 +465,20 @@ says_count {s} {t} {j} {k} {w} {o} ber one sch same d b =
 
 -- ---- what each call answers
 
-pub choice_decided : {s : List Resolved} {t n i : ℕ} {ss : List Step} {x : List ℕ} {w : AbstractValue} (u : TypeId) (o : Option TypeId) (r : Option Bool) → o ≡ Some u → ((as' : List Alternative) (rest : List Step) (a : Alternative) → ss ≡ choice_of as' ++ rest → slice_get as' i ≡ Some a → o ≡ Some (id_of a.type)) → (ValueGiven s u.index n w x → Decides (λ j. EncodesTo s Distinguished u.index w j x) r) → (k : Kind) → ContentsGiven s t n ss (alternative i w) k x → Decides (λ j. ContentsEncode s Distinguished k (alternative i w) j (form_of k) x) r
+pub choice_decided : {s : List Resolved} {t n i : ℕ} {ss : List Step} {x : List ℕ} {w : AbstractValue} (u : TypeId) (o : Option TypeId) (r : Result Bool Refusal) → o ≡ Some u → ((as' : List Alternative) (rest : List Step) (a : Alternative) → ss ≡ choice_of as' ++ rest → slice_get as' i ≡ Some a → o ≡ Some (id_of a.type)) → (ValueGiven s u.index n w x → Decides (λ j. EncodesTo s Distinguished u.index w j x) r) → (k : Kind) → ContentsGiven s t n ss (alternative i w) k x → Decides (λ j. ContentsEncode s Distinguished k (alternative i w) j (form_of k) x) r
 choice_decided {s} {n = n} {x = x} {w = w} u o r e f h k g =
     let q = choice_given k g in
     let ty : u ≡ id_of q.alternative_there.type = some_same (sym e ∙ f q.all q.rest q.alternative_there q.steps q.is_at) in
     decides_as r (λ j d. q.there j (subst (λ z. EncodesTo s Distinguished z.index w j x) ty d)) (λ j d. subst (λ z. EncodesTo s Distinguished z.index w j x) (sym ty) (q.back j d)) (h (subst (λ z. ValueGiven s z.index n w x) (sym ty) q.given))
 
-pub choice_none : {s : List Resolved} {t n i : ℕ} {ss : List Step} {x : List ℕ} {w : AbstractValue} (o : Option TypeId) → o ≡ None → ((as' : List Alternative) (rest : List Step) (a : Alternative) → ss ≡ choice_of as' ++ rest → slice_get as' i ≡ Some a → o ≡ Some (id_of a.type)) → (k : Kind) → ContentsGiven s t n ss (alternative i w) k x → Decides (λ j. ContentsEncode s Distinguished k (alternative i w) j (form_of k) x) None
+pub choice_none : {s : List Resolved} {t n i : ℕ} {ss : List Step} {x : List ℕ} {w : AbstractValue} (o : Option TypeId) → o ≡ None → ((as' : List Alternative) (rest : List Step) (a : Alternative) → ss ≡ choice_of as' ++ rest → slice_get as' i ≡ Some a → o ≡ Some (id_of a.type)) → (k : Kind) → ContentsGiven s t n ss (alternative i w) k x → Decides (λ j. ContentsEncode s Distinguished k (alternative i w) j (form_of k) x) (Err NotStrict)
 choice_none o e f k g = let q = choice_given k g in absurd (none_some (sym e ∙ f q.all q.rest q.alternative_there q.steps q.is_at))
 
 -- the same of octets that are others
-pub value_as : {s : List Resolved} {t n : ℕ} {v : AbstractValue} {x y : List ℕ} (r : Option Bool) → x ≡ y → (ValueGiven s t n v x → Decides (λ j. EncodesTo s Distinguished t v j x) r) → ValueGiven s t n v y → Decides (λ j. EncodesTo s Distinguished t v j y) r
+pub value_as : {s : List Resolved} {t n : ℕ} {v : AbstractValue} {x y : List ℕ} (r : Result Bool Refusal) → x ≡ y → (ValueGiven s t n v x → Decides (λ j. EncodesTo s Distinguished t v j x) r) → ValueGiven s t n v y → Decides (λ j. EncodesTo s Distinguished t v j y) r
 value_as {s} {t} {n} {v} r e f = subst (λ z. ValueGiven s t n v z → Decides (λ j. EncodesTo s Distinguished t v j z) r) e f
 
-pub member_as : {s : List Resolved} {t n i : ℕ} {ss : List Step} {v : AbstractValue} {c : Component} {x y : List ℕ} (r : Option Bool) → x ≡ y → ((d : Component) → MemberGiven s t n ss v i d x → Decides (MemberBy s d v x) r) → MemberGiven s t n ss v i c y → Decides (MemberBy s c v y) r
+pub member_as : {s : List Resolved} {t n i : ℕ} {ss : List Step} {v : AbstractValue} {c : Component} {x y : List ℕ} (r : Result Bool Refusal) → x ≡ y → ((d : Component) → MemberGiven s t n ss v i d x → Decides (MemberBy s d v x) r) → MemberGiven s t n ss v i c y → Decides (MemberBy s c v y) r
 member_as {s} {t} {n} {i} {ss} {v} {c} r e f = subst (λ z. MemberGiven s t n ss v i c z → Decides (MemberBy s c v z) r) e (f c)
 
 -- the component's type is that of its step
@@ -462,7 +488,14 @@ field_type o f e h m = ap (λ q. q.ty.index) (some_same (sym e ∙ h m.all _ m.s
 pub field_there : {s : List Resolved} {t n i : ℕ} {ss : List Step} {v : AbstractValue} {c : Component} {x : List ℕ} {P : Type 0} (o : Option Field') → o ≡ None → ((cs : List Component) (d : Component) → ReadsComponents cs 0 ss → slice_get cs i ≡ Some d → o ≡ Some (field_of i d)) → MemberGiven s t n ss v i c x → P
 field_there o e h m = absurd (none_some (sym e ∙ h m.all _ m.steps.reads m.is_at))
 
-pub value_of_type : {s : List Resolved} {n t u : ℕ} {v : AbstractValue} {x : List ℕ} (r : Option Bool) → u ≡ t → (ValueGiven s u n v x → Decides (λ j. EncodesTo s Distinguished u v j x) r) → ValueGiven s t n v x → Decides (λ j. EncodesTo s Distinguished t v j x) r
+-- what is answered of the component that a step reads is answered of the one at the place
+pub asked_at : {s : List Resolved} {t n i : ℕ} {ss : List Step} {v : AbstractValue} {c : Component} {x : List ℕ} (o : Option Field') (f : Field') (b whole : Bool) → o ≡ Some f → ((cs : List Component) (d : Component) → ReadsComponents cs 0 ss → slice_get cs i ≡ Some d → o ≡ Some (field_of i d)) → MemberGiven s t n ss v i c x → ((d : Component) → component_in s t f.place ≡ Some d → f.need ≡ need_of d.presence → IsTrue b ↔ (IsTrue whole × IsDefaultAt s t f.place v)) → IsTrue b ↔ (IsTrue whole × IsDefaultAt s t i v)
+asked_at {s} {t} {i = i} {v = v} {c = c} o f b whole e h m q =
+    let is = some_same (sym e ∙ h m.all _ m.steps.reads m.is_at) in
+    let place = ap (λ z. z.place) is in
+    subst (λ z. IsTrue b ↔ (IsTrue whole × IsDefaultAt s t z v)) place (q c (subst (λ z. component_in s t z ≡ Some c) (sym place) (m.steps.placed i c m.is_at)) (ap (λ z. z.need) is))
+
+pub value_of_type : {s : List Resolved} {n t u : ℕ} {v : AbstractValue} {x : List ℕ} (r : Result Bool Refusal) → u ≡ t → (ValueGiven s u n v x → Decides (λ j. EncodesTo s Distinguished u v j x) r) → ValueGiven s t n v x → Decides (λ j. EncodesTo s Distinguished t v j x) r
 value_of_type {s} {n} {v = v} {x = x} r e f = subst (λ z. ValueGiven s z n v x → Decides (λ j. EncodesTo s Distinguished z v j x) r) e f
 
 -- ---- a component with a DEFAULT
@@ -470,12 +503,12 @@ value_of_type {s} {n} {v = v} {x = x} r e f = subst (λ z. ValueGiven s z n v x 
 abbrev pub OneCount : List Resolved → Type 0
 OneCount s = (t j k : ℕ) (v w : AbstractValue) (o : List ℕ) → EncodesTo s Distinguished t v j o → EncodesTo s Distinguished t w k o → j ≡ k
 
-pub member_decided : {s : List Resolved} {t n i : ℕ} {ss : List Step} {v : AbstractValue} {c : Component} {x : List ℕ} (part : Bool) → IsSchema s → ((s : List Resolved) (t m n : ℕ) (v : AbstractValue) → m ≤ n → ValueIn s m t v → ValueIn s n t v) → MemberGiven s t n ss v i c x → Decides (λ j. EncodesTo s Distinguished c.type v j x) (Some part) → ((IsTrue part × IsDefaultAt s t i v) → ⊥) → Decides (MemberBy s c v x) (Some part)
+pub member_decided : {s : List Resolved} {t n i : ℕ} {ss : List Step} {v : AbstractValue} {c : Component} {x : List ℕ} (part : Bool) → IsSchema s → ((s : List Resolved) (t m n : ℕ) (v : AbstractValue) → m ≤ n → ValueIn s m t v → ValueIn s n t v) → MemberGiven s t n ss v i c x → Decides (λ j. EncodesTo s Distinguished c.type v j x) (Ok part) → ((IsTrue part × IsDefaultAt s t i v) → ⊥) → Decides (MemberBy s c v x) (Ok part)
 member_decided {t = t} {i = i} {c = c} part sch grow m d no_one =
     let p = m.steps.placed i c m.is_at in
     (d.0, record { says_it = d.1; no_default = λ z e. no_one (d.2.1 z, default_at sch grow p m.given.few m.given.value e) }, d.2)
 
-pub member_omitted : {s : List Resolved} {t n i : ℕ} {ss : List Step} {v : AbstractValue} {c : Component} {x : List ℕ} (part : Bool) → OneCount s → MemberGiven s t n ss v i c x → Decides (λ j. EncodesTo s Distinguished c.type v j x) (Some part) → (IsTrue part × IsDefaultAt s t i v) → (j : ℕ) → MemberBy s c v x j → ⊥
+pub member_omitted : {s : List Resolved} {t n i : ℕ} {ss : List Step} {v : AbstractValue} {c : Component} {x : List ℕ} (part : Bool) → OneCount s → MemberGiven s t n ss v i c x → Decides (λ j. EncodesTo s Distinguished c.type v j x) (Ok part) → (IsTrue part × IsDefaultAt s t i v) → (j : ℕ) → MemberBy s c v x j → ⊥
 member_omitted {i = i} {v = v} {c = c} {x = x} part one m d o j b =
     let p = m.steps.placed i c m.is_at in
     b.no_default (one c.type j d.0 v v x b.says_it d.1 ∙ d.2.0 o.0) (is_default_in p o.1)
@@ -491,12 +524,12 @@ next_first x r octets v e p = subst (λ q. ComesFirst q x r octets) e p
 pub next_among : {o : Option AbstractValue} (s : List Resolved) (c : Component) (x octets : List ℕ) (v : AbstractValue) → o ≡ Some v → IsAmong s c o x octets → IsAmong s c (Some v) x octets
 next_among s c x octets v e p = subst (λ q. IsAmong s c q x octets) e p
 
-pub next_by : {o : Option AbstractValue} (s : List Resolved) (c : Component) (x : List ℕ) (v : AbstractValue) (r : Option Bool) → o ≡ Some v → Decides (MemberBy s c v x) r → Decides (PartBy s c o x) r
+pub next_by : {o : Option AbstractValue} (s : List Resolved) (c : Component) (x : List ℕ) (v : AbstractValue) (r : Result Bool Refusal) → o ≡ Some v → Decides (MemberBy s c v x) r → Decides (PartBy s c o x) r
 next_by s c x v r e d = subst (λ q. Decides (PartBy s c q x) r) (sym e) d
 
 -- ---- elements
 
-pub list_at : {s : List Resolved} {law : HeadersApart} {sch : IsSchema s} {t n : ℕ} {ss : List Step} {vs : List AbstractValue} {k : Kind} {x : List ℕ} (u : TypeId) (b : Bool) → (l : ListGiven law sch t n ss vs k x) → element_type ss ≡ Some (u, b) → AsList law sch t n ss vs k x u b
-list_at {s} {law} {sch} {t} {n} {ss} {vs} {k} {x} u b l e =
+pub list_at : {s : List Resolved} {law : HeadersApart} {sch : IsSchema s} {t n : ℕ} {ss : List Step} {ws : Row} {k : Kind} {x : List ℕ} (u : TypeId) (b : Bool) → (l : ListGiven law sch t n ss ws k x) → element_type ss ≡ Some (u, b) → AsList law sch t n ss ws k x u b
+list_at {s} {law} {sch} {t} {n} {ss} {ws} {k} {x} u b l e =
     let f = some_same (sym l.found_type ∙ e) in
-    subst (λ q. AsList law sch t n ss vs k x u q) (ap (λ q. q.1) f) (subst (λ q. AsList law sch t n ss vs k x q l.sorted) (ap (λ q. q.0) f) l.as_list)
+    subst (λ q. AsList law sch t n ss ws k x u q) (ap (λ q. q.1) f) (subst (λ q. AsList law sch t n ss ws k x q l.sorted) (ap (λ q. q.0) f) l.as_list)

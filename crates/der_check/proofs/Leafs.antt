@@ -1,5 +1,5 @@
 -- Contents of kinds that hold no others don't depend on constraints, items and names.
-use Rattle.std.proofs.Common.{◌≡◌, ℕ, Bool, false, List, [], ◌∷◌, refl}
+use Rattle.std.proofs.Common.{◌≡◌, ℕ, Bool, false, List, [], ◌∷◌, refl, sym, subst}
 use Rattle.asn_base.specs.declared.strings.StringKind.{StringKind}
 use Rattle.asn_base.specs.Abstract.{AbstractValue, fields, list, alternative}
 use Rattle.asn_base.specs.Types.{Constraint, Item, NamedBit, Kind, an_integer, an_enumerated, a_bit_string, a_named_bit_string, an_octet_string, a_utf8_string, a_restricted_string, Resolved}
@@ -11,6 +11,10 @@ use Rattle.encodings.specs.declared.leaf_kind.LeafKind.TheVariants as leaves
 use Rattle.codec_code.specs.declared.step.Step.TheVariants.{Leaf}
 use Rattle.codec_code.specs.Routines.{body}
 use Rattle.encodings.specs.Leaves.{plain}
+use Rattle.views.specs.declared.value_kind.ValueKind.{ValueKind}
+use Rattle.views.specs.declared.value_kind.ValueKind.TheVariants as kind
+use Rattle.views.specs.Kinds.{Shows}
+use Rattle.views.specs.Tree.{Tree, Members, value_of}
 use Rattle.der_check.specs.Strict.{form_of}
 
 to_integer : {r : Rules} {v : AbstractValue} {c : Bool} {x : List ℕ} (z y : Constraint) → Contents r (an_integer z) v c x → Contents r (an_integer y) v c x
@@ -71,3 +75,18 @@ flat_contents n (set ms p st u m) = absurd (n tt)
 flat_contents n (sequence_of es) = absurd (n tt)
 flat_contents n (set_of es st) = absurd (n tt)
 flat_contents n (choice g a) = absurd (n tt)
+
+-- what a reference shows holds no others, if it is of a kind that holds none
+pub leaf_shown : (t : Tree) (k : ValueKind) → Shows t k → ((n : ℕ) (ms : Members) → k ≡ kind.Fields n ms → ⊥) → ((ms : Members) → k ≡ kind.List ms → ⊥) → ((i : ℕ) (u : Tree) → k ≡ kind.Alternative i u → ⊥) → HoldsOthers (value_of t) → ⊥
+leaf_shown t (kind.Bool b) e f g h = subst (λ q. HoldsOthers (value_of q) → ⊥) (sym e) (λ a. a)
+leaf_shown t (kind.Int z) e f g h = subst (λ q. HoldsOthers (value_of q) → ⊥) (sym e) (λ a. a)
+leaf_shown t (kind.Enum z) e f g h = subst (λ q. HoldsOthers (value_of q) → ⊥) (sym e) (λ a. a)
+leaf_shown t (kind.Bits u os) e f g h = subst (λ q. HoldsOthers (value_of q) → ⊥) (sym e.1) (λ a. a)
+leaf_shown t (kind.Octets os) e f g h = subst (λ q. HoldsOthers (value_of q) → ⊥) (sym e.1) (λ a. a)
+leaf_shown t (kind.Text s) e f g h = subst (λ q. HoldsOthers (value_of q) → ⊥) (sym e.1) (λ a. a)
+leaf_shown t kind.Null e f g h = subst (λ q. HoldsOthers (value_of q) → ⊥) (sym e) (λ a. a)
+leaf_shown t (kind.Oid ns) e f g h = subst (λ q. HoldsOthers (value_of q) → ⊥) (sym e) (λ a. a)
+leaf_shown t (kind.RelativeOid ns) e f g h = subst (λ q. HoldsOthers (value_of q) → ⊥) (sym e) (λ a. a)
+leaf_shown t (kind.Fields n ms) e f g h = absurd (f n ms refl)
+leaf_shown t (kind.List ms) e f g h = absurd (g ms refl)
+leaf_shown t (kind.Alternative i u) e f g h = absurd (h i u refl)

@@ -4,6 +4,7 @@ pub mod Orders
 pub mod Climbing
 pub mod KindParts
 pub mod SetParts
+pub mod Placing
 pub mod Taking
 pub mod Leafs
 pub mod Deciding

@@ -1,10 +1,10 @@
 -- Components and elements, taken one by one.
-use Rattle.std.proofs.Common.{arith, ◌≡◌, ℕ, zero, suc, ◌+◌, ◌<◌, ◌≤◌, Bool, true, List, [], ◌∷◌, ◌++◌, length, map, drop, get_or, refl, sym, ap, subst, ◌∙◌, length-append}
+use Rattle.std.proofs.Common.{arith, ◌≡◌, ℕ, ◌+◌, ◌≤◌, Bool, true, List, [], ◌∷◌, ◌++◌, length, drop, refl, sym, ap, subst, ◌∙◌, length-append}
 use Rattle.std.proofs.lemmas.Bool.{eqb-true, eq-eqb}
 use Rattle.std.specs.Prelude.{◌↔◌, ◌==◌, IsTrue, Option, Some, None, slice_get}
 use Rattle.std.specs.List.{concat}
 use Rattle.asn_base.specs.declared.tag.Tag.{Tag}
-use Rattle.asn_base.specs.Abstract.{AbstractValue, Row, end, absent, present, row_of_options, row_of_list}
+use Rattle.asn_base.specs.Abstract.{AbstractValue, Row, end, absent, present, row_of_options}
 use Rattle.asn_base.specs.Types.{TypeNumber, Component, Resolved}
 use Rattle.asn_base.specs.Typed.{ValueIn, AreComponents, component_absent, component_present, AreElements, one_element}
 use Rattle.encodings.specs.Rules.{Rules, Basic, Distinguished}
@@ -18,20 +18,6 @@ use Rattle.der_check.proofs.Split.{unit_some, drop_next}
 
 none_some : {A : Type 0} {x : A} → None ≡ Some x → ⊥
 none_some e = cc
-
--- what is left of a list of values
-pub drop_is : {A B : Type 0} (f : A → B) (xs : List A) (i : ℕ) (d : A) → i < length xs → d ≡ get_or xs i d → drop i (map f xs) ≡ f d ∷ drop (i + 1) (map f xs)
-drop_is f [] i d h e = absurd (omega arith)
-drop_is f (x ∷ xs) zero d h e = ap (λ q. f q ∷ map f xs) (sym e)
-drop_is f (x ∷ xs) (suc i) d h e =
-    let z : suc (i + 1) ≡ suc i + 1 = omega arith in
-    drop_is f xs i d (omega arith) e ∙ ap (λ k. f d ∷ drop k (f x ∷ map f xs)) z
-
-pub drop_end : {A B : Type 0} (f : A → B) (xs : List A) (i : ℕ) → length xs ≤ i → drop i (map f xs) ≡ []
-drop_end f [] zero h = refl
-drop_end f [] (suc i) h = refl
-drop_end f (x ∷ xs) zero h = absurd (omega arith)
-drop_end f (x ∷ xs) (suc i) h = drop_end f xs i (omega arith)
 
 -- ---- components
 
@@ -326,16 +312,16 @@ set_end {us = us} d e w = (
 
 -- ---- elements
 
-pub record ElementsLeft (s : List Resolved) (t : TypeNumber) (n : ℕ) (ws : Row) (xs : List (List ℕ)) (vs : List AbstractValue) (whole : Bool) (rest : List ℕ) : Type 0 where
+pub record ElementsLeft (s : List Resolved) (t : TypeNumber) (n : ℕ) (ws : Row) (xs : List (List ℕ)) (vs : Row) (whole : Bool) (rest : List ℕ) : Type 0 where
   pub todo : List (List ℕ)
-  pub values : AreElements s n t (row_of_list vs)
+  pub values : AreElements s n t vs
   pub count : ℕ
-  pub says_them : Elements s Basic t (row_of_list vs) count todo
+  pub says_them : Elements s Basic t vs count todo
   pub units : AreUnits todo rest
-  pub forth : (j : ℕ) → Elements s Distinguished t ws j xs → (k : ℕ) × Elements s Distinguished t (row_of_list vs) k todo
-  pub back : (k : ℕ) → Elements s Distinguished t (row_of_list vs) k todo → (j : ℕ) × Elements s Distinguished t ws j xs × ((j ≡ 0) ↔ (IsTrue whole × (k ≡ 0)))
+  pub forth : (j : ℕ) → Elements s Distinguished t ws j xs → (k : ℕ) × Elements s Distinguished t vs k todo
+  pub back : (k : ℕ) → Elements s Distinguished t vs k todo → (j : ℕ) × Elements s Distinguished t ws j xs × ((j ≡ 0) ↔ (IsTrue whole × (k ≡ 0)))
 
-pub elements_begin : {s : List Resolved} {t : TypeNumber} {n : ℕ} {vs : List AbstractValue} {xs : List (List ℕ)} {o : List ℕ} → ElementsGiven s t n vs xs o → ElementsLeft s t n (row_of_list vs) xs vs true o
+pub elements_begin : {s : List Resolved} {t : TypeNumber} {n : ℕ} {vs : Row} {xs : List (List ℕ)} {o : List ℕ} → ElementsGiven s t n vs xs o → ElementsLeft s t n vs xs vs true o
 elements_begin {xs = xs} g = record {
   todo = xs;
   values = g.values;
@@ -346,15 +332,22 @@ elements_begin {xs = xs} g = record {
   back = λ j d. (j, d, (λ e. (refl, e), λ e. e.1));
 }
 
-pub elements_end : {s : List Resolved} {t : TypeNumber} {n : ℕ} {ws : Row} {xs : List (List ℕ)} {vs : List AbstractValue} {whole : Bool} {rest : List ℕ} → ElementsLeft s t n ws xs vs whole rest → vs ≡ [] → (j : ℕ) × Elements s Distinguished t ws j xs × (IsTrue whole ↔ (j ≡ 0))
-elements_end {s} {t} {ws = ws} {xs = xs} {vs = []} {whole = whole} l e = by l.says_them l.back
+absent_end : {vs : Row} → absent vs ≡ end → ⊥
+absent_end e = cc
+
+present_end : {v : AbstractValue} {vs : Row} → present v vs ≡ end → ⊥
+present_end e = cc
+
+pub elements_end : {s : List Resolved} {t : TypeNumber} {n : ℕ} {ws : Row} {xs : List (List ℕ)} {vs : Row} {whole : Bool} {rest : List ℕ} → ElementsLeft s t n ws xs vs whole rest → vs ≡ end → (j : ℕ) × Elements s Distinguished t ws j xs × (IsTrue whole ↔ (j ≡ 0))
+elements_end {s} {t} {ws = ws} {xs = xs} {vs = end} {whole = whole} l e = by l.says_them l.back
   where
     by : {k : ℕ} {todo : List (List ℕ)} → Elements s Basic t end k todo → ((k : ℕ) → Elements s Distinguished t end k todo → (j : ℕ) × Elements s Distinguished t ws j xs × ((j ≡ 0) ↔ (IsTrue whole × (k ≡ 0)))) → (j : ℕ) × Elements s Distinguished t ws j xs × (IsTrue whole ↔ (j ≡ 0))
     by no_element b = let r = b 0 no_element in (r.0, r.1, (λ w. r.2.1 (w, refl), λ z. (r.2.0 z).0))
-elements_end {vs = v ∷ vs} l e = absurd (let a = ap length e in omega arith)
+elements_end {vs = absent vs} l e = absurd (absent_end e)
+elements_end {vs = present v vs} l e = absurd (present_end e)
 
 -- the next element
-pub record ElementTaken (s : List Resolved) (t : TypeNumber) (n : ℕ) (ws : Row) (xs : List (List ℕ)) (v : AbstractValue) (vs : List AbstractValue) (whole : Bool) (rest : List ℕ) : Type 0 where
+pub record ElementTaken (s : List Resolved) (t : TypeNumber) (n : ℕ) (ws : Row) (xs : List (List ℕ)) (v : AbstractValue) (vs : Row) (whole : Bool) (rest : List ℕ) : Type 0 where
   pub encoding : List ℕ
   pub following : List ℕ
   pub given : ValueGiven s t n v encoding
@@ -376,15 +369,15 @@ record FirstElement (s : List Resolved) (u : ℕ) (v : AbstractValue) (vs : Row)
 first_element : {s : List Resolved} {u : ℕ} {v : AbstractValue} {vs : Row} {n : ℕ} {x : List ℕ} {xs : List (List ℕ)} → Elements s Distinguished u (present v vs) n (x ∷ xs) → FirstElement s u v vs x xs
 first_element (element {j = j} {n = n} a es) = record { one = j; others = n; by = a; rest = es }
 
-pub take_element : {s : List Resolved} {t : TypeNumber} {n : ℕ} {ws : Row} {xs : List (List ℕ)} (v : AbstractValue) (vs : List AbstractValue) {all : List AbstractValue} {whole : Bool} {rest : List ℕ} → n ≤ 64 → ElementsLeft s t n ws xs all whole rest → all ≡ v ∷ vs → ElementTaken s t n ws xs v vs whole rest
+pub take_element : {s : List Resolved} {t : TypeNumber} {n : ℕ} {ws : Row} {xs : List (List ℕ)} (v : AbstractValue) (vs : Row) {all : Row} {whole : Bool} {rest : List ℕ} → n ≤ 64 → ElementsLeft s t n ws xs all whole rest → all ≡ present v vs → ElementTaken s t n ws xs v vs whole rest
 take_element {s} {t} {n} {ws} {xs} v vs {whole = whole} {rest = rest} few l e =
-    by (subst (λ q. AreElements s n t (row_of_list q)) e l.values) (subst (λ q. Elements s Basic t (row_of_list q) l.count l.todo) e l.says_them) l.units
-    (λ j d. let f = l.forth j d in (f.0, subst (λ q. Elements s Distinguished t (row_of_list q) f.0 l.todo) e f.1))
-    (λ k d. l.back k (subst (λ q. Elements s Distinguished t (row_of_list q) k l.todo) (sym e) d))
+    by (subst (λ q. AreElements s n t q) e l.values) (subst (λ q. Elements s Basic t q l.count l.todo) e l.says_them) l.units
+    (λ j d. let f = l.forth j d in (f.0, subst (λ q. Elements s Distinguished t q f.0 l.todo) e f.1))
+    (λ k d. l.back k (subst (λ q. Elements s Distinguished t q k l.todo) (sym e) d))
   where
-    by : {count : ℕ} {todo : List (List ℕ)} → AreElements s n t (present v (row_of_list vs)) → Elements s Basic t (present v (row_of_list vs)) count todo → AreUnits todo rest
-        → ((j : ℕ) → Elements s Distinguished t ws j xs → (k : ℕ) × Elements s Distinguished t (present v (row_of_list vs)) k todo)
-        → ((k : ℕ) → Elements s Distinguished t (present v (row_of_list vs)) k todo → (j : ℕ) × Elements s Distinguished t ws j xs × ((j ≡ 0) ↔ (IsTrue whole × (k ≡ 0))))
+    by : {count : ℕ} {todo : List (List ℕ)} → AreElements s n t (present v vs) → Elements s Basic t (present v vs) count todo → AreUnits todo rest
+        → ((j : ℕ) → Elements s Distinguished t ws j xs → (k : ℕ) × Elements s Distinguished t (present v vs) k todo)
+        → ((k : ℕ) → Elements s Distinguished t (present v vs) k todo → (j : ℕ) × Elements s Distinguished t ws j xs × ((j ≡ 0) ↔ (IsTrue whole × (k ≡ 0))))
         → ElementTaken s t n ws xs v vs whole rest
     by a (element {j = k1} {n = k2} {x = x} {xs = more} said es) u f b =
         let vs' = value_first a in

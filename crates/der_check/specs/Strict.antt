@@ -1,8 +1,8 @@
 -- What is decided about octets that encode a value by the basic rules: whether they do so by the distinguished ones,
 -- and if so whether additions were skipped.
-use Rattle.std.specs.Prelude.{◌≡◌, ℕ, ◌+◌, ◌≤◌, ◌++◌, ◌↔◌, Bool, true, false, List, [], ◌∷◌, length, Option, Some, None, slice_get, IsTrue, MatchOption}
+use Rattle.std.specs.Prelude.{◌≡◌, ℕ, ◌+◌, ◌≤◌, ◌++◌, ◌↔◌, Bool, true, false, List, [], ◌∷◌, length, Option, Some, None, slice_get, IsTrue, MatchResult, Result}
 use Rattle.asn_base.specs.declared.tag.Tag.{Tag}
-use Rattle.asn_base.specs.Abstract.{AbstractValue, row_of_options, row_of_list}
+use Rattle.asn_base.specs.Abstract.{AbstractValue, Row, row_of_options}
 use Rattle.asn_base.specs.Types.{TypeNumber, Kind, Component, Resolved, Is}
 use Rattle.asn_base.specs.Typed.{ValueIn, ValueOf, AreComponents, AreElements}
 use Rattle.encodings.specs.Header.{Octets, Encodings}
@@ -13,13 +13,21 @@ use Rattle.codec_code.specs.declared.step.Step.{Step}
 use Rattle.codec_code.specs.declared.step.Step.TheVariants.{SetComponent, Each, EachSorted}
 use Rattle.asn_base.specs.declared.schema.TypeId.{TypeId}
 use Rattle.codec_code.specs.Routines.{row_of, is_constructed, body, ends, component_in}
+use Rattle.views.specs.Tree.{Members as Members', component_value, placed}
+use Rattle.der_check.specs.declared.refusal.Refusal.{Refusal}
+use Rattle.der_check.specs.declared.refusal.Refusal.TheVariants.{NotStrict}
 use Rattle.der_check.specs.Units.{IsUnit, AreUnits}
 use Rattle.der_check.specs.Sets.{ReadsComponents, Parted}
 use Rattle.der_check.specs.Places.{IsOnly, ArePlaced}
 
--- P is true of a number of additions, and the answer says whether it is 0; None if P is true of no number
-abbrev pub Decides : (ℕ → Type 0) → Option Bool → Type 0
-Decides P r = MatchOption r ((j : ℕ) → P j → ⊥) (λ b. (j : ℕ) × P j × (IsTrue b ↔ (j ≡ 0)))
+-- P is true of a number of additions, and the answer says whether it is 0; NotStrict if P is true of no number
+abbrev pub Decides : (ℕ → Type 0) → Result Bool Refusal → Type 0
+Decides P r =
+    MatchResult r (λ b. (j : ℕ) × P j × (IsTrue b ↔ (j ≡ 0))) (λ e. e ≡ NotStrict → (j : ℕ) → P j → ⊥)
+
+-- the values of this many components, in order of definition
+abbrev pub components_of : ℕ → Members' → List (Option AbstractValue)
+components_of n ms = placed n (λ i. component_value ms i)
 
 -- the form of the header before contents of a kind
 abbrev pub form_of : Kind → Bool
@@ -61,13 +69,12 @@ pub record ContentsGiven (s : List Resolved) (t : TypeNumber) (n : ℕ) (ss : Li
   pub short : length x ≤ 16777216
 
 -- the same of elements, with their encodings
-pub record ElementsGiven (s : List Resolved) (t : TypeNumber) (n : ℕ) (vs : List AbstractValue) (xs : Encodings)
-    (o : Octets)
+pub record ElementsGiven (s : List Resolved) (t : TypeNumber) (n : ℕ) (ws : Row) (xs : Encodings) (o : Octets)
     : Type 0 where
   pub few : n ≤ 64
-  pub values : AreElements s n t (row_of_list vs)
+  pub values : AreElements s n t ws
   pub count : ℕ
-  pub says_them : Elements s Basic t (row_of_list vs) count xs
+  pub says_them : Elements s Basic t ws count xs
   pub units : AreUnits xs o
 
 -- the steps of type t read these components
@@ -81,6 +88,7 @@ pub record SequenceGiven (s : List Resolved) (t : TypeNumber) (n : ℕ) (ss : Li
     (cs : List Component) (xs us : Encodings) (o : Octets) : Type 0 where
   pub few : n ≤ 64
   pub steps : StepsGiven s t ss cs
+  pub few_places : length os ≤ 320
   pub values : AreComponents s n cs (row_of_options os)
   pub count : ℕ
   pub says_them : Members s Basic cs (row_of_options os) count xs
@@ -91,6 +99,7 @@ pub record SetGiven (s : List Resolved) (t : TypeNumber) (n : ℕ) (ss : List St
     (cs : List Component) (xs zs us ys : Encodings) (o : Octets) : Type 0 where
   pub few : n ≤ 64
   pub steps : StepsGiven s t ss cs
+  pub few_places : length os ≤ 320
   pub values : AreComponents s n cs (row_of_options os)
   pub count : ℕ
   pub says_them : Members s Basic cs (row_of_options os) count xs

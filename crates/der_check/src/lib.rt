@@ -1,9 +1,13 @@
 //! Whether octets that encode a value by the basic rules fulfil the distinguished ones too (X.690, 10 and 11).
 #![tactic(auto)]
 
+mod copies;
+mod default;
+mod fields;
 mod heads;
 mod leaf;
 mod order;
+mod refusal;
 mod sets;
 mod units;
 mod value;

@@ -1,9 +1,8 @@
 //! Values, by the routines of their types.
 
-ghost use Rattle.asn_base.specs.Abstract.{AbstractValue, abstract, fields, list};
+ghost use Rattle.asn_base.specs.Abstract.{AbstractValue, Row, fields, list, row_of_options};
 ghost use Rattle.asn_base.specs.Types.{Alternative, Component, Kind};
 ghost use Rattle.codec_code.specs.Routines.{choice_of, id_of};
-ghost use Rattle.codec_code.specs.Steps.{IsDefaultAt};
 ghost use Rattle.encodings.specs.Leaves.{plain};
 ghost use Rattle.encodings.specs.declared.leaf_kind.LeafKind.{LeafKind as LeafKind'};
 ghost use Rattle.codec_code.specs.declared.step.Step.TheVariants.{Leaf};
@@ -14,21 +13,26 @@ ghost use Rattle.codec_code.specs.declared.step.Step.{Step as Step'};
 ghost use Rattle.encodings.specs.Encoding.{Elements, ContentsEncode, EncodesTo};
 ghost use Rattle.encodings.specs.Reading.{Encodes};
 ghost use Rattle.encodings.specs.Rules.{Basic, Distinguished};
-ghost use Rattle.std.specs.Prelude.{◌≡◌, ◌↔◌, ◌∷◌, ◌++◌, ◌≤◌, IsTrue, List, MatchOption, Option, Some as Some', false, length, map, option_map, slice_get, ℕ};
-ghost use Rattle.asn_base.specs.Abstract.{row_of_list, row_of_options};
-ghost use Rattle.der_check.specs.Strict.{ContentsGiven, Decides, ElementsGiven, MemberBy, MemberGiven, PartBy, PartGiven, SequenceBy, SequenceGiven, SetBy, SetGiven, IsAmong, ComesFirst, ValueGiven, begins_ranked, element_type as element_type', form_of};
+ghost use Rattle.std.specs.Prelude.{◌≡◌, ◌↔◌, ◌∷◌, ◌++◌, ◌≤◌, IfOk, IsTrue, List, MatchResult, Some as Some', false, length, option_map, slice_get, ℕ};
+ghost use Rattle.views.specs.Tree.{element_values, value_of};
+ghost use Rattle.der_check.specs.declared.refusal.Refusal.TheVariants.{NotStrict};
+ghost use Rattle.der_check.specs.Strict.{ContentsGiven, Decides, ElementsGiven, MemberBy, MemberGiven, PartBy, PartGiven, SequenceBy, SequenceGiven, SetBy, SetGiven, IsAmong, ComesFirst, ValueGiven, begins_ranked, components_of, element_type as element_type', form_of};
 
+use crate::default::is_default;
+use crate::fields::next_component;
 use crate::heads::within_heads;
 use crate::leaf::is_strict_leaf;
 use crate::order::do_ascend;
+use crate::refusal::{Judge, Refusal, Site};
 use crate::sets::{do_climb, field_at, find_first};
 use crate::units::{both, next_encoding};
-use asn_base::law::{lemma_abstract_values, lemma_levels_grow, lemma_sameness};
+use asn_base::law::{lemma_levels_grow, lemma_sameness};
 use asn_base::schema::TypeId;
-use asn_base::value::Value;
 use codec_code::{Code, Coding, Step};
 use encodings::{der_laws, header_laws, reading_laws, schema_laws};
 use limits::MAX_LEVELS;
+use std::alloc::{AllocError, Global};
+use views::{MemberRefs, ValueKind, ValueRef};
 
 /// Whether the steps begin with a component of a SET.
 fn is_ranked(steps: &[Step]) -> bool
@@ -100,16 +104,16 @@ fn alternative_at(steps: &[Step], index: usize) -> Option<TypeId>
 }
 
 /// Whether contents of a value that holds no others fulfil the distinguished rules.
-fn strict_leaf(steps: &[Step], contents: &[u8]) -> Option<bool>
+fn strict_leaf(steps: &[Step], contents: &[u8]) -> Result<bool, Refusal>
     ensures { (k : LeafKind') (ss : List Step') (v : AbstractValue)
         → steps.now ≡ Leaf k ∷ ss
         → Contents Basic (plain k) v false contents.now
         → Decides (λ j. (j ≡ 0) × Contents Distinguished (plain k) v false contents.now) result }
 {
     if is_strict_leaf(steps, contents) {
-        Some(true)
+        Ok(true)
     } else {
-        None
+        Err(Refusal::NotStrict)
     }
 }
 
@@ -122,154 +126,137 @@ fn are_in_order(sorted: bool, contents: &[u8]) -> bool
     !sorted || do_ascend(contents)
 }
 
-/// Whether the value is the same as the DEFAULT of the component at this place, and no additions were skipped in it.
-fn is_default(code: &Code, id: TypeId, place: usize, value: &Value, whole: bool) -> bool
-    ensures { IsTrue result ↔ (IsTrue whole × IsDefaultAt code.now id.index place (abstract value.now)) }
-{
-    whole && code.is_default(id, place, value)
-}
-
 /// Whether octets that encode a value of the type by the basic rules do so by the distinguished ones, and if so,
-/// whether no additions were skipped. The result is None if they don't.
+/// whether no additions were skipped. `NotStrict` if they don't.
 #[cycle(strict)]
-fn strict_value(code: &Code, id: TypeId, levels: u8, value: &Value, octets: &[u8]) -> Option<bool>
-    ensures { ValueGiven code.now id.index levels (abstract value.now) octets.now
-        → Decides (λ j. EncodesTo code.now Distinguished id.index (abstract value.now) j octets.now) result }
-{
-    code.lemma_invariant();
-    header_laws();
-    if levels == 0 {
-        return None;
-    }
-    match within_heads(code.steps(id, Coding::Tagged), octets) {
-        Some((steps, contents)) => strict_contents(code, id, steps, levels - 1, value, contents),
-        None => None,
-    }
-}
-
-/// The same of contents, which these steps read.
-#[cycle(strict)]
-fn strict_contents(
-    code: &Code,
+fn strict_value(
+    judge: Judge<'_>,
     id: TypeId,
-    steps: &[Step],
     levels: u8,
-    value: &Value,
-    contents: &[u8],
-) -> Option<bool>
-    ensures { (k : Kind)
-        → ContentsGiven code.now id.index levels steps.now (abstract value.now) k contents.now
-        → Decides (λ j. ContentsEncode code.now Distinguished k (abstract value.now) j (form_of k) contents.now)
+    part: &ValueRef<'_, '_>,
+    octets: &[u8],
+) -> Result<bool, Refusal>
+    ensures { ValueGiven judge.entry.code.now id.index levels (value_of part.now) octets.now
+        → Decides (λ j. EncodesTo judge.entry.code.now Distinguished id.index (value_of part.now) j octets.now)
         result }
 {
-    lemma_abstract_values();
-    match value {
-        Value::Fields(values) => strict_fields(
-            code,
-            id,
-            steps,
-            levels,
-            values.as_slice(),
-            contents,
-        ),
-        Value::List(values) => strict_list(code, id, steps, levels, values.as_slice(), contents),
-        Value::Alt(index, inner) => match alternative_at(steps, *index) {
-            Some(ty) => strict_value(code, ty, levels, inner, contents),
-            None => None,
+    judge.code.lemma_invariant();
+    header_laws();
+    if levels == 0 {
+        return Err(Refusal::NotStrict);
+    }
+    match within_heads(judge.code.steps(id, Coding::Tagged), octets) {
+        Some((steps, contents)) => {
+            let at = Site {
+                judge,
+                id,
+                steps,
+                levels: levels - 1,
+            };
+            strict_contents(at, part, contents)
+        }
+        None => Err(Refusal::NotStrict),
+    }
+}
+
+/// The same of contents, which the steps there read.
+#[cycle(strict)]
+fn strict_contents(at: Site<'_>, part: &ValueRef<'_, '_>, contents: &[u8]) -> Result<bool, Refusal>
+    ensures { (k : Kind)
+        → ContentsGiven at.entry.judge.code.now at.entry.id.index at.entry.levels at.entry.steps.now (value_of part.now)
+        k contents.now
+        → Decides (λ j. ContentsEncode at.entry.judge.code.now Distinguished k (value_of part.now) j (form_of k)
+        contents.now) result }
+{
+    match part.value_kind() {
+        ValueKind::Fields(size, members) => strict_fields(at, size, members, contents),
+        ValueKind::List(members) => strict_list(at, members, contents),
+        ValueKind::Alternative(index, inner) => match alternative_at(at.steps, index) {
+            Some(ty) => strict_value(at.judge, ty, at.levels, &inner, contents),
+            None => Err(Refusal::NotStrict),
         },
-        Value::Bool(_) => strict_leaf(steps, contents),
-        Value::Int(_) => strict_leaf(steps, contents),
-        Value::Enum(_) => strict_leaf(steps, contents),
-        Value::Bits(_) => strict_leaf(steps, contents),
-        Value::Octets(_) => strict_leaf(steps, contents),
-        Value::Text(_) => strict_leaf(steps, contents),
-        Value::Null => strict_leaf(steps, contents),
-        Value::Oid(_) => strict_leaf(steps, contents),
-        Value::RelativeOid(_) => strict_leaf(steps, contents),
+        _ => strict_leaf(at.steps, contents),
     }
 }
 
 /// The same as `strict_value` of contents of a SEQUENCE or SET.
 #[cycle(strict)]
 fn strict_fields(
-    code: &Code,
-    id: TypeId,
-    steps: &[Step],
-    levels: u8,
-    values: &[Option<Value>],
+    at: Site<'_>,
+    size: usize,
+    members: MemberRefs<'_, '_>,
     contents: &[u8],
-) -> Option<bool>
+) -> Result<bool, Refusal>
     ensures { (k : Kind)
-        → ContentsGiven code.now id.index levels steps.now
-        (fields (row_of_options (map (option_map abstract) values.now))) k contents.now
-        → Decides (λ j. ContentsEncode code.now Distinguished k
-        (fields (row_of_options (map (option_map abstract) values.now))) j (form_of k) contents.now) result }
+        → ContentsGiven at.entry.judge.code.now at.entry.id.index at.entry.levels at.entry.steps.now
+        (fields (row_of_options (components_of size members.entry))) k contents.now
+        → Decides (λ j. ContentsEncode at.entry.judge.code.now Distinguished k
+        (fields (row_of_options (components_of size members.entry))) j (form_of k) contents.now) result }
 {
-    code.lemma_invariant();
+    at.judge.code.lemma_invariant();
     header_laws();
-    if is_ranked(steps) {
-        strict_set(code, id, steps, levels, values, contents)
+    if is_ranked(at.steps) {
+        strict_set(at, size, members, contents)
     } else {
-        strict_sequence(code, id, steps, levels, values, contents)
+        strict_sequence(at, size, members, contents)
     }
 }
 
 /// The same of components in order, and additions that the type lacks after them.
 #[cycle(strict)]
 fn strict_sequence(
-    code: &Code,
-    id: TypeId,
-    steps: &[Step],
-    levels: u8,
-    values: &[Option<Value>],
+    at: Site<'_>,
+    size: usize,
+    members: MemberRefs<'_, '_>,
     contents: &[u8],
-) -> Option<bool>
+) -> Result<bool, Refusal>
     ensures { (cs : List Component) (xs us : List (List ℕ))
-        → SequenceGiven code.now id.index levels steps.now (map (option_map abstract) values.now) cs xs us contents.now
-        → Decides (SequenceBy code.now (map (option_map abstract) values.now) cs xs us) result }
+        → SequenceGiven at.entry.judge.code.now at.entry.id.index at.entry.levels at.entry.steps.now
+        (components_of size members.entry) cs xs us contents.now
+        → Decides (SequenceBy at.entry.judge.code.now (components_of size members.entry) cs xs us) result }
 {
+    let mut left = members;
     let mut rest = contents;
     let mut whole = true;
-    for i in 0..values.len() {
-        let (part, following) = match strict_next(code, id, steps, i, levels, &values[i], rest) {
-            Some(taken) => taken,
-            None => return None,
+    for i in 0..size {
+        let found = next_component(&mut left, i);
+        let (part, following) = match strict_next(at, i, &found, rest) {
+            Ok(taken) => taken,
+            Err(refusal) => return Err(refusal),
         };
         whole = both(whole, part);
         rest = following;
     }
-    Some(both(whole, rest.is_empty()))
+    Ok(both(whole, rest.is_empty()))
 }
 
 /// The same of the component at a place, which comes first in the octets, and what follows it.
 #[cycle(strict)]
 fn strict_next<'o>(
-    code: &Code,
-    id: TypeId,
-    steps: &[Step],
+    at: Site<'_>,
     place: usize,
-    levels: u8,
-    value: &Option<Value>,
+    found: &Option<ValueRef<'_, '_>>,
     octets: &'o [u8],
-) -> Option<(bool, &'o [u8])>
+) -> Result<(bool, &'o [u8]), Refusal>
     ensures { (c : Component) (x r : List ℕ)
-        → PartGiven code.now id.index levels steps.now (option_map abstract value.now) place c x
-        → ComesFirst (option_map abstract value.now) x r octets.now
-        → MatchOption result
-        ((j : ℕ) → PartBy code.now c (option_map abstract value.now) x j → ⊥)
+        → PartGiven at.entry.judge.code.now at.entry.id.index at.entry.levels at.entry.steps.now
+        (option_map value_of found.now) place c x
+        → ComesFirst (option_map value_of found.now) x r octets.now
+        → MatchResult result
         (λ p. (p.1.now ≡ r)
-        × ((j : ℕ) × PartBy code.now c (option_map abstract value.now) x j × (IsTrue p.0 ↔ (j ≡ 0)))) }
+        × ((j : ℕ) × PartBy at.entry.judge.code.now c (option_map value_of found.now) x j × (IsTrue p.0 ↔ (j ≡ 0))))
+        (λ e. e ≡ NotStrict → (j : ℕ) → PartBy at.entry.judge.code.now c (option_map value_of found.now) x j → ⊥) }
 {
     header_laws();
-    match value {
-        Some(value) => match next_encoding(octets) {
-            Some(next) => match strict_member(code, id, steps, place, levels, value, next.octets) {
-                Some(part) => Some((part, next.rest)),
-                None => None,
+    match found {
+        Some(part) => match next_encoding(octets) {
+            Some(next) => match strict_member(at, place, part, next.octets) {
+                Ok(whole) => Ok((whole, next.rest)),
+                Err(refusal) => Err(refusal),
             },
-            None => None,
+            None => Err(Refusal::NotStrict),
         },
-        None => Some((true, octets)),
+        None => Ok((true, octets)),
     }
 }
 
@@ -277,56 +264,55 @@ fn strict_next<'o>(
 /// type lacks may be among them.
 #[cycle(strict)]
 fn strict_set(
-    code: &Code,
-    id: TypeId,
-    steps: &[Step],
-    levels: u8,
-    values: &[Option<Value>],
+    at: Site<'_>,
+    size: usize,
+    members: MemberRefs<'_, '_>,
     contents: &[u8],
-) -> Option<bool>
+) -> Result<bool, Refusal>
     ensures { (cs : List Component) (xs zs us ys : List (List ℕ))
-        → SetGiven code.now id.index levels steps.now (map (option_map abstract) values.now) cs xs zs us ys contents.now
-        → Decides (SetBy code.now (map (option_map abstract) values.now) cs xs zs us) result }
+        → SetGiven at.entry.judge.code.now at.entry.id.index at.entry.levels at.entry.steps.now
+        (components_of size members.entry) cs xs zs us ys contents.now
+        → Decides (SetBy at.entry.judge.code.now (components_of size members.entry) cs xs zs us) result }
 {
-    let none_else = match do_climb(code, steps, contents) {
+    let none_else = match do_climb(at.judge.code, at.steps, contents) {
         Some(none_else) => none_else,
-        None => return None,
+        None => return Err(Refusal::NotStrict),
     };
+    let mut left = members;
     let mut whole = true;
-    for i in 0..values.len() {
-        match strict_known(code, id, steps, i, levels, &values[i], contents) {
-            Some(part) => whole = both(whole, part),
-            None => return None,
+    for i in 0..size {
+        let found = next_component(&mut left, i);
+        match strict_known(at, i, &found, contents) {
+            Ok(part) => whole = both(whole, part),
+            Err(refusal) => return Err(refusal),
         }
     }
-    Some(both(whole, none_else))
+    Ok(both(whole, none_else))
 }
 
 /// The same of the component at a place, which is found by its tag.
 #[cycle(strict)]
 fn strict_known(
-    code: &Code,
-    id: TypeId,
-    steps: &[Step],
+    at: Site<'_>,
     place: usize,
-    levels: u8,
-    value: &Option<Value>,
+    found: &Option<ValueRef<'_, '_>>,
     contents: &[u8],
-) -> Option<bool>
+) -> Result<bool, Refusal>
     ensures { (c : Component) (x : List ℕ)
-        → PartGiven code.now id.index levels steps.now (option_map abstract value.now) place c x
-        → IsAmong code.now c (option_map abstract value.now) x contents.now
-        → Decides (PartBy code.now c (option_map abstract value.now) x) result }
+        → PartGiven at.entry.judge.code.now at.entry.id.index at.entry.levels at.entry.steps.now
+        (option_map value_of found.now) place c x
+        → IsAmong at.entry.judge.code.now c (option_map value_of found.now) x contents.now
+        → Decides (PartBy at.entry.judge.code.now c (option_map value_of found.now) x) result }
 {
-    match value {
-        Some(value) => match field_at(steps, place) {
-            Some(field) => match find_first(code, field.ty, contents) {
-                Some(octets) => strict_member(code, id, steps, place, levels, value, octets),
-                None => None,
+    match found {
+        Some(part) => match field_at(at.steps, place) {
+            Some(field) => match find_first(at.judge.code, field.ty, contents) {
+                Some(octets) => strict_member(at, place, part, octets),
+                None => Err(Refusal::NotStrict),
             },
-            None => None,
+            None => Err(Refusal::NotStrict),
         },
-        None => Some(true),
+        None => Ok(true),
     }
 }
 
@@ -334,113 +320,121 @@ fn strict_known(
 /// skipped within it.
 #[cycle(strict)]
 fn strict_member(
-    code: &Code,
-    id: TypeId,
-    steps: &[Step],
+    at: Site<'_>,
     place: usize,
-    levels: u8,
-    value: &Value,
+    part: &ValueRef<'_, '_>,
     octets: &[u8],
-) -> Option<bool>
+) -> Result<bool, Refusal>
     ensures { (c : Component)
-        → MemberGiven code.now id.index levels steps.now (abstract value.now) place c octets.now
-        → Decides (MemberBy code.now c (abstract value.now) octets.now) result }
+        → MemberGiven at.entry.judge.code.now at.entry.id.index at.entry.levels at.entry.steps.now (value_of part.now)
+        place c octets.now
+        → Decides (MemberBy at.entry.judge.code.now c (value_of part.now) octets.now) result }
 {
-    code.lemma_invariant();
+    at.judge.code.lemma_invariant();
     reading_laws();
     lemma_levels_grow();
-    let field = match field_at(steps, place) {
+    let field = match field_at(at.steps, place) {
         Some(field) => field,
-        None => return None,
+        None => return Err(Refusal::NotStrict),
     };
-    let part = match strict_value(code, field.ty, levels, value, octets) {
-        Some(part) => part,
-        None => return None,
+    let whole = match strict_value(at.judge, field.ty, at.levels, part, octets) {
+        Ok(whole) => whole,
+        Err(refusal) => return Err(refusal),
     };
-    if is_default(code, id, place, value, part) {
-        return None;
+    let same = match is_default(at, field, part, whole) {
+        Ok(same) => same,
+        Err(_) => return Err(Refusal::Memory),
+    };
+    if same {
+        return Err(Refusal::NotStrict);
     }
-    Some(part)
+    Ok(whole)
 }
 
 /// The same as `strict_value` of contents of a SEQUENCE OF or SET OF.
 #[cycle(strict)]
-fn strict_list(
-    code: &Code,
-    id: TypeId,
-    steps: &[Step],
-    levels: u8,
-    values: &[Value],
-    contents: &[u8],
-) -> Option<bool>
+fn strict_list(at: Site<'_>, members: MemberRefs<'_, '_>, contents: &[u8]) -> Result<bool, Refusal>
     ensures { (k : Kind)
-        → ContentsGiven code.now id.index levels steps.now (list (row_of_list (map abstract values.now))) k contents.now
-        → Decides (λ j. ContentsEncode code.now Distinguished k (list (row_of_list (map abstract values.now))) j
+        → ContentsGiven at.entry.judge.code.now at.entry.id.index at.entry.levels at.entry.steps.now
+        (list (element_values members.entry)) k contents.now
+        → Decides (λ j. ContentsEncode at.entry.judge.code.now Distinguished k (list (element_values members.entry)) j
         (form_of k) contents.now) result }
 {
-    code.lemma_invariant();
+    at.judge.code.lemma_invariant();
     header_laws();
-    let (element, sorted) = match element_type(steps) {
+    let (element, sorted) = match element_type(at.steps) {
         Some(found) => found,
-        None => return None,
+        None => return Err(Refusal::NotStrict),
     };
     if !are_in_order(sorted, contents) {
-        return None;
+        return Err(Refusal::NotStrict);
     }
-    strict_elements(code, element, levels, values, contents)
+    strict_elements(at.judge, element, at.levels, members, contents)
 }
 
 /// The same of elements, one after the other.
 #[cycle(strict)]
 fn strict_elements(
-    code: &Code,
+    judge: Judge<'_>,
     id: TypeId,
     levels: u8,
-    values: &[Value],
+    members: MemberRefs<'_, '_>,
     contents: &[u8],
-) -> Option<bool>
+) -> Result<bool, Refusal>
     ensures { (xs : List (List ℕ))
-        → ElementsGiven code.now id.index levels (map abstract values.now) xs contents.now
-        → Decides (λ j. Elements code.now Distinguished id.index (row_of_list (map abstract values.now)) j xs) result }
+        → ElementsGiven judge.entry.code.now id.index levels (element_values members.entry) xs contents.now
+        → Decides (λ j. Elements judge.entry.code.now Distinguished id.index (element_values members.entry) j xs)
+        result }
 {
     header_laws();
+    let mut left = members;
     let mut rest = contents;
     let mut whole = true;
-    for i in 0..values.len() {
-        let value = &values[i];
+    while let Some((_, part)) = left.next() {
         let next = match next_encoding(rest) {
             Some(next) => next,
-            None => return None,
+            None => return Err(Refusal::NotStrict),
         };
-        match strict_value(code, id, levels, value, next.octets) {
-            Some(part) => whole = both(whole, part),
-            None => return None,
+        match strict_value(judge, id, levels, &part, next.octets) {
+            Ok(one) => whole = both(whole, one),
+            Err(refusal) => return Err(refusal),
         }
         rest = next.rest;
     }
-    Some(whole)
+    Ok(whole)
 }
 
 /// Whether octets that encode the value by the basic rules do so by the distinguished ones (X.690, 10 and 11). The
-/// octets may have additions that the value's type lacks.
+/// value is the one that a reference into a view shows. The octets may have additions that the value's type lacks.
 ///
 /// Each header has the fewest octets, strings are primitive, TRUE has all bits set, unused bits are zeros, and named
 /// bits end in a one. A SET's components ascend by their tags, and a SET OF's elements by their octets. No component is
 /// the same as its DEFAULT, unless additions were skipped within it. Additions that the type lacks, and their places in
-/// a SET, are not checked. The call takes no memory. Its time grows as the number of octets times the number of levels
-/// of the value.
-pub fn is_strict(code: &Code, id: TypeId, value: &Value, octets: &[u8]) -> bool
+/// a SET, are not checked.
+///
+/// Only the value of a component that has a DEFAULT is copied, and only until it is compared. The result is
+/// `AllocError` if there is not enough memory for that copy. The time grows as the number of octets times the number of
+/// levels of the value.
+pub fn is_strict(
+    alloc: Global,
+    code: &Code,
+    id: TypeId,
+    part: &ValueRef<'_, '_>,
+    octets: &[u8],
+) -> Result<bool, AllocError>
     ensures { (k : ℕ)
-        → Encodes code.now Basic id.index (abstract value.now) k octets.now
+        → Encodes code.now Basic id.index (value_of part.now) k octets.now
         → length octets.now ≤ 16777216
-        → IsTrue result ↔ EncodesTo code.now Distinguished id.index (abstract value.now) k octets.now }
+        → IfOk result (λ strict.
+        IsTrue strict ↔ EncodesTo code.now Distinguished id.index (value_of part.now) k octets.now) }
 {
     code.lemma_invariant();
     schema_laws();
     der_laws();
     lemma_sameness();
-    match strict_value(code, id, MAX_LEVELS, value, octets) {
-        Some(_) => true,
-        None => false,
+    match strict_value(Judge { alloc, code }, id, MAX_LEVELS, part, octets) {
+        Ok(_) => Ok(true),
+        Err(Refusal::NotStrict) => Ok(false),
+        Err(Refusal::Memory) => Err(AllocError),
     }
 }
