@@ -71,11 +71,11 @@ pub fn read_der<'a>(
         Ok(read) => read,
         Err(fault) => return Err(fault),
     };
-    let value = match read.view.to_value(alloc) {
-        Ok(value) => value,
+    let strict = match is_strict(alloc, code, id, &read.view.top(), octets) {
+        Ok(strict) => strict,
         Err(_) => return Err(ReadFault::Memory),
     };
-    if !is_strict(code, id, &value, octets) {
+    if !strict {
         return Err(ReadFault::NotDer);
     }
     Ok(read)
