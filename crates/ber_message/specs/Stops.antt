@@ -1,5 +1,5 @@
 -- Where reading of a message stops.
-use Rattle.std.specs.Prelude.{◌≡◌, ℕ, ◌<◌, List, [], length}
+use Rattle.std.specs.Prelude.{◌≡◌, ℕ, ◌<◌, ◌≤◌, List, [], length, map}
 use Rattle.asn_base.specs.declared.schema.TypeId.{TypeId}
 use Rattle.asn_base.specs.Types.{Resolved}
 use Rattle.encodings.specs.Header.{Octets}
@@ -9,10 +9,14 @@ use Rattle.codec_source.specs.Stopping.{StopsReading}
 use Rattle.decode_faults.specs.declared.read_fault.ReadFault.{ReadFault}
 use Rattle.octet_answers.specs.Answers.{Takes}
 use Rattle.octet_answers.specs.Unanswered.{Leaves}
-use Rattle.octet_answers.specs.States.{State, front}
+use Rattle.octet_answers.specs.States.{State, Token, front}
 use Rattle.laws_reading.specs.TokensShow.{IsSliceAt}
+use Rattle.ber_source.specs.Seen.{token_of}
+use Rattle.ber_message.specs.Messages.{IsMessage, IsRead, budget_of}
 use Rattle.ber_message.specs.Opened.{entered, on_last, opens}
 use Rattle.ber_message.specs.declared.stop.ErrorPosition.{ErrorPosition}
+use Rattle.ber_message.specs.declared.stop.Tried.{Tried}
+use Rattle.ber_message.specs.declared.stop.Tried.TheVariants.{Whole, Stopped}
 
 -- the offset of the first octet that isn't read, and the values that are open there; the unread octets are the rest of
 -- the message from that offset
@@ -44,3 +48,19 @@ pub record IsStopBefore (s : List Resolved) (t : TypeId) (o : Octets) (w : Error
   pub stopped : ErrorPosition
   pub stop : IsStop s t o most stopped
   pub part : IsEntered stopped w
+
+-- The octets are a message of the type, and its routine reads exactly these tokens of it.
+pub record AreTokensOf (s : List Resolved) (t : TypeId) (o : Octets) (emitted : List Token) : Type 0 where
+  pub message : IsMessage s t.index o emitted
+  pub only : (r : IsRead s t o) → r.last.emitted ≡ emitted
+
+-- Reading of the octets stops there, within them. They aren't a message that the type's routine reads to its end.
+pub record IsUnread (s : List Resolved) (t : TypeId) (o : Octets) (w : ErrorPosition) : Type 0 where
+  pub stop : IsStop s t o (budget_of (length o)) w
+  pub within : w.place ≤ length o
+  pub unread : length o ≤ 16777216 → t.index < length s → IsRead s t o → ⊥
+
+-- what comes of octets that are tried as a message of the type
+abbrev pub IsTried : List Resolved → TypeId → Octets → Tried → Type 0
+IsTried s t o (Whole ts) = AreTokensOf s t o (map token_of ts.items)
+IsTried s t o (Stopped w) = IsUnread s t o w

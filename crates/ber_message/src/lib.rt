@@ -13,5 +13,5 @@ pub use ber_views::Built;
 pub use message::read_message;
 pub use open::{OpenValue, Part};
 pub use path::begun_before;
-pub use stop::{ErrorPosition, most_values, stop_of};
+pub use stop::{ErrorPosition, Tried, most_values, stop_of, try_message};
 pub use view::read_view;

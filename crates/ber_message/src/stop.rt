@@ -2,18 +2,19 @@
 
 ghost use Rattle.ber_message.specs.Messages.{IsRead, budget_of};
 ghost use Rattle.ber_message.specs.Opened.{opens};
-ghost use Rattle.ber_message.specs.Stops.{IsEntered, IsStop};
+ghost use Rattle.ber_message.specs.Stops.{IsEntered, IsStop, IsTried};
 ghost use Rattle.ber_message.specs.Paths.{AreOpenBefore, begun_in};
 ghost use Rattle.decode_faults.specs.declared.read_fault.ReadFault.TheVariants.{Memory};
-ghost use Rattle.std.specs.Prelude.{◌≡◌, ◌<◌, ◌≤◌, false, IfOk, length, OnOk};
+ghost use Rattle.std.specs.Prelude.{◌≡◌, ◌<◌, ◌≤◌, [], false, IfOk, length, OnOk};
 
+use crate::message::are_octets;
 use crate::open::{OpenValue, enter, open_after};
 use asn_base::schema::TypeId;
-use ber_source::Cursor;
+use ber_source::{Cursor, Token};
 use codec_code::Code;
 use codec_source::read;
 use decode_faults::ReadFault;
-use laws_reading::law::lemma_stops_in_place;
+use laws_reading::law::{lemma_read_is_encoded, lemma_stops_in_place};
 use limits::{MAX_MESSAGE, MAX_OPEN};
 use octet_answers::law::lemma_one_answer;
 use std::alloc::{AllocError, Global};
@@ -68,12 +69,7 @@ pub fn stop_of(
     lemma_stops_in_place();
     let mut cursor = match Cursor::new(alloc, code, octets, most) {
         Ok(cursor) => cursor,
-        Err(_) => {
-            return Ok(ErrorPosition {
-                place: MAX_MESSAGE,
-                values: Vec::new(alloc),
-            });
-        }
+        Err(_) => return Ok(past_limit(alloc)),
     };
     match read(alloc, code, id, &mut cursor) {
         Ok(()) => emitted(alloc, &cursor),
@@ -84,6 +80,62 @@ pub fn stop_of(
             emitted(alloc, &cursor)
         }
     }
+}
+
+/// The first octet after the 16,777,216 that a message may have. No value is open there.
+fn past_limit(alloc: Global) -> ErrorPosition
+    ensures place { result.place ≡ 16777216 }
+    ensures values { result.values.items ≡ [] }
+{
+    ErrorPosition {
+        place: MAX_MESSAGE,
+        values: Vec::new(alloc),
+    }
+}
+
+/// What came of a message that was tried: all of it was read, with these tokens, or reading stopped in this place.
+#[derive(Drop)]
+pub enum Tried<'a> {
+    Whole(Vec<Token<'a>>),
+    Stopped(ErrorPosition),
+}
+
+/// Tries to read a message of the type by the basic rules, once. Returns its tokens, or where reading stops.
+/// `AllocError` comes only if an allocation fails.
+///
+/// If the message has more than 16,777,216 octets, the place is the first octet after these.
+pub fn try_message<'a>(
+    alloc: Global,
+    code: &Code,
+    id: TypeId,
+    octets: &'a [u8],
+) -> Result<Tried<'a>, AllocError>
+    ensures { IfOk result (IsTried code.now id octets.now) }
+{
+    code.lemma_invariant();
+    lemma_read_is_encoded();
+    lemma_stops_in_place();
+    are_octets(octets);
+    let mut cursor = match Cursor::new(alloc, code, octets, most_values(octets)) {
+        Ok(cursor) => cursor,
+        Err(_) => return Ok(Tried::Stopped(past_limit(alloc))),
+    };
+    match read(alloc, code, id, &mut cursor) {
+        Ok(()) => {}
+        Err(fault) => {
+            if is_memory(fault) {
+                return Err(AllocError);
+            }
+            return Ok(Tried::Stopped(emitted(alloc, &cursor)?));
+        }
+    }
+    if !cursor.is_at_end() {
+        return Ok(Tried::Stopped(emitted(alloc, &cursor)?));
+    }
+    if !code.has(id) {
+        return Ok(Tried::Stopped(emitted(alloc, &cursor)?));
+    }
+    Ok(Tried::Whole(cursor.into_tokens()))
 }
 
 fn is_memory(fault: ReadFault) -> bool
