@@ -12,9 +12,9 @@ use Rattle.ber_message.specs.Stops.{IsEntered, IsStop, IsStopBefore}
 use Rattle.ber_message.specs.declared.open.OpenValue.{OpenValue}
 use Rattle.ber_message.specs.declared.open.Part.{Part}
 use Rattle.ber_message.specs.declared.stop.ErrorPosition.{ErrorPosition}
-use Rattle.ber_reader.specs.Judged.{Extends, Innermost, IsBeforeWrong, IsJudged, IsOpenAt, IsOwn, IsPathToWrong, Piece, piece}
+use Rattle.ber_reader.specs.Judged.{Extends, Innermost, IsBeforeWrong, IsJudged, IsOpenAt, IsOwn, Piece, piece}
 use Rattle.ber_reader.specs.Readings.{IsBeforeInnermost, IsErrorPosition, unread, judged, IsReading, IsRefused, not_read}
-use Rattle.ber_reader.specs.Readings.{no_value, IsShown, IsStrictReading}
+use Rattle.ber_reader.specs.Readings.{no_value, IsStrictReading}
 use Rattle.ber_reader.specs.declared.read.Read.{Read}
 use Rattle.ber_views.specs.Shown.{leaves_of, AreShown}
 use Rattle.codec_code.specs.Routines.{id_of}

@@ -11,7 +11,9 @@ ghost use Rattle.std.specs.Prelude.{◌≡◌, ◌<◌, ◌≤◌, false, IfOk, 
 
 use crate::wrong::path_to_wrong;
 use asn_base::schema::TypeId;
-use ber_message::{ErrorPosition, begun_before, most_values, read_message, read_view, stop_of};
+use ber_message::{
+    ErrorPosition, Tried, begun_before, most_values, read_view, stop_of, try_message,
+};
 use ber_source::Token;
 use codec_code::Code;
 use decode_faults::ReadFault;
@@ -50,19 +52,15 @@ pub fn locate_error(
         → (n : EncodesNoValue code.now id.index octets.now)
         → IfOk result (IsBeforeInnermost code.now id octets.now r.last.emitted n.value) }
 {
-    match read_message(alloc, code, id, octets) {
-        Ok(tokens) => {
+    let tried = try_message(alloc, code, id, octets)?;
+    match tried {
+        Tried::Whole(tokens) => {
             let most = before_wrong(alloc, code, id, octets, tokens.as_slice())?;
             let mut stop = stop_of(alloc, code, id, octets, most)?;
             stop.enter()?;
             Ok(stop)
         }
-        Err(fault) => {
-            if is_memory(fault) {
-                return Err(AllocError);
-            }
-            stop_of(alloc, code, id, octets, most_values(octets))
-        }
+        Tried::Stopped(stop) => Ok(stop),
     }
 }
 
