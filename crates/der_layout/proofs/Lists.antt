@@ -1,5 +1,5 @@
 -- Parts of lists, and the last of a list.
-use Rattle.std.proofs.Common.{◌≡◌, ℕ, zero, suc, ◌+◌, ◌<◌, ◌⊎◌, inl, inr, List, [], ◌∷◌, ◌++◌, length, set, take, drop, refl, sym, ap, ◌∙◌, arith, append_assoc, length-append}
+use Rattle.std.proofs.Common.{◌≡◌, ℕ, zero, suc, ◌+◌, ◌<◌, ◌⊎◌, inl, inr, List, [], ◌∷◌, ◌++◌, length, get_or, set, take, drop, refl, sym, ap, ◌∙◌, arith, append_assoc, length-append}
 use Rattle.std.specs.Prelude.{if◌then◌else◌}
 use Rattle.std.specs.Int.Digits.{digits_of}
 use Rattle.std.proofs.lemmas.Bool.{lt-ltb}
@@ -29,6 +29,19 @@ set_last (z ∷ xs) ys x y = ap (λ k. z ∷ k) (set_last xs ys x y)
 pub set_end : {A : Type 0} (xs : List A) (x y : A) → set (xs ++ x ∷ []) (length xs) y ≡ xs ++ y ∷ []
 set_end [] x y = refl
 set_end (z ∷ xs) x y = ap (λ k. z ∷ k) (set_end xs x y)
+
+-- a list is what comes before its last element, and that element
+pub split_last : {A : Type 0} (xs : List A) (n : ℕ) (x : A) → length xs ≡ n + 1 → x ≡ get_or xs n x → xs ≡ take n xs ++ x ∷ []
+split_last [] n x h e = absurd (omega (arith, h))
+split_last (y ∷ []) zero x h e = ap (λ q. q ∷ []) (sym e)
+split_last (y ∷ (z ∷ xs)) zero x h e = absurd (omega (arith, h))
+split_last (y ∷ xs) (suc n) x h e = ap (λ q. y ∷ q) (split_last xs n x (omega (arith, h)) e)
+
+pub set_at_end : {A : Type 0} (xs : List A) (n : ℕ) (y : A) → length xs ≡ n + 1 → set xs n y ≡ take n xs ++ y ∷ []
+set_at_end [] n y h = absurd (omega (arith, h))
+set_at_end (x ∷ []) zero y h = refl
+set_at_end (x ∷ (z ∷ xs)) zero y h = absurd (omega (arith, h))
+set_at_end (x ∷ xs) (suc n) y h = ap (λ q. x ∷ q) (set_at_end xs n y (omega (arith, h)))
 
 pub only_second : {P B : Type 0} → (P → ⊥) → P ⊎ B → B
 only_second n (inl p) = absurd (n p)

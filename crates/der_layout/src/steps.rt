@@ -46,6 +46,7 @@ fn add_group(list: &mut Vec<Group>, one: Group) -> Result<(), AllocError>
     Ok(())
 }
 
+#[inline(always)]
 fn add_member(list: &mut Vec<Member>, one: Member) -> Result<(), AllocError>
     ensures { OnOk result (list.new.items ≡ list.old.items ++ one ∷ []) }
 {
@@ -235,26 +236,18 @@ pub(crate) fn end_member(table: &mut Table, rank: usize) -> Result<(), AllocErro
     ensures { OnOk result (((state_of table.old).groups ≡ []) × (state_of table.old ≡ state_of table.new)
         ⊎ MemberEnds rank (state_of table.old) (state_of table.new)) }
 {
-    match table.groups.pop() {
+    let end = table.octets.len();
+    match table.groups.last_mut() {
         Some(group) => {
-            let end = table.octets.len();
-            let mut members = group.members;
-            let number = members.len();
+            let number = group.members.len();
             let member = Member {
                 rank,
                 number,
                 start: group.next,
                 end,
             };
-            add_member(&mut members, member)?;
-            add_group(
-                &mut table.groups,
-                Group {
-                    start: group.start,
-                    next: end,
-                    members,
-                },
-            )?;
+            add_member(&mut group.members, member)?;
+            group.next = end;
             Ok(())
         }
         None => Ok(()),
