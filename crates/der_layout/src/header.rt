@@ -5,6 +5,7 @@ ghost use Rattle.encodings.specs.Header.{class_bits, form_bit, identifier};
 ghost use Rattle.primitive_writer.specs.Pieces.{short_octets};
 ghost use Rattle.std.specs.Int.Digits.{digits_of};
 ghost use Rattle.std.specs.Prelude.{◌≡◌, ◌+◌, ◌<◌, ◌≤◌, ◌++◌, ◌∷◌, [], IfOk, IfSome, OnOk, length};
+ghost use Rattle.std.specs.Prelude.{vec_capacity, vec_len};
 
 use arrayvec::ArrayVec;
 use asn_base::tag::{Class, Tag};
@@ -51,57 +52,41 @@ pub(crate) fn short_header(tag: Tag, constructed: bool, contents: u64) -> Option
 pub(crate) fn push_two(out: &mut Vec<u8>, first: u8, second: u8) -> Result<(), AllocError>
     ensures { OnOk result (out.new.items ≡ out.old.items ++ first ∷ second ∷ []) }
 {
-    out.push(first)?;
-    out.push(second)?;
+    out.reserve(2)?;
+    put_two(out, first, second);
     Ok(())
 }
 
-/// Adds three octets. `AllocError` only if an allocation fails.
+/// Adds one to four contents octets, for which there is room.
 #[inline(always)]
-fn push_three(out: &mut Vec<u8>, first: u8, second: u8, third: u8) -> Result<(), AllocError>
-    ensures { OnOk result (out.new.items ≡ out.old.items ++ first ∷ second ∷ third ∷ []) }
-{
-    push_two(out, first, second)?;
-    push_one(out, third)?;
-    Ok(())
-}
-
-/// Adds four octets. `AllocError` only if an allocation fails.
-#[inline(always)]
-fn push_four(
-    out: &mut Vec<u8>,
-    first: u8,
-    second: u8,
-    third: u8,
-    fourth: u8,
-) -> Result<(), AllocError>
-    ensures { OnOk result (out.new.items ≡ out.old.items ++ first ∷ second ∷ third ∷ fourth ∷ []) }
-{
-    push_two(out, first, second)?;
-    push_two(out, third, fourth)?;
-    Ok(())
-}
-
-/// Adds one octet. `AllocError` only if an allocation fails.
-#[inline(always)]
-fn push_one(out: &mut Vec<u8>, octet: u8) -> Result<(), AllocError>
-    ensures { OnOk result (out.new.items ≡ out.old.items ++ octet ∷ []) }
-{
-    out.push(octet)?;
-    Ok(())
-}
-
-/// Adds one to four contents octets. `AllocError` only if an allocation fails.
-#[inline(always)]
-fn push_few(out: &mut Vec<u8>, octets: ShortContents) -> Result<(), AllocError>
-    ensures { OnOk result (out.new.items ≡ out.old.items ++ short_octets octets) }
+fn put_few(out: &mut Vec<u8>, octets: ShortContents)
+    requires { vec_len out.old + 4 ≤ vec_capacity out.old }
+    ensures { out.new.items ≡ out.old.items ++ short_octets octets }
 {
     match octets {
-        ShortContents::One(a) => push_one(out, a),
-        ShortContents::Two(a, b) => push_two(out, a, b),
-        ShortContents::Three(a, b, c) => push_three(out, a, b, c),
-        ShortContents::Four(a, b, c, d) => push_four(out, a, b, c, d),
+        ShortContents::One(a) => out.push_reserved(a),
+        ShortContents::Two(a, b) => put_two(out, a, b),
+        ShortContents::Three(a, b, c) => {
+            put_two(out, a, b);
+            out.push_reserved(c);
+        }
+        ShortContents::Four(a, b, c, d) => {
+            put_two(out, a, b);
+            put_two(out, c, d);
+        }
     }
+}
+
+/// Adds two octets, for which there is room.
+#[inline(always)]
+fn put_two(out: &mut Vec<u8>, first: u8, second: u8)
+    requires { vec_len out.old + 2 ≤ vec_capacity out.old }
+    ensures items { out.new.items ≡ out.old.items ++ first ∷ second ∷ [] }
+    ensures len { vec_len out.new ≡ vec_len out.old + 2 }
+    ensures capacity { vec_capacity out.new ≡ vec_capacity out.old }
+{
+    out.push_reserved(first);
+    out.push_reserved(second);
 }
 
 /// Adds two octets of a header and one to four contents octets. `AllocError` only if an allocation fails.
@@ -114,14 +99,16 @@ pub(crate) fn push_short(
 ) -> Result<(), AllocError>
     ensures { OnOk result (out.new.items ≡ out.old.items ++ first ∷ second ∷ short_octets octets) }
 {
-    push_two(out, first, second)?;
-    push_few(out, octets)?;
+    out.reserve(6)?;
+    put_two(out, first, second);
+    put_few(out, octets);
     Ok(())
 }
 
 /// Adds the identifier octets of a tag, and one octet that is held open for the length. The result is the place of that
 /// octet. `AllocError` only if an allocation fails.
 #[inline(always)]
+#[tactic(auto, unfolding(encodings::specs::Header::identifier))]
 pub(crate) fn push_opening(
     out: &mut Vec<u8>,
     tag: Tag,
@@ -131,24 +118,19 @@ pub(crate) fn push_opening(
         ≡ (out.old.items ++ identifier tag.class tag.number constructed) ++ 0 ∷ []) }
     ensures place { IfOk result (λ n. n ≡ length (out.old.items ++ identifier tag.class tag.number constructed)) }
 {
-    push_identifier(out, tag, constructed)?;
+    if tag.number < 31 {
+        push_two(
+            out,
+            first_octet(tag.class, constructed, tag.number as u8),
+            0,
+        )?;
+        return Ok(out.len() - 1);
+    }
+    let few = identifier_octets(tag, constructed);
+    out.extend_from_slice(few.as_slice())?;
     let place = out.len();
     out.push(0)?;
     Ok(place)
-}
-
-/// Adds the identifier octets of a tag (X.690, 8.1.2). `AllocError` only if an allocation fails.
-#[inline(always)]
-#[tactic(auto, unfolding(encodings::specs::Header::identifier))]
-fn push_identifier(out: &mut Vec<u8>, tag: Tag, constructed: bool) -> Result<(), AllocError>
-    ensures { OnOk result (out.new.items ≡ out.old.items ++ identifier tag.class tag.number constructed) }
-{
-    if tag.number < 31 {
-        out.push(first_octet(tag.class, constructed, tag.number as u8))?;
-        return Ok(());
-    }
-    let few = identifier_octets(tag, constructed);
-    out.extend_from_slice(few.as_slice())
 }
 
 /// The header with the fewest octets for this tag, this form and this number of contents octets.
