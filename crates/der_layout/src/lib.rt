@@ -2,6 +2,7 @@
 //! rows of its account.
 #![tactic(auto)]
 
+mod arcs;
 mod backend;
 mod closing;
 mod encoding;

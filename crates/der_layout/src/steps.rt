@@ -1,6 +1,7 @@
 //! The effect of each event on the table.
 
-ghost use Rattle.std.specs.Prelude.{◌≡◌, ◌<◌, ◌++◌, ◌∷◌, [], ◌⊎◌, List, IfErr, IfOk, OnOk, false, length, set, ℕ};
+ghost use Rattle.std.specs.Prelude.{◌≡◌, ◌<◌, ◌++◌, ◌∷◌, [], ◌⊎◌, List, IfErr, IfOk, OnOk, ℕ};
+ghost use Rattle.std.specs.Prelude.{false, flat_map, length, set};
 ghost use Rattle.asn_base.specs.Abstract.{abstract};
 ghost use Rattle.encodings.specs.Leaves.{HasContents};
 ghost use Rattle.codec_code.specs.Events.{by_octets, by_rank};
@@ -10,8 +11,10 @@ ghost use Rattle.octet_account.specs.Seen.{flat, flat_row};
 ghost use Rattle.der_layout.specs.Tables.{ContentsAdded, GroupBegins, GroupEnds, HeaderCloses, HeaderOpens};
 ghost use Rattle.der_layout.specs.Tables.{LeftOut, MemberEnds, MembersBegin, MembersEndIfAny, State, WholeAdded, state_of};
 ghost use Rattle.encodings.specs.Fewest.{shortest_header};
+ghost use Rattle.encodings.specs.Header.{septets};
 ghost use Rattle.primitive_writer.specs.Pieces.{joined_pieces, short_octets};
 
+use crate::arcs::push_arcs;
 use crate::closing::close_length;
 use crate::header::{push_header, push_opening, push_short, short_header};
 use crate::places::{Arrangement, arrangement_of};
@@ -196,6 +199,10 @@ fn add_any(table: &mut Table, head: Head, kind: LeafKind, value: &Value) -> Resu
     ensures not_of_type { IfErr result (λ e. e ≡ NotOfType → HasNoContents kind (abstract value.now)) }
 {
     match primitive_contents(kind, value) {
+        Some(PrimitiveContents::Arcs(first, others)) => {
+            add_arcs(table, head, first, others)?;
+            Ok(())
+        }
         Some(octets) => {
             let contents = octet_count(&octets) as usize;
             push_header(
@@ -211,6 +218,21 @@ fn add_any(table: &mut Table, head: Head, kind: LeafKind, value: &Value) -> Resu
         }
         None => Err(RunFault::NotOfType),
     }
+}
+
+/// Adds a header, numbers in septets as its contents, and the end of the header. One octet is held open for the length
+/// until the numbers are added.
+fn add_arcs(table: &mut Table, head: Head, first: u128, others: &[u64]) -> Result<(), AllocError>
+    ensures { OnOk result (WholeAdded head (septets first ++ flat_map septets others.now)
+        (state_of table.old) (state_of table.new)) }
+{
+    let place = push_opening(&mut table.octets, head.tag, head.constructed)?;
+    push_arcs(&mut table.octets, first, others)?;
+    let contents = table.octets.len() - place - 1;
+    close_length(&mut table.octets, place)?;
+    add_row(&mut table.rows, leaf_row(head.tag, contents))?;
+    table.members = sum(table.members, 1);
+    Ok(())
 }
 
 /// Adds the contents octets of a value, which are these.
