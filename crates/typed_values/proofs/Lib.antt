@@ -5,4 +5,5 @@ pub mod Readings
 pub mod Outcomes
 pub mod Shown
 pub mod Excluding
+pub mod Going
 pub mod Absences

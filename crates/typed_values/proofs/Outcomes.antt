@@ -6,6 +6,7 @@ use Rattle.trees.specs.declared.value.ValueSyntax.{ValueSyntax}
 use Rattle.trees.specs.Values.{Name, Tree, tree_of}
 use Rattle.type_table.specs.declared.table.ListMember.{ListMember}
 use Rattle.type_table.specs.Seen.{part_of}
+use Rattle.type_table.specs.Table.{Part}
 use Rattle.resolve.specs.Program.{Program}
 use Rattle.typed_values.specs.declared.fault.ValueFault.{ValueFault}
 use Rattle.typed_values.specs.Faults.{IsRightFault}
@@ -27,6 +28,30 @@ zip_count R [] (b ∷ ys) z = absurd z
 zip_count R (a ∷ xs) [] z = absurd z
 zip_count R (a ∷ xs) (b ∷ ys) z = ap suc (zip_count R xs ys z.1)
 
+-- results under modules are results under the same modules
+wrong_in : {p q : Program} {levels left : ℕ} {os : List ℕ} {M : Name} {i : ℕ} {n : Tree} {f : ValueFault} →
+    q ≡ p → IsRightFault q levels left os M i n f → IsRightFault p levels left os M i n f
+wrong_in {p} {q} {levels} {left} {os} {M} {i} {n} {f} e h =
+    subst (λ (x : Program). IsRightFault x levels left os M i n f) e h
+
+makes_in : {A : Type 0} {shows : A → AbstractValue → Type 0} {p q : Program} {levels before after : ℕ} {os : List ℕ}
+    {M : Name} {i : ℕ} {n : Tree} {x : A} →
+    q ≡ p → Makes shows q levels before after os M i n x → Makes shows p levels before after os M i n x
+makes_in {A} {shows} {p} {q} {levels} {before} {after} {os} {M} {i} {n} {x} e h =
+    subst (λ (z : Program). Makes shows z levels before after os M i n x) e h
+
+makes_field_in : {A : Type 0} {shows : A → AbstractValue → Type 0} {p q : Program} {levels before after : ℕ}
+    {os : List ℕ} {K N : Name} {fs : List (Name × Tree)} {c : Part} {x : Option A} →
+    q ≡ p → MakesField shows q levels before after os K N fs c x → MakesField shows p levels before after os K N fs c x
+makes_field_in {A} {shows} {p} {q} {levels} {before} {after} {os} {K} {N} {fs} {c} {x} e h =
+    subst (λ (z : Program). MakesField shows z levels before after os K N fs c x) e h
+
+wrong_field_in : {p q : Program} {levels left : ℕ} {os : List ℕ} {K N : Name} {fs : List (Name × Tree)} {c : Part}
+    {f : ValueFault} →
+    q ≡ p → IsWrongField q levels left os K N fs c f → IsWrongField p levels left os K N fs c f
+wrong_field_in {p} {q} {levels} {left} {os} {K} {N} {fs} {c} {f} e h =
+    subst (λ (x : Program). IsWrongField x levels left os K N fs c f) e h
+
 module _ {A : Type 0} (shows : A → AbstractValue → Type 0) (p : Program) (levels : ℕ) (os : List ℕ) where
   pub made_none : (left : ℕ) (M : Name) (a : ℕ) (xs : List A) → xs ≡ [] → MakeRow shows p levels left left os M a [] xs
   made_none left M a xs e = record {
@@ -35,29 +60,33 @@ module _ {A : Type 0} (shows : A → AbstractValue → Type 0) (p : Program) (le
     mean = none_yet p levels os M a left;
   }
 
-  pub made_more : {before between after : ℕ} {ps : List ℕ} {M : Name} {a : ℕ} (xs ys : List A) (x : A)
+  pub made_more : {before between after : ℕ} {q : Program} {ps : List ℕ} {M : Name} {a : ℕ} (xs ys : List A) (x : A)
       (ns : List ValueSyntax) (i : ℕ) (n : ValueSyntax) →
       i < length ns → n ≡ get_or ns i n →
       ys ≡ xs ++ x ∷ [] →
       MakeRow shows p levels before between os M a (map tree_of (take i ns)) xs →
       ps ≡ os →
-      Makes shows p levels between after ps M a (tree_of n) x →
+      q ≡ p →
+      Makes shows q levels between after ps M a (tree_of n) x →
       MakeRow shows p levels before after os M a (map tree_of (take (i + 1) ns)) ys
-  made_more xs ys x ns i n l e w r q h = record {
-    values = r.values ++ h.value ∷ [];
-    shown = subst (λ zs. AllZip shows zs (r.values ++ h.value ∷ [])) (sym w)
-        (zip_end shows xs r.values x h.value r.shown h.shown);
-    mean = row_more r.values h.value ns i n l e r.mean q h.means;
-  }
+  made_more xs ys x ns i n l e w r b d g =
+      let h = makes_in d g in
+      record {
+        values = r.values ++ h.value ∷ [];
+        shown = subst (λ zs. AllZip shows zs (r.values ++ h.value ∷ [])) (sym w)
+            (zip_end shows xs r.values x h.value r.shown h.shown);
+        mean = row_more r.values h.value ns i n l e r.mean b h.means;
+      }
 
-  pub made_wrong : {before between : ℕ} {ps : List ℕ} {M : Name} {a : ℕ} {f : ValueFault} (xs : List A)
+  pub made_wrong : {before between : ℕ} {q : Program} {ps : List ℕ} {M : Name} {a : ℕ} {f : ValueFault} (xs : List A)
       (ns : List ValueSyntax) (i : ℕ) (n : ValueSyntax) →
       i < length ns → n ≡ get_or ns i n →
       MakeRow shows p levels before between os M a (map tree_of (take i ns)) xs →
       ps ≡ os →
-      IsRightFault p levels between ps M a (tree_of n) f →
+      q ≡ p →
+      IsRightFault q levels between ps M a (tree_of n) f →
       FailsInOne p levels before os M a (map tree_of ns) f
-  made_wrong xs ns i n l e r q h = row_wrong r.values ns i n l e r.mean q h
+  made_wrong xs ns i n l e r b d h = row_wrong r.values ns i n l e r.mean b (wrong_in d h)
 
   pub fields_made_none : (left : ℕ) (K N : Name) (fs : List (Name × Tree)) (xs : List (Option A)) → xs ≡ [] →
       MakeFields shows p levels left left os K N fs [] xs
@@ -67,26 +96,30 @@ module _ {A : Type 0} (shows : A → AbstractValue → Type 0) (p : Program) (le
     mean = no_field_yet p levels os K N fs left;
   }
 
-  pub fields_made_more : {before between after : ℕ} {ps : List ℕ} {K N : Name} {fs : List (Name × Tree)}
+  pub fields_made_more : {before between after : ℕ} {q : Program} {ps : List ℕ} {K N : Name} {fs : List (Name × Tree)}
       (xs ys : List (Option A)) (x : Option A) (ms : List ListMember) (i : ℕ) (m : ListMember) →
       i < length ms → m ≡ get_or ms i m →
       ys ≡ xs ++ x ∷ [] →
       MakeFields shows p levels before between os K N fs (map part_of (take i ms)) xs →
       ps ≡ os →
-      MakesField shows p levels between after ps K N fs (part_of m) x →
+      q ≡ p →
+      MakesField shows q levels between after ps K N fs (part_of m) x →
       MakeFields shows p levels before after os K N fs (map part_of (take (i + 1) ms)) ys
-  fields_made_more xs ys x ms i m l e w r q h = record {
-    values = r.values ++ h.value ∷ [];
-    shown = subst (λ zs. AllZip (ShowsOption shows) zs (r.values ++ h.value ∷ [])) (sym w)
-        (zip_end (ShowsOption shows) xs r.values x h.value r.shown h.shown);
-    mean = fields_more r.values h.value ms i m l e r.mean q h.field h.counted;
-  }
+  fields_made_more xs ys x ms i m l e w r b d g =
+      let h = makes_field_in d g in
+      record {
+        values = r.values ++ h.value ∷ [];
+        shown = subst (λ zs. AllZip (ShowsOption shows) zs (r.values ++ h.value ∷ [])) (sym w)
+            (zip_end (ShowsOption shows) xs r.values x h.value r.shown h.shown);
+        mean = fields_more r.values h.value ms i m l e r.mean b h.field h.counted;
+      }
 
-  pub fields_made_wrong : {before between : ℕ} {ps : List ℕ} {K N : Name} {fs : List (Name × Tree)} {f : ValueFault}
-      (xs : List (Option A)) (ms : List ListMember) (i : ℕ) (m : ListMember) →
+  pub fields_made_wrong : {before between : ℕ} {q : Program} {ps : List ℕ} {K N : Name} {fs : List (Name × Tree)}
+      {f : ValueFault} (xs : List (Option A)) (ms : List ListMember) (i : ℕ) (m : ListMember) →
       i < length ms → m ≡ get_or ms i m →
       MakeFields shows p levels before between os K N fs (map part_of (take i ms)) xs →
       ps ≡ os →
-      IsWrongField p levels between ps K N fs (part_of m) f →
+      q ≡ p →
+      IsWrongField q levels between ps K N fs (part_of m) f →
       FailsInField p levels before os K N fs (map part_of ms) f
-  fields_made_wrong xs ms i m l e r q h = fields_wrong r.values ms i m l e r.mean q h
+  fields_made_wrong xs ms i m l e r b d h = fields_wrong r.values ms i m l e r.mean b (wrong_field_in d h)

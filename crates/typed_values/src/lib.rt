@@ -2,6 +2,7 @@
 #![tactic(auto)]
 
 mod fault;
+mod followed;
 mod forms;
 pub mod law;
 mod levels;

@@ -18,9 +18,10 @@ ghost use Rattle.values.specs.Allowing.{Allows, AllowsCode};
 ghost use Rattle.values.specs.Arranged.{place_of};
 ghost use Rattle.typed_values.specs.Faults.{HasKindIn, IsRightFault};
 ghost use Rattle.typed_values.specs.Known.{AreKnown, AreListed, IsListed};
-ghost use Rattle.typed_values.specs.proving.Reading.{Answers, ArePlaced, IsMade, IsWrongDefault, IsWrongField, MakeFields, MakeRow, MakesField, FailsInField, FailsInOne};
+ghost use Rattle.typed_values.specs.proving.Reading.{Answers, AnswersWhole, ArePlaced, HaveTypes, IsMade, IsWrongDefault, IsWrongField, LeadsTo, MakeFields, MakeRow, MakesField, MayBeLeftOut, FailsInField, FailsInOne, GoesOn, IsReady};
 
 use crate::fault::{Cause, ValueFault, ValueSite, follow_cause, names_cause};
+use crate::followed::Followed;
 use crate::forms::{chosen_in, fields_in, values_in};
 use crate::levels::Defaults;
 use crate::outcome::{CheckedOnly, Outcome};
@@ -54,550 +55,480 @@ fn is_choice(kind: ListKind) -> bool
     }
 }
 
-/// Reads a notation under a type, if `levels` levels and `left` nodes are left. `opened` are the values whose notations
-/// are being read; those that the reading of a value adds are removed again.
-#[cycle(reading)]
-fn read<'a, O: Outcome>(
+/// A reading of notations under types, from the modules and the table of DEFAULTs that a caller gives.
+#[derive(Drop)]
+struct NotationReader<'r, 'a> {
     alloc: Global,
-    bounded: &Bounded<'a>,
-    defaults: &mut Defaults,
-    levels: u8,
-    left: &mut u32,
-    opened: &mut Opened,
-    at: ValueSite<'a>,
-) -> Result<O, ValueFault<'a>>
-    requires there { at.ty.index < length bounded.now.types }
-    requires sound { AreSound bounded.now.types }
-    requires known { AreKnown bounded.now defaults.old }
-    ensures is_read { Answers O.shows bounded.now levels left.old left.new opened.old
-        at.entry.within.now at.entry.ty.index (tree_of at.entry.notation.now) result }
-    ensures back { OnOk result (opened.new ≡ opened.old) }
-    ensures known { AreKnown bounded.now defaults.new }
-{
-    if levels == 0 {
-        let cause = Cause::Depth;
-        return Err(ValueFault { at, cause });
-    }
-    if *left == 0 {
-        let cause = Cause::Nodes;
-        return Err(ValueFault { at, cause });
-    }
-    *left -= 1;
-    defaults.reach(levels - 1);
-    let count = opened.count();
-    let linked = bounded.linked();
-    let (shape, home) = written(linked, at.ty);
-    match follow(linked, opened, shape, at.within, at.notation) {
-        Err(fault) => {
-            let cause = follow_cause(fault);
-            Err(ValueFault { at, cause })
+    bounded: &'r Bounded<'a>,
+    defaults: &'r mut Defaults,
+    /// How many nodes are left.
+    left: u32,
+    /// The values whose notations are being read.
+    opened: &'r mut Opened,
+}
+
+impl<'r, 'a> NotationReader<'r, 'a> {
+    /// Reads a notation under a type, if `levels` levels and a node are left. The values that the reading adds to
+    /// `opened` are removed again.
+    #[cycle(reading)]
+    fn read<O: Outcome>(&mut self, levels: u8, at: ValueSite<'a>) -> Result<O, ValueFault<'a>>
+        requires there { at.ty.index < length self.old.bounded.now.types }
+        requires ready { IsReady self.old }
+        ensures is_read { Answers O.shows self.old.bounded.now levels self.old.left self.new.left self.old.opened.now
+            at.entry.within.now at.entry.ty.index (tree_of at.entry.notation.now) result }
+        ensures back { OnOk result (self.new.opened.now ≡ self.old.opened.now) }
+        ensures ready { GoesOn self.old self.new }
+        ensures same_table { self.new.defaults.ghost_name ≡ self.old.defaults.ghost_name }
+    {
+        if levels == 0 {
+            let cause = Cause::Depth;
+            return Err(ValueFault { at, cause });
         }
-        Ok((within, last)) => {
-            match value_of(
-                alloc,
-                bounded,
-                defaults,
-                levels - 1,
-                left,
-                opened,
-                at,
-                shape,
-                home,
-                within,
-                last,
-            ) {
-                Err(fault) => Err(fault),
-                Ok(value) => {
-                    opened.close(count);
-                    Ok(value)
+        if self.left == 0 {
+            let cause = Cause::Nodes;
+            return Err(ValueFault { at, cause });
+        }
+        self.left -= 1;
+        self.defaults.reach(levels - 1);
+        let count = self.opened.count();
+        let linked = self.bounded.linked();
+        let (shape, home) = written(linked, at.ty);
+        match follow(linked, self.opened, shape, at.within, at.notation) {
+            Err(fault) => {
+                let cause = follow_cause(fault);
+                Err(ValueFault { at, cause })
+            }
+            Ok((within, last)) => {
+                let levels = levels - 1;
+                let followed = Followed {
+                    at,
+                    levels,
+                    home,
+                    within,
+                    last,
+                };
+                match self.value_of(&followed, shape) {
+                    Err(fault) => Err(fault),
+                    Ok(value) => {
+                        self.opened.close(count);
+                        Ok(value)
+                    }
                 }
             }
         }
     }
-}
 
-/// Reads the notation to which the references of a notation lead, under the shape of its type after references and
-/// tags.
-#[cycle(reading)]
-fn value_of<'a, O: Outcome>(
-    alloc: Global,
-    bounded: &Bounded<'a>,
-    defaults: &mut Defaults,
-    levels: u8,
-    left: &mut u32,
-    opened: &mut Opened,
-    at: ValueSite<'a>,
-    shape: &'a Shape,
-    home: &'a str,
-    within: &'a str,
-    last: &'a ValueSyntax,
-) -> Result<O, ValueFault<'a>>
-    requires there { at.ty.index < length bounded.now.types }
-    requires sound { AreSound bounded.now.types }
-    requires written { HasKindIn bounded.now at.ty.index (kind_of shape.now) home.now }
-    requires known { AreKnown bounded.now defaults.old }
-    ensures is_read { (os : List ℕ)
-        → IsLast bounded.now (kind_of shape.now) os at.entry.within.now
-        (tree_of at.entry.notation.now) opened.old within.now
-        (tree_of last.now)
-        → Answers O.shows bounded.now (suc levels) (suc left.old) left.new os at.entry.within.now
-        at.entry.ty.index (tree_of at.entry.notation.now)
-        result }
-    ensures back { OnOk result (opened.new ≡ opened.old) }
-    ensures known { AreKnown bounded.now defaults.new }
-{
-    let linked = bounded.linked();
-    linked.whole();
-    match shape {
-        Shape::Simple(simple) => match simple_value(alloc, bounded, at, simple, within, last) {
-            Ok(value) => Ok(O::leaf(value)),
-            Err(fault) => Err(fault),
-        },
-        Shape::Elements(_, element) => {
-            let element = TypeId { index: *element };
-            list(
-                alloc, bounded, defaults, levels, left, opened, at, element, within, last,
-            )
-        }
-        Shape::Members(kind, _, parts) => {
-            let members = parts.as_slice();
-            if is_choice(*kind) {
-                chosen(
-                    alloc, bounded, defaults, levels, left, opened, at, members, within, last,
-                )
-            } else {
-                fields(
-                    alloc, bounded, defaults, levels, left, opened, at, *kind, members, home,
-                    within, last,
-                )
+    /// Reads the notation to which the references of a notation lead, under the shape of its type after references and
+    /// tags.
+    #[cycle(reading)]
+    fn value_of<O: Outcome>(
+        &mut self,
+        followed: &Followed<'a>,
+        shape: &'a Shape,
+    ) -> Result<O, ValueFault<'a>>
+        requires there { followed.now.at.ty.index < length self.old.bounded.now.types }
+        requires written { HasKindIn self.old.bounded.now followed.now.at.ty.index (kind_of shape.now)
+            followed.now.home.now }
+        requires ready { IsReady self.old }
+        ensures is_read { (os : List ℕ)
+            → LeadsTo self.old.bounded.now (kind_of shape.now) os self.old.opened.now followed.now
+            → AnswersWhole O.shows self.old.bounded.now self.old.left self.new.left os followed.now result }
+        ensures back { OnOk result (self.new.opened.now ≡ self.old.opened.now) }
+        ensures ready { GoesOn self.old self.new }
+        ensures same_table { self.new.defaults.ghost_name ≡ self.old.defaults.ghost_name }
+    {
+        let linked = self.bounded.linked();
+        linked.whole();
+        match shape {
+            Shape::Simple(simple) => match simple_value(
+                self.alloc,
+                self.bounded,
+                followed.at,
+                simple,
+                followed.within,
+                followed.last,
+            ) {
+                Ok(value) => Ok(O::leaf(value)),
+                Err(fault) => Err(fault),
+            },
+            Shape::Elements(_, element) => {
+                let element = TypeId { index: *element };
+                self.list(followed, element)
             }
+            Shape::Members(kind, _, parts) => {
+                let members = parts.as_slice();
+                if is_choice(*kind) {
+                    self.chosen(followed, members)
+                } else {
+                    self.fields(followed, *kind, members)
+                }
+            }
+            Shape::Reference(_) => unreachable!(),
+            Shape::Tagged(_, _, _) => unreachable!(),
         }
-        Shape::Reference(_) => unreachable!(),
-        Shape::Tagged(_, _, _) => unreachable!(),
     }
-}
 
-/// Reads the value of a SEQUENCE OF or SET OF.
-#[cycle(reading)]
-fn list<'a, O: Outcome>(
-    alloc: Global,
-    bounded: &Bounded<'a>,
-    defaults: &mut Defaults,
-    levels: u8,
-    left: &mut u32,
-    opened: &mut Opened,
-    at: ValueSite<'a>,
-    element: TypeId,
-    within: &'a str,
-    last: &'a ValueSyntax,
-) -> Result<O, ValueFault<'a>>
-    requires there { at.ty.index < length bounded.now.types }
-    requires element { element.index < length bounded.now.types }
-    requires sound { AreSound bounded.now.types }
-    requires known { AreKnown bounded.now defaults.old }
-    ensures is_read { (os : List ℕ) (k : ElementsKind') (N : Name)
-        → HasKindIn bounded.now at.entry.ty.index (elements k element.index) N
-        → IsLast bounded.now (elements k element.index) os at.entry.within.now
-        (tree_of at.entry.notation.now) opened.old within.now
-        (tree_of last.now)
-        → Answers O.shows bounded.now (suc levels) (suc left.old) left.new os at.entry.within.now
-        at.entry.ty.index (tree_of at.entry.notation.now)
-        result }
-    ensures back { OnOk result (opened.new ≡ opened.old) }
-    ensures known { AreKnown bounded.now defaults.new }
-{
-    let Some(notations) = values_in(last) else {
-        let cause = Cause::NotOfType;
-        return Err(ValueFault { at, cause });
-    };
-    let values = match all(
-        alloc, bounded, defaults, levels, left, opened, element, within, notations,
-    ) {
-        Ok(values) => values,
-        Err(fault) => return Err(fault),
-    };
-    if !allows_size(bounded, at.ty, values.len()) {
-        let cause = Cause::Outside;
-        return Err(ValueFault { at, cause });
-    }
-    Ok(O::list(values))
-}
-
-/// Reads the elements of a list, one after the other.
-#[cycle(reading)]
-fn all<'a, O: Outcome>(
-    alloc: Global,
-    bounded: &Bounded<'a>,
-    defaults: &mut Defaults,
-    levels: u8,
-    left: &mut u32,
-    opened: &mut Opened,
-    element: TypeId,
-    within: &'a str,
-    notations: &'a [ValueSyntax],
-) -> Result<Vec<O>, ValueFault<'a>>
-    requires there { element.index < length bounded.now.types }
-    requires sound { AreSound bounded.now.types }
-    requires known { AreKnown bounded.now defaults.old }
-    ensures value { IfOk result (λ vs. MakeRow O.shows bounded.now levels left.old left.new opened.old within.now
-        element.index (map tree_of notations.now) vs.items) }
-    ensures fault { IfErr result (FailsInOne bounded.now levels left.old opened.old within.now element.index
-        (map tree_of notations.now)) }
-    ensures back { OnOk result (opened.new ≡ opened.old) }
-    ensures known { AreKnown bounded.now defaults.new }
-{
-    let mut values = room_for(alloc, notations.len());
-    for i in 0..notations.len() {
-        let at = ValueSite {
-            ty: element,
-            within,
-            notation: &notations[i],
+    /// Reads the value of a SEQUENCE OF or SET OF.
+    #[cycle(reading)]
+    fn list<O: Outcome>(
+        &mut self,
+        followed: &Followed<'a>,
+        element: TypeId,
+    ) -> Result<O, ValueFault<'a>>
+        requires there { followed.now.at.ty.index < length self.old.bounded.now.types }
+        requires element { element.index < length self.old.bounded.now.types }
+        requires ready { IsReady self.old }
+        ensures is_read { (os : List ℕ) (k : ElementsKind') (N : Name)
+            → HasKindIn self.old.bounded.now followed.now.at.ty.index (elements k element.index) N
+            → LeadsTo self.old.bounded.now (elements k element.index) os self.old.opened.now followed.now
+            → AnswersWhole O.shows self.old.bounded.now self.old.left self.new.left os followed.now result }
+        ensures back { OnOk result (self.new.opened.now ≡ self.old.opened.now) }
+        ensures ready { GoesOn self.old self.new }
+        ensures same_table { self.new.defaults.ghost_name ≡ self.old.defaults.ghost_name }
+    {
+        let at = followed.at;
+        let Some(notations) = values_in(followed.last) else {
+            let cause = Cause::NotOfType;
+            return Err(ValueFault { at, cause });
         };
-        let value = match read(alloc, bounded, defaults, levels, left, opened, at) {
-            Ok(value) => value,
+        let values = match self.all(followed, element, notations) {
+            Ok(values) => values,
             Err(fault) => return Err(fault),
         };
-        match values.push(value) {
-            Ok(()) => {}
-            Err(_) => {
-                let cause = Cause::Memory;
-                return Err(ValueFault { at, cause });
-            }
-        }
-    }
-    Ok(values)
-}
-
-/// Reads the value of a CHOICE.
-#[cycle(reading)]
-fn chosen<'a, O: Outcome>(
-    alloc: Global,
-    bounded: &Bounded<'a>,
-    defaults: &mut Defaults,
-    levels: u8,
-    left: &mut u32,
-    opened: &mut Opened,
-    at: ValueSite<'a>,
-    alternatives: &'a [ListMember],
-    within: &'a str,
-    last: &'a ValueSyntax,
-) -> Result<O, ValueFault<'a>>
-    requires members { (j : ℕ) (c : Part) → slice_get (map part_of alternatives.now) j ≡ Some c
-        → c.ty < length bounded.now.types }
-    requires sound { AreSound bounded.now.types }
-    requires known { AreKnown bounded.now defaults.old }
-    ensures is_read { (os : List ℕ) (e : 𝔹) (N : Name)
-        → HasKindIn bounded.now at.entry.ty.index (members choice e (map part_of alternatives.now)) N
-        → IsLast bounded.now (members choice e (map part_of alternatives.now)) os at.entry.within.now
-        (tree_of at.entry.notation.now) opened.old within.now (tree_of last.now)
-        → Answers O.shows bounded.now (suc levels) (suc left.old) left.new os at.entry.within.now
-        at.entry.ty.index (tree_of at.entry.notation.now)
-        result }
-    ensures back { OnOk result (opened.new ≡ opened.old) }
-    ensures known { AreKnown bounded.now defaults.new }
-{
-    let Some((name, notation)) = chosen_in(last) else {
-        let cause = Cause::NotOfType;
-        return Err(ValueFault { at, cause });
-    };
-    let Some(number) = alternative(alternatives, name) else {
-        let cause = Cause::UnknownAlternative;
-        return Err(ValueFault { at, cause });
-    };
-    let ty = TypeId {
-        index: alternatives[number].ty,
-    };
-    let inner = ValueSite {
-        ty,
-        within,
-        notation,
-    };
-    let value: O = match read(alloc, bounded, defaults, levels, left, opened, inner) {
-        Ok(value) => value,
-        Err(fault) => return Err(fault),
-    };
-    match O::alternative(alloc, number, value) {
-        Ok(chosen) => Ok(chosen),
-        Err(_) => {
-            let cause = Cause::Memory;
-            Err(ValueFault { at, cause })
-        }
-    }
-}
-
-/// Reads the value of a SEQUENCE or SET.
-#[cycle(reading)]
-fn fields<'a, O: Outcome>(
-    alloc: Global,
-    bounded: &Bounded<'a>,
-    defaults: &mut Defaults,
-    levels: u8,
-    left: &mut u32,
-    opened: &mut Opened,
-    at: ValueSite<'a>,
-    kind: ListKind,
-    components: &'a [ListMember],
-    home: &'a str,
-    within: &'a str,
-    last: &'a ValueSyntax,
-) -> Result<O, ValueFault<'a>>
-    requires list { kind ≡ choice → ⊥ }
-    requires distinct { AreDistinct (part_names (map part_of components.now)) }
-    requires members { (j : ℕ) (c : Part) → slice_get (map part_of components.now) j ≡ Some c
-        → c.ty < length bounded.now.types }
-    requires sound { AreSound bounded.now.types }
-    requires listed { AreListed bounded.now home.now (map part_of components.now) }
-    requires known { AreKnown bounded.now defaults.old }
-    ensures is_read { (os : List ℕ) (e : 𝔹)
-        → HasKindIn bounded.now at.entry.ty.index (members kind e (map part_of components.now)) home.now
-        → IsLast bounded.now (members kind e (map part_of components.now)) os at.entry.within.now
-        (tree_of at.entry.notation.now)
-        opened.old within.now (tree_of last.now)
-        → Answers O.shows bounded.now (suc levels) (suc left.old) left.new os at.entry.within.now
-        at.entry.ty.index (tree_of at.entry.notation.now)
-        result }
-    ensures back { OnOk result (opened.new ≡ opened.old) }
-    ensures known { AreKnown bounded.now defaults.new }
-{
-    lemma_value_of_fields();
-    lemma_groups_are_whole();
-    let Some(given) = fields_in(last) else {
-        let cause = Cause::NotOfType;
-        return Err(ValueFault { at, cause });
-    };
-    let places = match arranged(alloc, kind, components, given) {
-        Ok(places) => places,
-        Err(fault) => {
-            let cause = names_cause(fault, within, last);
+        if !allows_size(self.bounded, at.ty, values.len()) {
+            let cause = Cause::Outside;
             return Err(ValueFault { at, cause });
         }
-    };
-    match all_fields(
-        alloc,
-        bounded,
-        defaults,
-        levels,
-        left,
-        opened,
-        at,
-        components,
-        home,
-        within,
-        given,
-        places.as_slice(),
-    ) {
-        Ok(values) => Ok(O::fields(values)),
-        Err(fault) => Err(fault),
+        Ok(O::list(values))
     }
-}
 
-/// Reads the components of a SEQUENCE or SET in the order of definition.
-#[cycle(reading)]
-fn all_fields<'a, O: Outcome>(
-    alloc: Global,
-    bounded: &Bounded<'a>,
-    defaults: &mut Defaults,
-    levels: u8,
-    left: &mut u32,
-    opened: &mut Opened,
-    at: ValueSite<'a>,
-    components: &'a [ListMember],
-    home: &'a str,
-    within: &'a str,
-    given: &'a [Named<ValueSyntax>],
-    places: &[Option<usize>],
-) -> Result<Vec<Option<O>>, ValueFault<'a>>
-    requires arranged { ArePlaced (map part_of components.now) (field_names (map member_of given.now)) places.now }
-    requires members { (j : ℕ) (c : Part) → slice_get (map part_of components.now) j ≡ Some c
-        → c.ty < length bounded.now.types }
-    requires sound { AreSound bounded.now.types }
-    requires listed { AreListed bounded.now home.now (map part_of components.now) }
-    requires known { AreKnown bounded.now defaults.old }
-    ensures value { IfOk result (λ vs. MakeFields O.shows bounded.now levels left.old left.new opened.old within.now
-        home.now (map member_of given.now) (map part_of components.now) vs.items) }
-    ensures fault { IfErr result (FailsInField bounded.now levels left.old opened.old within.now home.now
-        (map member_of given.now) (map part_of components.now)) }
-    ensures back { OnOk result (opened.new ≡ opened.old) }
-    ensures known { AreKnown bounded.now defaults.new }
-{
-    let mut values = room_for(alloc, components.len());
-    for i in 0..components.len() {
-        let component = &components[i];
-        let value = match field(
-            alloc, bounded, defaults, levels, left, opened, component, home, within, given,
-            places[i],
-        ) {
+    /// Reads the elements of a list, one after the other.
+    #[cycle(reading)]
+    fn all<O: Outcome>(
+        &mut self,
+        followed: &Followed<'a>,
+        element: TypeId,
+        notations: &'a [ValueSyntax],
+    ) -> Result<Vec<O>, ValueFault<'a>>
+        requires there { element.index < length self.old.bounded.now.types }
+        requires ready { IsReady self.old }
+        ensures value { IfOk result (λ vs. MakeRow O.shows self.old.bounded.now followed.now.levels self.old.left
+            self.new.left self.old.opened.now followed.now.within.now element.index (map tree_of notations.now) vs.items) }
+        ensures fault { IfErr result (FailsInOne self.old.bounded.now followed.now.levels self.old.left self.old.opened.now
+            followed.now.within.now element.index (map tree_of notations.now)) }
+        ensures back { OnOk result (self.new.opened.now ≡ self.old.opened.now) }
+        ensures ready { GoesOn self.old self.new }
+        ensures same_table { self.new.defaults.ghost_name ≡ self.old.defaults.ghost_name }
+    {
+        let mut values = room_for(self.alloc, notations.len());
+        for i in 0..notations.len() {
+            let at = ValueSite {
+                ty: element,
+                within: followed.within,
+                notation: &notations[i],
+            };
+            let value = match self.read(followed.levels, at) {
+                Ok(value) => value,
+                Err(fault) => return Err(fault),
+            };
+            match values.push(value) {
+                Ok(()) => {}
+                Err(_) => {
+                    let cause = Cause::Memory;
+                    return Err(ValueFault { at, cause });
+                }
+            }
+        }
+        Ok(values)
+    }
+
+    /// Reads the value of a CHOICE.
+    #[cycle(reading)]
+    fn chosen<O: Outcome>(
+        &mut self,
+        followed: &Followed<'a>,
+        alternatives: &'a [ListMember],
+    ) -> Result<O, ValueFault<'a>>
+        requires members { HaveTypes self.old.bounded.now (map part_of alternatives.now) }
+        requires ready { IsReady self.old }
+        ensures is_read { (os : List ℕ) (e : 𝔹) (N : Name)
+            → HasKindIn self.old.bounded.now followed.now.at.ty.index
+            (members choice e (map part_of alternatives.now)) N
+            → LeadsTo self.old.bounded.now (members choice e (map part_of alternatives.now)) os self.old.opened.now
+            followed.now
+            → AnswersWhole O.shows self.old.bounded.now self.old.left self.new.left os followed.now result }
+        ensures back { OnOk result (self.new.opened.now ≡ self.old.opened.now) }
+        ensures ready { GoesOn self.old self.new }
+        ensures same_table { self.new.defaults.ghost_name ≡ self.old.defaults.ghost_name }
+    {
+        let at = followed.at;
+        let Some((name, notation)) = chosen_in(followed.last) else {
+            let cause = Cause::NotOfType;
+            return Err(ValueFault { at, cause });
+        };
+        let Some(number) = alternative(alternatives, name) else {
+            let cause = Cause::UnknownAlternative;
+            return Err(ValueFault { at, cause });
+        };
+        let inner = ValueSite {
+            ty: TypeId {
+                index: alternatives[number].ty,
+            },
+            within: followed.within,
+            notation,
+        };
+        let value: O = match self.read(followed.levels, inner) {
             Ok(value) => value,
             Err(fault) => return Err(fault),
         };
-        match values.push(value) {
-            Ok(()) => {}
+        match O::alternative(self.alloc, number, value) {
+            Ok(chosen) => Ok(chosen),
             Err(_) => {
                 let cause = Cause::Memory;
+                Err(ValueFault { at, cause })
+            }
+        }
+    }
+
+    /// Reads the value of a SEQUENCE or SET.
+    #[cycle(reading)]
+    fn fields<O: Outcome>(
+        &mut self,
+        followed: &Followed<'a>,
+        kind: ListKind,
+        components: &'a [ListMember],
+    ) -> Result<O, ValueFault<'a>>
+        requires list { kind ≡ choice → ⊥ }
+        requires distinct { AreDistinct (part_names (map part_of components.now)) }
+        requires members { HaveTypes self.old.bounded.now (map part_of components.now) }
+        requires listed { AreListed self.old.bounded.now followed.now.home.now (map part_of components.now) }
+        requires ready { IsReady self.old }
+        ensures is_read { (os : List ℕ) (e : 𝔹)
+            → HasKindIn self.old.bounded.now followed.now.at.ty.index (members kind e (map part_of components.now))
+            followed.now.home.now
+            → LeadsTo self.old.bounded.now (members kind e (map part_of components.now)) os self.old.opened.now
+            followed.now
+            → AnswersWhole O.shows self.old.bounded.now self.old.left self.new.left os followed.now result }
+        ensures back { OnOk result (self.new.opened.now ≡ self.old.opened.now) }
+        ensures ready { GoesOn self.old self.new }
+        ensures same_table { self.new.defaults.ghost_name ≡ self.old.defaults.ghost_name }
+    {
+        lemma_value_of_fields();
+        lemma_groups_are_whole();
+        let at = followed.at;
+        let Some(given) = fields_in(followed.last) else {
+            let cause = Cause::NotOfType;
+            return Err(ValueFault { at, cause });
+        };
+        let places = match arranged(self.alloc, kind, components, given) {
+            Ok(places) => places,
+            Err(fault) => {
+                let cause = names_cause(fault, followed.within, followed.last);
                 return Err(ValueFault { at, cause });
             }
+        };
+        match self.all_fields(followed, components, given, places.as_slice()) {
+            Ok(values) => Ok(O::fields(values)),
+            Err(fault) => Err(fault),
         }
     }
-    Ok(values)
-}
 
-/// Reads a component: its field, or nothing if it may be absent.
-#[cycle(reading)]
-fn field<'a, O: Outcome>(
-    alloc: Global,
-    bounded: &Bounded<'a>,
-    defaults: &mut Defaults,
-    levels: u8,
-    left: &mut u32,
-    opened: &mut Opened,
-    component: &'a ListMember,
-    home: &'a str,
-    within: &'a str,
-    given: &'a [Named<ValueSyntax>],
-    place: Option<usize>,
-) -> Result<Option<O>, ValueFault<'a>>
-    requires there { component.now.ty < length bounded.now.types }
-    requires placed { place ≡ place_of (part_of component.now).name (field_names (map member_of given.now)) }
-    requires may { place ≡ None → may_be_absent (part_of component.now) ≡ true }
-    requires sound { AreSound bounded.now.types }
-    requires listed { IsListed bounded.now home.now (part_of component.now) }
-    requires known { AreKnown bounded.now defaults.old }
-    ensures value { IfOk result (MakesField O.shows bounded.now levels left.old left.new opened.old within.now home.now
-        (map member_of given.now) (part_of component.now)) }
-    ensures fault { IfErr result (IsWrongField bounded.now levels left.old opened.old within.now home.now
-        (map member_of given.now) (part_of component.now)) }
-    ensures back { OnOk result (opened.new ≡ opened.old) }
-    ensures known { AreKnown bounded.now defaults.new }
-{
-    let ty = TypeId {
-        index: component.ty,
-    };
-    match place {
-        Some(place) => {
-            let notation = &given[place].value;
-            let at = ValueSite {
-                ty,
-                within,
-                notation,
+    /// Reads the components of a SEQUENCE or SET in the order of definition.
+    #[cycle(reading)]
+    fn all_fields<O: Outcome>(
+        &mut self,
+        followed: &Followed<'a>,
+        components: &'a [ListMember],
+        given: &'a [Named<ValueSyntax>],
+        places: &[Option<usize>],
+    ) -> Result<Vec<Option<O>>, ValueFault<'a>>
+        requires arranged { ArePlaced (map part_of components.now) (field_names (map member_of given.now)) places.now }
+        requires members { HaveTypes self.old.bounded.now (map part_of components.now) }
+        requires listed { AreListed self.old.bounded.now followed.now.home.now (map part_of components.now) }
+        requires ready { IsReady self.old }
+        ensures value { IfOk result (λ vs. MakeFields O.shows self.old.bounded.now followed.now.levels self.old.left
+            self.new.left self.old.opened.now followed.now.within.now followed.now.home.now (map member_of given.now)
+            (map part_of components.now) vs.items) }
+        ensures fault { IfErr result (FailsInField self.old.bounded.now followed.now.levels self.old.left
+            self.old.opened.now followed.now.within.now followed.now.home.now (map member_of given.now)
+            (map part_of components.now)) }
+        ensures back { OnOk result (self.new.opened.now ≡ self.old.opened.now) }
+        ensures ready { GoesOn self.old self.new }
+        ensures same_table { self.new.defaults.ghost_name ≡ self.old.defaults.ghost_name }
+    {
+        let mut values = room_for(self.alloc, components.len());
+        for i in 0..components.len() {
+            let value = match self.field(followed, &components[i], given, places[i]) {
+                Ok(value) => value,
+                Err(fault) => return Err(fault),
             };
-            match read(alloc, bounded, defaults, levels, left, opened, at) {
-                Ok(value) => Ok(Some(value)),
-                Err(fault) => Err(fault),
+            match values.push(value) {
+                Ok(()) => {}
+                Err(_) => {
+                    let at = followed.at;
+                    let cause = Cause::Memory;
+                    return Err(ValueFault { at, cause });
+                }
             }
         }
-        None => match default::<O>(alloc, bounded, defaults, levels, component, home) {
-            Ok(()) => Ok(None),
+        Ok(values)
+    }
+
+    /// Reads a component: its field, or nothing if it may be absent.
+    #[cycle(reading)]
+    fn field<O: Outcome>(
+        &mut self,
+        followed: &Followed<'a>,
+        component: &'a ListMember,
+        given: &'a [Named<ValueSyntax>],
+        place: Option<usize>,
+    ) -> Result<Option<O>, ValueFault<'a>>
+        requires there { component.now.ty < length self.old.bounded.now.types }
+        requires placed { place ≡ place_of (part_of component.now).name (field_names (map member_of given.now)) }
+        requires may { place ≡ None → may_be_absent (part_of component.now) ≡ true }
+        requires listed { IsListed self.old.bounded.now followed.now.home.now (part_of component.now) }
+        requires ready { IsReady self.old }
+        ensures value { IfOk result (MakesField O.shows self.old.bounded.now followed.now.levels self.old.left
+            self.new.left self.old.opened.now followed.now.within.now followed.now.home.now (map member_of given.now)
+            (part_of component.now)) }
+        ensures fault { IfErr result (IsWrongField self.old.bounded.now followed.now.levels self.old.left
+            self.old.opened.now followed.now.within.now followed.now.home.now (map member_of given.now)
+            (part_of component.now)) }
+        ensures back { OnOk result (self.new.opened.now ≡ self.old.opened.now) }
+        ensures ready { GoesOn self.old self.new }
+        ensures same_table { self.new.defaults.ghost_name ≡ self.old.defaults.ghost_name }
+    {
+        match place {
+            Some(place) => {
+                let at = ValueSite {
+                    ty: TypeId {
+                        index: component.ty,
+                    },
+                    within: followed.within,
+                    notation: &given[place].value,
+                };
+                match self.read(followed.levels, at) {
+                    Ok(value) => Ok(Some(value)),
+                    Err(fault) => Err(fault),
+                }
+            }
+            None => match self.default::<O>(followed.levels, component, followed.home) {
+                Ok(()) => Ok(None),
+                Err(fault) => Err(fault),
+            },
+        }
+    }
+
+    /// Reads the DEFAULT of an absent component, if it has one.
+    #[cycle(reading)]
+    fn default<O: Outcome>(
+        &mut self,
+        levels: u8,
+        component: &'a ListMember,
+        home: &'a str,
+    ) -> Result<(), ValueFault<'a>>
+        requires there { component.now.ty < length self.old.bounded.now.types }
+        requires may { may_be_absent (part_of component.now) ≡ true }
+        requires listed { IsListed self.old.bounded.now home.now (part_of component.now) }
+        requires ready { IsReady self.old }
+        ensures may { OnOk result (MayBeLeftOut self.old.bounded.now levels home.now (part_of component.now)) }
+        ensures fault { IfErr result (IsWrongDefault self.old.bounded.now levels home.now (part_of component.now)) }
+        ensures left { self.new.left ≡ self.old.left }
+        ensures back { self.new.opened.now ≡ self.old.opened.now }
+        ensures ready { GoesOn self.old self.new }
+        ensures same_table { self.new.defaults.ghost_name ≡ self.old.defaults.ghost_name }
+    {
+        match component.standing {
+            Standing::Addition(_) => Ok(()),
+            Standing::Root => match &component.presence {
+                PresenceSyntax::Mandatory => Ok(()),
+                PresenceSyntax::Optional => Ok(()),
+                PresenceSyntax::Default(notation) => {
+                    self.whole_default::<O>(levels, component, home, notation)
+                }
+            },
+        }
+    }
+
+    /// Reads a DEFAULT, unless the table says that it stands for a value of at most `levels` levels. After the reading
+    /// the table says so.
+    #[cycle(reading)]
+    fn whole_default<O: Outcome>(
+        &mut self,
+        levels: u8,
+        component: &'a ListMember,
+        home: &'a str,
+        notation: &'a ValueSyntax,
+    ) -> Result<(), ValueFault<'a>>
+        requires there { component.now.ty < length self.old.bounded.now.types }
+        requires root { (part_of component.now).standing ≡ Root }
+        requires presence { (part_of component.now).presence ≡ default' (tree_of notation.now) }
+        requires listed { IsListed self.old.bounded.now home.now (part_of component.now) }
+        requires ready { IsReady self.old }
+        ensures may { OnOk result (MayBeLeftOut self.old.bounded.now levels home.now (part_of component.now)) }
+        ensures fault { IfErr result (IsWrongDefault self.old.bounded.now levels home.now (part_of component.now)) }
+        ensures left { self.new.left ≡ self.old.left }
+        ensures back { self.new.opened.now ≡ self.old.opened.now }
+        ensures ready { GoesOn self.old self.new }
+        ensures same_table { self.new.defaults.ghost_name ≡ self.old.defaults.ghost_name }
+    {
+        if self.defaults.allows(self.bounded, component, home, levels) {
+            return Ok(());
+        }
+        let before = self.defaults.begin(levels);
+        match self.read_default::<O>(levels, component, home, notation) {
+            Ok(()) => {}
+            Err(fault) => return Err(fault),
+        }
+        let used = self.defaults.used(levels);
+        match self.read_default::<O>(used, component, home, notation) {
+            Ok(()) => self.defaults.note(self.bounded, component, home, used),
+            Err(_) => self.defaults.note(self.bounded, component, home, levels),
+        }
+        let _ = self.defaults.begin(before);
+        self.defaults.reach(levels - used);
+        Ok(())
+    }
+
+    /// Reads a DEFAULT in the module where it is written, with 2^24 nodes.
+    #[cycle(reading)]
+    fn read_default<O: Outcome>(
+        &mut self,
+        levels: u8,
+        component: &'a ListMember,
+        home: &'a str,
+        notation: &'a ValueSyntax,
+    ) -> Result<(), ValueFault<'a>>
+        requires there { component.now.ty < length self.old.bounded.now.types }
+        requires root { (part_of component.now).standing ≡ Root }
+        requires presence { (part_of component.now).presence ≡ default' (tree_of notation.now) }
+        requires ready { IsReady self.old }
+        ensures may { OnOk result (MayBeLeftOut self.old.bounded.now levels home.now (part_of component.now)) }
+        ensures fault { IfErr result (IsWrongDefault self.old.bounded.now levels home.now (part_of component.now)) }
+        ensures left { self.new.left ≡ self.old.left }
+        ensures back { self.new.opened.now ≡ self.old.opened.now }
+        ensures ready { GoesOn self.old self.new }
+        ensures same_table { self.new.defaults.ghost_name ≡ self.old.defaults.ghost_name }
+    {
+        let at = ValueSite {
+            ty: TypeId {
+                index: component.ty,
+            },
+            within: home,
+            notation,
+        };
+        let mut opened = Opened::new(self.alloc);
+        let mut reader = NotationReader {
+            alloc: self.alloc,
+            bounded: self.bounded,
+            defaults: &mut *self.defaults,
+            left: MAX_NODES,
+            opened: &mut opened,
+        };
+        match reader.read::<O>(levels, at) {
+            Ok(_) => Ok(()),
             Err(fault) => Err(fault),
-        },
-    }
-}
-
-/// Reads the DEFAULT of an absent component, if it has one.
-#[cycle(reading)]
-fn default<'a, O: Outcome>(
-    alloc: Global,
-    bounded: &Bounded<'a>,
-    defaults: &mut Defaults,
-    levels: u8,
-    component: &'a ListMember,
-    home: &'a str,
-) -> Result<(), ValueFault<'a>>
-    requires there { component.now.ty < length bounded.now.types }
-    requires may { may_be_absent (part_of component.now) ≡ true }
-    requires sound { AreSound bounded.now.types }
-    requires listed { IsListed bounded.now home.now (part_of component.now) }
-    requires known { AreKnown bounded.now defaults.old }
-    ensures may { OnOk result (MayBeAbsent bounded.now (Allows bounded.now) (AllowsCode bounded.now) levels home.now
-        (part_of component.now)) }
-    ensures fault { IfErr result (IsWrongDefault bounded.now levels home.now (part_of component.now)) }
-    ensures known { AreKnown bounded.now defaults.new }
-{
-    match component.standing {
-        Standing::Addition(_) => Ok(()),
-        Standing::Root => match &component.presence {
-            PresenceSyntax::Mandatory => Ok(()),
-            PresenceSyntax::Optional => Ok(()),
-            PresenceSyntax::Default(notation) => whole_default::<O>(
-                alloc, bounded, defaults, levels, component, home, notation,
-            ),
-        },
-    }
-}
-
-/// Reads a DEFAULT, unless the table says that it stands for a value of at most `levels` levels. After the reading the
-/// table says so.
-#[cycle(reading)]
-fn whole_default<'a, O: Outcome>(
-    alloc: Global,
-    bounded: &Bounded<'a>,
-    defaults: &mut Defaults,
-    levels: u8,
-    component: &'a ListMember,
-    home: &'a str,
-    notation: &'a ValueSyntax,
-) -> Result<(), ValueFault<'a>>
-    requires there { component.now.ty < length bounded.now.types }
-    requires root { (part_of component.now).standing ≡ Root }
-    requires presence { (part_of component.now).presence ≡ default' (tree_of notation.now) }
-    requires sound { AreSound bounded.now.types }
-    requires listed { IsListed bounded.now home.now (part_of component.now) }
-    requires known { AreKnown bounded.now defaults.old }
-    ensures may { OnOk result (MayBeAbsent bounded.now (Allows bounded.now) (AllowsCode bounded.now) levels home.now
-        (part_of component.now)) }
-    ensures fault { IfErr result (IsWrongDefault bounded.now levels home.now (part_of component.now)) }
-    ensures known { AreKnown bounded.now defaults.new }
-{
-    if defaults.allows(bounded, component, home, levels) {
-        return Ok(());
-    }
-    let before = defaults.begin(levels);
-    match read_default::<O>(alloc, bounded, defaults, levels, component, home, notation) {
-        Ok(()) => {}
-        Err(fault) => return Err(fault),
-    }
-    let used = defaults.used(levels);
-    match read_default::<O>(alloc, bounded, defaults, used, component, home, notation) {
-        Ok(()) => defaults.note(bounded, component, home, used),
-        Err(_) => defaults.note(bounded, component, home, levels),
-    }
-    let _ = defaults.begin(before);
-    defaults.reach(levels - used);
-    Ok(())
-}
-
-/// Reads a DEFAULT in the module where it is written, with 2^24 nodes.
-#[cycle(reading)]
-fn read_default<'a, O: Outcome>(
-    alloc: Global,
-    bounded: &Bounded<'a>,
-    defaults: &mut Defaults,
-    levels: u8,
-    component: &'a ListMember,
-    home: &'a str,
-    notation: &'a ValueSyntax,
-) -> Result<(), ValueFault<'a>>
-    requires there { component.now.ty < length bounded.now.types }
-    requires root { (part_of component.now).standing ≡ Root }
-    requires presence { (part_of component.now).presence ≡ default' (tree_of notation.now) }
-    requires sound { AreSound bounded.now.types }
-    requires known { AreKnown bounded.now defaults.old }
-    ensures may { OnOk result (MayBeAbsent bounded.now (Allows bounded.now) (AllowsCode bounded.now) levels home.now
-        (part_of component.now)) }
-    ensures fault { IfErr result (IsWrongDefault bounded.now levels home.now (part_of component.now)) }
-    ensures known { AreKnown bounded.now defaults.new }
-{
-    let at = ValueSite {
-        ty: TypeId {
-            index: component.ty,
-        },
-        within: home,
-        notation,
-    };
-    let mut left = MAX_NODES;
-    let mut opened = Opened::new(alloc);
-    match read::<O>(alloc, bounded, defaults, levels, &mut left, &mut opened, at) {
-        Ok(_) => Ok(()),
-        Err(fault) => Err(fault),
+        }
     }
 }
 
@@ -617,17 +548,15 @@ fn whole<'a, O: Outcome>(
         (tree_of at.entry.notation.now)) }
     ensures known { AreKnown bounded.now defaults.new }
 {
-    let mut left = MAX_NODES;
     let mut opened = Opened::new(alloc);
-    read(
+    let mut reader = NotationReader {
         alloc,
         bounded,
         defaults,
-        MOST_LEVELS,
-        &mut left,
-        &mut opened,
-        at,
-    )
+        left: MAX_NODES,
+        opened: &mut opened,
+    };
+    reader.read(MOST_LEVELS, at)
 }
 
 /// The value that a notation stands for under a type (X.680, clause 17), as [`typed`] returns it. The caller gives the

@@ -1,22 +1,27 @@
 -- What the parts of a reading return.
-use Rattle.std.specs.Prelude.{◌≡◌, ◌+◌, ℕ, true, List, [], ◌∷◌, ◌++◌, Option, Some, None, IsTrue, MatchResult, Result, map, slice_get}
+use Rattle.std.specs.Prelude.{◌≡◌, ◌<◌, ◌+◌, ℕ, suc, true, List, [], ◌∷◌, ◌++◌, Option, Some, None, IsTrue, MatchResult, Result, length, map, slice_get}
 use Rattle.std.specs.List.{AllZip}
 use Rattle.asn_base.specs.declared.value.Value.{Value}
 use Rattle.asn_base.specs.Abstract.{AbstractValue, abstract, Row, row_of_list, row_of_options}
 use Rattle.asn_base.specs.Typed.{nodes, row_nodes}
 use Rattle.trees.specs.declared.types.Standing.TheVariants.{Root}
-use Rattle.trees.specs.Values.{Name, Tree}
+use Rattle.trees.specs.Values.{Name, Tree, tree_of}
 use Rattle.trees.specs.Types.{default as default'}
 use Rattle.names.specs.Modules.{OccursIn}
-use Rattle.type_table.specs.Table.{Part}
+use Rattle.type_table.specs.Lists.{AreSound}
+use Rattle.type_table.specs.Table.{Kind, Part}
 use Rattle.resolve.specs.Program.{Program}
 use Rattle.value_notations.specs.Notations.{Notation, Fields, Elements, field_names, part_names, may_be_absent}
+use Rattle.value_notations.specs.References.{IsLast}
 use Rattle.value_notations.specs.Values.{ValueIn, AreComponents, AreElements, IsTyped, MayBeAbsent}
 use Rattle.values.specs.Allowing.{Allows, AllowsCode}
 use Rattle.values.specs.Arranged.{place_of}
 use Rattle.typed_values.specs.declared.fault.ValueFault.{ValueFault}
 use Rattle.typed_values.specs.declared.fault.Cause.TheVariants as cause
+use Rattle.typed_values.specs.declared.followed.Followed.{Followed}
+use Rattle.typed_values.specs.declared.reading.NotationReader.{NotationReader}
 use Rattle.typed_values.specs.Faults.{IsRightFault}
+use Rattle.typed_values.specs.Known.{AreKnown}
 use Rattle.typed_values.specs.proving.Outcomes.{ShowsOption}
 
 -- the notation stands for v, a value of the type with at most `levels` levels, whose nodes were counted
@@ -25,6 +30,28 @@ pub record Means (p : Program) (levels before after : ℕ) (os : List ℕ) (M : 
   pub stands : Notation p os M i n v
   pub value : ValueIn p (Allows p) (AllowsCode p) levels i v
   pub counted : before ≡ after + nodes v
+
+-- the types of the reader's modules are sound, and what its table says of their DEFAULTs is true
+pub record IsReady (r : NotationReader) : Type 0 where
+  pub sound : AreSound r.bounded.now.types
+  pub known : AreKnown r.bounded.now r.defaults.now
+
+-- the reader is ready again, for the same modules
+pub record GoesOn (before after : NotationReader) : Type 0 where
+  pub same : after.bounded.now ≡ before.bounded.now
+  pub ready : IsReady after
+
+-- the references of a notation lead to its last one, and `ps` are then the values whose notations are being read
+abbrev pub LeadsTo : Program → Kind → (os ps : List ℕ) → Followed → Type 0
+LeadsTo p k os ps f = IsLast p k os f.at.within.now (tree_of f.at.notation.now) ps f.within.now (tree_of f.last.now)
+
+-- the types of these components, or alternatives, are in the table
+abbrev pub HaveTypes : Program → List Part → Type 0
+HaveTypes p cs = (j : ℕ) (c : Part) → slice_get cs j ≡ Some c → c.ty < length p.types
+
+-- component c, of a list that is written in module N, may be absent if `levels` levels are left
+abbrev pub MayBeLeftOut : Program → (levels : ℕ) → Name → Part → Type 0
+MayBeLeftOut p levels N c = MayBeAbsent p (Allows p) (AllowsCode p) levels N c
 
 -- the notation stands for the returned value, or has the returned fault
 abbrev pub Reports :
@@ -48,6 +75,13 @@ Answers shows p levels before after os M i n result =
     MatchResult result
     (Makes shows p levels before after os M i n)
     (IsRightFault p levels before os M i n)
+
+-- the same of a notation after its references; a level and a node were counted for its own value
+abbrev pub AnswersWhole : {A : Type 0} → (A → AbstractValue → Type 0) →
+    Program → (before after : ℕ) → List ℕ → Followed → Result A ValueFault → Type 0
+AnswersWhole shows p before after os f result =
+    Answers shows p (suc f.levels) (suc before) after os f.at.within.now f.at.ty.index (tree_of f.at.notation.now)
+    result
 
 -- the notation stands for a value of the type, within the limits, for which this is an outcome
 pub record IsMade {A : Type 0} (shows : A → AbstractValue → Type 0) (p : Program) (M : Name) (i : ℕ) (n : Tree) (x : A)

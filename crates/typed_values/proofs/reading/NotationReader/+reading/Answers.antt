@@ -12,68 +12,72 @@ use Rattle.value_notations.specs.Notations.{field_names}
 use Rattle.value_notations.specs.Values as values
 use Rattle.value_notations.specs.Wrong.{misfit}
 use Rattle.typed_values.specs.Faults as faults
+use Rattle.typed_values.specs.Known.{AreKnown}
 use Rattle.typed_values.specs.proving.Reading as reading
 use Rattle.value_notations.specs.proving.Following.{sound_kind}
 use Rattle.typed_values.proofs.Rows.{got}
 use Rattle.typed_values.proofs.Readings.{of_kind, own_fault, room_fault, place_at, as_many, placed, field_there, field_stands, place_none, list_means, list_outside, list_fault, choice_means, choice_fault, fields_fault, fields_mean, value_as, means_as, alternative_below, alternative_at, alternative_name, no_alternative, names_misfit, row_count, unfollowed_at, written_of, last_of, member_there, element_there, no_reference, no_tagged, absent_addition, absent_optional, absent_mandatory, read_means, read_stands, last_at, stands_as}
 use Rattle.typed_values.proofs.Outcomes.{made_none, made_wrong, made_more, fields_made_none, fields_made_wrong, fields_made_more, zip_count}
+use Rattle.typed_values.proofs.Going.{allows_in, below_in, kind_in, listed_in, not_moved, on_and_on}
 use Rattle.typed_values.proofs.Braces.{values_found, values_none_found, fields_found, fields_none_found}
-use Rattle.typed_values.proofs.reading.+reading.Goals as goal
+use Rattle.typed_values.proofs.reading.NotationReader.+reading.Goals as goal
 
 -- ---- elements
 
 pub all-loop-i-init : goal.all-loop-i-init
 all-loop-i-init t g c =
-    record { read = made_none _ _ _ _ _ _ _ c.room_for-values.result.items c.room_for-values.ensures; back = refl; known = c.requires.1.1.1.1.1 }
+    record { read = made_none _ _ _ _ _ _ _ c.room_for-values.result.items c.room_for-values.ensures; back = refl; ready = not_moved c.requires.ready; same_table = refl }
 
 pub all-returns-in-Err-clause-fault : goal.all-returns-in-Err-clause-fault
 all-returns-in-Err-clause-fault t g c =
     made_wrong _ _ _ _ c.loop-i.values.items c.args.notations.now c.loop-i.i c.index-notations-i.result c.loop-i-test.true c.index-notations-i.is
-    c.loop-i.invariant.read c.loop-i.invariant.back c.in-Err.ensures.is_read
+    c.loop-i.invariant.read c.loop-i.invariant.back c.loop-i.invariant.ready.same c.in-Err.ensures.is_read
 
 pub all-returns-in-Err-push-clause-fault : goal.all-returns-in-Err-push-clause-fault
 all-returns-in-Err-push-clause-fault t g c =
     made_wrong _ _ _ _ c.loop-i.values.items c.args.notations.now c.loop-i.i c.index-notations-i.result c.loop-i-test.true c.index-notations-i.is
-    c.loop-i.invariant.read c.loop-i.invariant.back (faults.no_memory refl)
+    c.loop-i.invariant.read c.loop-i.invariant.back c.loop-i.invariant.ready.same (faults.no_memory refl)
 
 pub all-loop-i-preserved : goal.all-loop-i-preserved
 all-loop-i-preserved t g c =
     record {
       read = made_more _ _ _ _ c.loop-i.values.items c.push.new.self.items c.in-Ok.value c.args.notations.now c.loop-i.i
           c.index-notations-i.result c.loop-i-test.true c.index-notations-i.is c.in-Ok-push.ensures.items
-          c.loop-i.invariant.read c.loop-i.invariant.back c.in-Ok.ensures.is_read;
+          c.loop-i.invariant.read c.loop-i.invariant.back c.loop-i.invariant.ready.same c.in-Ok.ensures.is_read;
       back = c.in-Ok.ensures.back ∙ c.loop-i.invariant.back;
-      known = c.in-Ok.ensures.known;
+      ready = on_and_on c.loop-i.invariant.ready c.in-Ok.ensures.ready;
+      same_table = c.in-Ok.ensures.same_table ∙ c.loop-i.invariant.same_table;
     }
 
 -- ---- components
 
 pub all_fields-loop-i-init : goal.all_fields-loop-i-init
 all_fields-loop-i-init t g c =
-    record { read = fields_made_none _ _ _ _ _ _ _ _ c.room_for-values.result.items c.room_for-values.ensures; back = refl; known = c.requires.1.1.1.1.1.1.1 }
+    record { read = fields_made_none _ _ _ _ _ _ _ _ c.room_for-values.result.items c.room_for-values.ensures; back = refl; ready = not_moved c.requires.ready; same_table = refl }
 
 pub all_fields-field-requires : goal.all_fields-field-requires
 all_fields-field-requires t g c =
     let cs = map part_of c.args.components.now in
     let fs = field_names (map member_of c.args.given.now) in
     let there = got part_of c.args.components.now c.loop-i.i c.index-components-i.result c.loop-i-test.true c.index-components-i.is in
-    let many = as_many cs fs c.args.places.now c.requires.1.1.1.0 in
+    let many = as_many cs fs c.args.places.now c.requires.arranged in
     let same = length-map c.args.components.now part_of in
     let test = c.loop-i-test.true in
-    let at = place_at cs fs c.args.places.now c.loop-i.i (part_of c.index-components-i.result) _ c.requires.1.1.1.0 there
-    (omega (arith, many, same, test)) in λ k h. (
+    let at = place_at cs fs c.args.places.now c.loop-i.i (part_of c.index-components-i.result) _ c.requires.arranged there
+    (omega (arith, many, same, test)) in
+    let ready = c.loop-i.invariant.ready in λ k h. (
       search rules,
       (
         h,
         (
-          c.requires.1.1.1.1.0 c.loop-i.i _ there,
+          below_in ready.same (c.requires.members c.loop-i.i _ there),
           (
             at.0,
             (
               at.1,
               (
-                c.requires.1.1.1.1.1.0,
-                (record { parts = cs; listed = c.requires.1.1.1.1.1.1.0; there = (c.loop-i.i, there) }, c.loop-i.invariant.known),
+                listed_in ready.same (record { parts = cs; listed = c.requires.listed; there = (c.loop-i.i, there) }),
+                ready.ready,
               ),
             ),
           ),
@@ -84,21 +88,22 @@ all_fields-field-requires t g c =
 pub all_fields-returns-in-Err-clause-fault : goal.all_fields-returns-in-Err-clause-fault
 all_fields-returns-in-Err-clause-fault t g c =
     fields_made_wrong _ _ _ _ c.loop-i.values.items c.args.components.now c.loop-i.i c.index-components-i.result c.loop-i-test.true c.index-components-i.is
-    c.loop-i.invariant.read c.loop-i.invariant.back c.in-Err.ensures.fault
+    c.loop-i.invariant.read c.loop-i.invariant.back c.loop-i.invariant.ready.same c.in-Err.ensures.fault
 
 pub all_fields-returns-in-Err-push-clause-fault : goal.all_fields-returns-in-Err-push-clause-fault
 all_fields-returns-in-Err-push-clause-fault t g c =
     fields_made_wrong _ _ _ _ c.loop-i.values.items c.args.components.now c.loop-i.i c.index-components-i.result c.loop-i-test.true c.index-components-i.is
-    c.loop-i.invariant.read c.loop-i.invariant.back (reading.no_memory refl)
+    c.loop-i.invariant.read c.loop-i.invariant.back c.loop-i.invariant.ready.same (reading.no_memory refl)
 
 pub all_fields-loop-i-preserved : goal.all_fields-loop-i-preserved
 all_fields-loop-i-preserved t g c =
     record {
       read = fields_made_more _ _ _ _ c.loop-i.values.items c.push.new.self.items c.in-Ok.value c.args.components.now c.loop-i.i
           c.index-components-i.result c.loop-i-test.true c.index-components-i.is c.in-Ok-push.ensures.items
-          c.loop-i.invariant.read c.loop-i.invariant.back c.in-Ok.ensures.value;
+          c.loop-i.invariant.read c.loop-i.invariant.back c.loop-i.invariant.ready.same c.in-Ok.ensures.value;
       back = c.in-Ok.ensures.back ∙ c.loop-i.invariant.back;
-      known = c.in-Ok.ensures.known;
+      ready = on_and_on c.loop-i.invariant.ready c.in-Ok.ensures.ready;
+      same_table = c.in-Ok.ensures.same_table ∙ c.loop-i.invariant.same_table;
     }
 
 -- ---- alternatives
@@ -126,10 +131,10 @@ chosen-read-requires t g c = λ k h. (
   (
     h,
     (
-      c.requires.1.1.1.0 c.in-Some-alternative.number _
+      c.requires.members c.in-Some-alternative.number _
           (alternative_at c.args.alternatives.now c.in-Some-alternative.number c.index-alternatives-number.result _
           c.in-Some-alternative.ensures),
-      (c.requires.1.1.1.1.0, c.requires.1.1.1.1.1),
+      c.requires.ready,
     ),
   ),
 )
@@ -170,7 +175,7 @@ read_default-returns-in-Ok-clause-may t g c =
 -- ---- a component
 
 pub field-bounds-given-place : goal.field-bounds-given-place
-field-bounds-given-place t g c = field_there c.args.given.now _ c.in-Some.place (sym c.requires.1.1.1.1.0 ∙ c.in-Some.is)
+field-bounds-given-place t g c = field_there c.args.given.now _ c.in-Some.place (sym c.requires.placed ∙ c.in-Some.is)
 
 pub field-returns-in-Ok-clause-value : goal.field-returns-in-Ok-clause-value
 field-returns-in-Ok-clause-value t g c =
@@ -180,7 +185,7 @@ field-returns-in-Ok-clause-value t g c =
       shown = m.shown;
       field = (
         _,
-        field_stands c.args.given.now _ c.in-Some.place c.index-given-place.result (sym c.requires.1.1.1.1.0 ∙ c.in-Some.is),
+        field_stands c.args.given.now _ c.in-Some.place c.index-given-place.result (sym c.requires.placed ∙ c.in-Some.is),
         m.means.stands,
         m.means.value,
       );
@@ -190,32 +195,32 @@ field-returns-in-Ok-clause-value t g c =
 pub field-returns-in-Err-clause-fault : goal.field-returns-in-Err-clause-fault
 field-returns-in-Err-clause-fault t g c =
     reading.in_field
-    (field_stands c.args.given.now _ c.in-Some.place c.index-given-place.result (sym c.requires.1.1.1.1.0 ∙ c.in-Some.is))
+    (field_stands c.args.given.now _ c.in-Some.place c.index-given-place.result (sym c.requires.placed ∙ c.in-Some.is))
     c.in-Err.ensures.is_read
 
 pub field-returns-in-Ok-default-clause-value : goal.field-returns-in-Ok-default-clause-value
 field-returns-in-Ok-default-clause-value t g c = record {
   value = None;
   shown = tt;
-  field = (place_none _ _ (sym c.requires.1.1.1.1.0 ∙ c.in-None.is), c.requires.1.1.1.1.1.0 c.in-None.is, c.in-Ok-default.ensures.may);
+  field = (place_none _ _ (sym c.requires.placed ∙ c.in-None.is), c.requires.may c.in-None.is, c.in-Ok-default.ensures.may);
   counted = omega arith;
 }
 
 pub field-returns-in-Err-default-clause-fault : goal.field-returns-in-Err-default-clause-fault
 field-returns-in-Err-default-clause-fault t g c =
-    reading.in_default (place_none _ _ (sym c.requires.1.1.1.1.0 ∙ c.in-None.is)) c.in-Err-default.ensures.fault
+    reading.in_default (place_none _ _ (sym c.requires.placed ∙ c.in-None.is)) c.in-Err-default.ensures.fault
 
 -- ---- a SEQUENCE or SET
 
 pub fields-returns-in_default-clause-is_read : goal.fields-returns-in_default-clause-is_read
 fields-returns-in_default-clause-is_read t g c = λ os e w h.
     own_fault _ refl refl refl
-    (misfit (of_kind w) h (names_misfit c.args.kind e _ _ c.requires.1.1.1.0 (fields_none_found _ c.in_default.ensures)))
+    (misfit (of_kind w) h (names_misfit c.args.kind e _ _ c.requires.list (fields_none_found _ c.in_default.ensures)))
 
 pub fields-returns-in-Err-clause-is_read : goal.fields-returns-in-Err-clause-is_read
 fields-returns-in-Err-clause-is_read t g c = λ os e w h.
     own_fault _ refl refl refl
-    (c.names_cause-cause.ensures c.args.bounded.now _ _ _ os _ _ _ c.args.kind e _ _ (of_kind w) c.requires.1.1.1.0 h
+    (c.names_cause-cause.ensures c.args.self.now.bounded.now _ _ _ os _ _ _ c.args.kind e _ _ (of_kind w) c.requires.list h
     (fields_found _ _ c.in-Some.ensures) c.in-Err.ensures)
 
 pub fields-all_fields-requires : goal.fields-all_fields-requires
@@ -226,7 +231,7 @@ fields-all_fields-requires t g c = λ k h. (
     (
       subst (λ ps. ArePlaced (map part_of c.args.components.now) (field_names (map member_of c.in-Some.given.now)) ps)
           (sym c.as_slice.ensures.value) (placed c.args.kind _ _ _ c.in-Ok.ensures),
-      (c.requires.1.1.1.1.1.0, (c.requires.1.1.1.1.1.1.0, (c.requires.1.1.1.1.1.1.1.0, c.requires.1.1.1.1.1.1.1.1))),
+      (c.requires.members, (c.requires.listed, c.requires.ready)),
     ),
   ),
 )
@@ -238,14 +243,14 @@ fields-returns-in-Ok-all_fields-clause-is_read t g c = λ os e w h.
     record {
       value = family_fields (row_of_options r.values);
       shown = c.fields.ensures r.values r.shown;
-      means = fields_mean w c.requires.1.1.1.0 h
-          (c.lemma_value_of_fields.ensures c.args.bounded.now _ _ c.args.kind e _ _ _ _ _ (fields_found _ _ c.in-Some.ensures) c.in-Ok.ensures m.stand)
-          (c.lemma_groups_are_whole.ensures c.args.bounded.now _ _ c.args.kind _ _ _ _ c.in-Ok.ensures m.stand) m;
+      means = fields_mean w c.requires.list h
+          (c.lemma_value_of_fields.ensures c.args.self.now.bounded.now _ _ c.args.kind e _ _ _ _ _ (fields_found _ _ c.in-Some.ensures) c.in-Ok.ensures m.stand)
+          (c.lemma_groups_are_whole.ensures c.args.self.now.bounded.now _ _ c.args.kind _ _ _ _ c.in-Ok.ensures m.stand) m;
     }
 
 pub fields-returns-clause-is_read : goal.fields-returns-clause-is_read
 fields-returns-clause-is_read t g c = λ os e w h.
-    fields_fault w c.requires.1.1.1.0 h (fields_found _ _ c.in-Some.ensures) c.in-Ok.ensures c.in-Err-all_fields.ensures.fault
+    fields_fault w c.requires.list h (fields_found _ _ c.in-Some.ensures) c.in-Ok.ensures c.in-Err-all_fields.ensures.fault
 
 -- ---- a SEQUENCE OF or SET OF
 
@@ -260,11 +265,13 @@ pub list-returns-then-not-allows_size-clause-is_read : goal.list-returns-then-no
 list-returns-then-not-allows_size-clause-is_read t g c = λ os k N w h.
     let r = c.in-Ok.ensures.value in
     let many = row_count r.values ∙ zip_count _ _ r.values r.shown ∙ sym c.in-Ok.values.ok.0 ∙ sym c.len.ensures in
+    let same = c.in-Ok.ensures.ready.same in
+    let k = kind_in same w in
     own_fault _ refl refl refl
     (list_outside w h (values_found _ _ c.in-Some.ensures) r.mean
     (λ a.
-    let b = subst (λ z. Allows c.args.bounded.now c.args.at.ty.index (pos z)) many a in
-    let f = (c.allows_size.ensures _ (of_kind w)).1 (b _ (of_kind w)) in
+    let b = subst (λ z. Allows c.all.new.self.bounded.now c.args.followed.now.at.ty.index (pos z)) many (allows_in same a) in
+    let f = (c.allows_size.ensures _ (of_kind k)).1 (b _ (of_kind k)) in
     cc))
 
 pub list-returns-clause-is_read : goal.list-returns-clause-is_read
@@ -275,8 +282,9 @@ list-returns-clause-is_read t g c = λ os k N w h.
       value = list (row_of_list r.values);
       shown = c.list.ensures r.values r.shown;
       means = list_means w h (values_found _ _ c.in-Some.ensures) r.mean
-          (subst (λ z. Allows c.args.bounded.now c.args.at.ty.index (pos z)) (sym many)
-          (λ j is. (c.allows_size.ensures j is).0 c.if-not-allows_size.false));
+          (allows_in (sym c.in-Ok.ensures.ready.same)
+          (subst (λ z. Allows c.all.new.self.bounded.now c.args.followed.now.at.ty.index (pos z)) (sym many)
+          (λ j is. (c.allows_size.ensures j is).0 c.if-not-allows_size.false)));
     }
 
 -- ---- a notation
@@ -284,34 +292,34 @@ list-returns-clause-is_read t g c = λ os k N w h.
 pub read-returns-then-levels-eq0-clause-is_read : goal.read-returns-then-levels-eq0-clause-is_read
 read-returns-then-levels-eq0-clause-is_read t g c = faults.itself refl refl refl tt c.if-levels-eq0.true
 
-pub read-returns-then-left-eq0-clause-is_read : goal.read-returns-then-left-eq0-clause-is_read
-read-returns-then-left-eq0-clause-is_read t g c = faults.itself refl refl refl c.if-levels-eq0.false c.if-left-eq0.true
+pub read-returns-then-self-eq0-clause-is_read : goal.read-returns-then-self-eq0-clause-is_read
+read-returns-then-self-eq0-clause-is_read t g c = faults.itself refl refl refl c.if-levels-eq0.false c.if-self-eq0.true
 
 pub read-returns-in-Err-clause-is_read : goal.read-returns-in-Err-clause-is_read
 read-returns-in-Err-clause-is_read t g c =
-    room_fault _ refl refl refl c.if-levels-eq0.false c.if-left-eq0.false
+    room_fault _ refl refl refl c.if-levels-eq0.false c.if-self-eq0.false
     (unfollowed_at _ _ _ _ _ _ _ c.linked-linked.ensures c.written.ensures c.in-Err.ensures.fault c.follow_cause-cause.ensures)
 
 pub value_of-list-requires : goal.value_of-list-requires
 value_of-list-requires t g c =
     let l = (subst (λ (p : Program). IsWhole p) c.linked-linked.ensures c.whole.ensures).linked in
     let e = ap kind_of c.in-Elements.is in
-    λ k h. (search rules, (h, (c.requires.1.1.1.0, (element_there l (written_of e c.requires.1.1.1.1.1.0), (c.requires.1.1.1.1.0, c.requires.1.1.1.1.1.1)))))
+    λ k h. (search rules, (h, (c.requires.there, (element_there l (written_of e c.requires.written), c.requires.ready))))
 
 pub value_of-chosen-requires : goal.value_of-chosen-requires
 value_of-chosen-requires t g c =
     let l = (subst (λ (p : Program). IsWhole p) c.linked-linked.ensures c.whole.ensures).linked in
     let e = ap kind_of c.in-Members.is
     ∙ ap (λ cs. table.members c.in-Members.kind c.in-Members.field-1 (map part_of cs)) (sym c.as_slice-members.ensures.value) in
-    λ k h. (search rules, (h, (member_there l (written_of e c.requires.1.1.1.1.1.0), (c.requires.1.1.1.1.0, c.requires.1.1.1.1.1.1))))
+    λ k h. (search rules, (h, (member_there l (written_of e c.requires.written), c.requires.ready)))
 
 pub value_of-fields-requires : goal.value_of-fields-requires
 value_of-fields-requires t g c =
     let l = (subst (λ (p : Program). IsWhole p) c.linked-linked.ensures c.whole.ensures).linked in
     let e = ap kind_of c.in-Members.is
     ∙ ap (λ cs. table.members c.in-Members.kind c.in-Members.field-1 (map part_of cs)) (sym c.as_slice-members.ensures.value) in
-    let w = written_of e c.requires.1.1.1.1.1.0 in
-    let s = sound_kind c.args.bounded.now.types _ _ c.requires.1.1.1.1.0 (of_kind w) in λ k h. (
+    let w = written_of e c.requires.written in
+    let s = sound_kind c.args.self.now.bounded.now.types _ _ c.requires.ready.sound (of_kind w) in λ k h. (
       search rules,
       (
         h,
@@ -322,8 +330,8 @@ value_of-fields-requires t g c =
             (
               member_there l w,
               (
-                c.requires.1.1.1.1.0,
-                (record { type = c.args.at.ty.index; kind = c.in-Members.kind; marked = c.in-Members.field-1; written = w }, c.requires.1.1.1.1.1.1),
+                record { type = c.args.followed.now.at.ty.index; kind = c.in-Members.kind; marked = c.in-Members.field-1; written = w },
+                c.requires.ready,
               ),
             ),
           ),
@@ -337,18 +345,18 @@ value_of-returns-in-Ok-clause-is_read t g c = λ os h.
     record {
       value = _;
       shown = c.leaf.ensures;
-      means = c.in-Ok.ensures _ _ os _ c.args.home.now (written_of e c.requires.1.1.1.1.1.0) (last_of e h);
+      means = c.in-Ok.ensures _ _ os _ c.args.followed.now.home.now (written_of e c.requires.written) (last_of e h);
     }
 
 pub value_of-returns-in-Err-clause-is_read : goal.value_of-returns-in-Err-clause-is_read
 value_of-returns-in-Err-clause-is_read t g c = λ os h.
     let e = ap kind_of c.in-Simple.is in
-    c.in-Err.ensures _ _ os _ c.args.home.now (written_of e c.requires.1.1.1.1.1.0) (last_of e h)
+    c.in-Err.ensures _ _ os _ c.args.followed.now.home.now (written_of e c.requires.written) (last_of e h)
 
 pub value_of-returns-in-Elements-clause-is_read : goal.value_of-returns-in-Elements-clause-is_read
 value_of-returns-in-Elements-clause-is_read t g c = λ os h.
     let e = ap kind_of c.in-Elements.is in
-    c.list.ensures.is_read os _ c.args.home.now (written_of e c.requires.1.1.1.1.1.0) (last_of e h)
+    c.list.ensures.is_read os _ c.args.followed.now.home.now (written_of e c.requires.written) (last_of e h)
 
 -- ---- the rest
 
@@ -358,39 +366,39 @@ value_of-returns-then-is_choice-clause-is_read t g c = λ os h.
     ∙ ap (λ cs. table.members c.in-Members.kind c.in-Members.field-1 (map part_of cs)) (sym c.as_slice-members.ensures.value) in
     let g = e ∙ ap (λ k. table.members k c.in-Members.field-1 (map part_of c.as_slice-members.result.now))
     (c.is_choice.ensures.yes c.if-is_choice.true) in
-    c.chosen.ensures.is_read os _ c.args.home.now (written_of g c.requires.1.1.1.1.1.0) (last_of g h)
+    c.chosen.ensures.is_read os _ c.args.followed.now.home.now (written_of g c.requires.written) (last_of g h)
 
 pub value_of-returns-else-is_choice-clause-is_read : goal.value_of-returns-else-is_choice-clause-is_read
 value_of-returns-else-is_choice-clause-is_read t g c = λ os h.
     let e = ap kind_of c.in-Members.is
     ∙ ap (λ cs. table.members c.in-Members.kind c.in-Members.field-1 (map part_of cs)) (sym c.as_slice-members.ensures.value) in
-    c.fields.ensures.is_read os _ (written_of e c.requires.1.1.1.1.1.0) (last_of e h)
+    c.fields.ensures.is_read os _ (written_of e c.requires.written) (last_of e h)
 
 pub value_of-unreachable-requires : goal.value_of-unreachable-requires
 value_of-unreachable-requires t g c =
-    no_reference (written_of (ap kind_of c.in-Reference.is) c.requires.1.1.1.1.1.0)
+    no_reference (written_of (ap kind_of c.in-Reference.is) c.requires.written)
 
 pub value_of-unreachable-requires-in-Tagged : goal.value_of-unreachable-requires-in-Tagged
 value_of-unreachable-requires-in-Tagged t g c =
-    no_tagged (written_of (ap kind_of c.in-Tagged.is) c.requires.1.1.1.1.1.0)
+    no_tagged (written_of (ap kind_of c.in-Tagged.is) c.requires.written)
 
 pub value_of-unreachable-unreachable : goal.value_of-unreachable-unreachable
 value_of-unreachable-unreachable t g c =
-    no_reference (written_of (ap kind_of c.in-Reference.is) c.requires.1.1.1.1.1.0)
+    no_reference (written_of (ap kind_of c.in-Reference.is) c.requires.written)
 
 pub value_of-unreachable-unreachable-in-Tagged : goal.value_of-unreachable-unreachable-in-Tagged
 value_of-unreachable-unreachable-in-Tagged t g c =
-    no_tagged (written_of (ap kind_of c.in-Tagged.is) c.requires.1.1.1.1.1.0)
+    no_tagged (written_of (ap kind_of c.in-Tagged.is) c.requires.written)
 
 pub value_of-simple_value-requires-clause-there : goal.value_of-simple_value-requires-clause-there
-value_of-simple_value-requires-clause-there t g c = c.requires.1.1.1.0
+value_of-simple_value-requires-clause-there t g c = c.requires.there
 
 pub value_of-simple_value-requires-clause-sound : goal.value_of-simple_value-requires-clause-sound
 value_of-simple_value-requires-clause-sound t g c =
-    sound_kind c.args.bounded.now.types _ _ c.requires.1.1.1.1.0 (of_kind (written_of (ap kind_of c.in-Simple.is) c.requires.1.1.1.1.1.0))
+    sound_kind c.args.self.now.bounded.now.types _ _ c.requires.ready.sound (of_kind (written_of (ap kind_of c.in-Simple.is) c.requires.written))
 
 pub value_of-simple_value-requires-clause-is : goal.value_of-simple_value-requires-clause-is
-value_of-simple_value-requires-clause-is t g c = of_kind (written_of (ap kind_of c.in-Simple.is) c.requires.1.1.1.1.1.0)
+value_of-simple_value-requires-clause-is t g c = of_kind (written_of (ap kind_of c.in-Simple.is) c.requires.written)
 
 pub read-returns-in-Ok-value_of-clause-is_read : goal.read-returns-in-Ok-value_of-clause-is_read
 read-returns-in-Ok-value_of-clause-is_read t g c =
@@ -398,12 +406,12 @@ read-returns-in-Ok-value_of-clause-is_read t g c =
     record {
       value = m.value;
       shown = m.shown;
-      means = read_means _ _ c.if-levels-eq0.false c.if-left-eq0.false m.means;
+      means = read_means _ _ c.if-levels-eq0.false c.if-self-eq0.false m.means;
     }
 
 pub read-returns-in-Err-value_of-clause-is_read : goal.read-returns-in-Err-value_of-clause-is_read
 read-returns-in-Err-value_of-clause-is_read t g c =
-    read_stands _ _ c.if-levels-eq0.false c.if-left-eq0.false
+    read_stands _ _ c.if-levels-eq0.false c.if-self-eq0.false
     (c.in-Err-value_of.ensures.is_read _ (last_at c.linked-linked.ensures c.in-Ok.ensures.last))
 
 pub read-returns-in-Ok-value_of-clause-back : goal.read-returns-in-Ok-value_of-clause-back
@@ -436,15 +444,37 @@ pub default-returns-in-Default-clause-fault : goal.default-returns-in-Default-cl
 default-returns-in-Default-clause-fault t g c = c.whole_default.ensures.fault
 
 pub fields-arranged-requires-clause-distinct : goal.fields-arranged-requires-clause-distinct
-fields-arranged-requires-clause-distinct t g c = c.requires.1.1.1.1.0
+fields-arranged-requires-clause-distinct t g c = c.requires.distinct
 
 pub fields-arranged-requires-clause-list : goal.fields-arranged-requires-clause-list
-fields-arranged-requires-clause-list t g c = c.requires.1.1.1.0
+fields-arranged-requires-clause-list t g c = c.requires.list
 
 pub list-allows_size-requires : goal.list-allows_size-requires
-list-allows_size-requires t g c = c.requires.1.1.1.0
+list-allows_size-requires t g c = below_in c.in-Ok.ensures.ready.same c.requires.there
 
 pub field-offset_bounds-given-place : goal.field-offset_bounds-given-place
 field-offset_bounds-given-place t g c =
-    let b = field_there c.args.given.now _ c.in-Some.place (sym c.requires.1.1.1.1.0 ∙ c.in-Some.is) in
+    let b = field_there c.args.given.now _ c.in-Some.place (sym c.requires.placed ∙ c.in-Some.is) in
     search rules
+
+pub read_default-returns-in-Ok-clause-ready : goal.read_default-returns-in-Ok-clause-ready
+read_default-returns-in-Ok-clause-ready t g c =
+    record {
+      same = refl;
+      ready = record {
+        sound = c.requires.1.1.1.1.1.1.sound;
+        known = subst (λ (p : Program). AreKnown p c.read.new.self.defaults.now) c.read.ensures.ready.same
+            c.read.ensures.ready.ready.known;
+      };
+    }
+
+pub read_default-returns-clause-ready : goal.read_default-returns-clause-ready
+read_default-returns-clause-ready t g c =
+    record {
+      same = refl;
+      ready = record {
+        sound = c.requires.1.1.1.1.1.1.sound;
+        known = subst (λ (p : Program). AreKnown p c.read.new.self.defaults.now) c.read.ensures.ready.same
+            c.read.ensures.ready.ready.known;
+      };
+    }
