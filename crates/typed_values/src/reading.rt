@@ -213,9 +213,10 @@ impl<'r, 'a> NotationReader<'r, 'a> {
         requires there { element.index < length self.old.bounded.now.types }
         requires ready { IsReady self.old }
         ensures value { IfOk result (λ vs. MakeRow O.shows self.old.bounded.now followed.now.levels self.old.left
-            self.new.left self.old.opened.now followed.now.within.now element.index (map tree_of notations.now) vs.items) }
-        ensures fault { IfErr result (FailsInOne self.old.bounded.now followed.now.levels self.old.left self.old.opened.now
-            followed.now.within.now element.index (map tree_of notations.now)) }
+            self.new.left self.old.opened.now followed.now.within.now element.index (map tree_of notations.now)
+            vs.items) }
+        ensures fault { IfErr result (FailsInOne self.old.bounded.now followed.now.levels self.old.left
+            self.old.opened.now followed.now.within.now element.index (map tree_of notations.now)) }
         ensures back { OnOk result (self.new.opened.now ≡ self.old.opened.now) }
         ensures ready { GoesOn self.old self.new }
         ensures same_table { self.new.defaults.ghost_name ≡ self.old.defaults.ghost_name }
