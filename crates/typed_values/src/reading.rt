@@ -18,7 +18,7 @@ ghost use Rattle.values.specs.Allowing.{Allows, AllowsCode};
 ghost use Rattle.values.specs.Arranged.{place_of};
 ghost use Rattle.typed_values.specs.Faults.{HasKindIn, IsRightFault};
 ghost use Rattle.typed_values.specs.Known.{AreKnown, AreListed, IsListed};
-ghost use Rattle.typed_values.specs.proving.Reading.{Answers, AnswersWhole, ArePlaced, HaveTypes, IsMade, IsWrongDefault, IsWrongField, LeadsTo, MakeFields, MakeRow, MakesField, MayBeLeftOut, FailsInField, FailsInOne, GoesOn, IsReady};
+ghost use Rattle.typed_values.specs.proving.Reading.{Answers, AnswersWhole, ArePlaced, HaveTypes, IsMade, IsWrongDefault, IsWrongField, IsFollowed, MakeFields, MakeRow, MakesField, MayBeLeftOut, FailsInField, FailsInOne, GoesOn, IsReady};
 
 use crate::fault::{Cause, ValueFault, ValueSite, follow_cause, names_cause};
 use crate::followed::Followed;
@@ -131,7 +131,7 @@ impl<'r, 'a> NotationReader<'r, 'a> {
             followed.now.home.now }
         requires ready { IsReady self.old }
         ensures is_read { (os : List ℕ)
-            → LeadsTo self.old.bounded.now (kind_of shape.now) os self.old.opened.now followed.now
+            → IsFollowed self.old.bounded.now (kind_of shape.now) os self.old.opened.now followed.now
             → AnswersWhole O.shows self.old.bounded.now self.old.left self.new.left os followed.now result }
         ensures back { OnOk result (self.new.opened.now ≡ self.old.opened.now) }
         ensures ready { GoesOn self.old self.new }
@@ -180,7 +180,7 @@ impl<'r, 'a> NotationReader<'r, 'a> {
         requires ready { IsReady self.old }
         ensures is_read { (os : List ℕ) (k : ElementsKind') (N : Name)
             → HasKindIn self.old.bounded.now followed.now.at.ty.index (elements k element.index) N
-            → LeadsTo self.old.bounded.now (elements k element.index) os self.old.opened.now followed.now
+            → IsFollowed self.old.bounded.now (elements k element.index) os self.old.opened.now followed.now
             → AnswersWhole O.shows self.old.bounded.now self.old.left self.new.left os followed.now result }
         ensures back { OnOk result (self.new.opened.now ≡ self.old.opened.now) }
         ensures ready { GoesOn self.old self.new }
@@ -255,7 +255,7 @@ impl<'r, 'a> NotationReader<'r, 'a> {
         ensures is_read { (os : List ℕ) (e : 𝔹) (N : Name)
             → HasKindIn self.old.bounded.now followed.now.at.ty.index
             (members choice e (map part_of alternatives.now)) N
-            → LeadsTo self.old.bounded.now (members choice e (map part_of alternatives.now)) os self.old.opened.now
+            → IsFollowed self.old.bounded.now (members choice e (map part_of alternatives.now)) os self.old.opened.now
             followed.now
             → AnswersWhole O.shows self.old.bounded.now self.old.left self.new.left os followed.now result }
         ensures back { OnOk result (self.new.opened.now ≡ self.old.opened.now) }
@@ -307,7 +307,7 @@ impl<'r, 'a> NotationReader<'r, 'a> {
         ensures is_read { (os : List ℕ) (e : 𝔹)
             → HasKindIn self.old.bounded.now followed.now.at.ty.index (members kind e (map part_of components.now))
             followed.now.home.now
-            → LeadsTo self.old.bounded.now (members kind e (map part_of components.now)) os self.old.opened.now
+            → IsFollowed self.old.bounded.now (members kind e (map part_of components.now)) os self.old.opened.now
             followed.now
             → AnswersWhole O.shows self.old.bounded.now self.old.left self.new.left os followed.now result }
         ensures back { OnOk result (self.new.opened.now ≡ self.old.opened.now) }

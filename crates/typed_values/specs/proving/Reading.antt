@@ -42,8 +42,8 @@ pub record GoesOn (before after : NotationReader) : Type 0 where
   pub ready : IsReady after
 
 -- the references of a notation lead to its last one, and `ps` are then the values whose notations are being read
-abbrev pub LeadsTo : Program → Kind → (os ps : List ℕ) → Followed → Type 0
-LeadsTo p k os ps f = IsLast p k os f.at.within.now (tree_of f.at.notation.now) ps f.within.now (tree_of f.last.now)
+abbrev pub IsFollowed : Program → Kind → (os ps : List ℕ) → Followed → Type 0
+IsFollowed p k os ps f = IsLast p k os f.at.within.now (tree_of f.at.notation.now) ps f.within.now (tree_of f.last.now)
 
 -- the types of these components, or alternatives, are in the table
 abbrev pub HaveTypes : Program → List Part → Type 0
