@@ -37,7 +37,7 @@ use Rattle.value_notations.specs.Notations as family
 use Rattle.value_notations.specs.Values.{ValueIn, ValueOf, value_in, IsPlainValue, MayBeAbsent}
 use Rattle.value_notations.specs.Values as values
 use Rattle.value_notations.specs.Wrong.{IsWrongHere, IsMisfit, misfit, not_of_type}
-use Rattle.value_notations.specs.Outside.{IsOutside, IsLeftOut}
+use Rattle.value_notations.specs.Outside.{IsLeftOut}
 use Rattle.values.specs.Allowing.{Allows, AllowsCode}
 use Rattle.typed_values.specs.declared.fault.ValueFault.{ValueFault}
 use Rattle.typed_values.specs.declared.fault.Cause.{Cause}
