@@ -1,6 +1,6 @@
 //! The reading of a notation under a type, from its beginning on.
 
-ghost use Rattle.std.specs.Prelude.{◌<◌, ◌≡◌, ℕ, suc, Bool as 𝔹, List, [], true, false, IfErr, IfOk, OnOk, None, Some, length, map, slice_get};
+ghost use Rattle.std.specs.Prelude.{◌<◌, ◌≡◌, ℕ, Bool as 𝔹, List, [], true, false, IfErr, IfOk, OnOk, None, Some, length, map};
 ghost use Rattle.asn_base.specs.Abstract.{AbstractValue, abstract};
 ghost use Rattle.trees.specs.declared.types.ElementsKind.{ElementsKind as ElementsKind'};
 ghost use Rattle.trees.specs.declared.types.ListKind.TheVariants.{Choice as choice};
@@ -9,11 +9,10 @@ ghost use Rattle.trees.specs.Types.{default as default'};
 ghost use Rattle.trees.specs.Values.{Name, member_of, tree_of};
 ghost use Rattle.type_table.specs.Lists.{AreSound};
 ghost use Rattle.type_table.specs.Seen.{kind_of, part_of};
-ghost use Rattle.type_table.specs.Table.{Part, elements, members};
+ghost use Rattle.type_table.specs.Table.{elements, members};
 ghost use Rattle.names.specs.Modules.{AreDistinct};
 ghost use Rattle.value_notations.specs.Notations.{field_names, may_be_absent, part_names};
-ghost use Rattle.value_notations.specs.References.{IsLast};
-ghost use Rattle.value_notations.specs.Values.{IsTyped, MayBeAbsent};
+ghost use Rattle.value_notations.specs.Values.{IsTyped};
 ghost use Rattle.values.specs.Allowing.{Allows, AllowsCode};
 ghost use Rattle.values.specs.Arranged.{place_of};
 ghost use Rattle.typed_values.specs.Faults.{HasKindIn, IsRightFault};
