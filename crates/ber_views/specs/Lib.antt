@@ -6,3 +6,6 @@ pub mod Shown
 pub mod Wants
 pub mod Log
 pub mod ViewSink
+pub mod Both
+pub mod Noted
+pub mod Traced

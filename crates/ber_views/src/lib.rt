@@ -3,12 +3,15 @@
 #![tactic(auto)]
 
 mod arcs;
+mod both;
 mod build;
 mod cursor;
 mod leaf;
 mod log;
 mod shape;
+mod tracer;
 mod view_sink;
 
 pub use cursor::Viewer;
+pub use tracer::{Trace, Tracer};
 pub use view_sink::{Built, ViewSink};
