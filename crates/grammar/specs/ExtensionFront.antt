@@ -90,9 +90,11 @@ module _ {A B : Type 0} (within : Limit → Type 0) (a : Grammar A) (b : Grammar
             (or_marker ra rb (more_at ra rb j) (next_marker (l ++ us)) (l ++ us))) (sym e)
             (or_shrink us (more_at ra rb j) (more_shrink j))
         | inr (v, e, (xs, v1, v2, d, hm, hv)) ↦ subst
-            (λ (l : List Lexeme). Passes within us (or_marker ra rb (more_at ra rb j) (next_marker (l ++ us)) (l ++ us)))
+            (λ (l : List Lexeme). Passes within us
+            (or_marker ra rb (more_at ra rb j) (next_marker (l ++ us)) (l ++ us)))
             (sym (e ⋆ ap (λ (l : List Lexeme). Mark Ellipsis ∷ l) d))
-            (passes_made within us (after_commas_at rb (length ((v1 ++ v2) ++ us)) ((v1 ++ v2) ++ us)) (λ ys. ([], Some ys))
+            (passes_made within us (after_commas_at rb (length ((v1 ++ v2) ++ us)) ((v1 ++ v2) ++ us))
+            (λ ys. ([], Some ys))
             (commas_front within b starts-b ends-b rb fb apart-b (length ((v1 ++ v2) ++ us)) xs v1 v2 us
             (le_same ((v1 ++ v2) ++ us)) hm hv))
       ]
