@@ -6,7 +6,6 @@ ghost use Rattle.codec_code.specs.Steps.{IsDefaultAt, has_default as has_default
 ghost use Rattle.std.specs.Prelude.{◌≡◌, ◌↔◌, IfOk, IsTrue, Some as Some'};
 ghost use Rattle.views.specs.Tree.{value_of};
 
-use crate::copies::copied;
 use crate::refusal::Site;
 use codec_code::{Field, FieldPresence};
 use std::alloc::AllocError;
@@ -42,6 +41,6 @@ pub(crate) fn is_default(
     if !whole || !has_default(field.need) {
         return Ok(false);
     }
-    let value = copied(at.judge.alloc, part)?;
+    let value = part.to_value(at.judge.alloc)?;
     Ok(at.judge.code.is_default(at.id, field.place, &value))
 }

@@ -1,7 +1,6 @@
 //! Whether octets that encode a value by the basic rules fulfil the distinguished ones too (X.690, 10 and 11).
 #![tactic(auto)]
 
-mod copies;
 mod default;
 mod fields;
 mod heads;

@@ -1,12 +1,16 @@
 //! References to values within a view, and how to walk through them.
 
+ghost use Rattle.asn_base.specs.Abstract.{abstract};
 ghost use Rattle.std.specs.Iterator.{at_most};
-ghost use Rattle.std.specs.Prelude.{◌≡◌, IfSome, MatchOption, None, Some};
+ghost use Rattle.std.specs.Prelude.{◌≡◌, IfOk, IfSome, MatchOption, None, Some};
 ghost use Rattle.views.specs.Seen.{AreSpelled, IsSpelled, members_of, side_lists, tree_of};
-ghost use Rattle.views.specs.Tree.{alternative_in, bit_string_in, boolean_in, component as component', count as count', enumerated_in, integer_in, left_after, member, members_in, no_member, null_in, octets_in, oid_in, relative_oid_in, text_in};
+ghost use Rattle.views.specs.Tree.{alternative_in, bit_string_in, boolean_in, component as component', count as count', enumerated_in, integer_in, left_after, member, members_in, no_member, null_in, octets_in, oid_in, relative_oid_in, text_in, value_of};
 
 use crate::node::{Lists, Node, NodeContent};
 use crate::node_slices::{below, between, count_from, find_from, first_of, next_of};
+use crate::view::value;
+use asn_base::value::Value;
+use std::alloc::{AllocError, Global};
 use std::marker::Model;
 
 /// A reference to a value within a view: the whole value, or one that it holds.
@@ -78,6 +82,15 @@ pub(crate) fn member_refs<'v, 'a>(
 }
 
 impl<'v, 'a> ValueRef<'v, 'a> {
+    /// The value that the reference shows, in memory of its own, or `AllocError` if there is not enough memory. The call
+    /// recurses once for each level of the value, and so does dropping a value: a value of a schema has at most 64
+    /// levels.
+    pub fn to_value(&self, alloc: Global) -> Result<Value, AllocError>
+        ensures { IfOk result (λ v. abstract v ≡ value_of self.now) }
+    {
+        Ok(value(alloc, self.lists, self.nodes)?)
+    }
+
     /// The truth of a BOOLEAN, or None of any other value.
     #[inline(always)]
     pub fn as_bool(&self) -> Option<bool>

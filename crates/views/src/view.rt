@@ -44,13 +44,11 @@ impl<'a> View<'a> {
         value_ref(&self.lists, self.nodes.as_slice())
     }
 
-    /// The value that the view shows, in memory of its own, or `AllocError` if there is not enough memory. The call
-    /// recurses once for each level of the value, and so does dropping a value: a value of a schema has at most 64
-    /// levels.
+    /// The value that the view shows, as [`ValueRef::to_value`] makes it.
     pub fn to_value(&self, alloc: Global) -> Result<Value, AllocError>
         ensures { IfOk result (λ v. abstract v ≡ value_of self.now) }
     {
-        Ok(value(alloc, &self.lists, self.nodes.as_slice())?)
+        self.top().to_value(alloc)
     }
 }
 
