@@ -14,7 +14,8 @@ use crate::read_error::{Read, ReadError};
 use std::alloc::Global;
 use text::{Token, kind, mark};
 
-/// Reads the parts after the next commas, and appends them to those that are read.
+/// Reads the parts after the next commas, and appends them to those that are read. The list has no spare memory in the
+/// end, since lists within lists may be as many as the tokens.
 fn after_commas<'t, P: Parser<'t>>(
     alloc: Global,
     text: &[u8],
@@ -36,6 +37,7 @@ fn after_commas<'t, P: Parser<'t>>(
         items.push(next)?;
         rest = after;
     }
+    items.shrink_to_fit();
     Ok((items, rest))
 }
 
@@ -53,7 +55,7 @@ fn one_or_more<'t, P: Parser<'t>>(
     ensures rest { IfOk result (λ x. AreTokens text.now x.1.now) }
 {
     let (first, rest) = part.read(alloc, text, tokens)?;
-    // Most lists have only one part, and lists within lists take most of the room.
+    // Most lists have only one part.
     let mut items = Vec::with_capacity(alloc, 1)?;
     items.push(first)?;
     after_commas(alloc, text, part, items, rest)

@@ -24,4 +24,4 @@ loop-after-preserved g c =
     }
 
 pub returns-clause-read : goal.returns-clause-read
-returns-clause-read g c = commas_end (g.P.Parser.reader c.args.part.now) (lexemes c.args.text.now c.loop-after.rest.now) (map g.P.Parser.view c.loop-after.items.items) _ c.in_default.ensures c.loop-after.invariant.read
+returns-clause-read g c = rw c.shrink_to_fit.ensures.items (commas_end (g.P.Parser.reader c.args.part.now) (lexemes c.args.text.now c.loop-after.rest.now) (map g.P.Parser.view c.loop-after.items.items) _ c.in_default.ensures c.loop-after.invariant.read)
