@@ -1,5 +1,5 @@
 -- The conditions under which rows follow a type and a value, row by row.
-use Rattle.std.specs.Prelude.{◌≡◌, ℕ, suc, ◌+◌, List, [], ◌∷◌, Option, Some, None, slice_get, get_or, length}
+use Rattle.std.specs.Prelude.{◌≡◌, ℕ, suc, ◌+◌, List, [], ◌∷◌, ◌++◌, Option, Some, None, slice_get, get_or, length}
 use Rattle.asn_base.specs.declared.tag.Tag.{Tag}
 use Rattle.std.specs.List.{sum}
 use Rattle.asn_base.specs.Abstract.{AbstractValue, Row, fields, list, alternative}
@@ -8,7 +8,7 @@ use Rattle.encodings.specs.Header.{Octets}
 use Rattle.encodings.specs.Encoding.{IsDefault}
 use Rattle.encodings.specs.Account.{Account, Rows, absent_row, default_row, written, ArePlaces}
 use Rattle.octet_account.specs.Flat.{FlatRow, a_leaf, a_wrap, a_seq, a_seqof, a_set, a_setof, an_absent, a_default}
-use Rattle.octet_account.specs.Flat.{rows_of}
+use Rattle.octet_account.specs.Flat.{count, member_rows, rows_of}
 use Rattle.account_checker.specs.declared.checks.Checks.{Checks}
 use Rattle.account_checker.specs.declared.order.Order.{Order}
 use Rattle.account_checker.specs.declared.order.Order.TheVariants.{InOrder, Placed}
@@ -124,6 +124,11 @@ abbrev pub AreEnds : Order → List ℕ → Type 0
 AreEnds InOrder ns = Unit {0}
 AreEnds (Placed b) ns =
     (k : ℕ) → place_in (Placed b) ns k ≡ end_before b.now.ends.items (get_or b.now.places.items k 0)
+
+-- the ends of places are right for the first n members whose rows these are
+abbrev pub AreEndsOf : List FlatRow → ℕ → Order → Type 0
+AreEndsOf fs n order =
+    (rs : Rows) (rest : List FlatRow) → fs ≡ member_rows rs ++ rest → count rs ≡ n → AreEnds order (sizes rs)
 
 -- the members of a SEQUENCE or SET follow its components, and their rows give n octets
 abbrev pub FieldsFollow : List Resolved → Checks → Order → List Component → AbstractValue → ℕ → Octets → Rows → Type 0

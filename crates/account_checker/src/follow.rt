@@ -12,17 +12,16 @@ ghost use Rattle.octet_account.specs.Flat.{FlatRow, count, rows_of};
 ghost use Rattle.octet_account.specs.Seen.{flat, flat_row};
 ghost use Rattle.std.specs.Prelude.{◌+◌, ◌≡◌, ◌≤◌, ◌<◌, ◌++◌, ◌∷◌, [], ℕ, List, map, MatchOption, None, Some};
 
-use crate::checks::Checks;
 use crate::components::structure;
 use crate::elements::series;
 use crate::header::{after_header, part};
-use crate::order::Order;
+use crate::order::{Contents, Order};
 use crate::walk::{
-    AfterMember, chosen_type, has_octets, innermost, is_constructed, is_leaf, numbers_in,
-    total_octets,
+    AfterMember, Described, Walk, chosen_type, has_octets, innermost, is_constructed, is_leaf,
+    numbers_in, total_octets,
 };
 use asn_base::law::lemma_abstract_values;
-use asn_base::schema::{Alternatives, Core, Schema, TypeId};
+use asn_base::schema::{Alternatives, Core, TypeId};
 use asn_base::tag::Tag;
 use asn_base::value::Value;
 use encodings::header_laws;
@@ -33,36 +32,29 @@ use octet_account::row::{Row, RowLayout};
 /// rows begin with those of an account.
 #[cycle(follow)]
 pub(crate) fn follows<'r>(
-    schema: &Schema,
-    checks: Checks,
-    levels: u8,
+    walk: Walk<'_>,
     id: TypeId,
     value: &Value,
-    octets: &[u8],
-    rows: &'r [Row],
+    described: Described<'_, 'r>,
 ) -> Option<&'r [Row]>
-    requires value { ValueIn schema.now levels id.index (abstract value.now) }
-    requires few { levels ≤ 64 }
+    requires value { ValueIn walk.schema.now walk.levels id.index (abstract value.now) }
+    requires few { walk.levels ≤ 64 }
     ensures { (a : Account) (rest : List FlatRow)
-        → flat rows.now ≡ rows_of a ++ rest
+        → flat described.entry.rows.now ≡ rows_of a ++ rest
         → MatchOption result
-        (Follows schema.now checks id.index (abstract value.now) octets.now a → ⊥)
-        (λ r. Follows schema.now checks id.index (abstract value.now) octets.now a × (flat r.now ≡ rest)) }
+        (Follows walk.entry.schema.now walk.entry.checks id.index (abstract value.now) described.entry.octets.now a → ⊥)
+        (λ r. Follows walk.entry.schema.now walk.entry.checks id.index (abstract value.now) described.entry.octets.now a × (flat r.now ≡ rest)) }
 {
-    if levels == 0 || !schema.has(id) {
+    if walk.levels == 0 || !walk.schema.has(id) {
         return None;
     }
-    let resolved = schema.get(id);
-    match under(
-        schema,
-        checks,
-        levels - 1,
-        resolved.tags.as_slice(),
-        &resolved.core,
-        value,
-        octets,
-        rows,
-    ) {
+    let resolved = walk.schema.get(id);
+    let inner = Walk {
+        levels: walk.levels - 1,
+        ..walk
+    };
+    let tags = resolved.tags.as_slice();
+    match under(inner, tags, &resolved.core, value, described) {
         Some(following) => Some(following),
         None => None,
     }
@@ -71,35 +63,30 @@ pub(crate) fn follows<'r>(
 /// Whether an account follows these tags and a value of this kind.
 #[cycle(follow)]
 fn under<'r>(
-    schema: &Schema,
-    checks: Checks,
-    levels: u8,
+    walk: Walk<'_>,
     tags: &[Tag],
     core: &Core,
     value: &Value,
-    octets: &[u8],
-    rows: &'r [Row],
+    described: Described<'_, 'r>,
 ) -> Option<&'r [Row]>
-    requires value { ValueOf schema.now levels (kind_of core.now) (abstract value.now) }
-    requires few { levels ≤ 64 }
-    requires sound { IsSound schema.now (kind_of core.now) }
+    requires value { ValueOf walk.schema.now walk.levels (kind_of core.now) (abstract value.now) }
+    requires few { walk.levels ≤ 64 }
+    requires sound { IsSound walk.schema.now (kind_of core.now) }
     ensures { (a : Account) (rest : List FlatRow)
-        → flat rows.now ≡ rows_of a ++ rest
+        → flat described.entry.rows.now ≡ rows_of a ++ rest
         → MatchOption result
-        (Under schema.now checks tags.now (kind_of core.now) (abstract value.now) octets.now a → ⊥)
-        (λ r. Under schema.now checks tags.now (kind_of core.now) (abstract value.now) octets.now a
+        (Under walk.entry.schema.now walk.entry.checks tags.now (kind_of core.now) (abstract value.now) described.entry.octets.now a → ⊥)
+        (λ r. Under walk.entry.schema.now walk.entry.checks tags.now (kind_of core.now) (abstract value.now) described.entry.octets.now a
         × (flat r.now ≡ rest)) }
 {
     if tags.len() == 0 {
-        return match bare(schema, checks, levels, core, value, octets, rows) {
+        return match bare(walk, core, value, described) {
             Some(following) => Some(following),
             None => None,
         };
     }
-    match innermost(checks, tags, octets, rows) {
-        Some(at) => match headed(
-            schema, checks, levels, at.tag, core, value, at.octets, at.rows,
-        ) {
+    match innermost(walk.checks, tags, described) {
+        Some(at) => match headed(walk, at.tag, core, value, at.described) {
             Some(following) => Some(following),
             None => None,
         },
@@ -110,32 +97,21 @@ fn under<'r>(
 /// Whether an account follows a value of this kind without a tag. The rows of a CHOICE are those of its alternative.
 #[cycle(follow)]
 fn bare<'r>(
-    schema: &Schema,
-    checks: Checks,
-    levels: u8,
+    walk: Walk<'_>,
     core: &Core,
     value: &Value,
-    octets: &[u8],
-    rows: &'r [Row],
+    described: Described<'_, 'r>,
 ) -> Option<&'r [Row]>
-    requires value { ValueOf schema.now levels (kind_of core.now) (abstract value.now) }
-    requires few { levels ≤ 64 }
+    requires value { ValueOf walk.schema.now walk.levels (kind_of core.now) (abstract value.now) }
+    requires few { walk.levels ≤ 64 }
     ensures { (a : Account) (rest : List FlatRow)
-        → flat rows.now ≡ rows_of a ++ rest
+        → flat described.entry.rows.now ≡ rows_of a ++ rest
         → MatchOption result
-        (Under schema.now checks [] (kind_of core.now) (abstract value.now) octets.now a → ⊥)
-        (λ r. Under schema.now checks [] (kind_of core.now) (abstract value.now) octets.now a × (flat r.now ≡ rest)) }
+        (Under walk.entry.schema.now walk.entry.checks [] (kind_of core.now) (abstract value.now) described.entry.octets.now a → ⊥)
+        (λ r. Under walk.entry.schema.now walk.entry.checks [] (kind_of core.now) (abstract value.now) described.entry.octets.now a × (flat r.now ≡ rest)) }
 {
     match core {
-        Core::Choice(alternatives) => match chosen(
-            schema,
-            checks,
-            levels,
-            alternatives,
-            value,
-            octets,
-            rows,
-        ) {
+        Core::Choice(alternatives) => match chosen(walk, alternatives, value, described) {
             Some(following) => Some(following),
             None => None,
         },
@@ -146,166 +122,141 @@ fn bare<'r>(
 /// Whether an account follows one tag and a value of this kind.
 #[cycle(follow)]
 fn headed<'r>(
-    schema: &Schema,
-    checks: Checks,
-    levels: u8,
+    walk: Walk<'_>,
     tag: Tag,
     core: &Core,
     value: &Value,
-    octets: &[u8],
-    rows: &'r [Row],
+    described: Described<'_, 'r>,
 ) -> Option<&'r [Row]>
-    requires value { ValueOf schema.now levels (kind_of core.now) (abstract value.now) }
-    requires few { levels ≤ 64 }
-    requires sound { IsSound schema.now (kind_of core.now) }
+    requires value { ValueOf walk.schema.now walk.levels (kind_of core.now) (abstract value.now) }
+    requires few { walk.levels ≤ 64 }
+    requires sound { IsSound walk.schema.now (kind_of core.now) }
     ensures { (a : Account) (rest : List FlatRow)
-        → flat rows.now ≡ rows_of a ++ rest
+        → flat described.entry.rows.now ≡ rows_of a ++ rest
         → MatchOption result
-        (Under schema.now checks (tag ∷ []) (kind_of core.now) (abstract value.now) octets.now a → ⊥)
-        (λ r. Under schema.now checks (tag ∷ []) (kind_of core.now) (abstract value.now) octets.now a
+        (Under walk.entry.schema.now walk.entry.checks (tag ∷ []) (kind_of core.now) (abstract value.now) described.entry.octets.now a → ⊥)
+        (λ r. Under walk.entry.schema.now walk.entry.checks (tag ∷ []) (kind_of core.now) (abstract value.now) described.entry.octets.now a
         × (flat r.now ≡ rest)) }
 {
     header_laws();
-    let Some((row, following)) = rows.split_first() else {
+    let Some((row, following)) = described.rows.split_first() else {
         return None;
     };
     let Some(numbers) = numbers_in(&row.listed) else {
         return None;
     };
-    match after_header(checks, tag, is_constructed(core), numbers, octets) {
-        Some(x) => match inside(
-            schema,
-            checks,
-            levels,
-            core,
-            value,
-            x,
-            &row.listed,
-            following,
-        ) {
-            Some(rest) => Some(rest),
-            None => None,
-        },
+    let constructed = is_constructed(core);
+    match after_header(walk.checks, tag, constructed, numbers, described.octets) {
+        Some(octets) => {
+            let contents = Described {
+                octets,
+                rows: following,
+            };
+            match inside(walk, core, value, &row.listed, contents) {
+                Some(rest) => Some(rest),
+                None => None,
+            }
+        }
         None => None,
     }
 }
 
-/// Whether the rows within a header follow a value of this kind. `listed` is the row of the header, and `rows` are the
-/// rows after it.
+/// Whether the rows within a header follow a value of this kind. `listed` is the row of the header, and the contents are
+/// described by the rows after it.
 #[cycle(follow)]
 fn inside<'r>(
-    schema: &Schema,
-    checks: Checks,
-    levels: u8,
+    walk: Walk<'_>,
     core: &Core,
     value: &Value,
-    octets: &[u8],
     listed: &'r RowLayout,
-    rows: &'r [Row],
+    described: Described<'_, 'r>,
 ) -> Option<&'r [Row]>
-    requires value { ValueOf schema.now levels (kind_of core.now) (abstract value.now) }
-    requires few { levels ≤ 64 }
-    requires sound { IsSound schema.now (kind_of core.now) }
+    requires value { ValueOf walk.schema.now walk.levels (kind_of core.now) (abstract value.now) }
+    requires few { walk.levels ≤ 64 }
+    requires sound { IsSound walk.schema.now (kind_of core.now) }
     ensures { (z : Numbers') (i : Inside) (rest : List FlatRow)
-        → flat_row listed.now ∷ flat rows.now ≡ rows_of (header z i) ++ rest
+        → flat_row listed.now ∷ flat described.entry.rows.now ≡ rows_of (header z i) ++ rest
         → MatchOption result
-        (InsideFollows schema.now checks (kind_of core.now) (abstract value.now) z.contents octets.now i → ⊥)
-        (λ r. InsideFollows schema.now checks (kind_of core.now) (abstract value.now) z.contents octets.now i
+        (InsideFollows walk.entry.schema.now walk.entry.checks (kind_of core.now) (abstract value.now) z.contents described.entry.octets.now i → ⊥)
+        (λ r. InsideFollows walk.entry.schema.now walk.entry.checks (kind_of core.now) (abstract value.now) z.contents described.entry.octets.now i
         × (flat r.now ≡ rest)) }
 {
     match core {
         Core::Sequence(_, components) => match listed {
-            RowLayout::Seq(z, count) => match structure(
-                schema,
-                checks,
-                levels,
-                components.as_slice(),
-                value,
-                z.contents,
-                octets,
-                *count,
-                Order::InOrder,
-                rows,
-            ) {
-                Some(following) => Some(following),
-                None => None,
-            },
+            RowLayout::Seq(z, count) => {
+                let contents = Contents {
+                    size: z.contents,
+                    members: *count,
+                    order: Order::InOrder,
+                    octets: described.octets,
+                    rows: described.rows,
+                };
+                match structure(walk, components.as_slice(), value, contents) {
+                    Some(following) => Some(following),
+                    None => None,
+                }
+            }
             _ => None,
         },
         Core::SequenceOf(_, element) => match listed {
-            RowLayout::SeqOf(z, count) => match series(
-                schema,
-                checks,
-                levels,
-                *element,
-                value,
-                z.contents,
-                octets,
-                *count,
-                Order::InOrder,
-                rows,
-            ) {
-                Some(following) => Some(following),
-                None => None,
-            },
+            RowLayout::SeqOf(z, count) => {
+                let contents = Contents {
+                    size: z.contents,
+                    members: *count,
+                    order: Order::InOrder,
+                    octets: described.octets,
+                    rows: described.rows,
+                };
+                match series(walk, *element, value, contents) {
+                    Some(following) => Some(following),
+                    None => None,
+                }
+            }
             _ => None,
         },
         Core::Choice(alternatives) => match listed {
-            RowLayout::Wrap(z) => match held(
-                schema,
-                checks,
-                levels,
-                alternatives,
-                value,
-                z.contents,
-                octets,
-                rows,
-            ) {
+            RowLayout::Wrap(z) => match held(walk, alternatives, value, z.contents, described) {
                 Some(following) => Some(following),
                 None => None,
             },
             _ => None,
         },
         Core::Set(_, components) => match listed {
-            RowLayout::Set(z, places) => match structure(
-                schema,
-                checks,
-                levels,
-                components.as_slice(),
-                value,
-                z.contents,
-                octets,
-                places.members,
-                Order::Placed(&**places),
-                rows,
-            ) {
-                Some(following) => Some(following),
-                None => None,
-            },
+            RowLayout::Set(z, places) => {
+                let contents = Contents {
+                    size: z.contents,
+                    members: places.members,
+                    order: Order::Placed(&**places),
+                    octets: described.octets,
+                    rows: described.rows,
+                };
+                match structure(walk, components.as_slice(), value, contents) {
+                    Some(following) => Some(following),
+                    None => None,
+                }
+            }
             _ => None,
         },
         Core::SetOf(_, element) => match listed {
-            RowLayout::SetOf(z, places) => match series(
-                schema,
-                checks,
-                levels,
-                *element,
-                value,
-                z.contents,
-                octets,
-                places.members,
-                Order::Placed(&**places),
-                rows,
-            ) {
-                Some(following) => Some(following),
-                None => None,
-            },
+            RowLayout::SetOf(z, places) => {
+                let contents = Contents {
+                    size: z.contents,
+                    members: places.members,
+                    order: Order::Placed(&**places),
+                    octets: described.octets,
+                    rows: described.rows,
+                };
+                match series(walk, *element, value, contents) {
+                    Some(following) => Some(following),
+                    None => None,
+                }
+            }
             _ => None,
         },
         _ => match listed {
             RowLayout::Leaf(z) => {
-                if is_leaf(checks, core, value, z.contents, octets) {
-                    Some(rows)
+                if is_leaf(walk.checks, core, value, z.contents, described.octets) {
+                    Some(described.rows)
                 } else {
                     None
                 }
@@ -318,36 +269,33 @@ fn inside<'r>(
 /// Whether the rows follow a CHOICE within a header.
 #[cycle(follow)]
 fn held<'r>(
-    schema: &Schema,
-    checks: Checks,
-    levels: u8,
+    walk: Walk<'_>,
     alternatives: &Alternatives,
     value: &Value,
     contents: u32,
-    octets: &[u8],
-    rows: &'r [Row],
+    described: Described<'_, 'r>,
 ) -> Option<&'r [Row]>
-    requires value { (i : ℕ) (v : AbstractValue) → abstract value.now ≡ alternative i v → IsChosen schema.now levels
+    requires value { (i : ℕ) (v : AbstractValue) → abstract value.now ≡ alternative i v → IsChosen walk.schema.now walk.levels
         (map alternative_of alternatives.now.root.items ++ map alternative_of alternatives.now.additions.items) i v }
-    requires few { levels ≤ 64 }
+    requires few { walk.levels ≤ 64 }
     ensures { (a : Account) (rest : List FlatRow)
-        → flat rows.now ≡ rows_of a ++ rest
+        → flat described.entry.rows.now ≡ rows_of a ++ rest
         → MatchOption result
-        (Checked checks.numbers (contents ≡ octets_in a)
-        → ChoiceFollows schema.now checks
+        (Checked walk.entry.checks.numbers (contents ≡ octets_in a)
+        → ChoiceFollows walk.entry.schema.now walk.entry.checks
         (map alternative_of alternatives.now.root.items ++ map alternative_of alternatives.now.additions.items)
-        (abstract value.now) octets.now a
+        (abstract value.now) described.entry.octets.now a
         → ⊥)
-        (λ r. Checked checks.numbers (contents ≡ octets_in a)
-        × ChoiceFollows schema.now checks
+        (λ r. Checked walk.entry.checks.numbers (contents ≡ octets_in a)
+        × ChoiceFollows walk.entry.schema.now walk.entry.checks
         (map alternative_of alternatives.now.root.items ++ map alternative_of alternatives.now.additions.items)
-        (abstract value.now) octets.now a
+        (abstract value.now) described.entry.octets.now a
         × (flat r.now ≡ rest)) }
 {
-    if !has_octets(checks, contents, rows) {
+    if !has_octets(walk.checks, contents, described.rows) {
         return None;
     }
-    match chosen(schema, checks, levels, alternatives, value, octets, rows) {
+    match chosen(walk, alternatives, value, described) {
         Some(following) => Some(following),
         None => None,
     }
@@ -356,33 +304,30 @@ fn held<'r>(
 /// Whether the rows follow the value of an alternative.
 #[cycle(follow)]
 fn chosen<'r>(
-    schema: &Schema,
-    checks: Checks,
-    levels: u8,
+    walk: Walk<'_>,
     alternatives: &Alternatives,
     value: &Value,
-    octets: &[u8],
-    rows: &'r [Row],
+    described: Described<'_, 'r>,
 ) -> Option<&'r [Row]>
-    requires value { (i : ℕ) (v : AbstractValue) → abstract value.now ≡ alternative i v → IsChosen schema.now levels
+    requires value { (i : ℕ) (v : AbstractValue) → abstract value.now ≡ alternative i v → IsChosen walk.schema.now walk.levels
         (map alternative_of alternatives.now.root.items ++ map alternative_of alternatives.now.additions.items) i v }
-    requires few { levels ≤ 64 }
+    requires few { walk.levels ≤ 64 }
     ensures { (a : Account) (rest : List FlatRow)
-        → flat rows.now ≡ rows_of a ++ rest
+        → flat described.entry.rows.now ≡ rows_of a ++ rest
         → MatchOption result
-        (ChoiceFollows schema.now checks
+        (ChoiceFollows walk.entry.schema.now walk.entry.checks
         (map alternative_of alternatives.now.root.items ++ map alternative_of alternatives.now.additions.items)
-        (abstract value.now) octets.now a
+        (abstract value.now) described.entry.octets.now a
         → ⊥)
-        (λ r. ChoiceFollows schema.now checks
+        (λ r. ChoiceFollows walk.entry.schema.now walk.entry.checks
         (map alternative_of alternatives.now.root.items ++ map alternative_of alternatives.now.additions.items)
-        (abstract value.now) octets.now a
+        (abstract value.now) described.entry.octets.now a
         × (flat r.now ≡ rest)) }
 {
     lemma_abstract_values();
     match value {
         Value::Alt(index, inner) => match chosen_type(alternatives, *index) {
-            Some(id) => match follows(schema, checks, levels, id, inner, octets, rows) {
+            Some(id) => match follows(walk, id, inner, described) {
                 Some(following) => Some(following),
                 None => None,
             },
@@ -395,35 +340,33 @@ fn chosen<'r>(
 /// Whether the rows follow a value that is encoded at a place.
 #[cycle(follow)]
 pub(crate) fn written<'r>(
-    schema: &Schema,
-    checks: Checks,
-    levels: u8,
+    walk: Walk<'_>,
     id: TypeId,
     value: &Value,
     place: u128,
-    octets: &[u8],
-    rows: &'r [Row],
+    described: Described<'_, 'r>,
 ) -> Option<AfterMember<'r>>
-    requires value { ValueIn schema.now levels id.index (abstract value.now) }
-    requires few { levels ≤ 64 }
+    requires value { ValueIn walk.schema.now walk.levels id.index (abstract value.now) }
+    requires few { walk.levels ≤ 64 }
     ensures { (a : Account) (rest : List FlatRow)
-        → flat rows.now ≡ rows_of a ++ rest
+        → flat described.entry.rows.now ≡ rows_of a ++ rest
         → MatchOption result
-        (WrittenAt schema.now checks place id.index (abstract value.now) octets.now a → ⊥)
-        (λ r. WrittenAt schema.now checks place id.index (abstract value.now) octets.now a
+        (WrittenAt walk.entry.schema.now walk.entry.checks place id.index (abstract value.now) described.entry.octets.now a → ⊥)
+        (λ r. WrittenAt walk.entry.schema.now walk.entry.checks place id.index (abstract value.now) described.entry.octets.now a
         × (flat r.rows.now ≡ rest)
         × (r.size ≡ Some (octets_in a))) }
 {
+    let rows = described.rows;
     let Some((row, _)) = rows.split_first() else {
         return None;
     };
     let Some(size) = total_octets(&row.listed) else {
         return None;
     };
-    let Some(here) = part(checks, octets, place, size) else {
+    let Some(octets) = part(walk.checks, described.octets, place, size) else {
         return None;
     };
-    match follows(schema, checks, levels, id, value, here, rows) {
+    match follows(walk, id, value, Described { octets, rows }) {
         Some(following) => Some(AfterMember {
             rows: following,
             size: Some(size),

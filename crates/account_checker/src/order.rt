@@ -1,7 +1,7 @@
 //! The places of members in contents octets.
 
 ghost use Rattle.account_checker.specs.Follows.{Checked, before, by_place, sizes};
-ghost use Rattle.account_checker.specs.Parts.{AreEnds, AreInOrder, EndsAt, EndsFrom};
+ghost use Rattle.account_checker.specs.Parts.{AreEndsOf, AreInOrder, EndsAt, EndsFrom};
 ghost use Rattle.account_checker.specs.Parts.{count_or, end_before as octets_in_front, place_in};
 ghost use Rattle.encodings.specs.Account.{Rows};
 ghost use Rattle.octet_account.specs.Flat.{FlatRow, count, member_rows};
@@ -13,7 +13,7 @@ ghost use Rattle.std.specs.Prelude.{IsTrue, MatchOption, Some, None};
 use crate::checks::Checks;
 use crate::places::are_places;
 use crate::skipped::{after_member, first_size, size_at};
-use crate::walk::{has_count, offset_after};
+use crate::walk::{Counted, has_count, offset_after};
 use octet_account::row::{Places, Row};
 
 /// The order of members in contents octets.
@@ -25,8 +25,23 @@ pub(crate) enum Order<'r> {
     Placed(&'r Places),
 }
 
+/// The contents of a header whose row has members.
+#[derive(Clone, Copy)]
+pub(crate) struct Contents<'o, 'r> {
+    /// How many octets the contents have by the row.
+    pub size: u32,
+    /// How many members the row has.
+    pub members: u32,
+    /// The order of the members.
+    pub order: Order<'r>,
+    /// The contents octets.
+    pub octets: &'o [u8],
+    /// The rows after that of the header.
+    pub rows: &'r [Row],
+}
+
 /// Whether the places are those of this number of members, if places are checked.
-pub(crate) fn are_in_order(checks: Checks, order: Order, count: usize) -> bool
+fn are_in_order(checks: Checks, order: Order, count: usize) -> bool
     ensures { IsTrue result ↔ AreInOrder checks order.entry count }
 {
     match order {
@@ -145,37 +160,28 @@ fn measure(rows: &[Row], members: usize, set: &Places) -> Measured
 /// Whether the ends of places are known to be right, before the members at these places are checked. The result is None
 /// if the check already fails: the members have another number of octets, or the places aren't those of this number of
 /// members.
-pub(crate) fn are_known(
-    checks: Checks,
-    order: Order,
-    contents: u32,
-    rows: &[Row],
-    members: usize,
-) -> Option<bool>
+pub(crate) fn are_known(checks: Checks, contents: Contents<'_, '_>) -> Option<bool>
     ensures { MatchOption result
         ((rs : Rows) (rest : List FlatRow)
-        → flat rows.now ≡ member_rows rs ++ rest
-        → count rs ≡ members
-        → Checked checks.numbers (contents ≡ sum (sizes rs))
-        → AreInOrder checks order.entry (length (sizes rs))
+        → flat contents.entry.rows.now ≡ member_rows rs ++ rest
+        → count rs ≡ contents.entry.members
+        → Checked checks.numbers (contents.entry.size ≡ sum (sizes rs))
+        → AreInOrder checks contents.entry.order (length (sizes rs))
         → ⊥)
         (λ known. IsTrue known
-        → (rs : Rows) (rest : List FlatRow)
-        → flat rows.now ≡ member_rows rs ++ rest
-        → count rs ≡ members
-        → AreEnds order.entry (sizes rs)) }
+        → AreEndsOf (flat contents.entry.rows.now) contents.entry.members contents.entry.order) }
 {
-    match order {
+    match contents.order {
         Order::InOrder => Some(false),
         Order::Placed(set) => {
             if !checks.places {
                 return Some(false);
             }
-            let measured = measure(rows, members, set);
-            if !has_count(checks, contents, measured.octets) {
+            let measured = measure(contents.rows, contents.members as usize, set);
+            if !has_count(checks, contents.size, measured.octets) {
                 return None;
             }
-            if !are_in_order(checks, order, measured.written) {
+            if !are_in_order(checks, contents.order, measured.written) {
                 return None;
             }
             Some(measured.known)
@@ -183,38 +189,57 @@ pub(crate) fn are_known(
     }
 }
 
+/// The rows after those of the members. The result is None if the members have another number of octets than the row of
+/// the header gives, or the places aren't those of the encoded members.
+pub(crate) fn after_members<'r>(
+    checks: Checks,
+    contents: Contents<'_, '_>,
+    counted: Counted<'r>,
+) -> Option<&'r [Row]>
+    ensures { MatchOption result
+        (Checked checks.numbers (contents.entry.size ≡ counted.entry.octets)
+        → AreInOrder checks contents.entry.order counted.entry.written
+        → ⊥)
+        (λ r. Checked checks.numbers (contents.entry.size ≡ counted.entry.octets)
+        × AreInOrder checks contents.entry.order counted.entry.written
+        × (r.now ≡ counted.entry.rows.now)) }
+{
+    if has_count(checks, contents.size, counted.octets)
+        && are_in_order(checks, contents.order, counted.written)
+    {
+        Some(counted.rows)
+    } else {
+        None
+    }
+}
+
 /// The offset of the encoded member with this number in the contents octets, if headers are checked. In the order of
 /// rows `offset` octets are before it. If the ends of places aren't known, the function looks at the rows once more.
 pub(crate) fn start(
     checks: Checks,
-    order: Order,
+    contents: Contents<'_, '_>,
     known: bool,
-    rows: &[Row],
-    members: usize,
     number: usize,
     offset: u128,
 ) -> u128
-    requires { IsTrue known
-        → (rs : Rows) (rest : List FlatRow)
-        → flat rows.now ≡ member_rows rs ++ rest
-        → count rs ≡ members
-        → AreEnds order (sizes rs) }
+    requires { IsTrue known → AreEndsOf (flat contents.rows.now) contents.members contents.order }
     ensures { (rs : Rows) (rest : List FlatRow)
-        → flat rows.now ≡ member_rows rs ++ rest
-        → count rs ≡ members
+        → flat contents.entry.rows.now ≡ member_rows rs ++ rest
+        → count rs ≡ contents.entry.members
         → before (sizes rs) number ≡ offset
-        → Checked checks.headers (place_in order.entry (sizes rs) number ≡ result) }
+        → Checked checks.headers (place_in contents.entry.order (sizes rs) number ≡ result) }
 {
-    match order {
+    match contents.order {
         Order::InOrder => offset,
         Order::Placed(set) => {
             let place = number_at(set.places.as_slice(), number);
+            let members = contents.members as usize;
             if !checks.headers {
                 0
             } else if known {
                 end_before(set.ends.as_slice(), place)
             } else {
-                octets_before(rows, members, set.inverse.as_slice(), place)
+                octets_before(contents.rows, members, set.inverse.as_slice(), place)
             }
         }
     }

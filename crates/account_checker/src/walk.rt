@@ -38,12 +38,26 @@ use asn_base::value::Value;
 use encodings::header_laws;
 use octet_account::row::{Numbers, Row, RowLayout};
 
-/// The octets and rows that begin at the innermost header.
+/// A walk over rows: the schema of the types, the properties that are checked, and the most levels that the value has.
 #[derive(Clone, Copy)]
-pub(crate) struct At<'r, 'o> {
-    pub tag: Tag,
+pub(crate) struct Walk<'s> {
+    pub schema: &'s Schema,
+    pub checks: Checks,
+    pub levels: u8,
+}
+
+/// Octets, and rows of an account that begin with those which describe the octets.
+#[derive(Clone, Copy)]
+pub(crate) struct Described<'o, 'r> {
     pub octets: &'o [u8],
     pub rows: &'r [Row],
+}
+
+/// The tag of the innermost header, and the octets and rows that begin with this header.
+#[derive(Clone, Copy)]
+pub(crate) struct At<'o, 'r> {
+    pub tag: Tag,
+    pub described: Described<'o, 'r>,
 }
 
 /// The rows after those of a member, and how many octets its rows give, if it is encoded.
@@ -106,20 +120,21 @@ pub(crate) fn has_octets(checks: Checks, contents: u32, rows: &[Row]) -> bool
 }
 
 /// The octets and rows within the outer headers. Each tag but the last has such a header, which holds one row.
-pub(crate) fn innermost<'r, 'o>(
+pub(crate) fn innermost<'o, 'r>(
     checks: Checks,
     tags: &[Tag],
-    octets: &'o [u8],
-    rows: &'r [Row],
-) -> Option<At<'r, 'o>>
+    described: Described<'o, 'r>,
+) -> Option<At<'o, 'r>>
     ensures { (a : Account) (rest : List FlatRow)
-        → flat rows.now ≡ rows_of a ++ rest
+        → flat described.entry.rows.now ≡ rows_of a ++ rest
         → 0 < length tags.now
         → MatchOption result
-        ((s : List Resolved) (k : Kind) (v : AbstractValue) → Under s checks tags.now k v octets.now a → ⊥)
+        ((s : List Resolved) (k : Kind) (v : AbstractValue)
+        → Under s checks tags.now k v described.entry.octets.now a
+        → ⊥)
         (λ r. (b : Account)
-        × (flat r.rows.now ≡ rows_of b ++ rest)
-        × IsOuterOf checks tags.now octets.now a r.tag r.octets.now b) }
+        × (flat r.described.rows.now ≡ rows_of b ++ rest)
+        × IsOuterOf checks tags.now described.entry.octets.now a r.tag r.described.octets.now b) }
 {
     header_laws();
     let Some((tag, inner)) = tags.split_first() else {
@@ -128,11 +143,10 @@ pub(crate) fn innermost<'r, 'o>(
     if inner.len() == 0 {
         return Some(At {
             tag: *tag,
-            octets,
-            rows,
+            described,
         });
     }
-    let Some((row, following)) = rows.split_first() else {
+    let Some((row, following)) = described.rows.split_first() else {
         return None;
     };
     match &row.listed {
@@ -140,11 +154,17 @@ pub(crate) fn innermost<'r, 'o>(
             if !has_octets(checks, z.contents, following) {
                 return None;
             }
-            match after_header(checks, *tag, true, *z, octets) {
-                Some(x) => match innermost(checks, inner, x, following) {
-                    Some(at) => Some(at),
-                    None => None,
-                },
+            match after_header(checks, *tag, true, *z, described.octets) {
+                Some(octets) => {
+                    let contents = Described {
+                        octets,
+                        rows: following,
+                    };
+                    match innermost(checks, inner, contents) {
+                        Some(at) => Some(at),
+                        None => None,
+                    }
+                }
                 None => None,
             }
         }
@@ -201,24 +221,19 @@ pub(crate) fn may_be_absent(component: &Component, value: &Option<Value>) -> boo
 }
 
 /// Whether the component has a DEFAULT and, if left-out components are checked, its value is the same as that DEFAULT.
-pub(crate) fn may_be_left_out(
-    schema: &Schema,
-    checks: Checks,
-    levels: u8,
-    component: &Component,
-    value: &Option<Value>,
-) -> bool
-    requires value { IsComponent schema.now levels (component_of component.now) (option_map abstract value.now) }
-    requires few { levels ≤ 64 }
-    requires default { HasValue schema.now (component_of component.now) }
+pub(crate) fn may_be_left_out(walk: Walk<'_>, component: &Component, value: &Option<Value>) -> bool
+    requires value { IsComponent walk.schema.now walk.levels (component_of component.now)
+        (option_map abstract value.now) }
+    requires few { walk.levels ≤ 64 }
+    requires default { HasValue walk.schema.now (component_of component.now) }
     ensures { (n : ℕ) (x : Octets)
         → (IsTrue result
-        ↔ MemberAt schema.now checks n (component_of component.now) (option_map abstract value.now) x left_out) }
+        ↔ MemberAt walk.entry.schema.now walk.entry.checks n (component_of component.now)
+        (option_map abstract value.now) x left_out) }
 {
     match value {
         Some(value) => {
-            has_default(component)
-                && (!checks.omitted || is_default(schema, levels, component, value))
+            has_default(component) && (!walk.checks.omitted || is_default(walk, component, value))
         }
         None => has_default(component),
     }
@@ -235,35 +250,30 @@ fn has_default(component: &Component) -> bool
 }
 
 /// Whether the value is the same as the component's DEFAULT.
-pub(crate) fn is_default(schema: &Schema, levels: u8, component: &Component, value: &Value) -> bool
-    requires value { ValueIn schema.now levels component.now.ty.index (abstract value.now) }
-    requires few { levels ≤ 64 }
-    requires default { HasValue schema.now (component_of component.now) }
-    ensures { IsTrue result ↔ IsDefault schema.now (component_of component.now) (abstract value.now) }
+fn is_default(walk: Walk<'_>, component: &Component, value: &Value) -> bool
+    requires value { ValueIn walk.schema.now walk.levels component.now.ty.index (abstract value.now) }
+    requires few { walk.levels ≤ 64 }
+    requires default { HasValue walk.schema.now (component_of component.now) }
+    ensures { IsTrue result ↔ IsDefault walk.entry.schema.now (component_of component.now) (abstract value.now) }
 {
     lemma_levels_grow();
     match &component.presence {
-        Presence::Default(default) => same_values(value, default, schema, component.ty),
+        Presence::Default(default) => same_values(value, default, walk.schema, component.ty),
         _ => false,
     }
 }
 
 /// Whether the value isn't the same as the component's DEFAULT, if left-out components are checked.
-pub(crate) fn is_to_be_written(
-    schema: &Schema,
-    checks: Checks,
-    levels: u8,
-    component: &Component,
-    value: &Value,
-) -> bool
-    requires value { ValueIn schema.now levels component.now.ty.index (abstract value.now) }
-    requires few { levels ≤ 64 }
-    requires default { HasValue schema.now (component_of component.now) }
+pub(crate) fn is_to_be_written(walk: Walk<'_>, component: &Component, value: &Value) -> bool
+    requires value { ValueIn walk.schema.now walk.levels component.now.ty.index (abstract value.now) }
+    requires few { walk.levels ≤ 64 }
+    requires default { HasValue walk.schema.now (component_of component.now) }
     ensures { IsTrue result
-        ↔ Checked checks.omitted (IsDefault schema.now (component_of component.now) (abstract value.now) → ⊥) }
+        ↔ Checked walk.entry.checks.omitted
+        (IsDefault walk.entry.schema.now (component_of component.now) (abstract value.now) → ⊥) }
 {
-    if checks.omitted {
-        !is_default(schema, levels, component, value)
+    if walk.checks.omitted {
+        !is_default(walk, component, value)
     } else {
         true
     }
