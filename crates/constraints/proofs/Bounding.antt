@@ -29,7 +29,7 @@ use Rattle.ranges.specs.Numbers.{AreSizes, HasRoot}
 use Rattle.constraints.proofs.Senses.{counted_size}
 use Rattle.constraints.proofs.Trails.{kind_once}
 
-le_or : (a b : ℕ) → (a < b) ⊎ (b ≤ a)
+pub le_or : (a b : ℕ) → (a < b) ⊎ (b ≤ a)
 le_or a zero = inr (omega arith)
 le_or zero (suc b) = inl (omega arith)
 le_or (suc a) (suc b) =
@@ -38,7 +38,7 @@ le_or (suc a) (suc b) =
       | inr h ↦ inr (omega (arith, h))
     ]
 
-there_by : (ts : List Type') (i c s : ℕ) → walk ts s i ≡ Some c → c < length ts → (i < length ts) ⊎ (length ts ≤ i) → i < length ts
+pub there_by : (ts : List Type') (i c s : ℕ) → walk ts s i ≡ Some c → c < length ts → (i < length ts) ⊎ (length ts ≤ i) → i < length ts
 there_by ts i c s e l (inl h) = h
 there_by ts i c zero e l (inr h) = let q : i ≡ c = cc in omega (arith, q, l)
 there_by ts i c (suc s) e l (inr h) =
@@ -55,7 +55,7 @@ some_member : (cs : List ℕ) → 0 < length cs → (c : ℕ) × IsMember c cs
 some_member [] l = absurd (omega (arith, l))
 some_member (c ∷ cs) l = (c, is_first)
 
-characters_by : (p : Program) (k : Kind) (i : ℕ) (l : Limit) → IsLeft p k i l → HasCharacters p k i
+pub characters_by : (p : Program) (k : Kind) (i : ℕ) (l : Limit) → IsLeft p k i l → HasCharacters p k i
 characters_by p (simple (a_restricted_string s)) i l f =
     let m = some_member l.codes (f.some.codes refl) in
     (m.0, (f.codes m.0).0 m.1)
@@ -70,7 +70,7 @@ limit_there p at limits i a l = noted_is p at limits i a.noted (a.all i l)
 pub bounded_by : (p : Program) (at : List (Option ℕ)) (limits : List Limit) → AreAllNoted p at limits → AreBounded p
 bounded_by p at limits a = record {
   fitting = λ i n k M c w. (limit_there p at limits i a (slice_get_within p.types i w.type w.there)).2.good.fitting 0 i n k M c refl w;
-  last = λ i r. (limit_there p at limits i a (slice_get_within p.types i r.listed.type r.listed.there)).2.good.last r;
+  last = λ i r. (limit_there p at limits i a (slice_get_within p.types i r.listed.type r.listed.there)).2.good.last 0 i refl r;
   numbers = λ i k u. (
       let f = (limit_there p at limits i a (kind_there p.types i k u)).2.left k u in
       (f.some.number.0, (f.numbers f.some.number.0).0 f.some.number.1));

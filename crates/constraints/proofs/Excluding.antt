@@ -15,7 +15,7 @@ use Rattle.constraints.specs.Faults.{IsRightFault}
 use Rattle.constraints.specs.declared.fault.BoundFault.{BoundFault}
 use Rattle.constraints.specs.declared.fault.BoundFault.TheVariants.{Memory, Circular, Empty, WrongKind, Reconstrained, LowerAboveUpper, MarkerPlace}
 
-all_at : {A : Type 0} (P : A → Type 0) (xs : List A) (i : ℕ) (x : A) → AllByRecursion P xs → slice_get xs i ≡ Some x → P x
+pub all_at : {A : Type 0} (P : A → Type 0) (xs : List A) (i : ℕ) (x : A) → AllByRecursion P xs → slice_get xs i ≡ Some x → P x
 all_at P [] i x a e = absurd cc
 all_at P (y ∷ xs) zero x a e = let q : y ≡ x = cc in subst P q a.0
 all_at P (y ∷ xs) (suc i) x a e = all_at P xs i x a.1 e
@@ -55,7 +55,7 @@ not_no_character (first, None) f h = h
 not_no_character (first, Some last) f (inl h) = h f.from f.starts
 not_no_character (first, Some last) f (inr h) = h f.to f.ends
 
-not_turned : (x : CharsTree) → IsFit x → IsTurned x → ⊥
+pub not_turned : (x : CharsTree) → IsFit x → IsTurned x → ⊥
 not_turned (first, None) f h = h
 not_turned (first, Some last) f h =
     let a = same_code first h.from f.from h.starts f.starts in

@@ -27,7 +27,7 @@ use Rattle.constraints.proofs.Trails.{kind_once, target_kind}
 some_same : {X : Type 0} (x y : X) → Some x ≡ Some y → x ≡ y
 some_same x y e = cc
 
-assignment_once : (p : Program) (a : ℕ) (M N x y : Name) → IsAssignment p a M x → IsAssignment p a N y → M ≡ N
+pub assignment_once : (p : Program) (a : ℕ) (M N x y : Name) → IsAssignment p a M x → IsAssignment p a N y → M ≡ N
 assignment_once p a M N x y u v =
     let f = some_same (u.owner, x) (v.owner, y) (sym u.assigned ∙ v.assigned) in
     let g = some_same (M, u.tags) (N, v.tags) (sym u.header ∙ ap (λ w. slice_get p.headers w.0) f ∙ v.header) in
@@ -135,7 +135,7 @@ module _ (p : Program) (i : ℕ) (k : Kind) (M x : Name) (t : Type') (start l : 
         ];
       }
 
-  number_back : (z : ℤ) → IsInRoot p k i z → IsInSome z l.numbers
+  pub number_back : (z : ℤ) → IsInRoot p k i z → IsInSome z l.numbers
   number_back z r =
       (nar.numbers z r.counted).1 (
         (inh.numbers z).1 (r.counted, λ N c b. r.allowed N c (bears_target p i N c b)),
@@ -164,7 +164,7 @@ module _ (p : Program) (i : ℕ) (k : Kind) (M x : Name) (t : Type') (start l : 
   mark_back r = nar.marked.1 (mark_by r.within r.constraint r.marked (bears_cases p i r.within r.constraint r.bears))
 
 -- the characters that are left
-codes_left : (p : Program) (i : ℕ) (s : StringKind) (M x : Name) (t : Type') (start l : Limit) →
+pub codes_left : (p : Program) (i : ℕ) (s : StringKind) (M x : Name) (t : Type') (start l : Limit) →
     slice_get p.types i ≡ Some t →
     IsAssignment p t.assignment M x →
     Inherits p i start (simple (a_restricted_string s)) →
@@ -232,7 +232,7 @@ module _ (p : Program) (i : ℕ) (k : Kind) (M x : Name) (t : Type') (start l : 
     (here : slice_get p.types i ≡ Some t)
     (home : IsAssignment p t.assignment M x)
     (inh : Inherits p i start k)
-    (good : (j : ℕ) → next p.types i ≡ Some j → IsGood p j)
+    (limited : (j : ℕ) → next p.types i ≡ Some j → (m : Limit) × IsLimitOf p j m)
     (nar : Narrows p k M t.constraints (length t.constraints) start l) where
   fits_here : (n : ℕ) (h : Kind) (N : Name) (c : ConstraintTree) → IsWritten p i n h N c → IsFitting p h N c
   fits_here n h N c u =
@@ -250,7 +250,7 @@ module _ (p : Program) (i : ℕ) (k : Kind) (M x : Name) (t : Type') (start l : 
       IsWritten p j n h N c →
       IsFitting p h N c
   fits_on s j n None h N c e f u = absurd cc
-  fits_on s j n (Some m) h N c e f u = (good m e).fitting s j n h N c f u
+  fits_on s j n (Some m) h N c e f u = (limited m e).1.good.fitting s j n h N c f u
 
   fits : (s j n : ℕ) (h : Kind) (N : Name) (c : ConstraintTree) →
       walk p.types s i ≡ Some j →
@@ -316,11 +316,25 @@ module _ (p : Program) (i : ℕ) (k : Kind) (M x : Name) (t : Type') (start l : 
   last_by n b other zero c d u f v (inr h) m = absurd (omega (arith, h))
   last_by n b other (suc s) c d u f v h m = target_on s b other n (next p.types i) c d refl f u v m
 
+  marked_on : (s j : ℕ) (o : Option ℕ) →
+      next p.types i ≡ o →
+      onward o (λ m. follow (next p.types) s m) ≡ Some j →
+      IsReconstrained p j →
+      ⊥
+  marked_on s j None e f r = absurd cc
+  marked_on s j (Some m) e f r = (limited m e).1.good.last s j f r
+
+  marked_here : IsReconstrained p i → ⊥
+  marked_here r = last_by r.number r.target r.other r.steps r.constraint r.earlier r.listed r.chain r.stood r.before r.marked
+
+  marked : (s j : ℕ) → walk p.types s i ≡ Some j → IsReconstrained p j → ⊥
+  marked zero j f r =
+      let q : i ≡ j = cc in
+      marked_here (subst (IsReconstrained p) (sym q) r)
+  marked (suc s) j f r = marked_on s j (next p.types i) refl f r
+
   good_by : IsGood p i
-  good_by = record {
-    fitting = fits;
-    last = λ r. last_by r.number r.target r.other r.steps r.constraint r.earlier r.listed r.chain r.stood r.before r.marked;
-  }
+  good_by = record { fitting = fits; last = marked }
 
 pub limit_is : (p : Program) (i : ℕ) (k : Kind) (M x : Name) (t : Type') (start l : Limit) →
     IsWhole p →
@@ -335,10 +349,10 @@ pub limit_is : (p : Program) (i : ℕ) (k : Kind) (M x : Name) (t : Type') (star
 limit_is p i k M x t start l w kind here home s low nar some = record {
   left = λ h u. subst (λ y. IsLeft p y i l) (kind_once p.types i k h kind u)
       (left_by p i k M x t start l here home (s.inherits k kind) nar low some);
-  good = good_by p i k M x t start l w kind here home (s.inherits k kind) s.good nar;
+  good = good_by p i k M x t start l w kind here home (s.inherits k kind) s.limited nar;
 }
 
-characters_none : (p : Program) (k : Kind) (i : ℕ) (l : Limit) →
+pub characters_none : (p : Program) (k : Kind) (i : ℕ) (l : Limit) →
     has_alphabet k ≡ true →
     HasAlphabet p k i l.codes →
     l.codes ≡ [] →
@@ -361,7 +375,7 @@ pub empty_is : (p : Program) (i : ℕ) (k : Kind) (M x : Name) (t : Type') (star
 empty_is p i k M x t start w kind here home s low e = record {
   kind = k;
   is = kind;
-  fitting = λ steps j n N c f u. fits p i k M x t start e.limit w kind here home (s.inherits k kind) s.good e.narrows steps j n k N c f u;
+  fitting = λ steps j n N c f u. fits p i k M x t start e.limit w kind here home (s.inherits k kind) s.limited e.narrows steps j n k N c f u;
   nothing = elim e.nothing [
     | inl none ↦ inl (λ z r. none z (number_back p i k M x t start e.limit here home (s.inherits k kind) e.narrows z r))
     | inr none ↦ inr (characters_none p k i e.limit none.0
@@ -371,7 +385,7 @@ empty_is p i k M x t start w kind here home s low e = record {
 
 -- ---- faults
 
-written_is : (p : Program) (i : ℕ) (k : Kind) (M x : Name) (t : Type') (n : ℕ) (c : ConstraintTree) →
+pub written_is : (p : Program) (i : ℕ) (k : Kind) (M x : Name) (t : Type') (n : ℕ) (c : ConstraintTree) →
     slice_get p.types i ≡ Some t →
     IsOfKind p.types i k →
     IsAssignment p t.assignment M x →
@@ -385,7 +399,7 @@ value_within p k M v (values_in r) w = let u = w.2.round.value in slice_get_with
 value_within p k M v (sizes_in r) w = let u = w.2.round.value in slice_get_within p.values v u.value u.there
 value_within p k M v (chars_in xs) w = absurd w
 
-reconstrained_by : (p : Program) (i : ℕ) (k : Kind) (M x : Name) (t : Type') (start : Limit) (n : ℕ) (c : ConstraintTree) →
+pub reconstrained_by : (p : Program) (i : ℕ) (k : Kind) (M x : Name) (t : Type') (start : Limit) (n : ℕ) (c : ConstraintTree) →
     slice_get p.types i ≡ Some t →
     Inherits p i start k →
     slice_get t.constraints n ≡ Some c →
@@ -496,7 +510,7 @@ pub first_start : (p : Program) (i : ℕ) (t : Type') (l : Limit) →
     IsStartOf p i l
 first_start p i t l here e f = record {
   inherits = λ k u. subst (Inherits p i l) (kind_here p i t k here e u) (first_inherits p i t.kind l e f);
-  good = λ j g. (let q : None ≡ Some j = sym e ∙ g in absurd cc);
+  limited = λ j g. (let q : None ≡ Some j = sym e ∙ g in absurd cc);
 }
 
 target_is : (p : Program) (i j : ℕ) (M : Name) (c : ConstraintTree) → next p.types i ≡ Some j → BearsTarget p i M c → Bears p j M c
@@ -547,7 +561,7 @@ pub copied_start : (p : Program) (i j : ℕ) (l m : Limit) →
     IsStartOf p i m
 copied_start p i j l m e f s = record {
   inherits = λ k u. target_inherits p i j k m e (same_left p k j l m s (f.left k (target_kind p.types i j k e u)));
-  good = λ h g. subst (IsGood p) (some_same j h (sym e ∙ g)) f.good;
+  limited = λ h g. (l, subst (λ n. IsLimitOf p n l) (some_same j h (sym e ∙ g)) f);
 }
 
 -- ---- a type without constraints
@@ -623,11 +637,34 @@ shared_fits p i j zero b n h N c s g f u =
     absurd (not_listed p i j n c u.type s (ap (slice_get p.types) q ∙ u.there) u.written)
 shared_fits p i j (suc a) b n h N c s g f u = shared_on p i j a b n (next p.types i) h N c g s.chain f u
 
+shared_last_on : (p : Program) (j s b : ℕ) (o : Option ℕ) →
+    IsGood p j →
+    o ≡ Some j →
+    onward o (λ m. follow (next p.types) s m) ≡ Some b →
+    IsReconstrained p b →
+    ⊥
+shared_last_on p j s b None g e f r = absurd cc
+shared_last_on p j s b (Some m) g e f r =
+    let q = some_same m j e in
+    g.last s b (subst (λ d. follow (next p.types) s d ≡ Some b) q f) r
+
+shared_last : (p : Program) (i j s b : ℕ) →
+    IsShared p.types i j →
+    IsGood p j →
+    walk p.types s i ≡ Some b →
+    IsReconstrained p b →
+    ⊥
+shared_last p i j zero b s g f r =
+    let q : i ≡ b = cc in
+    let l = r.listed in
+    not_listed p i j r.number r.constraint l.type s (ap (slice_get p.types) q ∙ l.there) l.written
+shared_last p i j (suc a) b s g f r = shared_last_on p j a b (next p.types i) g s.chain f r
+
 pub shared_limit : (p : Program) (i j : ℕ) (l : Limit) → IsShared p.types i j → IsLimitOf p j l → IsLimitOf p i l
 shared_limit p i j l s f = record {
   left = λ k u. shared_left p i j k l s (f.left k (target_kind p.types i j k s.chain u));
   good = record {
     fitting = λ a b n h N c e u. shared_fits p i j a b n h N c s f.good e u;
-    last = λ r. not_listed p i j r.number r.constraint r.listed.type s r.listed.there r.listed.written;
+    last = λ a b e r. shared_last p i j a b s f.good e r;
   };
 }

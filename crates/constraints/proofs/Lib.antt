@@ -7,4 +7,8 @@ mod Noting
 mod Bounding
 mod Excluding
 mod Firsts
+mod Low
+mod OneWrong
+mod Moved
+mod OneFault
 mod Rows

@@ -16,7 +16,7 @@ use Rattle.names.specs.declared.sources.AssignedAt.{AssignedAt}
 use Rattle.names.specs.Faults.{fault_module, fault_name}
 use Rattle.names.specs.Sources.{Value, assignment_of}
 use Rattle.type_table.specs.declared.table.TypeNode.{TypeNode}
-use Rattle.type_table.specs.Seen.{type_of}
+use Rattle.type_table.specs.Seen.{types_of}
 use Rattle.type_table.specs.Table.{Kind, walk}
 use Rattle.resolve.specs.Program.{Program, IsAssignment}
 use Rattle.tagging.specs.Faults.{IsWrittenIn}
@@ -138,6 +138,8 @@ pub record IsFirstConstraint (p : Program) (k : Kind) (M : Name) (cs : List Cons
       n < number →
       slice_get (map constraint_of cs) n ≡ Some c →
       IsFitting p k M c
+  -- no earlier constraint comes after a marker
+  pub unmarked : (n : ℕ) → n < number → IsAfterMarker cs l n → ⊥
 
 -- The first fault of all constraints of a type that begins at the place. It is the fault of one constraint, or each has
 -- a meaning and together they allow nothing.
@@ -150,58 +152,102 @@ pub data IsLimitWrong (p : Program) (k : Kind) (M : Name) (cs : List ConstraintS
 
 -- ---- types
 
--- the first fault of type i, as it is written
-pub record IsTypeFault (p : Program) (i : ℕ) (f : Fault) : Type 0 where
+-- the first fault of type i; these are the types as they are written
+pub record IsTypeFault (p : Program) (ws : List TypeNode) (i : ℕ) (f : Fault) : Type 0 where
   pub written : TypeNode
-  pub there : slice_get p.types i ≡ Some (type_of written)
+  pub there : slice_get ws i ≡ Some written
   pub kind : Kind
   pub of_kind : IsOfKind p.types i kind
   pub within : Name
   pub assigns : Name
   pub stands : IsAssignment p written.assignment within assigns
-  -- what the constraints of the types that this type leads to allow
+  -- what the constraints of the types that this type leads to allow; each of these types is left something
   pub start : Limit
   pub starts : IsStartOf p i start
   pub wrong : ConstraintFault
   pub fault : IsLimitWrong p kind within written.constraints.items start written.at wrong
   pub reported : f ≡ fault_of wrong i
 
--- The first fault of a program: of type `number`, or of a type that it leads to. The constraints of all types with
--- lower numbers have a meaning, and allow something.
-pub record IsFirstFault (p : Program) (f : Fault) : Type 0 where
+-- The first fault of a program: of type `number`, or of a type that it leads to. For all types with lower numbers, the
+-- constraints have a meaning and allow something, and so do those of the types that they lead to.
+pub record IsFirstFault (p : Program) (ws : List TypeNode) (f : Fault) : Type 0 where
   pub number : ℕ
   pub steps : ℕ
   pub of : ℕ
   pub chain : walk p.types steps number ≡ Some of
-  pub fault : IsTypeFault p of f
+  pub fault : IsTypeFault p ws of f
   pub before : (i : ℕ) → i < number → (l : Limit) × IsLimitOf p i l
 
 -- ---- faults by name
 
 -- the first fault breaks the rule, and the spot has the module and the assignment in which its type is written
-pub record IsFirstAt (p : Program) (r : Rule) (s : SourceLocation) : Type 0 where
+pub record IsFirstAt (p : Program) (ws : List TypeNode) (r : Rule) (s : SourceLocation) : Type 0 where
   pub ty : ℕ
-  pub first : IsFirstFault p (faults.At r ty s.at)
+  pub first : IsFirstFault p ws (faults.At r ty s.at)
   pub stands : IsWrittenIn p ty (fault_module s) (fault_name s)
 
 -- The first fault is that an end leads to a value which leads back to itself. It is reported at the place where that
 -- value gets its name.
-pub record IsFirstCircle (p : Program) (s : SourceLocation) : Type 0 where
+pub record IsFirstCircle (p : Program) (ws : List TypeNode) (gs : List AssignedAt) (s : SourceLocation) : Type 0 where
   pub number : ℕ
-  pub first : IsFirstFault p (faults.Circular number)
+  pub first : IsFirstFault p ws (faults.Circular number)
   pub value : Value
   pub there : slice_get p.values number ≡ Some value
   pub stands : IsAssignment p value.assignment (fault_module s) (fault_name s)
   pub assigned : AssignedAt
-  pub written : slice_get p.assignments value.assignment ≡ Some (assignment_of assigned)
+  pub written : slice_get gs value.assignment ≡ Some assigned
   pub at : s.at ≡ assigned.name.at
 
--- this fault is the first; `Memory` says nothing
+-- the types and the assignments of the program, with their places in the text
+pub record AreWritten (p : Program) (ws : List TypeNode) (gs : List AssignedAt) : Type 0 where
+  pub types : types_of ws ≡ p.types
+  pub assignments : map assignment_of gs ≡ p.assignments
+
+-- this fault is the first of a program whose types and assignments are written so; `Memory` says nothing
+abbrev pub IsFirst : Program → List TypeNode → List AssignedAt → BoundFault → Type 0
+IsFirst p ws gs reported.Memory = Unit {0}
+IsFirst p ws gs (reported.Circular s) = IsFirstCircle p ws gs s
+IsFirst p ws gs (reported.Empty s) = IsFirstAt p ws rules.Empty s
+IsFirst p ws gs (reported.WrongKind s) = IsFirstAt p ws rules.WrongKind s
+IsFirst p ws gs (reported.Reconstrained s) = IsFirstAt p ws rules.Reconstrained s
+IsFirst p ws gs (reported.LowerAboveUpper s) = IsFirstAt p ws rules.LowerAboveUpper s
+IsFirst p ws gs (reported.MarkerPlace s) = IsFirstAt p ws rules.MarkerPlace s
+
+-- this fault is the first one, for the types and assignments as they are written; `Memory` says nothing
 abbrev pub ReportsFirst : Program → BoundFault → Type 0
 ReportsFirst p reported.Memory = Unit {0}
-ReportsFirst p (reported.Circular s) = IsFirstCircle p s
-ReportsFirst p (reported.Empty s) = IsFirstAt p rules.Empty s
-ReportsFirst p (reported.WrongKind s) = IsFirstAt p rules.WrongKind s
-ReportsFirst p (reported.Reconstrained s) = IsFirstAt p rules.Reconstrained s
-ReportsFirst p (reported.LowerAboveUpper s) = IsFirstAt p rules.LowerAboveUpper s
-ReportsFirst p (reported.MarkerPlace s) = IsFirstAt p rules.MarkerPlace s
+ReportsFirst p e = (ws : List TypeNode) × (gs : List AssignedAt) × AreWritten p ws gs × IsFirst p ws gs e
+
+-- ---- one fault
+
+-- two spots have one module and one name
+abbrev pub IsAlike : SourceLocation → SourceLocation → Type 0
+IsAlike s t = (fault_module s ≡ fault_module t) × (fault_name s ≡ fault_name t)
+
+-- two spots have one module, one name and one place
+abbrev pub IsSameSpot : SourceLocation → SourceLocation → Type 0
+IsSameSpot s t = (fault_module s ≡ fault_module t) × (fault_name s ≡ fault_name t) × (s.at ≡ t.at)
+
+-- Both faults report the same rule at the same spot. Any value of a circle may be named; `Memory` says nothing.
+abbrev pub ReportsSame : BoundFault → BoundFault → Type 0
+ReportsSame reported.Memory f = Unit {0}
+ReportsSame e reported.Memory = Unit {0}
+ReportsSame (reported.Circular s) (reported.Circular t) = Unit {0}
+ReportsSame (reported.Empty s) (reported.Empty t) = IsSameSpot s t
+ReportsSame (reported.WrongKind s) (reported.WrongKind t) = IsSameSpot s t
+ReportsSame (reported.Reconstrained s) (reported.Reconstrained t) = IsSameSpot s t
+ReportsSame (reported.LowerAboveUpper s) (reported.LowerAboveUpper t) = IsSameSpot s t
+ReportsSame (reported.MarkerPlace s) (reported.MarkerPlace t) = IsSameSpot s t
+ReportsSame e f = ⊥
+
+-- Both faults report the same rule in the same assignment. Any value of a circle may be named; `Memory` says nothing.
+abbrev pub ReportsAlike : BoundFault → BoundFault → Type 0
+ReportsAlike reported.Memory f = Unit {0}
+ReportsAlike e reported.Memory = Unit {0}
+ReportsAlike (reported.Circular s) (reported.Circular t) = Unit {0}
+ReportsAlike (reported.Empty s) (reported.Empty t) = IsAlike s t
+ReportsAlike (reported.WrongKind s) (reported.WrongKind t) = IsAlike s t
+ReportsAlike (reported.Reconstrained s) (reported.Reconstrained t) = IsAlike s t
+ReportsAlike (reported.LowerAboveUpper s) (reported.LowerAboveUpper t) = IsAlike s t
+ReportsAlike (reported.MarkerPlace s) (reported.MarkerPlace t) = IsAlike s t
+ReportsAlike e f = ⊥

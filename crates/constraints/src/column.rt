@@ -4,7 +4,7 @@ ghost use Rattle.std.specs.Prelude.{◌≡◌, ◌<◌, ℕ, IfOk, IfErr, OnOk, 
 ghost use Rattle.type_table.specs.Seen.{kind_of, type_of, types_of};
 ghost use Rattle.type_table.specs.Table.{IsLinked, target as target', next};
 ghost use Rattle.range_ends.specs.Ends.{IsOfKind};
-ghost use Rattle.constraints.specs.proving.Reported.{ReportsTypeFault, ReportsOne, ReportsFirstOf, AreTargets};
+ghost use Rattle.constraints.specs.proving.Reported.{IsWrittenAt, ReportsTypeFault, ReportsOne, ReportsFirstOf, AreTargets};
 ghost use Rattle.constraints.specs.proving.Columns.{AreNoted, AreAllNoted, IsNoted, IsTrail, IsFault, IsStartOf, IsLimitOf, IsShared, fault_of, held, limit_noted, number_noted};
 
 use crate::limit::{Limit, first_limit, limit_of};
@@ -129,7 +129,8 @@ impl BoundTable {
 /// A type as it is written in a text.
 pub(crate) fn written_at(linked: &Linked, ty: usize) -> &TypeNode
     requires { ty < length linked.now.types }
-    ensures { slice_get linked.now.types ty ≡ Some (type_of result.now) }
+    ensures there { slice_get linked.now.types ty ≡ Some (type_of result.now) }
+    ensures written { IsWrittenAt linked.now ty result.now }
 {
     &linked.types()[ty]
 }

@@ -1,13 +1,15 @@
 //! What can be wrong with constraints.
 
-ghost use Rattle.std.specs.Prelude.{◌≡◌, ◌<◌, ℕ, length, Some, slice_get};
+ghost use Rattle.std.specs.Prelude.{◌≡◌, ◌<◌, ℕ, List, length, Some, slice_get};
 ghost use Rattle.names.specs.Faults.{fault_module, fault_name};
-ghost use Rattle.names.specs.Sources.{assignment_of, value_of};
+ghost use Rattle.names.specs.Sources.{value_of};
+ghost use Rattle.names.specs.declared.sources.AssignedAt.{AssignedAt as AssignedAt'};
 ghost use Rattle.resolve.specs.Program.{Program, IsAssignment};
 ghost use Rattle.tagging.specs.Faults.{IsWrittenIn};
+ghost use Rattle.type_table.specs.declared.table.TypeNode.{TypeNode};
 ghost use Rattle.constraints.specs.Faults.{IsRightFault};
-ghost use Rattle.constraints.specs.First.{IsFirstFault, ReportsFirst};
-ghost use Rattle.constraints.specs.proving.Reported.{ReportsFirstOf};
+ghost use Rattle.constraints.specs.First.{AreWritten, IsFirstFault, ReportsFirst};
+ghost use Rattle.constraints.specs.proving.Reported.{IsAssignedAt, IsFirstOne, ReportsFirstOf};
 ghost use Rattle.constraints.specs.declared.column.Fault.TheVariants as column;
 ghost use Rattle.constraints.specs.proving.Columns.{Breaks, IsFault, IsRoundAt};
 
@@ -57,8 +59,9 @@ fn fault_of(rule: Rule, source_location: SourceLocation) -> BoundFault
         Breaks p rule i →
         IsWrittenIn p i (fault_module source_location) (fault_name source_location) →
         IsRightFault p result }
-    ensures first { (p : Program) (i : ℕ) →
-        IsFirstFault p (column.At rule i source_location.at) →
+    ensures first { (p : Program) (ws : List TypeNode) (gs : List AssignedAt') (i : ℕ) →
+        AreWritten p ws gs →
+        IsFirstFault p ws (column.At rule i source_location.at) →
         IsWrittenIn p i (fault_module source_location) (fault_name source_location) →
         ReportsFirst p result }
 {
@@ -76,8 +79,9 @@ fn broken(alloc: Global, linked: &Linked, rule: Rule, ty: usize, at: usize) -> B
     requires there { ty < length linked.now.types }
     requires breaks { Breaks linked.now rule ty }
     ensures stands { IsRightFault linked.now result }
-    ensures first { IsFirstFault linked.now (column.At rule ty at) → ReportsFirst linked.now result }
+    ensures first { IsFirstOne linked.now (column.At rule ty at) → ReportsFirst linked.now result }
 {
+    let _assignments = linked.assignments();
     let home = linked.home(TypeId { index: ty });
     let _written = written_at(linked, ty);
     match source_location(alloc, home.module, home.name, at) {
@@ -97,7 +101,7 @@ fn value_at(linked: &Linked, value: usize) -> &ValueAt
 /// An assignment, by its number.
 fn assigned_at(linked: &Linked, assignment: usize) -> &AssignedAt
     requires { assignment < length linked.now.assignments }
-    ensures { slice_get linked.now.assignments assignment ≡ Some (assignment_of result.now) }
+    ensures { IsAssignedAt linked.now assignment result.now }
 {
     &linked.assignments()[assignment]
 }
@@ -107,7 +111,7 @@ fn circular(alloc: Global, linked: &Linked, value: usize) -> BoundFault
     requires there { value < length linked.now.values }
     requires round { IsRoundAt linked.now value }
     ensures stands { IsRightFault linked.now result }
-    ensures first { IsFirstFault linked.now (column.Circular value) → ReportsFirst linked.now result }
+    ensures first { IsFirstOne linked.now (column.Circular value) → ReportsFirst linked.now result }
 {
     linked.whole();
     let written = value_at(linked, value);

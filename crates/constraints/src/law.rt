@@ -1,10 +1,14 @@
 //! What follows for programs whose constraints have a meaning. A caller calls a law to know it; a law takes no memory
 //! and no time.
 
-ghost use Rattle.std.specs.Prelude.{◌≡◌};
-ghost use Rattle.resolve.specs.Program.{Program};
+ghost use Rattle.std.specs.Prelude.{◌≡◌, List};
+ghost use Rattle.names.specs.declared.sources.AssignedAt.{AssignedAt};
+ghost use Rattle.type_table.specs.declared.table.TypeNode.{TypeNode};
+ghost use Rattle.resolve.specs.Program.{IsWhole, Program};
+ghost use Rattle.range_ends.specs.First.{HaveOneMeaning};
 ghost use Rattle.constraints.specs.Bounded.{AreBounded};
 ghost use Rattle.constraints.specs.Faults.{IsRightFault};
+ghost use Rattle.constraints.specs.First.{AreWritten, IsFirst, ReportsAlike, ReportsFirst, ReportsSame};
 ghost use Rattle.constraints.specs.declared.fault.BoundFault.{BoundFault};
 ghost use Rattle.constraints.specs.declared.fault.BoundFault.TheVariants.{Memory};
 
@@ -13,3 +17,25 @@ ghost use Rattle.constraints.specs.declared.fault.BoundFault.TheVariants.{Memory
 pub fn lemma_fault_excludes()
     ensures { (p : Program) (e : BoundFault) → (e ≡ Memory → ⊥) → IsRightFault p e → AreBounded p → ⊥ }
 {}
+
+/// At most one fault is the first. Two first faults of a program whose types and assignments are written so are of one
+/// rule, module, assignment and place. Two faults that [`crate::bound`] may return are of one rule, module and
+/// assignment. Of a circle of values any one may be named.
+pub fn one_fault()
+    ensures spot { (p : Program) (ws : List TypeNode) (gs : List AssignedAt) (e f : BoundFault) →
+        HaveOneMeaning p →
+        IsWhole p →
+        AreWritten p ws gs →
+        IsFirst p ws gs e →
+        IsFirst p ws gs f →
+        ReportsSame e f }
+    ensures alike { (p : Program) (e f : BoundFault) →
+        HaveOneMeaning p →
+        IsWhole p →
+        ReportsFirst p e →
+        ReportsFirst p f →
+        ReportsAlike e f }
+{
+    range_ends::law::one_fault();
+    range_ends::law::no_fault();
+}

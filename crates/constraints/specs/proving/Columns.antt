@@ -46,7 +46,7 @@ pub record IsGood (p : Program) (i : ℕ) : Type 0 where
       walk p.types steps i ≡ Some j →
       IsWritten p j n k M c →
       IsFitting p k M c
-  pub last : IsReconstrained p i → ⊥
+  pub last : (steps j : ℕ) → walk p.types steps i ≡ Some j → IsReconstrained p j → ⊥
 
 -- l is what the constraints of type i allow, which is something, and these constraints are as required
 pub record IsLimitOf (p : Program) (i : ℕ) (l : Limit) : Type 0 where
@@ -147,10 +147,11 @@ pub record Inherits (p : Program) (i : ℕ) (l : Limit) (k : Kind) : Type 0 wher
   pub extensible : l.extensible ≡ true
       ↔ ((M : Name) × (c : ConstraintTree) × BearsTarget p i M c × (has_marker c ≡ true))
 
--- l is what the constraints of the types that type i leads to allow, and these constraints are as required
+-- l is what the constraints of the types that type i leads to allow, which is something for each of these types, and
+-- these constraints are as required
 pub record IsStartOf (p : Program) (i : ℕ) (l : Limit) : Type 0 where
   pub inherits : (k : Kind) → IsOfKind p.types i k → Inherits p i l k
-  pub good : (j : ℕ) → next p.types i ≡ Some j → IsGood p j
+  pub limited : (j : ℕ) → next p.types i ≡ Some j → (m : Limit) × IsLimitOf p j m
 
 -- type i is a reference to type j or a tag before it, and has no constraints of its own
 pub record IsShared (ts : List Type') (i j : ℕ) : Type 0 where

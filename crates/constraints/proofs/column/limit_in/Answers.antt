@@ -21,7 +21,7 @@ returns-in-Ok-limit_of-clause-found c =
     let o = subst (λ l. Narrows p k M (map constraint_of w.constraints.items) l c.in-Ok.start c.in-Ok-limit_of.limit)
     (sym (length-map w.constraints.items constraint_of)) m in
     limit_is p c.args.ty k M c.home-home.result.name.now (type_of w) c.in-Ok.start c.in-Ok-limit_of.limit c.whole.ensures
-    c.core_at-shape.ensures c.written_at-written.ensures (c.home-home.ensures (type_of w) c.written_at-written.ensures) c.in-Ok.ensures
+    c.core_at-shape.ensures c.written_at-written.ensures.there (c.home-home.ensures (type_of w) c.written_at-written.ensures.there) c.in-Ok.ensures
     (λ x m. all_members (λ y. y < 128) c.in-Ok.start.codes x c.in_order.ensures.below_128 m) o c.in-Ok-limit_of.ensures.found.1
 
 pub returns-in-Err-limit_of-clause-found : goal.returns-in-Err-limit_of-clause-found
@@ -35,7 +35,7 @@ returns-in-Err-limit_of-clause-found c =
     let m = subst (λ xs. IsLimitFault p k M (map constraint_of xs) c.in-Ok.start c.in-Err-limit_of.wrong) c.deref.ensures.value n in
     subst (IsFault p) (sym c.fault_at.ensures)
     (fault_is p c.args.ty k M c.home-home.result.name.now (type_of w) c.in-Ok.start c.in-Err-limit_of.wrong c.whole.ensures
-    c.core_at-shape.ensures c.written_at-written.ensures (c.home-home.ensures (type_of w) c.written_at-written.ensures) c.in-Ok.ensures
+    c.core_at-shape.ensures c.written_at-written.ensures.there (c.home-home.ensures (type_of w) c.written_at-written.ensures.there) c.in-Ok.ensures
     (λ x i. all_members (λ y. y < 128) c.in-Ok.start.codes x c.in_order.ensures.below_128 i) m)
 
 pub returns-in-Err-limit_of-clause-first : goal.returns-in-Err-limit_of-clause-first
@@ -47,14 +47,15 @@ returns-in-Err-limit_of-clause-first c =
     let n = subst (λ q. IsLimitWrong q k M c.deref.result.now c.in-Ok.start w.at c.in-Err-limit_of.wrong)
     (sym c.requires.same) c.in-Err-limit_of.ensures.first in
     let m = subst (λ xs. IsLimitWrong p k M xs c.in-Ok.start w.at c.in-Err-limit_of.wrong) c.deref.ensures.value n in
-    inr (record {
+    let a = c.written_at-written.ensures.written in
+    inr (a.0, a.1, record {
       written = w;
-      there = c.written_at-written.ensures;
+      there = a.2;
       kind = k;
       of_kind = c.core_at-shape.ensures;
       within = M;
       assigns = c.home-home.result.name.now;
-      stands = c.home-home.ensures (type_of w) c.written_at-written.ensures;
+      stands = c.home-home.ensures (type_of w) c.written_at-written.ensures.there;
       start = c.in-Ok.start;
       starts = c.in-Ok.ensures;
       wrong = c.in-Err-limit_of.wrong;

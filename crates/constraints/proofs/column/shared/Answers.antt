@@ -11,7 +11,7 @@ returns-then-is_empty c = λ j e.
     let long : length w.constraints.items ≡ 0 = search rules in
     record {
       type = type_of w;
-      there = c.written_at-written.ensures;
+      there = c.written_at-written.ensures.there;
       none = ap (map constraint_of) (empty_list w.constraints.items long);
-      chain = ap target_of c.written_at-written.ensures ∙ sym c.target.ensures ∙ e;
+      chain = ap target_of c.written_at-written.ensures.there ∙ sym c.target.ensures ∙ e;
     }

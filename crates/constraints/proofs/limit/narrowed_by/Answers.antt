@@ -48,6 +48,7 @@ returns-then-limit-clause-first c =
           (omega (arith, c.loop-constraint-test.true, c.loop-constraint.auto.constraint-index-end)) c.constraint-item.is;
       fault = reconstrained (n.marked.0 c.if-limit.true) refl;
       before = λ i d l e. n.fitting i d l e;
+      unmarked = λ i l h. absurd (n.last i l h);
     }
 
 pub returns-in-Err-clause-first : goal.returns-in-Err-clause-first
@@ -61,6 +62,7 @@ returns-in-Err-clause-first c =
           (omega (arith, c.loop-constraint-test.true, c.loop-constraint.auto.constraint-index-end)) c.constraint-item.is;
       fault = itself (λ h. let e = sym c.if-limit.false ∙ n.marked.1 h in absurd cc) c.in-Err.ensures.wrong;
       before = λ i d l e. n.fitting i d l e;
+      unmarked = λ i l h. absurd (n.last i l h);
     }
 
 pub returns-in-Err-narrowed-clause-first : goal.returns-in-Err-narrowed-clause-first
@@ -74,4 +76,5 @@ returns-in-Err-narrowed-clause-first c =
           (omega (arith, c.loop-constraint-test.true, c.loop-constraint.auto.constraint-index-end)) c.constraint-item.is;
       fault = itself (λ h. let e = sym c.if-limit.false ∙ n.marked.1 h in absurd cc) (memory refl);
       before = λ i d l e. n.fitting i d l e;
+      unmarked = λ i l h. absurd (n.last i l h);
     }
