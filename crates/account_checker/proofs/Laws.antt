@@ -11,7 +11,7 @@ use Rattle.encodings.specs.Rules.{Distinguished}
 use Rattle.encodings.specs.Fewest.{shortest_size, shortest_header}
 use Rattle.encodings.specs.Account.{Numbers, Account, header, Inside, leaf_row, wrap_row, seq_row, seqof_row, set_row, setof_row, Rows, HeaderHasNumbers, Headed, headed_bare, headed_innermost, headed_outer, Describes, describes, ContentsHaveRows, leaf_listed, sequence_listed, set_listed, sequence_of_listed, set_of_listed, choice_listed, MembersHaveRows, no_member_listed, absent_listed, absent_default_listed, default_listed, member_listed, ElementsHaveRows, no_element_listed, element_listed}
 use Rattle.account_checker.specs.Reasons.{to_contents}
-use Rattle.account_checker.specs.Follows.{total_octets, sizes, before, is_built, AreNumbers, BeginsWith, HeaderFollows, SliceAt, Follows, follows, Under, bare, innermost, outer, InsideFollows, leaf_follows, choice_follows, sequence_follows, sequence_of_follows, set_follows, set_of_follows, MembersFollow, none_follows, absent_follows, left_out_follows, default_follows, default_written, member_follows, ElementsFollow, no_element_follows, element_follows}
+use Rattle.account_checker.specs.Follows.{total_octets, sizes, before, is_built, AreNumbers, BeginsWithHeader, HeaderFollows, SliceAt, Follows, follows, Under, bare, innermost, outer, InsideFollows, leaf_follows, choice_follows, sequence_follows, sequence_of_follows, set_follows, set_of_follows, MembersFollow, none_follows, absent_follows, left_out_follows, default_follows, default_written, member_follows, ElementsFollow, no_element_follows, element_follows}
 use Rattle.account_checker.proofs.Headers.{Only}
 use Rattle.account_checker.proofs.Placement.{lens, next_slice, drop_all, one_some, stand_up}
 use Rattle.account_checker.proofs.Members.{take_front, sum_append, append_nil}
@@ -30,7 +30,7 @@ record AfterHeader (t : Tag) (c : Bool) (z : Numbers) (o x : List ℕ) : Type 0 
 
 following : Only → {t : Tag} {c : Bool} {z : Numbers} {o x : List ℕ} → HeaderFollows to_contents t c z o x → length o ≡ z.identifier + z.size + z.contents → AfterHeader t c z o x
 following only {t} {c} {z} {o} {x} h l =
-    let b : BeginsWith t c z.contents o x = h.is_at in
+    let b : BeginsWithHeader t c z.contents o x = h.is_at in
     let n : AreNumbers t c z = h.numbers in
     let e = only t c z.contents b.header b.is_header in
     let f = ap length e ∙ shortest_length t c z.contents in

@@ -17,8 +17,8 @@ use Rattle.encodings.specs.Account.{Numbers, Account, Inside, wrap_row, Rows, He
 use Rattle.account_checker.specs.declared.checks.Checks.{Checks}
 use Rattle.account_checker.specs.declared.reason.Reason.{Reason}
 use Rattle.account_checker.specs.declared.reason.Reason.TheVariants.{NotOfType, Shape, Omitted, Numbers as Numbers', Places, Length, Header, Contents as Contents'}
-use Rattle.account_checker.specs.Reasons.{to_contents, Fails, IsRight}
-use Rattle.account_checker.specs.Follows.{by_place, Checked, Slice, HeaderIsAt, total_octets, sizes, before, is_built, BeginsWith, HeaderFollows, SliceAt, Follows, follows, Under, bare, innermost, outer, InsideFollows, leaf_follows, choice_follows, sequence_follows, sequence_of_follows, set_follows, set_of_follows, MembersFollow, none_follows, absent_follows, left_out_follows, default_follows, default_written, member_follows, ElementsFollow, no_element_follows, element_follows}
+use Rattle.account_checker.specs.Reasons.{to_contents, Fails, IsRightAccount}
+use Rattle.account_checker.specs.Follows.{by_place, Checked, Slice, HeaderIsAt, total_octets, sizes, before, is_built, BeginsWithHeader, HeaderFollows, SliceAt, Follows, follows, Under, bare, innermost, outer, InsideFollows, leaf_follows, choice_follows, sequence_follows, sequence_of_follows, set_follows, set_of_follows, MembersFollow, none_follows, absent_follows, left_out_follows, default_follows, default_written, member_follows, ElementsFollow, no_element_follows, element_follows}
 use Rattle.account_checker.proofs.Headers.{Only}
 use Rattle.account_checker.proofs.Members.{sum_append}
 use Rattle.account_checker.proofs.Laws.{shortest_length, leaf_not_built, Done, one_more, further_one}
@@ -33,7 +33,7 @@ abbrev less : Bool → Bool → Bool → Bool → Checks
 less om nu pl h = record { omitted = om; numbers = nu; places = pl; headers = h; contents = false }
 
 is_at_less : (b : Bool) {t : Tag} {c : Bool} {n : ℕ} {o x : List ℕ} (p : List ℕ) → Checked b (p ≡ o) → HeaderIsAt true t c n o x → (y : List ℕ) × HeaderIsAt b t c n p y × Checked b (y ≡ x)
-is_at_less true {t} {c} {n} {x = x} p e h = (x, subst (λ w. BeginsWith t c n w x) (sym e) h, refl)
+is_at_less true {t} {c} {n} {x = x} p e h = (x, subst (λ w. BeginsWithHeader t c n w x) (sym e) h, refl)
 is_at_less false p e h = (p, refl, tt)
 
 part_less : (b : Bool) {o x : List ℕ} {place n : ℕ} (p : List ℕ) → Checked b (p ≡ o) → Slice true o place n x → (y : List ℕ) × Slice b p place n y × Checked b (y ≡ x)
@@ -220,7 +220,7 @@ right_follows only s t v o a d = follows_of only s d
 
 -- ---- a right account has no reason
 
-pub none_fails : (s : List Resolved) (t : ℕ) (v : AbstractValue) (o : List ℕ) (a : Account) (r : Reason) → IsRight s t v o a → Follows s to_contents t v o a → Fails s t v o a r → ⊥
+pub none_fails : (s : List Resolved) (t : ℕ) (v : AbstractValue) (o : List ℕ) (a : Account) (r : Reason) → IsRightAccount s t v o a → Follows s to_contents t v o a → Fails s t v o a r → ⊥
 none_fails s t v o a NotOfType i d f = f.denied i.value
 none_fails s t v o a Shape i d f = f.denied (weaker s false false false false d tt)
 none_fails s t v o a Omitted i d f = f.denied (weaker s true false false false d tt)

@@ -65,6 +65,7 @@ pub record Fails (s : List Resolved) (t : TypeNumber) (v : AbstractValue) (o : O
   pub first : (e : Reason) → rank e < rank r → Holds s t v o a e
 
 -- v is a value of type t of schema s, and account a describes how octets o encode it: what the checker's yes means
-pub record IsRight (s : List Resolved) (t : TypeNumber) (v : AbstractValue) (o : Octets) (a : Account) : Type 0 where
+pub record IsRightAccount (s : List Resolved) (t : TypeNumber) (v : AbstractValue) (o : Octets) (a : Account)
+    : Type 0 where
   pub value : IsValue s t v
   pub describes : Describes s t v o a

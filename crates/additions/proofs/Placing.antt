@@ -18,7 +18,7 @@ use Rattle.tagging.specs.declared.path.TagForm.{TagForm}
 use Rattle.tagging.specs.Tags.{Label, Path, path_of, label, Tags}
 use Rattle.tagging.specs.First.{First, outermost, is_addition}
 use Rattle.tagging.specs.Tagged.{IsTagged, HaveOneFirst}
-use Rattle.additions.specs.Additions.{IsAdded, IsOfGroup, IsTogether, IsPlaced, IsParted, IsMisplaced, after_addition, LabelBefore, IsInOrder, IsOutOfOrder, Keeps}
+use Rattle.additions.specs.Additions.{IsAdded, IsInGroup, IsTogether, IsPlaced, IsParted, IsMisplaced, after_addition, LabelBefore, IsInOrder, IsTagOutOfOrder, Keeps}
 use Rattle.additions.specs.proving.Checks.{IsChecked, IsSeenBefore, FollowsAddition, ArePlacedBefore, AreTogetherBefore, KeepBefore}
 
 some_one : {X : Type 0} {a b : X} → Some a ≡ Some b → a ≡ b
@@ -77,7 +77,7 @@ is_there n (x ∷ cs) (suc k) c a e = is_there n cs k c (λ m d l. a (suc m) d (
 
 -- ---- version brackets
 
-pub unseen_more : (cs : List Part) (n g : ℕ) (c : Part) → slice_get cs n ≡ Some c → (IsOfGroup g c → ⊥) →
+pub unseen_more : (cs : List Part) (n g : ℕ) (c : Part) → slice_get cs n ≡ Some c → (IsInGroup g c → ⊥) →
     (IsSeenBefore cs n g → ⊥) → IsSeenBefore cs (n + 1) g → ⊥
 unseen_more cs n g c e nay h s = elim (cases_lt s.place n) [
   | inl l ↦ h (record { place = s.place; before = l; member = s.member; there = s.there; of_group = s.of_group })
@@ -85,18 +85,18 @@ unseen_more cs n g c e nay h s = elim (cases_lt s.place n) [
       let b = s.before in
       let q : s.place ≡ n = omega (arith, m, b) in
       let f : s.member ≡ c = some_one (sym s.there ∙ ap (slice_get cs) q ∙ e) in
-      nay (subst (IsOfGroup g) f s.of_group)
+      nay (subst (IsInGroup g) f s.of_group)
       )
 ]
 
-pub seen_here : (cs : List Part) (n k g : ℕ) (c : Part) → k < n → slice_get cs k ≡ Some c → IsOfGroup g c →
+pub seen_here : (cs : List Part) (n k g : ℕ) (c : Part) → k < n → slice_get cs k ≡ Some c → IsInGroup g c →
     IsSeenBefore cs n g
 seen_here cs n k g c l e h = record { place = k; before = l; member = c; there = e; of_group = h }
 
 pub seen_none : (cs : List Part) (g : ℕ) → IsSeenBefore cs 0 g → ⊥
 seen_none cs g s = let b = s.before in absurd (omega (arith, b))
 
-pub together_none : (cs : List Part) (n : ℕ) (c : Part) → ((g : ℕ) → IsOfGroup g c → ⊥) → IsTogether cs n c
+pub together_none : (cs : List Part) (n : ℕ) (c : Part) → ((g : ℕ) → IsInGroup g c → ⊥) → IsTogether cs n c
 together_none cs n c nay = λ l m g d e ll lm a b h i. absurd (nay g i)
 
 pub together_first : (cs : List Part) (n : ℕ) (c : Part) → n ≡ 0 → IsTogether cs n c
@@ -105,28 +105,28 @@ together_first cs n c z = λ l m g d e ll lm a b h i. absurd (omega (arith, z, l
 same_group : (g h : ℕ) (s : Standing) → s ≡ Addition (Some g) → s ≡ Addition (Some h) → g ≡ h
 same_group g h s e f = cc
 
-pub together_next : (cs : List Part) (n g : ℕ) (c b : Part) → slice_get cs (n - 1) ≡ Some b → IsOfGroup g b →
-    IsOfGroup g c → IsTogether cs (n - 1) b → IsTogether cs n c
+pub together_next : (cs : List Part) (n g : ℕ) (c b : Part) → slice_get cs (n - 1) ≡ Some b → IsInGroup g b →
+    IsInGroup g c → IsTogether cs (n - 1) b → IsTogether cs n c
 together_next cs n g c b e hb hc t = λ l m k d x ll lm a f h i.
     let s = same_group g k c.standing hc i in
-    let kb : IsOfGroup k b = subst (λ z. IsOfGroup z b) s hb in
+    let kb : IsInGroup k b = subst (λ z. IsInGroup z b) s hb in
     elim (cases_lt m (n - 1)) [
       | inl q ↦ t l m k d x ll q a f h kb
       | inr q ↦ (
           let p : m ≡ n - 1 = omega (arith, q, lm) in
           let y : b ≡ x = some_one (sym e ∙ ap (slice_get cs) (sym p) ∙ f) in
-          subst (IsOfGroup k) y kb
+          subst (IsInGroup k) y kb
           )
     ]
 
-pub together_unseen : (cs : List Part) (n g : ℕ) (c : Part) → IsOfGroup g c → (IsSeenBefore cs (n - 1) g → ⊥) →
+pub together_unseen : (cs : List Part) (n g : ℕ) (c : Part) → IsInGroup g c → (IsSeenBefore cs (n - 1) g → ⊥) →
     IsTogether cs n c
 together_unseen cs n g c hc nay = λ l m k d x ll lm a f h i.
     let s = same_group k g c.standing i hc in
-    absurd (nay (seen_here cs (n - 1) l g d (omega (arith, ll, lm)) a (subst (λ z. IsOfGroup z d) s h)))
+    absurd (nay (seen_here cs (n - 1) l g d (omega (arith, ll, lm)) a (subst (λ z. IsInGroup z d) s h)))
 
 pub parted : (cs : List Part) (n g : ℕ) (c b : Part) → 0 < n → slice_get cs n ≡ Some c →
-    slice_get cs (n - 1) ≡ Some b → IsOfGroup g c → (IsOfGroup g b → ⊥) → IsSeenBefore cs (n - 1) g → IsParted cs n
+    slice_get cs (n - 1) ≡ Some b → IsInGroup g c → (IsInGroup g b → ⊥) → IsSeenBefore cs (n - 1) g → IsParted cs n
 parted cs n g c b z e f h nay s = record {
   group = g;
   member = c;
@@ -145,11 +145,11 @@ parted cs n g c b z e f h nay s = record {
 }
 
 pub together_same : (cs : List ListMember) (n g : ℕ) (c b : ListMember) → 0 < n → n < length cs → c ≡ get_or cs n c →
-    b ≡ get_or cs (n - 1) b → IsOfGroup g (part_of c) → IsOfGroup g (part_of b) → AreTogetherBefore (map part_of cs) n →
+    b ≡ get_or cs (n - 1) b → IsInGroup g (part_of c) → IsInGroup g (part_of b) → AreTogetherBefore (map part_of cs) n →
     (x : Part) → slice_get (map part_of cs) n ≡ Some x → IsTogether (map part_of cs) n x
 together_same cs n g c b z l ec eb hc hb t x f =
     let there = part_at cs (n - 1) b (omega (arith, z, l)) eb in
-    let hx = subst (IsOfGroup g) (same_part cs n c x l ec f) hc in
+    let hx = subst (IsInGroup g) (same_part cs n c x l ec f) hc in
     together_next (map part_of cs) n g x (part_of b) there hb hx (t (n - 1) (part_of b) (omega (arith, z)) there)
 
 -- ---- places
@@ -275,7 +275,7 @@ in_order_next ts cs n c b t u o h e z eb ab ft fu before = λ m d g f l s a x p 
 
 pub out_of_order : (ts : List Type') (cs : List Part) (n : ℕ) (c : Part) (t u : Label) → slice_get cs n ≡ Some c →
     IsAdded c → (s : FollowsAddition cs n) → First ts s.member.ty t → First ts c.ty u →
-    (LabelBefore t u → ⊥) → IsOutOfOrder ts cs n
+    (LabelBefore t u → ⊥) → IsTagOutOfOrder ts cs n
 out_of_order ts cs n c t u e a s ft fu nay = let p = s.positive in record {
   member = c;
   there = e;

@@ -19,8 +19,8 @@ abbrev pub IsAdded : Part → Type 0
 IsAdded c = is_addition c.standing ≡ true
 
 -- the member of a written list is in version brackets number g of that list
-abbrev pub IsOfGroup : ℕ → Part → Type 0
-IsOfGroup g c = c.standing ≡ Addition (Some g)
+abbrev pub IsInGroup : ℕ → Part → Type 0
+IsInGroup g c = c.standing ≡ Addition (Some g)
 
 -- DEFAULT comes after the type of a component with this presence (X.680, clause 25)
 abbrev pub has_default : PresenceTree → Bool
@@ -42,9 +42,9 @@ IsTogether cs n c = (l m g : ℕ) (d e : Part) →
     m < n →
     slice_get cs l ≡ Some d →
     slice_get cs m ≡ Some e →
-    IsOfGroup g d →
-    IsOfGroup g c →
-    IsOfGroup g e
+    IsInGroup g d →
+    IsInGroup g c →
+    IsInGroup g e
 
 -- member n of the list, c, is at an allowed place
 pub record IsPlaced (marker : Bool) (cs : List Part) (n : ℕ) (c : Part) : Type 0 where
@@ -103,17 +103,17 @@ pub record IsParted (cs : List Part) (n : ℕ) : Type 0 where
   pub group : ℕ
   pub member : Part
   pub there : slice_get cs n ≡ Some member
-  pub of_group : IsOfGroup group member
+  pub of_group : IsInGroup group member
   pub one : ℕ
   pub other : ℕ
   pub in_turn : one < other
   pub before : other < n
   pub within : Part
   pub at_one : slice_get cs one ≡ Some within
-  pub within_group : IsOfGroup group within
+  pub within_group : IsInGroup group within
   pub outside : Part
   pub at_other : slice_get cs other ≡ Some outside
-  pub left : IsOfGroup group outside → ⊥
+  pub left : IsInGroup group outside → ⊥
 
 -- member n of the list is at a place that isn't allowed
 pub data IsMisplaced (marker : Bool) (cs : List Part) (n : ℕ) : Type 0 where
@@ -138,7 +138,7 @@ pub record IsDefaultAddition (cs : List Part) (n : ℕ) : Type 0 where
 
 -- Member n is an addition. One of its first tags doesn't come after a first tag of an earlier addition, in the
 -- canonical order.
-pub record IsOutOfOrder (ts : List Type') (cs : List Part) (n : ℕ) : Type 0 where
+pub record IsTagOutOfOrder (ts : List Type') (cs : List Part) (n : ℕ) : Type 0 where
   pub member : Part
   pub there : slice_get cs n ≡ Some member
   pub added : IsAdded member
@@ -167,7 +167,7 @@ abbrev pub BreaksIn : List Type' → Rule → ListKind → Bool → List Part �
 BreaksIn ts MarkerPlace k marker cs n = IsMisplaced marker cs n
 BreaksIn ts DefaultAddition k marker cs n = IsDefaultAddition cs n × IsPlacedAt marker cs n
 BreaksIn ts AdditionOrder k marker cs n =
-    (k ≡ Choice) × IsOutOfOrder ts cs n × IsPlacedAt marker cs n × HasNoDefaultAt cs n
+    (k ≡ Choice) × IsTagOutOfOrder ts cs n × IsPlacedAt marker cs n × HasNoDefaultAt cs n
 
 -- the number at place n isn't greater than an earlier one
 pub record IsNotAbove (zs : List ℤ) (n : ℕ) : Type 0 where

@@ -6,7 +6,7 @@ ghost use Rattle.type_table.specs.Table.{Part};
 ghost use Rattle.trees.specs.declared.types.ListKind.TheVariants.{Choice};
 ghost use Rattle.tagging.specs.First.{First, is_addition as is_addition'};
 ghost use Rattle.tagging.specs.Tags.{label};
-ghost use Rattle.additions.specs.Additions.{has_default as has_default', IsAdded, IsDefaultAddition, IsOfGroup, IsTogether, IsParted, IsPlaced, IsMisplaced, IsInOrder, IsOutOfOrder, Keeps, BreaksIn};
+ghost use Rattle.additions.specs.Additions.{has_default as has_default', IsAdded, IsDefaultAddition, IsInGroup, IsTogether, IsParted, IsPlaced, IsMisplaced, IsInOrder, IsTagOutOfOrder, Keeps, BreaksIn};
 ghost use Rattle.additions.specs.proving.Checks.{IsListAt, IsChecked, FollowsAddition, IsSeenBefore, AreTogetherBefore, ArePlacedBefore, KeepBefore, BreaksListFirst};
 
 use crate::check::{Broken, Rule};
@@ -40,7 +40,7 @@ fn has_default(component: &ListMember) -> bool
 
 /// Whether a member is in these version brackets of its list.
 fn is_of_group(component: &ListMember, group: usize) -> bool
-    ensures { IsTrue result ↔ IsOfGroup group (part_of component.now) }
+    ensures { IsTrue result ↔ IsInGroup group (part_of component.now) }
 {
     match component.standing {
         Standing::Addition(Some(number)) => number == group,
@@ -51,8 +51,8 @@ fn is_of_group(component: &ListMember, group: usize) -> bool
 /// The number of the version brackets that a member is in, or None if it is in none.
 fn group_of(component: &ListMember) -> Option<usize>
     ensures { MatchOption result
-        ((g : ℕ) → IsOfGroup g (part_of component.now) → ⊥)
-        (λ g. IsOfGroup g (part_of component.now)) }
+        ((g : ℕ) → IsInGroup g (part_of component.now) → ⊥)
+        (λ g. IsInGroup g (part_of component.now)) }
 {
     match component.standing {
         Standing::Addition(group) => group,
@@ -151,7 +151,8 @@ fn is_disordered(
 ) -> Result<bool, AllocError>
     requires there { at < length components.now }
     requires is { IsChecked tagged.now.types Choice (map part_of components.now) at }
-    ensures disordered { IfOk result (λ b. IsTrue b → IsOutOfOrder tagged.now.types (map part_of components.now) at) }
+    ensures disordered { IfOk result (λ b.
+        IsTrue b → IsTagOutOfOrder tagged.now.types (map part_of components.now) at) }
     ensures ordered { IfOk result (λ b. IsFalse b → (c : Part) → slice_get (map part_of components.now) at ≡ Some c →
         IsInOrder tagged.now.types (map part_of components.now) at c) }
 {
@@ -178,7 +179,7 @@ fn breaks_order(
     requires there { at < length components.now }
     requires is { IsChecked tagged.now.types kind (map part_of components.now) at }
     ensures disordered { IfOk result (λ b. IsTrue b →
-        (kind ≡ Choice) × IsOutOfOrder tagged.now.types (map part_of components.now) at) }
+        (kind ≡ Choice) × IsTagOutOfOrder tagged.now.types (map part_of components.now) at) }
     ensures ordered { IfOk result (λ b. IsFalse b → (c : Part) → slice_get (map part_of components.now) at ≡ Some c →
         kind ≡ Choice → IsInOrder tagged.now.types (map part_of components.now) at c) }
 {

@@ -4,7 +4,7 @@ use Rattle.asn_base.specs.Abstract.{AbstractValue}
 use Rattle.asn_base.specs.Same.{Same}
 use Rattle.asn_base.specs.Typed.{IsValue}
 use Rattle.asn_base.specs.Types.{Resolved}
-use Rattle.account_checker.specs.Reasons.{IsRight as IsRightBesideIt}
+use Rattle.account_checker.specs.Reasons.{IsRightAccount as IsRightBesideIt}
 use Rattle.account_checker.specs.declared.reason.Verdict.TheVariants.{Yes}
 use Rattle.encodings.specs.Account.{Account, Describes}
 use Rattle.encodings.specs.Encoding.{Ber, Der, EncodesBy, EncodesTo}

@@ -18,7 +18,7 @@ use Rattle.trees.specs.Values.{Name, Tree}
 use Rattle.resolve.specs.Program.{Program}
 use Rattle.judging.specs.front_end.Accepted.{Accepted}
 use Rattle.judging.specs.front_end.ValueError.{DenotesValue}
-use Rattle.account_checker.specs.Reasons.{IsRight as IsRightBesideIt}
+use Rattle.account_checker.specs.Reasons.{IsRightAccount as IsRightBesideIt}
 use Rattle.judging.specs.named_values.Named.{AreGiven, TypeNamed}
 use Rattle.judging.specs.named_values.Given.{Given}
 

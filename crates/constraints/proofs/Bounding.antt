@@ -18,7 +18,7 @@ use Rattle.type_table.specs.Table.{Type', Kind, simple, walk, next, target_of}
 use Rattle.resolve.specs.Program.{Program}
 use Rattle.range_ends.specs.Ends.{IsOfKind}
 use Rattle.constraints.specs.Constraints.{has_alphabet, has_size}
-use Rattle.constraints.specs.Allowed.{IsCounted, IsInRoot, IsAllowed, AreVisible, AreCharacters, IsConstraintOf, AreCodesOf, LeaveTheSame, HaveOneAlphabet}
+use Rattle.constraints.specs.Allowed.{IsCounted, IsInRoot, IsNumberAllowed, AreVisible, AreCharacters, IsConstraintOf, AreCodesOf, LeaveTheSame, HaveOneAlphabet}
 use Rattle.constraints.specs.Bounded.{AreBounded, HasCharacters}
 use Rattle.constraints.specs.declared.limit.Limit.{Limit}
 use Rattle.constraints.specs.proving.Columns.{AreAllowed, IsLeft, IsLimitOf, AreAllNoted, limit_noted, number_in, number_noted}
@@ -147,13 +147,13 @@ characters_are p k i l h f = absurd cc
 pub allowed_by : (p : Program) (k : Kind) (i : ℕ) (l : Limit) (z : ℤ) →
     IsLeft p k i l →
     IsInSome z l.numbers ⊎ ((l.extensible ≡ true) × IsCounted k z) →
-    IsAllowed p k i z
+    IsNumberAllowed p k i z
 allowed_by p k i l z f (inl m) = inl ((f.numbers z).0 m)
 allowed_by p k i l z f (inr m) = inr (m.1, f.extensible.0 m.0)
 
 pub allowed_back : (p : Program) (k : Kind) (i : ℕ) (l : Limit) (z : ℤ) →
     IsLeft p k i l →
-    IsAllowed p k i z →
+    IsNumberAllowed p k i z →
     IsInSome z l.numbers ⊎ ((l.extensible ≡ true) × IsCounted k z)
 allowed_back p k i l z f (inl m) = inl ((f.numbers z).1 m)
 allowed_back p k i l z f (inr m) = inr (f.extensible.1 m.1, m.0)
@@ -199,9 +199,9 @@ pub left_allows : (p : Program) (i : ℕ) (h : Kind) (l : Limit) (z : ℤ) (A : 
     IsOfKind p.types i h →
     ((k : Kind) → IsOfKind p.types i k → IsLeft p k i l) →
     (A ↔ (IsInSome z l.numbers ⊎ ((l.extensible ≡ true) × IsCounted h z))) →
-    (k : Kind) → IsOfKind p.types i k → (A ↔ IsAllowed p k i z)
+    (k : Kind) → IsOfKind p.types i k → (A ↔ IsNumberAllowed p k i z)
 left_allows p i h l z A u f a k v =
-    subst (λ j. A ↔ IsAllowed p j i z) (kind_once p.types i h k u v)
+    subst (λ j. A ↔ IsNumberAllowed p j i z) (kind_once p.types i h k u v)
     (λ x. allowed_by p h i l z (f h u) (a.0 x), λ x. a.1 (allowed_back p h i l z (f h u) x))
 
 -- ---- what a resolved type keeps
@@ -220,14 +220,14 @@ allows_left : (p : Program) (k : Kind) (i : ℕ) (l : Limit) (o : Option (Vec Ra
     IsLeft p k i l →
     AreAllowed l o →
     IsCounted k z →
-    (Allows (constraint_of (record { allowed = o; visible = b })) z ↔ IsAllowed p k i z)
+    (Allows (constraint_of (record { allowed = o; visible = b })) z ↔ IsNumberAllowed p k i z)
 allows_left p k i l None b z f a c = (λ x. inr (c, f.extensible.0 a), λ x. tt)
 allows_left p k i l (Some v) b z f a c = (
   λ x. inl ((f.numbers z).0 (subst (IsInSome z) a.1 x)),
   λ x. subst (IsInSome z) (sym a.1) (root x),
 )
   where
-    root : IsAllowed p k i z → IsInSome z l.numbers
+    root : IsNumberAllowed p k i z → IsInSome z l.numbers
     root (inl r) = (f.numbers z).1 r
     root (inr r) = let q : false ≡ true = sym a.0 ∙ f.extensible.1 r.1 in absurd cc
 

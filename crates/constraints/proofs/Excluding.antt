@@ -9,8 +9,8 @@ use Rattle.type_table.specs.Table.{Kind}
 use Rattle.resolve.specs.Program.{Program}
 use Rattle.range_ends.specs.Ranges.{IsEnd, IsEndIfAny, IsRange, IsEndOf, HasNoEnd, GoesRound, IsReversed}
 use Rattle.range_ends.specs.Characters.{CharsTree, IsCharacter, IsFit, HasNoCharacter, IsTurned}
-use Rattle.constraints.specs.Constraints.{IsMeant, IsFitting}
-use Rattle.constraints.specs.Bounded.{AreBounded, IsMisfit, IsRound, IsTurnedRound, HasSuch}
+use Rattle.constraints.specs.Constraints.{ConstraintHasMeaning, IsFitting}
+use Rattle.constraints.specs.Bounded.{AreBounded, IsUnfitConstraint, IsRound, IsTurnedRound, HasSuch}
 use Rattle.constraints.specs.Faults.{IsRightFault}
 use Rattle.constraints.specs.declared.fault.BoundFault.{BoundFault}
 use Rattle.constraints.specs.declared.fault.BoundFault.TheVariants.{Memory, Circular, Empty, WrongKind, Reconstrained, LowerAboveUpper, MarkerPlace}
@@ -64,12 +64,12 @@ not_turned (first, Some last) f h =
     let r = h.reversed in
     omega (arith, a, b, o, r)
 
-round_meant : (p : Program) (v : ℕ) (k : Kind) (M : Name) (c : ConstraintTree) → IsMeant p k M c → IsRound p v k M c → ⊥
+round_meant : (p : Program) (v : ℕ) (k : Kind) (M : Name) (c : ConstraintTree) → ConstraintHasMeaning p k M c → IsRound p v k M c → ⊥
 round_meant p v k M (values_in r) m h = none_such _ _ r.ranges (λ x. not_round p k M _ v x) m h
 round_meant p v k M (sizes_in r) m h = none_such _ _ r.ranges (λ x. not_round p k M _ v x) m h
 round_meant p v k M (chars_in xs) m h = h
 
-misfit_meant : (p : Program) (k : Kind) (M : Name) (c : ConstraintTree) → IsFitting p k M c → IsMisfit p k M c → ⊥
+misfit_meant : (p : Program) (k : Kind) (M : Name) (c : ConstraintTree) → IsFitting p k M c → IsUnfitConstraint p k M c → ⊥
 misfit_meant p k M (values_in r) m (inl h) = let q : false ≡ true = sym h ∙ m.takes_it in absurd cc
 misfit_meant p k M (values_in r) m (inr h) = none_such _ _ r.ranges (λ x. not_lost p k M _ x) m.meant h
 misfit_meant p k M (sizes_in r) m (inl h) = let q : false ≡ true = sym h ∙ m.takes_it in absurd cc
@@ -77,7 +77,7 @@ misfit_meant p k M (sizes_in r) m (inr h) = none_such _ _ r.ranges (λ x. not_lo
 misfit_meant p k M (chars_in xs) m (inl h) = let q : false ≡ true = sym h ∙ m.takes_it in absurd cc
 misfit_meant p k M (chars_in xs) m (inr h) = none_such _ _ xs not_no_character m.meant h
 
-turned_meant : (p : Program) (k : Kind) (M : Name) (c : ConstraintTree) → IsMeant p k M c → IsTurnedRound p k M c → ⊥
+turned_meant : (p : Program) (k : Kind) (M : Name) (c : ConstraintTree) → ConstraintHasMeaning p k M c → IsTurnedRound p k M c → ⊥
 turned_meant p k M (values_in r) m h = none_such _ _ r.ranges (λ x. not_reversed p k M _ x) m h
 turned_meant p k M (sizes_in r) m h = none_such _ _ r.ranges (λ x. not_reversed p k M _ x) m h
 turned_meant p k M (chars_in xs) m h = none_such _ _ xs not_turned m h

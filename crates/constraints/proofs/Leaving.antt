@@ -14,14 +14,14 @@ use Rattle.type_table.specs.Table.{Type', Kind, simple, walk, next}
 use Rattle.resolve.specs.Program.{Program, IsAssignment, IsWhole}
 use Rattle.range_ends.specs.Ends.{IsOfKind}
 use Rattle.constraints.specs.Constraints.{IsFitting, AllowsNumber, has_marker, has_alphabet}
-use Rattle.constraints.specs.Allowed.{Bears, IsInRoot, IsInAlphabet, IsExtensible}
+use Rattle.constraints.specs.Allowed.{BearsConstraint, IsInRoot, IsInAlphabet, IsExtensible}
 use Rattle.constraints.specs.Bounded.{IsWritten, IsListed, IsReconstrained, IsEmpty, HasCharacters, IsRound}
 use Rattle.constraints.specs.declared.limit.Limit.{Limit}
 use Rattle.constraints.specs.declared.meaning.Rule.TheVariants as rules
 use Rattle.constraints.specs.declared.meaning.ConstraintFault.{ConstraintFault}
 use Rattle.constraints.specs.declared.meaning.ConstraintFault.TheVariants as wrongs
 use Rattle.constraints.specs.proving.Limits.{IsFirst, IsSame, HasCodes, Narrows, IsMarkedIn, LeavesNone, LeavesSome, IsLimitFault}
-use Rattle.constraints.specs.proving.Columns.{HasAlphabet, IsLeft, IsGood, IsLimitOf, BearsTarget, HasTargetCodes, Inherits, IsStartOf, IsShared, IsFault, fault_of}
+use Rattle.constraints.specs.proving.Columns.{HasAlphabet, IsLeft, HasGoodConstraints, IsLimitOf, BearsTarget, HasTargetCodes, Inherits, IsStartOf, IsShared, IsFault, fault_of}
 use Rattle.constraints.proofs.Trails.{kind_once, target_kind}
 
 some_same : {X : Type 0} (x y : X) → Some x ≡ Some y → x ≡ y
@@ -80,18 +80,18 @@ cases_by p i M c zero b t x f g h k =
     inl (record { type = t; assigns = x; there = ap (slice_get p.types) q ∙ g; written = h; stands = k })
 cases_by p i M c (suc s) b t x f g h k = inr (cases_on p i M c s (next p.types i) b t x refl f g h k)
 
-bears_cases : (p : Program) (i : ℕ) (M : Name) (c : ConstraintTree) → Bears p i M c → Own p i M c ⊎ BearsTarget p i M c
+bears_cases : (p : Program) (i : ℕ) (M : Name) (c : ConstraintTree) → BearsConstraint p i M c → Own p i M c ⊎ BearsTarget p i M c
 bears_cases p i M c b = cases_by p i M c b.steps b.target b.type b.assigns b.chain b.there b.written b.stands
 
 bears_own : (p : Program) (i : ℕ) (M x : Name) (c : ConstraintTree) (t : Type') (n : ℕ) →
     slice_get p.types i ≡ Some t →
     slice_get t.constraints n ≡ Some c →
     IsAssignment p t.assignment M x →
-    Bears p i M c
+    BearsConstraint p i M c
 bears_own p i M x c t n e f g =
     record { steps = 0; target = i; type = t; assigns = x; chain = refl; there = e; written = (n, f); stands = g }
 
-bears_target : (p : Program) (i : ℕ) (M : Name) (c : ConstraintTree) → BearsTarget p i M c → Bears p i M c
+bears_target : (p : Program) (i : ℕ) (M : Name) (c : ConstraintTree) → BearsTarget p i M c → BearsConstraint p i M c
 bears_target p i M c b = record {
   steps = suc b.bears.steps;
   target = b.bears.target;
@@ -333,7 +333,7 @@ module _ (p : Program) (i : ℕ) (k : Kind) (M x : Name) (t : Type') (start l : 
       marked_here (subst (IsReconstrained p) (sym q) r)
   marked (suc s) j f r = marked_on s j (next p.types i) refl f r
 
-  good_by : IsGood p i
+  good_by : HasGoodConstraints p i
   good_by = record { fitting = fits; last = marked }
 
 pub limit_is : (p : Program) (i : ℕ) (k : Kind) (M x : Name) (t : Type') (start l : Limit) →
@@ -513,10 +513,10 @@ first_start p i t l here e f = record {
   limited = λ j g. (let q : None ≡ Some j = sym e ∙ g in absurd cc);
 }
 
-target_is : (p : Program) (i j : ℕ) (M : Name) (c : ConstraintTree) → next p.types i ≡ Some j → BearsTarget p i M c → Bears p j M c
-target_is p i j M c e b = subst (λ m. Bears p m M c) (some_same b.target j (sym b.chain ∙ e)) b.bears
+target_is : (p : Program) (i j : ℕ) (M : Name) (c : ConstraintTree) → next p.types i ≡ Some j → BearsTarget p i M c → BearsConstraint p j M c
+target_is p i j M c e b = subst (λ m. BearsConstraint p m M c) (some_same b.target j (sym b.chain ∙ e)) b.bears
 
-target_of : (p : Program) (i j : ℕ) (M : Name) (c : ConstraintTree) → next p.types i ≡ Some j → Bears p j M c → BearsTarget p i M c
+target_of : (p : Program) (i j : ℕ) (M : Name) (c : ConstraintTree) → next p.types i ≡ Some j → BearsConstraint p j M c → BearsTarget p i M c
 target_of p i j M c e b = record { target = j; chain = e; bears = b }
 
 target_codes : (p : Program) (i j : ℕ) (k : Kind) (cs : List ℕ) →
@@ -573,13 +573,13 @@ no_own p i j M c s o =
     let f : slice_get [] e.0 ≡ Some c = subst (λ cs. slice_get cs e.0 ≡ Some c) s.none e.1 in
     absurd cc
 
-shared_target : (p : Program) (i j : ℕ) (M : Name) (c : ConstraintTree) → IsShared p.types i j → Bears p i M c → Bears p j M c
+shared_target : (p : Program) (i j : ℕ) (M : Name) (c : ConstraintTree) → IsShared p.types i j → BearsConstraint p i M c → BearsConstraint p j M c
 shared_target p i j M c s b = elim (bears_cases p i M c b) [
   | inl o ↦ absurd (no_own p i j M c s o)
   | inr o ↦ target_is p i j M c s.chain o
 ]
 
-shared_before : (p : Program) (i j : ℕ) (M : Name) (c : ConstraintTree) → IsShared p.types i j → Bears p j M c → Bears p i M c
+shared_before : (p : Program) (i j : ℕ) (M : Name) (c : ConstraintTree) → IsShared p.types i j → BearsConstraint p j M c → BearsConstraint p i M c
 shared_before p i j M c s b = bears_target p i M c (target_of p i j M c s.chain b)
 
 shared_codes : (p : Program) (i j : ℕ) (k : Kind) (cs : List ℕ) → IsShared p.types i j → HasAlphabet p k j cs → HasAlphabet p k i cs
@@ -616,7 +616,7 @@ not_listed p i j n c t s e f =
     absurd cc
 
 shared_on : (p : Program) (i j s b n : ℕ) (o : Option ℕ) (h : Kind) (N : Name) (c : ConstraintTree) →
-    IsGood p j →
+    HasGoodConstraints p j →
     o ≡ Some j →
     onward o (λ m. follow (next p.types) s m) ≡ Some b →
     IsWritten p b n h N c →
@@ -628,7 +628,7 @@ shared_on p i j s b n (Some m) h N c g e f u =
 
 shared_fits : (p : Program) (i j s b n : ℕ) (h : Kind) (N : Name) (c : ConstraintTree) →
     IsShared p.types i j →
-    IsGood p j →
+    HasGoodConstraints p j →
     walk p.types s i ≡ Some b →
     IsWritten p b n h N c →
     IsFitting p h N c
@@ -638,7 +638,7 @@ shared_fits p i j zero b n h N c s g f u =
 shared_fits p i j (suc a) b n h N c s g f u = shared_on p i j a b n (next p.types i) h N c g s.chain f u
 
 shared_last_on : (p : Program) (j s b : ℕ) (o : Option ℕ) →
-    IsGood p j →
+    HasGoodConstraints p j →
     o ≡ Some j →
     onward o (λ m. follow (next p.types) s m) ≡ Some b →
     IsReconstrained p b →
@@ -650,7 +650,7 @@ shared_last_on p j s b (Some m) g e f r =
 
 shared_last : (p : Program) (i j s b : ℕ) →
     IsShared p.types i j →
-    IsGood p j →
+    HasGoodConstraints p j →
     walk p.types s i ≡ Some b →
     IsReconstrained p b →
     ⊥

@@ -20,10 +20,10 @@ use Rattle.resolve.specs.Program.{Program, IsAssignment, IsWhole}
 use Rattle.tagging.specs.Faults.{IsWrittenIn}
 use Rattle.range_ends.specs.Ends.{IsOfKind}
 use Rattle.range_ends.specs.First.{HaveOneMeaning}
-use Rattle.constraints.specs.Allowed.{Bears}
+use Rattle.constraints.specs.Allowed.{BearsConstraint}
 use Rattle.constraints.specs.Bounded.{HasCharacters}
 use Rattle.constraints.specs.Constraints.{has_alphabet}
-use Rattle.constraints.specs.First.{IsLimitWrong, of_one, empty, IsTypeFault, IsFirstFault, IsFirstAt, IsFirstCircle, AreWritten, IsFirst, IsAlike, IsSameSpot, ReportsFirst, ReportsSame, ReportsAlike}
+use Rattle.constraints.specs.First.{IsLimitWrong, of_one, empty, IsTypeFault, IsFirstFault, IsFirstAt, IsFirstCircularEnd, AreWritten, IsFirst, IsAlike, IsSameSpot, ReportsFirst, ReportsSame, ReportsAlike}
 use Rattle.constraints.specs.declared.column.Fault.{Fault}
 use Rattle.constraints.specs.declared.column.Fault.TheVariants as faults
 use Rattle.constraints.specs.declared.fault.BoundFault.{BoundFault}
@@ -45,7 +45,7 @@ use Rattle.constraints.proofs.Trails.{kind_once}
 -- ---- what a type that leads to another has of it
 
 module _ (p : Program) (s i o : ℕ) (way : walk p.types s i ≡ Some o) where
-  bears_from : (M : Name) (c : ConstraintTree) → Bears p o M c → Bears p i M c
+  bears_from : (M : Name) (c : ConstraintTree) → BearsConstraint p o M c → BearsConstraint p i M c
   bears_from M c b = record {
     steps = s + b.steps;
     target = b.target;
@@ -289,7 +289,7 @@ module _ (p : Program) (single : HaveOneMeaning p) (one : OneWrong) (none : NoWr
         | inr e ↦ absurd e
       ]
 
-  not_round : (r : Rule) (s t : SourceLocation) → IsFirstAt p ws r s → IsFirstCircle p ws gs t → ⊥
+  not_round : (r : Rule) (s t : SourceLocation) → IsFirstAt p ws r s → IsFirstCircularEnd p ws gs t → ⊥
   not_round r s t a b =
       elim (one_first (faults.At r a.ty s.at) (faults.Circular b.number) (λ e. absurd cc) (λ e. absurd cc) a.first b.first) [
         | inl e ↦ absurd cc
@@ -374,7 +374,7 @@ module _ (p : Program) (single : HaveOneMeaning p) (one : OneWrong) (none : NoWr
   HasAt r s = (ws : List TypeNode) × (gs : List AssignedAt) × AreWritten p ws gs × IsFirstAt p ws r s
 
   abbrev HasCircle : SourceLocation → Type 0
-  HasCircle s = (ws : List TypeNode) × (gs : List AssignedAt) × AreWritten p ws gs × IsFirstCircle p ws gs s
+  HasCircle s = (ws : List TypeNode) × (gs : List AssignedAt) × AreWritten p ws gs × IsFirstCircularEnd p ws gs s
 
   any_alike : (r q : Rule) (s t : SourceLocation) → HasAt r s → HasAt q t → (r ≡ q) × IsAlike s t
   any_alike r q s t (ws, gs, w, a) (vs, hs, v, b) =

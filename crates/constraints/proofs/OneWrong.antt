@@ -22,7 +22,7 @@ use Rattle.range_ends.specs.declared.ranges.Counted.{Counted}
 use Rattle.range_ends.specs.declared.ranges.Counted.TheVariants.{Numbers, Sizes}
 use Rattle.range_ends.specs.declared.ranges.RangeFault.{RangeFault}
 use Rattle.range_ends.specs.declared.ranges.RangeFault.TheVariants as ranges
-use Rattle.constraints.specs.Constraints.{is_marked, IsMeant, IsFitting}
+use Rattle.constraints.specs.Constraints.{is_marked, ConstraintHasMeaning, IsFitting}
 use Rattle.constraints.specs.First.{AreEndsWrong, IsCharsWrong, IsFirstChars, wrong_of, wrong_chars, IsConstraintWrong, memory, not_taken, misplaced, in_numbers, in_sizes, in_characters, IsAfterMarker, IsNextWrong, reconstrained, itself, IsFirstConstraint, IsLimitWrong, of_one, empty}
 use Rattle.constraints.specs.declared.characters.CharsFault.{CharsFault}
 use Rattle.constraints.specs.declared.characters.CharsFault.TheVariants as chars
@@ -132,13 +132,13 @@ module _ (p : Program) (single : HaveOneMeaning p) (one : OneWrong) (none : NoWr
   no_constraint k M c w n (not_taken t e) f = not_both f.takes_it t
   no_constraint k M c w n (misplaced t m e) f = not_both f.marked m
   no_constraint k M c w n (in_numbers r g t m e x q) f =
-      none p k M Numbers r.ranges.items g x (subst (λ y. IsMeant p k M (form_of y)) e f.meant)
+      none p k M Numbers r.ranges.items g x (subst (λ y. ConstraintHasMeaning p k M (form_of y)) e f.meant)
   no_constraint k M c w n (in_sizes r g t m e x q) f =
-      none p k M Sizes r.ranges.items g x (subst (λ y. IsMeant p k M (form_of y)) e f.meant)
+      none p k M Sizes r.ranges.items g x (subst (λ y. ConstraintHasMeaning p k M (form_of y)) e f.meant)
   no_constraint k M c w n (in_characters cs g t e x q) f =
       no_chars x.range g x.fault
       (all_at IsFit (map chars_of cs.items) x.number (chars_of x.range)
-      (subst (λ y. IsMeant p k M (form_of y)) e f.meant)
+      (subst (λ y. ConstraintHasMeaning p k M (form_of y)) e f.meant)
       (seen chars_of cs.items x.number x.range x.there))
 
   one_of_ranges : (k : Kind) (M : Name) (of : Counted) (r s : RangesSyntax) (f g : RangeFault) (v w : ConstraintFault) →

@@ -18,7 +18,7 @@ use Rattle.range_ends.specs.declared.ranges.RangesFault.TheVariants as wrong
 use Rattle.range_ends.specs.declared.ranges.RangeFault.TheVariants as faults
 use Rattle.constraints.specs.Constraints.{takes, is_integer, has_size, is_marked}
 use Rattle.constraints.specs.Allowed.{IsCounted}
-use Rattle.constraints.specs.Bounded.{IsMisfit, IsTurnedRound}
+use Rattle.constraints.specs.Bounded.{IsUnfitConstraint, IsTurnedRound}
 use Rattle.constraints.specs.proving.Meanings.{ranged, AreNumbersOf, IsMeaningOf}
 use Rattle.constraints.specs.proving.Characters.{AreCharsWrong}
 use Rattle.constraints.specs.declared.characters.CharsFault.TheVariants as chars_faults
@@ -43,7 +43,7 @@ turned p k M Sizes r at (x, i, w) = (x, i, w)
 
 pub misfit : (p : Program) (k : Kind) (M : Name) (of : Counted) (r : RangesTree) (at : ℕ) →
     AreRangesWrong p k M of r.ranges (wrong.At (faults.NoEnd at)) →
-    IsMisfit p k M (ranged of r)
+    IsUnfitConstraint p k M (ranged of r)
 misfit p k M Numbers r at (x, i, w) = inr (x, i, w)
 misfit p k M Sizes r at (x, i, w) = inr (x, i, w)
 
@@ -127,5 +127,5 @@ chars_meaning p k M xs cs m t a s e f g = record {
 
 pub chars_misfit : (p : Program) (k : Kind) (M : Name) (xs : List CharsTree) (at : ℕ) →
     AreCharsWrong xs (chars_faults.NoCharacter at) →
-    IsMisfit p k M (chars_in xs)
+    IsUnfitConstraint p k M (chars_in xs)
 chars_misfit p k M xs at (x, i, w) = inr (x, i, w)

@@ -17,7 +17,7 @@ use Rattle.constraints.specs.Constraints.{AllowsNumber, AllowsCharacter, has_mar
 
 -- Type i has constraint c, which is read in module M: it is written on the type, or on one that the type's references
 -- and tags lead to.
-pub record Bears (p : Program) (i : ℕ) (M : Name) (c : ConstraintTree) : Type 0 where
+pub record BearsConstraint (p : Program) (i : ℕ) (M : Name) (c : ConstraintTree) : Type 0 where
   -- how many references and tags lead from type i to the type on which the constraint is written
   pub steps : ℕ
   -- the number of that type
@@ -39,24 +39,24 @@ IsCounted k z = IsSize z
 pub record IsInRoot (p : Program) (k : Kind) (i : ℕ) (z : ℤ) : Type 0 where
   -- z is a number that an INTEGER may have, or a size, which is not negative
   pub counted : IsCounted k z
-  pub allowed : (M : Name) (c : ConstraintTree) → Bears p i M c → AllowsNumber p k M c z
+  pub allowed : (M : Name) (c : ConstraintTree) → BearsConstraint p i M c → AllowsNumber p k M c z
 
 -- a constraint of type i has an extension marker
 pub record IsExtensible (p : Program) (i : ℕ) : Type 0 where
   pub within : Name
   pub constraint : ConstraintTree
-  pub bears : Bears p i within constraint
+  pub bears : BearsConstraint p i within constraint
   pub marked : has_marker constraint ≡ true
 
 -- number or size z is allowed by the written constraints of type i, whose kind is k: it is in the root, or there is an
 -- extension marker
-abbrev pub IsAllowed : Program → Kind → ℕ → ℤ → Type 0
-IsAllowed p k i z = IsInRoot p k i z ⊎ (IsCounted k z × IsExtensible p i)
+abbrev pub IsNumberAllowed : Program → Kind → ℕ → ℤ → Type 0
+IsNumberAllowed p k i z = IsInRoot p k i z ⊎ (IsCounted k z × IsExtensible p i)
 
 -- The character with code c is allowed in string type i, whose characters are those of s: each constraint allows it.
 pub record IsInAlphabet (p : Program) (s : StringKind) (i : ℕ) (c : ℕ) : Type 0 where
   pub character : IsTrue (is_character s c)
-  pub allowed : (M : Name) (t : ConstraintTree) → Bears p i M t → AllowsCharacter t c
+  pub allowed : (M : Name) (t : ConstraintTree) → BearsConstraint p i M t → AllowsCharacter t c
 
 -- The bounds of the numbers or sizes of type i that the packed encoding uses: the least and the greatest of the root,
 -- and whether there is an extension marker.
@@ -78,7 +78,7 @@ pub record IsConstraintOf (p : Program) (k : Kind) (i : ℕ) (c : Constraint) : 
   -- of a type that takes SIZE, they agree as sizes
   pub sizes : has_size k ≡ true → AreBounds IsSize c
   -- it allows the same numbers or sizes as the written constraints
-  pub allowed : (z : ℤ) → IsCounted k z → (Allows c z ↔ IsAllowed p k i z)
+  pub allowed : (z : ℤ) → IsCounted k z → (Allows c z ↔ IsNumberAllowed p k i z)
   -- the visible bounds are those of the root, and extensible if a written constraint is
   pub visible : AreVisible p k i c.visible
 

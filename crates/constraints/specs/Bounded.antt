@@ -79,10 +79,10 @@ abbrev pub HasSuch : {A : Type 0} → List A → (A → Type 0) → Type 0
 HasSuch {A} xs P = (x : A) × OccursIn xs x × P x
 
 -- the type doesn't take the constraint, or an end in it isn't a number, a size or a single character
-abbrev pub IsMisfit : Program → Kind → Name → ConstraintTree → Type 0
-IsMisfit p k M (values_in r) = (takes k (values_in r) ≡ false) ⊎ HasSuch r.ranges (HasNoEnd p k M IsNumber)
-IsMisfit p k M (sizes_in r) = (takes k (sizes_in r) ≡ false) ⊎ HasSuch r.ranges (HasNoEnd p k M IsSize)
-IsMisfit p k M (chars_in xs) = (takes k (chars_in xs) ≡ false) ⊎ HasSuch xs HasNoCharacter
+abbrev pub IsUnfitConstraint : Program → Kind → Name → ConstraintTree → Type 0
+IsUnfitConstraint p k M (values_in r) = (takes k (values_in r) ≡ false) ⊎ HasSuch r.ranges (HasNoEnd p k M IsNumber)
+IsUnfitConstraint p k M (sizes_in r) = (takes k (sizes_in r) ≡ false) ⊎ HasSuch r.ranges (HasNoEnd p k M IsSize)
+IsUnfitConstraint p k M (chars_in xs) = (takes k (chars_in xs) ≡ false) ⊎ HasSuch xs HasNoCharacter
 
 -- an end in the constraint leads to value v, which leads back to itself
 abbrev pub IsRound : Program → ℕ → Kind → Name → ConstraintTree → Type 0
@@ -97,8 +97,8 @@ IsTurnedRound p k M (sizes_in r) = HasSuch r.ranges (IsReversed p k M IsSize)
 IsTurnedRound p k M (chars_in xs) = HasSuch xs IsTurned
 
 -- the constraint has an extension marker at a place that is not allowed (own rule)
-abbrev pub IsMisplaced : Kind → Name → ConstraintTree → Type 0
-IsMisplaced k M c = is_marked k c ≡ false
+abbrev pub HasMisplacedMarker : Kind → Name → ConstraintTree → Type 0
+HasMisplacedMarker k M c = is_marked k c ≡ false
 
 -- All constraints of type i, and of the types that its references and tags lead to, have a meaning. Together they allow
 -- no number, no size or no character.

@@ -75,15 +75,15 @@ is_marked k c = not (has_marker c) || (may_extend k && is_alone c)
 
 -- the constraint has a meaning: ends are numbers, in SIZE sizes, and in FROM single characters; no range has its lower
 -- end above its upper one
-abbrev pub IsMeant : Program → Kind → Name → ConstraintTree → Type 0
-IsMeant p k M (values_in r) = AreRanges p k M IsNumber r.ranges
-IsMeant p k M (sizes_in r) = AreRanges p k M IsSize r.ranges
-IsMeant p k M (chars_in xs) = AreFit xs
+abbrev pub ConstraintHasMeaning : Program → Kind → Name → ConstraintTree → Type 0
+ConstraintHasMeaning p k M (values_in r) = AreRanges p k M IsNumber r.ranges
+ConstraintHasMeaning p k M (sizes_in r) = AreRanges p k M IsSize r.ranges
+ConstraintHasMeaning p k M (chars_in xs) = AreFit xs
 
 -- the type takes the constraint, which has a meaning
 pub record IsFitting (p : Program) (k : Kind) (M : Name) (c : ConstraintTree) : Type 0 where
   pub takes_it : takes k c ≡ true
-  pub meant : IsMeant p k M c
+  pub meant : ConstraintHasMeaning p k M c
   pub marked : is_marked k c ≡ true
 
 -- the constraint without its marker allows number z, or a value of z bits, octets, characters or elements

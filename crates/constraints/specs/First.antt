@@ -188,7 +188,8 @@ pub record IsFirstAt (p : Program) (ws : List TypeNode) (r : Rule) (s : SourceLo
 
 -- The first fault is that an end leads to a value which leads back to itself. It is reported at the place where that
 -- value gets its name.
-pub record IsFirstCircle (p : Program) (ws : List TypeNode) (gs : List AssignedAt) (s : SourceLocation) : Type 0 where
+pub record IsFirstCircularEnd (p : Program) (ws : List TypeNode) (gs : List AssignedAt) (s : SourceLocation)
+    : Type 0 where
   pub number : ℕ
   pub first : IsFirstFault p ws (faults.Circular number)
   pub value : Value
@@ -206,7 +207,7 @@ pub record AreWritten (p : Program) (ws : List TypeNode) (gs : List AssignedAt) 
 -- this fault is the first of a program whose types and assignments are written so; `Memory` says nothing
 abbrev pub IsFirst : Program → List TypeNode → List AssignedAt → BoundFault → Type 0
 IsFirst p ws gs reported.Memory = Unit {0}
-IsFirst p ws gs (reported.Circular s) = IsFirstCircle p ws gs s
+IsFirst p ws gs (reported.Circular s) = IsFirstCircularEnd p ws gs s
 IsFirst p ws gs (reported.Empty s) = IsFirstAt p ws rules.Empty s
 IsFirst p ws gs (reported.WrongKind s) = IsFirstAt p ws rules.WrongKind s
 IsFirst p ws gs (reported.Reconstrained s) = IsFirstAt p ws rules.Reconstrained s

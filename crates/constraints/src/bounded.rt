@@ -10,7 +10,7 @@ ghost use Rattle.type_table.specs.Seen.{kind_of};
 ghost use Rattle.type_table.specs.Table.{Kind, simple};
 ghost use Rattle.range_ends.specs.Ends.{IsOfKind};
 ghost use Rattle.constraints.specs.Constraints.{is_integer as is_integer', has_alphabet as has_alphabet', has_visible_size as has_visible_size'};
-ghost use Rattle.constraints.specs.Allowed.{IsAllowed, IsCounted, IsInAlphabet, AreVisible, AreCharacters, LeaveTheSame};
+ghost use Rattle.constraints.specs.Allowed.{IsNumberAllowed, IsCounted, IsInAlphabet, AreVisible, AreCharacters, LeaveTheSame};
 ghost use Rattle.constraints.specs.Bounded.{AreBounded};
 ghost use Rattle.constraints.specs.Tables.{AreBoundsOf};
 ghost use Rattle.constraints.specs.Faults.{IsRightFault};
@@ -280,7 +280,7 @@ pub fn alphabet(bounded: &Bounded<'_>, ty: TypeId) -> Option<Codes>
 pub fn allows_number(bounded: &Bounded<'_>, ty: TypeId, number: i128) -> bool
     requires { ty.index < length bounded.now.types }
     ensures { (k : Kind) → IsOfKind bounded.now.types ty.index k →
-        (IsTrue result ↔ IsAllowed bounded.now k ty.index number) }
+        (IsTrue result ↔ IsNumberAllowed bounded.now k ty.index number) }
 {
     match bounded.limit(ty.index) {
         None => false,
@@ -293,7 +293,7 @@ pub fn allows_number(bounded: &Bounded<'_>, ty: TypeId, number: i128) -> bool
 pub fn allows_size(bounded: &Bounded<'_>, ty: TypeId, size: usize) -> bool
     requires { ty.index < length bounded.now.types }
     ensures { (k : Kind) → IsOfKind bounded.now.types ty.index k →
-        (IsTrue result ↔ IsAllowed bounded.now k ty.index (pos size)) }
+        (IsTrue result ↔ IsNumberAllowed bounded.now k ty.index (pos size)) }
 {
     allows_number(bounded, ty, size as i128)
 }

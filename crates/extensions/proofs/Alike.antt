@@ -16,7 +16,7 @@ use Rattle.type_table.specs.Table.{Type', Kind, simple, IsUnderlying}
 use Rattle.resolve.specs.Program.{Program}
 use Rattle.range_ends.specs.Ends.{IsOfKind}
 use Rattle.tagging.specs.Tags.{Path, Tags, label}
-use Rattle.constraints.specs.Allowed.{IsAllowed, IsInRoot, IsInAlphabet, IsExtensible, IsCounted, AreVisible, IsConstraintOf, AreCodesOf, LeaveTheSame, HaveOneAlphabet}
+use Rattle.constraints.specs.Allowed.{IsNumberAllowed, IsInRoot, IsInAlphabet, IsExtensible, IsCounted, AreVisible, IsConstraintOf, AreCodesOf, LeaveTheSame, HaveOneAlphabet}
 use Rattle.settled.specs.values.Allowing.{Allows, AllowsCode}
 use Rattle.settled.specs.schema_of.SchemaOf.{IsKindOf, IsTypeOf, AllowsNumbersOf, AllowsSizesOf}
 use Rattle.settled.specs.schema_of.SchemaOf as schema_of
@@ -54,7 +54,7 @@ kind_too {p} {i} {j} a u = record {
 
 -- ---- what is allowed
 
-allowed_too : {p : Program} {k : Kind} {i j : ℕ} {z : ℤ} → LeaveTheSame p k i j → IsAllowed p k i z → IsAllowed p k j z
+allowed_too : {p : Program} {k : Kind} {i j : ℕ} {z : ℤ} → LeaveTheSame p k i j → IsNumberAllowed p k i z → IsNumberAllowed p k j z
 allowed_too {z = z} s (inl r) = inl ((s.root z).0 r)
 allowed_too s (inr r) = inr (r.0, s.extensible.0 r.1)
 

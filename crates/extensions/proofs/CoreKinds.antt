@@ -14,10 +14,10 @@ use Rattle.type_table.specs.Walks.{follow, onward}
 use Rattle.type_table.specs.Table.{Type', Kind, simple, elements, IsUnderlying, next}
 use Rattle.resolve.specs.Program.{Program}
 use Rattle.range_ends.specs.Ends.{IsOfKind}
-use Rattle.constraints.specs.Allowed.{IsAllowed, IsInAlphabet, IsCounted, IsConstraintOf, AreCodesOf}
+use Rattle.constraints.specs.Allowed.{IsNumberAllowed, IsInAlphabet, IsCounted, IsConstraintOf, AreCodesOf}
 use Rattle.settled.specs.values.Allowing.{Allows, AllowsCode}
 use Rattle.settled.specs.schema_of.SchemaOf as schema_of
-use Rattle.settled.specs.schema_of.SchemaOf.{named_bit}
+use Rattle.settled.specs.schema_of.SchemaOf.{schema_bit}
 use Rattle.extensions.specs.proving.Cores.{IsCoreOf}
 
 -- ---- one kind
@@ -58,7 +58,7 @@ allowed_by : (p : Program) (i : ℕ) (k : Kind) (c : Constraint) (z : ℤ)
     → (typed.IsAllowed c z ↔ Allows p i z)
 allowed_by p i k c z is h counted =
     let both = h.allowed z counted in
-    (λ a l o. subst (λ x. IsAllowed p x i z) (one_kind p.types i k l is o) (both.0 a), λ a. both.1 (a k is))
+    (λ a l o. subst (λ x. IsNumberAllowed p x i z) (one_kind p.types i k l is o) (both.0 a), λ a. both.1 (a k is))
 
 abbrev string_of : Kind → Option StringKind
 string_of (simple (a_restricted_string s)) = Some s
@@ -102,7 +102,7 @@ bits_core p i M (b ∷ bs) c e is h = absurd cc
 
 pub named_core : (p : Program) (i : ℕ) (M : Name) (bs : List (Name × ℕ)) (ns : List NamedBit)
     → (bs ≡ [] → ⊥)
-    → ns ≡ map named_bit bs
+    → ns ≡ map schema_bit bs
     → IsCoreOf p i M (simple (a_bit_string bs)) (types.a_named_bit_string ns)
 named_core p i M [] ns some e = absurd (some refl)
 named_core p i M (b ∷ bs) ns some e = record { kind = schema_of.named_bits e; constrained = tt; items = tt }

@@ -7,7 +7,7 @@ ghost use Rattle.trees.specs.Values.{Name};
 ghost use Rattle.type_table.specs.Lists.{IsSoundPlain};
 ghost use Rattle.type_table.specs.Table.{simple as simple'};
 ghost use Rattle.range_ends.specs.Ends.{IsOfKind};
-ghost use Rattle.settled.specs.schema_of.SchemaOf.{named_bit as named_bit'};
+ghost use Rattle.settled.specs.schema_of.SchemaOf.{schema_bit as named_bit'};
 ghost use Rattle.extensions.specs.proving.Cores.{IsCoreOf};
 
 use crate::items::enumeration;

@@ -3,7 +3,7 @@ use Rattle.std.proofs.Common.{◌≡◌, ◌↔◌, ℕ, List, refl, sym, ap, su
 use Rattle.asn_base.specs.Abstract.{AbstractValue}
 use Rattle.asn_base.specs.Types.{Resolved}
 use Rattle.encodings.specs.Account.{Account}
-use Rattle.account_checker.specs.Reasons.{Fails, IsRight}
+use Rattle.account_checker.specs.Reasons.{Fails, IsRightAccount}
 use Rattle.account_checker.specs.declared.reason.Reason.{Reason}
 use Rattle.account_checker.specs.declared.reason.Verdict.{Verdict}
 use Rattle.account_checker.specs.declared.reason.Verdict.TheVariants.{Yes, No}
@@ -15,7 +15,7 @@ use Rattle.judging.specs.Judged.{IsVerdict, IsVerdictOn}
 use Rattle.named_values.specs.Given.{Given}
 
 pub verdict_is : (s : List Resolved) (t : ℕ) (v : AbstractValue) (o : List ℕ) (a : Account) (r : Verdict)
-    → (r ≡ Yes ↔ IsRight s t v o a)
+    → (r ≡ Yes ↔ IsRightAccount s t v o a)
     → ((e : Reason) → (r ≡ No e ↔ Fails s t v o a e))
     → IsVerdict s t v o a r
 verdict_is s t v o a Yes y n = y.0 refl
@@ -29,7 +29,7 @@ OneReason = (s : List Resolved) (t : ℕ) (v : AbstractValue) (o : List ℕ) (a 
 
 abbrev pub NoReason : Type 0
 NoReason = (s : List Resolved) (t : ℕ) (v : AbstractValue) (o : List ℕ) (a : Account) (r : Reason)
-    → IsRight s t v o a → Fails s t v o a r → ⊥
+    → IsRightAccount s t v o a → Fails s t v o a r → ⊥
 
 abbrev pub OneAccount : Type 0
 OneAccount = (text : List ℕ) (a b : Account) → IsTextOf text a → IsTextOf text b → a ≡ b

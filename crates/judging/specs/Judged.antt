@@ -7,7 +7,7 @@ use Rattle.asn_base.specs.Types.{Resolved}
 use Rattle.encodings.specs.Account.{Account}
 use Rattle.encodings.specs.Encoding.{EncodesBy, Shortest}
 use Rattle.encodings.specs.Rules.{Unsorted}
-use Rattle.account_checker.specs.Reasons.{Fails, IsRight}
+use Rattle.account_checker.specs.Reasons.{Fails, IsRightAccount}
 use Rattle.account_checker.specs.declared.reason.Reason.TheVariants as reasons
 use Rattle.account_checker.specs.declared.reason.Verdict.{Verdict}
 use Rattle.account_checker.specs.declared.reason.Verdict.TheVariants.{Yes, No}
@@ -34,7 +34,7 @@ pub record IsAccountIn (octets : List ℕ) (a : Account) : Type 0 where
 -- The verdict is yes if v is a value of type t of schema s and account a describes how octets o encode it. It is no
 -- with a reason if this is the first that fails.
 abbrev pub IsVerdict : List Resolved → ℕ → AbstractValue → List ℕ → Account → Verdict → Type 0
-IsVerdict s t v o a Yes = IsRight s t v o a
+IsVerdict s t v o a Yes = IsRightAccount s t v o a
 IsVerdict s t v o a (No r) = Fails s t v o a r
 
 -- The name of a type and what is given mean a value of program p, and the text `account` is that of an account.

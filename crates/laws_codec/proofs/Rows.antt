@@ -1,7 +1,7 @@
 -- Each field of the headline, stated in full and not by its name: no field can be lost, nor can a premise be added,
 -- without a proof that fails.
 use Rattle.std.proofs.Common.{◌≡◌, ◌↔◌, ℕ, ◌≤◌, List, length, Ok, Err}
-use Rattle.account_checker.specs.Reasons.{IsRight}
+use Rattle.account_checker.specs.Reasons.{IsRightAccount}
 use Rattle.account_checker.specs.declared.reason.Reason.{Reason}
 use Rattle.account_checker.specs.declared.reason.Verdict.{Verdict}
 use Rattle.account_checker.specs.declared.reason.Verdict.TheVariants.{Yes, No}
@@ -47,16 +47,16 @@ module _ (s : List Resolved) (t : ℕ) (v : AbstractValue) (h : IsCoded s t v) w
     written_least : (p : List ℕ) → Ber s t v 0 p → length o ≤ length p
     written_least p = h.shortest o p a written
 
-    written_yes : (x : Verdict) → (x ≡ Yes ↔ IsRight s t v o a) → x ≡ Yes
+    written_yes : (x : Verdict) → (x ≡ Yes ↔ IsRightAccount s t v o a) → x ≡ Yes
     written_yes x = h.accepted o a x written
 
-    written_not_no : (x : Verdict) (r : Reason) → (x ≡ Yes ↔ IsRight s t v o a) → x ≡ No r → ⊥
+    written_not_no : (x : Verdict) (r : Reason) → (x ≡ Yes ↔ IsRightAccount s t v o a) → x ≡ No r → ⊥
     written_not_no x r = h.never_no o a x r written
 
     written_ber : (b : Ber s t v 0 o) × (levels b.2 ≤ 400) × (length o ≤ 16777216)
     written_ber = let m = h.ber o a written in (m.ber, m.few, m.short)
 
-  module _ (o : List ℕ) (a : Account) (x : Verdict) (c : x ≡ Yes ↔ IsRight s t v o a) (y : x ≡ Yes) where
+  module _ (o : List ℕ) (a : Account) (x : Verdict) (c : x ≡ Yes ↔ IsRightAccount s t v o a) (y : x ≡ Yes) where
     yes_value : IsValue s t v
     yes_value = (h.yes_alone o a x c y).0
 

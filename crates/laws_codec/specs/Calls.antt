@@ -1,7 +1,7 @@
 -- What the public calls of the codec return (X.690, clauses 8, 10 and 11; X.691, clause 11.1). Each field is a clause
 -- of the contract of the call, with its name. So the call itself proves of its result what is said here.
 use Rattle.std.specs.Prelude.{◌≡◌, ◌↔◌, ℕ, ◌≤◌, List, length, Result, IfErr, IfOk}
-use Rattle.account_checker.specs.Reasons.{IsRight}
+use Rattle.account_checker.specs.Reasons.{IsRightAccount}
 use Rattle.account_checker.specs.declared.reason.Verdict.{Verdict}
 use Rattle.account_checker.specs.declared.reason.Verdict.TheVariants.{Yes}
 use Rattle.asn_base.specs.Abstract.{AbstractValue, abstract}
@@ -33,7 +33,7 @@ pub record IsWritten (s : List Resolved) (t : TypeNumber) (v : AbstractValue) (o
 
 -- `check` returns verdict x on v, a value of type t of schema s, with octets o and account a: its clause `yes`.
 abbrev pub IsVerdict : List Resolved → TypeNumber → AbstractValue → Octets → Account → Verdict → Type 0
-IsVerdict s t v o a x = x ≡ Yes ↔ IsRight s t v o a
+IsVerdict s t v o a x = x ≡ Yes ↔ IsRightAccount s t v o a
 
 -- What octets o exactly encode by the basic rules is the value that the view shows, with as many unknown additions as
 -- were skipped.

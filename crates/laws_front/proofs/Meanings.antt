@@ -19,13 +19,13 @@ use Rattle.named_values.specs.messages.declared.fault.Fault.{Fault}
 use Rattle.named_values.specs.messages.declared.fault.Fault.TheVariants as messages
 use Rattle.named_values.specs.Given.{Given}
 use Rattle.named_values.specs.Meant.{IsMeant, IsNotMeant}
-use Rattle.named_values.specs.Named.{IsNamed, TypeNamed, ValueNamed}
+use Rattle.named_values.specs.Named.{IsQualifiedName, TypeNamed, ValueNamed}
 use Rattle.laws_front.specs.Calls.{IsMeantResult, IsTypeResult, IsTypedResult, IsValueResult}
 use Rattle.laws_front.specs.Headline.{IsOneAssigned, IsOneValue}
 
 -- the laws of names and notations
 pub record Laws : Type 0 where
-  pub names : (p : Program) (text : List ℕ) (a b : Assigned) → IsCheckedProgram p → IsNamed p text a → IsNamed p text b → a ≡ b
+  pub names : (p : Program) (text : List ℕ) (a b : Assigned) → IsCheckedProgram p → IsQualifiedName p text a → IsQualifiedName p text b → a ≡ b
   pub values : (p : Program) (s : List Resolved) (M : Name) (i : ℕ) (n : Tree) (v : AbstractValue)
       → IsCheckedProgram p
       → HasTypes p s

@@ -70,7 +70,7 @@ use Rattle.named_values.specs.messages.declared.fault.Fault.{Fault}
 use Rattle.named_values.specs.messages.declared.fault.Fault.TheVariants as messages
 use Rattle.named_values.specs.Given.{Given}
 use Rattle.named_values.specs.Meant.{IsMeant, IsNotMeant}
-use Rattle.named_values.specs.Named.{IsNamed, TypeNamed, ValueNamed}
+use Rattle.named_values.specs.Named.{IsQualifiedName, TypeNamed, ValueNamed}
 use Rattle.laws_front.specs.Calls.{IsOpenResult}
 use Rattle.laws_front.specs.Calls.{IsTypeResult}
 use Rattle.laws_front.specs.Headline.{EachAccepts, HasMeanings, IsFrontEnd, IsOneValue, NoneRefuses, ReturnsModule}
@@ -234,7 +234,7 @@ module _ (xs : List (List ℕ)) (h : IsFrontEnd xs) where
     is_schema : IsSchema s
     is_schema = meanings.schema
 
-    one_name : (name : List ℕ) (a b : Assigned) → IsNamed p name a → IsNamed p name b → a ≡ b
+    one_name : (name : List ℕ) (a b : Assigned) → IsQualifiedName p name a → IsQualifiedName p name b → a ≡ b
     one_name = meanings.one_name
 
     module _ (name : List ℕ) (t : ℕ) (n : TypeNamed p name t) where

@@ -44,7 +44,7 @@ use Rattle.named_values.specs.messages.declared.fault.Fault.{Fault}
 use Rattle.named_values.specs.messages.declared.fault.Fault.TheVariants as messages
 use Rattle.named_values.specs.Given.{Given}
 use Rattle.named_values.specs.Meant.{IsMeant}
-use Rattle.named_values.specs.Named.{IsNamed, TypeNamed, ValueNamed}
+use Rattle.named_values.specs.Named.{IsQualifiedName, TypeNamed, ValueNamed}
 use Rattle.laws_front.specs.Calls.{IsBoundResult, IsLexResult, IsLinkResult, IsMeantResult, IsOpenResult}
 use Rattle.laws_front.specs.Calls.{IsParseResult, IsPrinted, IsSettleResult, IsTagResult, IsTypeResult, IsTypedResult}
 use Rattle.laws_front.specs.Calls.{IsValueResult}
@@ -124,7 +124,7 @@ pub record HasMeanings (p : Program) (s : List Resolved) : Type 0 where
   -- the types are an accepted schema
   pub schema : IsSchema s
   -- a name is that of at most one type or value (X.680, clause 14)
-  pub one_name : (name : List ℕ) (a b : Assigned) → IsNamed p name a → IsNamed p name b → a ≡ b
+  pub one_name : (name : List ℕ) (a b : Assigned) → IsQualifiedName p name a → IsQualifiedName p name b → a ≡ b
   -- `type_number` returns the one type that has the name, which is one of the schema
   pub type_found : (name : List ℕ) (x : Option TypeNumber) (t : ℕ)
       → IsTypeResult p name x

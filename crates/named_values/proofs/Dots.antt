@@ -8,7 +8,7 @@ use Rattle.names.specs.declared.scope.Assigned.{Assigned}
 use Rattle.names.specs.declared.scope.Assigned.TheVariants as assigned
 use Rattle.names.specs.Names.{Meaning}
 use Rattle.resolve.specs.Program.{Program, IsThere}
-use Rattle.named_values.specs.Named.{IsQualified, IsNamed, Names}
+use Rattle.named_values.specs.Named.{IsQualified, IsQualifiedName, Names}
 
 dot_there : (M x : Name) → get_or (M ++ 46 ∷ x) (length M) 0 ≡ 46
 dot_there [] x = refl
@@ -35,18 +35,18 @@ named_there p W y None w h = tt
 named_there p W y (Some a) w h = w W y a ((h a).0 refl)
 
 pub no_type : (p : Program) (text : List ℕ) (r : Option Assigned) →
-    ((a : Assigned) → (r ≡ Some a ↔ IsNamed p text a)) → ((t : ℕ) → r ≡ Some (assigned.Type t) → ⊥) → (t : ℕ) →
-    IsNamed p text (assigned.Type t) → ⊥
+    ((a : Assigned) → (r ≡ Some a ↔ IsQualifiedName p text a)) → ((t : ℕ) → r ≡ Some (assigned.Type t) → ⊥) → (t : ℕ) →
+    IsQualifiedName p text (assigned.Type t) → ⊥
 no_type p text r h n t k = n t ((h (assigned.Type t)).1 k)
 
 pub no_value : (p : Program) (text : List ℕ) (r : Option Assigned) →
-    ((a : Assigned) → (r ≡ Some a ↔ IsNamed p text a)) → ((t : ℕ) → r ≡ Some (assigned.Value t) → ⊥) → (t : ℕ) →
-    IsNamed p text (assigned.Value t) → ⊥
+    ((a : Assigned) → (r ≡ Some a ↔ IsQualifiedName p text a)) → ((t : ℕ) → r ≡ Some (assigned.Value t) → ⊥) → (t : ℕ) →
+    IsQualifiedName p text (assigned.Value t) → ⊥
 no_value p text r h n t k = n t ((h (assigned.Value t)).1 k)
 
 -- a text names one type at most
 pub one_named : (p : Program) (name : List ℕ) (r : Option Assigned) (n : ℕ)
-    → ((a : Assigned) → (r ≡ Some a ↔ IsNamed p name a))
+    → ((a : Assigned) → (r ≡ Some a ↔ IsQualifiedName p name a))
     → r ≡ Some (assigned.Type n)
     → Names p name n
 one_named p name r n h e = record {

@@ -24,7 +24,7 @@ use Rattle.written_values.specs.declared.written.ValueTextFault.{ValueTextFault}
 use Rattle.written_values.specs.declared.written.ValueTextFault.TheVariants as wrong
 use Rattle.named_values.specs.Given.{Given, named, written}
 use Rattle.named_values.specs.Meant.{IsMeant, IsNotMeant, IsWrongText, IsWrongWithin, NamesNoValue, NamesType, DenotesNoValue}
-use Rattle.named_values.specs.Named.{AreGiven, IsGivenAs, IsNamed, IsQualified, IsWithin}
+use Rattle.named_values.specs.Named.{AreGiven, IsGivenAs, IsQualifiedName, IsQualified, IsInModule}
 
 -- ---- the parts of a text
 
@@ -71,7 +71,7 @@ one_meaning ms M x a b apart (imported m o N e f g h) (imported n q L i j k l) =
     let there = one_some (under N ms) q o (subst (λ (y : Name). under y ms ≡ Some q) from k) g in
     one_some (under x o.assigned) a b h (subst (λ (y : Module). under x y.assigned ≡ Some b) there l)
 
-pub one_name : (p : Program) (text : List ℕ) (a b : Assigned) → IsApart p.modules → IsNamed p text a → IsNamed p text b → a ≡ b
+pub one_name : (p : Program) (text : List ℕ) (a b : Assigned) → IsApart p.modules → IsQualifiedName p text a → IsQualifiedName p text b → a ≡ b
 one_name p text a b apart m n =
     let s = one_spelling text n.within m.within n.name m.name n.is m.is in
     let w = subst (λ x. Meaning p.modules m.within x b) s.1 (subst (λ M. Meaning p.modules M n.name b) s.0 n.means) in
@@ -283,7 +283,7 @@ octets_or_tokens one p first (written x) f g a b =
 pub place_in_text : (p : Program) (first x : List ℕ) (W : Name) (t : ValueDiagnostic)
     → fault_module t.source_location ≡ W
     → t.source_location.at < length x
-    → IsWithin first W
+    → IsInModule first W
     → DenotesNoValue p first (written x) t
     → IsWrongWithin p first x t
 place_in_text p first x W t e l w n = record {

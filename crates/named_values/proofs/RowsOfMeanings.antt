@@ -17,13 +17,13 @@ use Rattle.trees.specs.Values.{Name, Tree}
 use Rattle.written_values.specs.Written.{IsNotation}
 use Rattle.named_values.specs.Given.{Given, named, written}
 use Rattle.named_values.specs.Meant.{IsMeant, IsNotMeant}
-use Rattle.named_values.specs.Named.{AreGiven, IsNamed, IsQualified, Names, TypeNamed, ValueNamed}
+use Rattle.named_values.specs.Named.{AreGiven, IsQualifiedName, IsQualified, Names, TypeNamed, ValueNamed}
 
 -- ---- names
 
 module _ (p : Program) (x : List ℕ) where
   name_means : (a : Assigned)
-      → IsNamed p x a
+      → IsQualifiedName p x a
       → (M : Name) × (n : Name) × (x ≡ M ++ (46 ∷ n)) × ((i : ℕ) → i < length M → get_or M i 0 ≡ 46 → ⊥)
       × Meaning p.modules M n a
   name_means a h = (h.within, h.name, h.is.spelled, h.is.plain, h.means)

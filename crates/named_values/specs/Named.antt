@@ -18,7 +18,7 @@ pub record IsQualified (text : List ℕ) (M x : Name) : Type 0 where
 
 -- The text is a module's name, a dot, and a name that means `a` in that module (X.680, clause 14.1), whether it is
 -- assigned there or imported (own rule).
-pub record IsNamed (p : Program) (text : List ℕ) (a : Assigned) : Type 0 where
+pub record IsQualifiedName (p : Program) (text : List ℕ) (a : Assigned) : Type 0 where
   pub within : Name
   pub name : Name
   pub is : IsQualified text within name
@@ -26,11 +26,11 @@ pub record IsNamed (p : Program) (text : List ℕ) (a : Assigned) : Type 0 where
 
 -- the text names type t of program p, as Module.Type
 abbrev pub TypeNamed : Program → List ℕ → ℕ → Type 0
-TypeNamed p text t = IsNamed p text (assigned.Type t)
+TypeNamed p text t = IsQualifiedName p text (assigned.Type t)
 
 -- the text names value i of program p, as Module.value
 abbrev pub ValueNamed : Program → List ℕ → ℕ → Type 0
-ValueNamed p text i = IsNamed p text (assigned.Value i)
+ValueNamed p text i = IsQualifiedName p text (assigned.Value i)
 
 -- the text names a value, whose assignment in module M has the notation n
 pub record HasNotation (p : Program) (text : List ℕ) (M : Name) (n : Tree) : Type 0 where
@@ -40,13 +40,13 @@ pub record HasNotation (p : Program) (text : List ℕ) (M : Name) (n : Tree) : T
   pub at : IsValueAt p number M n
 
 -- the text is the name M of a module, a dot, and any name
-pub record IsWithin (text : List ℕ) (M : Name) : Type 0 where
+pub record IsInModule (text : List ℕ) (M : Name) : Type 0 where
   pub name : Name
   pub is : IsQualified text M name
 
 -- the text x is the notation n; module M is the one that the name of the type begins with
-pub record IsWrittenIn (first x : List ℕ) (M : Name) (n : Tree) : Type 0 where
-  pub within : IsWithin first M
+pub record IsNotationIn (first x : List ℕ) (M : Name) (n : Tree) : Type 0 where
+  pub within : IsInModule first M
   pub is : IsNotation x n
 
 -- The value that is given has the notation n, which is read in module M. The notation of a named value is that of its
@@ -54,7 +54,7 @@ pub record IsWrittenIn (first x : List ℕ) (M : Name) (n : Tree) : Type 0 where
 -- in the module that the name of the type begins with (own rule).
 abbrev pub IsGivenAs : Program → (first : List ℕ) → Given → Name → Tree → Type 0
 IsGivenAs p first (named text) M n = HasNotation p text M n
-IsGivenAs p first (written x) M n = IsWrittenIn first x M n
+IsGivenAs p first (written x) M n = IsNotationIn first x M n
 
 -- The first text names type t of program p, and the value that is given has the notation n, which is read in module M.
 pub record AreGiven (p : Program) (first : List ℕ) (second : Given) (t : ℕ) (M : Name) (n : Tree) : Type 0 where

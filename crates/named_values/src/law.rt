@@ -16,7 +16,7 @@ ghost use Rattle.messages.specs.declared.fault.NotationFault.TheVariants.{Octets
 ghost use Rattle.messages.specs.value_diagnostics.declared.value_diagnostic.ValueDiagnostic.{ValueDiagnostic};
 ghost use Rattle.named_values.specs.Given.{Given};
 ghost use Rattle.named_values.specs.Meant.{IsMeant, IsNotMeant, DenotesNoValue};
-ghost use Rattle.named_values.specs.Named.{IsNamed};
+ghost use Rattle.named_values.specs.Named.{IsQualifiedName};
 
 use messages::front_end::law::one_value;
 use written_values::law::{lemma_one_fault, lemma_one_notation, lemma_wrong_texts_are_none};
@@ -42,8 +42,8 @@ pub fn one_meaning()
 
 /// A text names at most one type or value.
 pub fn one_name()
-    ensures { (p : Program) (text : List ℕ) (a b : Assigned) → IsCheckedProgram p → IsNamed p text a →
-        IsNamed p text b → a ≡ b }
+    ensures { (p : Program) (text : List ℕ) (a b : Assigned) → IsCheckedProgram p → IsQualifiedName p text a →
+        IsQualifiedName p text b → a ≡ b }
 {}
 
 /// Refusals come in one order: that of the type's name, then that of the value's name or of the text's octets and

@@ -7,7 +7,7 @@ ghost use Rattle.resolve.specs.Program.{Program};
 ghost use Rattle.written_values.specs.Written.{IsNoNotation};
 ghost use Rattle.named_values.specs.Given.{as_given, named, written};
 ghost use Rattle.named_values.specs.Meant.{IsMeant, IsNotMeant, NamesType, DenotesNoValue};
-ghost use Rattle.named_values.specs.Named.{IsWithin, TypeNamed, ValueNamed};
+ghost use Rattle.named_values.specs.Named.{IsInModule, TypeNamed, ValueNamed};
 
 use crate::given::ValueGiven;
 use crate::naming::{module_in, notation_at, type_number, value_number};
@@ -141,7 +141,7 @@ fn placed(
 ) -> Fault
     requires { id.index < length modules.now.types }
     ensures { (first : List ℕ) →
-        IsWithin first within.now →
+        IsInModule first within.now →
         DenotesNoValue modules.now first (written text.now) diagnostic →
         IsNotMeant modules.now first (written text.now) result }
 {

@@ -6,7 +6,7 @@ ghost use Rattle.names.specs.declared.scope.Assigned.{Assigned as Assigned'};
 ghost use Rattle.names.specs.Sources.{value_of};
 ghost use Rattle.range_ends.specs.Ends.{IsValueAt};
 ghost use Rattle.resolve.specs.Program.{IsThere};
-ghost use Rattle.named_values.specs.Named.{IsNamed, IsQualified, IsWithin, Names, TypeNamed, ValueNamed};
+ghost use Rattle.named_values.specs.Named.{IsQualifiedName, IsQualified, IsInModule, Names, TypeNamed, ValueNamed};
 
 use asn_base::schema::TypeId;
 use messages::front_end::Modules;
@@ -26,7 +26,7 @@ fn qualified(text: &str) -> Option<(&str, &str)>
 
 /// What a text of the form `Module.Name` names.
 fn named(linked: &Linked, text: &str) -> Option<Assigned>
-    ensures is { (a : Assigned') → (result ≡ Some a ↔ IsNamed linked.now text.now a) }
+    ensures is { (a : Assigned') → (result ≡ Some a ↔ IsQualifiedName linked.now text.now a) }
     ensures there { IfSome result (IsThere linked.now) }
 {
     linked.whole();
@@ -54,7 +54,7 @@ pub fn type_number(modules: &Modules, name: &str) -> Option<TypeId>
 /// The name of the module in the name of a type.
 pub(crate) fn module_in<'a>(modules: &Modules, ty: &'a str, id: TypeId) -> &'a str
     requires { TypeNamed modules.now ty.now id.index }
-    ensures { IsWithin ty.now result.now }
+    ensures { IsInModule ty.now result.now }
 {
     match qualified(ty) {
         Some((within, _)) => within,

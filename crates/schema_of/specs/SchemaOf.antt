@@ -25,8 +25,8 @@ use Rattle.value_notations.specs.Notations.{Notation}
 -- ---- items and bits
 
 -- the named bit of a schema with the name and the place of a written one
-abbrev pub named_bit : Name × ℕ → NamedBit
-named_bit b = record { name = b.0; place = b.1 }
+abbrev pub schema_bit : Name × ℕ → NamedBit
+schema_bit b = record { name = b.0; place = b.1 }
 
 -- the item of a schema with name x and number z
 abbrev pub numbered_item : Name → ℤ → types.Item
@@ -142,7 +142,7 @@ pub data IsKindOf (p : Program) (Allows : ℕ → ℤ → Type 0) (AllowsCode : 
       AllowsSizesOf Allows i c →
       IsKindOf p Allows AllowsCode i M (simple (a_bit_string [])) (types.a_bit_string c)
   named_bits : {b : Name × ℕ} {bs : List (Name × ℕ)} {ns : List NamedBit} →
-      ns ≡ map named_bit (b ∷ bs) →
+      ns ≡ map schema_bit (b ∷ bs) →
       IsKindOf p Allows AllowsCode i M (simple (a_bit_string (b ∷ bs))) (types.a_named_bit_string ns)
   octets : {c : Constraint} →
       AllowsSizesOf Allows i c →

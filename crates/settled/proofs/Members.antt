@@ -20,7 +20,7 @@ use Rattle.resolve.specs.Program.{Program}
 use Rattle.tagging.specs.First.{is_addition as occurs_after}
 use Rattle.additions.specs.Additions.{IsAdded, IsPlaced}
 use Rattle.schema_of.specs.SchemaOf as schema_of
-use Rattle.schema_of.specs.SchemaOf.{IsPresenceOf, is_mandatory, is_optional, has_default, is_optional_addition, AreComponentsOf, no_component, component_and, AreAlternativesOf, no_alternative, root_and, addition_and, named_bit}
+use Rattle.schema_of.specs.SchemaOf.{IsPresenceOf, is_mandatory, is_optional, has_default, is_optional_addition, AreComponentsOf, no_component, component_and, AreAlternativesOf, no_alternative, root_and, addition_and, schema_bit}
 use Rattle.settled.proofs.Lists.{place_of, of_back, all_members, value_of, less_or_more, none_twice}
 use Rattle.settled.proofs.Written.{written_component}
 
@@ -251,22 +251,22 @@ alternative_names {cs} {root} {more} a sound spelled = names_kept (map (λ a. a.
 
 -- ---- bits with names
 
-bit_names : (bs : List (Name × ℕ)) → map (λ (n : NamedBit). n.name) (map named_bit bs) ≡ map (λ b. b.0) bs
+bit_names : (bs : List (Name × ℕ)) → map (λ (n : NamedBit). n.name) (map schema_bit bs) ≡ map (λ b. b.0) bs
 bit_names [] = refl
 bit_names (b ∷ bs) = ap (λ xs. b.0 ∷ xs) (bit_names bs)
 
-bit_places : (bs : List (Name × ℕ)) → map (λ (n : NamedBit). n.place) (map named_bit bs) ≡ map (λ b. b.1) bs
+bit_places : (bs : List (Name × ℕ)) → map (λ (n : NamedBit). n.place) (map schema_bit bs) ≡ map (λ b. b.1) bs
 bit_places [] = refl
 bit_places (b ∷ bs) = ap (λ xs. b.1 ∷ xs) (bit_places bs)
 
 pub bits_kept : (b : Name × ℕ) (bs : List (Name × ℕ)) → modules.AreDistinct (map (λ b. b.0) (b ∷ bs)) → modules.AreDistinct (map (λ b. b.1) (b ∷ bs)) →
-    ((i : ℕ) (c : Name × ℕ) → slice_get (b ∷ bs) i ≡ Some c → c.1 ≤ 65535) → AllByRecursion IsIdentifier (map (λ b. b.0) (b ∷ bs)) → AreNamedBits (map named_bit (b ∷ bs))
+    ((i : ℕ) (c : Name × ℕ) → slice_get (b ∷ bs) i ≡ Some c → c.1 ≤ 65535) → AllByRecursion IsIdentifier (map (λ b. b.0) (b ∷ bs)) → AreNamedBits (map schema_bit (b ∷ bs))
 bits_kept b bs names places few spelled = record {
   some = omega arith;
-  names = names_kept (map (λ n. n.name) (map named_bit (b ∷ bs))) (map (λ b. b.0) (b ∷ bs)) (bit_names (b ∷ bs)) spelled names;
+  names = names_kept (map (λ n. n.name) (map schema_bit (b ∷ bs))) (map (λ b. b.0) (b ∷ bs)) (bit_names (b ∷ bs)) spelled names;
   places = subst distinct (sym (bit_places (b ∷ bs))) (none_twice (map (λ b. b.1) (b ∷ bs)) places);
-  limits = all_members (λ n. n.place ≤ 65535) (map named_bit (b ∷ bs)) (λ n m. (
-      let v = value_of named_bit (b ∷ bs) n m in
+  limits = all_members (λ n. n.place ≤ 65535) (map schema_bit (b ∷ bs)) (λ n m. (
+      let v = value_of schema_bit (b ∷ bs) n m in
       let i = place_of v.argument (b ∷ bs) v.member in
       subst (λ (z : NamedBit). z.place ≤ 65535) v.same (few i.0 v.argument i.1)));
 }

@@ -31,7 +31,7 @@ use Rattle.values.specs.Allowing.{Allows, AllowsCode}
 use Rattle.typed_values.specs.declared.fault.Cause.{Cause}
 use Rattle.typed_values.specs.declared.fault.Cause.TheVariants as cause
 use Rattle.typed_values.specs.declared.fault.ValueFault.{ValueFault}
-use Rattle.typed_values.specs.Faults.{HasKindIn, IsRightFault, IsCause, HasKind, HasLeaf, HasNames, HasNoAlternative}
+use Rattle.typed_values.specs.Faults.{HasKindIn, IsRightFault, IsCause, HasKindAfterReferences, HasLeaf, HasNames, HasNoAlternative}
 use Rattle.typed_values.specs.Faults as faults
 use Rattle.typed_values.specs.Laws.{HaveFewNodes}
 use Rattle.typed_values.proofs.Places.{middle}

@@ -11,7 +11,7 @@ use Rattle.trees.specs.declared.value.ValueSyntax.{ValueSyntax}
 use Rattle.names.specs.proving.Distinct.{same_bytes, equal_bytes, occurs_map}
 use Rattle.type_table.specs.declared.table.TypeNode.{TypeNode}
 use Rattle.type_table.specs.Seen.{kind_of, part_of, type_of, types_of}
-use Rattle.values.specs.Arranged.{IsArranged, place_of}
+use Rattle.values.specs.Arranged.{IsArranged, first_place}
 use Rattle.type_table.specs.declared.table.ListMember.{ListMember}
 use Rattle.typed_values.proofs.Rows.{got, got_or, got_plain, place_below, split, taken, one_more, one_field_more}
 use Rattle.asn_base.specs.Abstract.{AbstractValue, Row, row_of_list, row_of_options, fields, list, alternative}
@@ -322,40 +322,40 @@ pub alternative_named : (cs : List Part) (i : ℕ) (c : Part) (x : Name) → sli
 alternative_named = named_there
 
 there_on : (x y : Name) (ys : List Name) (i : ℕ) (b : Bool) → bytes_eq x y ≡ b →
-    cond b (Some 0) (option_map suc (place_of x ys)) ≡ Some i →
-    ((j : ℕ) → place_of x ys ≡ Some j → slice_get ys j ≡ Some x) → slice_get (y ∷ ys) i ≡ Some x
+    cond b (Some 0) (option_map suc (first_place x ys)) ≡ Some i →
+    ((j : ℕ) → first_place x ys ≡ Some j → slice_get ys j ≡ Some x) → slice_get (y ∷ ys) i ≡ Some x
 there_on x y ys i true q e go =
     subst (λ k. slice_get (y ∷ ys) k ≡ Some x) (same_Some 0 i e) (ap Some (sym (equal_bytes x y q)))
-there_on x y ys i false q e go = by (place_of x ys) refl e
+there_on x y ys i false q e go = by (first_place x ys) refl e
   where
-    by : (o : Option ℕ) → place_of x ys ≡ o → option_map suc o ≡ Some i → slice_get (y ∷ ys) i ≡ Some x
+    by : (o : Option ℕ) → first_place x ys ≡ o → option_map suc o ≡ Some i → slice_get (y ∷ ys) i ≡ Some x
     by None r f = absurd cc
     by (Some j) r f = subst (λ k. slice_get (y ∷ ys) k ≡ Some x) (same_Some (suc j) i f) (go j r)
 
-place_there : (x : Name) (xs : List Name) (i : ℕ) → place_of x xs ≡ Some i → slice_get xs i ≡ Some x
+place_there : (x : Name) (xs : List Name) (i : ℕ) → first_place x xs ≡ Some i → slice_get xs i ≡ Some x
 place_there x [] i e = absurd cc
 place_there x (y ∷ ys) i e = there_on x y ys i (bytes_eq x y) refl e (place_there x ys)
 
 none_on : (x y : Name) (ys : List Name) (b : Bool) → bytes_eq x y ≡ b →
-    cond b (Some 0) (option_map suc (place_of x ys)) ≡ None → (place_of x ys ≡ None → OccursIn ys x → ⊥) →
+    cond b (Some 0) (option_map suc (first_place x ys)) ≡ None → (first_place x ys ≡ None → OccursIn ys x → ⊥) →
     (i : ℕ) → slice_get (y ∷ ys) i ≡ Some x → ⊥
 none_on x y ys true q e go i s = absurd cc
 none_on x y ys false q e go zero s =
     let n : y ≡ x = same_Some y x s in
     let t : bytes_eq x y ≡ true = ap (bytes_eq x) n ∙ same_bytes x in
     absurd cc
-none_on x y ys false q e go (suc i) s = by (place_of x ys) refl e
+none_on x y ys false q e go (suc i) s = by (first_place x ys) refl e
   where
-    by : (o : Option ℕ) → place_of x ys ≡ o → option_map suc o ≡ None → ⊥
+    by : (o : Option ℕ) → first_place x ys ≡ o → option_map suc o ≡ None → ⊥
     by None r f = go r (i, s)
     by (Some j) r f = absurd cc
 
-pub place_none : (x : Name) (xs : List Name) → place_of x xs ≡ None → OccursIn xs x → ⊥
+pub place_none : (x : Name) (xs : List Name) → first_place x xs ≡ None → OccursIn xs x → ⊥
 place_none x [] e s = absurd cc
 place_none x (y ∷ ys) e s = none_on x y ys (bytes_eq x y) refl e (place_none x ys) s.0 s.1
 
 -- a field with a name is at the name's place
-pub field_there : (gs : List (Named ValueSyntax)) (x : Name) (j : ℕ) → place_of x (field_names (map member_of gs)) ≡ Some j →
+pub field_there : (gs : List (Named ValueSyntax)) (x : Name) (j : ℕ) → first_place x (field_names (map member_of gs)) ≡ Some j →
     j < length gs
 field_there gs x j e =
     let l = place_below (field_names (map member_of gs)) j x (place_there x (field_names (map member_of gs)) j e) in
@@ -364,7 +364,7 @@ field_there gs x j e =
     omega (arith, l, a, b)
 
 pub field_stands : (gs : List (Named ValueSyntax)) (x : Name) (j : ℕ) (d : Named ValueSyntax) →
-    place_of x (field_names (map member_of gs)) ≡ Some j →
+    first_place x (field_names (map member_of gs)) ≡ Some j →
     OccursIn (map member_of gs) (x, tree_of (get_or gs j d).value)
 field_stands gs x j d e =
     let s = place_there x (field_names (map member_of gs)) j e in
@@ -381,25 +381,25 @@ placed k cs fs ps a = record { placed = a.placed; may = λ i c e f. may i c e f 
     may i c e f true q = q
     may i c e f false q =
         let names = occurs_map (λ (c : Part). c.name) cs i c e in
-        let at = occurs_map (λ x. place_of x fs) (part_names cs) i c.name names in
-        let none = same_Some (place_of c.name fs) None (sym at ∙ ap (λ (qs : List (Option ℕ)). slice_get qs i) (sym a.placed) ∙ f) in
+        let at = occurs_map (λ x. first_place x fs) (part_names cs) i c.name names in
+        let none = same_Some (first_place c.name fs) None (sym at ∙ ap (λ (qs : List (Option ℕ)). slice_get qs i) (sym a.placed) ∙ f) in
         absurd (a.complete c.name
         (record { part = c; there = (i, e); named = refl; needed = q; none = place_none c.name fs none }))
 
 -- the place of a component's field, and that the component may be absent if it has no place
 pub place_at : (cs : List Part) (fs : List Name) (ps : List (Option ℕ)) (i : ℕ) (c : Part) (d : Option ℕ) → ArePlaced cs fs ps →
     slice_get cs i ≡ Some c → i < length ps →
-    (get_or ps i d ≡ place_of c.name fs) × (get_or ps i d ≡ None → may_be_absent c ≡ true)
+    (get_or ps i d ≡ first_place c.name fs) × (get_or ps i d ≡ None → may_be_absent c ≡ true)
 place_at cs fs ps i c d a e l =
     let names = occurs_map (λ (c : Part). c.name) cs i c e in
-    let at = occurs_map (λ x. place_of x fs) (part_names cs) i c.name names in
+    let at = occurs_map (λ x. first_place x fs) (part_names cs) i c.name names in
     let here = got_plain ps i d l in
-    let same = same_Some (get_or ps i d) (place_of c.name fs) (sym here ∙ ap (λ (qs : List (Option ℕ)). slice_get qs i) a.placed ∙ at) in
+    let same = same_Some (get_or ps i d) (first_place c.name fs) (sym here ∙ ap (λ (qs : List (Option ℕ)). slice_get qs i) a.placed ∙ at) in
     (same, λ n. a.may i c e (here ∙ ap Some n))
 
 pub as_many : (cs : List Part) (fs : List Name) (ps : List (Option ℕ)) → ArePlaced cs fs ps → length ps ≡ length cs
 as_many cs fs ps a =
-    let q = length-map (part_names cs) (λ x. place_of x fs) in
+    let q = length-map (part_names cs) (λ x. first_place x fs) in
     let r = length-map cs (λ (c : Part). c.name) in
     ap length a.placed ∙ q ∙ r
 

@@ -37,7 +37,7 @@ pub record HasKindIn (p : Program) (i : ℕ) (k : Kind) (M : Name) : Type 0 wher
   pub stands : IsAssignment p type.assignment M assigns
 
 -- type i, after its references and tags, is of a kind for which P is true
-pub record HasKind (p : Program) (i : ℕ) (P : Kind → Type 0) : Type 0 where
+pub record HasKindAfterReferences (p : Program) (i : ℕ) (P : Kind → Type 0) : Type 0 where
   pub kind : Kind
   pub is : IsOfKind p.types i kind
   pub such : P kind
@@ -110,9 +110,9 @@ IsCause p levels left os M i n cause.Memory = Unit {0}
 IsCause p levels left os M i n cause.Depth = levels ≡ 0
 IsCause p levels left os M i n cause.Nodes = left ≡ 0
 IsCause p levels left os M i n (cause.NoMeaning K l) =
-    HasKind p i (λ k. HasNoMeaningAt p k os M n K.now (tree_of l.now))
+    HasKindAfterReferences p i (λ k. HasNoMeaningAt p k os M n K.now (tree_of l.now))
 IsCause p levels left os M i n (cause.Circular j K l) =
-    HasKind p i (λ k. IsCircularNameAt p k os M n j K.now (tree_of l.now))
+    HasKindAfterReferences p i (λ k. IsCircularNameAt p k os M n j K.now (tree_of l.now))
 IsCause p levels left os M i n cause.NotOfType = IsWrongHere p os M i n not_of_type
 IsCause p levels left os M i n (cause.UnknownBit K b) =
     HasLeafIn p os M K.now i n (λ k l. IsUnknownBitAt k l (tree_of b.now))

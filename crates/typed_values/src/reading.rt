@@ -14,7 +14,7 @@ ghost use Rattle.names.specs.Modules.{AreDistinct};
 ghost use Rattle.value_notations.specs.Notations.{field_names, may_be_absent, part_names};
 ghost use Rattle.value_notations.specs.Values.{IsTyped};
 ghost use Rattle.values.specs.Allowing.{Allows, AllowsCode};
-ghost use Rattle.values.specs.Arranged.{place_of};
+ghost use Rattle.values.specs.Arranged.{first_place};
 ghost use Rattle.typed_values.specs.Faults.{HasKindIn, IsRightFault};
 ghost use Rattle.typed_values.specs.Known.{AreKnown, AreListed, IsListed};
 ghost use Rattle.typed_values.specs.proving.Reading.{Answers, AnswersWhole, ArePlaced, HaveTypes, IsMade, IsWrongDefault, IsWrongField, IsFollowed, MakeFields, MakeRow, MakesField, MayBeLeftOut, FailsInField, FailsInOne, GoesOn, IsReady};
@@ -384,7 +384,7 @@ impl<'r, 'a> NotationReader<'r, 'a> {
         place: Option<usize>,
     ) -> Result<Option<O>, ValueFault<'a>>
         requires there { component.now.ty < length self.old.bounded.now.types }
-        requires placed { place ≡ place_of (part_of component.now).name (field_names (map member_of given.now)) }
+        requires placed { place ≡ first_place (part_of component.now).name (field_names (map member_of given.now)) }
         requires may { place ≡ None → may_be_absent (part_of component.now) ≡ true }
         requires listed { IsListed self.old.bounded.now followed.now.home.now (part_of component.now) }
         requires ready { IsReady self.old }

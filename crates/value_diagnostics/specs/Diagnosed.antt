@@ -36,17 +36,17 @@ number_of reasons.OutOfOrder = 60
 number_of reasons.Outside = 61
 
 -- the form of a notation
-abbrev pub form_of : ValueSyntax → ValueForm ValueSyntax
-form_of l = (out-ValueSyntax l).form
+abbrev pub notation_form : ValueSyntax → ValueForm ValueSyntax
+notation_form l = (out-ValueSyntax l).form
 
 -- the offset in its text at which a notation begins
 abbrev pub begins : ValueSyntax → ℕ
 begins l = (out-ValueSyntax l).at
 
 -- the name that a notation is, or the empty name
-abbrev pub name_of : ValueForm ValueSyntax → Name
-name_of (Reference r) = string_bytes r.name
-name_of f = []
+abbrev pub notation_name : ValueForm ValueSyntax → Name
+notation_name (Reference r) = string_bytes r.name
+notation_name f = []
 
 -- whether there is something, which Some has and None lacks
 abbrev pub is_given : {A : Type 0} → Option A → Bool
@@ -85,7 +85,7 @@ place_in n f i = n
 
 -- the offset of the name of field i of notation l, or that of l if it has no such field
 abbrev pub field_place : ValueSyntax → ℕ → ℕ
-field_place l i = place_in (begins l) (form_of l) i
+field_place l i = place_in (begins l) (notation_form l) i
 
 -- the members of a list
 abbrev pub parts_in : Kind → List Part
@@ -105,23 +105,26 @@ pub record IsComponentName (p : Program) (i j : ℕ) (x : Name) : Type 0 where
 
 -- T is true of the reason, the module, the name and the offset in the text that a fault's cause and place have. Memory
 -- has none of these.
-abbrev pub IsOf : (T : Reason → (M x : Name) → ℕ → Type 0) → Program → ValueSite → Cause → Type 0
-IsOf T p a cause.Memory = ⊥
-IsOf T p a cause.Depth = T reasons.Depth a.within.now [] (begins a.notation.now)
-IsOf T p a cause.Nodes = T reasons.Nodes a.within.now [] (begins a.notation.now)
-IsOf T p a cause.Oid = T reasons.Oid a.within.now [] (begins a.notation.now)
-IsOf T p a cause.NotOfType = T reasons.NotOfType a.within.now [] (begins a.notation.now)
-IsOf T p a cause.UnknownAlternative = T reasons.UnknownAlternative a.within.now [] (begins a.notation.now)
-IsOf T p a cause.Outside = T reasons.Outside a.within.now [] (begins a.notation.now)
-IsOf T p a (cause.NoMeaning K l) = T (unknown_as (has_prefix (form_of l.now))) K.now (name_of (form_of l.now))
+abbrev pub IsOfCause : (T : Reason → (M x : Name) → ℕ → Type 0) → Program → ValueSite → Cause → Type 0
+IsOfCause T p a cause.Memory = ⊥
+IsOfCause T p a cause.Depth = T reasons.Depth a.within.now [] (begins a.notation.now)
+IsOfCause T p a cause.Nodes = T reasons.Nodes a.within.now [] (begins a.notation.now)
+IsOfCause T p a cause.Oid = T reasons.Oid a.within.now [] (begins a.notation.now)
+IsOfCause T p a cause.NotOfType = T reasons.NotOfType a.within.now [] (begins a.notation.now)
+IsOfCause T p a cause.UnknownAlternative = T reasons.UnknownAlternative a.within.now [] (begins a.notation.now)
+IsOfCause T p a cause.Outside = T reasons.Outside a.within.now [] (begins a.notation.now)
+IsOfCause T p a (cause.NoMeaning K l) =
+    T (unknown_as (has_prefix (notation_form l.now))) K.now (notation_name (notation_form l.now))
     (begins l.now)
-IsOf T p a (cause.Circular j K l) = T reasons.Circular K.now (name_of (form_of l.now)) (begins l.now)
-IsOf T p a (cause.UnknownBit K b) = T reasons.UnknownBit K.now (name_of (form_of b.now)) (begins b.now)
-IsOf T p a (cause.UnknownField j K l) = T reasons.UnknownField K.now (field_name (form_of l.now) j)
+IsOfCause T p a (cause.Circular j K l) = T reasons.Circular K.now (notation_name (notation_form l.now)) (begins l.now)
+IsOfCause T p a (cause.UnknownBit K b) = T reasons.UnknownBit K.now (notation_name (notation_form b.now)) (begins b.now)
+IsOfCause T p a (cause.UnknownField j K l) = T reasons.UnknownField K.now (field_name (notation_form l.now) j)
     (field_place l.now j)
-IsOf T p a (cause.Repeated j K l) = T reasons.Repeated K.now (field_name (form_of l.now) j) (field_place l.now j)
-IsOf T p a (cause.OutOfOrder j K l) = T reasons.OutOfOrder K.now (field_name (form_of l.now) j) (field_place l.now j)
-IsOf T p a (cause.Missing j K l) =
+IsOfCause T p a (cause.Repeated j K l) =
+    T reasons.Repeated K.now (field_name (notation_form l.now) j) (field_place l.now j)
+IsOfCause T p a (cause.OutOfOrder j K l) =
+    T reasons.OutOfOrder K.now (field_name (notation_form l.now) j) (field_place l.now j)
+IsOfCause T p a (cause.Missing j K l) =
     (x : Name) × IsComponentName p a.ty.index j x × T reasons.Missing K.now x (begins l.now)
 
 -- the report has this reason, module, name and offset
@@ -133,4 +136,4 @@ pub record ReportsAs (t : ValueDiagnostic) (r : Reason) (M x : Name) (n : ℕ) :
 
 -- the report of a fault has what the fault's cause and place have
 abbrev pub IsDiagnostic : Program → ValueFault → ValueDiagnostic → Type 0
-IsDiagnostic p f t = IsOf (ReportsAs t) p f.at f.cause
+IsDiagnostic p f t = IsOfCause (ReportsAs t) p f.at f.cause

@@ -3,7 +3,7 @@
 ghost use Rattle.std.specs.Prelude.{◌≡◌, ◌<◌, length, slice_get};
 ghost use Rattle.range_ends.specs.Ends.{IsOfKind};
 ghost use Rattle.type_table.specs.Seen.{kind_of};
-ghost use Rattle.value_diagnostics.specs.Diagnosed.{IsComponentName, field_name, field_place, form_of, has_prefix, name_in_part, name_of, parts_in};
+ghost use Rattle.value_diagnostics.specs.Diagnosed.{IsComponentName, field_name, field_place, notation_form, has_prefix, name_in_part, notation_name, parts_in};
 
 use asn_base::schema::TypeId;
 use resolve::Linked;
@@ -12,7 +12,7 @@ use type_table::Shape;
 
 /// The name that a notation is, or the empty name.
 pub(crate) fn name_in(notation: &ValueSyntax) -> &str
-    ensures { result.now ≡ name_of (form_of notation.now) }
+    ensures { result.now ≡ notation_name (notation_form notation.now) }
 {
     match &notation.form {
         ValueForm::Reference(reference) => reference.name.as_str(),
@@ -22,7 +22,7 @@ pub(crate) fn name_in(notation: &ValueSyntax) -> &str
 
 /// Whether a notation is a name with the name of a module before it.
 pub(crate) fn prefix_in(notation: &ValueSyntax) -> bool
-    ensures { result ≡ has_prefix (form_of notation.now) }
+    ensures { result ≡ has_prefix (notation_form notation.now) }
 {
     match &notation.form {
         ValueForm::Reference(reference) => reference.module.is_some(),
@@ -33,7 +33,7 @@ pub(crate) fn prefix_in(notation: &ValueSyntax) -> bool
 /// The name of a field of a notation, and its offset; the empty name and the notation's own offset if there is no such
 /// field.
 pub(crate) fn field_at(notation: &ValueSyntax, field: usize) -> (&str, usize)
-    ensures name { result.0.now ≡ field_name (form_of notation.now) field }
+    ensures name { result.0.now ≡ field_name (notation_form notation.now) field }
     ensures place { result.1 ≡ field_place notation.now field }
 {
     match &notation.form {

@@ -2,7 +2,7 @@
 
 ghost use Rattle.std.specs.Prelude.{◌≡◌, ◌<◌, [], length, IfOk, MatchOption};
 ghost use Rattle.typed_values.specs.declared.fault.Cause.TheVariants.{Memory as Memory'};
-ghost use Rattle.value_diagnostics.specs.Diagnosed.{IsOf, IsDiagnostic, begins, field_name, field_place, form_of, has_prefix, unknown_as, name_of, number_of};
+ghost use Rattle.value_diagnostics.specs.Diagnosed.{IsOfCause, IsDiagnostic, begins, field_name, field_place, notation_form, has_prefix, unknown_as, notation_name, number_of};
 ghost use Rattle.value_diagnostics.specs.proving.ErrorSite.{IsErrorSite};
 
 use crate::expected::expected;
@@ -94,7 +94,7 @@ pub fn number(reason: Reason) -> u8
 
 /// The reason for a name that means nothing: `NoSuchName` if a module's name comes before it, else `NoSuchItem`.
 fn unknown(notation: &ValueSyntax) -> Reason
-    ensures { result ≡ unknown_as (has_prefix (form_of notation.now)) }
+    ensures { result ≡ unknown_as (has_prefix (notation_form notation.now)) }
 {
     if prefix_in(notation) {
         Reason::NoSuchName
@@ -126,7 +126,7 @@ fn itself<'a>(reason: Reason, at: ValueSite<'a>) -> ErrorSite<'a>
 
 /// Points at the name that a notation is.
 fn named<'a>(reason: Reason, within: &'a str, notation: &'a ValueSyntax) -> ErrorSite<'a>
-    ensures { IsErrorSite result reason within.now (name_of (form_of notation.now)) (begins notation.now) }
+    ensures { IsErrorSite result reason within.now (notation_name (notation_form notation.now)) (begins notation.now) }
 {
     ErrorSite {
         reason,
@@ -143,7 +143,7 @@ fn of_field<'a>(
     within: &'a str,
     notation: &'a ValueSyntax,
 ) -> ErrorSite<'a>
-    ensures { IsErrorSite result reason within.now (field_name (form_of notation.now) field)
+    ensures { IsErrorSite result reason within.now (field_name (notation_form notation.now) field)
         (field_place notation.now field) }
 {
     let (name, at) = field_at(notation, field);
@@ -158,7 +158,8 @@ fn of_field<'a>(
 /// What a fault points at; None exactly if the fault is `Memory`.
 fn error_site<'a>(linked: &'a Linked, at: ValueSite<'a>, cause: Cause<'a>) -> Option<ErrorSite<'a>>
     requires { at.ty.index < length linked.now.types }
-    ensures { MatchOption result (cause.entry ≡ Memory') (λ q. IsOf (IsErrorSite q) linked.now at.entry cause.entry) }
+    ensures { MatchOption result (cause.entry ≡ Memory')
+        (λ q. IsOfCause (IsErrorSite q) linked.now at.entry cause.entry) }
 {
     match cause {
         Cause::Memory => None,

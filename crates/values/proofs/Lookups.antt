@@ -13,7 +13,7 @@ use Rattle.type_table.specs.Seen.{part_of}
 use Rattle.type_table.specs.Table.{Part}
 use Rattle.value_notations.specs.Notations.{field_names, part_names}
 use Rattle.value_notations.specs.Wrong.{AreIn}
-use Rattle.values.specs.Arranged.{place_of}
+use Rattle.values.specs.Arranged.{first_place}
 
 -- ---- fronts
 
@@ -47,35 +47,35 @@ passed false (Some n) e = absurd cc
 
 module _ (x : Name) where
   pub found_at : (ys : List Name) (i : ℕ) (y : Name) →
-      place_of x (take i ys) ≡ None →
+      first_place x (take i ys) ≡ None →
       slice_get ys i ≡ Some y →
       bytes_eq x y ≡ true →
-      place_of x ys ≡ Some i
+      first_place x ys ≡ Some i
   found_at [] i y n s b = absurd cc
   found_at (z ∷ ys) zero y n s b = let q : z ≡ y = cc in rw (q, b) refl
   found_at (z ∷ ys) (suc i) y n s b =
-      let m = passed (bytes_eq x z) (place_of x (take i ys)) n in
+      let m = passed (bytes_eq x z) (first_place x (take i ys)) n in
       let r = found_at ys i y m.1 s b in
       rw (m.0) (ap (option_map suc) r)
 
   pub passed_at : (ys : List Name) (i : ℕ) (y : Name) →
-      place_of x (take i ys) ≡ None →
+      first_place x (take i ys) ≡ None →
       slice_get ys i ≡ Some y →
       bytes_eq x y ≡ false →
-      place_of x (take (i + 1) ys) ≡ None
+      first_place x (take (i + 1) ys) ≡ None
   passed_at [] i y n s b = absurd cc
   passed_at (z ∷ ys) zero y n s b = let q : z ≡ y = cc in rw (q, b) refl
   passed_at (z ∷ ys) (suc i) y n s b =
-      let m = passed (bytes_eq x z) (place_of x (take i ys)) n in
+      let m = passed (bytes_eq x z) (first_place x (take i ys)) n in
       let q : suc i + 1 ≡ suc (i + 1) = omega arith in
       let r = passed_at ys i y m.1 s b in
       rw (q, m.0) (ap (option_map suc) r)
 
-  pub passed_all : (ys : List Name) (i : ℕ) → place_of x (take i ys) ≡ None → length ys ≤ i → place_of x ys ≡ None
+  pub passed_all : (ys : List Name) (i : ℕ) → first_place x (take i ys) ≡ None → length ys ≤ i → first_place x ys ≡ None
   passed_all [] i n l = refl
   passed_all (z ∷ ys) zero n l = absurd (omega (arith, l))
   passed_all (z ∷ ys) (suc i) n l =
-      let m = passed (bytes_eq x z) (place_of x (take i ys)) n in
+      let m = passed (bytes_eq x z) (first_place x (take i ys)) n in
       let r = passed_all ys i m.1 (omega (arith, l)) in
       rw (m.0) (ap (option_map suc) r)
 
@@ -84,7 +84,7 @@ module _ (x : Name) where
 -- the first place of a name at place i
 pub record IsFirst (x : Name) (xs : List Name) (i : ℕ) : Type 0 where
   pub place : ℕ
-  pub is : place_of x xs ≡ Some place
+  pub is : first_place x xs ≡ Some place
   pub most : place ≤ i
   pub there : slice_get xs place ≡ Some x
 
@@ -93,7 +93,7 @@ first_on : (x y : Name) (ys : List Name) (i : ℕ) (b : Bool) → bytes_eq x y �
 first_on x y ys i true q e go =
     record {
       place = 0;
-      is = ap (λ b. cond b (Some 0) (option_map suc (place_of x ys))) q;
+      is = ap (λ b. cond b (Some 0) (option_map suc (first_place x ys))) q;
       most = omega arith;
       there = ap Some (sym (equal_bytes x y q));
     }
@@ -106,7 +106,7 @@ first_on x y ys (suc i) false q e go =
     let m = r.most in
     record {
       place = suc r.place;
-      is = ap (λ b. cond b (Some 0) (option_map suc (place_of x ys))) q ∙ ap (option_map suc) r.is;
+      is = ap (λ b. cond b (Some 0) (option_map suc (first_place x ys))) q ∙ ap (option_map suc) r.is;
       most = omega (arith, m);
       there = r.there;
     }
@@ -120,33 +120,33 @@ suc_some None i e = absurd cc
 suc_some (Some j) i e = (j, refl, same_Some (suc j) i e)
 
 there_on : (x y : Name) (ys : List Name) (i : ℕ) (b : Bool) → bytes_eq x y ≡ b →
-    cond b (Some 0) (option_map suc (place_of x ys)) ≡ Some i →
-    ((j : ℕ) → place_of x ys ≡ Some j → slice_get ys j ≡ Some x) → slice_get (y ∷ ys) i ≡ Some x
+    cond b (Some 0) (option_map suc (first_place x ys)) ≡ Some i →
+    ((j : ℕ) → first_place x ys ≡ Some j → slice_get ys j ≡ Some x) → slice_get (y ∷ ys) i ≡ Some x
 there_on x y ys i true q e go =
     subst (λ k. slice_get (y ∷ ys) k ≡ Some x) (same_Some 0 i e) (ap Some (sym (equal_bytes x y q)))
 there_on x y ys i false q e go =
-    let r = suc_some (place_of x ys) i e in
+    let r = suc_some (first_place x ys) i e in
     subst (λ k. slice_get (y ∷ ys) k ≡ Some x) r.2 (go r.0 r.1)
 
-pub place_there : (x : Name) (xs : List Name) (i : ℕ) → place_of x xs ≡ Some i → slice_get xs i ≡ Some x
+pub place_there : (x : Name) (xs : List Name) (i : ℕ) → first_place x xs ≡ Some i → slice_get xs i ≡ Some x
 place_there x [] i e = absurd cc
 place_there x (y ∷ ys) i e = there_on x y ys i (bytes_eq x y) refl e (place_there x ys)
 
-pub place_none : (x : Name) (xs : List Name) → place_of x xs ≡ None → OccursIn xs x → ⊥
+pub place_none : (x : Name) (xs : List Name) → first_place x xs ≡ None → OccursIn xs x → ⊥
 place_none x xs e s =
     let f = first_of x xs s.0 s.1 in
     let g = f.is in
     absurd cc
 
-none_on : (x : Name) (xs : List Name) (o : Option ℕ) → place_of x xs ≡ o → (OccursIn xs x → ⊥) → place_of x xs ≡ None
+none_on : (x : Name) (xs : List Name) (o : Option ℕ) → first_place x xs ≡ o → (OccursIn xs x → ⊥) → first_place x xs ≡ None
 none_on x xs None e n = e
 none_on x xs (Some i) e n = absurd (n (i, place_there x xs i e))
 
-pub no_place : (x : Name) (xs : List Name) → (OccursIn xs x → ⊥) → place_of x xs ≡ None
-no_place x xs n = none_on x xs (place_of x xs) refl n
+pub no_place : (x : Name) (xs : List Name) → (OccursIn xs x → ⊥) → first_place x xs ≡ None
+no_place x xs n = none_on x xs (first_place x xs) refl n
 
 -- if the first place of each name is its own, no name is there twice
-pub distinct_firsts : (xs : List Name) → ((i : ℕ) (x : Name) → slice_get xs i ≡ Some x → place_of x xs ≡ Some i) →
+pub distinct_firsts : (xs : List Name) → ((i : ℕ) (x : Name) → slice_get xs i ≡ Some x → first_place x xs ≡ Some i) →
     AreDistinct xs
 distinct_firsts xs f x t =
     let a = f t.first x t.here in
@@ -156,12 +156,12 @@ distinct_firsts xs f x t =
     absurd (omega (arith, same, l))
 
 -- a name whose first place is before a place is in the front up to there
-pub before_place : (xs : List Name) (i j : ℕ) (x : Name) → place_of x xs ≡ Some j → j < i → OccursIn (take i xs) x
+pub before_place : (xs : List Name) (i j : ℕ) (x : Name) → first_place x xs ≡ Some j → j < i → OccursIn (take i xs) x
 before_place xs i j x f l = (j, to_front xs i j x l (place_there x xs j f))
 
 -- a name whose first place isn't before its own has its own as the first
-pub first_itself : (xs : List Name) (i j : ℕ) (x : Name) → slice_get xs i ≡ Some x → place_of x xs ≡ Some j → i ≤ j →
-    place_of x xs ≡ Some i
+pub first_itself : (xs : List Name) (i j : ℕ) (x : Name) → slice_get xs i ≡ Some x → first_place x xs ≡ Some j → i ≤ j →
+    first_place x xs ≡ Some i
 first_itself xs i j x e f l =
     let r = first_of x xs i e in
     let same : r.place ≡ j = same_Some r.place j (sym r.is ∙ f) in
@@ -187,7 +187,7 @@ parts_long cs = length-map (map part_of cs) (λ (c : Part). c.name) ∙ length-m
 
 -- ---- walks over names
 
-pub occurs_some : (x : Name) (xs : List Name) {i : ℕ} → Some i ≡ place_of x xs → OccursIn xs x
+pub occurs_some : (x : Name) (xs : List Name) {i : ℕ} → Some i ≡ first_place x xs → OccursIn xs x
 occurs_some x xs {i} e = (i, place_there x xs i (sym e))
 
 -- the first i fields have names of components
@@ -208,13 +208,13 @@ known_before cs fs i a x s = let h = in_front fs i s.0 x s.1 in a s.0 h.0 x h.1
 
 -- the first i fields are each at the first place of their names
 abbrev pub AreFirst : List Name → ℕ → Type 0
-AreFirst fs i = (k : ℕ) → k < i → (x : Name) → slice_get fs k ≡ Some x → place_of x fs ≡ Some k
+AreFirst fs i = (k : ℕ) → k < i → (x : Name) → slice_get fs k ≡ Some x → first_place x fs ≡ Some k
 
 pub first_next : (fs : List Name) (i : ℕ) (x n : Name) {j : ℕ} → slice_get fs i ≡ Some x → n ≡ x →
-    Some j ≡ place_of n fs → i ≤ j → AreFirst fs i → AreFirst fs (i + 1)
+    Some j ≡ first_place n fs → i ≤ j → AreFirst fs i → AreFirst fs (i + 1)
 first_next fs i x n {j} e q f l a =
-    below_more (λ k. (y : Name) → slice_get fs k ≡ Some y → place_of y fs ≡ Some k) i a
-    (λ y g. first_itself fs i j y g (sym (ap (λ z. place_of z fs) (q ∙ same_Some x y (sym e ∙ g))) ∙ sym f) l)
+    below_more (λ k. (y : Name) → slice_get fs k ≡ Some y → first_place y fs ≡ Some k) i a
+    (λ y g. first_itself fs i j y g (sym (ap (λ z. first_place z fs) (q ∙ same_Some x y (sym e ∙ g))) ∙ sym f) l)
 
 pub first_all : (fs : List Name) (i : ℕ) → length fs ≤ i → AreFirst fs i → AreDistinct fs
 first_all fs i l a = distinct_firsts fs (λ k x e. let w = slice_get_within fs k x e in a k (omega (arith, w, l)) x e)
@@ -231,12 +231,12 @@ first_before fs i a x t =
 
 -- the places of fields, in one pass
 abbrev pub place_in : List Name → ListMember → Option ℕ
-place_in fs c = place_of (name_at c.name) fs
+place_in fs c = first_place (name_at c.name) fs
 
 pub places_all : (fs : List Name) (cs : List ListMember) →
-    map (place_in fs) cs ≡ map (λ x. place_of x fs) (part_names (map part_of cs))
+    map (place_in fs) cs ≡ map (λ x. first_place x fs) (part_names (map part_of cs))
 places_all fs [] = refl
-places_all fs (c ∷ cs) = ap (λ ps. place_of (name_at c.name) fs ∷ ps) (places_all fs cs)
+places_all fs (c ∷ cs) = ap (λ ps. first_place (name_at c.name) fs ∷ ps) (places_all fs cs)
 
 pub places_more : {A : Type 0} (ps : List A) (f : ListMember → A) (cs : List ListMember) (i : ℕ) (c : ListMember) → i < length cs →
     c ≡ get_or cs i c → ps ≡ map f (take i cs) → ps ++ f c ∷ [] ≡ map f (take (i + 1) cs)
@@ -252,7 +252,7 @@ places_more ps f cs i c l e h =
         ap (λ qs. f d ∷ qs) (mapped_more f cs i c e) ∙ ap (λ k. map f (take k (d ∷ cs))) (sym q)
 
 -- what the first place means
-pub place_found : (x : Name) (xs : List Name) (o : Option ℕ) → o ≡ place_of x xs →
+pub place_found : (x : Name) (xs : List Name) (o : Option ℕ) → o ≡ first_place x xs →
     MatchOption o (OccursIn xs x → ⊥) (λ i. slice_get xs i ≡ Some x)
 place_found x xs None e = place_none x xs (sym e)
 place_found x xs (Some i) e = place_there x xs i (sym e)

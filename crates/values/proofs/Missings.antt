@@ -11,19 +11,19 @@ use Rattle.names.specs.proving.Distinct.{occurs_map}
 use Rattle.type_table.specs.Table.{Part}
 use Rattle.value_notations.specs.Notations.{part_names, may_be_absent}
 use Rattle.value_notations.specs.Wrong.{IsMissing, IsMissingInGroup}
-use Rattle.values.specs.Arranged.{NoneBefore, place_of}
+use Rattle.values.specs.Arranged.{NoneBefore, first_place}
 use Rattle.values.specs.proving.Arranging.{IsAbsent, HasOther, IsDue, NoneDue, NoneMissing, group_in, needed_in}
 use Rattle.values.proofs.Lookups.{place_none, place_there, no_place, first_of}
 use Rattle.values.proofs.Orders.{one_place}
 
 abbrev pub places_of : List Part → List Name → List (Option ℕ)
-places_of cs fs = map (λ x. place_of x fs) (part_names cs)
+places_of cs fs = map (λ x. first_place x fs) (part_names cs)
 
 -- the place of the field of component i
 placed : (cs : List Part) (fs : List Name) (i : ℕ) (c : Part) → slice_get cs i ≡ Some c →
-    slice_get (places_of cs fs) i ≡ Some (place_of c.name fs)
+    slice_get (places_of cs fs) i ≡ Some (first_place c.name fs)
 placed cs fs i c e =
-    occurs_map (λ (x : Name). place_of x fs) (part_names cs) i c.name (occurs_map (λ (p : Part). p.name) cs i c e)
+    occurs_map (λ (x : Name). first_place x fs) (part_names cs) i c.name (occurs_map (λ (p : Part). p.name) cs i c e)
 
 absent_of : (cs : List Part) (fs : List Name) (i : ℕ) (c : Part) → slice_get cs i ≡ Some c →
     (OccursIn fs c.name → ⊥) → IsAbsent cs (places_of cs fs) i c
@@ -32,7 +32,7 @@ absent_of cs fs i c e n = record { there = e; none = placed cs fs i c e ∙ ap S
 absent_none : (cs : List Part) (fs : List Name) (i : ℕ) (c : Part) → IsAbsent cs (places_of cs fs) i c →
     OccursIn fs c.name → ⊥
 absent_none cs fs i c a s =
-    place_none c.name fs (same_Some (place_of c.name fs) None (sym (placed cs fs i c a.there) ∙ a.none)) s
+    place_none c.name fs (same_Some (first_place c.name fs) None (sym (placed cs fs i c a.there) ∙ a.none)) s
 
 pub none_missing : (cs : List Part) (fs : List Name) →
     ((i : ℕ) (c : Part) → IsAbsent cs (places_of cs fs) i c → may_be_absent c ≡ true) → (x : Name) → IsMissing cs fs x → ⊥
@@ -114,7 +114,7 @@ one_lacking cs fs i c a d =
     let n = needed_is c.presence c.standing d.group d.needed in
     let o = d.other in
     let s = place_there o.part.name fs o.field
-    (same_Some (place_of o.part.name fs) (Some o.field) (sym (placed cs fs o.place o.part o.there) ∙ o.present)) in
+    (same_Some (first_place o.part.name fs) (Some o.field) (sym (placed cs fs o.place o.part o.there) ∙ o.present)) in
     record {
       group = d.group;
       part = c;

@@ -11,9 +11,9 @@ use Rattle.values.specs.declared.arranging.NamesFault.{NamesFault}
 use Rattle.values.specs.declared.arranging.NamesFault.TheVariants.{Memory, Unknown, Repeated, Missing, OutOfOrder}
 
 -- the first place of a name
-abbrev pub place_of : Name → List Name → Option ℕ
-place_of x [] = None
-place_of x (y ∷ ys) = cond (bytes_eq x y) (Some 0) (option_map suc (place_of x ys))
+abbrev pub first_place : Name → List Name → Option ℕ
+first_place x [] = None
+first_place x (y ∷ ys) = cond (bytes_eq x y) (Some 0) (option_map suc (first_place x ys))
 
 -- The names of fields are arranged like those of components, none is missing, and these are the places of the fields,
 -- in the order of components.
@@ -21,7 +21,7 @@ pub record IsArranged (k : ListKind) (cs : List Part) (fs : List Name) (ps : Lis
   pub arranged : AreArranged k (part_names cs) fs
   pub complete : (x : Name) → IsMissing cs fs x → ⊥
   pub whole : (x : Name) → IsMissingInGroup cs fs x → ⊥
-  pub placed : ps ≡ map (λ x. place_of x fs) (part_names cs)
+  pub placed : ps ≡ map (λ x. first_place x fs) (part_names cs)
 
 -- the name at this place is the first one that no component has
 pub record IsWrongField (k : ListKind) (cs : List Part) (fs : List Name) (i : ℕ) : Type 0 where

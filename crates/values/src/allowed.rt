@@ -8,7 +8,7 @@ ghost use Rattle.trees.specs.Types.{Plain, an_integer, a_bit_string, an_octet_st
 ghost use Rattle.trees.specs.Values.{Name};
 ghost use Rattle.type_table.specs.Table.{Kind, simple as simple'};
 ghost use Rattle.range_ends.specs.Ends.{IsOfKind};
-ghost use Rattle.constraints.specs.Allowed.{IsAllowed};
+ghost use Rattle.constraints.specs.Allowed.{IsNumberAllowed};
 ghost use Rattle.value_notations.specs.Faults.{IsUnconstrained};
 ghost use Rattle.values.specs.Allowing.{AllowsCode};
 ghost use Rattle.values.specs.proving.Judging.{IsJudged, Judges, bits_in as bits_in', integer_in as integer_in', octets_in as octets_in', text_in as text_in'};
@@ -84,7 +84,7 @@ fn allows_count(bounded: &Bounded<'_>, ty: TypeId, count: u128) -> bool
     requires there { ty.index < length bounded.now.types }
     requires small { count < 2 ^ 127 }
     ensures { (k : Kind) → IsOfKind bounded.now.types ty.index k →
-        (IsTrue result ↔ IsAllowed bounded.now k ty.index (pos count)) }
+        (IsTrue result ↔ IsNumberAllowed bounded.now k ty.index (pos count)) }
 {
     allows_number(bounded, ty, count as i128)
 }

@@ -5,7 +5,7 @@ ghost use Rattle.names.specs.Modules.{OccursIn};
 ghost use Rattle.trees.specs.Values.{member_of};
 ghost use Rattle.type_table.specs.Seen.{part_of};
 ghost use Rattle.value_notations.specs.Notations.{field_names, part_names};
-ghost use Rattle.values.specs.Arranged.{place_of};
+ghost use Rattle.values.specs.Arranged.{first_place};
 ghost use Rattle.values.specs.proving.Arranging.{IsUnknownAt, IsRepeatedAt};
 
 use std::alloc::{AllocError, Global};
@@ -14,7 +14,7 @@ use type_table::ListMember;
 
 /// The place of the first field of a name, or None.
 pub(crate) fn field_of(fields: &[Named<ValueSyntax>], name: &str) -> Option<usize>
-    ensures { result ≡ place_of name.now (field_names (map member_of fields.now)) }
+    ensures { result ≡ first_place name.now (field_names (map member_of fields.now)) }
 {
     for i in 0..fields.len() {
         if name == fields[i].name.it.as_str() {
@@ -26,7 +26,7 @@ pub(crate) fn field_of(fields: &[Named<ValueSyntax>], name: &str) -> Option<usiz
 
 /// The place of the first component of a name, or None.
 pub(crate) fn component_of(components: &[ListMember], name: &str) -> Option<usize>
-    ensures { result ≡ place_of name.now (part_names (map part_of components.now)) }
+    ensures { result ≡ first_place name.now (part_names (map part_of components.now)) }
 {
     for i in 0..components.len() {
         if name == components[i].name.it.as_str() {
@@ -73,7 +73,7 @@ pub(crate) fn places(
     fields: &[Named<ValueSyntax>],
 ) -> Result<Vec<Option<usize>>, AllocError>
     ensures { IfOk result (λ v. v.items
-        ≡ map (λ x. place_of x (field_names (map member_of fields.now))) (part_names (map part_of components.now))) }
+        ≡ map (λ x. first_place x (field_names (map member_of fields.now))) (part_names (map part_of components.now))) }
 {
     let mut places = Vec::new(alloc);
     for component in components {

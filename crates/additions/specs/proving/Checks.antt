@@ -9,7 +9,7 @@ use Rattle.trees.specs.declared.types.Simple.TheVariants as simples
 use Rattle.trees.specs.declared.types.EnumeratedItem.{EnumeratedItem}
 use Rattle.type_table.specs.Table.{Part, Type', members, Is}
 use Rattle.additions.specs.declared.check.Broken.{Broken}
-use Rattle.additions.specs.Additions.{IsAdded, IsTogether, IsPlaced, IsOfGroup, Keeps, KeepsAt, BreaksIn, Breaks, IsAboveEarlier, IsNotAbove}
+use Rattle.additions.specs.Additions.{IsAdded, IsTogether, IsPlaced, IsInGroup, Keeps, KeepsAt, BreaksIn, Breaks, IsAboveEarlier, IsNotAbove}
 
 -- type i is a list of this kind
 pub record IsListAt (ts : List Type') (i : ℕ) (k : ListKind) (marker : Bool) (cs : List Part) : Type 0 where
@@ -42,7 +42,7 @@ pub record IsSeenBefore (cs : List Part) (n g : ℕ) : Type 0 where
   pub before : place < n
   pub member : Part
   pub there : slice_get cs place ≡ Some member
-  pub of_group : IsOfGroup g member
+  pub of_group : IsInGroup g member
 
 -- these are the members of a list of this kind, of which those before place n are as required
 pub record IsChecked (ts : List Type') (k : ListKind) (cs : List Part) (n : ℕ) : Type 0 where

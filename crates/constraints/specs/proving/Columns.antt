@@ -14,8 +14,8 @@ use Rattle.type_table.specs.Table.{Type', Kind, simple, next, walk}
 use Rattle.resolve.specs.Program.{Program}
 use Rattle.range_ends.specs.Ends.{IsOfKind}
 use Rattle.constraints.specs.Constraints.{IsFitting, AllowsNumber, AllowsCharacter, has_marker}
-use Rattle.constraints.specs.Allowed.{Bears, IsCounted, IsInRoot, IsInAlphabet, IsExtensible}
-use Rattle.constraints.specs.Bounded.{IsWritten, IsReconstrained, IsEmpty, HasConstraint, IsMisfit, IsTurnedRound, IsMisplaced, IsRound}
+use Rattle.constraints.specs.Allowed.{BearsConstraint, IsCounted, IsInRoot, IsInAlphabet, IsExtensible}
+use Rattle.constraints.specs.Bounded.{IsWritten, IsReconstrained, IsEmpty, HasConstraint, IsUnfitConstraint, IsTurnedRound, HasMisplacedMarker, IsRound}
 use Rattle.constraints.specs.declared.column.Fault.{Fault}
 use Rattle.constraints.specs.declared.column.Fault.TheVariants as faults
 use Rattle.constraints.specs.declared.column.BoundTable.{BoundTable}
@@ -41,7 +41,7 @@ pub record IsLeft (p : Program) (k : Kind) (i : ℕ) (l : Limit) : Type 0 where
   pub some : LeavesSome k l
 
 -- what is required of the constraints of type i and of those of the types that its references and tags lead to
-pub record IsGood (p : Program) (i : ℕ) : Type 0 where
+pub record HasGoodConstraints (p : Program) (i : ℕ) : Type 0 where
   pub fitting : (steps j n : ℕ) (k : Kind) (M : Name) (c : ConstraintTree) →
       walk p.types steps i ≡ Some j →
       IsWritten p j n k M c →
@@ -51,7 +51,7 @@ pub record IsGood (p : Program) (i : ℕ) : Type 0 where
 -- l is what the constraints of type i allow, which is something, and these constraints are as required
 pub record IsLimitOf (p : Program) (i : ℕ) (l : Limit) : Type 0 where
   pub left : (k : Kind) → IsOfKind p.types i k → IsLeft p k i l
-  pub good : IsGood p i
+  pub good : HasGoodConstraints p i
 
 -- a limit is noted for type i
 abbrev pub IsNoted : List (Option ℕ) → ℕ → Type 0
@@ -72,10 +72,10 @@ pub record IsTrail (ts : List Type') (at : List (Option ℕ)) (start : ℕ) (v :
 -- type i breaks the rule
 abbrev pub Breaks : Program → Rule → ℕ → Type 0
 Breaks p rules.Empty i = IsEmpty p i
-Breaks p rules.WrongKind i = HasConstraint p i (IsMisfit p)
+Breaks p rules.WrongKind i = HasConstraint p i (IsUnfitConstraint p)
 Breaks p rules.Reconstrained i = IsReconstrained p i
 Breaks p rules.LowerAboveUpper i = HasConstraint p i (IsTurnedRound p)
-Breaks p rules.MarkerPlace i = HasConstraint p i IsMisplaced
+Breaks p rules.MarkerPlace i = HasConstraint p i HasMisplacedMarker
 
 -- an end of a constraint leads to value v, which leads back to itself
 abbrev pub IsRoundAt : Program → ℕ → Type 0
@@ -128,7 +128,7 @@ HoldsOf p t = AreAllNoted p t.at.items t.limits.items
 pub record BearsTarget (p : Program) (i : ℕ) (M : Name) (c : ConstraintTree) : Type 0 where
   pub target : ℕ
   pub chain : next p.types i ≡ Some target
-  pub bears : Bears p target M c
+  pub bears : BearsConstraint p target M c
 
 -- The codes are those of the characters that the constraints of the types which type i leads to allow. This is asked of
 -- the four restricted strings; for other types the list may have any codes.

@@ -13,7 +13,7 @@ use Rattle.range_ends.specs.declared.ranges.Counted.{Counted}
 use Rattle.range_ends.specs.declared.ranges.Counted.TheVariants.{Numbers, Sizes}
 use Rattle.constraints.specs.Constraints.{IsFitting, is_marked, AllowsNumber, AllowsCharacter, has_marker}
 use Rattle.constraints.specs.Allowed.{IsCounted}
-use Rattle.constraints.specs.Bounded.{IsMisfit, IsRound, IsTurnedRound, IsMisplaced}
+use Rattle.constraints.specs.Bounded.{IsUnfitConstraint, IsRound, IsTurnedRound, HasMisplacedMarker}
 use Rattle.constraints.specs.declared.meaning.Rule.{Rule}
 use Rattle.constraints.specs.declared.meaning.Rule.TheVariants as rules
 use Rattle.constraints.specs.declared.meaning.ConstraintFault.{ConstraintFault}
@@ -45,9 +45,9 @@ pub record IsMeaningOf (p : Program) (k : Kind) (M : Name) (c : ConstraintTree) 
 
 -- the constraint breaks the rule by itself
 abbrev pub BreaksAlone : Program → Kind → Name → ConstraintTree → Rule → Type 0
-BreaksAlone p k M c rules.WrongKind = IsMisfit p k M c
+BreaksAlone p k M c rules.WrongKind = IsUnfitConstraint p k M c
 BreaksAlone p k M c rules.LowerAboveUpper = IsTurnedRound p k M c
-BreaksAlone p k M c rules.MarkerPlace = IsMisplaced k M c
+BreaksAlone p k M c rules.MarkerPlace = HasMisplacedMarker k M c
 BreaksAlone p k M c rules.Empty = ⊥
 BreaksAlone p k M c rules.Reconstrained = ⊥
 

@@ -15,7 +15,7 @@ use Rattle.value_notations.specs.Notations.{Notation, Fields, Elements, field_na
 use Rattle.value_notations.specs.References.{IsLast}
 use Rattle.value_notations.specs.Values.{ValueIn, AreComponents, AreElements, IsTyped, MayBeAbsent}
 use Rattle.values.specs.Allowing.{Allows, AllowsCode}
-use Rattle.values.specs.Arranged.{place_of}
+use Rattle.values.specs.Arranged.{first_place}
 use Rattle.typed_values.specs.declared.fault.ValueFault.{ValueFault}
 use Rattle.typed_values.specs.declared.fault.Cause.TheVariants as cause
 use Rattle.typed_values.specs.declared.followed.Followed.{Followed}
@@ -166,7 +166,7 @@ pub data IsWrongField (p : Program) (levels left : ℕ) (ps : List ℕ) (K N : N
 
 -- the places of the fields, in the order of components; a component without a field may be absent
 pub record ArePlaced (cs : List Part) (fs : List Name) (ps : List (Option ℕ)) : Type 0 where
-  pub placed : ps ≡ map (λ x. place_of x fs) (part_names cs)
+  pub placed : ps ≡ map (λ x. first_place x fs) (part_names cs)
   pub may : (i : ℕ) (c : Part) → slice_get cs i ≡ Some c → slice_get ps i ≡ Some None → may_be_absent c ≡ true
 
 -- the fields stand for the values of a row, each one of its component

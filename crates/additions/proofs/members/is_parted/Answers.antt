@@ -1,6 +1,6 @@
 use Rattle.std.proofs.Common.{arith, rules, map, sym, subst, ◌<◌, length, ◌-◌}
 use Rattle.type_table.specs.Seen.{part_of}
-use Rattle.additions.specs.Additions.{IsOfGroup}
+use Rattle.additions.specs.Additions.{IsInGroup}
 use Rattle.additions.proofs.Placing.{part_at, same_part, not_both, together_same, together_none, together_unseen, parted}
 use Rattle.additions.proofs.members.is_parted.Goals as goal
 
@@ -12,7 +12,7 @@ returns-then-is_of_group-clause-together c = λ f x q.
 pub returns-in-None-clause-together : goal.returns-in-None-clause-together
 returns-in-None-clause-together c = λ f x q.
     let s = same_part c.args.components.now c.args.at c.index-components-at.result x c.requires.there c.index-components-at.is q in
-    together_none (map part_of c.args.components.now) c.args.at x (λ g h. c.in-None.ensures g (subst (IsOfGroup g) (sym s) h))
+    together_none (map part_of c.args.components.now) c.args.at x (λ g h. c.in-None.ensures g (subst (IsInGroup g) (sym s) h))
 
 pub returns-else-is_of_group-clause-parted : goal.returns-else-is_of_group-clause-parted
 returns-else-is_of_group-clause-parted c = λ t.
@@ -29,4 +29,4 @@ returns-else-is_of_group-clause-parted c = λ t.
 pub returns-else-is_of_group-clause-together : goal.returns-else-is_of_group-clause-together
 returns-else-is_of_group-clause-together c = λ f x q.
     let s = same_part c.args.components.now c.args.at c.index-components-at.result x c.requires.there c.index-components-at.is q in
-    together_unseen (map part_of c.args.components.now) c.args.at c.in-Some.group x (subst (IsOfGroup c.in-Some.group) s c.in-Some.ensures) (λ h. not_both c.is_seen.result (c.is_seen.ensures.1 h) f)
+    together_unseen (map part_of c.args.components.now) c.args.at c.in-Some.group x (subst (IsInGroup c.in-Some.group) s c.in-Some.ensures) (λ h. not_both c.is_seen.result (c.is_seen.ensures.1 h) f)

@@ -2,7 +2,7 @@ use Rattle.std.proofs.Common.{◌∷◌, [], ◌++◌, map, ap, ◌∙◌, arith
 use Rattle.std.proofs.lemmas.List.{take_all}
 use Rattle.trees.specs.Values.{member_of}
 use Rattle.value_notations.specs.Notations.{field_names}
-use Rattle.values.specs.Arranged.{place_of}
+use Rattle.values.specs.Arranged.{first_place}
 use Rattle.values.proofs.Lookups.{place_in, places_all, places_more}
 use Rattle.values.proofs.lookup.places.Goals as goal
 
@@ -15,7 +15,7 @@ loop-component-preserved c =
     let more = places_more c.loop-component.places.items (place_in fs) cs i f
     (omega (arith, c.loop-component-test.true, c.loop-component.auto.component-index-end)) c.component-item.is
     c.loop-component.invariant in
-    let found = c.field_of.ensures ∙ ap (λ x. place_of x fs) c.as_str.ensures.value in
+    let found = c.field_of.ensures ∙ ap (λ x. first_place x fs) c.as_str.ensures.value in
     c.in_ok-push.ensures.items ∙ ap (λ o. c.loop-component.places.items ++ o ∷ []) found ∙ more
 
 pub returns : goal.returns

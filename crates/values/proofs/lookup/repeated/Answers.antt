@@ -3,7 +3,7 @@ use Rattle.trees.specs.declared.value.Named.{Named}
 use Rattle.trees.specs.declared.value.ValueSyntax.{ValueSyntax}
 use Rattle.trees.specs.Values.{name_at, member_of}
 use Rattle.value_notations.specs.Notations.{field_names}
-use Rattle.values.specs.Arranged.{place_of}
+use Rattle.values.specs.Arranged.{first_place}
 use Rattle.values.proofs.Lookups.{field_at, fields_long, place_none, before_place, first_before, first_next, first_all}
 use Rattle.values.proofs.lookup.repeated.Goals as goal
 
@@ -13,7 +13,7 @@ returns-in-None c =
     let fs = field_names (map member_of c.args.fields.now) in
     let named = c.as_str.ensures.value ∙ ap (λ (z : Named ValueSyntax). name_at z.name) (sym c.index-fields-i.is) in
     let here = field_at c.args.fields.now c.loop-i.i f c.loop-i-test.true c.index-fields-i.is in
-    absurd (place_none (name_at f.name) fs (subst (λ n. place_of n fs ≡ None) named (sym c.in-None.ensures))
+    absurd (place_none (name_at f.name) fs (subst (λ n. first_place n fs ≡ None) named (sym c.in-None.ensures))
     (c.loop-i.i, here))
 
 pub returns-then-first-i : goal.returns-then-first-i
@@ -25,7 +25,7 @@ returns-then-first-i c =
       name_at f.name,
       here,
       before_place fs c.loop-i.i c.in-Some.first (name_at f.name)
-          (subst (λ n. place_of n fs ≡ Some c.in-Some.first) named (sym c.in-Some.ensures)) c.if-first-i.true,
+          (subst (λ n. first_place n fs ≡ Some c.in-Some.first) named (sym c.in-Some.ensures)) c.if-first-i.true,
       first_before fs c.loop-i.i c.loop-i.invariant,
     )
 

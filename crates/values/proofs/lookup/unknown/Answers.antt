@@ -4,7 +4,7 @@ use Rattle.trees.specs.declared.value.ValueSyntax.{ValueSyntax}
 use Rattle.trees.specs.Values.{name_at, member_of}
 use Rattle.type_table.specs.Seen.{part_of}
 use Rattle.value_notations.specs.Notations.{field_names, part_names}
-use Rattle.values.specs.Arranged.{place_of}
+use Rattle.values.specs.Arranged.{first_place}
 use Rattle.values.proofs.Lookups.{field_at, fields_long, place_none, occurs_some, known_before, known_next, known_all}
 use Rattle.values.proofs.lookup.unknown.Goals as goal
 
@@ -16,7 +16,7 @@ returns-in-None c =
     let here = field_at c.args.fields.now c.loop-i.i f c.loop-i-test.true c.index-fields-i.is in (
       name_at f.name,
       here,
-      place_none (name_at f.name) cs (subst (λ n. place_of n cs ≡ None) named (sym c.in-None.ensures)),
+      place_none (name_at f.name) cs (subst (λ n. first_place n cs ≡ None) named (sym c.in-None.ensures)),
       known_before cs (field_names (map member_of c.args.fields.now)) c.loop-i.i c.loop-i.invariant,
     )
 

@@ -4,7 +4,7 @@ use Rattle.trees.specs.declared.value.ValueSyntax.{ValueSyntax}
 use Rattle.trees.specs.Values.{name_at, member_of}
 use Rattle.type_table.specs.Seen.{part_of}
 use Rattle.value_notations.specs.Notations.{field_names, part_names}
-use Rattle.values.specs.Arranged.{place_of}
+use Rattle.values.specs.Arranged.{first_place}
 use Rattle.values.proofs.Lookups.{field_at, fields_long, place_none, place_there}
 use Rattle.values.proofs.Orders.{walks, walked_before, jumbles, walked}
 use Rattle.values.proofs.order.jumbled.Goals.{else-i-gt0-via-then-i-gt0+else-place-last, else-i-gt0-via-else-i-gt0}
@@ -16,7 +16,7 @@ returns-in-None c =
     let cs = part_names (map part_of c.args.components.now) in
     let named = c.as_str.ensures.value ∙ ap (λ (z : Named ValueSyntax). name_at z.name) (sym c.index-fields-i.is) in
     let here = field_at c.args.fields.now c.loop-i.i f c.loop-i-test.true c.index-fields-i.is in
-    absurd (place_none (name_at f.name) cs (subst (λ n. place_of n cs ≡ None) named (sym c.in-None.ensures))
+    absurd (place_none (name_at f.name) cs (subst (λ n. first_place n cs ≡ None) named (sym c.in-None.ensures))
     (c.requires.known (name_at f.name) (c.loop-i.i, here)))
 
 pub returns-then-place-last : goal.returns-then-place-last
@@ -27,7 +27,7 @@ returns-then-place-last c =
     let named = c.as_str.ensures.value ∙ ap (λ (z : Named ValueSyntax). name_at z.name) (sym c.index-fields-i.is) in
     let here = field_at c.args.fields.now c.loop-i.i f c.loop-i-test.true c.index-fields-i.is in
     let at = place_there (name_at f.name) cs c.in-Some.place
-    (subst (λ n. place_of n cs ≡ Some c.in-Some.place) named (sym c.in-Some.ensures)) in (
+    (subst (λ n. first_place n cs ≡ Some c.in-Some.place) named (sym c.in-Some.ensures)) in (
       jumbles cs fs c.loop-i.i c.loop-i.last c.in-Some.place (name_at f.name) here at c.loop-i.invariant c.if-i-gt0.true
           c.if-place-last.true,
       walked_before cs fs c.loop-i.i c.loop-i.last c.loop-i.invariant c.if-i-gt0.true,
@@ -41,7 +41,7 @@ loop-i-preserved c =
     let named = c.as_str.ensures.value ∙ ap (λ (z : Named ValueSyntax). name_at z.name) (sym c.index-fields-i.is) in
     let here = field_at c.args.fields.now c.loop-i.i f c.loop-i-test.true c.index-fields-i.is in
     let at = place_there (name_at f.name) cs c.in-Some.place
-    (subst (λ n. place_of n cs ≡ Some c.in-Some.place) named (sym c.in-Some.ensures)) in
+    (subst (λ n. first_place n cs ≡ Some c.in-Some.place) named (sym c.in-Some.ensures)) in
     let order : 0 < c.loop-i.i → c.loop-i.last ≤ c.in-Some.place = elim c.else-i-gt0.branch [
       | else-i-gt0-via-then-i-gt0+else-place-last w ↦ λ m. w.if-place-last.false
       | else-i-gt0-via-else-i-gt0 w ↦ λ m. absurd (let z = w.if-i-gt0.false in omega (arith, m, z))
