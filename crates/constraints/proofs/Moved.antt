@@ -1,5 +1,5 @@
 -- Where the same constraints are written at other places, their first fault is of the same rule, at another place.
-use Rattle.std.proofs.Common.{◌≡◌, ◌⊎◌, inl, inr, ℕ, zero, suc, ◌<◌, true, false, List, [], ◌∷◌, Option, Some, None, map, refl, sym, ap, ◌∙◌, subst}
+use Rattle.std.proofs.Common.{◌≡◌, ◌⊎◌, inl, inr, ℕ, zero, suc, true, false, List, [], ◌∷◌, Option, Some, None, map, refl, sym, ap, ◌∙◌, subst}
 use Rattle.std.specs.Prelude.{ℤ, Vec, slice_get, option_map}
 use Rattle.std.specs.Global.{Global}
 use Rattle.trees.specs.declared.constraint.CharsSyntax.{CharsSyntax}
@@ -11,29 +11,28 @@ use Rattle.trees.specs.declared.constraint.RangeSyntax.{RangeSyntax}
 use Rattle.trees.specs.declared.constraint.RangeSyntax.TheVariants as syntax
 use Rattle.trees.specs.declared.constraint.RangesSyntax.{RangesSyntax}
 use Rattle.trees.specs.declared.location.At.{At as Placed}
-use Rattle.trees.specs.Constraints.{ConstraintTree, RangeTree, RangesTree, values_in, sizes_in, chars_in, between, constraint_of, chars_of, end_of, form_of, range_of, ranges_of}
+use Rattle.trees.specs.Constraints.{RangesTree, values_in, sizes_in, chars_in, between, constraint_of, chars_of, end_of, form_of, range_of, ranges_of}
 use Rattle.trees.specs.Values.{Name}
 use Rattle.type_table.specs.declared.table.TypeNode.{TypeNode}
 use Rattle.type_table.specs.Seen.{type_of, types_of}
 use Rattle.type_table.specs.Table.{Type', Kind}
 use Rattle.resolve.specs.Program.{Program, IsAssignment}
 use Rattle.range_ends.specs.Answers.{IsOf}
-use Rattle.range_ends.specs.Characters.{CharsTree, IsCharacter, IsFit, AreReversed}
+use Rattle.range_ends.specs.Characters.{CharsTree, IsCharacter, AreReversed}
 use Rattle.range_ends.specs.Ends.{EndIs, HasNoNumber, IsCircularEnd, notation_of}
 use Rattle.range_ends.specs.First.{end_place, IsEndWrong, IsTurnedAt, IsBetweenWrong, of_lower, of_upper, of_both, IsRangeWrong, IsFirstWrong}
-use Rattle.range_ends.specs.Ranges.{IsEnd, IsRange, IsReversed}
+use Rattle.range_ends.specs.Ranges.{IsEnd, IsReversed}
 use Rattle.range_ends.specs.declared.ranges.Counted.{Counted}
 use Rattle.range_ends.specs.declared.ranges.Counted.TheVariants.{Numbers, Sizes}
 use Rattle.range_ends.specs.declared.ranges.RangeFault.{RangeFault}
 use Rattle.range_ends.specs.declared.ranges.RangeFault.TheVariants as ranges
-use Rattle.constraints.specs.Constraints.{takes, is_marked, IsFitting}
+use Rattle.constraints.specs.Constraints.{takes, is_marked}
 use Rattle.constraints.specs.First.{AreEndsWrong, IsCharsWrong, IsFirstChars, wrong_of, wrong_chars, IsConstraintWrong, memory, not_taken, misplaced, in_numbers, in_sizes, in_characters, IsAfterMarker, IsNextWrong, reconstrained, itself, IsFirstConstraint, IsLimitWrong, of_one, empty, IsTypeFault, IsFirstFault}
 use Rattle.constraints.specs.declared.characters.CharsFault.{CharsFault}
 use Rattle.constraints.specs.declared.characters.CharsFault.TheVariants as chars
 use Rattle.constraints.specs.declared.column.Fault.{Fault}
 use Rattle.constraints.specs.declared.column.Fault.TheVariants as faults
 use Rattle.constraints.specs.declared.limit.Limit.{Limit}
-use Rattle.constraints.specs.declared.meaning.Rule.{Rule}
 use Rattle.constraints.specs.declared.meaning.Rule.TheVariants as rules
 use Rattle.constraints.specs.declared.meaning.ConstraintFault.{ConstraintFault}
 use Rattle.constraints.specs.declared.meaning.ConstraintFault.TheVariants as wrongs
@@ -77,8 +76,11 @@ module _ (p : Program) (k : Kind) (M : Name) (of : Counted) where
       MovedRange (λ g. IsEndWrong p k M of d g) f
   end_moved e d (ranges.NoEnd at) q x = record {
     fault = ranges.NoEnd (end_place d);
-    such = (refl, subst
-        (λ t. HasNoNumber p k M (notation_of t) ⊎ ((z : ℤ) × EndIs p k M t z × (IsOf of z → ⊥))) q x.1);
+    such = (
+      refl,
+      subst
+          (λ t. HasNoNumber p k M (notation_of t) ⊎ ((z : ℤ) × EndIs p k M t z × (IsOf of z → ⊥))) q x.1,
+    );
     like = tt;
   }
   end_moved e d (ranges.Circular v) q x = record {
@@ -95,8 +97,11 @@ module _ (p : Program) (k : Kind) (M : Name) (of : Counted) where
       MovedRange (λ g. IsTurnedAt p k M of c d g) f
   turned_moved a b c d (ranges.Reversed at) q r x = record {
     fault = ranges.Reversed (end_place c);
-    such = (refl, subst (λ t. IsReversed p k M (IsOf of) (between (Some (end_of c)) (Some t))) r
-        (subst (λ t. IsReversed p k M (IsOf of) (between (Some t) (Some (end_of b)))) q x.1));
+    such = (
+      refl,
+      subst (λ t. IsReversed p k M (IsOf of) (between (Some (end_of c)) (Some t))) r
+          (subst (λ t. IsReversed p k M (IsOf of) (between (Some t) (Some (end_of b)))) q x.1),
+    );
     like = tt;
   }
   turned_moved a b c d (ranges.NoEnd at) q r x = absurd x

@@ -1,10 +1,9 @@
 -- A program has at most one first fault of constraints, at one place.
-use Rattle.std.proofs.Common.{◌≡◌, ◌⊎◌, inl, inr, ℕ, suc, ◌+◌, ◌-◌, ◌<◌, true, false, List, [], Option, Some, None, map, length, refl, sym, ap, ◌∙◌, subst, arith}
+use Rattle.std.proofs.Common.{◌≡◌, ◌⊎◌, inl, inr, ℕ, suc, ◌+◌, ◌-◌, ◌<◌, true, List, [], Option, Some, None, length, refl, sym, ap, ◌∙◌, subst, arith}
 use Rattle.std.specs.Prelude.{slice_get}
 use Rattle.std.proofs.lemmas.Bool.{cases_order}
 use Rattle.std.proofs.lemmas.Option.{slice_get_within}
 use Rattle.asn_base.specs.Names.{IsMember}
-use Rattle.trees.specs.declared.constraint.ConstraintSyntax.{ConstraintSyntax}
 use Rattle.trees.specs.declared.location.SourceLocation.{SourceLocation}
 use Rattle.trees.specs.Constraints.{ConstraintTree, constraint_of}
 use Rattle.trees.specs.Types.{a_restricted_string}
@@ -12,7 +11,7 @@ use Rattle.trees.specs.Values.{Name}
 use Rattle.names.specs.declared.sources.AssignedAt.{AssignedAt}
 use Rattle.names.specs.Faults.{fault_module, fault_name}
 use Rattle.type_table.specs.declared.table.TypeNode.{TypeNode}
-use Rattle.type_table.specs.Seen.{type_of, types_of}
+use Rattle.type_table.specs.Seen.{type_of}
 use Rattle.type_table.specs.Table.{Type', Kind, simple, next, walk}
 use Rattle.type_table.specs.Walks.{onward, follow}
 use Rattle.type_table.specs.proving.Walks.{walk_walk, ended_few}
@@ -34,7 +33,7 @@ use Rattle.constraints.specs.declared.meaning.Rule.TheVariants as rules
 use Rattle.constraints.specs.declared.meaning.ConstraintFault.{ConstraintFault}
 use Rattle.constraints.specs.declared.meaning.ConstraintFault.TheVariants as wrongs
 use Rattle.constraints.specs.proving.Columns.{IsLimitOf, Inherits, fault_of}
-use Rattle.constraints.specs.proving.Limits.{Narrows, LeavesNone}
+use Rattle.constraints.specs.proving.Limits.{Narrows}
 use Rattle.constraints.proofs.Bounding.{le_or, there_by, characters_by}
 use Rattle.constraints.proofs.Leaving.{assignment_once, number_back, codes_left, reconstrained_by, written_is}
 use Rattle.constraints.proofs.Low.{character_low}
@@ -75,10 +74,13 @@ module _ (p : Program) (s i o : ℕ) (way : walk p.types s i ≡ Some o) where
       }
 
   characters_from : (k : Kind) → HasCharacters p k i → HasCharacters p k o
-  characters_from (simple (a_restricted_string a)) h = (h.0, record {
-    character = h.1.character;
-    allowed = λ M c b. h.1.allowed M c (bears_from M c b);
-  })
+  characters_from (simple (a_restricted_string a)) h = (
+    h.0,
+    record {
+      character = h.1.character;
+      allowed = λ M c b. h.1.allowed M c (bears_from M c b);
+    },
+  )
   characters_from k h = tt
 
 -- a type that is left no codes has no characters
@@ -379,9 +381,11 @@ module _ (p : Program) (single : HaveOneMeaning p) (one : OneWrong) (none : NoWr
   any_alike : (r q : Rule) (s t : SourceLocation) → HasAt r s → HasAt q t → (r ≡ q) × IsAlike s t
   any_alike r q s t (ws, gs, w, a) (vs, hs, v, b) =
       let m = fault_moved p ws vs (w.types ∙ sym v.types) (faults.At r a.ty s.at) a.first in
-      let h = like_first p single one none whole vs hs v r q a.ty b.ty s.at t.at m.fault m.like m.such b.first in
-      (h.0, one_home p single one none whole vs hs v a.ty b.ty (fault_module s) (fault_name s) (fault_module t) (fault_name t)
-      h.1 a.stands b.stands)
+      let h = like_first p single one none whole vs hs v r q a.ty b.ty s.at t.at m.fault m.like m.such b.first in (
+        h.0,
+        one_home p single one none whole vs hs v a.ty b.ty (fault_module s) (fault_name s) (fault_module t) (fault_name t)
+            h.1 a.stands b.stands,
+      )
 
   any_not_round : (r : Rule) (s t : SourceLocation) → HasAt r s → HasCircle t → ⊥
   any_not_round r s t (ws, gs, w, a) (vs, hs, v, b) =

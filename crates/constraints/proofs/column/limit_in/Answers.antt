@@ -48,17 +48,21 @@ returns-in-Err-limit_of-clause-first c =
     (sym c.requires.same) c.in-Err-limit_of.ensures.first in
     let m = subst (λ xs. IsLimitWrong p k M xs c.in-Ok.start w.at c.in-Err-limit_of.wrong) c.deref.ensures.value n in
     let a = c.written_at-written.ensures.written in
-    inr (a.0, a.1, record {
-      written = w;
-      there = a.2;
-      kind = k;
-      of_kind = c.core_at-shape.ensures;
-      within = M;
-      assigns = c.home-home.result.name.now;
-      stands = c.home-home.ensures (type_of w) c.written_at-written.ensures.there;
-      start = c.in-Ok.start;
-      starts = c.in-Ok.ensures;
-      wrong = c.in-Err-limit_of.wrong;
-      fault = m;
-      reported = c.fault_at.ensures;
-    })
+    inr (
+      a.0,
+      a.1,
+      record {
+        written = w;
+        there = a.2;
+        kind = k;
+        of_kind = c.core_at-shape.ensures;
+        within = M;
+        assigns = c.home-home.result.name.now;
+        stands = c.home-home.ensures (type_of w) c.written_at-written.ensures.there;
+        start = c.in-Ok.start;
+        starts = c.in-Ok.ensures;
+        wrong = c.in-Err-limit_of.wrong;
+        fault = m;
+        reported = c.fault_at.ensures;
+      },
+    )
