@@ -33,11 +33,11 @@ pub(crate) fn series<'r>(
         → flat contents.entry.rows.now ≡ member_rows rs ++ rest
         → count rs ≡ contents.entry.members
         → MatchOption result
-        (ListFollows walk.entry.schema.now walk.entry.checks contents.entry.order element.index (abstract value.now)
-        contents.entry.size contents.entry.octets.now rs
+        (ListFollows walk.entry.schema.now walk.entry.checks contents.entry.order element.index
+        (abstract value.now) contents.entry.size contents.entry.octets.now rs
         → ⊥)
-        (λ r. ListFollows walk.entry.schema.now walk.entry.checks contents.entry.order element.index (abstract value.now)
-        contents.entry.size contents.entry.octets.now rs
+        (λ r. ListFollows walk.entry.schema.now walk.entry.checks contents.entry.order element.index
+        (abstract value.now) contents.entry.size contents.entry.octets.now rs
         × (flat r.now ≡ rest)) }
 {
     lemma_abstract_values();

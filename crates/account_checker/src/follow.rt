@@ -42,8 +42,11 @@ pub(crate) fn follows<'r>(
     ensures { (a : Account) (rest : List FlatRow)
         → flat described.entry.rows.now ≡ rows_of a ++ rest
         → MatchOption result
-        (Follows walk.entry.schema.now walk.entry.checks id.index (abstract value.now) described.entry.octets.now a → ⊥)
-        (λ r. Follows walk.entry.schema.now walk.entry.checks id.index (abstract value.now) described.entry.octets.now a × (flat r.now ≡ rest)) }
+        (Follows walk.entry.schema.now walk.entry.checks id.index (abstract value.now) described.entry.octets.now a
+        → ⊥)
+        (λ r. Follows walk.entry.schema.now walk.entry.checks id.index (abstract value.now)
+        described.entry.octets.now a
+        × (flat r.now ≡ rest)) }
 {
     if walk.levels == 0 || !walk.schema.has(id) {
         return None;
@@ -75,8 +78,11 @@ fn under<'r>(
     ensures { (a : Account) (rest : List FlatRow)
         → flat described.entry.rows.now ≡ rows_of a ++ rest
         → MatchOption result
-        (Under walk.entry.schema.now walk.entry.checks tags.now (kind_of core.now) (abstract value.now) described.entry.octets.now a → ⊥)
-        (λ r. Under walk.entry.schema.now walk.entry.checks tags.now (kind_of core.now) (abstract value.now) described.entry.octets.now a
+        (Under walk.entry.schema.now walk.entry.checks tags.now (kind_of core.now) (abstract value.now)
+        described.entry.octets.now a
+        → ⊥)
+        (λ r. Under walk.entry.schema.now walk.entry.checks tags.now (kind_of core.now) (abstract value.now)
+        described.entry.octets.now a
         × (flat r.now ≡ rest)) }
 {
     if tags.len() == 0 {
@@ -107,8 +113,12 @@ fn bare<'r>(
     ensures { (a : Account) (rest : List FlatRow)
         → flat described.entry.rows.now ≡ rows_of a ++ rest
         → MatchOption result
-        (Under walk.entry.schema.now walk.entry.checks [] (kind_of core.now) (abstract value.now) described.entry.octets.now a → ⊥)
-        (λ r. Under walk.entry.schema.now walk.entry.checks [] (kind_of core.now) (abstract value.now) described.entry.octets.now a × (flat r.now ≡ rest)) }
+        (Under walk.entry.schema.now walk.entry.checks [] (kind_of core.now) (abstract value.now)
+        described.entry.octets.now a
+        → ⊥)
+        (λ r. Under walk.entry.schema.now walk.entry.checks [] (kind_of core.now) (abstract value.now)
+        described.entry.octets.now a
+        × (flat r.now ≡ rest)) }
 {
     match core {
         Core::Choice(alternatives) => match chosen(walk, alternatives, value, described) {
@@ -134,8 +144,11 @@ fn headed<'r>(
     ensures { (a : Account) (rest : List FlatRow)
         → flat described.entry.rows.now ≡ rows_of a ++ rest
         → MatchOption result
-        (Under walk.entry.schema.now walk.entry.checks (tag ∷ []) (kind_of core.now) (abstract value.now) described.entry.octets.now a → ⊥)
-        (λ r. Under walk.entry.schema.now walk.entry.checks (tag ∷ []) (kind_of core.now) (abstract value.now) described.entry.octets.now a
+        (Under walk.entry.schema.now walk.entry.checks (tag ∷ []) (kind_of core.now) (abstract value.now)
+        described.entry.octets.now a
+        → ⊥)
+        (λ r. Under walk.entry.schema.now walk.entry.checks (tag ∷ []) (kind_of core.now) (abstract value.now)
+        described.entry.octets.now a
         × (flat r.now ≡ rest)) }
 {
     header_laws();
@@ -177,8 +190,11 @@ fn inside<'r>(
     ensures { (z : Numbers') (i : Inside) (rest : List FlatRow)
         → flat_row listed.now ∷ flat described.entry.rows.now ≡ rows_of (header z i) ++ rest
         → MatchOption result
-        (InsideFollows walk.entry.schema.now walk.entry.checks (kind_of core.now) (abstract value.now) z.contents described.entry.octets.now i → ⊥)
-        (λ r. InsideFollows walk.entry.schema.now walk.entry.checks (kind_of core.now) (abstract value.now) z.contents described.entry.octets.now i
+        (InsideFollows walk.entry.schema.now walk.entry.checks (kind_of core.now) (abstract value.now)
+        z.contents described.entry.octets.now i
+        → ⊥)
+        (λ r. InsideFollows walk.entry.schema.now walk.entry.checks (kind_of core.now) (abstract value.now)
+        z.contents described.entry.octets.now i
         × (flat r.now ≡ rest)) }
 {
     match core {
@@ -275,7 +291,8 @@ fn held<'r>(
     contents: u32,
     described: Described<'_, 'r>,
 ) -> Option<&'r [Row]>
-    requires value { (i : ℕ) (v : AbstractValue) → abstract value.now ≡ alternative i v → IsChosen walk.schema.now walk.levels
+    requires value { (i : ℕ) (v : AbstractValue) → abstract value.now ≡ alternative i v
+        → IsChosen walk.schema.now walk.levels
         (map alternative_of alternatives.now.root.items ++ map alternative_of alternatives.now.additions.items) i v }
     requires few { walk.levels ≤ 64 }
     ensures { (a : Account) (rest : List FlatRow)
@@ -309,7 +326,8 @@ fn chosen<'r>(
     value: &Value,
     described: Described<'_, 'r>,
 ) -> Option<&'r [Row]>
-    requires value { (i : ℕ) (v : AbstractValue) → abstract value.now ≡ alternative i v → IsChosen walk.schema.now walk.levels
+    requires value { (i : ℕ) (v : AbstractValue) → abstract value.now ≡ alternative i v
+        → IsChosen walk.schema.now walk.levels
         (map alternative_of alternatives.now.root.items ++ map alternative_of alternatives.now.additions.items) i v }
     requires few { walk.levels ≤ 64 }
     ensures { (a : Account) (rest : List FlatRow)
@@ -351,8 +369,11 @@ pub(crate) fn written<'r>(
     ensures { (a : Account) (rest : List FlatRow)
         → flat described.entry.rows.now ≡ rows_of a ++ rest
         → MatchOption result
-        (WrittenAt walk.entry.schema.now walk.entry.checks place id.index (abstract value.now) described.entry.octets.now a → ⊥)
-        (λ r. WrittenAt walk.entry.schema.now walk.entry.checks place id.index (abstract value.now) described.entry.octets.now a
+        (WrittenAt walk.entry.schema.now walk.entry.checks place id.index (abstract value.now)
+        described.entry.octets.now a
+        → ⊥)
+        (λ r. WrittenAt walk.entry.schema.now walk.entry.checks place id.index (abstract value.now)
+        described.entry.octets.now a
         × (flat r.rows.now ≡ rest)
         × (r.size ≡ Some (octets_in a))) }
 {
