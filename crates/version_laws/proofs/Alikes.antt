@@ -20,6 +20,10 @@ pub record Laws : Type 0 where
   pub joined : (s : List Resolved) (t : ℕ) (v w x : AbstractValue) → Alike s t v w → Alike s t w x → Alike s t v x
   pub turned : (s : List Resolved) (t : ℕ) (v w : AbstractValue) → Alike s t v w → Alike s t w v
 
+-- the same laws, one by one
+pub laws_of : ((s : List Resolved) (cs : List Component) (vs ws : Row) → AlikeComponents s cs vs ws → GroupsAreWhole cs vs → GroupsAreWhole cs ws) → ((s : List Resolved) (m n t : ℕ) (v w : AbstractValue) → Alike s t v w → ValueIn s n t v → ValueIn s m t w → ValueIn s n t w) → ((s : List Resolved) (t : ℕ) (v w x : AbstractValue) → Alike s t v w → Alike s t w x → Alike s t v x) → ((s : List Resolved) (t : ℕ) (v w : AbstractValue) → Alike s t v w → Alike s t w v) → Laws
+laws_of g l j u = record { groups = g; levels = l; joined = j; turned = u }
+
 leaf_same : {s : List Resolved} {k k' : Kind} → IsLaterKind s k k' → IsLeaf k' → IsLeaf k
 leaf_same later_boolean h = h
 leaf_same (later_integer q) h = h
