@@ -10,14 +10,14 @@ use Rattle.trees.specs.declared.types.ListKind.{ListKind}
 use Rattle.trees.specs.Values.{Name, Tree}
 use Rattle.trees.specs.Types.{default}
 use Rattle.names.specs.proving.Distinct.{either}
-use Rattle.type_table.specs.Walks.{follow, onward}
 use Rattle.type_table.specs.declared.table.TypeNode.{TypeNode}
 use Rattle.type_table.specs.Seen.{kind_of, type_of}
-use Rattle.type_table.specs.Table.{Part, Type', Kind, members, IsUnderlying, IsLinked, next}
+use Rattle.type_table.specs.Table.{Part, Type', Kind, members, IsUnderlying, IsLinked}
 use Rattle.resolve.specs.Program.{Program, IsAssignment}
 use Rattle.value_notations.specs.Values.{IsTyped}
 use Rattle.settled.specs.values.Allowing.{Allows, AllowsCode}
 use Rattle.settled.specs.Settled.{IsTypedDefault, AreTypedDefaults, IsProgramSchema}
+use Rattle.extensions.proofs.CoreKinds.{one_core}
 use Rattle.extensions.specs.proving.Defaults.{IsDefaultOf, AreDefaultsOf, HasDefaults}
 use Rattle.typed_values.specs.declared.fault.ValueFault.{ValueFault}
 use Rattle.extensions.specs.declared.wrong.Wrong.{Wrong}
@@ -172,24 +172,6 @@ all_typed p table t i u M x l m cs c there home is s =
 
 -- ---- one core
 
-same_end : (f : ℕ → Option ℕ) (k m i c d : ℕ) → follow f k i ≡ Some c → f c ≡ None → follow f m i ≡ Some d → f d ≡ None → c ≡ d
-same_end f zero zero i c d e n g o = same_Some c d (sym e ∙ g)
-same_end f zero (suc m) i c d e n g o = absurd (go (f i) refl)
-  where
-    go : (x : Option ℕ) → f i ≡ x → ⊥
-    go None q = none-some d (sym (ap (λ y. onward y (λ j. follow f m j)) q) ∙ g)
-    go (Some j) q = none-some j (sym n ∙ sym (ap f (same_Some i c e)) ∙ q)
-same_end f (suc k) zero i c d e n g o = absurd (go (f i) refl)
-  where
-    go : (x : Option ℕ) → f i ≡ x → ⊥
-    go None q = none-some c (sym (ap (λ y. onward y (λ j. follow f k j)) q) ∙ e)
-    go (Some j) q = none-some j (sym o ∙ sym (ap f (same_Some i d g)) ∙ q)
-same_end f (suc k) (suc m) i c d e n g o = go (f i) refl (λ j. same_end f k m j c d)
-  where
-    go : (x : Option ℕ) → f i ≡ x → ((j : ℕ) → follow f k j ≡ Some c → f c ≡ None → follow f m j ≡ Some d → f d ≡ None → c ≡ d) → c ≡ d
-    go None q more = absurd (none-some c (sym (ap (λ y. onward y (λ j. follow f k j)) q) ∙ e))
-    go (Some j) q more = more j (sym (ap (λ y. onward y (λ j. follow f k j)) q) ∙ e) n (sym (ap (λ y. onward y (λ j. follow f m j)) q) ∙ g) o
-
 -- the DEFAULTs of a type are those of its core
 pub of_core : (p : Program) (i core : ℕ) (vs : List (Option AbstractValue)) (table : List (List (Option AbstractValue)))
     → AreTabled p (length p.types) table
@@ -197,7 +179,7 @@ pub of_core : (p : Program) (i core : ℕ) (vs : List (Option AbstractValue)) (t
     → slice_get table core ≡ Some vs
     → HasDefaults p i vs
 of_core p i core vs table t is e other u M x l m cs chain there home kind =
-    let same = same_end (next p.types) chain.steps is.steps i other core chain.chain chain.ends is.chain is.ends in
+    let same = one_core p.types i other core chain is in
     t.each core vs e M cs (record {
       type = u;
       there = sym (ap (slice_get p.types) same) ∙ there;
