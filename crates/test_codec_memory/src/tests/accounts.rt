@@ -1,7 +1,7 @@
 //! Accounts that are written and read as text while allocations fail one after another. Each call answers `Memory`, or
 //! gives the answer.
 
-use super::memory::{answer, report, sample_code};
+use super::memory::sample_code;
 use super::values::{SAMPLES, Sample, Typed};
 use account_checker::check;
 use account_checker::reason::Verdict;
@@ -10,7 +10,7 @@ use der_writer::write_der;
 use octet_account::account::Account;
 use std::alloc::Global;
 use std::test::Fail;
-use test_starving::{Starved, Turn, sweep};
+use test_starving::{Starved, Turn, check_sweep, turn_of};
 
 /// A long value with its encoding and the account of that, which is also a text.
 #[derive(Drop)]
@@ -55,7 +55,7 @@ struct Writing<'a> {
 impl<'a> Starved for Writing<'a> {
     fn call(&mut self, alloc: Global) -> Turn {
         match to_json(alloc, &self.described.account) {
-            Ok(text) => answer(text.as_str() == self.described.text.as_str()),
+            Ok(text) => turn_of(text.as_str() == self.described.text.as_str()),
             Err(_) => Turn::Refused,
         }
     }
@@ -71,7 +71,7 @@ impl<'a> Starved for Reading<'a> {
     fn call(&mut self, alloc: Global) -> Turn {
         let answered = from_json(alloc, self.described.text.as_str());
         match &answered {
-            Ok(account) => answer(self.described.is_right(account)),
+            Ok(account) => turn_of(self.described.is_right(account)),
             Err(AccountFault::Memory) => Turn::Refused,
             Err(AccountFault::NotAccount) => Turn::Wrong,
         }
@@ -88,7 +88,7 @@ struct Stopping<'a> {
 impl<'a> Starved for Stopping<'a> {
     fn call(&mut self, alloc: Global) -> Turn {
         match stop_of(alloc, self.text.as_bytes()) {
-            Ok(stop) => answer(stop == self.stop),
+            Ok(stop) => turn_of(stop == self.stop),
             Err(_) => Turn::Refused,
         }
     }
@@ -101,13 +101,11 @@ fn describe_sample(rt: &HostRuntime, sample: Sample) -> Result<(), Fail> {
     let mut writing = Writing {
         described: &described,
     };
-    let written = sweep(alloc, &mut writing)?;
-    report(rt, "to_json", written)?;
+    check_sweep(rt, "to_json", &mut writing)?;
     let mut reading = Reading {
         described: &described,
     };
-    let read = sweep(alloc, &mut reading)?;
-    report(rt, "from_json", read)
+    check_sweep(rt, "from_json", &mut reading)
 }
 
 #[test]
@@ -126,6 +124,5 @@ fn stop_of_with_ever_more_memory(rt: HostRuntime) -> Result<(), Fail> {
     let text = described.text.as_str();
     let stop = stop_of(alloc, text.as_bytes())?;
     let mut stopping = Stopping { text, stop };
-    let swept = sweep(alloc, &mut stopping)?;
-    report(&rt, "stop_of", swept)
+    check_sweep(&rt, "stop_of", &mut stopping)
 }

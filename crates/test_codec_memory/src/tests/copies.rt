@@ -1,7 +1,7 @@
 //! Values that are printed and copied, and schemas that are copied, measured and compared, while allocations fail one
 //! after another. Each call answers `Memory`, or gives the answer.
 
-use super::memory::{answer, report, sample_code};
+use super::memory::sample_code;
 use super::values::{SAMPLES, Sample, Typed, named};
 use asn_base::decide::is_value;
 use asn_base::same::same;
@@ -12,7 +12,7 @@ use decode_faults::ReadFault;
 use later_versions::later;
 use std::alloc::{AllocError, Global};
 use std::test::Fail;
-use test_starving::{Starved, Turn, sweep};
+use test_starving::{Starved, Turn, check_sweep, turn_of};
 use test_types::schema;
 use value_text::{Fault, print};
 use view_text::print_view;
@@ -28,7 +28,7 @@ impl<'a> Starved for Printing<'a> {
     fn call(&mut self, alloc: Global) -> Turn {
         let typed = self.typed;
         match print(alloc, &typed.schema, typed.id, &typed.value) {
-            Ok(text) => answer(text.as_str() == self.text),
+            Ok(text) => turn_of(text.as_str() == self.text),
             Err(Fault::Memory) => Turn::Refused,
             Err(Fault::NotOfType) => Turn::Wrong,
         }
@@ -45,7 +45,7 @@ impl<'a> Starved for CopyingValue<'a> {
     fn call(&mut self, alloc: Global) -> Turn {
         let typed = self.typed;
         match typed.value.copy(alloc) {
-            Ok(copy) => answer(same(&copy, &typed.value, &typed.schema, typed.id)),
+            Ok(copy) => turn_of(same(&copy, &typed.value, &typed.schema, typed.id)),
             Err(_) => Turn::Refused,
         }
     }
@@ -63,7 +63,7 @@ impl<'a> Starved for CopyingSchema<'a> {
         match typed.schema.copy(alloc) {
             Ok(copy) => {
                 let whole = copy.types().len() == typed.schema.types().len();
-                answer(whole && is_value(&typed.value, &copy, typed.id))
+                turn_of(whole && is_value(&typed.value, &copy, typed.id))
             }
             Err(_) => Turn::Refused,
         }
@@ -98,7 +98,7 @@ struct Comparing<'a> {
 impl<'a> Starved for Comparing<'a> {
     fn call(&mut self, alloc: Global) -> Turn {
         match later(alloc, self.schema, self.older, self.schema, self.newer) {
-            Ok(is_later) => answer(is_later == self.wanted),
+            Ok(is_later) => turn_of(is_later == self.wanted),
             Err(_) => Turn::Refused,
         }
     }
@@ -122,7 +122,7 @@ impl<'a> Starved for Showing<'a> {
             Err(_) => return Turn::Wrong,
         };
         match print_view(alloc, self.schema, self.id, &read.view) {
-            Ok(text) => answer(text.as_str() == self.text),
+            Ok(text) => turn_of(text.as_str() == self.text),
             Err(Fault::Memory) => Turn::Refused,
             Err(Fault::NotOfType) => Turn::Wrong,
         }
@@ -140,8 +140,7 @@ fn print_sample(rt: &HostRuntime, sample: Sample) -> Result<(), Fail> {
         typed: &typed,
         text: text.as_str(),
     };
-    let swept = sweep(alloc, &mut printing)?;
-    report(rt, "print", swept)
+    check_sweep(rt, "print", &mut printing)
 }
 
 /// Sweeps over `Value::copy` of the long value of a sample type.
@@ -149,8 +148,7 @@ fn copy_sample(rt: &HostRuntime, sample: Sample) -> Result<(), Fail> {
     let alloc = rt.alloc();
     let typed = Typed::of(alloc, sample)?;
     let mut copying = CopyingValue { typed: &typed };
-    let swept = sweep(alloc, &mut copying)?;
-    report(rt, "Value::copy", swept)
+    check_sweep(rt, "Value::copy", &mut copying)
 }
 
 /// Sweeps over `later` of two sample types.
@@ -163,8 +161,7 @@ fn compare(rt: &HostRuntime, older: &str, newer: &str, wanted: bool) -> Result<(
         newer: named(newer)?,
         wanted,
     };
-    let swept = sweep(alloc, &mut comparing)?;
-    report(rt, "later", swept)
+    check_sweep(rt, "later", &mut comparing)
 }
 
 /// The encoding of an OCTET STRING with 600 times the octet A5.
@@ -210,8 +207,7 @@ fn print_view_with_ever_more_memory(rt: HostRuntime) -> Result<(), Fail> {
         octets: octets.as_slice(),
         text: text.as_str(),
     };
-    let swept = sweep(alloc, &mut showing)?;
-    report(&rt, "print_view", swept)
+    check_sweep(&rt, "print_view", &mut showing)
 }
 
 #[test]
@@ -227,8 +223,7 @@ fn copy_of_a_schema_with_ever_more_memory(rt: HostRuntime) -> Result<(), Fail> {
     let alloc = rt.alloc();
     let typed = Typed::of(alloc, Sample::Rows)?;
     let mut copying = CopyingSchema { typed: &typed };
-    let swept = sweep(alloc, &mut copying)?;
-    report(&rt, "Schema::copy", swept)
+    check_sweep(&rt, "Schema::copy", &mut copying)
 }
 
 #[test]
@@ -237,8 +232,7 @@ fn measure_with_ever_more_memory(rt: HostRuntime) -> Result<(), Fail> {
     let mut measuring = Measuring {
         typed: Typed::of(alloc, Sample::Rows)?,
     };
-    let swept = sweep(alloc, &mut measuring)?;
-    report(&rt, "Schema::measure", swept)
+    check_sweep(&rt, "Schema::measure", &mut measuring)
 }
 
 #[test]

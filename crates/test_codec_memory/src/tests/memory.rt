@@ -8,7 +8,7 @@ use der_writer::{Sink, WriteFault, write_der, write_der_to};
 use std::alloc::Global;
 use std::io;
 use std::test::Fail;
-use test_starving::{Starved, Swept, Turn, sweep};
+use test_starving::{Starved, Turn, check_sweep, turn_of};
 use test_types::schema;
 
 /// A sink that takes no memory. It compares what it takes with the octets that it has.
@@ -75,7 +75,7 @@ struct Writing {
 impl Starved for Writing {
     fn call(&mut self, alloc: Global) -> Turn {
         match write_der(alloc, &self.code, self.id, &self.value) {
-            Ok((octets, _account)) => answer(octets.as_slice() == self.octets.as_slice()),
+            Ok((octets, _account)) => turn_of(octets.as_slice() == self.octets.as_slice()),
             Err(WriteFault::Memory) => Turn::Refused,
             Err(_) => Turn::Wrong,
         }
@@ -109,30 +109,6 @@ impl Starved for Sending {
     }
 }
 
-/// The result of a turn with an answer that is right or wrong.
-pub fn answer(right: bool) -> Turn {
-    if right { Turn::Right } else { Turn::Wrong }
-}
-
-/// Checks that a sweep had many calls that failed and many that were right, and no other ones.
-pub fn report(rt: &HostRuntime, name: &str, swept: Swept) -> Result<(), Fail> {
-    match swept {
-        Swept::Endless => Ok(()),
-        Swept::Wrong(turn) => {
-            eprintln!(rt; "{name}: wrong in turn {turn}")?;
-            Err("another answer".into())
-        }
-        Swept::Through { refused, right } => {
-            eprintln!(rt; "{name}: refused {refused}, right {right}")?;
-            if refused > 20 && right > 100 {
-                Ok(())
-            } else {
-                Err("too few turns of a kind".into())
-            }
-        }
-    }
-}
-
 /// The code of the sample types.
 pub fn sample_code(alloc: Global) -> Result<Code, Fail> {
     let schema = schema(alloc)?;
@@ -151,8 +127,7 @@ fn compile_with_ever_more_memory(rt: HostRuntime) -> Result<(), Fail> {
         id: named("mixed")?,
         steps: 7,
     };
-    let swept = sweep(alloc, &mut compiling)?;
-    report(&rt, "compile", swept)
+    check_sweep(&rt, "compile", &mut compiling)
 }
 
 #[test]
@@ -164,8 +139,7 @@ fn write_der_with_ever_more_memory(rt: HostRuntime) -> Result<(), Fail> {
         value: mixed_value(alloc)?,
         octets: mixed_octets(alloc)?,
     };
-    let swept = sweep(alloc, &mut writing)?;
-    report(&rt, "write_der", swept)
+    check_sweep(&rt, "write_der", &mut writing)
 }
 
 #[test]
@@ -182,6 +156,5 @@ fn write_der_to_with_ever_more_memory(rt: HostRuntime) -> Result<(), Fail> {
             failures: 0,
         },
     };
-    let swept = sweep(alloc, &mut sending)?;
-    report(&rt, "write_der_to", swept)
+    check_sweep(&rt, "write_der_to", &mut sending)
 }

@@ -1,7 +1,6 @@
 //! Messages of unaligned canonical PER that are made and read while allocations fail one after another. Each call
 //! answers `Memory`, or gives the answer.
 
-use super::memory::{answer, report};
 use super::values::{SAMPLES, Sample, Typed};
 use asn_base::same::same;
 use asn_base::schema::Schema;
@@ -11,7 +10,7 @@ use packed_reader::{PerFault, RefusedBits, read_uper};
 use packed_writer::{WriteFault, write_uper};
 use std::alloc::Global;
 use std::test::Fail;
-use test_starving::{Starved, Turn, sweep};
+use test_starving::{Starved, Turn, check_sweep, turn_of};
 use test_types::schema;
 
 /// `compile_packed`: the code has as many types as the schema.
@@ -23,7 +22,7 @@ struct Compiling<'a> {
 impl<'a> Starved for Compiling<'a> {
     fn call(&mut self, alloc: Global) -> Turn {
         match compile_packed(alloc, self.schema) {
-            Ok(code) => answer(code.schema().types().len() == self.schema.types().len()),
+            Ok(code) => turn_of(code.schema().types().len() == self.schema.types().len()),
             Err(Fault::Memory) => Turn::Refused,
         }
     }
@@ -65,7 +64,7 @@ impl<'a> Starved for Writing<'a> {
     fn call(&mut self, alloc: Global) -> Turn {
         let packed = self.packed;
         match write_uper(alloc, &packed.code, packed.typed.id, &packed.typed.value) {
-            Ok(octets) => answer(octets.as_slice() == packed.octets.as_slice()),
+            Ok(octets) => turn_of(octets.as_slice() == packed.octets.as_slice()),
             Err(WriteFault::Memory) => Turn::Refused,
             Err(_) => Turn::Wrong,
         }
@@ -84,7 +83,7 @@ impl<'a> Starved for Reading<'a> {
         let typed = &packed.typed;
         let answered = read_uper(alloc, &packed.code, typed.id, packed.octets.as_slice());
         match &answered {
-            Ok((value, 0)) => answer(same(value, &typed.value, &typed.schema, typed.id)),
+            Ok((value, 0)) => turn_of(same(value, &typed.value, &typed.schema, typed.id)),
             Err(PerFault::Memory) => Turn::Refused,
             _ => Turn::Wrong,
         }
@@ -110,7 +109,7 @@ impl<'a> Starved for Refusing<'a> {
         let answered = read_uper(alloc, &packed.code, packed.typed.id, front);
         match &answered {
             Err(PerFault::Memory) => Turn::Refused,
-            Err(PerFault::Refused(refused)) => answer(ends_in_an_element(refused)),
+            Err(PerFault::Refused(refused)) => turn_of(ends_in_an_element(refused)),
             _ => Turn::Wrong,
         }
     }
@@ -121,14 +120,11 @@ fn pack_sample(rt: &HostRuntime, sample: Sample) -> Result<(), Fail> {
     let alloc = rt.alloc();
     let packed = Packed::of(alloc, sample)?;
     let mut writing = Writing { packed: &packed };
-    let written = sweep(alloc, &mut writing)?;
-    report(rt, "write_uper", written)?;
+    check_sweep(rt, "write_uper", &mut writing)?;
     let mut reading = Reading { packed: &packed };
-    let read = sweep(alloc, &mut reading)?;
-    report(rt, "read_uper", read)?;
+    check_sweep(rt, "read_uper", &mut reading)?;
     let mut refusing = Refusing { packed: &packed };
-    let refused = sweep(alloc, &mut refusing)?;
-    report(rt, "read_uper of a front", refused)
+    check_sweep(rt, "read_uper of a front", &mut refusing)
 }
 
 #[test]
@@ -136,8 +132,7 @@ fn compile_packed_with_ever_more_memory(rt: HostRuntime) -> Result<(), Fail> {
     let alloc = rt.alloc();
     let schema = schema(alloc)?;
     let mut compiling = Compiling { schema: &schema };
-    let swept = sweep(alloc, &mut compiling)?;
-    report(&rt, "compile_packed", swept)
+    check_sweep(&rt, "compile_packed", &mut compiling)
 }
 
 #[test]

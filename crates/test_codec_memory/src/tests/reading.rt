@@ -1,6 +1,6 @@
 //! Messages that are decoded while allocations fail one after another. Each call answers `Memory`, or gives the answer.
 
-use super::memory::{report, sample_code};
+use super::memory::sample_code;
 use super::values::named;
 use asn_base::schema::TypeId;
 use ber_reader::{locate_error, read_ber, read_der};
@@ -8,7 +8,7 @@ use codec_code::Code;
 use decode_faults::ReadFault;
 use std::alloc::{AllocError, Global};
 use std::test::Fail;
-use test_starving::{Starved, Swept, Turn, sweep};
+use test_starving::{Starved, Swept, Turn, check_sweep, sweep};
 
 /// `read_ber`: the answer is a number of skipped additions, or the fault.
 #[derive(Drop)]
@@ -89,8 +89,7 @@ fn read_ber_with_ever_more_memory(rt: HostRuntime) -> Result<(), Fail> {
         octets: two_unknown(alloc)?,
         wanted: Ok(2),
     };
-    let swept = sweep(alloc, &mut reading)?;
-    report(&rt, "read_ber", swept)
+    check_sweep(&rt, "read_ber", &mut reading)
 }
 
 /// The same octets keep the distinguished rules: known tags ascend, and unknown additions may be anywhere.
@@ -103,8 +102,7 @@ fn read_der_with_ever_more_memory(rt: HostRuntime) -> Result<(), Fail> {
         octets: two_unknown(alloc)?,
         skipped: 2,
     };
-    let swept = sweep(alloc, &mut reading)?;
-    report(&rt, "read_der", swept)
+    check_sweep(&rt, "read_der", &mut reading)
 }
 
 /// The decoder doesn't allocate by an announced length before it checks that the message is long enough. So each turn
@@ -144,6 +142,5 @@ fn locate_error_with_ever_more_memory(rt: HostRuntime) -> Result<(), Fail> {
         place: 9,
         open: 4,
     };
-    let swept = sweep(alloc, &mut finding)?;
-    report(&rt, "locate_error", swept)
+    check_sweep(&rt, "locate_error", &mut finding)
 }
