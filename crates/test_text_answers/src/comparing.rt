@@ -9,39 +9,13 @@
 ghost use Rattle.std.specs.Prelude.{IfOk, map, string_bytes};
 ghost use Rattle.row_format.specs.Rows.{IsEntry};
 
+use crate::tokens::mark_text;
 use expected_tokens::{ALL, expected};
 use notation::SyntaxFault;
 use row_format::Row;
 use std::alloc::{AllocError, Global};
 use syntax::parse;
-use text::{LexFault, Mark, Token, TokenKind};
-
-fn mark_text(mark: Mark) -> &'static str {
-    match mark {
-        Mark::Assign => "::=",
-        Mark::Ellipsis => "...",
-        Mark::Range => "..",
-        Mark::OpenVersion => "[[",
-        Mark::CloseVersion => "]]",
-        Mark::Dot => ".",
-        Mark::Comma => ",",
-        Mark::Semicolon => ";",
-        Mark::Colon => ":",
-        Mark::OpenBrace => "{",
-        Mark::CloseBrace => "}",
-        Mark::OpenParenthesis => "(",
-        Mark::CloseParenthesis => ")",
-        Mark::OpenBracket => "[",
-        Mark::CloseBracket => "]",
-        Mark::Bar => "|",
-        Mark::Minus => "-",
-        Mark::Caret => "^",
-        Mark::Less => "<",
-        Mark::Exclamation => "!",
-        Mark::At => "@",
-        Mark::Ampersand => "&",
-    }
-}
+use text::{LexFault, Token, TokenKind};
 
 /// A spelling of a token of this kind.
 fn sample(kind: TokenKind) -> &'static str {

@@ -4,7 +4,8 @@ use crate::pieces::{put_between, put_octets};
 use std::alloc::AllocError;
 use text::{Mark, Token, TokenKind};
 
-fn mark_text(mark: Mark) -> &'static str {
+/// The spelling of a mark.
+pub fn mark_text(mark: Mark) -> &'static str {
     match mark {
         Mark::Assign => "::=",
         Mark::Ellipsis => "...",
