@@ -174,8 +174,8 @@ fn headed<'r>(
     }
 }
 
-/// Whether the rows within a header follow a value of this kind. `listed` is the row of the header, and the contents are
-/// described by the rows after it.
+/// Whether the rows within a header follow a value of this kind. `listed` is the row of the header. The rows after it
+/// describe the contents octets.
 #[cycle(follow)]
 fn inside<'r>(
     walk: Walk<'_>,
