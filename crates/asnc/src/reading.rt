@@ -67,12 +67,11 @@ fn not_der(
         Err(ReadFault::Memory) => return Err(AllocError),
         Err(_) => return Ok(None),
     };
-    let value = read.view.to_value(alloc)?;
     let encoded = Encoded {
         schema,
         code,
         ty: id,
-        value: &value,
+        view: &read.view,
         octets,
     };
     match broken_rule(alloc, encoded)? {
