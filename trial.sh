@@ -433,7 +433,7 @@ count_edits() {
   printf '%-20s %8s %8s %15s\n' crate gate trial 'of definitions'
   for name in "${crates[@]}"; do
     edits_of "$name"
-  done | xargs -r awk '
+  done | xargs -r -s 1000000 awk '
     FNR == 1 { count = split(FILENAME, part, "/"); name = part[count - 2]; kind = part[count - 1]; first = 1 }
     /^file: / && first {
       first = 0
@@ -456,7 +456,7 @@ show_edits() {
   local name
   for name in "${crates[@]}"; do
     edits_of "$name"
-  done | xargs -r awk '
+  done | xargs -r -s 1000000 awk '
     function show() { if (name != "") printf "%-16s %-6s %-46s %-24s %s\n", crate, kind, name, file, found }
     FNR == 1 {
       show()
