@@ -232,7 +232,7 @@ module _ (takes : (a b : State) (e : Event) → Answers a e b → Takes a e b) w
   takes_budget : {a b : State} (e : Event) (r : ℕ) → IsNoBegin e → Takes a e b → Takes (with_budget a r) e (with_budget b r)
   takes_budget {a} {b} e r n x = takes (with_budget a r) (with_budget b r) e (answer_budget a b e r n x.answer)
 
-  asks_budget : {ss following : List Step} {t : Option TypeId} {a b : State} (r : ℕ) → Asks Takes ss a following t b → Asks Takes ss (with_budget a r) following t (with_budget b r)
+  pub asks_budget : {ss following : List Step} {t : Option TypeId} {a b : State} (r : ℕ) → Asks Takes ss a following t b → Asks Takes ss (with_budget a r) following t (with_budget b r)
   asks_budget r (head x) = head (takes_budget _ r tt x)
   asks_budget r (ending x) = ending (takes_budget _ r tt x)
   asks_budget r (leaf x) = leaf (takes_budget _ r tt x)
@@ -274,7 +274,7 @@ module _ (takes : (a b : State) (e : Event) → Answers a e b → Takes a e b) w
   }
 
   -- it may begin
-  may_begin : {y Y a : State} {t u : TypeId} {r : ℕ} (l : ℕ) → Y ≡ with_budget y r → u ≡ t → r ≡ suc l → Takes y (begins t) a → Takes Y (begins u) (begun_at Y u l)
+  pub may_begin : {y Y a : State} {t u : TypeId} {r : ℕ} (l : ℕ) → Y ≡ with_budget y r → u ≡ t → r ≡ suc l → Takes y (begins t) a → Takes Y (begins u) (begun_at Y u l)
   may_begin {y} {Y} {a} {t} {u} l e f k g = takes Y (begun_at Y u l) (begins u) (record {
     left = l;
     has_budget = ap (λ q. q.budget) e ∙ k;
@@ -283,7 +283,7 @@ module _ (takes : (a b : State) (e : Event) → Answers a e b → Takes a e b) w
   })
 
   -- a value that ends in both
-  ended_here : {b c Y : State} {l : ℕ} → Y ≡ with_budget b l → Takes b ends c → Takes Y ends (with_budget c l)
+  pub ended_here : {b c Y : State} {l : ℕ} → Y ≡ with_budget b l → Takes b ends c → Takes Y ends (with_budget c l)
   ended_here {b} {c} {Y} {l} e x = subst (λ q. Takes q ends (with_budget c l)) (sym e) (takes_budget ends l tt x)
 
   ended_again : {b c Y Z : State} {l : ℕ} → Y ≡ with_budget b l → Takes b ends c → Takes Y ends Z → Z ≡ with_budget c l

@@ -1,13 +1,13 @@
 -- Ways to a value that begins, token by token.
-use Rattle.std.proofs.Common.{arith, ◌≡◌, ℕ, suc, ◌+◌, ◌<◌, ◌≤◌, ◌↔◌, IsTrue, Bool, true, false, List, [], ◌∷◌, ◌++◌, length, map, refl, sym, ap, subst, ◌∙◌, slice_index_or}
+use Rattle.std.proofs.Common.{arith, ◌≡◌, ℕ, zero, suc, ◌+◌, ◌<◌, ◌≤◌, ◌↔◌, IsTrue, Bool, true, false, List, [], ◌∷◌, ◌++◌, length, map, refl, sym, ap, subst, ◌∙◌, slice_index_or}
 use Rattle.std.proofs.lemmas.List.{map-append}
 use Rattle.std.specs.Prelude.{drop}
 use Rattle.ber_source.specs.declared.token.Token.{Token as Token'}
 use Rattle.ber_source.specs.Seen.{token_of}
 use Rattle.octet_answers.specs.States.{Token, component, chosen, begun, ended, held, passed}
 use Rattle.ber_message.specs.declared.open.OpenValue.{OpenValue}
-use Rattle.ber_message.specs.Opened.{on_last, entered, opens_after}
-use Rattle.ber_message.specs.Paths.{begun_in, on_path, Leads, BeginsBefore, no_token, leads_here, leads_on, none_begins}
+use Rattle.ber_message.specs.Opened.{on_last, entered, opens, opens_after, opens_from}
+use Rattle.ber_message.specs.Paths.{begun_in, front_with, on_path, Leads, BeginsBefore, no_token, leads_here, leads_on, none_begins}
 use Rattle.ber_message.proofs.Opened.{Few, few_after, on_last_one, drop_at, none_left}
 
 -- ---- the same open values
@@ -169,3 +169,59 @@ pub all_passed : (path : List OpenValue) (tokens : List Token') (i : ℕ) (os : 
 all_passed path tokens i os b l p =
     let z : b + 0 ≡ b = omega arith in
     subst (BeginsBefore path [] (map token_of tokens)) z (p.all 0 (subst (λ q. BeginsBefore path os (map token_of q) 0) (sym (none_left tokens i l)) no_token))
+
+-- ---- up to a value
+
+front_stop : (left : ℕ) (t : Token) (ts : List Token) → left < begun_in (t ∷ []) → front_with left (t ∷ ts) ≡ []
+front_stop zero (begun u) ts l = refl
+front_stop (suc n) (begun u) ts l = absurd (omega (arith, l))
+front_stop left (component i) ts l = absurd (omega (arith, l))
+front_stop left (chosen i) ts l = absurd (omega (arith, l))
+front_stop left ended ts l = absurd (omega (arith, l))
+front_stop left (held k c x at) ts l = absurd (omega (arith, l))
+front_stop left passed ts l = absurd (omega (arith, l))
+
+front_step : (left rest : ℕ) (t : Token) (ts : List Token) → left ≡ begun_in (t ∷ []) + rest → front_with left (t ∷ ts) ≡ t ∷ front_with rest ts
+front_step zero rest (begun u) ts e = absurd (omega (arith, e))
+front_step (suc n) rest (begun u) ts e = let f : n ≡ rest = omega (arith, e) in ap (λ q. begun u ∷ front_with q ts) f
+front_step left rest (component i) ts e = let f : left ≡ rest = omega (arith, e) in ap (λ q. component i ∷ front_with q ts) f
+front_step left rest (chosen i) ts e = let f : left ≡ rest = omega (arith, e) in ap (λ q. chosen i ∷ front_with q ts) f
+front_step left rest ended ts e = let f : left ≡ rest = omega (arith, e) in ap (λ q. ended ∷ front_with q ts) f
+front_step left rest (held k c x at) ts e = let f : left ≡ rest = omega (arith, e) in ap (λ q. held k c x at ∷ front_with q ts) f
+front_step left rest passed ts e = let f : left ≡ rest = omega (arith, e) in ap (λ q. passed ∷ front_with q ts) f
+
+-- the first i tokens were taken, and `left` more values may begin
+pub record Fronted (most : ℕ) (tokens : List Token') (i : ℕ) (os : List OpenValue) (left : ℕ) : Type 0 where
+  pub seen : opens_from os (front_with left (map token_of (drop i tokens))) ≡ opens (front_with most (map token_of tokens))
+  pub few : Few i os
+
+pub none_fronted : (most : ℕ) (tokens : List Token') (os : List OpenValue) → os ≡ [] → Fronted most tokens 0 os most
+none_fronted most tokens os e = subst (λ q. Fronted most tokens 0 q most) (sym e) (record { seen = refl; few = tt })
+
+pub one_fronted : (most : ℕ) (tokens : List Token') (i : ℕ) (os ps : List OpenValue) (left rest : ℕ) (d : Token') → i < length tokens → Fronted most tokens i os left
+    → ps ≡ opens_after os (token_of (slice_index_or tokens i d))
+    → left ≡ begun_in (token_of (slice_index_or tokens i d) ∷ []) + rest
+    → Fronted most tokens (suc i) ps rest
+one_fronted most tokens i os ps left rest d l p e f =
+    let t = token_of (slice_index_or tokens i d) in
+    let ts = map token_of (drop (suc i) tokens) in
+    record {
+      seen = ap (λ q. opens_from q (front_with rest ts)) e
+          ∙ ap (opens_from os) (sym (front_step left rest t ts f))
+          ∙ ap (λ q. opens_from os (front_with left (map token_of q))) (sym (drop_at tokens i d l))
+          ∙ p.seen;
+      few = subst (Few (suc i)) (sym e) (few_after i os t p.few);
+    }
+
+pub front_found : (most : ℕ) (tokens : List Token') (i : ℕ) (os : List OpenValue) (left : ℕ) (d : Token') → i < length tokens → Fronted most tokens i os left
+    → left < begun_in (token_of (slice_index_or tokens i d) ∷ [])
+    → os ≡ opens (front_with most (map token_of tokens))
+front_found most tokens i os left d l p m =
+    let t = token_of (slice_index_or tokens i d) in
+    let ts = map token_of (drop (suc i) tokens) in
+    ap (opens_from os) (sym (front_stop left t ts m))
+    ∙ ap (λ q. opens_from os (front_with left (map token_of q))) (sym (drop_at tokens i d l))
+    ∙ p.seen
+
+pub all_fronted : (most : ℕ) (tokens : List Token') (i : ℕ) (os : List OpenValue) (left : ℕ) → length tokens ≤ i → Fronted most tokens i os left → os ≡ opens (front_with most (map token_of tokens))
+all_fronted most tokens i os left l p = ap (λ q. opens_from os (front_with left (map token_of q))) (sym (none_left tokens i l)) ∙ p.seen

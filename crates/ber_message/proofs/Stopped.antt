@@ -171,7 +171,7 @@ not_memory f m e = missing_memory (sym m ∙ e)
 -- ---- one more value would begin than may
 
 -- no value begins or ends if none may begin
-left_open : {a b : State} {t : TypeId} {e : ReadFault} → Leaves a (to_begin t) b e → opens b.emitted ≡ opens a.emitted
+pub left_open : {a b : State} {t : TypeId} {e : ReadFault} → Leaves a (to_begin t) b e → opens b.emitted ≡ opens a.emitted
 left_open (no_budget n) = refl
 
 none_before : {a b : ℕ} → a < b → b ≤ a → ⊥

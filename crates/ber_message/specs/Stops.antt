@@ -1,5 +1,5 @@
 -- Where reading of a message stops.
-use Rattle.std.specs.Prelude.{◌≡◌, ℕ, ◌<◌, ◌≤◌, List, [], length, map}
+use Rattle.std.specs.Prelude.{◌≡◌, ℕ, ◌<◌, ◌≤◌, List, [], length}
 use Rattle.asn_base.specs.declared.schema.TypeId.{TypeId}
 use Rattle.asn_base.specs.Types.{Resolved}
 use Rattle.encodings.specs.Header.{Octets}
@@ -11,7 +11,11 @@ use Rattle.octet_answers.specs.Answers.{Takes}
 use Rattle.octet_answers.specs.Unanswered.{Leaves}
 use Rattle.octet_answers.specs.States.{State, Token, front}
 use Rattle.laws_reading.specs.TokensShow.{IsSliceAt}
-use Rattle.ber_source.specs.Seen.{token_of}
+use Rattle.ber_source.specs.Seen.{listed}
+use Rattle.ber_views.specs.Noted.{Noted, noted, Notes}
+use Rattle.ber_views.specs.Traced.{IsTraceOf}
+use Rattle.ber_views.specs.declared.trace.Trace.{Trace}
+use Rattle.views.specs.Tree.{value_of}
 use Rattle.ber_message.specs.Messages.{IsMessage, IsRead, budget_of}
 use Rattle.ber_message.specs.Opened.{entered, on_last, opens}
 use Rattle.ber_message.specs.declared.stop.ErrorPosition.{ErrorPosition}
@@ -60,7 +64,17 @@ pub record IsUnread (s : List Resolved) (t : TypeId) (o : Octets) (w : ErrorPosi
   pub within : w.place ≤ length o
   pub unread : length o ≤ 16777216 → t.index < length s → IsRead s t o → ⊥
 
+-- The octets are a message of the type. The trace has the tokens that the type's routine reads, the view of the value,
+-- and the offset of the first octet that isn't read when each value begins.
+pub record IsTraced (s : List Resolved) (t : TypeId) (o : Octets) (r : Trace) : Type 0 where
+  pub last : Noted
+  pub reads : Reads (λ u. routine_at s u) Notes t (noted (front s o (budget_of (length o))) []) last
+  pub at_end : last.state.here.octets ≡ []
+  pub kept : IsTraceOf last r
+  pub tokens : AreTokensOf s t o (listed r.tokens)
+  pub value : value_of r.built.view ≡ tokens.message.value
+
 -- what comes of octets that are tried as a message of the type
 abbrev pub IsTried : List Resolved → TypeId → Octets → Tried → Type 0
-IsTried s t o (Whole ts) = AreTokensOf s t o (map token_of ts.items)
+IsTried s t o (Whole r) = IsTraced s t o r
 IsTried s t o (Stopped w) = IsUnread s t o w

@@ -1,7 +1,7 @@
 //! Ways to a value that begins.
 
-ghost use Rattle.ber_message.specs.Opened.{entered as entered'};
-ghost use Rattle.ber_message.specs.Paths.{BeginsBefore, begun_in, Leads, on_path};
+ghost use Rattle.ber_message.specs.Opened.{entered as entered', opens};
+ghost use Rattle.ber_message.specs.Paths.{BeginsBefore, begun_in, front_with, Leads, on_path};
 ghost use Rattle.ber_source.specs.Seen.{token_of};
 ghost use Rattle.std.specs.Prelude.{◌≡◌, ◌↔◌, ◌∷◌, [], IfOk, IsTrue, map};
 
@@ -99,4 +99,26 @@ pub fn begun_before(
         begun += begun_by(tokens[i]);
     }
     Ok(begun)
+}
+
+/// The values that are open before the value begins before which `most` others begin, or after all tokens, if no more
+/// values begin. `AllocError` comes only if an allocation fails.
+pub(crate) fn open_before(
+    alloc: Global,
+    tokens: &[Token<'_>],
+    most: usize,
+) -> Result<Vec<OpenValue>, AllocError>
+    ensures { IfOk result (λ list. list.items ≡ opens (front_with most (map token_of tokens.now))) }
+{
+    let mut list = Vec::new(alloc);
+    let mut left = most;
+    for i in 0..tokens.len() {
+        let one = begun_by(tokens[i]);
+        if one > left {
+            return Ok(list);
+        }
+        take(&mut list, tokens[i])?;
+        left -= one;
+    }
+    Ok(list)
 }

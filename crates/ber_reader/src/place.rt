@@ -1,22 +1,19 @@
 //! The octet at which a message is refused.
 
 ghost use Rattle.ber_message.specs.Messages.{IsMessage, IsRead, EncodesNoValue, budget_of};
-ghost use Rattle.ber_message.specs.Stops.{IsStop, IsStopBefore};
+ghost use Rattle.ber_message.specs.Stops.{IsStop, IsStopBefore, IsTraced};
 ghost use Rattle.ber_reader.specs.Judged.{IsBeforeWrong, piece};
 ghost use Rattle.ber_reader.specs.Readings.{IsBeforeInnermost, IsErrorPosition};
-ghost use Rattle.ber_source.specs.Seen.{token_of};
+ghost use Rattle.ber_source.specs.Seen.{listed};
 ghost use Rattle.octet_answers.specs.States.{Token as Token'};
-ghost use Rattle.decode_faults.specs.declared.read_fault.ReadFault.TheVariants.{Memory};
-ghost use Rattle.std.specs.Prelude.{◌≡◌, ◌<◌, ◌≤◌, false, IfOk, length, List, map};
+ghost use Rattle.std.specs.Prelude.{◌≡◌, ◌<◌, ◌≤◌, IfOk, length, List};
 
 use crate::wrong::path_to_wrong;
 use asn_base::schema::TypeId;
-use ber_message::{
-    ErrorPosition, Tried, begun_before, most_values, read_view, stop_of, try_message,
-};
-use ber_source::Token;
+use ber_message::{ErrorPosition, Tried, begun_before, most_values, stop_of, try_message};
+use ber_views::Trace;
 use codec_code::Code;
-use decode_faults::ReadFault;
+use encodings::schema_laws;
 use std::alloc::{AllocError, Global};
 
 /// Returns where `read_ber` refuses a message: the offset of the octet, from 0, and the values that are open there.
@@ -54,9 +51,9 @@ pub fn locate_error(
 {
     let tried = try_message(alloc, code, id, octets)?;
     match tried {
-        Tried::Whole(tokens) => {
-            let most = before_wrong(alloc, code, id, octets, tokens.as_slice())?;
-            let mut stop = stop_of(alloc, code, id, octets, most)?;
+        Tried::Whole(trace) => {
+            let most = before_wrong(alloc, code, id, octets, &trace)?;
+            let mut stop = stop_of(alloc, &trace, most)?;
             stop.enter()?;
             Ok(stop)
         }
@@ -64,41 +61,26 @@ pub fn locate_error(
     }
 }
 
-fn is_memory(fault: ReadFault) -> bool
-    ensures { result ≡ false → fault ≡ Memory → ⊥ }
-{
-    fault == ReadFault::Memory
-}
-
-/// The number of values that begin in the message before the innermost one that isn't a value of its type. The tokens
-/// are those of the message.
+/// The number of values that begin in the message before the innermost one that isn't a value of its type. The trace is
+/// that of the message.
 fn before_wrong(
     alloc: Global,
     code: &Code,
     id: TypeId,
     octets: &[u8],
-    tokens: &[Token<'_>],
+    trace: &Trace<'_>,
 ) -> Result<usize, AllocError>
-    ensures { IsRead code.now id octets.now
-        → (n : EncodesNoValue code.now id.index octets.now)
-        → IsMessage code.now id.index octets.now (map token_of tokens.now)
-        → IfOk result (IsBeforeWrong code.now (piece id.index n.value) (map token_of tokens.now)) }
+    ensures { (n : EncodesNoValue code.now id.index octets.now)
+        → IsTraced code.now id octets.now trace.now
+        → IfOk result (IsBeforeWrong code.now (piece id.index n.value) (listed trace.now.tokens)) }
 {
     code.lemma_invariant();
-    let built = match read_view(alloc, code, id, octets) {
-        Ok(built) => built,
-        Err(fault) => {
-            if is_memory(fault) {
-                return Err(AllocError);
-            }
-            return Ok(most_values(octets));
-        }
-    };
-    let value = built.view.to_value(alloc)?;
+    schema_laws();
+    let value = trace.built.view.to_value(alloc)?;
     if code.is_value(id, &value) {
         return Ok(most_values(octets));
     }
     let mut path = Vec::new(alloc);
     path_to_wrong(code, id, &value, &mut path)?;
-    begun_before(alloc, tokens, path.as_slice())
+    begun_before(alloc, trace.tokens.as_slice(), path.as_slice())
 }

@@ -2,3 +2,4 @@ pub mod Leaves
 pub mod Faithful
 pub mod Taken
 pub mod Summary
+pub mod Noting

@@ -1,55 +1,17 @@
-use Rattle.std.proofs.Common.{subst}
-use Rattle.codec_code.specs.Routines.{routine_at}
-use Rattle.codec_source.specs.Reading.{Reads}
-use Rattle.codec_source.specs.Stopping.{StopsReading}
-use Rattle.octet_answers.specs.Answers.{Takes}
-use Rattle.octet_answers.specs.Unanswered.{Leaves}
-use Rattle.ber_message.specs.Stops.{stops, reads}
-use Rattle.ber_message.proofs.Stopped.{stop_emitted, place_emitted, stopped_before}
+use Rattle.std.proofs.Common.{ap, map, ◌∙◌}
+use Rattle.ber_source.specs.Seen.{token_of}
+use Rattle.ber_message.specs.Opened.{opens}
+use Rattle.ber_message.specs.Paths.{front_with}
+use Rattle.ber_message.proofs.Traces.{open_there, stop_there, stop_within}
 use Rattle.ber_message.proofs.stop.stop_of.Goals as goal
 
-pub returns-in-Ok-read-clause-is : goal.returns-in-Ok-read-clause-is
-returns-in-Ok-read-clause-is c =
-    let s = c.args.code.now in
-    let t = c.args.id in
-    let o = c.args.octets.now in
-    let m = c.args.most in
-    let z = c.read.new.source in
-    let r = subst (λ q. Reads (λ u. routine_at s u) Takes t q z) c.in-Ok.ensures.ok c.in-Ok-read.ensures.ok in
-    stop_emitted s t o m z c.emitted.result (λ w a. reads z r a) (c.lemma_stops_in_place.ensures.read s t o m z r) c.emitted.ensures.place c.emitted.ensures.values
-
-pub returns-in-Ok-read-clause-place : goal.returns-in-Ok-read-clause-place
-returns-in-Ok-read-clause-place c =
-    let s = c.args.code.now in
-    let t = c.args.id in
-    let o = c.args.octets.now in
-    let z = c.read.new.source in
-    let r = subst (λ q. Reads (λ u. routine_at s u) Takes t q z) c.in-Ok.ensures.ok c.in-Ok-read.ensures.ok in
-    place_emitted o z c.emitted.result (c.lemma_stops_in_place.ensures.read s t o c.args.most z r) c.emitted.ensures.place
-
 pub returns-clause-is : goal.returns-clause-is
-returns-clause-is c =
-    let s = c.args.code.now in
-    let t = c.args.id in
-    let o = c.args.octets.now in
-    let m = c.args.most in
-    let e = c.in-Err-read.fault in
-    let z = c.read.new.source in
-    let r = subst (λ q. StopsReading (λ u. routine_at s u) Takes (λ a q b. Leaves a q b e) t q z) c.in-Ok.ensures.ok (c.in-Err-read.ensures.stopped (c.is_memory.ensures c.if-is_memory.false)) in
-    stop_emitted s t o m z c.emitted-in-Err-read.result (λ w a. stops z e r a) (c.lemma_stops_in_place.ensures.stopped s t o m z e r).0 c.emitted-in-Err-read.ensures.place c.emitted-in-Err-read.ensures.values
+returns-clause-is c s t o h =
+    stop_there c.lemma_one_answer.ensures.takes (λ s t o b z e k. (c.lemma_stops_in_place.ensures.stopped s t o b z e k).0) c.lemma_stops_in_place.ensures.read s t o c.args.most c.args.trace.now _ h c.place_of.ensures
+    (c.in_ok-values.ensures ∙ ap (λ q. opens (front_with c.args.most (map token_of q))) c.as_slice.ensures.value)
 
 pub returns-clause-place : goal.returns-clause-place
-returns-clause-place c =
-    let s = c.args.code.now in
-    let t = c.args.id in
-    let o = c.args.octets.now in
-    let e = c.in-Err-read.fault in
-    let z = c.read.new.source in
-    let r = subst (λ q. StopsReading (λ u. routine_at s u) Takes (λ a q b. Leaves a q b e) t q z) c.in-Ok.ensures.ok (c.in-Err-read.ensures.stopped (c.is_memory.ensures c.if-is_memory.false)) in
-    place_emitted o z c.emitted-in-Err-read.result (c.lemma_stops_in_place.ensures.stopped s t o c.args.most z e r).0 c.emitted-in-Err-read.ensures.place
-
-pub returns-in-Ok-read-clause-before : goal.returns-in-Ok-read-clause-before
-returns-in-Ok-read-clause-before c r few l = stopped_before c.emitted.result c.lemma_one_answer.ensures.takes (returns-in-Ok-read-clause-is c) r few l
+returns-clause-place c s t o h = stop_within (returns-clause-is c s t o h)
 
 pub returns-clause-before : goal.returns-clause-before
-returns-clause-before c r few l = stopped_before c.emitted-in-Err-read.result c.lemma_one_answer.ensures.takes (returns-clause-is c) r few l
+returns-clause-before c l = open_there c.args.most _ (c.in_ok-values.ensures ∙ ap (λ q. opens (front_with c.args.most (map token_of q))) c.as_slice.ensures.value) l
