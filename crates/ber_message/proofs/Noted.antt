@@ -96,20 +96,21 @@ reads_noted {a = a} {z = z} ps h =
     }
 
 -- a run that stops, without the offsets
-mutual
-  stops_plainly : {r : ℕ → List Step} {e : ReadFault} {ss : List Step} {x z : Noted} → Stops r Notes (λ a q b. LeavesNoted a q b e) ss x z → Stops r Takes (λ a q b. Leaves a q b e) ss x.state z.state
-  stops_plainly {x = x} (unanswered n h) = unanswered (λ f t y q. n f t (noted y x.places) (noted_asks x.places q)) h
-  stops_plainly (answered q s) = answered (asked q).asks (then_plainly s)
+module _ (r : ℕ → List Step) (l : Noted → Question → Noted → Type 0) (m : State → Question → State → Type 0) (plainly : (a : Noted) (q : Question) (b : Noted) → l a q b → m a.state q b.state) where
+  mutual
+    stops_plainly : {ss : List Step} {x z : Noted} → Stops r Notes l ss x z → Stops r Takes m ss x.state z.state
+    stops_plainly {x = x} (unanswered n h) = unanswered (λ f t y q. n f t (noted y x.places) (noted_asks x.places q)) (plainly _ _ _ h)
+    stops_plainly (answered q s) = answered (asked q).asks (then_plainly s)
 
-  then_plainly : {r : ℕ → List Step} {e : ReadFault} {t : Option TypeId} {ss : List Step} {x z : Noted} → StopsThen r Notes (λ a q b. LeavesNoted a q b e) t ss x z → StopsThen r Takes (λ a q b. Leaves a q b e) t ss x.state z.state
-  then_plainly (stops_on s) = stops_on (stops_plainly s)
-  then_plainly {x = x} (not_begun n h) = not_begun (λ a g. n (noted a (x.places ++ x.state.here.at ∷ [])) (noted_begins x.places g)) h
-  then_plainly (stops_within g s) = stops_within g.taken (stops_plainly s)
-  then_plainly (not_ended {b = b} g d n h) = not_ended g.taken (does_plainly d) (λ c k. n (noted c b.places) (noted_ends b.places k)) h
-  then_plainly (stops_after g d i s) = stops_after g.taken (does_plainly d) i.taken (stops_plainly s)
+    then_plainly : {t : Option TypeId} {ss : List Step} {x z : Noted} → StopsThen r Notes l t ss x z → StopsThen r Takes m t ss x.state z.state
+    then_plainly (stops_on s) = stops_on (stops_plainly s)
+    then_plainly {x = x} (not_begun n h) = not_begun (λ a g. n (noted a (x.places ++ x.state.here.at ∷ [])) (noted_begins x.places g)) (plainly _ _ _ h)
+    then_plainly (stops_within g s) = stops_within g.taken (stops_plainly s)
+    then_plainly (not_ended {b = b} g d n h) = not_ended g.taken (does_plainly d) (λ c k. n (noted c b.places) (noted_ends b.places k)) (plainly _ _ _ h)
+    then_plainly (stops_after g d i s) = stops_after g.taken (does_plainly d) i.taken (stops_plainly s)
 
 pub stops_reading_plainly : {r : ℕ → List Step} {e : ReadFault} {t : TypeId} {x z : Noted} → StopsReading r Notes (λ a q b. LeavesNoted a q b e) t x z → StopsReading r Takes (λ a q b. Leaves a q b e) t x.state z.state
-stops_reading_plainly h = then_plainly h
+stops_reading_plainly {r = r} {e = e} h = then_plainly r (λ a q b. LeavesNoted a q b e) (λ a q b. Leaves a q b e) (λ a q b k. k) h
 
 -- number i of the offsets is this one
 pub record IsNoted (places : List ℕ) (i p : ℕ) : Type 0 where

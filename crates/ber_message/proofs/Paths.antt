@@ -198,28 +198,30 @@ pub record Fronted (most : ℕ) (tokens : List Token') (i : ℕ) (os : List Open
 pub none_fronted : (most : ℕ) (tokens : List Token') (os : List OpenValue) → os ≡ [] → Fronted most tokens 0 os most
 none_fronted most tokens os e = subst (λ q. Fronted most tokens 0 q most) (sym e) (record { seen = refl; few = tt })
 
-pub one_fronted : (most : ℕ) (tokens : List Token') (i : ℕ) (os ps : List OpenValue) (left rest : ℕ) (d : Token') → i < length tokens → Fronted most tokens i os left
+pub one_fronted : (most : ℕ) (tokens : List Token') (i : ℕ) (os ps : List OpenValue) (left rest one : ℕ) (d : Token') → i < length tokens → Fronted most tokens i os left
     → ps ≡ opens_after os (token_of (slice_index_or tokens i d))
-    → left ≡ begun_in (token_of (slice_index_or tokens i d) ∷ []) + rest
+    → one ≡ begun_in (token_of (slice_index_or tokens i d) ∷ [])
+    → left ≡ one + rest
     → Fronted most tokens (suc i) ps rest
-one_fronted most tokens i os ps left rest d l p e f =
+one_fronted most tokens i os ps left rest one d l p e g k =
     let t = token_of (slice_index_or tokens i d) in
     let ts = map token_of (drop (suc i) tokens) in
     record {
       seen = ap (λ q. opens_from q (front_with rest ts)) e
-          ∙ ap (opens_from os) (sym (front_step left rest t ts f))
+          ∙ ap (opens_from os) (sym (front_step left rest t ts (k ∙ ap (λ q. q + rest) g)))
           ∙ ap (λ q. opens_from os (front_with left (map token_of q))) (sym (drop_at tokens i d l))
           ∙ p.seen;
       few = subst (Few (suc i)) (sym e) (few_after i os t p.few);
     }
 
-pub front_found : (most : ℕ) (tokens : List Token') (i : ℕ) (os : List OpenValue) (left : ℕ) (d : Token') → i < length tokens → Fronted most tokens i os left
-    → left < begun_in (token_of (slice_index_or tokens i d) ∷ [])
+pub front_found : (most : ℕ) (tokens : List Token') (i : ℕ) (os : List OpenValue) (left one : ℕ) (d : Token') → i < length tokens → Fronted most tokens i os left
+    → one ≡ begun_in (token_of (slice_index_or tokens i d) ∷ [])
+    → left < one
     → os ≡ opens (front_with most (map token_of tokens))
-front_found most tokens i os left d l p m =
+front_found most tokens i os left one d l p g m =
     let t = token_of (slice_index_or tokens i d) in
     let ts = map token_of (drop (suc i) tokens) in
-    ap (opens_from os) (sym (front_stop left t ts m))
+    ap (opens_from os) (sym (front_stop left t ts (subst (λ q. left < q) g m)))
     ∙ ap (λ q. opens_from os (front_with left (map token_of q))) (sym (drop_at tokens i d l))
     ∙ p.seen
 

@@ -115,8 +115,8 @@ fn traced<'a>(tracer: Tracer<'_, 'a>) -> Result<Trace<'a>, AllocError>
     tracer.into_received().finish()
 }
 
-/// Returns where reading of a message stops, from its trace, if at most `most` values may begin. `AllocError` comes only
-/// if an allocation fails.
+/// Returns where reading of a message stops, from its trace, if at most `most` values may begin. `AllocError` comes
+/// only if an allocation fails.
 pub fn stop_of(alloc: Global, trace: &Trace<'_>, most: usize) -> Result<ErrorPosition, AllocError>
     ensures is { (s : List Resolved) (t : TypeId') (o : List ℕ)
         → IsTraced s t o trace.now

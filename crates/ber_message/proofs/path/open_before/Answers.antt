@@ -1,4 +1,4 @@
-use Rattle.std.proofs.Common.{arith, rules, ◌≡◌, ◌+◌, suc, ◌≤◌, length, sym, subst, ◌∙◌}
+use Rattle.std.proofs.Common.{arith, rules, ◌≡◌, ◌+◌, ◌-◌, ◌<◌, suc, ◌≤◌, length, sym, subst, ◌∙◌}
 use Rattle.ber_message.proofs.Opened.{below_all}
 use Rattle.ber_message.proofs.Paths.{Fronted, all_fronted, front_found, none_fronted, one_fronted}
 use Rattle.ber_message.proofs.path.open_before.Goals as goal
@@ -6,11 +6,11 @@ use Rattle.ber_message.proofs.path.open_before.Goals as goal
 pub loop-i-init : goal.loop-i-init
 loop-i-init c = none_fronted c.args.most c.args.tokens.now c.new-list.result.items c.new-list.ensures.items
 
-pub returns-then-one-gt-left : goal.returns-then-one-gt-left
-returns-then-one-gt-left c =
-    let l = c.if-one-gt-left.true in
-    let e = c.begun_by-one.ensures in
-    front_found c.args.most c.args.tokens.now c.loop-i.i c.loop-i.list.items c.loop-i.left _ c.loop-i-test.true c.loop-i.invariant (omega (arith, l, e))
+pub returns-then-one-left : goal.returns-then-one-left
+returns-then-one-left c =
+    let l = c.if-one-left.true in
+    let m : c.loop-i.left < c.begun_by-one.result = omega (arith, l) in
+    front_found c.args.most c.args.tokens.now c.loop-i.i c.loop-i.list.items c.loop-i.left c.begun_by-one.result _ c.loop-i-test.true c.loop-i.invariant c.begun_by-one.ensures m
 
 pub take-requires : goal.take-requires
 take-requires c =
@@ -21,10 +21,12 @@ take-requires c =
 pub loop-i-preserved : goal.loop-i-preserved
 loop-i-preserved c =
     let n : suc c.loop-i.i ≡ c.loop-i.i + 1 = omega arith in
-    let l = c.if-one-gt-left.false in
-    let e = c.begun_by-one.ensures in
-    subst (λ q. Fronted c.args.most c.args.tokens.now q c.take.new.list.items _) n
-    (one_fronted c.args.most c.args.tokens.now c.loop-i.i c.loop-i.list.items c.take.new.list.items c.loop-i.left _ _ c.loop-i-test.true c.loop-i.invariant c.in_ok-take.ensures (omega (arith, l, e)))
+    let l = c.if-one-left.false in
+    let one = c.begun_by-one.result in
+    let rest = c.loop-i.left - one in
+    let k : c.loop-i.left ≡ one + rest = omega (arith, l) in
+    subst (λ q. Fronted c.args.most c.args.tokens.now q c.take.new.list.items rest) n
+    (one_fronted c.args.most c.args.tokens.now c.loop-i.i c.loop-i.list.items c.take.new.list.items c.loop-i.left rest one _ c.loop-i-test.true c.loop-i.invariant c.in_ok-take.ensures c.begun_by-one.ensures k)
 
 pub returns : goal.returns
 returns c = all_fronted c.args.most c.args.tokens.now c.loop-i.i c.loop-i.list.items c.loop-i.left (let l = c.loop-i-test.false in search rules) c.loop-i.invariant
