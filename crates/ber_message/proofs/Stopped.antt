@@ -185,7 +185,7 @@ pub stops_before : {s : List Resolved} {t : TypeId} {o : List ℕ} {most : ℕ} 
     → most < begun_in r.last.emitted
     → IsStop s t o most w
     → AreOpenBefore r.last.emitted most w.values.items
-stops_before {s} {t} {o} {most} takes r few l (stops z e h a) =
+stops_before {s} {t} {o} {most} takes r few l (stops z e short h a) =
     let c = cut_reading takes (λ u. routine_at s u) (λ x q y. Leaves x q y e) most r.reads h in
     record {
       before = c.at.emitted;
@@ -195,7 +195,7 @@ stops_before {s} {t} {o} {most} takes r few l (stops z e h a) =
       as_many = ap begun_in c.emitted ∙ c.count;
       opened = a.values ∙ left_open c.left;
     }
-stops_before {s} {t} {o} {most} takes r few l (reads z h a) = absurd (none_before l (as_many_may takes (λ u. routine_at s u) most r.reads h refl))
+stops_before {s} {t} {o} {most} takes r few l (reads z short h a) = absurd (none_before l (as_many_may takes (λ u. routine_at s u) most r.reads h refl))
 stops_before takes r few l (is_long m p v) = absurd (none_before m few)
 
 pub stopped_before : {E : Type 0} {s : List Resolved} {t : TypeId} {o : List ℕ} {most : ℕ} (q : Result ErrorPosition E)

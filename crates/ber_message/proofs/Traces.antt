@@ -112,7 +112,7 @@ module _ (takes : (a b : State) (e : Event) → Answers a e b → Takes a e b)
       let c = cut_reading takes (λ u. routine_at s u) (λ a q b. Leaves a q b TooDeep) most (reads_plainly h.reads) n.stops in
       let place = p ∙ ap (λ q. slice_index_or q most r.end) h.kept.places ∙ noted_at r.end n.place in
       let front_is = ap (front_with most) (h.kept.tokens ∙ c.whole) ∙ front_at most c.at.emitted c.type c.following (ap begun_in c.emitted ∙ c.count) in
-      stops n.last TooDeep n.stops (is_at n.last place (v ∙ ap opens front_is ∙ sym (left_open c.left)) (stopped s t o most n.last TooDeep n.stops))
+      stops n.last TooDeep h.tokens.message.short n.stops (is_at n.last place (v ∙ ap opens front_is ∙ sym (left_open c.left)) (stopped s t o most n.last TooDeep n.stops))
 
   -- as many values may begin as do
   reads_all : (s : List Resolved) (t : TypeId) (o : List ℕ) (most : ℕ) (r : Trace) (w : ErrorPosition) → (h : IsTraced s t o r) → length h.last.places ≤ most → w.place ≡ slice_index_or r.places.items most r.end → w.values.items ≡ opens (front_with most (listed r.tokens)) → IsStop s t o most w
@@ -122,14 +122,14 @@ module _ (takes : (a b : State) (e : Event) → Answers a e b → Takes a e b)
       let few = as_many_may takes (λ u. routine_at s u) most (reads_plainly h.reads) n.reads refl in
       let place = p ∙ ap (λ q. slice_index_or q most r.end) h.kept.places ∙ index_past h.last.places most r.end l ∙ h.kept.end in
       let front_is = ap (front_with most) h.kept.tokens ∙ front_all most z.emitted few in
-      reads _ n.reads (is_at _ place (v ∙ ap opens front_is) (read s t o most _ n.reads))
+      reads _ h.tokens.message.short n.reads (is_at _ place (v ∙ ap opens front_is) (read s t o most _ n.reads))
 
   pub stop_there : (s : List Resolved) (t : TypeId) (o : List ℕ) (most : ℕ) (r : Trace) (w : ErrorPosition) → IsTraced s t o r → w.place ≡ slice_index_or r.places.items most r.end → w.values.items ≡ opens (front_with most (listed r.tokens)) → IsStop s t o most w
   stop_there s t o most r w h p v = ⊎_elim (λ l. stops_early s t o most r w h l p v) (λ l. reads_all s t o most r w h l p v) (below_or most (length h.last.places))
 
 pub stop_within : {s : List Resolved} {t : TypeId} {o : List ℕ} {most : ℕ} {w : ErrorPosition} → IsStop s t o most w → w.place ≤ length o
-stop_within (stops z e h a) = is_within a.unread
-stop_within (reads z h a) = is_within a.unread
+stop_within (stops z e short h a) = is_within a.unread
+stop_within (reads z short h a) = is_within a.unread
 stop_within (is_long m p v) = omega (arith, m, p)
 
 -- ---- the trace of a message

@@ -30,14 +30,19 @@ pub record IsAt (o : Octets) (w : ErrorPosition) (z : State) : Type 0 where
   pub values : w.values.items ≡ opens z.emitted
 
 -- Where reading of the octets stops, if at most `most` values may begin. The type's routine comes to a question that
--- the octets don't answer, or it reads a value. If there are more than 16,777,216 octets, the place is the first octet
--- after these.
+-- the octets don't answer, or it reads a value. Only if there are more than 16,777,216 octets, the place is the first
+-- octet after these.
 pub data IsStop (s : List Resolved) (t : TypeId) (o : Octets) (most : ℕ) (w : ErrorPosition) : Type 0 where
   stops : (z : State) (e : ReadFault)
+      → length o ≤ 16777216
       → StopsReading (λ u. routine_at s u) Takes (λ a q b. Leaves a q b e) t (front s o most) z
       → IsAt o w z
       → IsStop s t o most w
-  reads : (z : State) → Reads (λ u. routine_at s u) Takes t (front s o most) z → IsAt o w z → IsStop s t o most w
+  reads : (z : State)
+      → length o ≤ 16777216
+      → Reads (λ u. routine_at s u) Takes t (front s o most) z
+      → IsAt o w z
+      → IsStop s t o most w
   is_long : 16777216 < length o → w.place ≡ 16777216 → w.values.items ≡ [] → IsStop s t o most w
 
 -- the same place, at which a part of the innermost open value begins: the one that a token named, or else its next

@@ -1,6 +1,6 @@
 -- Rows of readings: what each part of a result and of a refusal says, in full. A definition that lost a part would fail
 -- one of them.
-use Rattle.std.proofs.Common.{◌≡◌, ℕ, ◌<◌, ◌≤◌, ◌⊎◌, inl, inr, List, ◌++◌, length}
+use Rattle.std.proofs.Common.{arith, ◌≡◌, ℕ, ◌<◌, ◌≤◌, ◌⊎◌, inl, inr, List, [], ◌++◌, length, ap, ◌∙◌}
 use Rattle.std.specs.Prelude.{Some}
 use Rattle.asn_base.specs.Abstract.{AbstractValue}
 use Rattle.asn_base.specs.Types.{Resolved}
@@ -8,7 +8,7 @@ use Rattle.asn_base.specs.declared.schema.TypeId.{TypeId}
 use Rattle.ber_message.specs.Messages.{EncodesNoValue, IsRead, Refuses}
 use Rattle.ber_message.specs.Opened.{entered, on_last}
 use Rattle.ber_message.specs.Paths.{AreOpenBefore, begun_in}
-use Rattle.ber_message.specs.Stops.{IsEntered, IsStop, IsStopBefore}
+use Rattle.ber_message.specs.Stops.{IsEntered, IsStop, IsStopBefore, is_long, reads, stops}
 use Rattle.ber_message.specs.declared.open.OpenValue.{OpenValue}
 use Rattle.ber_message.specs.declared.open.Part.{Part}
 use Rattle.ber_message.specs.declared.stop.ErrorPosition.{ErrorPosition}
@@ -58,6 +58,27 @@ module _ (s : List Resolved) (t : ℕ) (o : List ℕ) (r : Read) (h : IsStrictRe
   strict_octets = h.strict
 
 -- ---- where octets are refused
+
+-- of a message that is too long
+never_short : {n : ℕ} → 16777216 < n → n ≤ 16777216 → ⊥
+never_short l s = omega arith
+
+stop_of_long : {s : List Resolved} {t : TypeId} {o : List ℕ} {most : ℕ} {w : ErrorPosition}
+    → 16777216 < length o
+    → IsStop s t o most w
+    → (w.place ≡ 16777216) × (w.values.items ≡ [])
+stop_of_long l (stops z e short h a) = absurd (never_short l short)
+stop_of_long l (reads z short h a) = absurd (never_short l short)
+stop_of_long l (is_long m p v) = (p, v)
+
+position_of_long : {s : List Resolved} {t : TypeId} {o : List ℕ} {w : ErrorPosition}
+    → 16777216 < length o
+    → IsErrorPosition s t o w
+    → (w.place ≡ 16777216) × (w.values.items ≡ [])
+position_of_long l (unread most h) = stop_of_long l h
+position_of_long l (judged h) =
+    let p = stop_of_long l h.stop in
+    (h.part.place ∙ p.0, h.part.values ∙ ap (on_last entered) p.1)
 
 module _ (s : List Resolved) (t : TypeId) (o : List ℕ) (w : ErrorPosition) where
   position : IsErrorPosition s t o w → ((most : ℕ) × IsStop s t o most w) ⊎ IsStopBefore s t o w

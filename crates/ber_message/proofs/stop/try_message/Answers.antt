@@ -39,7 +39,7 @@ returns-in-Err-read c =
     let start = c.in-Ok.ensures.ok ∙ ap (λ b. noted (front s o b) []) (c.most_values.ensures c.in-Ok.ensures.few) in
     let other = c.is_memory.ensures c.if-is_memory.false in
     let r = stops_reading_plainly (subst (λ q. StopsReading (λ u. routine_at s u) Notes (λ a q b. LeavesNoted a q b e) t q z) start (c.in-Err-read.ensures.stopped other)) in
-    unread_at s t o z.state _ (λ a. stops z.state e r a) (c.lemma_stops_in_place.ensures.stopped s t o _ z.state e r).0 c.in_ok-emitted-in-Err-read.ensures.place c.in_ok-emitted-in-Err-read.ensures.values
+    unread_at s t o z.state _ (λ a. stops z.state e c.in-Ok.ensures.few r a) (c.lemma_stops_in_place.ensures.stopped s t o _ z.state e r).0 c.in_ok-emitted-in-Err-read.ensures.place c.in_ok-emitted-in-Err-read.ensures.values
     (λ few has q. never_noted start (c.in-Err-read.ensures.err other) q)
 
 pub returns-then-not-is_at_end : goal.returns-then-not-is_at_end
@@ -50,7 +50,7 @@ returns-then-not-is_at_end c =
     let z = c.read.new.source in
     let start = c.in-Ok.ensures.ok ∙ ap (λ b. noted (front s o b) []) (c.most_values.ensures c.in-Ok.ensures.few) in
     let r = reads_plainly (subst (λ q. Reads (λ u. routine_at s u) Notes t q z) start c.in-Ok-read.ensures.ok) in
-    unread_at s t o z.state _ (λ a. reads z.state r a) (c.lemma_stops_in_place.ensures.read s t o _ z.state r) c.in_ok-emitted.ensures.place c.in_ok-emitted.ensures.values
+    unread_at s t o z.state _ (λ a. reads z.state c.in-Ok.ensures.few r a) (c.lemma_stops_in_place.ensures.read s t o _ z.state r) c.in_ok-emitted.ensures.place c.in_ok-emitted.ensures.values
     (λ few has q. fails c.is_at_end.result c.if-not-is_at_end.true c.is_at_end.ensures (ap (λ x. x.here.octets) (sym (only_noted start c.in-Ok-read.ensures.only q)) ∙ q.at_end))
 
 pub returns-then-not-has : goal.returns-then-not-has
@@ -61,7 +61,7 @@ returns-then-not-has c =
     let z = c.read.new.source in
     let start = c.in-Ok.ensures.ok ∙ ap (λ b. noted (front s o b) []) (c.most_values.ensures c.in-Ok.ensures.few) in
     let r = reads_plainly (subst (λ q. Reads (λ u. routine_at s u) Notes t q z) start c.in-Ok-read.ensures.ok) in
-    unread_at s t o z.state _ (λ a. reads z.state r a) (c.lemma_stops_in_place.ensures.read s t o _ z.state r) c.in_ok-emitted-2.ensures.place c.in_ok-emitted-2.ensures.values
+    unread_at s t o z.state _ (λ a. reads z.state c.in-Ok.ensures.few r a) (c.lemma_stops_in_place.ensures.read s t o _ z.state r) c.in_ok-emitted-2.ensures.place c.in_ok-emitted-2.ensures.values
     (λ few has q. fails c.has.result c.if-not-has.true c.has.ensures has)
 
 pub traced-requires : goal.traced-requires
