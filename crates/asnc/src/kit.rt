@@ -1,21 +1,24 @@
 //! Modules that are ready for use.
 
 ghost use Rattle.std.specs.Prelude.{◌≡◌, ◌<◌, ◌⊎◌, ℕ, List, [], length, map, string_bytes};
-ghost use Rattle.std.specs.Prelude.{Err, IfOk, IfErr, IfSome, MatchOption, MatchResult};
+ghost use Rattle.std.specs.Prelude.{Err, IfOk, IfErr, IfSome, IsErrOf, MatchOption, MatchResult};
 ghost use Rattle.asn_base.specs.Abstract.{abstract};
 ghost use Rattle.asn_base.specs.Typed.{IsValue};
 ghost use Rattle.decode_faults.specs.declared.read_fault.ReadFault.TheVariants.{Memory as no_room};
+ghost use Rattle.decode_faults.specs.declared.read_fault.ReadFault.TheVariants.{MessageLimit as too_many_octets};
 ghost use Rattle.der_writer.specs.Encoded.{IsEncoding, Went, WentInPart};
 ghost use Rattle.der_writer.specs.declared.fault.WriteFault.TheVariants.{NotOfType, TooLong};
 ghost use Rattle.der_writer.specs.declared.fault.WriteFault.TheVariants.{Device as write_stopped};
 ghost use Rattle.der_writer.specs.declared.fault.WriteFault.TheVariants.{Memory as not_written};
 ghost use Rattle.encodings.specs.Account.{Describes};
 ghost use Rattle.encodings.specs.Encoding.{Der};
+ghost use Rattle.packed_encodings.specs.Weights.{weight};
 ghost use Rattle.packed_reader.specs.declared.fault.PerFault.TheVariants.{MessageLimit};
 ghost use Rattle.packed_writer.specs.Message.{IsMessage, IsTooLong};
 ghost use Rattle.packed_writer.specs.declared.fault.WriteFault.TheVariants.{NotOfType as not_packed};
 ghost use Rattle.packed_writer.specs.declared.fault.WriteFault.TheVariants.{TooLong as too_many_bits};
 ghost use Rattle.value_text.specs.Print.{print};
+ghost use Rattle.value_text.specs.declared.print_fault.Fault.TheVariants.{NotOfType as not_printed};
 ghost use Rattle.views.specs.Tree.{value_of};
 ghost use Rattle.resolve.specs.Program.{Program};
 ghost use Rattle.judging.specs.front_end.Accepted.{Accepted, AreAccepted, HasTypes, octets_of};
@@ -415,6 +418,8 @@ impl Kit {
         ensures longer { IfErr result (λ e. e ≡ TooLong → (o : List ℕ)
             → Der self.now.types id.index (abstract value.now) 0 o
             → 16777216 < length o) }
+        // `Device` never comes: there is no sink.
+        ensures no_device { IfErr result (λ e. (n : ℕ) → e ≡ write_stopped n → ⊥) }
     {
         write_der(alloc, &self.code, id, value)
     }
@@ -481,6 +486,10 @@ impl Kit {
         // `TooLong` only if the value is too heavy, or its message too long.
         ensures longer { IfErr result (λ e. e ≡ too_many_bits
             → IsTooLong self.now.types id.index (abstract value.now)) }
+        // A value that is too heavy is `TooLong`, whether there is memory or not.
+        ensures heavy { IsValue self.now.types id.index (abstract value.now)
+            → 16777216 < weight (abstract value.now)
+            → result ≡ Err too_many_bits }
     {
         write_uper(alloc, &self.packed, id, value)
     }
@@ -517,6 +526,7 @@ impl Kit {
         // The reason of a refusal applies.
         ensures refused { IfErr result (λ e. (e ≡ no_room → ⊥)
             → IsReadFault self.now.types (rules_of rules) id.index octets.now e) }
+        ensures limit { 16777216 < length octets.now → result ≡ Err too_many_octets }
     {
         read_by(alloc, &self.code, id, octets, rules)
     }
@@ -571,6 +581,10 @@ impl Kit {
         ensures value { IfOk result (λ s. IsValue self.now.types id.index (value_of view.now)) }
         ensures text { IfOk result (λ s.
             string_bytes s ≡ print self.now.types id.index (value_of view.now)) }
+        // After `NotOfType` the value isn't one of the type.
+        ensures not_of_type { IsErrOf result not_printed
+            → IsValue self.now.types id.index (value_of view.now)
+            → ⊥ }
     {
         print_view(alloc, &self.schema, id, view)
     }

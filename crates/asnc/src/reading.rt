@@ -1,10 +1,10 @@
 //! The value that octets encode, printed.
 
-ghost use Rattle.std.specs.Prelude.{◌≡◌, ◌⊎◌, ℕ, List, IfOk, IfErr, string_bytes};
+ghost use Rattle.std.specs.Prelude.{◌≡◌, ◌<◌, ◌⊎◌, ℕ, List, Err, IfOk, IfErr, length, string_bytes};
 ghost use Rattle.asn_base.specs.Abstract.{AbstractValue};
 ghost use Rattle.asn_base.specs.Types.{Resolved};
 ghost use Rattle.ber_reader.specs.Readings.{IsReading};
-ghost use Rattle.decode_faults.specs.declared.read_fault.ReadFault.TheVariants.{Memory as no_memory};
+ghost use Rattle.decode_faults.specs.declared.read_fault.ReadFault.TheVariants.{Memory as no_memory, MessageLimit};
 ghost use Rattle.encodings.specs.Encoding.{EncodesTo};
 ghost use Rattle.encodings.specs.Reading.{Encodes};
 ghost use Rattle.encodings.specs.Rules.{Rules as Rules', Basic, Distinguished};
@@ -140,6 +140,7 @@ fn read_basic<'a>(
 ) -> Result<Read<'a>, ReadFault>
     ensures read { IfOk result (IsReadBy code.now Basic id.index octets.now) }
     ensures refused { IfErr result (λ e. (e ≡ no_memory → ⊥) → IsReadFault code.now Basic id.index octets.now e) }
+    ensures limit { 16777216 < length octets.now → result ≡ Err MessageLimit }
 {
     match read_ber(alloc, code, id, octets) {
         Ok(read) => Ok(read),
@@ -157,6 +158,7 @@ fn read_strict<'a>(
     ensures read { IfOk result (IsReadBy code.now Distinguished id.index octets.now) }
     ensures refused { IfErr result (λ e. (e ≡ no_memory → ⊥) →
         IsReadFault code.now Distinguished id.index octets.now e) }
+    ensures limit { 16777216 < length octets.now → result ≡ Err MessageLimit }
 {
     match read_der(alloc, code, id, octets) {
         Ok(read) => Ok(read),
@@ -175,6 +177,7 @@ pub(crate) fn read_by<'a>(
     ensures read { IfOk result (IsReadBy code.now (rules_of rules) id.index octets.now) }
     ensures refused { IfErr result (λ e. (e ≡ no_memory → ⊥)
         → IsReadFault code.now (rules_of rules) id.index octets.now e) }
+    ensures limit { 16777216 < length octets.now → result ≡ Err MessageLimit }
 {
     match rules {
         Rules::Ber => read_basic(alloc, code, id, octets),

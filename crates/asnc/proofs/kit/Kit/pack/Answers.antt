@@ -1,7 +1,8 @@
-use Rattle.std.proofs.Common.{◌≡◌, subst, Err}
+use Rattle.std.proofs.Common.{◌≡◌, ◌<◌, subst, Err}
 use Rattle.std.specs.Prelude.{IfErr, IfOk}
 use Rattle.asn_base.specs.Abstract.{abstract}
 use Rattle.asn_base.specs.Typed.{IsValue}
+use Rattle.packed_encodings.specs.Weights.{weight}
 use Rattle.packed_writer.specs.Message.{IsMessage, IsTooLong}
 use Rattle.packed_writer.specs.declared.fault.WriteFault.TheVariants.{NotOfType, TooLong}
 use Rattle.asnc.specs.Kits.{Opened}
@@ -34,3 +35,10 @@ returns-clause-longer c =
     c.self.view_is
     (subst (λ s. IfErr c.write_uper.result (λ e. e ≡ TooLong → IsTooLong s c.args.id.index (abstract c.args.value.now)))
     c.self.invariant.2 c.write_uper.ensures.longer)
+
+pub returns-clause-heavy : goal.returns-clause-heavy
+returns-clause-heavy c =
+    subst (λ (k : Opened). IsValue k.types c.args.id.index (abstract c.args.value.now) → 16777216 < weight (abstract c.args.value.now) → c.write_uper.result ≡ Err TooLong)
+    c.self.view_is
+    (subst (λ s. IsValue s c.args.id.index (abstract c.args.value.now) → 16777216 < weight (abstract c.args.value.now) → c.write_uper.result ≡ Err TooLong)
+    c.self.invariant.2 c.write_uper.ensures.heavy)
