@@ -62,7 +62,7 @@ pub fn locate_error(
 }
 
 /// The number of values that begin in the message before the innermost one that isn't a value of its type. The trace is
-/// that of the message.
+/// that of the message. The value is copied only if the view alone doesn't show that it is one of the type.
 fn before_wrong(
     alloc: Global,
     code: &Code,
@@ -76,6 +76,9 @@ fn before_wrong(
 {
     code.lemma_invariant();
     schema_laws();
+    if code.is_surely_value(id, &trace.built.view.top()) {
+        return Ok(most_values(octets));
+    }
     let value = trace.built.view.to_value(alloc)?;
     if code.is_value(id, &value) {
         return Ok(most_values(octets));

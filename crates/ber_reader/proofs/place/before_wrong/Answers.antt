@@ -4,9 +4,19 @@ use Rattle.ber_message.specs.Paths.{BeginsBefore}
 use Rattle.ber_reader.specs.Judged.{piece}
 use Rattle.ber_source.specs.Seen.{listed, token_of}
 use Rattle.laws_reading.specs.TokensShow.{TokensShow}
+use Rattle.views.specs.Tree.{value_of}
 use Rattle.ber_reader.proofs.Leading.{before_wrong, if_ok, path_alone}
 use Rattle.ber_reader.proofs.Reading.{holds, never_holds}
 use Rattle.ber_reader.proofs.place.before_wrong.Goals as goal
+
+pub returns-then-is_surely_value : goal.returns-then-is_surely_value
+returns-then-is_surely_value c = λ n r.
+    let s = c.args.code.now in
+    let t = c.args.id.index in
+    let m = r.tokens.message in
+    let same = (c.schema_laws.ensures.says_one s t m.count n.count m.value n.value c.args.octets.now c.lemma_invariant.ensures m.is_encoded n.is_encoded).0 in
+    let sure = subst (λ q. IsValueWithoutNodes s t (value_of q)) c.top.ensures (c.is_surely_value.ensures c.if-is_surely_value.true) in
+    absurd (n.is_none (subst (IsValueWithoutNodes s t) (r.value ∙ same) sure))
 
 pub returns-then-is_value : goal.returns-then-is_value
 returns-then-is_value c = λ n r.
